@@ -1,0 +1,5 @@
+pub mod Check
+pub mod FontError
+pub mod Inlet
+pub mod Outlet
+pub mod Run

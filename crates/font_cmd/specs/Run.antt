@@ -1,0 +1,31 @@
+-- What a run is given, and how it leaves its inlet and its outlet.
+use Rattle.std.specs.Prelude.{◌≡◌, ℕ, ◌+◌, false, true, List, Option, IfSome, take}
+use Rattle.sfnt_bytes.specs.declared.directory.TheConstants.{MAX_FILE}
+use Rattle.sfnt_bytes.specs.Text.{no_memory_number}
+use Rattle.font_cmd.specs.declared.inlet.Inlet.{Inlet}
+use Rattle.font_cmd.specs.declared.outlet.Outlet.{Outlet}
+use Rattle.font_cmd.specs.declared.run.RunError.{RunError}
+use Rattle.font_cmd.specs.declared.run.RunError.TheVariants.{Read, Memory, Write}
+use Rattle.font_cmd.specs.Inlet as inlets
+use Rattle.font_cmd.specs.Outlet as outlets
+
+-- P holds of what came from the inlet's reader, where the reader tells its bytes
+abbrev pub got : {R : Type 0} → (R → Option (List ℕ)) → Inlet R → (List ℕ → Type 0) → Type 0
+got remaining inlet P = IfSome (remaining (inlets.reader_of inlet)) (λ bytes. P (take (MAX_FILE + 1) bytes))
+
+-- how a run that is not done leaves its inlet, from i to j, and its outlet, from o to p
+abbrev pub RunStops : {R W : Type 0} (remaining : R → Option (List ℕ)) (contents : W → Option (List ℕ)) (text : List ℕ → List ℕ) (i j : Inlet R) (o p : Outlet W) → RunError → Type 0
+-- the inlet is broken after so many bytes, and nothing was sent
+RunStops remaining contents text i j o p (Read count) = (inlets.broken_of j ≡ true) × inlets.Gives remaining i j count × (p ≡ o)
+-- nothing was sent
+RunStops remaining contents text i j o p Memory = (inlets.broken_of j ≡ false) × (p ≡ o)
+-- the outlet is broken, and so many bytes of the text went out
+RunStops remaining contents text i j o p (Write count) =
+    (inlets.broken_of j ≡ false) × (outlets.broken_of p ≡ true) × (outlets.written_of p ≡ count)
+    × got remaining i (λ file. outlets.Sends contents o p (take count (text file)))
+
+-- the number of a run's error
+abbrev pub run_error_number : RunError → ℕ
+run_error_number (Read count) = 25
+run_error_number Memory = no_memory_number
+run_error_number (Write count) = 19

@@ -1,0 +1,17 @@
+//! The runs of `fontcut` over readers and writers, and its command line.
+#![tactic(auto)]
+
+mod check;
+mod demo;
+mod font_error;
+mod inlet;
+mod outlet;
+mod run;
+mod words;
+
+pub use crate::check::run_check;
+pub use crate::font_error::FontError;
+pub use crate::inlet::{Inlet, ReadError};
+pub use crate::outlet::{Outlet, WriteFault};
+pub use crate::run::RunError;
+pub use crate::words::run_words;

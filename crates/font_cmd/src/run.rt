@@ -1,0 +1,51 @@
+//! What the runs share: their error, and how they send what they have made.
+ghost use Rattle.std.specs.Prelude.{◌≡◌, false, true, take, IfErr, OnErr, OnOk};
+ghost use Rattle.font_cmd.specs.Outlet.{Sends, broken_of, fresh_of, written_of};
+ghost use Rattle.font_cmd.specs.Run.{run_error_number};
+ghost use Rattle.font_cmd.specs.declared.run.RunError.TheVariants.{Memory, Read, Write as WriteError};
+
+use crate::inlet::ReadError;
+use crate::outlet::{Outlet, WriteFault};
+use std::io::Write;
+use thiserror::Error;
+
+/// Why a run was not done.
+#[derive(Clone, Copy, Debug, PartialEq, Eq, Error)]
+pub enum RunError {
+    /// A read failed after so many bytes.
+    #[error("read fault after {0}")]
+    Read(u64),
+    /// Memory was refused.
+    #[error("no memory")]
+    Memory,
+    /// A write or flush failed after so many bytes.
+    #[error("write fault after {0}")]
+    Write(u64),
+}
+
+impl RunError {
+    /// The number of the refusal.
+    pub fn number(&self) -> u8
+        ensures { result ≡ run_error_number self.now }
+    {
+        match self {
+            RunError::Read(_) => 25,
+            RunError::Memory => 16,
+            RunError::Write(_) => 19,
+        }
+    }
+}
+
+/// Sends all of `bytes`, and flushes.
+pub(crate) fn send<W: Write>(outlet: &mut Outlet<W>, bytes: &[u8]) -> Result<(), WriteFault>
+    requires { fresh_of outlet.old ≡ true }
+    ensures ok { OnOk result (Sends W.contents outlet.old outlet.new bytes.now) }
+    ensures whole { OnOk result (broken_of outlet.new ≡ false) }
+    ensures broken { OnErr result (broken_of outlet.new ≡ true) }
+    ensures count { IfErr result (λ fault. fault.written ≡ written_of outlet.new) }
+    ensures prefix { IfErr result
+        (λ fault. Sends W.contents outlet.old outlet.new (take fault.written bytes.now)) }
+{
+    outlet.put(bytes)?;
+    outlet.finish()
+}

@@ -1,0 +1,76 @@
+//! The command line of `fontcut`, read by `clap`: this crate alone names `clap`, and gives plain things.
+#![tactic(auto)]
+
+use clap::error::ErrorKind;
+use clap::{Arg, Command, Error};
+use std::alloc::{AllocError, Global};
+
+/// What a command line asks for.
+#[derive(Clone, Copy, Debug, PartialEq, Eq)]
+pub enum Task<'a> {
+    /// Print the findings of the file at the path `font`, and whether it is accepted.
+    Check { font: &'a str },
+    /// Print what is found in the font that the program carries.
+    Demo,
+}
+
+/// Why a command line asks for nothing that can be done.
+#[derive(Debug, Drop)]
+pub enum LineError {
+    /// Memory was refused.
+    NoMemory,
+    /// It asks for help, which is this text.
+    Help(String),
+    /// Its words are at fault, as this text says.
+    Words(String),
+}
+
+fn command<'a>(alloc: Global) -> Result<Command<'a>, AllocError> {
+    let font = Arg::new(alloc, "FONT").required(true);
+    Command::new(alloc, "fontcut")
+        .bin_name("fontcut")?
+        .about("Cuts OpenType fonts down to wanted characters, and joins such cuts")
+        .no_binary_name(true)
+        .subcommand_required(true)
+        .subcommand(
+            Command::new(alloc, "check")
+                .about("Prints what is not as the standard asks, and whether FONT is accepted")
+                .arg(font)?,
+        )?
+        .subcommand(Command::new(alloc, "demo").about(
+            "Prints what is found in a font of six glyphs",
+        ))
+}
+
+// The text of a fault of the words, which `clap` also makes of a call for help.
+fn explained(alloc: Global, fault: &Error) -> LineError {
+    if fault.kind() == ErrorKind::OutOfMemory {
+        return LineError::NoMemory;
+    }
+    match fault.to_string(alloc) {
+        Ok(text) if fault.use_stderr() => LineError::Words(text),
+        Ok(text) => LineError::Help(text),
+        Err(_) => LineError::NoMemory,
+    }
+}
+
+fn parse_task<'a>(alloc: Global, words: &'a [String]) -> Result<Option<Task<'a>>, Error> {
+    let matches = command(alloc)?.try_get_matches_from(words)?;
+    Ok(match matches.subcommand() {
+        Some(("check", inner)) => inner.get_str("FONT").map(|font| Task::Check { font }),
+        Some(("demo", _)) => Some(Task::Demo),
+        _ => None,
+    })
+}
+
+/// Reads the words of a line, the program's own name not among them.
+///
+/// # Errors
+/// `Help` and `Words` with the text of `clap`; `NoMemory` where memory was refused.
+pub fn parse<'a>(alloc: Global, words: &'a [String]) -> Result<Task<'a>, LineError> {
+    match parse_task(alloc, words) {
+        Ok(Some(task)) => Ok(task),
+        Ok(None) => Err(LineError::Words(String::new(alloc))),
+        Err(fault) => Err(explained(alloc, &fault)),
+    }
+}

@@ -1,0 +1,268 @@
+//! Numbers, sums, the records of a directory and its refusals.
+use crate::fonts::{RECORD, RECORDS, base6_with, entry, file_of, findings_of};
+use sfnt_bytes::{
+    BASE6, DirError, Directory, Entry, Finding, KEPT, NoMemory, Tag, be16, be32, search_fields,
+    word_sum,
+};
+use std::alloc::{AllocError, Global};
+use std::test::Fail;
+
+// The words of Base6, table by table.
+const WORDS: [u32; 107] = [
+    // directory
+    0x00010000, 0x00070040, 0x00020030, //
+    0x636D6170, 0x01C10016, 0x0000007C, 0x00000044, // cmap
+    0x676C7966, 0x1B6F056C, 0x000000C0, 0x00000046, // glyf
+    0x68656164, 0x610742D9, 0x00000108, 0x00000036, // head
+    0x68686561, 0x05160197, 0x00000140, 0x00000024, // hhea
+    0x686D7478, 0x09F60000, 0x00000164, 0x00000018, // hmtx
+    0x6C6F6361, 0x004D0035, 0x0000017C, 0x0000000E, // loca
+    0x6D617870, 0x00090004, 0x0000018C, 0x00000020, // maxp
+    // cmap
+    0x00000001, 0x00030001, 0x0000000C, //
+    0x00040038, 0x0000000A, 0x00080002, //
+    0x00020020, 0x00410042, 0x00C1FFFF, //
+    0x00000020, 0x00410042, 0x00C1FFFF, //
+    0xFFE4FFC0, 0xFFC3FF42, 0x00010000, 0x00000000, 0x00000000, //
+    // glyf
+    0x00000000, 0x00000064, 0x00640000, //
+    0x00000000, 0x000000C8, 0x00C80002, 0x11220000, //
+    0x00000000, 0x012C012C, //
+    0xFFFF0000, 0x000001F4, 0x01F40022, 0x00010000, 0x00020002, 0x05050000, //
+    0x00000000, 0x00FA00FA, 0x00000000, //
+    // head
+    0x00010000, 0x00010000, 0xB88E1FF6, 0x5F0F3CF5, 0x000003E8, //
+    0x00000000, 0x00000000, 0x00000000, 0x00000000, 0x00000000, //
+    0x01F401F4, 0x00000008, 0x00020000, 0x00000000, //
+    // hhea
+    0x00010000, 0x0320FF38, 0x00000258, 0x00000000, 0x01F40001, //
+    0x00000000, 0x00000000, 0x00000000, 0x00000006, //
+    // hmtx
+    0x02580000, 0x01F40000, 0x01900000, 0x01F40000, 0x00FA0000, 0x012C0000, //
+    // loca
+    0x00000006, 0x000D0012, 0x001D001D, 0x00230000, //
+    // maxp
+    0x00010000, 0x00060000, 0x00000000, 0x00000001, //
+    0x00000000, 0x00000000, 0x00000002, 0x00020001,
+];
+
+#[test]
+fn base6_as_stated(rt: HostRuntime) {
+    assert_eq!(rt; BASE6.len(), 428);
+    for (place, (bytes, word)) in BASE6.chunks_exact(4).zip(WORDS).enumerate() {
+        assert_eq!(rt; bytes, word.to_be_bytes().as_slice(), "word {place}");
+    }
+}
+
+#[test]
+fn numbers_and_sums(rt: HostRuntime) {
+    assert_eq!(rt; be16(&[0x12, 0x34, 0x56], 1), 0x3456);
+    assert_eq!(rt; be32(&[0x12, 0x89, 0xAB, 0xCD, 0xEF], 1), 0x89AB_CDEF);
+    assert_eq!(rt; word_sum(&[]), 0);
+    assert_eq!(rt; word_sum(&[1]), 0x0100_0000, "filled with zeros");
+    assert_eq!(rt;
+        word_sum(&[0xFF, 0xFF, 0xFF, 0xFF, 0, 0, 1]),
+        0xFF,
+        "modulo 2^32"
+    );
+    assert_eq!(rt; word_sum(&BASE6), 0xB1B0_AFBA);
+    for (count, fields) in [
+        (0, None),
+        (1, Some((16, 0, 0))),
+        (7, Some((64, 2, 48))),
+        (16, Some((256, 4, 0))),
+        (4095, Some((32_768, 11, 32_752))),
+        (4096, None),
+        (65_535, None),
+    ] {
+        assert_eq!(rt; search_fields(count), fields, "{count} tables");
+    }
+}
+
+#[test]
+fn kept_tags(rt: HostRuntime) {
+    let stated = b"OS/2cmapcvt fpgmgaspglyfheadhheahmtxlocamaxpnamepostprepvheavmtx";
+    assert_eq!(rt; stated.len(), 64);
+    for (slot, (tag, name)) in KEPT.iter().zip(stated.chunks_exact(4)).enumerate() {
+        assert_eq!(rt; tag.0.as_slice(), name, "slot {slot}");
+    }
+}
+
+#[test]
+fn texts_of_refusals(rt: HostRuntime) -> Result<(), Fail> {
+    for (error, number, text) in [
+        (DirError::FileTooLarge, 1, "file too large"),
+        (DirError::Truncated, 2, "truncated"),
+        (DirError::Collection, 3, "collection"),
+        (DirError::NotTrueType, 4, "not TrueType"),
+        (
+            DirError::DuplicateTable(Tag(*b"cvt ")),
+            5,
+            "duplicate table cvt ",
+        ),
+        (
+            DirError::TableOutOfFile(Tag(*b"OS/2")),
+            6,
+            "table out of file OS/2",
+        ),
+    ] {
+        assert_eq!(rt; error.number(), number, "{text}");
+        assert_eq!(rt; error.to_string(rt.alloc())?.as_str(), text);
+    }
+    assert_eq!(rt; NoMemory.number(), 16);
+    assert_eq!(rt; NoMemory.to_string(rt.alloc())?.as_str(), "no memory");
+    for (tag, text) in [
+        ([0x20, 0x7E, 0x41, 0x20], " ~A "),
+        ([0x1F, 0x41, 0x41, 0x41], "0x1f414141"),
+        ([0x41, 0x41, 0x41, 0x7F], "0x4141417f"),
+        ([0x00, 0xAB, 0xCD, 0xEF], "0x00abcdef"),
+    ] {
+        assert_eq!(rt; Tag(tag).to_string(rt.alloc())?.as_str(), text);
+    }
+    Ok(())
+}
+
+#[test]
+fn check_of_base6(rt: HostRuntime) -> Result<(), Fail> {
+    let directory = Directory::read(&BASE6)?;
+    assert_eq!(rt; directory.file(), BASE6.as_slice());
+    assert_eq!(rt; directory.findings().next(), None);
+    assert_eq!(rt; directory.dropped().next(), None);
+    let records: Vec<Entry> = directory.records().collect(rt.alloc())?;
+    assert_eq!(rt;
+        records.as_slice(),
+        [
+            entry(b"cmap", 0x01C1_0016, 124, 68),
+            entry(b"glyf", 0x1B6F_056C, 192, 70),
+            entry(b"head", 0x6107_42D9, 264, 54),
+            entry(b"hhea", 0x0516_0197, 320, 36),
+            entry(b"hmtx", 0x09F6_0000, 356, 24),
+            entry(b"loca", 0x004D_0035, 380, 14),
+            entry(b"maxp", 0x0009_0004, 396, 32),
+        ]
+        .as_slice()
+    );
+    let mut tables = [None; 16];
+    tables[1] = Some(&BASE6[124..192]);
+    tables[5] = Some(&BASE6[192..262]);
+    tables[6] = Some(&BASE6[264..318]);
+    tables[7] = Some(&BASE6[320..356]);
+    tables[8] = Some(&BASE6[356..380]);
+    tables[9] = Some(&BASE6[380..394]);
+    tables[10] = Some(&BASE6[396..428]);
+    for slot in 0..16 {
+        assert_eq!(rt; directory.table(slot), tables[slot], "slot {slot}");
+    }
+    Ok(())
+}
+
+#[test]
+fn prefixes_and_versions(rt: HostRuntime) -> Result<(), Fail> {
+    for (length, error) in [
+        (0, DirError::Truncated),
+        (11, DirError::Truncated),
+        (123, DirError::Truncated),
+        (124, DirError::TableOutOfFile(Tag(*b"cmap"))),
+    ] {
+        let prefix = BASE6.get(..length).ok_or("no such prefix")?;
+        assert_eq!(rt;
+            Directory::read(prefix).err(),
+            Some(error),
+            "{length} bytes"
+        );
+    }
+    for (version, error) in [
+        (*b"ttcf", Some(DirError::Collection)),
+        (*b"OTTO", Some(DirError::NotTrueType)),
+        ([0, 1, 0, 1], Some(DirError::NotTrueType)),
+        ([0, 1, 0, 0], None),
+        (*b"true", None),
+    ] {
+        let mut file = [0; 12];
+        file[..4].copy_from_slice(&version);
+        assert_eq!(rt; Directory::read(&file).err(), error, "version {version:?}");
+        if error.is_none() {
+            let found = findings_of(rt.alloc(), &file)?;
+            assert_eq!(rt; found.as_slice(), [Finding::SearchFields].as_slice());
+        }
+    }
+    Ok(())
+}
+
+fn zeros(alloc: Global, length: usize) -> Result<Vec<u8>, AllocError> {
+    vec![in alloc; 0; length]
+}
+
+#[test]
+fn largest_file(rt: HostRuntime) -> Result<(), Fail> {
+    for (length, error) in [
+        (134_217_728, DirError::NotTrueType),
+        (134_217_729, DirError::FileTooLarge),
+    ] {
+        let file = zeros(rt.alloc(), length)?;
+        assert_eq!(rt; Directory::read(&file).err(), Some(error), "{length} bytes");
+    }
+    Ok(())
+}
+
+// The last table ends with the file.
+#[test]
+fn size_limits(rt: HostRuntime) {
+    assert_eq!(rt;
+        Directory::read(&BASE6[..427]).err(),
+        Some(DirError::TableOutOfFile(Tag(*b"maxp")))
+    );
+}
+
+#[test]
+fn one_field_changed(rt: HostRuntime) {
+    // the sixth record's tag, `loca`
+    let file = base6_with(RECORDS + 5 * RECORD, b"hmtx");
+    assert_eq!(rt;
+        Directory::read(&file).err(),
+        Some(DirError::DuplicateTable(Tag(*b"hmtx")))
+    );
+}
+
+// The refusal of a file of these records and nothing behind them.
+fn refusal(alloc: Global, records: &[Entry]) -> Result<Option<DirError>, Fail> {
+    let file = file_of(alloc, records, &[])?;
+    Ok(Directory::read(&file).err())
+}
+
+#[test]
+fn order_of_refusals(rt: HostRuntime) -> Result<(), Fail> {
+    let duplicate_first = [
+        entry(b"OS/2", 0, 0, 1000),
+        entry(b"vmtx", 0, 0, 0),
+        entry(b"vmtx", 0, 0, 0),
+        entry(b"cvt ", 0, 0, 0),
+        entry(b"cvt ", 0, 0, 0),
+    ];
+    assert_eq!(rt;
+        refusal(rt.alloc(), &duplicate_first)?,
+        Some(DirError::DuplicateTable(Tag(*b"cvt ")))
+    );
+    let least_tag = [
+        entry(b"vhea", 0, 0, 1000),
+        entry(b"cvt ", 0, 0, 1000),
+        entry(b"prep", 0, 0, 1000),
+    ];
+    assert_eq!(rt;
+        refusal(rt.alloc(), &least_tag)?,
+        Some(DirError::TableOutOfFile(Tag(*b"cvt ")))
+    );
+    let past_2_32 = [entry(b"prep", 0, 0xFFFF_FFFF, 2)];
+    assert_eq!(rt;
+        refusal(rt.alloc(), &past_2_32)?,
+        Some(DirError::TableOutOfFile(Tag(*b"prep")))
+    );
+    let one_past_the_end = [entry(b"prep", 0, 29, 0)];
+    assert_eq!(rt;
+        refusal(rt.alloc(), &one_past_the_end)?,
+        Some(DirError::TableOutOfFile(Tag(*b"prep")))
+    );
+    let dropped_tags = [entry(b"GSUB", 0, 0, 1000), entry(b"GSUB", 0, 0, 1000)];
+    assert_eq!(rt; refusal(rt.alloc(), &dropped_tags)?, None);
+    Ok(())
+}

@@ -1,0 +1,16 @@
+//! Tests over the other crates: worked examples, files broken on purpose, devices that fail and
+//! memory that is refused.
+#![tactic(auto)]
+
+#[cfg(test)]
+mod directory;
+#[cfg(test)]
+mod failing_devices;
+#[cfg(test)]
+mod fakes;
+#[cfg(test)]
+mod findings;
+#[cfg(test)]
+mod fonts;
+#[cfg(test)]
+mod hostile;

@@ -1,0 +1,9 @@
+pub mod LineLemmas
+pub mod RangeLemmas
+pub mod WordLemmas
+pub mod FieldLemmas
+pub mod SearchFieldsLemmas
+pub mod DirectoryLemmas
+pub mod RefusalLemmas
+pub mod FindingLemmas
+pub mod TextLemmas

@@ -1,0 +1,9 @@
+pub mod Directory
+pub mod Findings
+pub mod Lines
+pub mod Number
+pub mod Refusals
+pub mod SearchFields
+pub mod Sums
+pub mod Tag
+pub mod Text

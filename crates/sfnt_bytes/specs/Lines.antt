@@ -1,0 +1,18 @@
+-- Lists of lines, each of which says something or nothing.
+use Rattle.std.specs.Prelude.{Bool, List, [], ◌∷◌, if◌then◌else◌, Option, Some, None}
+
+-- a line that says x where its condition holds
+abbrev pub when : {X : Type 0} → Bool → X → Option X
+when condition x = if condition then Some x else None
+
+-- what the first line that says something says
+abbrev pub first_of_lines : {X : Type 0} → List (Option X) → Option X
+first_of_lines [] = None
+first_of_lines (Some x ∷ lines) = Some x
+first_of_lines (None ∷ lines) = first_of_lines lines
+
+-- all that the lines say, in order
+abbrev pub present : {X : Type 0} → List (Option X) → List X
+present [] = []
+present (Some x ∷ lines) = x ∷ present lines
+present (None ∷ lines) = present lines

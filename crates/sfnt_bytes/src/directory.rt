@@ -1,0 +1,195 @@
+//! The table directory. OpenType 1.9, Organization of an OpenType Font, Table Directory.
+ghost use Rattle.std.specs.Prelude.{◌≡◌, ◌<◌, ◌^◌, None, Some, MatchResult, find, length, option_copied};
+ghost use Rattle.sfnt_bytes.specs.Directory.{HasRecords, dropped_of, kept_tag, records_of, table_of};
+ghost use Rattle.sfnt_bytes.specs.Findings.{findings_of};
+ghost use Rattle.sfnt_bytes.specs.Refusals.{directory_fault, is_duplicate, is_outside};
+ghost use Rattle.sfnt_bytes.specs.SearchFields.{search_fields_of};
+
+use crate::findings::{Findings, findings_in};
+use crate::number::{be16, be32};
+use crate::records::{
+    Dropped, HEADER, RECORD, Records, count_of, dropped_in, find_entry, records_in,
+};
+use crate::tag::{KEPT, Tag};
+use std::marker::Model;
+
+/// The most bytes that a file may have, to be read or to be written.
+pub const MAX_FILE: u64 = 134_217_728;
+
+/// The version of a font with TrueType outlines: 1.0 as a 16.16 number.
+const VERSION_1: u32 = 0x0001_0000;
+
+/// The version `true`, which stands for the same.
+const VERSION_TRUE: u32 = 0x7472_7565;
+
+/// The version `ttcf`, of a collection of fonts.
+const VERSION_COLLECTION: u32 = 0x7474_6366;
+
+/// Why a file has no directory that can be used: the first that applies, in this order.
+#[derive(Clone, Copy, Debug, PartialEq, Eq)]
+pub enum DirError {
+    /// The file has more than [`MAX_FILE`] bytes.
+    FileTooLarge,
+    /// The file has fewer than 12 bytes, or fewer than its records need.
+    Truncated,
+    /// The file is a collection of fonts (`ttcf`).
+    Collection,
+    /// The version is neither 1.0 nor `true`.
+    NotTrueType,
+    /// Two records carry this tag of [`KEPT`], the least such one.
+    DuplicateTable(Tag),
+    /// The table of this tag of [`KEPT`], the least such one, does not lie within the file.
+    TableOutOfFile(Tag),
+}
+
+/// Memory was refused: the error of the crates above that grow something.
+#[derive(Clone, Copy, Debug, PartialEq, Eq)]
+pub struct NoMemory;
+
+/// `searchRange`, `entrySelector` and `rangeShift` for `n` tables. None where `n` is 0, or above
+/// 4,095, where `searchRange` has no `u16`.
+#[tactic(auto, using(crate::proofs::SearchFieldsLemmas::search_fields_is), unfolding(crate::specs::SearchFields::search_fields_of))]
+pub fn search_fields(n: u16) -> Option<(u16, u16, u16)>
+    ensures { result ≡ search_fields_of n }
+{
+    if n == 0 || n > 4095 {
+        return None;
+    }
+    let selector = n.ilog2() as u16;
+    let range = 16u16 << selector;
+    Some((range, selector, 16 * n - range))
+}
+
+#[tactic(auto, unfolding(crate::specs::Refusals::is_duplicate))]
+fn has_duplicate(file: &[u8], tag: Tag) -> bool
+    requires { HasRecords file.now }
+    ensures { result ≡ is_duplicate file.now tag }
+{
+    count_of(file, tag) > 1
+}
+
+// The first of the tags that two records carry.
+fn first_duplicate(file: &[u8], tags: &[Tag]) -> Option<Tag>
+    requires { HasRecords file.now }
+    ensures { result ≡ find (is_duplicate file.now) tags.now }
+{
+    tags.iter().copied().find(|tag| has_duplicate(file, *tag))
+}
+
+#[tactic(auto, unfolding(crate::specs::Refusals::is_outside))]
+fn lies_outside(file: &[u8], tag: Tag) -> bool
+    requires { HasRecords file.now }
+    ensures { result ≡ is_outside file.now tag }
+{
+    match find_entry(file, tag) {
+        Some(entry) => !entry.is_within(file),
+        None => false,
+    }
+}
+
+// The first of the tags whose table does not lie within the file.
+fn first_outside(file: &[u8], tags: &[Tag]) -> Option<Tag>
+    requires { HasRecords file.now }
+    ensures { result ≡ find (is_outside file.now) tags.now }
+{
+    tags.iter().copied().find(|tag| lies_outside(file, *tag))
+}
+
+/// A font file in which each table of [`KEPT`] stands once at most and lies within the file.
+///
+/// Records may stand in any order, tables may overlap, and sums, search fields, padding and
+/// alignment may be wrong: [`Directory::findings`] says so.
+#[derive(Drop)]
+pub struct Directory<'a> {
+    file: &'a [u8],
+}
+
+impl<'a> Model for Directory<'a> {
+    ghost use Rattle.std.specs.Prelude.{◌≡◌, ℕ, List, None};
+    ghost use Rattle.sfnt_bytes.specs.Refusals.{directory_fault};
+
+    ghost Value = { List ℕ };
+
+    ghost view = { λ d. d.file.now };
+
+    ghost invariant = { λ d. directory_fault d.file.now ≡ None };
+}
+
+impl<'a> Directory<'a> {
+    /// Reads the directory of a file. Refused with the first [`DirError`] that applies.
+    #[tactic(auto, unfolding(crate::specs::Refusals::directory_fault))]
+    pub fn read(file: &'a [u8]) -> Result<Directory<'a>, DirError>
+        ensures { MatchResult result
+            (λ directory. (directory ≡ file.now) × (directory_fault file.now ≡ None))
+            (λ error. directory_fault file.now ≡ Some error) }
+    {
+        if file.len() as u64 > MAX_FILE {
+            return Err(DirError::FileTooLarge);
+        }
+        if file.len() < HEADER {
+            return Err(DirError::Truncated);
+        }
+        let version = be32(file, 0);
+        if version == VERSION_COLLECTION {
+            return Err(DirError::Collection);
+        }
+        if version != VERSION_1 && version != VERSION_TRUE {
+            return Err(DirError::NotTrueType);
+        }
+        if file.len() < HEADER + RECORD * be16(file, 4) as usize {
+            return Err(DirError::Truncated);
+        }
+        if let Some(tag) = first_duplicate(file, &KEPT) {
+            return Err(DirError::DuplicateTable(tag));
+        }
+        if let Some(tag) = first_outside(file, &KEPT) {
+            return Err(DirError::TableOutOfFile(tag));
+        }
+        Ok(Directory { file })
+    }
+
+    /// The whole file.
+    pub fn file(&self) -> &'a [u8]
+        ensures file { result.now ≡ self.now }
+
+        // What reading it has shown.
+        ensures sound { directory_fault self.now ≡ None }
+    {
+        self.file
+    }
+
+    /// The records, in the order of the file: 65,535 at most.
+    pub fn records(&self) -> Records<'a>
+        ensures records { result ≡ records_of self.now }
+        ensures count { length result < 65536 }
+    {
+        records_in(self.file)
+    }
+
+    /// The records whose tag is not among [`KEPT`], in the order of the file.
+    pub fn dropped(&self) -> Dropped<'a>
+        ensures records { result ≡ dropped_of self.now }
+        ensures count { length result < 65536 }
+    {
+        dropped_in(self.file)
+    }
+
+    /// What is not as the standard asks: of the directory, of each record in the order of the file,
+    /// and of the sum of the file.
+    pub fn findings(&self) -> Findings<'a>
+        ensures findings { result ≡ findings_of self.now }
+        ensures count { length result < 2 ^ 18 }
+    {
+        findings_in(self.file)
+    }
+
+    /// The table of the tag `KEPT[slot]`, where there is one.
+    pub fn table(&self, slot: usize) -> Option<&'a [u8]>
+        requires { slot < 16 }
+        ensures { option_copied result ≡ table_of self.now (kept_tag slot) }
+    {
+        let entry = find_entry(self.file, KEPT[slot])?;
+        let start = entry.offset as usize;
+        Some(&self.file[start..start + entry.length as usize])
+    }
+}

@@ -1,0 +1,229 @@
+//! What is not as the standard asks. OpenType 1.9, Organization of an OpenType Font, Table
+//! Directory and Calculating Checksums.
+ghost use Rattle.std.specs.Prelude.{◌≡◌, ◌+◌, ◌<◌, ◌≤◌, ◌^◌, IsTrue, false, length};
+ghost use Rattle.std.specs.Iterator.{YieldsFirst, item_count};
+ghost use Rattle.sfnt_bytes.specs.Directory.{HasRecords, is_within, records_of};
+ghost use Rattle.sfnt_bytes.specs.Findings.{entry_findings, findings_of, has_file_sum, has_search_fields, is_ascending, is_padded, table_sum, has_wrong_file_sum};
+ghost use Rattle.sfnt_bytes.specs.Lines.{present, when};
+ghost use Rattle.sfnt_bytes.specs.Refusals.{is_outside};
+ghost use Rattle.sfnt_bytes.specs.declared.tag.TheConstants.{HEAD as HEAD_TAG};
+
+use crate::directory::search_fields;
+use crate::number::{be16, be32};
+use crate::records::{Entry, Records, find_entry, records_in};
+use crate::sums::{adjustment, sum_without, word_sum};
+use crate::tag::{HEAD, Tag};
+use std::marker::Model;
+
+/// What is not as the standard asks in a file that is read all the same.
+#[derive(Clone, Copy, Debug, PartialEq, Eq)]
+pub enum Finding {
+    /// The tags of the records are not strictly ascending.
+    Unsorted,
+    /// `searchRange`, `entrySelector` or `rangeShift` is not that of the number of tables.
+    SearchFields,
+    /// The table of this tag, which no cut keeps, does not lie within the file.
+    OutOfFile(Tag),
+    /// The table does not begin at a multiple of four bytes.
+    Unaligned(Tag),
+    /// The bytes that fill the table to a multiple of four are not all there and zero.
+    Padding(Tag),
+    /// The record's checksum is not the table's.
+    Checksum(Tag),
+    /// `checksumAdjustment` of `head` is not that of the file.
+    FileSum,
+}
+
+fn found(condition: bool, finding: Finding) -> Option<Finding>
+    ensures { result ≡ when condition finding }
+{
+    condition.then_some(finding)
+}
+
+// Whether the tags are strictly ascending.
+#[tactic(auto, unfolding(crate::specs::Findings::is_ascending))]
+fn has_sorted_records(file: &[u8]) -> bool
+    requires { HasRecords file.now }
+    ensures { result ≡ is_ascending (records_of file.now) }
+{
+    let mut records = records_in(file);
+    let Some(mut last) = records.next() else {
+        return true;
+    };
+    for entry in records {
+        if entry.tag.number() <= last.tag.number() {
+            return false;
+        }
+        last = entry;
+    }
+    true
+}
+
+#[tactic(auto, unfolding(crate::specs::Findings::has_search_fields))]
+fn has_fields(file: &[u8]) -> bool
+    requires { 12 ≤ length file.now }
+    ensures { result ≡ has_search_fields file.now }
+{
+    match search_fields(be16(file, 4)) {
+        Some((range, selector, shift)) => {
+            be16(file, 6) == range && be16(file, 8) == selector && be16(file, 10) == shift
+        }
+        None => false,
+    }
+}
+
+// Only a whole `checksumAdjustment` is left out of the sum.
+#[tactic(auto, unfolding(crate::specs::Findings::table_sum))]
+fn sum_of_table(file: &[u8], entry: Entry) -> u32
+    requires { IsTrue (is_within file.now entry) }
+    ensures { result ≡ table_sum file.now entry }
+{
+    let start = entry.offset as usize;
+    let bytes = &file[start..start + entry.length as usize];
+    if entry.tag == HEAD && entry.length >= 12 {
+        sum_without(bytes, 8)
+    } else {
+        word_sum(bytes)
+    }
+}
+
+#[tactic(auto, unfolding(crate::specs::Findings::is_padded))]
+fn has_padding(file: &[u8], entry: Entry) -> bool
+    requires { IsTrue (is_within file.now entry) }
+    ensures { result ≡ is_padded file.now entry }
+{
+    let end = entry.offset as usize + entry.length as usize;
+    let zeros = [0u8; 4];
+    file[end..].starts_with(&zeros[..(4 - entry.length as usize % 4) % 4])
+}
+
+// The findings of one record that were not given yet, in order.
+#[derive(Drop)]
+struct Pending {
+    first: Option<Finding>,
+    second: Option<Finding>,
+    third: Option<Finding>,
+}
+
+impl Model for Pending {
+    ghost use Rattle.std.specs.Prelude.{List, [], ◌∷◌};
+    ghost use Rattle.sfnt_bytes.specs.Lines.{present};
+    ghost use Rattle.sfnt_bytes.specs.declared.findings.Finding.{Finding};
+
+    ghost Value = { List Finding };
+
+    ghost view = { λ f. present (f.first ∷ f.second ∷ f.third ∷ []) };
+}
+
+impl Pending {
+    fn next(&mut self) -> Option<Finding>
+        ensures { YieldsFirst (λ s. s) self.old result self.new }
+    {
+        if self.first.is_some() {
+            return self.first.take();
+        }
+        if self.second.is_some() {
+            return self.second.take();
+        }
+        self.third.take()
+    }
+}
+
+#[tactic(auto, unfolding(crate::specs::Findings::entry_findings))]
+fn findings_of_entry(file: &[u8], entry: Entry) -> Pending
+    ensures { result ≡ entry_findings file.now entry }
+{
+    let tag = entry.tag;
+    if !entry.is_within(file) {
+        return Pending {
+            first: Some(Finding::OutOfFile(tag)),
+            second: None,
+            third: None,
+        };
+    }
+    let sum = sum_of_table(file, entry);
+    Pending {
+        first: found(entry.offset % 4 != 0, Finding::Unaligned(tag)),
+        second: found(!has_padding(file, entry), Finding::Padding(tag)),
+        third: found(sum != entry.checksum, Finding::Checksum(tag)),
+    }
+}
+
+#[tactic(auto, unfolding(crate::specs::Findings::has_file_sum))]
+fn has_right_sum(file: &[u8], at: usize) -> bool
+    requires { at + 4 ≤ length file.now }
+    ensures { result ≡ has_file_sum file.now at }
+{
+    be32(file, at) == adjustment(sum_without(file, at))
+}
+
+#[tactic(auto, unfolding(crate::specs::Findings::has_wrong_file_sum))]
+fn has_wrong_sum(file: &[u8]) -> bool
+    requires room { HasRecords file.now }
+    requires head { is_outside file.now HEAD_TAG ≡ false }
+    ensures { result ≡ has_wrong_file_sum file.now }
+{
+    match find_entry(file, HEAD) {
+        Some(head) => head.length >= 12 && !has_right_sum(file, head.offset as usize + 8),
+        None => false,
+    }
+}
+
+/// The findings of a file, in order.
+#[derive(Drop)]
+pub struct Findings<'a> {
+    file: &'a [u8],
+    pending: Pending,
+    records: Records<'a>,
+    last: Option<Finding>,
+}
+
+impl<'a> Model for Findings<'a> {
+    ghost use Rattle.std.specs.Prelude.{List};
+    ghost use Rattle.sfnt_bytes.specs.Findings.{findings_left};
+    ghost use Rattle.sfnt_bytes.specs.declared.findings.Finding.{Finding};
+
+    ghost Value = { List Finding };
+
+    ghost view = { λ f. findings_left f.file.now f.pending f.records f.last };
+}
+
+impl<'a> Iterator for Findings<'a> {
+    type Item = Finding;
+
+    ghost next_gives = { YieldsFirst (λ s. s) };
+
+    ghost remaining = { item_count (λ s. s) };
+
+    fn next(&mut self) -> Option<Finding> {
+        loop {
+            if let Some(finding) = self.pending.next() {
+                return Some(finding);
+            }
+            let Some(entry) = self.records.next() else {
+                return self.last.take();
+            };
+            self.pending = findings_of_entry(self.file, entry);
+        }
+    }
+}
+
+/// The findings of a file that has all the records that it says.
+#[tactic(auto, unfolding(crate::specs::Findings::findings_of))]
+pub(crate) fn findings_in(file: &[u8]) -> Findings<'_>
+    requires room { HasRecords file.now }
+    requires head { is_outside file.now HEAD_TAG ≡ false }
+    ensures findings { result ≡ findings_of file.now }
+    ensures count { length result < 2 ^ 18 }
+{
+    Findings {
+        file,
+        pending: Pending {
+            first: found(!has_sorted_records(file), Finding::Unsorted),
+            second: found(!has_fields(file), Finding::SearchFields),
+            third: None,
+        },
+        records: records_in(file),
+        last: found(has_wrong_sum(file), Finding::FileSum),
+    }
+}

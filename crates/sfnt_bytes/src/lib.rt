@@ -1,0 +1,20 @@
+//! A font file as bytes: numbers, tags, sums, the table directory and its findings.
+//! OpenType 1.9 and ISO/IEC 14496-22, Organization of an OpenType Font.
+#![tactic(auto)]
+
+mod base6;
+mod directory;
+mod findings;
+mod number;
+mod records;
+mod sums;
+mod tag;
+mod text;
+
+pub use crate::base6::BASE6;
+pub use crate::directory::{DirError, Directory, MAX_FILE, NoMemory, search_fields};
+pub use crate::findings::{Finding, Findings};
+pub use crate::number::{be16, be32};
+pub use crate::records::{Dropped, Entry, Records};
+pub use crate::sums::word_sum;
+pub use crate::tag::{KEPT, Tag};

@@ -1,0 +1,57 @@
+//! The names of tables. OpenType 1.9, Organization of an OpenType Font, Table Tags.
+ghost use Rattle.std.specs.Prelude.{◌≡◌};
+ghost use Rattle.std.specs.List.{list_any};
+ghost use Rattle.std.specs.Str.{bytes_eq};
+ghost use Rattle.sfnt_bytes.specs.Tag.{is_kept, tag_number};
+
+use crate::number::be32;
+
+/// The name of a table: four bytes, mostly letters.
+#[derive(Clone, Copy, Debug, PartialEq, Eq)]
+pub struct Tag(pub [u8; 4]);
+
+/// The tables that a cut keeps, ascending by tag. A *slot* is a place in this list.
+pub const KEPT: [Tag; 16] = [
+    Tag(*b"OS/2"),
+    Tag(*b"cmap"),
+    Tag(*b"cvt "),
+    Tag(*b"fpgm"),
+    Tag(*b"gasp"),
+    Tag(*b"glyf"),
+    Tag(*b"head"),
+    Tag(*b"hhea"),
+    Tag(*b"hmtx"),
+    Tag(*b"loca"),
+    Tag(*b"maxp"),
+    Tag(*b"name"),
+    Tag(*b"post"),
+    Tag(*b"prep"),
+    Tag(*b"vhea"),
+    Tag(*b"vmtx"),
+];
+
+/// The table whose checksum leaves a field out.
+pub(crate) const HEAD: Tag = Tag(*b"head");
+
+fn is_among(tags: &[Tag], tag: Tag) -> bool
+    ensures { result ≡ list_any (λ kept. bytes_eq kept.0 tag.0) tags.now }
+{
+    tags.iter().any(|kept| *kept == tag)
+}
+
+impl Tag {
+    /// Whether a cut keeps the table of this tag.
+    #[tactic(auto, unfolding(crate::specs::Tag::is_kept))]
+    pub(crate) fn is_kept(self) -> bool
+        ensures { result ≡ is_kept self }
+    {
+        is_among(&KEPT, self)
+    }
+
+    /// The tag as a number, which orders tags by their bytes.
+    pub(crate) fn number(self) -> u32
+        ensures { result ≡ tag_number self }
+    {
+        be32(&self.0, 0)
+    }
+}

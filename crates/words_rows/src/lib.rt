@@ -1,0 +1,5 @@
+//! Tests of the command line over real files: the words, their statuses, and what is printed.
+#![tactic(auto)]
+
+#[cfg(test)]
+mod command_words;
