@@ -3,6 +3,8 @@ use Rattle.std.specs.Prelude.{◌≡◌, ℕ, ◌+◌, false, true, List, Option
 use Rattle.sfnt_bytes.specs.declared.directory.TheConstants.{MAX_FILE}
 use Rattle.sfnt_bytes.specs.Text.{no_memory_number}
 use Rattle.font_cmd.specs.declared.inlet.Inlet.{Inlet}
+use Rattle.font_cmd.specs.declared.inlet.ReadError.{ReadError}
+use Rattle.font_cmd.specs.declared.inlet.ReadError.TheVariants.{NoMemory, ReadFault}
 use Rattle.font_cmd.specs.declared.outlet.Outlet.{Outlet}
 use Rattle.font_cmd.specs.declared.run.RunError.{RunError}
 use Rattle.font_cmd.specs.declared.run.RunError.TheVariants.{Read, Memory, Write}
@@ -23,6 +25,11 @@ RunStops remaining contents text i j o p Memory = (inlets.broken_of j ≡ false)
 RunStops remaining contents text i j o p (Write count) =
     (inlets.broken_of j ≡ false) × (outlets.broken_of p ≡ true) × (outlets.written_of p ≡ count)
     × got remaining i (λ file. outlets.Sends contents o p (take count (text file)))
+
+-- the error of a run whose inlet was not read to its end
+abbrev pub of_read_error : ReadError → RunError
+of_read_error (ReadFault count) = Read count
+of_read_error NoMemory = Memory
 
 -- the number of a run's error
 abbrev pub run_error_number : RunError → ℕ

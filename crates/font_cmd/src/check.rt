@@ -9,7 +9,7 @@ ghost use Rattle.font_cmd.specs.Outlet.{Sends, broken_of, fresh_of};
 ghost use Rattle.font_cmd.specs.Run.{RunStops, got};
 
 use crate::font_error::FontError;
-use crate::inlet::{Inlet, ReadError};
+use crate::inlet::Inlet;
 use crate::outlet::Outlet;
 use crate::run::{RunError, send};
 use sfnt_bytes::{Directory, Finding};
@@ -113,19 +113,9 @@ pub fn run_check<R: Read, W: Write, A: Allocator + Copy>(
     ensures error { IfErr result
         (RunStops R.remaining W.contents check_text inlet.old inlet.new outlet.old outlet.new) }
 {
-    let file = match inlet.read_all(alloc) {
-        Ok(file) => file,
-        Err(ReadError::ReadFault(count)) => return Err(RunError::Read(count)),
-        Err(ReadError::NoMemory) => return Err(RunError::Memory),
-    };
-    let Ok(report) = Report::of(alloc, &file) else {
-        return Err(RunError::Memory);
-    };
-    let Ok(text) = report.to_string(alloc) else {
-        return Err(RunError::Memory);
-    };
-    match send(outlet, text.as_bytes()) {
-        Ok(()) => Ok(report.is_clean()),
-        Err(fault) => Err(RunError::Write(fault.written)),
-    }
+    let file = inlet.read_all(alloc)?;
+    let report = Report::of(alloc, &file)?;
+    let text = report.to_string(alloc)?;
+    send(outlet, text.as_bytes())?;
+    Ok(report.is_clean())
 }

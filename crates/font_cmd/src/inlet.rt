@@ -1,5 +1,5 @@
 //! A reader that is read once, to its end or to one byte more than a file may have.
-ghost use Rattle.std.specs.Prelude.{◌≡◌, ℕ, ◌+◌, ◌<◌, ◌≤◌, take, false, true, length, vec_len, IfOk, IfErr, OnErr, OnOk, IfSome, Some};
+ghost use Rattle.std.specs.Prelude.{◌≡◌, ◌+◌, ◌<◌, ◌≤◌, take, false, true, length, vec_len, IfOk, IfErr, OnErr, OnOk, IfSome, Some};
 ghost use Rattle.std.specs.Io.KnownBytes.{Consumes, IsAtEnd, Keeps};
 ghost use Rattle.font_cmd.specs.Inlet.{StopsAs, broken_of, read_error_number, read_error_text, fresh_of, reader_of};
 

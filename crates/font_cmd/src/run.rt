@@ -1,12 +1,13 @@
 //! What the runs share: their error, and how they send what they have made.
 ghost use Rattle.std.specs.Prelude.{◌≡◌, false, true, take, IfErr, OnErr, OnOk};
 ghost use Rattle.font_cmd.specs.Outlet.{Sends, broken_of, fresh_of, written_of};
-ghost use Rattle.font_cmd.specs.Run.{run_error_number};
-ghost use Rattle.font_cmd.specs.declared.run.RunError.TheVariants.{Memory, Read, Write as WriteError};
+ghost use Rattle.font_cmd.specs.Run.{of_read_error, run_error_number};
+ghost use Rattle.font_cmd.specs.declared.run.RunError.TheVariants.{Memory, Write};
 
 use crate::inlet::ReadError;
 use crate::outlet::{Outlet, WriteFault};
-use std::io::Write;
+use std::alloc::AllocError;
+use std::io;
 use thiserror::Error;
 
 /// Why a run was not done.
@@ -36,8 +37,35 @@ impl RunError {
     }
 }
 
+impl From<ReadError> for RunError {
+    ghost from_gives = { λ held error. error ≡ of_read_error held };
+
+    fn from(error: ReadError) -> RunError {
+        match error {
+            ReadError::ReadFault(count) => RunError::Read(count),
+            ReadError::NoMemory => RunError::Memory,
+        }
+    }
+}
+
+impl From<AllocError> for RunError {
+    ghost from_gives = { λ held error. error ≡ Memory };
+
+    fn from(_error: AllocError) -> RunError {
+        RunError::Memory
+    }
+}
+
+impl From<WriteFault> for RunError {
+    ghost from_gives = { λ held error. error ≡ Write held.written };
+
+    fn from(error: WriteFault) -> RunError {
+        RunError::Write(error.written)
+    }
+}
+
 /// Sends all of `bytes`, and flushes.
-pub(crate) fn send<W: Write>(outlet: &mut Outlet<W>, bytes: &[u8]) -> Result<(), WriteFault>
+pub(crate) fn send<W: io::Write>(outlet: &mut Outlet<W>, bytes: &[u8]) -> Result<(), WriteFault>
     requires { fresh_of outlet.old ≡ true }
     ensures ok { OnOk result (Sends W.contents outlet.old outlet.new bytes.now) }
     ensures whole { OnOk result (broken_of outlet.new ≡ false) }
