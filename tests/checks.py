@@ -1,4 +1,5 @@
 """What the test scripts share: running the program, counting checks, Debian's fonts."""
+import json
 import os
 import subprocess
 import sys
@@ -9,6 +10,15 @@ PROGRAM = os.path.join(TOP, "crates", "fontcut", "out", "fontcut")
 
 DEJAVU = "/usr/share/fonts/truetype/dejavu"  # Debian's package fonts-dejavu-core
 LIBERATION = "/usr/share/fonts/truetype/liberation2"  # Debian's package fonts-liberation2
+
+FONTS = {
+    DEJAVU: ("fonts-dejavu-core", """
+        DejaVuSans DejaVuSans-Bold DejaVuSansMono DejaVuSansMono-Bold DejaVuSerif DejaVuSerif-Bold"""),
+    LIBERATION: ("fonts-liberation2", """
+        LiberationMono-Bold LiberationMono-BoldItalic LiberationMono-Italic LiberationMono-Regular
+        LiberationSans-Bold LiberationSans-BoldItalic LiberationSans-Italic LiberationSans-Regular
+        LiberationSerif-Bold LiberationSerif-BoldItalic LiberationSerif-Italic LiberationSerif-Regular"""),
+}
 
 counts = {"passed": 0, "failed": 0, "skipped": 0}
 
@@ -57,3 +67,27 @@ def fontcut(*words, **how):
 
 def same(name, wanted, found):
     check(name, wanted == found, f"wanted {wanted}", f"found  {found}")
+
+
+def real_fonts():
+    """The paths of Debian's fonts; a font that is not installed is skipped."""
+    paths = []
+    for folder, (package, names) in FONTS.items():
+        for name in names.split():
+            path = f"{folder}/{name}.ttf"
+            if os.path.exists(path):
+                paths.append(path)
+            else:
+                skip(f"{name}.ttf", f"Debian's package {package} is not installed")
+    return paths
+
+
+def by_fonttools(code, paths):
+    """What the code, which uses fontTools, prints of the paths as JSON, or None where no Python here has it."""
+    for python in (sys.executable, "/usr/bin/python3"):
+        ran = subprocess.run([python, "-c", code, *paths], capture_output=True, check=False)
+        if ran.returncode == 0:
+            return json.loads(ran.stdout)
+        if b"No module named" not in ran.stderr:
+            check("fontTools reads the fonts", False, ran.stderr.decode())
+    return None

@@ -25,21 +25,23 @@ pub enum LineError {
     Words(String),
 }
 
+// A subcommand over one font.
+fn over_font<'a>(alloc: Global, name: &'a str, about: &'a str) -> Result<Command<'a>, AllocError> {
+    Command::new(alloc, name)
+        .about(about)
+        .arg(Arg::new(alloc, "FONT").required(true))
+}
+
 fn command<'a>(alloc: Global) -> Result<Command<'a>, AllocError> {
-    let font = Arg::new(alloc, "FONT").required(true);
+    let check = "Prints what is not as the standard asks, and whether FONT is accepted";
+    let demo = "Prints what is found in a font of six glyphs";
     Command::new(alloc, "fontcut")
         .bin_name("fontcut")?
-        .about("Cuts OpenType fonts down to wanted characters, and joins such cuts")
+        .about("Looks into OpenType fonts with TrueType outlines")
         .no_binary_name(true)
         .subcommand_required(true)
-        .subcommand(
-            Command::new(alloc, "check")
-                .about("Prints what is not as the standard asks, and whether FONT is accepted")
-                .arg(font)?,
-        )?
-        .subcommand(Command::new(alloc, "demo").about(
-            "Prints what is found in a font of six glyphs",
-        ))
+        .subcommand(over_font(alloc, "check", check)?)?
+        .subcommand(Command::new(alloc, "demo").about(demo))
 }
 
 // The text of a fault of the words, which `clap` also makes of a call for help.
