@@ -1,7 +1,7 @@
-"""A small reading of a font's directory and findings, apart from the program: what `fontcut check` has to print.
+"""A small reading of a font, apart from the program: what `fontcut check` and `fontcut show` have to print.
 
-It follows OpenType 1.9, "Organization of an OpenType Font": the table directory, its search fields,
-and checksums. It refuses what the program refuses while it reads the directory, and nothing more.
+It follows OpenType 1.9, "Organization of an OpenType Font" (the table directory, its search fields,
+checksums), `head`, `maxp`, `hhea`, `hmtx` and `loca`. It refuses what the program refuses in these, and no more.
 """
 import struct
 from collections import namedtuple
@@ -55,7 +55,7 @@ def search_fields(count):
     return 16 * 2**selector, selector, 16 * count - 16 * 2**selector
 
 
-def refusal(file):
+def directory_refusal(file):
     """The number and text of the first refusal of the directory that applies, or None."""
     if len(file) > MAX_FILE:
         return 1, "file too large"
@@ -76,6 +76,53 @@ def refusal(file):
         if any(record.tag == tag and not is_in_file(file, record) for record in records):
             return 6, f"table out of file {tag_text(tag)}"
     return None
+
+
+REQUIRED = (b"cmap", b"glyf", b"head", b"hhea", b"hmtx", b"loca", b"maxp")
+
+
+def table(file, tag):
+    """The bytes of the table of this tag, which is there once."""
+    return next(table_of(file, record) for record in records_of(file) if record.tag == tag)
+
+
+def offset(loca, form, index):
+    """The offset of this index in `loca`, or None where it is not whole there. The short form has it by halves."""
+    size = (2, 4)[form]
+    if size * (index + 1) > len(loca):
+        return None
+    return u32(loca, 4 * index) if form else 2 * u16(loca, 2 * index)
+
+
+def bad_offset(loca, form, glyphs, length):
+    """The first index of `loca` whose offset is not whole, past the end of `glyf`, or below the one before it."""
+    before = 0
+    for index in range(glyphs + 1):
+        place = offset(loca, form, index)
+        if place is None or place > length or place < before:
+            return index
+        before = place
+    return None
+
+
+def table_refusal(file):
+    """The number and text of the first refusal of the tables that applies, or None."""
+    tags = [record.tag for record in records_of(file)]
+    for tag in REQUIRED:
+        if tag not in tags:
+            return 7, f"missing table {tag_text(tag)}"
+    head, maxp, hhea = table(file, b"head"), table(file, b"maxp"), table(file, b"hhea")
+    if len(head) < 54 or u32(head, 12) != 0x5F0F3CF5 or u16(head, 50) > 1:
+        return 8, "bad head"
+    if len(maxp) < 32 or u32(maxp, 0) != 0x00010000 or u16(maxp, 4) == 0:
+        return 9, "bad maxp"
+    glyphs = u16(maxp, 4)
+    if len(hhea) < 36 or not 1 <= u16(hhea, 34) <= glyphs:
+        return 10, "bad hhea"
+    if len(table(file, b"hmtx")) < 4 * u16(hhea, 34) + 2 * (glyphs - u16(hhea, 34)):
+        return 11, "bad hmtx"
+    index = bad_offset(table(file, b"loca"), u16(head, 50), glyphs, len(table(file, b"glyf")))
+    return None if index is None else (12, f"bad loca at {index}")
 
 
 def checksum_of(file, record):
@@ -135,9 +182,27 @@ def findings(file):
 
 def report(file):
     """What `fontcut check` has to print for these bytes, and its status."""
-    refused = refusal(file)
-    if refused:
-        return "refused {} {}\n".format(*refused), 1
-    lines = findings(file)
-    status = 1 if lines else 0
-    return "\n".join([*lines, f"findings {len(lines)}", "accepted"]) + "\n", status
+    refused = directory_refusal(file)
+    lines = []
+    if not refused:
+        lines = findings(file)
+        lines.append(f"findings {len(lines)}")
+        refused = table_refusal(file)
+    lines.append("refused {} {}".format(*refused) if refused else "accepted")
+    return "".join(line + "\n" for line in lines), 0 if lines == ["findings 0", "accepted"] else 1
+
+
+def shown(file):
+    """Glyphs, units, the form of `loca`, metrics, and the tags and lengths of the tables, in the order of the file."""
+    head, maxp, hhea = table(file, b"head"), table(file, b"maxp"), table(file, b"hhea")
+    tables = [(tag_text(record.tag), record.length) for record in records_of(file)]
+    return u16(maxp, 4), u16(head, 18), ("short", "long")[u16(head, 50)], u16(hhea, 34), tables
+
+
+def show_text(glyphs, units, form, metrics, tables):
+    """What `fontcut show` has to print of these numbers, and of these tables in the order of the file."""
+    kept = [tag.decode() for tag in KEPT]
+    lines = [f"glyphs {glyphs}", f"units {units}", f"loca {form}", f"metrics {metrics}"]
+    lines += [f"kept {tag} {length}" for name in kept for tag, length in tables if tag == name]
+    lines += [f"dropped {tag} {length}" for tag, length in tables if tag not in kept]
+    return "".join(line + "\n" for line in lines)

@@ -1,1 +1,3 @@
+pub mod FontErrorLemmas
+pub mod LineLemmas
 pub mod OutletLemmas

@@ -3,3 +3,4 @@ pub mod FontError
 pub mod Inlet
 pub mod Outlet
 pub mod Run
+pub mod Show

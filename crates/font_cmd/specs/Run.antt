@@ -2,12 +2,14 @@
 use Rattle.std.specs.Prelude.{◌≡◌, ℕ, ◌+◌, false, true, List, Option, IfSome, take}
 use Rattle.sfnt_bytes.specs.declared.directory.TheConstants.{MAX_FILE}
 use Rattle.sfnt_bytes.specs.Text.{no_memory_number}
+use Rattle.font_cmd.specs.declared.font_error.FontError.{FontError}
 use Rattle.font_cmd.specs.declared.inlet.Inlet.{Inlet}
 use Rattle.font_cmd.specs.declared.inlet.ReadError.{ReadError}
 use Rattle.font_cmd.specs.declared.inlet.ReadError.TheVariants.{NoMemory, ReadFault}
 use Rattle.font_cmd.specs.declared.outlet.Outlet.{Outlet}
 use Rattle.font_cmd.specs.declared.run.RunError.{RunError}
-use Rattle.font_cmd.specs.declared.run.RunError.TheVariants.{Read, Memory, Write}
+use Rattle.font_cmd.specs.declared.run.RunError.TheVariants.{Font, Memory, Read, Write}
+use Rattle.font_cmd.specs.FontError.{font_error_number}
 use Rattle.font_cmd.specs.Inlet as inlets
 use Rattle.font_cmd.specs.Outlet as outlets
 
@@ -15,14 +17,16 @@ use Rattle.font_cmd.specs.Outlet as outlets
 abbrev pub got : {R : Type 0} → (R → Option (List ℕ)) → Inlet R → (List ℕ → Type 0) → Type 0
 got remaining inlet P = IfSome (remaining (inlets.reader_of inlet)) (λ bytes. P (take (MAX_FILE + 1) bytes))
 
--- how a run that is not done leaves its inlet, from i to j, and its outlet, from o to p
-abbrev pub RunStops : {R W : Type 0} (remaining : R → Option (List ℕ)) (contents : W → Option (List ℕ)) (text : List ℕ → List ℕ) (i j : Inlet R) (o p : Outlet W) → RunError → Type 0
+-- how a run that is not done leaves its inlet, from i to j, and its outlet, from o to p; `text` is what it sends of a file, and `refuses` says when it refuses one
+abbrev pub RunStops : {R W : Type 0} (remaining : R → Option (List ℕ)) (contents : W → Option (List ℕ)) (text : List ℕ → List ℕ) (refuses : FontError → Type 0) (i j : Inlet R) (o p : Outlet W) → RunError → Type 0
 -- the inlet is broken after so many bytes, and nothing was sent
-RunStops remaining contents text i j o p (Read count) = (inlets.broken_of j ≡ true) × inlets.Gives remaining i j count × (p ≡ o)
+RunStops remaining contents text refuses i j o p (Read count) = (inlets.broken_of j ≡ true) × inlets.Gives remaining i j count × (p ≡ o)
 -- nothing was sent
-RunStops remaining contents text i j o p Memory = (inlets.broken_of j ≡ false) × (p ≡ o)
+RunStops remaining contents text refuses i j o p Memory = (inlets.broken_of j ≡ false) × (p ≡ o)
+-- the file is refused, and nothing was sent
+RunStops remaining contents text refuses i j o p (Font error) = (inlets.broken_of j ≡ false) × (p ≡ o) × refuses error
 -- the outlet is broken, and so many bytes of the text went out
-RunStops remaining contents text i j o p (Write count) =
+RunStops remaining contents text refuses i j o p (Write count) =
     (inlets.broken_of j ≡ false) × (outlets.broken_of p ≡ true) × (outlets.written_of p ≡ count)
     × got remaining i (λ file. outlets.Sends contents o p (take count (text file)))
 
@@ -36,3 +40,4 @@ abbrev pub run_error_number : RunError → ℕ
 run_error_number (Read count) = 25
 run_error_number Memory = no_memory_number
 run_error_number (Write count) = 19
+run_error_number (Font error) = font_error_number error

@@ -12,6 +12,7 @@ use crate::font_error::FontError;
 use crate::inlet::Inlet;
 use crate::outlet::Outlet;
 use crate::run::{RunError, send};
+use font_tables::Tables;
 use sfnt_bytes::{Directory, Finding};
 use std::alloc::{AllocError, Allocator};
 use std::fmt;
@@ -42,20 +43,25 @@ struct Report<A: Allocator> {
 }
 
 impl<A: Allocator> Report<A> {
+    #[tactic(auto, using(crate::proofs::FontErrorLemmas::font_fault_is))]
     fn of(alloc: A, file: &[u8]) -> Result<Report<A>, AllocError>
         ensures findings { IfOk result (λ report. shown_findings report ≡ read_findings file.now) }
         ensures fault { IfOk result (λ report. report.fault ≡ font_fault file.now) }
     {
-        match Directory::read(file) {
-            Ok(directory) => Ok(Report {
-                findings: Some(directory.findings().collect(alloc)?),
-                fault: None,
-            }),
-            Err(error) => Ok(Report {
-                findings: None,
-                fault: Some(FontError::Directory(error)),
-            }),
-        }
+        let directory = match Directory::read(file) {
+            Ok(directory) => directory,
+            Err(error) => {
+                return Ok(Report {
+                    findings: None,
+                    fault: Some(FontError::Directory(error)),
+                });
+            }
+        };
+        let findings = directory.findings().collect(alloc)?;
+        Ok(Report {
+            findings: Some(findings),
+            fault: Tables::open(directory).err().map(FontError::Tables),
+        })
     }
 
     // Whether the file is accepted without a finding.
@@ -94,7 +100,7 @@ impl<A: Allocator> fmt::Display for Report<A> {
 /// # Errors
 /// `Read` where the reader fails, `Memory` where memory is refused: then nothing was sent. `Write`
 /// where the writer fails.
-#[tactic(auto, unfolding(crate::specs::Check::check_text))]
+#[tactic(auto, using(crate::proofs::FontErrorLemmas::read_findings_accepted), unfolding(crate::specs::Check::check_text))]
 pub fn run_check<R: Read, W: Write, A: Allocator + Copy>(
     alloc: A,
     inlet: &mut Inlet<R>,
@@ -110,8 +116,9 @@ pub fn run_check<R: Read, W: Write, A: Allocator + Copy>(
         (λ file. IsTrue clean ↔ (font_fault file ≡ None) × (findings_of file ≡ []))) }
     ensures whole { OnOk result ((inlet_broken_of inlet.new ≡ false) × (broken_of outlet.new ≡ false)) }
 
+    // A file is never refused: that is what is sent of it.
     ensures error { IfErr result
-        (RunStops R.remaining W.contents check_text inlet.old inlet.new outlet.old outlet.new) }
+        (RunStops R.remaining W.contents check_text (λ _. ⊥) inlet.old inlet.new outlet.old outlet.new) }
 {
     let file = inlet.read_all(alloc)?;
     let report = Report::of(alloc, &file)?;

@@ -7,6 +7,7 @@ mod font_error;
 mod inlet;
 mod outlet;
 mod run;
+mod show;
 mod words;
 
 pub use crate::check::run_check;
@@ -14,4 +15,5 @@ pub use crate::font_error::FontError;
 pub use crate::inlet::{Inlet, ReadError};
 pub use crate::outlet::{Outlet, WriteFault};
 pub use crate::run::RunError;
+pub use crate::show::run_show;
 pub use crate::words::run_words;

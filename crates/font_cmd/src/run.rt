@@ -2,8 +2,9 @@
 ghost use Rattle.std.specs.Prelude.{◌≡◌, false, true, take, IfErr, OnErr, OnOk};
 ghost use Rattle.font_cmd.specs.Outlet.{Sends, broken_of, fresh_of, written_of};
 ghost use Rattle.font_cmd.specs.Run.{of_read_error, run_error_number};
-ghost use Rattle.font_cmd.specs.declared.run.RunError.TheVariants.{Memory, Write};
+ghost use Rattle.font_cmd.specs.declared.run.RunError.TheVariants.{Font, Memory, Write};
 
+use crate::font_error::FontError;
 use crate::inlet::ReadError;
 use crate::outlet::{Outlet, WriteFault};
 use std::alloc::AllocError;
@@ -22,6 +23,9 @@ pub enum RunError {
     /// A write or flush failed after so many bytes.
     #[error("write fault after {0}")]
     Write(u64),
+    /// The font is refused.
+    #[error(transparent)]
+    Font(FontError),
 }
 
 impl RunError {
@@ -33,6 +37,7 @@ impl RunError {
             RunError::Read(_) => 25,
             RunError::Memory => 16,
             RunError::Write(_) => 19,
+            RunError::Font(error) => error.number(),
         }
     }
 }
@@ -61,6 +66,14 @@ impl From<WriteFault> for RunError {
 
     fn from(error: WriteFault) -> RunError {
         RunError::Write(error.written)
+    }
+}
+
+impl From<FontError> for RunError {
+    ghost from_gives = { λ held error. error ≡ Font held };
+
+    fn from(error: FontError) -> RunError {
+        RunError::Font(error)
     }
 }
 

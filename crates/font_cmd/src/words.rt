@@ -4,9 +4,11 @@ ghost use Rattle.font_cmd.specs.Outlet.{fresh_of};
 
 use crate::check::run_check;
 use crate::demo::demo_text;
+use crate::font_error::FontError;
 use crate::inlet::Inlet;
 use crate::outlet::Outlet;
 use crate::run::{RunError, send};
+use crate::show::run_show;
 use font_line::{LineError, Task, parse};
 use std::alloc::Global;
 use std::fs::File;
@@ -39,6 +41,17 @@ fn no_memory<V: Write>(err: &mut Outlet<V>) -> u8
     REFUSED
 }
 
+fn refused<V: Write>(alloc: Global, err: &mut Outlet<V>, error: FontError) -> u8
+    requires { fresh_of err.old ≡ true }
+{
+    let number = error.number();
+    let Ok(text) = format!(in alloc; "fontcut: refused {number} {error}\n") else {
+        return no_memory(err);
+    };
+    say(err, text.as_str());
+    REFUSED
+}
+
 fn cannot_read<V: Write>(alloc: Global, err: &mut Outlet<V>, path: &str) -> u8
     requires { fresh_of err.old ≡ true }
 {
@@ -54,6 +67,18 @@ fn cannot_write_output<V: Write>(err: &mut Outlet<V>) -> u8
 {
     say(err, "fontcut: cannot write standard output\n");
     BAD_FILES
+}
+
+// Prints why the run over the file at `path` was not done.
+fn failed<V: Write>(alloc: Global, err: &mut Outlet<V>, path: &str, fault: RunError) -> u8
+    requires { fresh_of err.old ≡ true }
+{
+    match fault {
+        RunError::Memory => no_memory(err),
+        RunError::Read(_) => cannot_read(alloc, err, path),
+        RunError::Write(_) => cannot_write_output(err),
+        RunError::Font(error) => refused(alloc, err, error),
+    }
 }
 
 fn print<W: Write, V: Write>(out: &mut Outlet<W>, err: &mut Outlet<V>, text: &str) -> u8
@@ -82,9 +107,26 @@ fn check<F: Files, W: Write, V: Write>(
     match run_check(alloc, &mut Inlet::new(file), out) {
         Ok(true) => DONE,
         Ok(false) => REFUSED,
-        Err(RunError::Memory) => no_memory(err),
-        Err(RunError::Read(_)) => cannot_read(alloc, err, path),
-        Err(RunError::Write(_)) => cannot_write_output(err),
+        Err(fault) => failed(alloc, err, path, fault),
+    }
+}
+
+fn show<F: Files, W: Write, V: Write>(
+    files: &F,
+    alloc: Global,
+    path: &str,
+    out: &mut Outlet<W>,
+    err: &mut Outlet<V>,
+) -> u8
+    requires out { fresh_of out.old ≡ true }
+    requires err { fresh_of err.old ≡ true }
+{
+    let Ok(file) = File::open(files, path) else {
+        return cannot_read(alloc, err, path);
+    };
+    match run_show(alloc, &mut Inlet::new(file), out) {
+        Ok(()) => DONE,
+        Err(fault) => failed(alloc, err, path, fault),
     }
 }
 
@@ -115,6 +157,7 @@ pub fn run_words<F: Files, W: Write, V: Write>(
 {
     match parse(alloc, words) {
         Ok(Task::Check { font }) => check(files, alloc, font, out, err),
+        Ok(Task::Show { font }) => show(files, alloc, font, out, err),
         Ok(Task::Demo) => demo(alloc, out, err),
         Err(LineError::NoMemory) => no_memory(err),
         Err(LineError::Help(text)) => print(out, err, text.as_str()),

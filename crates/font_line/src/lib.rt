@@ -10,6 +10,8 @@ use std::alloc::{AllocError, Global};
 pub enum Task<'a> {
     /// Print the findings of the file at the path `font`, and whether it is accepted.
     Check { font: &'a str },
+    /// Print the numbers and tables of the font at the path `font`.
+    Show { font: &'a str },
     /// Print what is found in the font that the program carries.
     Demo,
 }
@@ -34,6 +36,7 @@ fn over_font<'a>(alloc: Global, name: &'a str, about: &'a str) -> Result<Command
 
 fn command<'a>(alloc: Global) -> Result<Command<'a>, AllocError> {
     let check = "Prints what is not as the standard asks, and whether FONT is accepted";
+    let show = "Prints the numbers of FONT, and which of its tables a cut keeps";
     let demo = "Prints what is found in a font of six glyphs";
     Command::new(alloc, "fontcut")
         .bin_name("fontcut")?
@@ -41,6 +44,7 @@ fn command<'a>(alloc: Global) -> Result<Command<'a>, AllocError> {
         .no_binary_name(true)
         .subcommand_required(true)
         .subcommand(over_font(alloc, "check", check)?)?
+        .subcommand(over_font(alloc, "show", show)?)?
         .subcommand(Command::new(alloc, "demo").about(demo))
 }
 
@@ -60,6 +64,7 @@ fn parse_task<'a>(alloc: Global, words: &'a [String]) -> Result<Option<Task<'a>>
     let matches = command(alloc)?.try_get_matches_from(words)?;
     Ok(match matches.subcommand() {
         Some(("check", inner)) => inner.get_str("FONT").map(|font| Task::Check { font }),
+        Some(("show", inner)) => inner.get_str("FONT").map(|font| Task::Show { font }),
         Some(("demo", _)) => Some(Task::Demo),
         _ => None,
     })

@@ -1,59 +1,63 @@
-//! Files broken on purpose, and what the directory answers.
-use crate::fonts::{RECORD, RECORDS, base6_with, entry, file_of, findings_of};
+//! Files broken on purpose, and the first refusal of each.
+use crate::fonts::{
+    LOCA, RECORD, RECORDS, TAGS, base6_with, entry, file_of, findings_of, refusal_of,
+};
+use font_cmd::FontError;
+use font_tables::TableError;
 use sfnt_bytes::{BASE6, DirError, Directory, Entry, Finding, Tag};
 use std::test::Fail;
 
 #[test]
 fn every_prefix(rt: HostRuntime) {
-    for length in 0..428 {
-        let stated = match length {
-            0..124 => DirError::Truncated,
-            124..192 => DirError::TableOutOfFile(Tag(*b"cmap")),
-            192..262 => DirError::TableOutOfFile(Tag(*b"glyf")),
-            262..318 => DirError::TableOutOfFile(Tag(*b"head")),
-            318..356 => DirError::TableOutOfFile(Tag(*b"hhea")),
-            356..380 => DirError::TableOutOfFile(Tag(*b"hmtx")),
-            380..394 => DirError::TableOutOfFile(Tag(*b"loca")),
-            _ => DirError::TableOutOfFile(Tag(*b"maxp")),
-        };
-        let prefix = &BASE6[..length];
-        assert_eq!(rt;
-            Directory::read(prefix).err(),
-            Some(stated),
-            "{length} bytes"
-        );
+    for (from, to, error) in [
+        (0, 123, DirError::Truncated),
+        (124, 191, DirError::TableOutOfFile(Tag(*b"cmap"))),
+        (192, 261, DirError::TableOutOfFile(Tag(*b"glyf"))),
+        (262, 317, DirError::TableOutOfFile(Tag(*b"head"))),
+        (318, 355, DirError::TableOutOfFile(Tag(*b"hhea"))),
+        (356, 379, DirError::TableOutOfFile(Tag(*b"hmtx"))),
+        (380, 393, DirError::TableOutOfFile(Tag(*b"loca"))),
+        (394, 427, DirError::TableOutOfFile(Tag(*b"maxp"))),
+    ] {
+        for length in from..=to {
+            let prefix = BASE6.get(..length).unwrap_or(&[]);
+            let stated = Some(FontError::Directory(error));
+            assert_eq!(rt; refusal_of(prefix), stated, "{length} bytes");
+        }
     }
-    assert_eq!(rt; Directory::read(&BASE6).err(), None, "428 bytes");
+    assert_eq!(rt; refusal_of(&BASE6), None);
 }
 
-// The tags of Base6's records, in order.
-const TAGS: [[u8; 4]; 7] = [
-    *b"cmap", *b"glyf", *b"head", *b"hhea", *b"hmtx", *b"loca", *b"maxp",
-];
-
-// What the directory answers where one byte of a record of Base6 is 0xFF.
-fn refusal_in_record(tag: [u8; 4], byte: usize) -> Option<DirError> {
-    let leaves_the_file = match byte {
-        8..11 | 12..15 => true,
-        11 => tag != *b"cmap" && tag != *b"glyf",
-        15 => tag != *b"cmap",
-        _ => false,
-    };
-    leaves_the_file.then_some(DirError::TableOutOfFile(Tag(tag)))
+// What a record's byte made 0xFF leads to: its tag, its checksum, its offset, its length.
+fn record_refusal(tag: Tag, byte: usize) -> Option<FontError> {
+    let missing = Some(FontError::Tables(TableError::MissingTable(tag)));
+    let outside = Some(FontError::Directory(DirError::TableOutOfFile(tag)));
+    let (is_cmap, is_glyf) = (tag == Tag(*b"cmap"), tag == Tag(*b"glyf"));
+    match byte {
+        0..=3 => missing,
+        4..=7 => None,
+        11 if is_cmap || is_glyf => None,
+        15 if is_cmap => None,
+        _ => outside,
+    }
 }
 
-// What the tables behind the directory would refuse is accepted here.
+// A mapping is not read here, so a `cmap` that lies elsewhere is accepted.
 #[test]
 fn one_byte_set(rt: HostRuntime) {
-    for at in 0..428 {
+    for at in 0..124 {
         let stated = match at {
-            0..4 => Some(DirError::NotTrueType),
-            4..6 => Some(DirError::Truncated),
-            12..124 => refusal_in_record(TAGS[(at - RECORDS) / RECORD], (at - RECORDS) % RECORD),
-            _ => None,
+            0..=3 => Some(FontError::Directory(DirError::NotTrueType)),
+            4..=5 => Some(FontError::Directory(DirError::Truncated)),
+            6..=11 => None,
+            _ => record_refusal(TAGS[(at - RECORDS) / RECORD], (at - RECORDS) % RECORD),
         };
-        let file = base6_with(at, &[0xFF]);
-        assert_eq!(rt; Directory::read(&file).err(), stated, "byte {at}");
+        assert_eq!(rt; refusal_of(&base6_with(at, &[0xFF])), stated, "byte {at}");
+    }
+    for i in 0..14u32 {
+        let stated = Some(FontError::Tables(TableError::BadLoca(i / 2)));
+        let file = base6_with(LOCA + i as usize, &[0xFF]);
+        assert_eq!(rt; refusal_of(&file), stated, "byte {i} of loca");
     }
 }
 

@@ -14,3 +14,7 @@ mod findings;
 mod fonts;
 #[cfg(test)]
 mod hostile;
+#[cfg(test)]
+mod show_lines;
+#[cfg(test)]
+mod tables;

@@ -15,6 +15,19 @@ maxp 396 32
 findings 0
 ";
 
+const SHOWN: &[u8] = b"glyphs 6
+units 1000
+loca short
+metrics 6
+kept cmap 68
+kept glyf 70
+kept head 54
+kept hhea 36
+kept hmtx 24
+kept loca 14
+kept maxp 32
+";
+
 // What a line answers and prints.
 #[derive(Debug, Drop)]
 struct Answered {
@@ -54,9 +67,10 @@ fn demo_prints_the_font_it_carries(rt: HostRuntime) -> Result<(), Fail> {
 
 #[test]
 fn faults_of_the_words(rt: HostRuntime) -> Result<(), Fail> {
-    let lines: [&[&str]; 6] = [
+    let lines: [&[&str]; 7] = [
         &[],
         &["check"],
+        &["show"],
         &["cut"],
         &["--font"],
         &["demo", "demo"],
@@ -118,6 +132,23 @@ fn check_of_files(rt: HostRuntime) -> Result<(), Fail> {
         assert_eq!(rt; answer.status, status, "{path}");
         assert_eq!(rt; answer.out.as_slice(), text, "{path}");
         assert!(rt; answer.err.is_empty(), "{path}");
+    }
+    Ok(())
+}
+
+#[test]
+fn show_of_files(rt: HostRuntime) -> Result<(), Fail> {
+    let files: [(&str, &[u8], u8, &[u8], &[u8]); 2] = [
+        ("shown.ttf", &BASE6, 0, SHOWN, b""),
+        ("none.ttf", b"", 1, b"", b"fontcut: refused 2 truncated\n"),
+    ];
+    for (path, bytes, status, out, err) in files {
+        fs::write(&rt, path, bytes)?;
+        let answer = run(&rt, rt.alloc(), &["show", path])?;
+        fs::remove_file(&rt, path)?;
+        assert_eq!(rt; answer.status, status, "{path}");
+        assert_eq!(rt; answer.out.as_slice(), out, "{path}");
+        assert_eq!(rt; answer.err.as_slice(), err, "{path}");
     }
     Ok(())
 }

@@ -1,0 +1,51 @@
+-- What `show` prints of a font.
+use Rattle.std.specs.Prelude.{ℕ, List, [], ◌∷◌, ◌++◌, codes, decimal, length, Option}
+use Rattle.std.specs.List.{flat_map, range_with_len}
+use Rattle.std.specs.Option.{option_copied, option_map_or}
+use Rattle.sfnt_bytes.specs.Directory.{dropped_of, kept_tag, table_of}
+use Rattle.sfnt_bytes.specs.Text.{tag_text}
+use Rattle.sfnt_bytes.specs.declared.records.Entry.{Entry}
+use Rattle.sfnt_bytes.specs.declared.tag.Tag.{Tag}
+use Rattle.font_tables.specs.Fields.{glyph_count_of, loca_form_of, metric_count_of, units_per_em_of}
+use Rattle.font_tables.specs.declared.loca.LocaForm.{LocaForm}
+use Rattle.font_tables.specs.declared.loca.LocaForm.TheVariants.{Short, Long}
+use Rattle.font_cmd.specs.Check.{line}
+use Rattle.font_cmd.specs.declared.show.KeptLine.{KeptLine}
+
+-- the name of a form of `loca`
+abbrev pub form_text : LocaForm → List ℕ
+form_text Short = codes "short"
+form_text Long = codes "long"
+
+-- the line of a table that a cut keeps, where there is one
+abbrev pub table_line : Tag → Option (List ℕ) → List ℕ
+table_line tag table = option_map_or (λ bytes. line (codes "kept " ++ tag_text tag ++ 32 ∷ decimal (length bytes))) table []
+
+-- the same of a line that is to be printed
+abbrev pub kept_table_line : KeptLine → List ℕ
+kept_table_line kept = table_line kept.tag (option_copied kept.table)
+
+-- the line of a slot
+abbrev pub kept_line : List ℕ → ℕ → List ℕ
+kept_line file slot = table_line (kept_tag slot) (table_of file (kept_tag slot))
+
+-- a line for each table that a cut keeps, in order of tag
+abbrev pub kept_text : List ℕ → List ℕ
+kept_text file = flat_map (kept_line file) (range_with_len 0 16)
+
+-- the line of a table that a cut drops
+abbrev pub dropped_line : Entry → List ℕ
+dropped_line entry = line (codes "dropped " ++ tag_text entry.tag ++ 32 ∷ decimal entry.length)
+
+-- a line for each table that a cut drops, in the order of the file
+abbrev pub dropped_text : List ℕ → List ℕ
+dropped_text file = flat_map dropped_line (dropped_of file)
+
+-- all that `show` prints of a font that is accepted
+unfoldable pub show_text : List ℕ → List ℕ
+show_text file =
+    line (codes "glyphs " ++ decimal (glyph_count_of file))
+    ++ line (codes "units " ++ decimal (units_per_em_of file))
+    ++ line (codes "loca " ++ form_text (loca_form_of file))
+    ++ line (codes "metrics " ++ decimal (metric_count_of file))
+    ++ kept_text file ++ dropped_text file

@@ -1,0 +1,152 @@
+//! `show`: what a person asks of a font, and what a cut of it keeps and drops.
+ghost use Rattle.std.specs.Prelude.{◌≡◌, ◌<◌, None, Some, IfErr, OnOk, false, true};
+ghost use Rattle.font_cmd.specs.FontError.{font_fault};
+ghost use Rattle.font_cmd.specs.Inlet.{broken_of as inlet_broken_of, fresh_of as inlet_fresh_of};
+ghost use Rattle.font_cmd.specs.Outlet.{Sends, broken_of, fresh_of};
+ghost use Rattle.font_cmd.specs.Run.{RunStops, got};
+ghost use Rattle.font_cmd.specs.Show.{dropped_line, dropped_text, kept_line, kept_table_line, kept_text, show_text};
+
+use crate::font_error::open_font;
+use crate::inlet::Inlet;
+use crate::outlet::Outlet;
+use crate::run::{RunError, send};
+use font_tables::{LocaForm, Tables};
+use sfnt_bytes::{Directory, Entry, KEPT, Tag};
+use std::alloc::Allocator;
+use std::fmt;
+use std::io::{Read, Write};
+
+// The line of a kept table, where there is one.
+#[derive(Clone, Copy)]
+struct KeptLine<'a> {
+    tag: Tag,
+    table: Option<&'a [u8]>,
+}
+
+impl<'a> KeptLine<'a> {
+    #[tactic(auto, unfolding(sfnt_bytes::specs::Directory::kept_tag))]
+    fn of(directory: &Directory<'a>, slot: usize) -> KeptLine<'a>
+        requires { slot < 16 }
+        ensures { kept_table_line result ≡ kept_line directory.now slot }
+    {
+        KeptLine {
+            tag: KEPT[slot],
+            table: directory.table(slot),
+        }
+    }
+}
+
+impl<'a> fmt::Display for KeptLine<'a> {
+    ghost output = { λ line. Some (kept_table_line line) };
+
+    fn fmt<W: fmt::Write>(&self, f: &mut fmt::Formatter<W>) -> fmt::Result {
+        match self.table {
+            Some(table) => {
+                let (tag, length) = (self.tag, table.len());
+                write!(f, "kept {tag} {length}\n")
+            }
+            None => Ok(()),
+        }
+    }
+}
+
+// A line for each table that a cut keeps, in order of tag.
+#[derive(Clone, Copy)]
+struct Kept<'a>(&'a Directory<'a>);
+
+impl<'a> fmt::Display for Kept<'a> {
+    ghost output = { λ kept. Some (kept_text kept.0.now) };
+
+    fn fmt<W: fmt::Write>(&self, f: &mut fmt::Formatter<W>) -> fmt::Result {
+        for slot in 0..16usize {
+            let line = KeptLine::of(self.0, slot);
+            write!(f, "{line}")?;
+        }
+        Ok(())
+    }
+}
+
+// The line of a dropped table.
+#[derive(Clone, Copy)]
+struct DroppedLine(Entry);
+
+impl fmt::Display for DroppedLine {
+    ghost output = { λ line. Some (dropped_line line.0) };
+
+    fn fmt<W: fmt::Write>(&self, f: &mut fmt::Formatter<W>) -> fmt::Result {
+        let (tag, length) = (self.0.tag, self.0.length);
+        write!(f, "dropped {tag} {length}\n")
+    }
+}
+
+// A line for each table that a cut drops, in the order of the file.
+#[derive(Clone, Copy)]
+struct Dropped<'a>(&'a Directory<'a>);
+
+impl<'a> fmt::Display for Dropped<'a> {
+    ghost output = { λ dropped. Some (dropped_text dropped.0.now) };
+
+    fn fmt<W: fmt::Write>(&self, f: &mut fmt::Formatter<W>) -> fmt::Result {
+        for entry in self.0.dropped() {
+            let line = DroppedLine(entry);
+            write!(f, "{line}")?;
+        }
+        Ok(())
+    }
+}
+
+// The lines of a font.
+#[derive(Clone, Copy)]
+struct Shown<'a>(&'a Tables<'a>);
+
+impl<'a> fmt::Display for Shown<'a> {
+    ghost output = { λ shown. Some (show_text shown.0.now) };
+
+    #[tactic(auto, unfolding(crate::specs::Show::show_text))]
+    fn fmt<W: fmt::Write>(&self, f: &mut fmt::Formatter<W>) -> fmt::Result {
+        let tables = self.0;
+        let (glyphs, units) = (tables.glyph_count(), tables.units_per_em());
+        let metrics = tables.metric_count();
+        let form = match tables.loca_format() {
+            LocaForm::Short => "short",
+            LocaForm::Long => "long",
+        };
+        let directory = tables.directory();
+        let (kept, dropped) = (Kept(directory), Dropped(directory));
+        write!(
+            f,
+            "glyphs {glyphs}\nunits {units}\nloca {form}\nmetrics {metrics}\n"
+        )?;
+        write!(f, "{kept}{dropped}")
+    }
+}
+
+/// Reads a font to its end, and sends its numbers of glyphs, units and metrics, the form of its
+/// `loca`, and a line for each table that a cut keeps or drops.
+///
+/// # Errors
+/// `Read` where the reader fails, `Memory` where memory is refused, `Font` where the font is: then
+/// nothing was sent. `Write` where the writer fails.
+pub fn run_show<R: Read, W: Write, A: Allocator + Copy>(
+    alloc: A,
+    inlet: &mut Inlet<R>,
+    outlet: &mut Outlet<W>,
+) -> Result<(), RunError>
+    requires inlet { inlet_fresh_of inlet.old ≡ true }
+    requires outlet { fresh_of outlet.old ≡ true }
+    ensures spent { inlet_fresh_of inlet.new ≡ false }
+
+    ensures sent { OnOk result (got R.remaining inlet.old
+        (λ file. (font_fault file ≡ None) × Sends W.contents outlet.old outlet.new (show_text file))) }
+    ensures whole { OnOk result ((inlet_broken_of inlet.new ≡ false) × (broken_of outlet.new ≡ false)) }
+
+    ensures error { IfErr result
+        (RunStops R.remaining W.contents show_text
+        (λ error. got R.remaining inlet.old (λ file. font_fault file ≡ Some error))
+        inlet.old inlet.new outlet.old outlet.new) }
+{
+    let file = inlet.read_all(alloc)?;
+    let tables = open_font(&file)?;
+    let text = Shown(&tables).to_string(alloc)?;
+    Ok(send(outlet, text.as_bytes())?)
+}

@@ -1,0 +1,3 @@
+pub mod OffsetLemmas
+pub mod SlotLemmas
+pub mod TableLemmas

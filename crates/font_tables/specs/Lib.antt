@@ -1,0 +1,7 @@
+pub mod Fields
+pub mod Metrics
+pub mod Opened
+pub mod Outlines
+pub mod Refusals
+pub mod Tables
+pub mod Text

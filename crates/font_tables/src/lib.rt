@@ -1,0 +1,14 @@
+//! The tables that every TrueType font must have: counts, metrics and outlines.
+//! OpenType 1.9 and ISO/IEC 14496-22, `head`, `maxp`, `hhea`, `hmtx`, `loca` and `glyf`.
+#![tactic(auto)]
+
+mod head;
+mod hhea;
+mod hmtx;
+mod loca;
+mod maxp;
+mod tables;
+mod text;
+
+pub use crate::loca::LocaForm;
+pub use crate::tables::{TableError, Tables};

@@ -1,0 +1,40 @@
+//! The texts of refusals, byte for byte as `check` prints them.
+ghost use Rattle.std.specs.Prelude.{◌≡◌, Some};
+ghost use Rattle.font_tables.specs.Text.{error_number, error_text};
+
+use crate::tables::TableError;
+use std::error::Error;
+use std::fmt;
+
+impl fmt::Display for TableError {
+    ghost output = { λ e. Some (error_text e) };
+
+    fn fmt<W: fmt::Write>(&self, f: &mut fmt::Formatter<W>) -> fmt::Result {
+        match self {
+            TableError::MissingTable(tag) => write!(f, "missing table {tag}"),
+            TableError::BadHead => f.write_str("bad head"),
+            TableError::BadMaxp => f.write_str("bad maxp"),
+            TableError::BadHhea => f.write_str("bad hhea"),
+            TableError::BadHmtx => f.write_str("bad hmtx"),
+            TableError::BadLoca(index) => write!(f, "bad loca at {index}"),
+        }
+    }
+}
+
+impl Error for TableError {}
+
+impl TableError {
+    /// The number of the refusal, 7 to 12.
+    pub fn number(&self) -> u8
+        ensures { result ≡ error_number self.now }
+    {
+        match self {
+            TableError::MissingTable(_) => 7,
+            TableError::BadHead => 8,
+            TableError::BadMaxp => 9,
+            TableError::BadHhea => 10,
+            TableError::BadHmtx => 11,
+            TableError::BadLoca(_) => 12,
+        }
+    }
+}
