@@ -1,7 +1,7 @@
 """A small reading of a font, apart from the program: what `fontcut check` and `fontcut show` have to print.
 
 It follows OpenType 1.9, "Organization of an OpenType Font" (the table directory, its search fields,
-checksums), `head`, `maxp`, `hhea`, `hmtx` and `loca`. It refuses what the program refuses in these, and no more.
+checksums), `head`, `maxp`, `hhea`, `hmtx`, `loca`, `cmap` (formats 4 and 12) and `glyf` (composite glyphs).
 """
 import struct
 from collections import namedtuple
@@ -125,6 +125,105 @@ def table_refusal(file):
     return None if index is None else (12, f"bad loca at {index}")
 
 
+def chosen(cmap):
+    """platformID, encodingID and offset of the subtable that is read: the first listed of the first pair with one."""
+    count = u16(cmap, 2) if len(cmap) >= 4 else 0
+    whole = min(count, (len(cmap) - 4) // 8)
+    records = [struct.unpack_from(">HHI", cmap, 4 + 8 * index) for index in range(whole)]
+    for pair in (3, 10), (0, 4), (3, 1), (0, 3):
+        for platform, encoding, place in records:
+            if (platform, encoding) == pair and place + 2 <= len(cmap) and u16(cmap, place) in (4, 12):
+                return platform, encoding, place
+    return None
+
+
+def map_refusal(cmap):
+    """The number and text of the first refusal of `cmap` that applies, or None."""
+    found = chosen(cmap)
+    if found is None:
+        return 13, "no mapping"
+    subtable = cmap[found[2]:]
+    if len(subtable) < 16:
+        return 14, "bad cmap"
+    if u16(subtable, 0) == 4:
+        is_bad = u16(subtable, 6) % 2 == 1 or len(subtable) < 16 + 8 * (u16(subtable, 6) // 2)
+    else:
+        is_bad = len(subtable) < 16 + 12 * u32(subtable, 12)
+    return (14, "bad cmap") if is_bad else None
+
+
+def segments(subtable):
+    """The glyphs of the codes by format 4: the first listed segment that ends at or after a code decides it."""
+    count, decided, glyphs = u16(subtable, 6) // 2, 0, {}
+    for index in range(count):
+        end, start, delta, offset_at = (14 + 2 * index, 16 + 2 * (count + index), 16 + 2 * (2 * count + index),
+                                        16 + 2 * (3 * count + index))
+        end, start, delta, range_offset = (u16(subtable, at) for at in (end, start, delta, offset_at))
+        for code in range(max(decided, start), end + 1):
+            glyph = code
+            if range_offset:
+                place = offset_at + range_offset + 2 * (code - start)
+                glyph = u16(subtable, place) if place + 2 <= len(subtable) else 0
+            glyphs[code] = (glyph + delta) % 65536 if glyph or not range_offset else 0
+        decided = max(decided, end + 1)
+    return glyphs
+
+
+def groups(subtable):
+    """The glyphs of the codes by format 12: the first listed group that holds a code decides it."""
+    glyphs = {}
+    for index in range(u32(subtable, 12)):
+        start, end, glyph = struct.unpack_from(">III", subtable, 16 + 12 * index)
+        for code in range(start, min(end, 0x10FFFF) + 1):
+            glyphs.setdefault(code, glyph + code - start)
+    return glyphs
+
+
+def mapping(cmap, count):
+    """The glyph, which is there, of each code that is mapped."""
+    subtable = cmap[chosen(cmap)[2]:]
+    glyphs = segments(subtable) if u16(subtable, 0) == 4 else groups(subtable)
+    return {code: glyph for code, glyph in glyphs.items() if 0 < glyph < count}
+
+
+def component_size(flags):
+    """The bytes of a component: flags, glyph, two arguments, and the scales of the first flag that has some."""
+    return 4 + (4 if flags & 1 else 2) + (2 if flags & 8 else 4 if flags & 0x40 else 8 if flags & 0x80 else 0)
+
+
+def is_bad_record(record, count):
+    """Whether a glyph's record is cut off, or a component of it is no glyph."""
+    if not record:
+        return False
+    if len(record) < 10:
+        return True
+    place, more = 10, record[0] >= 0x80
+    while more:
+        if place + 4 > len(record):
+            return True
+        flags, glyph = u16(record, place), u16(record, place + 2)
+        place += component_size(flags)
+        if place > len(record) or glyph >= count:
+            return True
+        more = bool(flags & 0x20)
+    return False
+
+
+def glyph_refusal(file):
+    """The number and text of the first refusal of the glyphs' records that applies, or None."""
+    glyf, loca, form = table(file, b"glyf"), table(file, b"loca"), u16(table(file, b"head"), 50)
+    count = u16(table(file, b"maxp"), 4)
+    for index in range(count):
+        if is_bad_record(glyf[offset(loca, form, index):offset(loca, form, index + 1)], count):
+            return 17, f"bad glyph {index}"
+    return None
+
+
+def font_refusal(file):
+    """The number and text of the first refusal that applies to a file whose directory is accepted, or None."""
+    return table_refusal(file) or map_refusal(table(file, b"cmap")) or glyph_refusal(file)
+
+
 def checksum_of(file, record):
     """The table's own sum; for a `head` that has it, with checksumAdjustment (its bytes 8 to 11) as 0."""
     table = table_of(file, record)
@@ -187,22 +286,26 @@ def report(file):
     if not refused:
         lines = findings(file)
         lines.append(f"findings {len(lines)}")
-        refused = table_refusal(file)
+        refused = font_refusal(file)
     lines.append("refused {} {}".format(*refused) if refused else "accepted")
     return "".join(line + "\n" for line in lines), 0 if lines == ["findings 0", "accepted"] else 1
 
 
 def shown(file):
-    """Glyphs, units, the form of `loca`, metrics, and the tags and lengths of the tables, in the order of the file."""
-    head, maxp, hhea = table(file, b"head"), table(file, b"maxp"), table(file, b"hhea")
+    """What `show` prints: glyphs, units, form of `loca`, metrics, the mapping's pair and format, its codes, tables."""
+    head, cmap, hhea = table(file, b"head"), table(file, b"cmap"), table(file, b"hhea")
+    glyphs, form = u16(table(file, b"maxp"), 4), ("short", "long")[u16(head, 50)]
+    platform, encoding, place = chosen(cmap)
+    codes = len(mapping(cmap, glyphs))
     tables = [(tag_text(record.tag), record.length) for record in records_of(file)]
-    return u16(maxp, 4), u16(head, 18), ("short", "long")[u16(head, 50)], u16(hhea, 34), tables
+    return glyphs, u16(head, 18), form, u16(hhea, 34), (platform, encoding, u16(cmap, place)), codes, tables
 
 
-def show_text(glyphs, units, form, metrics, tables):
+def show_text(glyphs, units, form, metrics, subtable, codes, tables):
     """What `fontcut show` has to print of these numbers, and of these tables in the order of the file."""
     kept = [tag.decode() for tag in KEPT]
     lines = [f"glyphs {glyphs}", f"units {units}", f"loca {form}", f"metrics {metrics}"]
+    lines += ["mapping {}/{} format {}".format(*subtable), f"mapped {codes}"]
     lines += [f"kept {tag} {length}" for name in kept for tag, length in tables if tag == name]
     lines += [f"dropped {tag} {length}" for tag, length in tables if tag not in kept]
     return "".join(line + "\n" for line in lines)

@@ -1,3 +1,2 @@
-pub mod FontErrorLemmas
+pub mod CheckLemmas
 pub mod LineLemmas
-pub mod OutletLemmas

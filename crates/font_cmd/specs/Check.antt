@@ -6,9 +6,10 @@ use Rattle.sfnt_bytes.specs.Findings.{findings_of}
 use Rattle.sfnt_bytes.specs.Refusals.{directory_fault}
 use Rattle.sfnt_bytes.specs.Text.{finding_text}
 use Rattle.sfnt_bytes.specs.declared.findings.Finding.{Finding}
-use Rattle.font_cmd.specs.FontError.{font_error_number, font_error_text, font_fault}
+use Rattle.font_cut.specs.Font.{font_fault}
+use Rattle.font_cut.specs.Text.{error_number, error_text}
 use Rattle.font_cmd.specs.declared.check.Report.{Report}
-use Rattle.font_cmd.specs.declared.font_error.FontError.{FontError}
+use Rattle.font_cut.specs.declared.font_error.FontError.{FontError}
 
 -- a text and a line break
 abbrev pub line : List ℕ → List ℕ
@@ -25,7 +26,7 @@ findings_text findings = flat_map finding_line findings ++ line (codes "findings
 -- whether the file is accepted
 abbrev pub verdict_text : Option FontError → List ℕ
 verdict_text None = line (codes "accepted")
-verdict_text (Some error) = line (codes "refused " ++ decimal (font_error_number error) ++ 32 ∷ font_error_text error)
+verdict_text (Some error) = line (codes "refused " ++ decimal (error_number error) ++ 32 ∷ error_text error)
 
 -- the findings of a file whose directory is not refused
 abbrev pub read_findings : List ℕ → Option (List Finding)

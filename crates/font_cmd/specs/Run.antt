@@ -2,16 +2,16 @@
 use Rattle.std.specs.Prelude.{◌≡◌, ℕ, ◌+◌, false, true, List, Option, IfSome, take}
 use Rattle.sfnt_bytes.specs.declared.directory.TheConstants.{MAX_FILE}
 use Rattle.sfnt_bytes.specs.Text.{no_memory_number}
-use Rattle.font_cmd.specs.declared.font_error.FontError.{FontError}
+use Rattle.font_cut.specs.declared.font_error.FontError.{FontError}
 use Rattle.font_cmd.specs.declared.inlet.Inlet.{Inlet}
 use Rattle.font_cmd.specs.declared.inlet.ReadError.{ReadError}
 use Rattle.font_cmd.specs.declared.inlet.ReadError.TheVariants.{NoMemory, ReadFault}
-use Rattle.font_cmd.specs.declared.outlet.Outlet.{Outlet}
+use Rattle.font_cut.specs.declared.outlet.Outlet.{Outlet}
 use Rattle.font_cmd.specs.declared.run.RunError.{RunError}
 use Rattle.font_cmd.specs.declared.run.RunError.TheVariants.{Font, Memory, Read, Write}
-use Rattle.font_cmd.specs.FontError.{font_error_number}
+use Rattle.font_cut.specs.Text.{error_number}
 use Rattle.font_cmd.specs.Inlet as inlets
-use Rattle.font_cmd.specs.Outlet as outlets
+use Rattle.font_cut.specs.Outlet as outlets
 
 -- P holds of what came from the inlet's reader, where the reader tells its bytes
 abbrev pub got : {R : Type 0} → (R → Option (List ℕ)) → Inlet R → (List ℕ → Type 0) → Type 0
@@ -40,4 +40,4 @@ abbrev pub run_error_number : RunError → ℕ
 run_error_number (Read count) = 25
 run_error_number Memory = no_memory_number
 run_error_number (Write count) = 19
-run_error_number (Font error) = font_error_number error
+run_error_number (Font error) = error_number error

@@ -9,6 +9,10 @@ use Rattle.sfnt_bytes.specs.declared.tag.Tag.{Tag}
 use Rattle.font_tables.specs.Fields.{glyph_count_of, loca_form_of, metric_count_of, units_per_em_of}
 use Rattle.font_tables.specs.declared.loca.LocaForm.{LocaForm}
 use Rattle.font_tables.specs.declared.loca.LocaForm.TheVariants.{Short, Long}
+use Rattle.font_map.specs.CharacterMap.{mapped_codes}
+use Rattle.font_map.specs.Cmap.{chosen_of}
+use Rattle.font_map.specs.Mapping.{mapping_of}
+use Rattle.font_cut.specs.Font.{cmap_of}
 use Rattle.font_cmd.specs.Check.{line}
 use Rattle.font_cmd.specs.declared.show.KeptLine.{KeptLine}
 
@@ -41,11 +45,22 @@ dropped_line entry = line (codes "dropped " ++ tag_text entry.tag ++ 32 ∷ deci
 abbrev pub dropped_text : List ℕ → List ℕ
 dropped_text file = flat_map dropped_line (dropped_of file)
 
--- all that `show` prints of a font that is accepted
-unfoldable pub show_text : List ℕ → List ℕ
-show_text file =
+-- the lines of what the tables say
+abbrev pub numbers_text : List ℕ → List ℕ
+numbers_text file =
     line (codes "glyphs " ++ decimal (glyph_count_of file))
     ++ line (codes "units " ++ decimal (units_per_em_of file))
     ++ line (codes "loca " ++ form_text (loca_form_of file))
     ++ line (codes "metrics " ++ decimal (metric_count_of file))
-    ++ kept_text file ++ dropped_text file
+
+-- platformID, encodingID and format of the subtable that the mapping is read from
+abbrev pub chosen_text : ℕ × ℕ × ℕ → List ℕ
+chosen_text chosen = line (codes "mapping " ++ decimal chosen.0 ++ 47 ∷ decimal chosen.1 ++ codes " format " ++ decimal chosen.2)
+
+-- the lines of the mapping of a `cmap` to so many glyphs
+abbrev pub mapped_text : List ℕ → ℕ → List ℕ
+mapped_text cmap glyphs = chosen_text (chosen_of cmap) ++ line (codes "mapped " ++ decimal (mapped_codes (mapping_of cmap glyphs)))
+
+-- all that `show` prints of a font that is accepted
+unfoldable pub show_text : List ℕ → List ℕ
+show_text file = numbers_text file ++ mapped_text (cmap_of file) (glyph_count_of file) ++ kept_text file ++ dropped_text file

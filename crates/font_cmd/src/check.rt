@@ -3,17 +3,14 @@ ghost use Rattle.std.specs.Prelude.{◌≡◌, ◌↔◌, None, Some, IfErr, IfO
 ghost use Rattle.std.specs.List.{flat_map};
 ghost use Rattle.sfnt_bytes.specs.Findings.{findings_of};
 ghost use Rattle.font_cmd.specs.Check.{check_text, finding_line, read_findings, report_text, shown_findings};
-ghost use Rattle.font_cmd.specs.FontError.{font_fault};
+ghost use Rattle.font_cut.specs.Font.{font_fault};
 ghost use Rattle.font_cmd.specs.Inlet.{broken_of as inlet_broken_of, fresh_of as inlet_fresh_of};
-ghost use Rattle.font_cmd.specs.Outlet.{Sends, broken_of, fresh_of};
+ghost use Rattle.font_cut.specs.Outlet.{Sends, broken_of, fresh_of};
 ghost use Rattle.font_cmd.specs.Run.{RunStops, got};
 
-use crate::font_error::FontError;
 use crate::inlet::Inlet;
-use crate::outlet::Outlet;
 use crate::run::{RunError, send};
-use font_tables::Tables;
-use sfnt_bytes::{Directory, Finding};
+use font_cut::{Directory, Finding, Font, FontError, Outlet};
 use std::alloc::{AllocError, Allocator};
 use std::fmt;
 use std::io::{Read, Write};
@@ -43,24 +40,17 @@ struct Report<A: Allocator> {
 }
 
 impl<A: Allocator> Report<A> {
-    #[tactic(auto, using(crate::proofs::FontErrorLemmas::font_fault_is))]
     fn of(alloc: A, file: &[u8]) -> Result<Report<A>, AllocError>
         ensures findings { IfOk result (λ report. shown_findings report ≡ read_findings file.now) }
         ensures fault { IfOk result (λ report. report.fault ≡ font_fault file.now) }
     {
-        let directory = match Directory::read(file) {
-            Ok(directory) => directory,
-            Err(error) => {
-                return Ok(Report {
-                    findings: None,
-                    fault: Some(FontError::Directory(error)),
-                });
-            }
+        let findings = match Directory::read(file) {
+            Ok(directory) => Some(directory.findings().collect(alloc)?),
+            Err(_) => None,
         };
-        let findings = directory.findings().collect(alloc)?;
         Ok(Report {
-            findings: Some(findings),
-            fault: Tables::open(directory).err().map(FontError::Tables),
+            findings,
+            fault: Font::open(file).err(),
         })
     }
 
@@ -100,7 +90,7 @@ impl<A: Allocator> fmt::Display for Report<A> {
 /// # Errors
 /// `Read` where the reader fails, `Memory` where memory is refused: then nothing was sent. `Write`
 /// where the writer fails.
-#[tactic(auto, using(crate::proofs::FontErrorLemmas::read_findings_accepted), unfolding(crate::specs::Check::check_text))]
+#[tactic(auto, using(crate::proofs::CheckLemmas::read_findings_accepted), unfolding(crate::specs::Check::check_text))]
 pub fn run_check<R: Read, W: Write, A: Allocator + Copy>(
     alloc: A,
     inlet: &mut Inlet<R>,

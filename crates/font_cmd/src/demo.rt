@@ -1,5 +1,5 @@
 //! `demo`: what is found in the font that the program carries.
-use sfnt_bytes::{BASE6, Directory};
+use font_cut::{BASE6, Directory};
 use std::alloc::{AllocError, Allocator};
 
 // A line for the file, one for each table, and the number of findings.

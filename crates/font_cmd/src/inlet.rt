@@ -3,7 +3,7 @@ ghost use Rattle.std.specs.Prelude.{◌≡◌, ◌+◌, ◌<◌, ◌≤◌, take
 ghost use Rattle.std.specs.Io.KnownBytes.{Consumes, IsAtEnd, Keeps};
 ghost use Rattle.font_cmd.specs.Inlet.{StopsAs, broken_of, read_error_number, read_error_text, fresh_of, reader_of};
 
-use sfnt_bytes::MAX_FILE;
+use font_cut::MAX_FILE;
 use std::alloc::Allocator;
 use std::error::Error;
 use std::io::Read;

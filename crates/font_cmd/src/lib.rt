@@ -3,17 +3,13 @@
 
 mod check;
 mod demo;
-mod font_error;
 mod inlet;
-mod outlet;
 mod run;
 mod show;
 mod words;
 
 pub use crate::check::run_check;
-pub use crate::font_error::FontError;
 pub use crate::inlet::{Inlet, ReadError};
-pub use crate::outlet::{Outlet, WriteFault};
 pub use crate::run::RunError;
 pub use crate::show::run_show;
 pub use crate::words::run_words;

@@ -1,12 +1,11 @@
 //! What the runs share: their error, and how they send what they have made.
 ghost use Rattle.std.specs.Prelude.{◌≡◌, false, true, take, IfErr, OnErr, OnOk};
-ghost use Rattle.font_cmd.specs.Outlet.{Sends, broken_of, fresh_of, written_of};
+ghost use Rattle.font_cut.specs.Outlet.{Sends, broken_of, fresh_of, written_of};
 ghost use Rattle.font_cmd.specs.Run.{of_read_error, run_error_number};
 ghost use Rattle.font_cmd.specs.declared.run.RunError.TheVariants.{Font, Memory, Write};
 
-use crate::font_error::FontError;
 use crate::inlet::ReadError;
-use crate::outlet::{Outlet, WriteFault};
+use font_cut::{FontError, Outlet, WriteFault};
 use std::alloc::AllocError;
 use std::io;
 use thiserror::Error;

@@ -1,17 +1,14 @@
 //! `show`: what a person asks of a font, and what a cut of it keeps and drops.
 ghost use Rattle.std.specs.Prelude.{◌≡◌, ◌<◌, None, Some, IfErr, OnOk, false, true};
-ghost use Rattle.font_cmd.specs.FontError.{font_fault};
+ghost use Rattle.font_cut.specs.Font.{font_fault};
 ghost use Rattle.font_cmd.specs.Inlet.{broken_of as inlet_broken_of, fresh_of as inlet_fresh_of};
-ghost use Rattle.font_cmd.specs.Outlet.{Sends, broken_of, fresh_of};
+ghost use Rattle.font_cut.specs.Outlet.{Sends, broken_of, fresh_of};
 ghost use Rattle.font_cmd.specs.Run.{RunStops, got};
-ghost use Rattle.font_cmd.specs.Show.{dropped_line, dropped_text, kept_line, kept_table_line, kept_text, show_text};
+ghost use Rattle.font_cmd.specs.Show.{dropped_line, dropped_text, kept_line, kept_table_line, kept_text, mapped_text, numbers_text, show_text};
 
-use crate::font_error::open_font;
 use crate::inlet::Inlet;
-use crate::outlet::Outlet;
 use crate::run::{RunError, send};
-use font_tables::{LocaForm, Tables};
-use sfnt_bytes::{Directory, Entry, KEPT, Tag};
+use font_cut::{Directory, Entry, Font, KEPT, LocaForm, Mapping, Outlet, Tables, Tag};
 use std::alloc::Allocator;
 use std::fmt;
 use std::io::{Read, Write};
@@ -95,14 +92,13 @@ impl<'a> fmt::Display for Dropped<'a> {
     }
 }
 
-// The lines of a font.
+// The lines of what the tables say.
 #[derive(Clone, Copy)]
-struct Shown<'a>(&'a Tables<'a>);
+struct Numbers<'a>(&'a Tables<'a>);
 
-impl<'a> fmt::Display for Shown<'a> {
-    ghost output = { λ shown. Some (show_text shown.0.now) };
+impl<'a> fmt::Display for Numbers<'a> {
+    ghost output = { λ numbers. Some (numbers_text numbers.0.now) };
 
-    #[tactic(auto, unfolding(crate::specs::Show::show_text))]
     fn fmt<W: fmt::Write>(&self, f: &mut fmt::Formatter<W>) -> fmt::Result {
         let tables = self.0;
         let (glyphs, units) = (tables.glyph_count(), tables.units_per_em());
@@ -111,18 +107,49 @@ impl<'a> fmt::Display for Shown<'a> {
             LocaForm::Short => "short",
             LocaForm::Long => "long",
         };
-        let directory = tables.directory();
-        let (kept, dropped) = (Kept(directory), Dropped(directory));
         write!(
             f,
             "glyphs {glyphs}\nunits {units}\nloca {form}\nmetrics {metrics}\n"
-        )?;
-        write!(f, "{kept}{dropped}")
+        )
+    }
+}
+
+// The lines of the mapping.
+#[derive(Clone, Copy)]
+struct Mapped<'a>(&'a Mapping<'a>);
+
+impl<'a> fmt::Display for Mapped<'a> {
+    ghost output = { λ mapped. Some (mapped_text mapped.0.now.0 mapped.0.now.1) };
+
+    fn fmt<W: fmt::Write>(&self, f: &mut fmt::Formatter<W>) -> fmt::Result {
+        let (platform, encoding, format) = self.0.chosen();
+        let mapped = self.0.mapped_count();
+        write!(
+            f,
+            "mapping {platform}/{encoding} format {format}\nmapped {mapped}\n"
+        )
+    }
+}
+
+// The lines of a font.
+#[derive(Clone, Copy)]
+struct Shown<'a>(&'a Font<'a>);
+
+impl<'a> fmt::Display for Shown<'a> {
+    ghost output = { λ shown. Some (show_text shown.0.now) };
+
+    #[tactic(auto, unfolding(crate::specs::Show::show_text))]
+    fn fmt<W: fmt::Write>(&self, f: &mut fmt::Formatter<W>) -> fmt::Result {
+        let (numbers, mapped) = (Numbers(self.0.tables()), Mapped(self.0.mapping()));
+        let directory = self.0.tables().directory();
+        let (kept, dropped) = (Kept(directory), Dropped(directory));
+        write!(f, "{numbers}{mapped}{kept}{dropped}")
     }
 }
 
 /// Reads a font to its end, and sends its numbers of glyphs, units and metrics, the form of its
-/// `loca`, and a line for each table that a cut keeps or drops.
+/// `loca`, which subtable its mapping is read from and how many codes that maps, and a line for each
+/// table that a cut keeps or drops.
 ///
 /// # Errors
 /// `Read` where the reader fails, `Memory` where memory is refused, `Font` where the font is: then
@@ -146,7 +173,7 @@ pub fn run_show<R: Read, W: Write, A: Allocator + Copy>(
         inlet.old inlet.new outlet.old outlet.new) }
 {
     let file = inlet.read_all(alloc)?;
-    let tables = open_font(&file)?;
-    let text = Shown(&tables).to_string(alloc)?;
+    let font = Font::open(&file)?;
+    let text = Shown(&font).to_string(alloc)?;
     Ok(send(outlet, text.as_bytes())?)
 }

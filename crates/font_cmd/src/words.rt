@@ -1,14 +1,13 @@
 //! The program's body: it does what a command line asks for, and answers the status.
 ghost use Rattle.std.specs.Prelude.{◌≡◌, true};
-ghost use Rattle.font_cmd.specs.Outlet.{fresh_of};
+ghost use Rattle.font_cut.specs.Outlet.{fresh_of};
 
 use crate::check::run_check;
 use crate::demo::demo_text;
-use crate::font_error::FontError;
 use crate::inlet::Inlet;
-use crate::outlet::Outlet;
 use crate::run::{RunError, send};
 use crate::show::run_show;
+use font_cut::{FontError, Outlet};
 use font_line::{LineError, Task, parse};
 use std::alloc::Global;
 use std::fs::File;

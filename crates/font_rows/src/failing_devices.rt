@@ -1,6 +1,7 @@
 //! Readers and writers that fail, and memory that is refused.
 use crate::fakes::{Endless, Failure, Narrow, Pieces};
-use font_cmd::{FontError, Inlet, Outlet, ReadError, RunError, WriteFault, run_check};
+use font_cmd::{Inlet, ReadError, RunError, run_check};
+use font_cut::{FontError, Outlet, WriteFault};
 use refusing::Refusing;
 use sfnt_bytes::{BASE6, DirError, Tag};
 use std::test::Fail;

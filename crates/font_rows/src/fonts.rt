@@ -1,8 +1,7 @@
 //! Font files for the tests: Base6 with bytes changed, and files of given records.
 ghost use Rattle.std.specs.Prelude.{◌+◌, ◌≤◌, length};
 
-use font_cmd::FontError;
-use font_tables::Tables;
+use font_cut::{Font, FontError};
 use sfnt_bytes::{BASE6, Directory, Entry, Finding, Tag, search_fields};
 use std::alloc::Global;
 use std::test::Fail;
@@ -112,8 +111,5 @@ pub fn findings_of(alloc: Global, file: &[u8]) -> Result<Vec<Finding>, Fail> {
 
 /// The first refusal that applies to a file.
 pub fn refusal_of(file: &[u8]) -> Option<FontError> {
-    match Directory::read(file) {
-        Ok(directory) => Tables::open(directory).err().map(FontError::Tables),
-        Err(error) => Some(FontError::Directory(error)),
-    }
+    Font::open(file).err()
 }

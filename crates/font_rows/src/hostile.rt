@@ -2,7 +2,7 @@
 use crate::fonts::{
     LOCA, RECORD, RECORDS, TAGS, base6_with, entry, file_of, findings_of, refusal_of,
 };
-use font_cmd::FontError;
+use font_cut::{FontError, MapError};
 use font_tables::TableError;
 use sfnt_bytes::{BASE6, DirError, Directory, Entry, Finding, Tag};
 use std::test::Fail;
@@ -36,13 +36,13 @@ fn record_refusal(tag: Tag, byte: usize) -> Option<FontError> {
     match byte {
         0..=3 => missing,
         4..=7 => None,
-        11 if is_cmap || is_glyf => None,
+        11 if is_cmap => Some(FontError::Mapping(MapError::NoMapping)),
+        11 if is_glyf => None,
         15 if is_cmap => None,
         _ => outside,
     }
 }
 
-// A mapping is not read here, so a `cmap` that lies elsewhere is accepted.
 #[test]
 fn one_byte_set(rt: HostRuntime) {
     for at in 0..124 {

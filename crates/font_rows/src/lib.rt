@@ -11,6 +11,8 @@ mod fakes;
 #[cfg(test)]
 mod findings;
 #[cfg(test)]
+mod font;
+#[cfg(test)]
 mod fonts;
 #[cfg(test)]
 mod hostile;

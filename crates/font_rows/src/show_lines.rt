@@ -1,7 +1,8 @@
 //! What `show` sends of a font, and of a file that is refused.
 use crate::fakes::{Endless, Failure, Narrow, Pieces};
 use crate::fonts::{RECORD, RECORDS, base6_with, entry, file_of};
-use font_cmd::{FontError, Inlet, Outlet, RunError, run_show};
+use font_cmd::{Inlet, RunError, run_show};
+use font_cut::{FontError, Outlet};
 use font_tables::TableError;
 use refusing::Refusing;
 use sfnt_bytes::{BASE6, DirError, Directory, Entry, Tag};
@@ -11,6 +12,8 @@ const SHOWN: &[u8] = b"glyphs 6
 units 1000
 loca short
 metrics 6
+mapping 3/1 format 4
+mapped 4
 kept cmap 68
 kept glyf 70
 kept head 54

@@ -2,7 +2,7 @@
 use crate::fonts::{
     HEAD, HHEA, LOCA, MAXP, RECORD, RECORDS, base6_with, refusal_of, with_bytes, with_table,
 };
-use font_cmd::FontError;
+use font_cut::{FontError, MapError};
 use font_tables::{LocaForm, TableError, Tables};
 use sfnt_bytes::{BASE6, Directory, Tag};
 use std::alloc::{AllocError, Global};

@@ -62,28 +62,40 @@ fn has_bad_offset(form: LocaForm, loca: &[u8], glyf_length: usize, j: u32) -> bo
     glyf_length < offset || (j > 0 && offset < read_offset(form, loca, j - 1))
 }
 
-// Whether an offset up to the last one falls. The loop does not end early, so that the compiler can
-// read many offsets at once.
+// Whether a short offset up to the last one falls. The loop does not end early and knows its form,
+// so that the compiler can read many offsets at once.
 #[tactic(auto, using(crate::proofs::OffsetLemmas::offset_is_whole, crate::proofs::OffsetLemmas::falls_none, crate::proofs::OffsetLemmas::falls_more))]
-fn falls_within(form: LocaForm, loca: &[u8], last: usize) -> bool
-    requires { offset_size form * (last + 1) ≤ length loca.now }
-    ensures { result ≡ falls form loca.now last }
+fn short_offset_falls(loca: &[u8], last: usize) -> bool
+    requires { offset_size LocaForm.Short * (last + 1) ≤ length loca.now }
+    ensures { result ≡ falls LocaForm.Short loca.now last }
 {
     let mut found = false;
     for j in 0..last {
-        found |= read_offset(form, loca, j + 1) < read_offset(form, loca, j);
+        found |= read_offset(LocaForm::Short, loca, j + 1) < read_offset(LocaForm::Short, loca, j);
     }
     found
 }
 
-// The same: a form that is known at the call gives each its own loop.
+// The same of long offsets.
+#[tactic(auto, using(crate::proofs::OffsetLemmas::offset_is_whole, crate::proofs::OffsetLemmas::falls_none, crate::proofs::OffsetLemmas::falls_more))]
+fn long_offset_falls(loca: &[u8], last: usize) -> bool
+    requires { offset_size LocaForm.Long * (last + 1) ≤ length loca.now }
+    ensures { result ≡ falls LocaForm.Long loca.now last }
+{
+    let mut found = false;
+    for j in 0..last {
+        found |= read_offset(LocaForm::Long, loca, j + 1) < read_offset(LocaForm::Long, loca, j);
+    }
+    found
+}
+
 fn has_fall(form: LocaForm, loca: &[u8], last: usize) -> bool
     requires { offset_size form * (last + 1) ≤ length loca.now }
     ensures { result ≡ falls form loca.now last }
 {
     match form {
-        LocaForm::Short => falls_within(LocaForm::Short, loca, last),
-        LocaForm::Long => falls_within(LocaForm::Long, loca, last),
+        LocaForm::Short => short_offset_falls(loca, last),
+        LocaForm::Long => long_offset_falls(loca, last),
     }
 }
 

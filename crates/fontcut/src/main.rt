@@ -1,7 +1,8 @@
 //! The program: its words, its standard output and its standard error.
 #![tactic(auto)]
 
-use font_cmd::{Outlet, run_words};
+use font_cmd::run_words;
+use font_cut::Outlet;
 use std::alloc::{AllocError, Global};
 use std::io::ErrorKind;
 use std::process::ExitCode;

@@ -1,4 +1,5 @@
-use font_cmd::{Outlet, run_words};
+use font_cmd::run_words;
+use font_cut::Outlet;
 use sfnt_bytes::BASE6;
 use std::alloc::{AllocError, Global};
 use std::fs;
@@ -19,6 +20,8 @@ const SHOWN: &[u8] = b"glyphs 6
 units 1000
 loca short
 metrics 6
+mapping 3/1 format 4
+mapped 4
 kept cmap 68
 kept glyf 70
 kept head 54

@@ -1,0 +1,3 @@
+pub mod FontLemmas
+pub mod OutletLemmas
+pub mod RecordLemmas

@@ -1,0 +1,4 @@
+pub mod Font
+pub mod Opened
+pub mod Outlet
+pub mod Text

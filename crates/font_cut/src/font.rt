@@ -1,0 +1,147 @@
+//! A font that is accepted. OpenType 1.9, Organization of an OpenType Font.
+ghost use Rattle.std.specs.Prelude.{◌≡◌, ◌*◌, ◌<◌, ◌≤◌, None, Some, MatchResult, find, length};
+ghost use Rattle.std.specs.List.{range_with_len};
+ghost use Rattle.font_tables.specs.Fields.{glyph_count_of};
+ghost use Rattle.font_tables.specs.Metrics.{metric_of};
+ghost use Rattle.font_tables.specs.Outlines.{outline_of};
+ghost use Rattle.font_map.specs.Mapping.{mapping_of};
+ghost use Rattle.font_glyph.specs.Record.{ComponentList, IsRecord};
+ghost use Rattle.font_cut.specs.Font.{cmap_of, font_fault, is_bad_glyph, is_record, map_of};
+
+use crate::font_error::FontError;
+use font_glyph::{Components, check_record};
+use font_map::Mapping;
+use font_tables::Tables;
+use sfnt_bytes::Directory;
+use std::marker::Model;
+
+/// The slot of `cmap`.
+const CMAP: usize = 1;
+
+// Whether a record has a list of components, all of them glyphs below the count.
+fn has_record(record: &[u8], glyphs: u16) -> bool
+    ensures { result ≡ is_record glyphs record.now }
+{
+    check_record(record, glyphs).is_ok()
+}
+
+#[tactic(auto, unfolding(crate::specs::Font::is_bad_glyph))]
+fn has_bad_glyph(tables: &Tables<'_>, g: u16) -> bool
+    requires { g < glyph_count_of tables.now }
+    ensures { result ≡ is_bad_glyph tables.now g }
+{
+    !has_record(tables.outline(g), tables.glyph_count())
+}
+
+// The first glyph whose record is refused.
+#[tactic(auto, using(crate::proofs::FontLemmas::find_step))]
+fn first_bad_glyph(tables: &Tables<'_>) -> Option<u16>
+    ensures { result ≡ find (is_bad_glyph tables.now) (range_with_len 0 (glyph_count_of tables.now)) }
+{
+    let count = tables.glyph_count();
+    for g in 0..count {
+        if has_bad_glyph(tables, g) {
+            return Some(g);
+        }
+    }
+    None
+}
+
+// The bytes of `cmap`.
+#[tactic(auto, unfolding(crate::specs::Font::cmap_of))]
+fn cmap<'a>(directory: &Directory<'a>) -> &'a [u8]
+    ensures { result.now ≡ cmap_of directory.now }
+{
+    directory.table(CMAP).unwrap_or(&[])
+}
+
+/// A font file in which nothing is refused: each glyph has a metric and a record, each record has its
+/// components, and each code its glyph or none.
+#[derive(Drop)]
+pub struct Font<'a> {
+    tables: Tables<'a>,
+    mapping: Mapping<'a>,
+}
+
+impl<'a> Model for Font<'a> {
+    ghost use Rattle.std.specs.Prelude.{ℕ, List};
+    ghost use Rattle.font_cut.specs.Opened.{IsOpened};
+
+    ghost Value = { List ℕ };
+
+    ghost view = { λ f. f.tables };
+
+    ghost invariant = { λ f. IsOpened f.tables f.mapping };
+}
+
+impl<'a> Font<'a> {
+    /// Opens the font of a file. Refused with the first [`FontError`] that applies.
+    #[tactic(auto, using(crate::proofs::FontLemmas::font_fault_is))]
+    pub fn open(file: &'a [u8]) -> Result<Font<'a>, FontError>
+        ensures { MatchResult result
+            (λ font. (font ≡ file.now) × (font_fault file.now ≡ None))
+            (λ error. font_fault file.now ≡ Some error) }
+    {
+        let tables = Tables::open(Directory::read(file)?)?;
+        let mapping = Mapping::choose(cmap(tables.directory()), tables.glyph_count())?;
+        if let Some(glyph) = first_bad_glyph(&tables) {
+            return Err(FontError::BadGlyph(glyph));
+        }
+        Ok(Font { tables, mapping })
+    }
+
+    /// The tables of the font.
+    pub fn tables(&self) -> &Tables<'a>
+        ensures tables { result.now ≡ self.now }
+
+        // What opening it has shown.
+        ensures sound { font_fault self.now ≡ None }
+    {
+        &self.tables
+    }
+
+    /// The mapping of its `cmap` to its glyphs.
+    pub fn mapping(&self) -> &Mapping<'a>
+        ensures { result.now ≡ (cmap_of self.now, glyph_count_of self.now) }
+    {
+        &self.mapping
+    }
+
+    /// The glyph of a code, 0 where it is not mapped.
+    pub fn glyph(&self, code: u32) -> u16
+        ensures glyph { result ≡ map_of self.now code }
+        ensures small { result < glyph_count_of self.now }
+    {
+        // There is a glyph at least, so that 0 is one.
+        let _count = self.tables.glyph_count();
+        self.mapping.glyph(code)
+    }
+
+    /// The advance width and the left side bearing of a glyph.
+    pub fn metric(&self, g: u16) -> (u16, i16)
+        requires { g < glyph_count_of self.now }
+        ensures { result ≡ metric_of self.now g }
+    {
+        self.tables.metric(g)
+    }
+
+    /// The outline of a glyph: no byte where it has none.
+    pub fn outline(&self, g: u16) -> &'a [u8]
+        requires { g < glyph_count_of self.now }
+        ensures outline { result.now ≡ outline_of self.now g }
+
+        // What opening the font has shown of it.
+        ensures record { IsRecord (glyph_count_of self.now) result.now }
+    {
+        self.tables.outline(g)
+    }
+
+    /// The components of a glyph, in order: none of an empty or a simple one.
+    pub fn components(&self, g: u16) -> Components<'a>
+        requires { g < glyph_count_of self.now }
+        ensures list { ComponentList (outline_of self.now g) result }
+        ensures count { 6 * length result ≤ length (outline_of self.now g) }
+    {
+        Components::of(self.tables.outline(g))
+    }
+}

@@ -1,0 +1,79 @@
+//! The glyphs that components reach.
+ghost use Rattle.std.specs.Prelude.{◌≡◌, ◌+◌, ◌<◌, ◌↔◌, ◌++◌, ◌∷◌, [], ℕ, All, Contains, IfOk, OnOk, count_by, length, not, true};
+ghost use Rattle.std.specs.List.{AllByRecursion};
+ghost use Rattle.font_glyph.specs.Closure.{marks_after, work_after};
+ghost use Rattle.font_glyph.specs.Marks.{has};
+ghost use Rattle.font_glyph.specs.Reach.{Reach};
+ghost use Rattle.font_glyph.specs.Record.{glyphs_of};
+
+use crate::component::Components;
+use crate::marks::Marks;
+use crate::outlines::Outlines;
+use sfnt_bytes::NoMemory;
+use std::alloc::Allocator;
+
+// Puts a glyph at the end of the work.
+fn put<A: Allocator>(work: &mut Vec<u16, A>, g: u16) -> Result<(), NoMemory>
+    ensures { OnOk result (work.new.items ≡ work.old.items ++ g ∷ []) }
+{
+    match work.push(g) {
+        Ok(()) => Ok(()),
+        Err(_) => Err(NoMemory),
+    }
+}
+
+// Marks each component, and puts those that had no mark at the end of the work.
+#[tactic(auto, unfolding(crate::specs::Marks::has))]
+fn visit<A: Allocator>(
+    components: Components<'_>,
+    marks: &mut Marks<A>,
+    work: &mut Vec<u16, A>,
+) -> Result<(), NoMemory>
+    requires { AllByRecursion (λ component. component.glyph < length marks.old) components }
+    ensures marks { OnOk result (marks.new ≡ marks_after (glyphs_of components.entry) marks.old) }
+    ensures work { OnOk result (work.new.items ≡ work_after (glyphs_of components.entry) marks.old work.old.items) }
+{
+    for component in components {
+        if !marks.has(component.glyph) {
+            marks.set(component.glyph);
+            put(work, component.glyph)?;
+        }
+    }
+    Ok(())
+}
+
+// The marked glyphs, with room for all others.
+fn marked<A: Allocator>(alloc: A, marks: &Marks<A>, count: u16) -> Result<Vec<u16, A>, NoMemory>
+    requires { length marks.now ≡ count }
+    ensures all { IfOk result (λ work. (g : ℕ) → has marks.now g ≡ true → Contains work.items g) }
+    ensures only { IfOk result (λ work. All (λ g. (g < count) × (has marks.now g ≡ true)) work.items) }
+    ensures length { IfOk result (λ work. length work.items + count_by not marks.now ≡ count) }
+{
+    let mut work = Vec::with_capacity(alloc, count as usize).map_err(|_| NoMemory)?;
+    for g in 0..count {
+        if marks.has(g) {
+            put(&mut work, g)?;
+        }
+    }
+    Ok(work)
+}
+
+/// Marks the glyphs that chains of components reach from the seeds, and no others.
+///
+/// Each glyph is looked at once at the most, so the time is linear in the components.
+pub fn close<O: Outlines, A: Allocator + Copy>(
+    alloc: A,
+    outlines: &O,
+    seeds: &Marks<A>,
+) -> Result<Marks<A>, NoMemory>
+    requires { length seeds.now ≡ O.count_of outlines.now }
+    ensures count { IfOk result (λ marks. length marks ≡ O.count_of outlines.now) }
+    ensures reached { IfOk result (λ marks. (g : ℕ) → has marks g ≡ true ↔ Reach (O.record_at outlines.now) (has seeds.now) g) }
+{
+    let mut marks = seeds.copied(alloc)?;
+    let mut work = marked(alloc, seeds, outlines.count())?;
+    while let Some(g) = work.pop() {
+        visit(Components::of(outlines.record_of(g)), &mut marks, &mut work)?;
+    }
+    Ok(marks)
+}

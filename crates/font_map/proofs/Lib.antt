@@ -1,0 +1,9 @@
+pub mod ByteLemmas
+pub mod OrderLemmas
+pub mod GroupLemmas
+pub mod SegmentLemmas
+pub mod PieceLemmas
+pub mod CountLemmas
+pub mod MappingLemmas
+pub mod MapLemmas
+pub mod RunLemmas

@@ -1,0 +1,66 @@
+-- The map of a subtable, and of the mapping that chose it.
+use Rattle.std.proofs.Common.{◌≡◌, ◌≢◌, ℕ, ◌<◌, ◌≤◌, ◌⊎◌, Bool, false, cond, nat_eq, List, Option, Some, MatchOption, sym, ap, subst, ◌∙◌, arith, inl, inr}
+use Rattle.std.proofs.lemmas.Bool.Decides.{nat_tests}
+use Rattle.std.specs.Option.{option_map_or}
+use Rattle.sfnt_bytes.specs.Number.{u16_at}
+use Rattle.font_map.specs.CharacterMap.{IsCharacterMap, IsUnmapped, clipped}
+use Rattle.font_map.specs.Cmap.{chosen_record, subtable_at}
+use Rattle.font_map.specs.Format4.{segment_glyph}
+use Rattle.font_map.specs.Format12.{group_glyph}
+use Rattle.font_map.specs.Mapping.{listed_glyph, mapping_of}
+use Rattle.font_map.specs.Runs.{IsPiece, NoRun}
+use Rattle.font_map.specs.declared.runs.Run.{Run}
+use Rattle.font_map.proofs.PieceLemmas.{clipped_past}
+
+listed_segments : (s : List ℕ) (c : ℕ) → u16_at s 0 ≡ 4 → segment_glyph s c ≡ listed_glyph s c
+unfolding listed_glyph
+listed_segments s c h = sym (ap (λ (x : ℕ). cond (nat_eq x 4) (segment_glyph s c) (group_glyph s c)) h)
+
+listed_groups : (s : List ℕ) (c : ℕ) → u16_at s 0 ≢ 4 → group_glyph s c ≡ listed_glyph s c
+unfolding listed_glyph
+listed_groups s c h = let no : nat_eq (u16_at s 0) 4 ≡ false = grind (arith, nat_tests) in sym (ap (λ (b : Bool). cond b (segment_glyph s c) (group_glyph s c)) no)
+
+-- what was looked for from a code on, up to a stop
+abbrev pub IsFound : (ℕ → ℕ) → ℕ → ℕ → Option Run → Type 0
+IsFound m from stop r = MatchOption r (IsUnmapped m from stop) (IsPiece m from)
+
+pub found_by_segments : (s : List ℕ) (n from stop : ℕ) (r : Option Run) → u16_at s 0 ≡ 4 → IsFound (clipped n (segment_glyph s)) from stop r → IsFound (clipped n (listed_glyph s)) from stop r
+found_by_segments s n from stop r h k =
+    let same : segment_glyph s ≡ listed_glyph s = λ i c. listed_segments s c h i in
+    subst (λ (f : ℕ → ℕ). IsFound (clipped n f) from stop r) same k
+
+pub found_by_groups : (s : List ℕ) (n from stop : ℕ) (r : Option Run) → u16_at s 0 ≢ 4 → IsFound (clipped n (group_glyph s)) from stop r → IsFound (clipped n (listed_glyph s)) from stop r
+found_by_groups s n from stop r h k =
+    let same : group_glyph s ≡ listed_glyph s = λ i c. listed_groups s c h i in
+    subst (λ (f : ℕ → ℕ). IsFound (clipped n f) from stop r) same k
+
+-- the map of the chosen subtable
+pub mapping_of-chosen : (cmap s : List ℕ) (n k : ℕ) → chosen_record cmap ≡ Some k → s ≡ subtable_at cmap k → clipped n (listed_glyph s) ≡ mapping_of cmap n
+unfolding mapping_of
+mapping_of-chosen cmap s n k h e =
+    ap (λ (t : List ℕ). clipped n (listed_glyph t)) e
+    ∙ ap (λ (o : Option ℕ). clipped n (λ c. option_map_or (λ j. listed_glyph (subtable_at cmap j) c) o 0)) (sym h)
+
+pub piece_of_chosen : (cmap s : List ℕ) (n k from : ℕ) (r : Option Run) (v : List ℕ × ℕ) → chosen_record cmap ≡ Some k → s ≡ subtable_at cmap k → (cmap, n) ≡ v → MatchOption r (NoRun (clipped n (listed_glyph s)) from) (IsPiece (clipped n (listed_glyph s)) from) → MatchOption r (NoRun (mapping_of v.0 v.1) from) (IsPiece (mapping_of v.0 v.1) from)
+piece_of_chosen cmap s n k from r v h e q p =
+    subst (λ (w : List ℕ × ℕ). MatchOption r (NoRun (mapping_of w.0 w.1) from) (IsPiece (mapping_of w.0 w.1) from)) q
+    (subst (λ (f : ℕ → ℕ). MatchOption r (NoRun f from) (IsPiece f from)) (mapping_of-chosen cmap s n k h e) p)
+
+-- a mapping gives glyphs below their number, and is a character map
+clipped_small : (n : ℕ) (f : ℕ → ℕ) (c : ℕ) → (clipped n f c ≡ 0) ⊎ (clipped n f c < n)
+clipped_small n f c = grind (arith, nat_tests)
+
+pub mapping_of-small : (cmap : List ℕ) (n c : ℕ) → (mapping_of cmap n c ≡ 0) ⊎ (mapping_of cmap n c < n)
+unfolding mapping_of
+mapping_of-small cmap n c = clipped_small n (λ x. option_map_or (λ k. listed_glyph (subtable_at cmap k) x) (chosen_record cmap) 0) c
+
+pub is_character_map-clipped : (n : ℕ) (f : ℕ → ℕ) → n ≤ 65536 → IsCharacterMap (clipped n f)
+is_character_map-clipped n f h =
+    record {
+      codes = λ c x. clipped_past n f c x;
+      glyphs = λ c. elim (clipped_small n f c) [ inl z ↦ omega (arith, z) | inr z ↦ omega (arith, z) ];
+    }
+
+pub is_character_map-mapping_of : (cmap : List ℕ) (n : ℕ) → n ≤ 65536 → IsCharacterMap (mapping_of cmap n)
+unfolding mapping_of
+is_character_map-mapping_of cmap n h = is_character_map-clipped n (λ x. option_map_or (λ k. listed_glyph (subtable_at cmap k) x) (chosen_record cmap) 0) h

@@ -1,0 +1,9 @@
+pub mod CharacterMap
+pub mod Cmap
+pub mod Format4
+pub mod Format12
+pub mod Mapping
+pub mod Order
+pub mod Refusals
+pub mod Runs
+pub mod Text

@@ -1,0 +1,14 @@
+-- The texts and numbers of refusals.
+use Rattle.std.specs.Prelude.{ℕ, List, codes}
+use Rattle.font_map.specs.declared.mapping.MapError.{MapError}
+use Rattle.font_map.specs.declared.mapping.MapError.TheVariants.{NoMapping, BadCmap}
+
+-- the text of a refusal of a `cmap`
+abbrev pub error_text : MapError → List ℕ
+error_text NoMapping = codes "no mapping"
+error_text BadCmap = codes "bad cmap"
+
+-- its number
+abbrev pub error_number : MapError → ℕ
+error_number NoMapping = 13
+error_number BadCmap = 14

@@ -1,0 +1,15 @@
+//! Laws over the definitions: each function's contract is one.
+ghost use Rattle.std.specs.Prelude.{ℕ};
+ghost use Rattle.font_map.specs.CharacterMap.{IsCharacterMap, MapLaws};
+ghost use Rattle.font_map.specs.Runs.{CanonicalGroups};
+
+/// Restrictions and unions of character maps follow from each other as those of sets do.
+pub fn map_laws()
+    ensures { MapLaws }
+{}
+
+/// Each character map has one list of groups that ascends, spells it, and has no two that could be
+/// one: the list of its runs.
+pub fn canonical_groups()
+    ensures { (m : ℕ → ℕ) → IsCharacterMap m → CanonicalGroups m }
+{}

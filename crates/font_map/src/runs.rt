@@ -1,0 +1,67 @@
+//! Runs: neighbouring codes on neighbouring glyphs, as the groups of a cut have them.
+//! OpenType 1.9, cmap, Format 12: Segmented coverage.
+ghost use Rattle.std.specs.Prelude.{◌≡◌, ℕ, MatchOption};
+ghost use Rattle.font_map.specs.CharacterMap.{clipped, mapped_codes};
+ghost use Rattle.font_map.specs.Runs.{IsPiece, IsRun, NoRun};
+
+/// The codes `first` to `last`, which lie on `glyph` and the glyphs after it.
+#[derive(Clone, Copy, Debug, PartialEq, Eq)]
+pub struct Run {
+    /// The first code.
+    pub first: u32,
+    /// The last code.
+    pub last: u32,
+    /// The glyph of the first code, never 0.
+    pub glyph: u16,
+}
+
+/// A character map that is walked by pieces of its runs.
+pub trait Pieces {
+    /// The map: 0 is "not mapped".
+    ghost map_of: { Self → ℕ → ℕ };
+
+    /// The least mapped code not below `from`, and some codes after it on neighbouring glyphs.
+    fn piece(&self, from: u32) -> Option<Run>
+        ensures { MatchOption result (NoRun (map_of self.now) from) (IsPiece (map_of self.now) from) };
+}
+
+/// The run that begins at the least mapped code not below `from`.
+pub fn next_run<P: Pieces>(pieces: &P, from: u32) -> Option<Run>
+    ensures { MatchOption result (NoRun (P.map_of pieces.now) from) (IsRun (P.map_of pieces.now) from) }
+{
+    let mut run = pieces.piece(from)?;
+    while let Some(next) = pieces.piece(run.last + 1) {
+        if next.first != run.last + 1 {
+            return Some(run);
+        }
+        if u32::from(next.glyph) != u32::from(run.glyph) + (next.first - run.first) {
+            return Some(run);
+        }
+        run.last = next.last;
+    }
+    Some(run)
+}
+
+/// How many codes are mapped.
+pub(crate) fn mapped_count<P: Pieces>(pieces: &P) -> u32
+    ensures { result ≡ mapped_codes (P.map_of pieces.now) }
+{
+    let mut count = 0;
+    let mut from = 0;
+    while let Some(piece) = pieces.piece(from) {
+        count += piece.last - piece.first + 1;
+        from = piece.last + 1;
+    }
+    count
+}
+
+/// The glyph of a code, and 0 where there is no such glyph or no such code.
+pub(crate) fn clip(glyph: u64, glyphs: u16, code: u32) -> u16
+    ensures { result ≡ clipped glyphs (λ _. glyph) code }
+{
+    if glyph < u64::from(glyphs) && code <= 0x10FFFF {
+        glyph as u16
+    } else {
+        0
+    }
+}

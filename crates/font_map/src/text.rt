@@ -1,0 +1,32 @@
+//! The texts and numbers of refusals, byte for byte as `check` prints them.
+ghost use Rattle.std.specs.Prelude.{◌≡◌, Some};
+ghost use Rattle.font_map.specs.Text.{error_number, error_text};
+
+use crate::mapping::MapError;
+use std::error::Error;
+use std::fmt;
+
+impl fmt::Display for MapError {
+    ghost output = { λ e. Some (error_text e) };
+
+    fn fmt<W: fmt::Write>(&self, f: &mut fmt::Formatter<W>) -> fmt::Result {
+        match self {
+            MapError::NoMapping => f.write_str("no mapping"),
+            MapError::BadCmap => f.write_str("bad cmap"),
+        }
+    }
+}
+
+impl Error for MapError {}
+
+impl MapError {
+    /// The number of the refusal, 13 or 14.
+    pub fn number(&self) -> u8
+        ensures { result ≡ error_number self.now }
+    {
+        match self {
+            MapError::NoMapping => 13,
+            MapError::BadCmap => 14,
+        }
+    }
+}

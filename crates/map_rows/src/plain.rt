@@ -1,0 +1,213 @@
+//! The map of a `cmap` read the plain way: a walk over segments or groups for each code.
+use font_map::{MapError, Mapping, Run};
+
+fn u16_at(bytes: &[u8], at: u64) -> Option<u16> {
+    let high = bytes.get(usize::try_from(at).ok()?)?;
+    let low = bytes.get(usize::try_from(at.checked_add(1)?).ok()?)?;
+    Some(u16::from_be_bytes([*high, *low]))
+}
+
+fn u32_at(bytes: &[u8], at: u64) -> Option<u32> {
+    let high = u16_at(bytes, at)?;
+    let low = u16_at(bytes, at.checked_add(2)?)?;
+    Some(u32::from(high) * 65536 + u32::from(low))
+}
+
+/// The chosen subtable: platform, encoding and format, and the place where it begins.
+#[derive(Drop)]
+pub struct Plain<'a> {
+    cmap: &'a [u8],
+    chosen: (u16, u16, u16),
+    start: u32,
+}
+
+// The format of a record of the pair at this place, and where its subtable begins.
+fn candidate(cmap: &[u8], at: u64, pair: (u16, u16)) -> Option<(u16, u32)> {
+    let platform = u16_at(cmap, at)?;
+    let encoding = u16_at(cmap, at.checked_add(2)?)?;
+    let start = u32_at(cmap, at.checked_add(4)?)?;
+    let format = u16_at(cmap, u64::from(start))?;
+    if platform == pair.0 && encoding == pair.1 && (format == 4 || format == 12) {
+        Some((format, start))
+    } else {
+        None
+    }
+}
+
+fn choose<'a>(cmap: &'a [u8]) -> Option<Plain<'a>> {
+    let count = u64::from(u16_at(cmap, 2)?);
+    for (platform, encoding) in [(3u16, 10u16), (0, 4), (3, 1), (0, 3)] {
+        for k in 0..count {
+            let at = k.wrapping_mul(8).wrapping_add(4);
+            if let Some((format, start)) = candidate(cmap, at, (platform, encoding)) {
+                return Some(Plain {
+                    cmap,
+                    chosen: (platform, encoding, format),
+                    start,
+                });
+            }
+        }
+    }
+    None
+}
+
+impl Plain<'_> {
+    fn u16_at(&self, place: u64) -> Option<u16> {
+        u16_at(self.cmap, u64::from(self.start).checked_add(place)?)
+    }
+
+    fn u32_at(&self, place: u64) -> Option<u32> {
+        u32_at(self.cmap, u64::from(self.start).checked_add(place)?)
+    }
+
+    // How many bytes there are from the start of the subtable to the end of `cmap`.
+    fn room(&self) -> u64 {
+        (self.cmap.len() as u64).saturating_sub(u64::from(self.start))
+    }
+
+    fn is_malformed(&self) -> bool {
+        if self.room() < 16 {
+            return true;
+        }
+        if self.chosen.2 == 4 {
+            let doubled = u64::from(self.u16_at(6).unwrap_or(1));
+            return doubled % 2 == 1 || self.room() < 16 + 4 * doubled;
+        }
+        self.room() < 16 + 12 * u64::from(self.u32_at(12).unwrap_or(0))
+    }
+
+    fn by_segments(&self, code: u64) -> Option<u64> {
+        if code > 0xFFFF {
+            return None;
+        }
+        let doubled = u64::from(self.u16_at(6)?);
+        for i in 0..doubled / 2 {
+            let end = u64::from(self.u16_at(14 + 2 * i)?);
+            if code <= end {
+                let start = u64::from(self.u16_at(16 + doubled + 2 * i)?);
+                let delta = u64::from(self.u16_at(16 + 2 * doubled + 2 * i)?);
+                let place = 16 + 3 * doubled + 2 * i;
+                let offset = u64::from(self.u16_at(place)?);
+                let along = code.checked_sub(start)?;
+                if offset == 0 {
+                    return Some((code + delta) % 65536);
+                }
+                let entry = u64::from(self.u16_at(place + offset + 2 * along)?);
+                if entry == 0 {
+                    return None;
+                }
+                return Some((entry + delta) % 65536);
+            }
+        }
+        None
+    }
+
+    fn by_groups(&self, code: u64) -> Option<u64> {
+        let count = u64::from(self.u32_at(12)?);
+        for i in 0..count {
+            let place = 16 + 12 * i;
+            let first = u64::from(self.u32_at(place)?);
+            let last = u64::from(self.u32_at(place + 4)?);
+            if first <= code && code <= last {
+                let glyph = u64::from(self.u32_at(place + 8)?);
+                return glyph.checked_add(code - first);
+            }
+        }
+        None
+    }
+
+    /// The glyph of a code.
+    pub fn glyph(&self, glyphs: u16, code: u32) -> u16 {
+        let found = if self.chosen.2 == 4 {
+            self.by_segments(u64::from(code))
+        } else {
+            self.by_groups(u64::from(code))
+        };
+        match found {
+            Some(glyph) => {
+                if glyph < u64::from(glyphs) && code <= 0x10FFFF {
+                    glyph as u16
+                } else {
+                    0
+                }
+            }
+            None => 0,
+        }
+    }
+}
+
+// Whether a glyph is the one behind the last of a run.
+fn goes_on(run: Run, code: u32, glyph: u16) -> bool {
+    let along = code.wrapping_sub(run.first);
+    glyph != 0 && u32::from(glyph) == u32::from(run.glyph).wrapping_add(along)
+}
+
+// Whether each code has the plain program's glyph, and the runs are those of the plain program.
+fn has_same_map(mapping: &Mapping<'_>, plain: &Plain<'_>, glyphs: u16) -> bool {
+    let mut from = 0;
+    let mut count = 0u32;
+    let mut last: Option<Run> = None;
+    for code in 0..0x110000u32 {
+        let glyph = plain.glyph(glyphs, code);
+        if mapping.glyph(code) != glyph {
+            return false;
+        }
+        if glyph != 0 {
+            count = count.wrapping_add(1);
+        }
+        let mut next = if glyph == 0 {
+            None
+        } else {
+            Some(Run {
+                first: code,
+                last: code,
+                glyph,
+            })
+        };
+        if let Some(run) = last {
+            if goes_on(run, code, glyph) {
+                next = Some(Run { last: code, ..run });
+            } else {
+                if mapping.next_run(from) != Some(run) || mapping.next_run(run.first) != Some(run) {
+                    return false;
+                }
+                from = code;
+            }
+        }
+        last = next;
+    }
+    mapping.next_run(from) == last
+        && mapping.mapped_count() == count
+        && mapping.glyph(0x110000) == 0
+        && mapping.glyph(u32::MAX) == 0
+        && mapping.next_run(0x110000) == None
+        && mapping.next_run(u32::MAX) == None
+}
+
+/// Whether a `cmap` is refused as the plain program refuses it, or has the same choice, glyphs, runs
+/// and number of codes.
+pub fn is_as_plain(cmap: &[u8], glyphs: u16) -> bool {
+    let fast = Mapping::choose(cmap, glyphs);
+    let Some(plain) = choose(cmap) else {
+        return fast.err() == Some(MapError::NoMapping);
+    };
+    if plain.is_malformed() {
+        return fast.err() == Some(MapError::BadCmap);
+    }
+    match fast {
+        Ok(mapping) => {
+            mapping.chosen() == plain.chosen && has_same_map(&mapping, &plain, glyphs)
+        }
+        Err(_) => false,
+    }
+}
+
+/// Whether the first run from a code on is this one.
+pub fn is_next_run(cmap: &[u8], glyphs: u16, from: u32, run: Option<(u32, u32, u16)>) -> bool {
+    match Mapping::choose(cmap, glyphs) {
+        Ok(mapping) => {
+            mapping.next_run(from) == run.map(|(first, last, glyph)| Run { first, last, glyph })
+        }
+        Err(_) => false,
+    }
+}
