@@ -1,10 +1,10 @@
 -- The test of a record decides whether it is one.
-use Rattle.std.proofs.Common.{◌≡◌, ℕ, ◌<◌, Bool, true, false, ltb, List, Option, Some, None, refl, sym}
+use Rattle.std.proofs.Common.{◌≡◌, ℕ, Bool, true, false, ltb, List, Option, Some, None, refl, sym}
 use Rattle.std.specs.List.{list_all}
 use Rattle.std.specs.Option.{option_map_or}
 use Rattle.std.proofs.lemmas.Bool.{lt-ltb, ltb-true}
 use Rattle.std.proofs.lemmas.List.Sums.{AllPass-from_list_all, list_all-from_AllPass}
-use Rattle.font_glyph.specs.Record.{ComponentList, IsRecord, components_of}
+use Rattle.font_glyph.specs.Record.{IsRecord, components_of}
 use Rattle.font_glyph.specs.declared.component.Component.{Component}
 use Rattle.font_glyph.proofs.RecordLemmas.{components_of-is, components_of-tells}
 use Rattle.font_cut.specs.Font.{is_record}

@@ -4,7 +4,6 @@ ghost use Rattle.std.specs.List.{range_with_len};
 ghost use Rattle.font_tables.specs.Fields.{glyph_count_of};
 ghost use Rattle.font_tables.specs.Metrics.{metric_of};
 ghost use Rattle.font_tables.specs.Outlines.{outline_of};
-ghost use Rattle.font_map.specs.Mapping.{mapping_of};
 ghost use Rattle.font_glyph.specs.Record.{ComponentList, IsRecord};
 ghost use Rattle.font_cut.specs.Font.{cmap_of, font_fault, is_bad_glyph, is_record, map_of};
 
@@ -19,10 +18,10 @@ use std::marker::Model;
 const CMAP: usize = 1;
 
 // Whether a record has a list of components, all of them glyphs below the count.
-fn has_record(record: &[u8], glyphs: u16) -> bool
-    ensures { result ≡ is_record glyphs record.now }
+fn has_record(outline: &[u8], glyphs: u16) -> bool
+    ensures { result ≡ is_record glyphs outline.now }
 {
-    check_record(record, glyphs).is_ok()
+    check_record(outline, glyphs).is_ok()
 }
 
 #[tactic(auto, unfolding(crate::specs::Font::is_bad_glyph))]

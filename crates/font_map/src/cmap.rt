@@ -1,6 +1,6 @@
 //! The encoding records of `cmap`, and the choice of a subtable. OpenType 1.9, cmap, Encoding records
 //! and encodings.
-ghost use Rattle.std.specs.Prelude.{◌≡◌, ℕ, ◌+◌, ◌*◌, ◌<◌, ◌≤◌, ◌⊎◌, IsTrue, IfSome, length};
+ghost use Rattle.std.specs.Prelude.{◌≡◌, ◌+◌, ◌*◌, ◌<◌, ◌≤◌, ◌⊎◌, IsTrue, IfSome, length};
 ghost use Rattle.font_map.specs.Cmap.{candidate_of, chosen_record, encoding_count, is_candidate, is_malformed, subtable_at};
 ghost use Rattle.font_map.specs.Mapping.{IsWhole};
 

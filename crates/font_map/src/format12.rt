@@ -1,7 +1,7 @@
 //! Groups, each of codes on neighbouring glyphs. OpenType 1.9, cmap, Format 12: Segmented coverage.
 //!
 //! A subtable `s` is given with all bytes of `cmap` behind it.
-ghost use Rattle.std.specs.Prelude.{◌≡◌, ℕ, ◌+◌, ◌*◌, ◌<◌, ◌≤◌, ◌^◌, ◌↔◌, IsTrue, IfSome, MatchOption, drop, find, length, [], ◌∷◌};
+ghost use Rattle.std.specs.Prelude.{◌≡◌, ◌+◌, ◌*◌, ◌<◌, ◌≤◌, ◌^◌, ◌↔◌, IsTrue, IfSome, MatchOption, drop, find, length, [], ◌∷◌};
 ghost use Rattle.font_map.specs.CharacterMap.{IsUnmapped, clipped};
 ghost use Rattle.font_map.specs.Format12.{Decides, HasGroups, HasOrderedGroups, glyph_along, glyph_of_group, group_count, group_end, group_glyph, group_in, group_nth, groups_of, holds};
 ghost use Rattle.font_map.specs.Order.{IsPlace};

@@ -2,7 +2,7 @@
 //! Segment mapping to delta values.
 //!
 //! A subtable `s` is given with all bytes of `cmap` behind it.
-ghost use Rattle.std.specs.Prelude.{◌≡◌, ℕ, ◌+◌, ◌*◌, ◌<◌, ◌≤◌, ◌^◌, ◌↔◌, IsTrue, IfSome, MatchOption, drop, find, length, [], ◌∷◌};
+ghost use Rattle.std.specs.Prelude.{◌≡◌, ◌+◌, ◌*◌, ◌<◌, ◌≤◌, ◌^◌, ◌↔◌, IsTrue, IfSome, MatchOption, drop, find, length, [], ◌∷◌};
 ghost use Rattle.font_map.specs.CharacterMap.{IsUnmapped, clipped};
 ghost use Rattle.font_map.specs.Format4.{HasOrderedSegments, HasSegments, entry_or_zero, glyph_by, glyph_by_delta, glyph_of_segment, reaches, segment_count, segment_end, segment_glyph, segment_in, segment_nth, segments_of};
 ghost use Rattle.font_map.specs.Order.{IsPlace};
