@@ -2,14 +2,8 @@
 use Rattle.std.specs.Prelude.{ℕ, List, [], ◌∷◌, ◌++◌, if◌then◌else◌, codes, decimal, is_none, length, Option, None, Some}
 use Rattle.std.specs.List.{flat_map}
 use Rattle.std.specs.Option.{option_map, option_map_or}
-use Rattle.sfnt_bytes.specs.Findings.{findings_of}
-use Rattle.sfnt_bytes.specs.Refusals.{directory_fault}
-use Rattle.sfnt_bytes.specs.Text.{finding_text}
-use Rattle.sfnt_bytes.specs.declared.findings.Finding.{Finding}
-use Rattle.font_cut.specs.Font.{font_fault}
-use Rattle.font_cut.specs.Text.{error_number, error_text}
+use Rattle.font_cut.specs.Fonts.{Finding, FontError, directory_fault, error_number, error_text, finding_text, findings_of, font_fault}
 use Rattle.font_cmd.specs.declared.check.Report.{Report}
-use Rattle.font_cut.specs.declared.font_error.FontError.{FontError}
 
 -- a text and a line break
 abbrev pub line : List ℕ → List ℕ

@@ -1,7 +1,7 @@
 -- What a clause reads of an `Inlet`.
 use Rattle.std.specs.Prelude.{◌≡◌, ℕ, Bool, true, false, List, ◌++◌, length, Option, codes, decimal}
 use Rattle.std.specs.Io.KnownBytes.{Consumes}
-use Rattle.sfnt_bytes.specs.Text.{no_memory_number, no_memory_text}
+use Rattle.font_cut.specs.Fonts.{no_memory_number, no_memory_text}
 use Rattle.font_cmd.specs.declared.inlet.Inlet.{Inlet}
 use Rattle.font_cmd.specs.declared.inlet.ReadError.{ReadError}
 use Rattle.font_cmd.specs.declared.inlet.ReadError.TheVariants.{ReadFault, NoMemory}

@@ -1,15 +1,12 @@
 -- What a run is given, and how it leaves its inlet and its outlet.
 use Rattle.std.specs.Prelude.{◌≡◌, ℕ, ◌+◌, false, true, List, Option, IfSome, take}
-use Rattle.sfnt_bytes.specs.declared.directory.TheConstants.{MAX_FILE}
-use Rattle.sfnt_bytes.specs.Text.{no_memory_number}
-use Rattle.font_cut.specs.declared.font_error.FontError.{FontError}
+use Rattle.font_cut.specs.Fonts.{FontError, MAX_FILE, error_number, no_memory_number}
 use Rattle.font_cmd.specs.declared.inlet.Inlet.{Inlet}
 use Rattle.font_cmd.specs.declared.inlet.ReadError.{ReadError}
 use Rattle.font_cmd.specs.declared.inlet.ReadError.TheVariants.{NoMemory, ReadFault}
 use Rattle.font_cut.specs.declared.outlet.Outlet.{Outlet}
 use Rattle.font_cmd.specs.declared.run.RunError.{RunError}
 use Rattle.font_cmd.specs.declared.run.RunError.TheVariants.{Font, Memory, Read, Write}
-use Rattle.font_cut.specs.Text.{error_number}
 use Rattle.font_cmd.specs.Inlet as inlets
 use Rattle.font_cut.specs.Outlet as outlets
 

@@ -2,17 +2,7 @@
 use Rattle.std.specs.Prelude.{ℕ, List, [], ◌∷◌, ◌++◌, codes, decimal, length, Option}
 use Rattle.std.specs.List.{flat_map, range_with_len}
 use Rattle.std.specs.Option.{option_copied, option_map_or}
-use Rattle.sfnt_bytes.specs.Directory.{dropped_of, kept_tag, table_of}
-use Rattle.sfnt_bytes.specs.Text.{tag_text}
-use Rattle.sfnt_bytes.specs.declared.records.Entry.{Entry}
-use Rattle.sfnt_bytes.specs.declared.tag.Tag.{Tag}
-use Rattle.font_tables.specs.Fields.{glyph_count_of, loca_form_of, metric_count_of, units_per_em_of}
-use Rattle.font_tables.specs.declared.loca.LocaForm.{LocaForm}
-use Rattle.font_tables.specs.declared.loca.LocaForm.TheVariants.{Short, Long}
-use Rattle.font_map.specs.CharacterMap.{mapped_codes}
-use Rattle.font_map.specs.Cmap.{chosen_of}
-use Rattle.font_map.specs.Mapping.{mapping_of}
-use Rattle.font_cut.specs.Font.{cmap_of}
+use Rattle.font_cut.specs.Fonts.{Entry, LocaForm, Long, Short, Tag, chosen_of, cmap_of, dropped_of, glyph_count_of, kept_tag, loca_form_of, mapped_codes, mapping_of, metric_count_of, table_of, tag_text, units_per_em_of}
 use Rattle.font_cmd.specs.Check.{line}
 use Rattle.font_cmd.specs.declared.show.KeptLine.{KeptLine}
 

@@ -1,9 +1,8 @@
 //! `check`: the findings of a file, and whether it is accepted.
 ghost use Rattle.std.specs.Prelude.{◌≡◌, ◌↔◌, None, Some, IfErr, IfOk, IsTrue, OnOk, [], false, true};
 ghost use Rattle.std.specs.List.{flat_map};
-ghost use Rattle.sfnt_bytes.specs.Findings.{findings_of};
+ghost use Rattle.font_cut.specs.Fonts.{findings_of, font_fault};
 ghost use Rattle.font_cmd.specs.Check.{check_text, finding_line, read_findings, report_text, shown_findings};
-ghost use Rattle.font_cut.specs.Font.{font_fault};
 ghost use Rattle.font_cmd.specs.Inlet.{broken_of as inlet_broken_of, fresh_of as inlet_fresh_of};
 ghost use Rattle.font_cut.specs.Outlet.{Sends, broken_of, fresh_of};
 ghost use Rattle.font_cmd.specs.Run.{RunStops, got};

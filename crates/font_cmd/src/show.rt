@@ -1,6 +1,6 @@
 //! `show`: what a person asks of a font, and what a cut of it keeps and drops.
 ghost use Rattle.std.specs.Prelude.{◌≡◌, ◌<◌, None, Some, IfErr, OnOk, false, true};
-ghost use Rattle.font_cut.specs.Font.{font_fault};
+ghost use Rattle.font_cut.specs.Fonts.{font_fault};
 ghost use Rattle.font_cmd.specs.Inlet.{broken_of as inlet_broken_of, fresh_of as inlet_fresh_of};
 ghost use Rattle.font_cut.specs.Outlet.{Sends, broken_of, fresh_of};
 ghost use Rattle.font_cmd.specs.Run.{RunStops, got};
@@ -21,7 +21,7 @@ struct KeptLine<'a> {
 }
 
 impl<'a> KeptLine<'a> {
-    #[tactic(auto, unfolding(sfnt_bytes::specs::Directory::kept_tag))]
+    #[tactic(auto, unfolding(font_cut::specs::Fonts::kept_tag))]
     fn of(directory: &Directory<'a>, slot: usize) -> KeptLine<'a>
         requires { slot < 16 }
         ensures { kept_table_line result ≡ kept_line directory.now slot }

@@ -1,3 +1,2 @@
 pub mod FontLemmas
 pub mod OutletLemmas
-pub mod RecordLemmas

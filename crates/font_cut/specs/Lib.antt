@@ -1,4 +1,2 @@
-pub mod Font
-pub mod Opened
+pub mod Fonts
 pub mod Outlet
-pub mod Text

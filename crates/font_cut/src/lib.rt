@@ -1,13 +1,10 @@
-//! Fonts that are accepted, and where what is made of them goes.
+//! Where what is made of fonts goes.
 #![tactic(auto)]
 
-mod font;
-mod font_error;
 mod outlet;
 
-pub use crate::font::Font;
-pub use crate::font_error::FontError;
 pub use crate::outlet::{Outlet, WriteFault};
+pub use font_file::{Font, FontError};
 pub use font_glyph::{Component, Components};
 pub use font_map::{MapError, Mapping};
 pub use font_tables::{LocaForm, TableError, Tables};

@@ -3,7 +3,7 @@ use Rattle.std.proofs.Common.{◌≡◌, ◌+◌, ◌-◌, ◌≤◌, vec_len}
 use Rattle.std.specs.Io.KnownBytes.{Consumes}
 use Rattle.font_cmd.specs.Inlet.{reader_of}
 use Rattle.font_cmd.specs.declared.inlet.State.TheVariants.{Spent}
-use Rattle.sfnt_bytes.specs.declared.directory.TheConstants.{MAX_FILE}
+use Rattle.font_cut.specs.Fonts.{MAX_FILE}
 use Rattle.font_cmd.proofs.inlet.Inlet.read_all.Given as goal
 
 abbrev pub invariant-loop-piece : goal.invariant-loop-piece

@@ -1,7 +1,7 @@
 //! Why a file is no font that is accepted.
 ghost use Rattle.std.specs.Prelude.{◌≡◌, Some};
-ghost use Rattle.font_cut.specs.Text.{error_number, error_text};
-ghost use Rattle.font_cut.specs.declared.font_error.FontError.TheVariants.{Directory as InDirectory, Mapping as InMapping, Tables as InTables};
+ghost use Rattle.font_file.specs.Text.{error_number, error_text};
+ghost use Rattle.font_file.specs.declared.font_error.FontError.TheVariants.{Directory as InDirectory, Mapping as InMapping, Tables as InTables};
 
 use font_map::MapError;
 use font_tables::TableError;

@@ -4,8 +4,8 @@ use Rattle.sfnt_bytes.specs.Text as directory
 use Rattle.font_tables.specs.Text as tables
 use Rattle.font_map.specs.Text as mapping
 use Rattle.font_glyph.specs.Text as glyph
-use Rattle.font_cut.specs.declared.font_error.FontError.{FontError}
-use Rattle.font_cut.specs.declared.font_error.FontError.TheVariants.{BadGlyph, Directory, Mapping, Tables}
+use Rattle.font_file.specs.declared.font_error.FontError.{FontError}
+use Rattle.font_file.specs.declared.font_error.FontError.TheVariants.{BadGlyph, Directory, Mapping, Tables}
 
 -- the text of a refusal of a font
 abbrev pub error_text : FontError → List ℕ

@@ -1,7 +1,7 @@
 -- What a font that was opened keeps of its file.
 use Rattle.std.specs.Prelude.{◌≡◌, ℕ, List, None}
 use Rattle.font_tables.specs.Fields.{glyph_count_of}
-use Rattle.font_cut.specs.Font.{cmap_of, font_fault}
+use Rattle.font_file.specs.Font.{cmap_of, font_fault}
 
 -- the file is accepted, and the mapping is that of its `cmap` to its glyphs
 pub record IsOpened (file : List ℕ) (mapping : List ℕ × ℕ) : Type 0 where

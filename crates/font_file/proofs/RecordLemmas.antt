@@ -7,7 +7,7 @@ use Rattle.std.proofs.lemmas.List.Sums.{AllPass-from_list_all, list_all-from_All
 use Rattle.font_glyph.specs.Record.{IsRecord, components_of}
 use Rattle.font_glyph.specs.declared.component.Component.{Component}
 use Rattle.font_glyph.proofs.RecordLemmas.{components_of-is, components_of-tells}
-use Rattle.font_cut.specs.Font.{is_record}
+use Rattle.font_file.specs.Font.{is_record}
 
 abbrev is_below : ℕ → Component → Bool
 is_below count component = ltb component.glyph count

@@ -11,8 +11,8 @@ use Rattle.font_tables.specs.Refusals.{table_lines}
 use Rattle.font_map.specs.Mapping.{mapping_of}
 use Rattle.font_map.specs.Refusals.{map_lines}
 use Rattle.font_glyph.specs.Record.{components_of}
-use Rattle.font_cut.specs.declared.font_error.FontError.{FontError}
-use Rattle.font_cut.specs.declared.font_error.FontError.TheVariants.{BadGlyph, Directory, Mapping, Tables}
+use Rattle.font_file.specs.declared.font_error.FontError.{FontError}
+use Rattle.font_file.specs.declared.font_error.FontError.TheVariants.{BadGlyph, Directory, Mapping, Tables}
 
 -- the bytes of `cmap`
 unfoldable pub cmap_of : List ℕ → List ℕ

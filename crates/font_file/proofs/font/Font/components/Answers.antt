@@ -1,6 +1,6 @@
 use Rattle.font_glyph.proofs.RecordLemmas.{IsRecord-has_list}
-use Rattle.font_cut.proofs.FontLemmas.{is_record-opened}
-use Rattle.font_cut.proofs.font.Font.components.Goals as goal
+use Rattle.font_file.proofs.FontLemmas.{is_record-opened}
+use Rattle.font_file.proofs.font.Font.components.Goals as goal
 
 pub of-requires : goal.of-requires
 of-requires c =

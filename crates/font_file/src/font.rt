@@ -5,7 +5,7 @@ ghost use Rattle.font_tables.specs.Fields.{glyph_count_of};
 ghost use Rattle.font_tables.specs.Metrics.{metric_of};
 ghost use Rattle.font_tables.specs.Outlines.{outline_of};
 ghost use Rattle.font_glyph.specs.Record.{ComponentList, IsRecord};
-ghost use Rattle.font_cut.specs.Font.{cmap_of, font_fault, is_bad_glyph, is_record, map_of};
+ghost use Rattle.font_file.specs.Font.{cmap_of, font_fault, is_bad_glyph, is_record, map_of};
 
 use crate::font_error::FontError;
 use font_glyph::{Components, check_record};
@@ -64,7 +64,7 @@ pub struct Font<'a> {
 
 impl<'a> Model for Font<'a> {
     ghost use Rattle.std.specs.Prelude.{ℕ, List};
-    ghost use Rattle.font_cut.specs.Opened.{IsOpened};
+    ghost use Rattle.font_file.specs.Opened.{IsOpened};
 
     ghost Value = { List ℕ };
 

@@ -1,0 +1,18 @@
+-- What the crates below say of font files, passed on to those above.
+pub use Rattle.sfnt_bytes.specs.Directory.{dropped_of, kept_tag, table_of}
+pub use Rattle.sfnt_bytes.specs.Findings.{findings_of}
+pub use Rattle.sfnt_bytes.specs.Refusals.{directory_fault}
+pub use Rattle.sfnt_bytes.specs.Text.{finding_text, no_memory_number, no_memory_text, tag_text}
+pub use Rattle.sfnt_bytes.specs.declared.directory.TheConstants.{MAX_FILE}
+pub use Rattle.sfnt_bytes.specs.declared.findings.Finding.{Finding}
+pub use Rattle.sfnt_bytes.specs.declared.records.Entry.{Entry}
+pub use Rattle.sfnt_bytes.specs.declared.tag.Tag.{Tag}
+pub use Rattle.font_tables.specs.Fields.{glyph_count_of, loca_form_of, metric_count_of, units_per_em_of}
+pub use Rattle.font_tables.specs.declared.loca.LocaForm.{LocaForm}
+pub use Rattle.font_tables.specs.declared.loca.LocaForm.TheVariants.{Long, Short}
+pub use Rattle.font_map.specs.CharacterMap.{mapped_codes}
+pub use Rattle.font_map.specs.Cmap.{chosen_of}
+pub use Rattle.font_map.specs.Mapping.{mapping_of}
+pub use Rattle.font_file.specs.Font.{cmap_of, font_fault}
+pub use Rattle.font_file.specs.Text.{error_number, error_text}
+pub use Rattle.font_file.specs.declared.font_error.FontError.{FontError}

@@ -1,0 +1,3 @@
+pub mod Font
+pub mod Opened
+pub mod Text
