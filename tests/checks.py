@@ -10,6 +10,8 @@ PROGRAM = os.path.join(TOP, "crates", "fontcut", "out", "fontcut")
 
 DEJAVU = "/usr/share/fonts/truetype/dejavu"  # Debian's package fonts-dejavu-core
 LIBERATION = "/usr/share/fonts/truetype/liberation2"  # Debian's package fonts-liberation2
+BABELSTONE = "/usr/share/fonts/truetype/babelstone"  # Debian's package fonts-babelstone-han
+HANAZONO = "/usr/share/fonts/truetype/hanazono"  # Debian's package fonts-hanazono
 
 FONTS = {
     DEJAVU: ("fonts-dejavu-core", """
@@ -18,6 +20,34 @@ FONTS = {
         LiberationMono-Bold LiberationMono-BoldItalic LiberationMono-Italic LiberationMono-Regular
         LiberationSans-Bold LiberationSans-BoldItalic LiberationSans-Italic LiberationSans-Regular
         LiberationSerif-Bold LiberationSerif-BoldItalic LiberationSerif-Italic LiberationSerif-Regular"""),
+}
+
+# Prints by fontTools what `show` prints of each font: its numbers, the subtable that its mapping is read from, how many
+# codes that maps, and the tags and lengths of its tables in order of tag, which is that of the records in
+# these fonts; fontTools has them by their offsets.
+SHOWN = """
+import json, sys
+from fontTools.ttLib import TTFont
+def subtable_of(font):
+    for pair in (3, 10), (0, 4), (3, 1), (0, 3):
+        for table in font["cmap"].tables:
+            if (table.platformID, table.platEncID) == pair and table.format in (4, 12):
+                return table
+def shown(path):
+    font = TTFont(path, lazy=True)
+    form = ("short", "long")[font["head"].indexToLocFormat]
+    table = subtable_of(font)
+    codes = sum(font.getGlyphID(name) != 0 for name in table.cmap.values())
+    tables = [[tag, entry.length] for tag, entry in sorted(font.reader.tables.items())]
+    return [font["maxp"].numGlyphs, font["head"].unitsPerEm, form, font["hhea"].numberOfHMetrics,
+            [table.platformID, table.platEncID, table.format], codes, tables]
+print(json.dumps([shown(path) for path in sys.argv[1:]]))
+"""
+
+# Chinese characters: 22 to 51 MB, 52,008 to 64,833 glyphs.
+LARGE_FONTS = {
+    BABELSTONE: ("fonts-babelstone-han", "BabelStoneHan"),
+    HANAZONO: ("fonts-hanazono", "HanaMinA HanaMinB"),
 }
 
 counts = {"passed": 0, "failed": 0, "skipped": 0}
@@ -69,10 +99,10 @@ def same(name, wanted, found):
     check(name, wanted == found, f"wanted {wanted}", f"found  {found}")
 
 
-def real_fonts():
+def real_fonts(fonts=None):
     """The paths of Debian's fonts; a font that is not installed is skipped."""
     paths = []
-    for folder, (package, names) in FONTS.items():
+    for folder, (package, names) in (fonts or FONTS).items():
         for name in names.split():
             path = f"{folder}/{name}.ttf"
             if os.path.exists(path):

@@ -1,4 +1,4 @@
--- What a font that was opened keeps of its file.
+-- What a font that was opened keeps of its file (OpenType 1.9, Organization of an OpenType Font).
 use Rattle.std.specs.Prelude.{◌≡◌, ℕ, List, None}
 use Rattle.font_tables.specs.Fields.{glyph_count_of}
 use Rattle.font_file.specs.Font.{cmap_of, font_fault}

@@ -8,7 +8,7 @@ ghost use Rattle.font_glyph.specs.Record.{ComponentList, IsRecord};
 ghost use Rattle.font_file.specs.Font.{cmap_of, font_fault, is_bad_glyph, is_record, map_of};
 
 use crate::font_error::FontError;
-use font_glyph::{Components, check_record};
+use font_glyph::{Components, Outlines, check_record};
 use font_map::Mapping;
 use font_tables::Tables;
 use sfnt_bytes::Directory;
@@ -142,5 +142,22 @@ impl<'a> Font<'a> {
         ensures count { 6 * length result ≤ length (outline_of self.now g) }
     {
         Components::of(self.tables.outline(g))
+    }
+}
+
+impl<'a> Outlines for Font<'a> {
+    ghost use Rattle.font_tables.specs.Fields.{glyph_count_of};
+    ghost use Rattle.font_tables.specs.Outlines.{outline_of};
+
+    ghost count_of = { glyph_count_of };
+
+    ghost record_at = { outline_of };
+
+    fn count(&self) -> u16 {
+        self.tables.glyph_count()
+    }
+
+    fn record_of(&self, g: u16) -> &[u8] {
+        self.outline(g)
     }
 }

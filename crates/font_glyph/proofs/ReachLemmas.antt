@@ -55,7 +55,7 @@ names_decides b g = (λ h. to (components_of b) refl h, λ h. from h)
     from : IsComponentOf b g → list_any (λ c. nat_eq c.glyph g) (unwrap_or (components_of b) []) ≡ true
     from h = rw (components_of-is b h.list h.is) (glyph_any h.list g h.among)
 
-any_decides : (p : ℕ → Bool) (n : ℕ) → Decides (any_below p n) ((k : ℕ) × (k < n) × (p k ≡ true))
+pub any_decides : (p : ℕ → Bool) (n : ℕ) → Decides (any_below p n) ((k : ℕ) × (k < n) × (p k ≡ true))
 any_decides p n = Decides-below_or p (λ k. p k ≡ true) (any_below p) (λ k. (λ h. h, λ h. h)) refl (λ _. refl) n
 
 -- what is found within k steps is reached

@@ -7,3 +7,7 @@ pub mod CountLemmas
 pub mod MappingLemmas
 pub mod MapLemmas
 pub mod RunLemmas
+pub mod RangeLemmas
+pub mod AddingLemmas
+pub mod WantedLemmas
+pub mod WordLemmas

@@ -4,8 +4,8 @@ use Rattle.std.proofs.lemmas.Bool.{cases_lt}
 use Rattle.std.proofs.lemmas.Bool.Decides.{nat_tests}
 use Rattle.font_map.specs.CharacterMap.{AreCompatible, IsCharacterMap, restricted, united}
 
-pub restricted-map : (w : ℕ → Bool) (m : ℕ → ℕ) → IsCharacterMap m → IsCharacterMap (restricted w m)
-restricted-map w m h =
+pub restricted_map : (w : ℕ → Bool) (m : ℕ → ℕ) → IsCharacterMap m → IsCharacterMap (restricted w m)
+restricted_map w m h =
     record {
       codes = λ c x. zero_or (w c) (m c) (h.codes c x);
       glyphs = λ c. small_or (w c) (m c) (h.glyphs c);
@@ -40,7 +40,7 @@ restricted_twice : (a b : Bool) (x : ℕ) → cond a (cond b x 0) 0 ≡ cond (a 
 restricted_twice true b x = refl
 restricted_twice false b x = refl
 
-same_cond : (b : Bool) (x : ℕ) → cond b x x ≡ x
+pub same_cond : (b : Bool) (x : ℕ) → cond b x x ≡ x
 same_cond true x = refl
 same_cond false x = refl
 

@@ -8,7 +8,7 @@ use Rattle.font_map.specs.Cmap.{chosen_record, subtable_at}
 use Rattle.font_map.specs.Format4.{segment_glyph}
 use Rattle.font_map.specs.Format12.{group_glyph}
 use Rattle.font_map.specs.Mapping.{listed_glyph, mapping_of}
-use Rattle.font_map.specs.Runs.{IsPiece, NoRun}
+use Rattle.font_map.specs.Runs.{IsPiece, IsRun, NoRun}
 use Rattle.font_map.specs.declared.runs.Run.{Run}
 use Rattle.font_map.proofs.PieceLemmas.{clipped_past}
 
@@ -64,3 +64,17 @@ is_character_map-clipped n f h =
 pub is_character_map-mapping_of : (cmap : List ℕ) (n : ℕ) → n ≤ 65536 → IsCharacterMap (mapping_of cmap n)
 unfolding mapping_of
 is_character_map-mapping_of cmap n h = is_character_map-clipped n (λ x. option_map_or (λ k. listed_glyph (subtable_at cmap k) x) (chosen_record cmap) 0) h
+
+-- likewise what a mapping sees as its value
+pub is_character_map : (cmap : List ℕ) (n : ℕ) (v : List ℕ × ℕ) → n < 65536 → (cmap, n) ≡ v → IsCharacterMap (mapping_of v.0 v.1)
+is_character_map cmap n v h e = subst (λ (w : List ℕ × ℕ). IsCharacterMap (mapping_of w.0 w.1)) e (is_character_map-mapping_of cmap n (omega (arith, h)))
+
+-- the run of a subtable of segments is that of the mapping that chose it
+abbrev IsFirst : (ℕ → ℕ) → ℕ → Option Run → Type 0
+IsFirst m from r = MatchOption r (NoRun m from) (IsRun m from)
+
+pub run_of_chosen : (cmap s : List ℕ) (n k from : ℕ) (r : Option Run) (v : List ℕ × ℕ) → u16_at s 0 ≡ 4 → chosen_record cmap ≡ Some k → s ≡ subtable_at cmap k → (cmap, n) ≡ v → IsFirst (clipped n (segment_glyph s)) from r → IsFirst (mapping_of v.0 v.1) from r
+run_of_chosen cmap s n k from r v f h e q p =
+    let same : segment_glyph s ≡ listed_glyph s = λ i c. listed_segments s c f i in
+    subst (λ (w : List ℕ × ℕ). IsFirst (mapping_of w.0 w.1) from r) q
+    (subst (λ (g : ℕ → ℕ). IsFirst g from r) (ap (clipped n) same ∙ mapping_of-chosen cmap s n k h e) p)

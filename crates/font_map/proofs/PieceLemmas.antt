@@ -1,5 +1,5 @@
 -- Pieces of one map that are pieces of another.
-use Rattle.std.proofs.Common.{◌≡◌, ℕ, ◌+◌, ◌<◌, ◌≤◌, ◌&&◌, cond, nat_lt, nat_le, Option, Some, None, MatchOption, ap, ◌∙◌, arith, inl, inr}
+use Rattle.std.proofs.Common.{◌≡◌, ℕ, ◌+◌, ◌<◌, ◌≤◌, ◌&&◌, cond, nat_lt, nat_le, Option, Some, None, MatchOption, IfSome, subst, ap, ◌∙◌, arith, inl, inr}
 use Rattle.std.proofs.lemmas.Bool.{cases_lt}
 use Rattle.std.proofs.lemmas.Bool.Decides.{nat_tests}
 use Rattle.font_map.specs.CharacterMap.{AreSame, IsUnmapped, clipped}
@@ -61,3 +61,7 @@ piece_back m from at run on none p =
 
 pub none_back : (m : ℕ → ℕ) (from at stop : ℕ) → IsUnmapped m from at → IsUnmapped m at stop → IsUnmapped m from stop
 none_back m from at stop a b c x y = elim (cases_lt c at) [ inl z ↦ a c x z | inr z ↦ b c z y ]
+
+-- what holds of a found one
+pub holds_of : {X : Type 0} (P : X → Type 0) (found : Option X) (x : X) → found ≡ Some x → IfSome found P → P x
+holds_of {X = X} P found x e h = subst (λ (o : Option X). IfSome o P) e h

@@ -3,7 +3,7 @@ use Rattle.std.proofs.Common.{◌≡◌, ◌≢◌, ℕ, zero, suc, ◌+◌, ◌
 use Rattle.std.proofs.lemmas.Bool.{cases_lt, cases_order, cond_both, and_parts, and_cases, eqb-true, eqb-false}
 use Rattle.std.proofs.lemmas.Bool.Decides.{nat_tests}
 use Rattle.font_map.specs.CharacterMap.{IsCharacterMap, restricted}
-use Rattle.font_map.specs.Runs.{AreApart, AreAscending, AreCanonical, AreRuns, CanonicalGroups, IsRun, NoRun, groups_among, groups_from, spelled, with_code}
+use Rattle.font_map.specs.Runs.{AreApart, AreAscending, AreCanonical, AreRuns, CanonicalGroups, IsPiece, IsRun, NoRun, groups_among, groups_from, spelled, with_code}
 use Rattle.font_map.specs.declared.runs.Run.{Run}
 
 -- what a run gives its codes
@@ -275,3 +275,61 @@ canonical m ok =
       runs = λ from. groups_from-runs m from ok;
       one = λ from list h. same_runs m from list (groups_from m from) h (groups_from-runs m from ok);
     }
+
+-- a piece with the one that goes on it
+pub piece_on : (m : ℕ → ℕ) (from : ℕ) (run next : Run) → IsPiece m from run → IsPiece m (run.last + 1) next → next.first ≡ run.last + 1 → next.glyph ≡ run.glyph + (next.first - run.first) → IsPiece m from (record { first = run.first; last = next.last; glyph = run.glyph })
+piece_on m from run next h k first glyph =
+    let o = h.order in
+    let p = k.order in
+    record {
+      from_on = h.from_on;
+      least = h.least;
+      order = omega arith;
+      within = k.within;
+      mapped = h.mapped;
+      small = omega (arith, k.small);
+      along = λ c x y. elim (cases_lt run.last c) [
+        | inl z ↦ omega (arith, k.along c (omega (arith, z)) y)
+        | inr z ↦ h.along c x z
+      ];
+    }
+
+-- a piece that the next one does not go on is a run
+pub piece_ends : (m : ℕ → ℕ) (from : ℕ) (run next : Run) → IsPiece m from run → IsPiece m (run.last + 1) next → (next.first ≡ run.last + 1 → next.glyph ≡ run.glyph + (next.first - run.first) → ⊥) → IsRun m from run
+piece_ends m from run next h k apart =
+    record {
+      piece = h;
+      longest = λ e. elim (cases_lt (run.last + 1) next.first) [
+        | inl x ↦ omega (arith, k.least (run.last + 1) (omega arith) x, e, h.mapped, h.order)
+        | inr x ↦
+            let first : next.first ≡ run.last + 1 = omega (arith, x, k.from_on) in
+            let there : m next.first ≡ m (run.last + 1) = ap m first in
+            apart first (omega (arith, k.along next.first (omega arith) k.order, there, e, h.order, first))
+      ];
+    }
+
+-- and so is one behind which no code is mapped
+pub piece_last : (m : ℕ → ℕ) (from : ℕ) (run : Run) → IsPiece m from run → NoRun m (run.last + 1) → IsRun m from run
+piece_last m from run h none = record { piece = h; longest = λ e. omega (arith, none (run.last + 1) (omega arith), e, h.mapped, h.order) }
+
+-- a piece with the code behind it
+pub code_on : (m : ℕ → ℕ) (from code glyph : ℕ) (run : Run) → IsPiece m from run → code ≡ run.last + 1 → code ≤ 0x10FFFF → glyph ≡ m code → glyph < 65536 → glyph ≡ run.glyph + (code - run.first) → IsPiece m from (record { first = run.first; last = code; glyph = run.glyph })
+code_on m from code glyph run h next within is small on =
+    let o = h.order in
+    record {
+      from_on = h.from_on;
+      least = h.least;
+      order = omega arith;
+      within = within;
+      mapped = h.mapped;
+      small = omega arith;
+      along = λ c x y. elim (cases_lt run.last c) [
+        | inl z ↦ let same : c ≡ code = omega arith in omega (arith, ap m same, is, on, same)
+        | inr z ↦ h.along c x z
+      ];
+    }
+
+-- a piece that the code behind it does not go on is a run
+pub code_ends : (m : ℕ → ℕ) (from code glyph : ℕ) (run : Run) → IsPiece m from run → code ≡ run.last + 1 → glyph ≡ m code → glyph ≢ run.glyph + (code - run.first) → IsRun m from run
+code_ends m from code glyph run h next is off =
+    record { piece = h; longest = λ e. off (omega (arith, ap m next, is, e, h.order, next)) }

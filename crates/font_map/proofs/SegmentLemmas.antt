@@ -5,12 +5,13 @@ use Rattle.std.proofs.lemmas.Bool.Decides.{nat_tests}
 use Rattle.std.proofs.lemmas.List.{drop_more, drop_all}
 use Rattle.std.proofs.lemmas.List.FromFn.{length-map-range_with_len, get_or-map-range_with_len}
 use Rattle.std.specs.Option.{option_map_or}
-use Rattle.font_map.specs.CharacterMap.{clipped}
+use Rattle.font_map.specs.CharacterMap.{IsUnmapped, clipped}
 use Rattle.font_map.specs.Order.{IsPlace}
 use Rattle.font_map.specs.Runs.{IsPiece, NoRun}
 use Rattle.font_map.specs.Format4.{HasOrderedSegments, glyph_by, glyph_by_delta, glyph_of_segment, reaches, segment_count, segment_end, segment_glyph, segment_in, segment_nth, segments_of}
 use Rattle.font_map.specs.declared.format4.Segment.{Segment}
 use Rattle.font_map.specs.declared.runs.Run.{Run}
+use Rattle.font_map.proofs.PieceLemmas.{clipped_none}
 use Rattle.font_map.proofs.OrderLemmas.{Ascends, Halves, find_at, find_narrower, find_narrower_none, find_none, halves_down, halves_up, in_order_ascends}
 
 abbrev none : Segment
@@ -103,3 +104,10 @@ pub clip_by_delta : (s : List ℕ) (g : Segment) (n from : ℕ) (r : Option Run)
 clip_by_delta s g n from r z p =
     let same : glyph_by_delta g ≡ glyph_of_segment s g = λ i c. delta_at s g c z i in
     subst (λ (f : ℕ → ℕ). MatchOption r (NoRun (clipped n f) from) (IsPiece (clipped n f) from)) same p
+
+-- no code above 0xFFFF is mapped
+pub none_above : (s : List ℕ) (n from : ℕ) → 0xFFFF < from → NoRun (clipped n (segment_glyph s)) from
+none_above s n from h c x = clipped_none n (segment_glyph s) c (glyph_above s c (omega (arith, h, x)))
+
+pub none_from : (s : List ℕ) (n from at : ℕ) → 0xFFFF < at → IsUnmapped (clipped n (segment_glyph s)) from at → NoRun (clipped n (segment_glyph s)) from
+none_from s n from at h none c x = elim (cases_lt c at) [ inl y ↦ none c x y | inr y ↦ none_above s n at h c y ]

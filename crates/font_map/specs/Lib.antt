@@ -7,3 +7,5 @@ pub mod Order
 pub mod Refusals
 pub mod Runs
 pub mod Text
+pub mod Wanted
+pub mod Word

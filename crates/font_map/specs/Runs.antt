@@ -1,5 +1,5 @@
 -- Runs, neighbouring codes on neighbouring glyphs, and the groups that spell a map (OpenType 1.9, cmap, Format 12: Segmented coverage).
-use Rattle.std.specs.Prelude.{◌≡◌, ◌≢◌, ℕ, zero, suc, ◌+◌, ◌-◌, ◌<◌, ◌≤◌, nat_le, nat_eq, ◌&&◌, List, [], ◌∷◌, if◌then◌else◌}
+use Rattle.std.specs.Prelude.{◌≡◌, ◌≢◌, ℕ, zero, suc, ◌+◌, ◌-◌, ◌<◌, ◌≤◌, nat_le, nat_eq, ◌&&◌, List, [], ◌∷◌, if◌then◌else◌, Option, MatchOption}
 use Rattle.font_map.specs.CharacterMap.{restricted}
 use Rattle.font_map.specs.declared.runs.Run.{Run}
 
@@ -17,7 +17,11 @@ pub record IsPiece (m : ℕ → ℕ) (from : ℕ) (run : Run) : Type 0 where
   pub small : run.glyph + (run.last - run.first) < 65536
   pub along : (c : ℕ) → run.first ≤ c → c ≤ run.last → m c + run.first ≡ run.glyph + c
 
--- the same, as long as neighbouring codes lie on neighbouring glyphs
+-- the first piece from a code on, if there is one
+abbrev pub IsNext : (ℕ → ℕ) → ℕ → Option Run → Type 0
+IsNext m from found = MatchOption found (NoRun m from) (IsPiece m from)
+
+-- a piece, as long as neighbouring codes lie on neighbouring glyphs
 pub record IsRun (m : ℕ → ℕ) (from : ℕ) (run : Run) : Type 0 where
   pub piece : IsPiece m from run
   pub longest : m (run.last + 1) + run.first ≢ run.glyph + (run.last + 1)

@@ -2,11 +2,11 @@
 //! Segment mapping to delta values.
 //!
 //! A subtable `s` is given with all bytes of `cmap` behind it.
-ghost use Rattle.std.specs.Prelude.{◌≡◌, ◌+◌, ◌*◌, ◌<◌, ◌≤◌, ◌^◌, ◌↔◌, IsTrue, IfSome, MatchOption, drop, find, length, [], ◌∷◌};
+ghost use Rattle.std.specs.Prelude.{◌≡◌, ◌+◌, ◌*◌, ◌<◌, ◌≤◌, ◌^◌, ◌↔◌, ℕ, IsTrue, IfSome, MatchOption, drop, find, length, [], ◌∷◌};
 ghost use Rattle.font_map.specs.CharacterMap.{IsUnmapped, clipped};
 ghost use Rattle.font_map.specs.Format4.{HasOrderedSegments, HasSegments, entry_or_zero, glyph_by, glyph_by_delta, glyph_of_segment, reaches, segment_count, segment_end, segment_glyph, segment_in, segment_nth, segments_of};
 ghost use Rattle.font_map.specs.Order.{IsPlace};
-ghost use Rattle.font_map.specs.Runs.{IsPiece, NoRun};
+ghost use Rattle.font_map.specs.Runs.{IsNext, IsPiece, IsRun, NoRun};
 
 use crate::runs::{Run, clip};
 use sfnt_bytes::be16;
@@ -112,35 +112,35 @@ fn place_segment(s: &[u8], code: u32) -> usize
     low
 }
 
-// The first listed segment that ends at the code or above it, by halves.
-fn halve_segments(s: &[u8], code: u32) -> Option<Segment>
+// The first listed segment from a place on that ends at the code or above it, where none before that
+// place does.
+fn walk_place(s: &[u8], start: usize, code: u32) -> usize
     requires room { HasSegments s.now }
-    requires order { HasOrderedSegments s.now }
-    ensures value { result ≡ find (reaches code) (segments_of s.now) }
-    ensures near { IfSome result (λ segment. segment.place ≤ length s.now) }
-    ensures ends { IfSome result (λ segment. code ≤ segment.last) }
-{
-    let i = place_segment(s, code);
-    if i >= count_segments(s) {
-        return None;
-    }
-    Some(segment_at(s, i))
-}
-
-// The first listed segment that ends at the code or above it, segment by segment.
-fn walk_segments(s: &[u8], code: u32) -> Option<Segment>
-    requires { HasSegments s.now }
-    ensures value { result ≡ find (reaches code) (segments_of s.now) }
-    ensures near { IfSome result (λ segment. segment.place ≤ length s.now) }
-    ensures ends { IfSome result (λ segment. code ≤ segment.last) }
+    requires within { start ≤ segment_count s.now }
+    requires before { (k : ℕ) → k < start → segment_end s.now k < code }
+    ensures { IsPlace (segment_end s.now) (segment_count s.now) code result }
 {
     let count = count_segments(s);
-    for i in 0..count {
+    for i in start..count {
         if code <= u32::from(end_at(s, i)) {
-            return Some(segment_at(s, i));
+            return i;
         }
     }
-    None
+    count
+}
+
+// The segment that decides a code.
+fn segment_of(s: &[u8], place: usize, code: u32) -> Option<Segment>
+    requires room { HasSegments s.now }
+    requires place { IsPlace (segment_end s.now) (segment_count s.now) code place }
+    ensures value { result ≡ find (reaches code) (segments_of s.now) }
+    ensures near { IfSome result (λ segment. segment.place ≤ length s.now) }
+    ensures ends { IfSome result (λ segment. code ≤ segment.last) }
+{
+    if place >= count_segments(s) {
+        return None;
+    }
+    Some(segment_at(s, place))
 }
 
 fn find_segment(s: &[u8], ordered: bool, code: u32) -> Option<Segment>
@@ -151,9 +151,9 @@ fn find_segment(s: &[u8], ordered: bool, code: u32) -> Option<Segment>
     ensures ends { IfSome result (λ segment. code ≤ segment.last) }
 {
     if ordered {
-        return halve_segments(s, code);
+        return segment_of(s, place_segment(s, code), code);
     }
-    walk_segments(s, code)
+    segment_of(s, walk_place(s, 0, code), code)
 }
 
 // The entry of glyphIdArray at a place, wherever in `cmap` that is.
@@ -263,10 +263,27 @@ fn clip_segment(s: &[u8], segment: Segment, from: u32, glyphs: u16) -> Option<Ru
     clip_codes(s, segment, from, glyphs)
 }
 
+// A piece of the map from a code on, or none up to a stop; and the stop. The first listed segment that
+// ends at a code or above it decides all codes from there to its end, in whatever order they stand.
+fn stretch_by(s: &[u8], found: Option<Segment>, glyphs: u16, from: u32) -> (Option<Run>, u32)
+    requires low { from < 65536 }
+    requires value { found ≡ find (reaches from) (segments_of s.now) }
+    requires near { IfSome found (λ segment. segment.place ≤ length s.now) }
+    requires ends { IfSome found (λ segment. from ≤ segment.last) }
+    ensures order { from < result.1 }
+    ensures small { result.1 ≤ 0x110000 }
+    ensures found { MatchOption result.0 (IsUnmapped (clipped glyphs (segment_glyph s.now)) from result.1) (IsPiece (clipped glyphs (segment_glyph s.now)) from) }
+{
+    match found {
+        Some(segment) => (
+            clip_segment(s, segment, from, glyphs),
+            u32::from(segment.last) + 1,
+        ),
+        None => (None, 0x110000),
+    }
+}
+
 /// A piece of the map from a code on, or none up to a stop; and the stop.
-///
-/// The first listed segment that ends at a code or above it decides all codes from there to its end,
-/// in whatever order the segments stand.
 pub(crate) fn stretch_of_segments(
     s: &[u8],
     ordered: bool,
@@ -283,11 +300,61 @@ pub(crate) fn stretch_of_segments(
     if from > 0xFFFF {
         return (None, 0x110000);
     }
-    match find_segment(s, ordered, from) {
-        Some(segment) => (
-            clip_segment(s, segment, from, glyphs),
-            u32::from(segment.last) + 1,
-        ),
-        None => (None, 0x110000),
+    stretch_by(s, find_segment(s, ordered, from), glyphs, from)
+}
+
+// The glyph of a code by the segment that decides it.
+#[tactic(auto, unfolding(crate::specs::Format4::segment_glyph))]
+fn glyph_at(s: &[u8], place: usize, glyphs: u16, code: u32) -> u16
+    requires room { HasSegments s.now }
+    requires low { code < 65536 }
+    requires place { IsPlace (segment_end s.now) (segment_count s.now) code place }
+    ensures { result ≡ clipped glyphs (segment_glyph s.now) code }
+{
+    match segment_of(s, place, code) {
+        Some(segment) => clip(u64::from(glyph_by(s, segment, code)), glyphs, code),
+        None => 0,
     }
+}
+
+// The first piece from a code on, for segments in any order; and the place of the segment that has it.
+fn walk_piece(s: &[u8], glyphs: u16, from: u32) -> (Option<Run>, usize)
+    requires { HasSegments s.now }
+    ensures piece { IsNext (clipped glyphs (segment_glyph s.now)) from result.0 }
+    ensures within { result.1 ≤ segment_count s.now }
+    ensures before { IfSome result.0 (λ run. (k : ℕ) → k < result.1 → segment_end s.now k < run.first) }
+{
+    let mut at = from;
+    let mut place = 0;
+    while at <= 0xFFFF {
+        place = walk_place(s, place, at);
+        let (found, stop) = stretch_by(s, segment_of(s, place, at), glyphs, at);
+        if let Some(run) = found {
+            return (Some(run), place);
+        }
+        at = stop;
+    }
+    (None, place)
+}
+
+/// The run that begins at the least mapped code from one on, for segments in any order.
+///
+/// The segment that decides a code stands in no place before the one that decides the code below it.
+/// So one walk over the segments serves the whole run, and the code behind it.
+pub(crate) fn walk_run(s: &[u8], glyphs: u16, from: u32) -> Option<Run>
+    requires { HasSegments s.now }
+    ensures { MatchOption result (NoRun (clipped glyphs (segment_glyph s.now)) from) (IsRun (clipped glyphs (segment_glyph s.now)) from) }
+{
+    let (found, mut place) = walk_piece(s, glyphs, from);
+    let mut run = found?;
+    while run.last < 0xFFFF {
+        let code = run.last + 1;
+        place = walk_place(s, place, code);
+        let glyph = glyph_at(s, place, glyphs, code);
+        if u32::from(glyph) != u32::from(run.glyph) + (code - run.first) {
+            return Some(run);
+        }
+        run.last = code;
+    }
+    Some(run)
 }

@@ -2,6 +2,7 @@
 ghost use Rattle.std.specs.Prelude.{ℕ};
 ghost use Rattle.font_map.specs.CharacterMap.{IsCharacterMap, MapLaws};
 ghost use Rattle.font_map.specs.Runs.{CanonicalGroups};
+ghost use Rattle.font_map.specs.Word.{OneRangeOfWord};
 
 /// Restrictions and unions of character maps follow from each other as those of sets do.
 pub fn map_laws()
@@ -12,4 +13,9 @@ pub fn map_laws()
 /// one: the list of its runs.
 pub fn canonical_groups()
     ensures { (m : ℕ → ℕ) → IsCharacterMap m → CanonicalGroups m }
+{}
+
+/// A text is a word for one range of codes at most.
+pub fn one_range_of_word()
+    ensures { OneRangeOfWord }
 {}

@@ -5,11 +5,19 @@
 mod cmap;
 mod format12;
 mod format4;
+mod groups;
 mod laws;
 mod mapping;
+mod ranges;
 mod runs;
 mod text;
+mod wanted;
+mod within;
+mod word;
 
-pub use crate::laws::{canonical_groups, map_laws};
+pub use crate::groups::{Group, Groups};
+pub use crate::laws::{canonical_groups, map_laws, one_range_of_word};
 pub use crate::mapping::{MapError, Mapping};
 pub use crate::runs::{Pieces, Run, next_run};
+pub use crate::wanted::{Wanted, WantedError};
+pub use crate::word::{WordError, read_word};

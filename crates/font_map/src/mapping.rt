@@ -1,17 +1,21 @@
 //! The mapping of a `cmap` from code points to glyphs. OpenType 1.9, cmap: Character to Glyph Index
 //! Mapping Table.
 ghost use Rattle.std.specs.Prelude.{◌≡◌, ℕ, ◌+◌, ◌<◌, ◌≤◌, ◌⊎◌, ◌↔◌, IsTrue, None, Some, MatchOption, MatchResult};
-ghost use Rattle.font_map.specs.CharacterMap.{IsUnmapped, clipped, mapped_codes};
+ghost use Rattle.font_map.specs.CharacterMap.{IsCharacterMap, IsUnmapped, clipped, mapped_codes, restricted};
 ghost use Rattle.font_map.specs.Cmap.{chosen_of};
 ghost use Rattle.font_map.specs.Mapping.{IsOrderly, IsWhole, listed_glyph, mapping_of};
 ghost use Rattle.font_map.specs.Refusals.{map_fault};
 ghost use Rattle.font_map.specs.Runs.{IsPiece, IsRun, NoRun};
+ghost use Rattle.font_map.specs.Wanted.{member};
 
 use crate::cmap::{HEADER, RECORD, SEGMENTS, choose_record, has_fault, subtable};
-use crate::format4::{has_ordered_segments, segment_glyph, stretch_of_segments};
+use crate::format4::{has_ordered_segments, segment_glyph, stretch_of_segments, walk_run};
 use crate::format12::{group_glyph, has_ordered_groups, stretch_of_groups};
 use crate::runs::{Pieces, Run, clip, mapped_count, next_run};
+use crate::wanted::Wanted;
+use crate::within::Within;
 use sfnt_bytes::be16;
+use std::alloc::Allocator;
 use std::marker::Model;
 
 /// Why a `cmap` has no mapping that can be used: the first that applies, in this order.
@@ -131,12 +135,13 @@ impl<'a> Mapping<'a> {
     }
 
     /// `platformID`, `encodingID` and format of the chosen subtable.
-    #[tactic(auto, unfolding(crate::specs::Cmap::chosen_of))]
+    #[tactic(auto, using(crate::proofs::MappingLemmas::is_character_map), unfolding(crate::specs::Cmap::chosen_of))]
     pub fn chosen(&self) -> (u16, u16, u16)
         ensures chosen { result ≡ chosen_of self.now.0 }
 
         // What choosing it has shown.
         ensures sound { map_fault self.now.0 ≡ None }
+        ensures map { IsCharacterMap (mapping_of self.now.0 self.now.1) }
     {
         let at = HEADER + RECORD * self.chosen;
         (
@@ -168,10 +173,27 @@ impl<'a> Mapping<'a> {
 
     /// The run that begins at the least mapped code not below `from`: as long as neighbouring codes
     /// lie on neighbouring glyphs.
+    #[tactic(auto, using(crate::proofs::MappingLemmas::run_of_chosen))]
     pub fn next_run(&self, from: u32) -> Option<Run>
         ensures { MatchOption result (NoRun (mapping_of self.now.0 self.now.1) from) (IsRun (mapping_of self.now.0 self.now.1) from) }
     {
+        if !self.ordered && be16(self.subtable, 0) == SEGMENTS {
+            return walk_run(self.subtable, self.glyphs, from);
+        }
         next_run(self, from)
+    }
+
+    /// The same over the mapped codes of a set.
+    pub fn wanted_run<A: Allocator>(&self, wanted: &Wanted<A>, from: u32) -> Option<Run>
+        ensures { MatchOption result
+            (NoRun (restricted (member wanted.now) (mapping_of self.now.0 self.now.1)) from)
+            (IsRun (restricted (member wanted.now) (mapping_of self.now.0 self.now.1)) from) }
+    {
+        let within = Within {
+            mapping: self,
+            wanted,
+        };
+        next_run(&within, from)
     }
 }
 

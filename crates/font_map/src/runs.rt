@@ -1,8 +1,8 @@
 //! Runs: neighbouring codes on neighbouring glyphs, as the groups of a cut have them.
 //! OpenType 1.9, cmap, Format 12: Segmented coverage.
-ghost use Rattle.std.specs.Prelude.{◌≡◌, ℕ, MatchOption};
+ghost use Rattle.std.specs.Prelude.{◌≡◌, ◌+◌, ◌≤◌, ℕ, MatchOption};
 ghost use Rattle.font_map.specs.CharacterMap.{clipped, mapped_codes};
-ghost use Rattle.font_map.specs.Runs.{IsPiece, IsRun, NoRun};
+ghost use Rattle.font_map.specs.Runs.{IsNext, IsPiece, IsRun, NoRun};
 
 /// The codes `first` to `last`, which lie on `glyph` and the glyphs after it.
 #[derive(Clone, Copy, Debug, PartialEq, Eq)]
@@ -25,20 +25,33 @@ pub trait Pieces {
         ensures { MatchOption result (NoRun (map_of self.now) from) (IsPiece (map_of self.now) from) };
 }
 
+/// The run that begins with a piece, and the first piece behind it.
+pub(crate) fn run_of<P: Pieces>(pieces: &P, piece: Run) -> (Run, Option<Run>)
+    requires order { piece.first ≤ piece.last }
+    requires small { piece.last ≤ 0x10FFFF }
+    ensures run { (from : ℕ) → IsPiece (P.map_of pieces.now) from piece → IsRun (P.map_of pieces.now) from result.0 }
+    ensures small { result.0.last ≤ 0x10FFFF }
+    ensures behind { IsNext (P.map_of pieces.now) (result.0.last + 1) result.1 }
+{
+    let mut run = piece;
+    while let Some(next) = pieces.piece(run.last + 1) {
+        if next.first != run.last + 1 {
+            return (run, Some(next));
+        }
+        if u32::from(next.glyph) != u32::from(run.glyph) + (next.first - run.first) {
+            return (run, Some(next));
+        }
+        run.last = next.last;
+    }
+    (run, None)
+}
+
 /// The run that begins at the least mapped code not below `from`.
 pub fn next_run<P: Pieces>(pieces: &P, from: u32) -> Option<Run>
     ensures { MatchOption result (NoRun (P.map_of pieces.now) from) (IsRun (P.map_of pieces.now) from) }
 {
-    let mut run = pieces.piece(from)?;
-    while let Some(next) = pieces.piece(run.last + 1) {
-        if next.first != run.last + 1 {
-            return Some(run);
-        }
-        if u32::from(next.glyph) != u32::from(run.glyph) + (next.first - run.first) {
-            return Some(run);
-        }
-        run.last = next.last;
-    }
+    let piece = pieces.piece(from)?;
+    let (run, _) = run_of(pieces, piece);
     Some(run)
 }
 

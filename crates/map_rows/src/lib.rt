@@ -12,3 +12,5 @@ mod groups;
 mod plain;
 #[cfg(test)]
 mod segments;
+#[cfg(test)]
+mod wanted_sets;

@@ -1,18 +1,6 @@
-use Rattle.std.proofs.Common.{arith, sym, ◌∙◌, ◌+◌}
-use Rattle.font_map.proofs.PieceLemmas.{stretch_none, stretch_same}
-use Rattle.font_map.proofs.SegmentLemmas.{glyph_above, segment_ends, segment_same, segments_none}
+use Rattle.std.proofs.Common.{arith}
+use Rattle.font_map.proofs.SegmentLemmas.{none_above}
 use Rattle.font_map.proofs.format4.stretch_of_segments.Goals as goal
 
 pub returns-then-from-gt65535-clause-found : goal.returns-then-from-gt65535-clause-found
-returns-then-from-gt65535-clause-found c = stretch_none _ _ _ _ (λ code x y. glyph_above _ code (omega (arith, x)))
-
-pub returns-in-Some-clause-order : goal.returns-in-Some-clause-order
-returns-in-Some-clause-order c = omega (arith, c.in-Some.ensures.ends)
-
-pub returns-in-Some-clause-found : goal.returns-in-Some-clause-found
-returns-in-Some-clause-found c =
-    stretch_same _ _ _ _ _ _ (segment_same _ _ (c.from.result + 1) c.in-Some.segment (omega arith) (omega arith) (sym c.find_segment.ensures.value ∙ c.in-Some.is))
-    (λ code x. segment_ends _ c.in-Some.segment (c.from.result + 1) code (omega arith) x) c.clip_segment.ensures
-
-pub returns-in-None-clause-found : goal.returns-in-None-clause-found
-returns-in-None-clause-found c = stretch_none _ _ _ _ (λ code x y. segments_none _ _ (sym c.find_segment.ensures.value ∙ c.in-None.is) code x)
+returns-then-from-gt65535-clause-found c = λ code x y. none_above _ _ _ (omega arith) code x

@@ -1,10 +1,10 @@
-use Rattle.font_map.proofs.MapLemmas.{restricted-map, restricted-restricted, restricted-united, united-map, united-restricted, united-same, united-swapped, united-united}
+use Rattle.font_map.proofs.MapLemmas.{restricted_map, restricted-restricted, restricted-united, united-map, united-restricted, united-same, united-swapped, united-united}
 use Rattle.font_map.proofs.laws.map_laws.Goals as goal
 
 pub returns : goal.returns
 returns c =
     record {
-      restricted_is_map = restricted-map;
+      restricted_is_map = restricted_map;
       united_is_map = united-map;
       within_both = restricted-restricted;
       within_either = united-restricted;

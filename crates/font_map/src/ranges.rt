@@ -1,0 +1,132 @@
+//! Sorted ranges of codes, that neither overlap nor touch.
+ghost use Rattle.std.specs.Prelude.{◌≡◌, ◌+◌, ◌≤◌, ◌++◌, ◌∷◌, length, take, drop, MatchOption, OnErr, OnOk};
+ghost use Rattle.font_map.specs.Order.{IsPlace};
+ghost use Rattle.font_map.specs.Wanted.{AreSeparate, IsRow, NoRow, absorbed, member, range_end, with_range};
+
+use sfnt_bytes::NoMemory;
+use std::alloc::Allocator;
+
+/// The codes `first` to `last`.
+#[derive(Clone, Copy, Debug, PartialEq, Eq)]
+pub struct Range {
+    /// The first code.
+    pub first: u32,
+    /// The last code.
+    pub last: u32,
+}
+
+// The first range that ends at the code or above it, by halves.
+fn place_range(ranges: &[Range], code: u32) -> usize
+    requires { AreSeparate 0 ranges.now }
+    ensures { IsPlace (range_end ranges.now) (length ranges.now) code result }
+{
+    let mut low = 0;
+    let mut high = ranges.len();
+    while low < high {
+        let middle = low + (high - low) / 2;
+        if ranges[middle].last < code {
+            low = middle + 1;
+        } else {
+            high = middle;
+        }
+    }
+    low
+}
+
+/// Whether a code is in one of the ranges.
+pub(crate) fn has_code(ranges: &[Range], code: u32) -> bool
+    requires { AreSeparate 0 ranges.now }
+    ensures { result ≡ member ranges.now code }
+{
+    let i = place_range(ranges, code);
+    if i >= ranges.len() {
+        return false;
+    }
+    if code < ranges[i].first {
+        return false;
+    }
+    true
+}
+
+/// The first codes from one on that are in a range, in a row.
+pub(crate) fn row_from(ranges: &[Range], from: u32) -> Option<Range>
+    requires { AreSeparate 0 ranges.now }
+    ensures { MatchOption result (NoRow (member ranges.now) from) (IsRow (member ranges.now) from) }
+{
+    let i = place_range(ranges, from);
+    if i >= ranges.len() {
+        return None;
+    }
+    let range = ranges[i];
+    Some(Range {
+        first: from.max(range.first),
+        last: range.last,
+    })
+}
+
+// How many ranges end before another one, with a gap.
+#[tactic(auto, using(crate::proofs::AddingLemmas::with_range_at))]
+fn count_before(ranges: &[Range], range: Range) -> usize
+    requires { AreSeparate 0 ranges.now }
+    ensures within { result ≤ length ranges.now }
+    ensures rest { with_range range ranges.now ≡ take result ranges.now ++ absorbed range (drop result ranges.now) }
+{
+    place_range(ranges, range.first.saturating_sub(1))
+}
+
+// A range in one with those from `i` on that it overlaps or touches, and the end of these.
+#[tactic(auto, using(crate::proofs::AddingLemmas::absorbed_on, crate::proofs::AddingLemmas::absorbed_stop, crate::proofs::AddingLemmas::absorbed_end))]
+fn absorb(ranges: &[Range], i: usize, range: Range) -> (Range, usize)
+    requires { i ≤ length ranges.now }
+    ensures order { i ≤ result.1 }
+    ensures within { result.1 ≤ length ranges.now }
+    ensures rest { absorbed range (drop i ranges.now) ≡ result.0 ∷ drop result.1 ranges.now }
+{
+    let mut whole = range;
+    for j in i..ranges.len() {
+        let next = ranges[j];
+        if next.first.saturating_sub(1) > whole.last {
+            return (whole, j);
+        }
+        whole = Range {
+            first: whole.first.min(next.first),
+            last: whole.last.max(next.last),
+        };
+    }
+    (whole, ranges.len())
+}
+
+// Puts a range in the place of those from `i` to `j`: it asks for memory only where these are none.
+fn replace<A: Allocator>(
+    ranges: &mut Vec<Range, A>,
+    i: usize,
+    j: usize,
+    range: Range,
+) -> Result<(), NoMemory>
+    requires order { i ≤ j }
+    requires within { j ≤ length ranges.old.items }
+    ensures ok { OnOk result (ranges.new.items ≡ take i ranges.old.items ++ range ∷ drop j ranges.old.items) }
+    ensures err { OnErr result (ranges.new.items ≡ ranges.old.items) }
+{
+    if i == j {
+        ranges.insert(i, range).map_err(|_| NoMemory)?;
+        return Ok(());
+    }
+    ranges[i] = range;
+    drop(ranges.drain(i + 1..j));
+    Ok(())
+}
+
+/// Adds a range, in place.
+pub(crate) fn add_range<A: Allocator>(
+    ranges: &mut Vec<Range, A>,
+    range: Range,
+) -> Result<(), NoMemory>
+    requires { AreSeparate 0 ranges.old.items }
+    ensures ok { OnOk result (ranges.new.items ≡ with_range range ranges.old.items) }
+    ensures err { OnErr result (ranges.new.items ≡ ranges.old.items) }
+{
+    let i = count_before(ranges.as_slice(), range);
+    let (whole, j) = absorb(ranges.as_slice(), i, range);
+    replace(ranges, i, j, whole)
+}

@@ -1,0 +1,120 @@
+-- The content of a font for wanted codes.
+use Rattle.std.proofs.Common.{◌≡◌, ◌≢◌, ℕ, Bool, true, false, cond, nat_eq, ◌&&◌, ◌⊎◌, inl, inr, [], refl, sym, ◌∙◌, ap, subst, unwrap_or, Some}
+use Rattle.std.proofs.Math.Bool.{and_comm}
+use Rattle.std.proofs.Math.Path.{fun_ext}
+use Rattle.std.proofs.lemmas.Bool.{cases_eq, eqb-true}
+use Rattle.std.proofs.lemmas.Bool.Decides.{same_from_decides, Decides-like}
+use Rattle.sfnt_bytes.specs.Lines.{when}
+use Rattle.font_map.specs.CharacterMap.{restricted}
+use Rattle.font_map.proofs.MapLemmas.{restricted-restricted, same_cond}
+use Rattle.font_glyph.specs.Reach.{IsComponentOf, Reach}
+use Rattle.font_glyph.specs.Record.{IsRecord}
+use Rattle.font_theory.specs.Bytes.{padded}
+use Rattle.font_theory.specs.Content.{Content, Font, IsClosed, IsFont, content, everything, glyph_count, is_kept, is_seed, seen}
+use Rattle.font_theory.proofs.WantedLemmas.{IsKept, Reach-along, Reach-back, is_kept-decides, is_seed-code, is_seed-more, restricted-below, restricted-past}
+use Rattle.font_theory.proofs.PaddedLemmas.{IsRecord-nil, IsRecord-padded, component-alike, padded-padded}
+
+-- contents of equal parts are equal
+pub content-path : {K L : Content} → K.copied ≡ L.copied → K.head ≡ L.head → K.map ≡ L.map → K.outline ≡ L.outline → K ≡ L
+content-path c h m o = λ i. record { copied = c i; head = h i; map = m i; outline = o i }
+
+-- what is read back of a kept outline is the outline padded
+pub seen-kept : (F : Font) (A : ℕ → Bool) (g : ℕ) → is_kept F A g ≡ true → (seen (content F A)).outline g ≡ padded (F.outline g)
+seen-kept F A g e = ap (λ b. unwrap_or (when b (padded (F.outline g))) []) e
+
+-- what is read back of a cut of a font is a font
+pub IsFont-seen : (F : Font) (A : ℕ → Bool) → IsFont F → IsFont (seen (content F A))
+IsFont-seen F A ok = record {
+  mapped_below = restricted-below F A ok;
+  mapped_codes = restricted-past F A ok;
+  records = λ g. elim (is_kept F A g) as (λ b. IsRecord (glyph_count F.copied) (unwrap_or (when b (padded (F.outline g))) [])) [
+    | true ↦ IsRecord-padded (glyph_count F.copied) (F.outline g) (ok.records g)
+    | false ↦ IsRecord-nil (glyph_count F.copied)
+  ];
+  slots = ok.slots;
+  head_form = ok.head_form;
+  head = ok.head;
+  maxp = ok.maxp;
+  hhea = ok.hhea;
+  hmtx = ok.hmtx;
+}
+
+-- a content depends on the tables, on the map on the wanted codes, and on the padded outlines of what is kept
+module _ (F G : Font) (A B : ℕ → Bool) (okF : IsFont F) (okG : IsFont G)
+    (copied : F.copied ≡ G.copied) (head : F.head ≡ G.head) (map : restricted A F.map ≡ restricted B G.map)
+    (same : (g : ℕ) → IsKept G B g → padded (F.outline g) ≡ padded (G.outline g)) where
+  names_to : (g h : ℕ) → IsKept G B g → IsComponentOf (G.outline g) h → IsComponentOf (F.outline g) h
+  names_to g h r = component-alike (glyph_count F.copied) (G.outline g) (F.outline g) h (okF.records g) (sym (same g r))
+
+  names_from : (g h : ℕ) → IsKept G B g → IsComponentOf (F.outline g) h → IsComponentOf (G.outline g) h
+  names_from g h r = component-alike (glyph_count G.copied) (F.outline g) (G.outline g) h (okG.records g) (same g r)
+
+  kept_same : (g : ℕ) → is_kept F A g ≡ is_kept G B g
+  kept_same g =
+      let P : (ℕ → ℕ) → Type 0 = λ m. Reach F.outline (is_seed m) g in
+      same_from_decides {P = IsKept G B g} _ _
+      (Decides-like _ (λ r. Reach-back _ _ _ names_from g (subst P map r)) (λ r. subst P (sym map) (Reach-along _ _ _ _ (λ _ h. h) names_to g r)) (is_kept-decides F A okF g))
+      (is_kept-decides G B okG g)
+
+  outline_same : (g : ℕ) → (content F A).outline g ≡ (content G B).outline g
+  outline_same g =
+      ap (λ b. when b (padded (F.outline g))) (kept_same g) ∙ go (is_kept G B g) (λ e. same g ((is_kept-decides G B okG g).0 e))
+    where
+      go : (b : Bool) → (b ≡ true → padded (F.outline g) ≡ padded (G.outline g)) → when b (padded (F.outline g)) ≡ when b (padded (G.outline g))
+      go true h = ap Some (h refl)
+      go false h = refl
+
+  pub content-same : content F A ≡ content G B
+  content-same = content-path copied head map (fun_ext outline_same)
+
+module _ (F : Font) (A B : ℕ → Bool) (ok : IsFont F) where
+  restricted_less : (c : ℕ) → (restricted (λ x. A x && B x) F.map c ≡ 0) ⊎ (restricted (λ x. A x && B x) F.map c ≡ restricted A F.map c)
+  restricted_less c = go (A c) (B c)
+    where
+      go : (a b : Bool) → (cond (a && b) (F.map c) 0 ≡ 0) ⊎ (cond (a && b) (F.map c) 0 ≡ cond a (F.map c) 0)
+      go true true = inr refl
+      go true false = inl refl
+      go false b = inl refl
+
+  -- fewer wanted codes keep fewer glyphs
+  pub IsKept-less : (g : ℕ) → IsKept F (λ c. A c && B c) g → IsKept F A g
+  IsKept-less = Reach-along _ _ _ _ (is_seed-more _ _ (restricted-past F A ok) restricted_less) (λ g h r c. c)
+
+pub seen-reached : (F : Font) (A : ℕ → Bool) → IsFont F → (g : ℕ) → IsKept F A g → (seen (content F A)).outline g ≡ padded (F.outline g)
+seen-reached F A ok g r = seen-kept F A g ((is_kept-decides F A ok g).1 r)
+
+-- a cut of a cut is a cut for the codes in both
+pub content-seen : (F : Font) (A B : ℕ → Bool) → IsFont F → content (seen (content F A)) B ≡ content F (λ c. A c && B c)
+content-seen F A B ok =
+    content-same _ _ _ _ (IsFont-seen F A ok) ok refl refl
+    (restricted-restricted B A F.map ∙ ap (λ (w : ℕ → Bool). restricted w F.map) (fun_ext (λ c. and_comm (B c) (A c))))
+    (λ g r. ap padded (seen-reached F A ok g (IsKept-less F A B ok g r)) ∙ padded-padded (F.outline g))
+
+and_everything : (A : ℕ → Bool) → (λ c. A c && everything c) ≡ A
+and_everything A = fun_ext (λ c. and_comm (A c) true)
+
+-- each content of a font is closed
+pub IsClosed-content : (F : Font) (A : ℕ → Bool) → IsFont F → IsClosed (content F A)
+IsClosed-content F A ok = record {
+  font = IsFont-seen F A ok;
+  closed = content-seen F A everything ok ∙ ap (content F) (and_everything A);
+}
+
+-- only the wanted codes that are mapped count
+pub content-mapped : (F : Font) (A B : ℕ → Bool) → IsFont F → ((c : ℕ) → F.map c ≢ 0 → A c ≡ B c) → content F A ≡ content F B
+content-mapped F A B ok h = content-same F F A B ok ok refl refl (fun_ext (λ c. go c (cases_eq (F.map c) 0))) (λ _ _. refl)
+  where
+    go : (c : ℕ) → ((F.map c ≡ 0) ⊎ (F.map c ≡ 0 → ⊥)) → restricted A F.map c ≡ restricted B F.map c
+    go c (inl e) = rw e (same_cond (A c) 0 ∙ sym (same_cond (B c) 0))
+    go c (inr n) = ap (λ b. cond b (F.map c) 0) (h c n)
+
+-- a wanted code keeps its glyph
+pub wanted-map : (F : Font) (A : ℕ → Bool) (c : ℕ) → A c ≡ true → (content F A).map c ≡ F.map c
+wanted-map F A c h = ap (λ b. cond b (F.map c) 0) h
+
+-- and what that glyph leads to is kept
+pub IsKept-wanted : (F : Font) (A : ℕ → Bool) → IsFont F → (c : ℕ) → A c ≡ true → (g : ℕ) → Reach F.outline (nat_eq (F.map c)) g → IsKept F A g
+IsKept-wanted F A ok c h =
+    Reach-along _ _ _ _
+    (λ x e. subst (λ (y : ℕ). is_seed (restricted A F.map) y ≡ true) (wanted-map F A c h ∙ eqb-true (F.map c) x e) (is_seed-code _ (restricted-past F A ok) c))
+    (λ g x r p. p)

@@ -1,0 +1,183 @@
+-- The first difference of two contents.
+use Rattle.std.proofs.Common.{◌≡◌, ℕ, ◌<◌, ◌≤◌, Bool, true, false, cond, not, nat_eq, nat_lt, ◌&&◌, ◌⊎◌, inl, inr, List, [], ◌∷◌, find, get_or, refl, sym, ◌∙◌, ap, subst, arith, Option, Some, None}
+use Rattle.std.specs.List.{range_with_len}
+use Rattle.std.specs.Option.{option_eq, option_map}
+use Rattle.std.specs.Str.{bytes_eq}
+use Rattle.std.proofs.lemmas.Bool.{cases_eq, cases_lt, eqb-true, eq-eqb, le-leb, lt-ltb, ltb-true, ne_eqb, not-false, or_right}
+use Rattle.std.proofs.lemmas.Slice.Eq.{bytes_eq-Decides}
+use Rattle.sfnt_bytes.specs.Lines.{first_of_lines}
+use Rattle.font_map.proofs.OrderLemmas.{find_none}
+use Rattle.font_theory.specs.Content.{CODES, Content, IsClosed, everything, glyph_count, is_made, seen}
+use Rattle.font_theory.specs.Difference.{are_different, difference, is_different_code, is_different_glyph, is_different_table}
+use Rattle.font_theory.specs.Join.{Agree}
+use Rattle.font_theory.specs.declared.Difference.{Difference}
+use Rattle.font_theory.specs.declared.Difference.TheVariants.{AtCode, AtGlyph, AtTable}
+use Rattle.font_theory.proofs.HeldLemmas.{cases_option, some-held}
+use Rattle.font_theory.proofs.WantedLemmas.{IsKept-below}
+use Rattle.font_theory.proofs.LeastLemmas.{IsLeast, find-least, find-none}
+
+bytes_eq-self : (a : List ℕ) → bytes_eq a a ≡ true
+bytes_eq-self a = (bytes_eq-Decides a a).1 refl
+
+option_eq-tells : (o p : Option (List ℕ)) → option_eq bytes_eq o p ≡ true → o ≡ p
+option_eq-tells None None h = refl
+option_eq-tells None (Some b) h = cc
+option_eq-tells (Some a) None h = cc
+option_eq-tells (Some a) (Some b) h = ap Some ((bytes_eq-Decides a b).0 h)
+
+option_eq-self : (o : Option (List ℕ)) → option_eq bytes_eq o o ≡ true
+option_eq-self None = refl
+option_eq-self (Some a) = bytes_eq-self a
+
+-- the first of a slot, a code and a glyph
+abbrev line_of : Option ℕ → Option ℕ → Option ℕ → Option Difference
+line_of slot c g = first_of_lines (option_map AtTable slot ∷ option_map AtCode c ∷ option_map AtGlyph g ∷ [])
+
+line_of-none : (slot c g : Option ℕ) → line_of slot c g ≡ None → (slot ≡ None) × (c ≡ None) × (g ≡ None)
+line_of-none None None None h = (refl, refl, refl)
+line_of-none None None (Some g) h = cc
+line_of-none None (Some c) g h = cc
+line_of-none (Some slot) c g h = cc
+
+line_of-table : (slot c g : Option ℕ) (s : ℕ) → line_of slot c g ≡ Some (AtTable s) → slot ≡ Some s
+line_of-table (Some t) c g s h = cc
+line_of-table None (Some c) g s h = cc
+line_of-table None None (Some g) s h = cc
+line_of-table None None None s h = cc
+
+line_of-code : (slot c g : Option ℕ) (s : ℕ) → line_of slot c g ≡ Some (AtCode s) → (slot ≡ None) × (c ≡ Some s)
+line_of-code (Some t) c g s h = cc
+line_of-code None (Some c) g s h = let e : Some c ≡ Some s = cc in (refl, e)
+line_of-code None None (Some g) s h = cc
+line_of-code None None None s h = cc
+
+line_of-glyph : (slot c g : Option ℕ) (s : ℕ) → line_of slot c g ≡ Some (AtGlyph s) → (slot ≡ None) × (c ≡ None) × (g ≡ Some s)
+line_of-glyph (Some t) c g s h = cc
+line_of-glyph None (Some c) g s h = cc
+line_of-glyph None None (Some g) s h = let e : Some g ≡ Some s = cc in (refl, refl, e)
+line_of-glyph None None None s h = cc
+
+-- a difference is the least of its kind, and there is none of the kinds before it
+pub difference-table : (K L : Content) (slot : ℕ) → difference K L ≡ Some (AtTable slot) → IsLeast (is_different_table K L) 0 16 slot
+unfolding difference
+difference-table K L slot h = find-least (is_different_table K L) 16 slot (line_of-table _ _ _ slot h)
+
+pub difference-code : (K L : Content) (c : ℕ) → difference K L ≡ Some (AtCode c)
+    → ((slot : ℕ) → slot < 16 → is_different_table K L slot ≡ false) × IsLeast (is_different_code K L) 0 CODES c
+unfolding difference
+difference-code K L c h =
+    let w = line_of-code _ _ _ c h in
+    ((λ slot low. find-none (is_different_table K L) 16 slot w.0 low), find-least (is_different_code K L) CODES c w.1)
+
+pub difference-glyph : (K L : Content) (g : ℕ) → difference K L ≡ Some (AtGlyph g)
+    → ((slot : ℕ) → slot < 16 → is_different_table K L slot ≡ false) × ((c : ℕ) → c < CODES → is_different_code K L c ≡ false)
+    × IsLeast (is_different_glyph K L) 0 (glyph_count K.copied) g
+unfolding difference
+difference-glyph K L g h =
+    let w = line_of-glyph _ _ _ g h in (
+      (λ slot low. find-none (is_different_table K L) 16 slot w.0 low),
+      (λ c low. find-none (is_different_code K L) CODES c w.1 low),
+      find-least (is_different_glyph K L) (glyph_count K.copied) g w.2,
+    )
+
+-- where a test finds no difference
+same_head : (K L : Content) → is_different_table K L 6 ≡ false → K.head ≡ L.head
+unfolding is_different_table
+same_head K L h = (bytes_eq-Decides K.head L.head).0 (not-false _ h)
+
+same_table : (K L : Content) (slot : ℕ) → (slot ≡ 6 → ⊥) → is_different_table K L slot ≡ false → K.copied slot ≡ L.copied slot
+unfolding is_different_table
+same_table K L slot other h =
+    let f = ne_eqb slot 6 other in
+    let d : not (option_eq bytes_eq (K.copied slot) (L.copied slot)) ≡ false = rw f at h in
+    option_eq-tells _ _ (not-false _ d)
+
+same_code : (K L : Content) (c : ℕ) → is_different_code K L c ≡ false → 0 < K.map c → 0 < L.map c → K.map c ≡ L.map c
+unfolding is_different_code
+same_code K L c h some also =
+    let t = lt-ltb 0 (K.map c) some in
+    let u = lt-ltb 0 (L.map c) also in
+    let d : not (nat_eq (K.map c) (L.map c)) ≡ false = rw (t, u) at h in
+    eqb-true _ _ (not-false _ d)
+
+same_glyph : (K L : Content) (g : ℕ) (a b : List ℕ) → is_different_glyph K L g ≡ false → K.outline g ≡ Some a → L.outline g ≡ Some b → a ≡ b
+unfolding is_different_glyph
+same_glyph K L g a b h ea eb =
+    let d : not (bytes_eq a b) ≡ false = (λ i. are_different (sym ea i) (sym eb i)) ∙ h in
+    (bytes_eq-Decides a b).0 (not-false _ d)
+
+-- where there is none to find
+table_same : (K L : Content) (slot : ℕ) → K.head ≡ L.head → K.copied slot ≡ L.copied slot → is_different_table K L slot ≡ false
+unfolding is_different_table
+table_same K L slot head copied =
+    elim (nat_eq slot 6) as (λ b. cond b (not (bytes_eq K.head L.head)) (not (option_eq bytes_eq (K.copied slot) (L.copied slot))) ≡ false) [
+      | true ↦ ap not ((bytes_eq-Decides K.head L.head).1 head)
+      | false ↦ ap not (subst (λ x. option_eq bytes_eq (K.copied slot) x ≡ true) copied (option_eq-self (K.copied slot)))
+    ]
+
+code_same : (K L : Content) (c : ℕ) → (0 < K.map c → 0 < L.map c → K.map c ≡ L.map c) → is_different_code K L c ≡ false
+unfolding is_different_code
+code_same K L c h = go (nat_lt 0 (K.map c)) (nat_lt 0 (L.map c)) refl refl
+  where
+    go : (a b : Bool) → nat_lt 0 (K.map c) ≡ a → nat_lt 0 (L.map c) ≡ b → (a && (b && not (nat_eq (K.map c) (L.map c)))) ≡ false
+    go false b x y = refl
+    go true false x y = refl
+    go true true x y = ap not (eq-eqb _ _ (h (ltb-true 0 (K.map c) x) (ltb-true 0 (L.map c) y)))
+
+glyph_same : (K L : Content) (g : ℕ) → ((a b : List ℕ) → K.outline g ≡ Some a → L.outline g ≡ Some b → a ≡ b) → is_different_glyph K L g ≡ false
+unfolding is_different_glyph
+glyph_same K L g h = go (K.outline g) (L.outline g) refl refl
+  where
+    go : (o p : Option (List ℕ)) → K.outline g ≡ o → L.outline g ≡ p → are_different o p ≡ false
+    go None None x y = refl
+    go None (Some b) x y = refl
+    go (Some a) None x y = refl
+    go (Some a) (Some b) x y = ap not ((bytes_eq-Decides a b).1 (h a b x y))
+
+-- the slots that a cut makes anew
+made_past : (slot : ℕ) → 16 ≤ slot → is_made slot ≡ true
+made_past slot past = or_right _ _ (le-leb 16 slot past)
+
+module _ (K L : Content) (okK : IsClosed K) (okL : IsClosed L) where
+  both_none : (slot : ℕ) → is_made slot ≡ true → K.copied slot ≡ L.copied slot
+  both_none slot made = okK.font.slots slot made ∙ sym (okL.font.slots slot made)
+
+  pub Agree-from_none : difference K L ≡ None → Agree K L
+  unfolding difference
+  Agree-from_none h =
+      let w : (find (is_different_table K L) (range_with_len 0 16) ≡ None) × (find (is_different_code K L) (range_with_len 0 CODES) ≡ None)
+      × (find (is_different_glyph K L) (range_with_len 0 (glyph_count K.copied)) ≡ None) = line_of-none _ _ _ h in
+      record {
+        head = same_head K L (find-none (is_different_table K L) 16 6 w.0 (omega arith));
+        copied = λ slot. elim (cases_lt slot 16) [
+          | inl low ↦ elim (cases_eq slot 6) [
+            | inl e ↦ both_none slot (subst (λ (x : ℕ). is_made x ≡ true) (sym e) refl)
+            | inr other ↦ same_table K L slot other (find-none (is_different_table K L) 16 slot w.0 low)
+          ]
+          | inr past ↦ both_none slot (made_past slot past)
+        ];
+        map = λ c some also. elim (cases_lt c CODES) [
+          | inl low ↦ same_code K L c (find-none (is_different_code K L) CODES c w.1 low) some also
+          | inr past ↦ let none = okK.font.mapped_codes c past in absurd (omega (arith, none, some))
+        ];
+        outline = λ g a b ea eb.
+            let low : g < glyph_count K.copied = IsKept-below (seen K) everything okK.font g (some-held K okK g a ea) in
+            same_glyph K L g a b (find-none (is_different_glyph K L) (glyph_count K.copied) g w.2 low) ea eb;
+      }
+
+  pub none_from-Agree : Agree K L → difference K L ≡ None
+  unfolding difference
+  none_from-Agree agree =
+      let t = find_none (is_different_table K L) 0 (range_with_len 0 16) (λ k low. let slot = get_or (range_with_len 0 16) k 0 in table_same K L slot agree.head (agree.copied slot)) in
+      let c = find_none (is_different_code K L) 0 (range_with_len 0 CODES) (λ k low. let x = get_or (range_with_len 0 CODES) k 0 in code_same K L x (agree.map x)) in
+      let g = find_none (is_different_glyph K L) 0 (range_with_len 0 (glyph_count K.copied))
+      (λ k low. let x = get_or (range_with_len 0 (glyph_count K.copied)) k 0 in glyph_same K L x (agree.outline x)) in
+      λ i. line_of (t i) (c i) (g i)
+
+  -- whether they agree is decided
+  pub Agree-decided : Agree K L ⊎ (¬ Agree K L)
+  Agree-decided = go (cases_option (difference K L))
+    where
+      go : ((difference K L ≡ None) ⊎ ((d : Difference) × (difference K L ≡ Some d))) → Agree K L ⊎ (¬ Agree K L)
+      go (inl e) = inl (Agree-from_none e)
+      go (inr w) = inr (λ a. let n : None ≡ Some w.0 = sym (none_from-Agree a) ∙ w.1 in cc)

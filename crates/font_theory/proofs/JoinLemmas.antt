@@ -1,0 +1,254 @@
+-- Contents that agree, and their union.
+use Rattle.std.proofs.Common.{◌≡◌, ℕ, ◌<◌, ◌≤◌, Bool, true, false, cond, nat_eq, nat_lt, ◌||◌, ◌⊎◌, inl, inr, List, [], refl, sym, ◌∙◌, ap, subst, unwrap_or, Option, Some, None, arith}
+use Rattle.std.proofs.Math.Path.{fun_ext}
+use Rattle.std.specs.Option.{option_or}
+use Rattle.std.proofs.lemmas.Bool.{cases_lt, false_from_ne_true}
+use Rattle.std.proofs.lemmas.Bool.Decides.{same_from_decides, Decides-like, Decides-or, nat_tests}
+use Rattle.sfnt_bytes.specs.Lines.{when}
+use Rattle.font_map.specs.CharacterMap.{is_mapped, restricted, united}
+use Rattle.font_map.proofs.MapLemmas.{united-restricted, united-same, united-some, united-swapped}
+use Rattle.font_glyph.specs.Reach.{IsComponentOf}
+use Rattle.font_glyph.specs.Reach.Reach.{seed, part}
+use Rattle.font_glyph.specs.Record.{IsRecord}
+use Rattle.font_theory.specs.Bytes.{padded}
+use Rattle.font_theory.specs.Content.{Content, Font, IsClosed, IsFont, content, everything, glyph_count, is_kept, is_seed, seen}
+use Rattle.font_theory.specs.Cut.{either}
+use Rattle.font_theory.specs.Join.{Agree, both}
+use Rattle.font_theory.proofs.ContentLemmas.{content-path, content-same}
+use Rattle.font_theory.proofs.HeldLemmas.{IsHeld, cases_option, held-some, some-held, some-padded}
+use Rattle.font_theory.proofs.WantedLemmas.{IsKept, Reach-along, is_kept-decides, is_seed-code, is_seed-more, is_seed-tells, is_seed-zero, restricted-past}
+
+pub Agree-sym : (K L : Content) → Agree K L → Agree L K
+Agree-sym K L h = record {
+  copied = λ slot. sym (h.copied slot);
+  head = sym h.head;
+  map = λ c x y. sym (h.map c y x);
+  outline = λ g a b x y. sym (h.outline g b a y x);
+}
+
+pub Agree-self : (K : Content) → Agree K K
+Agree-self K = record {
+  copied = λ _. refl;
+  head = refl;
+  map = λ _ _ _. refl;
+  outline = λ g a b p q. let e : Some a ≡ Some b = sym p ∙ q in cc;
+}
+
+or_same : (o : Option (List ℕ)) → option_or o o ≡ o
+or_same None = refl
+or_same (Some b) = refl
+
+pub both-self : (K : Content) → both K K ≡ K
+both-self K = content-path refl refl (united-same K.map) (fun_ext (λ g. or_same (K.outline g)))
+
+module _ (K L : Content) (agree : Agree K L) where
+  outline_swapped : (g : ℕ) → (both K L).outline g ≡ (both L K).outline g
+  outline_swapped g = go (K.outline g) (L.outline g) refl refl
+    where
+      go : (o p : Option (List ℕ)) → K.outline g ≡ o → L.outline g ≡ p → option_or o p ≡ option_or p o
+      go None None x y = refl
+      go None (Some b) x y = refl
+      go (Some a) None x y = refl
+      go (Some a) (Some b) x y = ap Some (agree.outline g a b x y)
+
+  pub both-swapped : both K L ≡ both L K
+  both-swapped = content-path (fun_ext agree.copied) agree.head (united-swapped K.map L.map agree.map) (fun_ext outline_swapped)
+
+pub in_left : (K L : Content) (g : ℕ) (b : List ℕ) → K.outline g ≡ Some b → (both K L).outline g ≡ Some b
+in_left K L g b e = ap (λ o. option_or o (L.outline g)) e
+
+-- what is said of both maps is said of their union, and so of the outlines
+both-map : (K L : Content) (P : ℕ → Type 0) (c : ℕ) → P (K.map c) → P (L.map c) → P ((both K L).map c)
+both-map K L P c x y = elim (nat_eq (K.map c) 0) as (λ b. P (cond b (L.map c) (K.map c))) [ true ↦ y | false ↦ x ]
+
+both-outline : (K L : Content) (P : List ℕ → Type 0) (g : ℕ) → P ((seen K).outline g) → P ((seen L).outline g) → P ((seen (both K L)).outline g)
+both-outline K L P g x y = go (K.outline g) x
+  where
+    go : (o : Option (List ℕ)) → P (unwrap_or o []) → P (unwrap_or (option_or o (L.outline g)) [])
+    go None _ = y
+    go (Some b) x' = x'
+
+pub IsFont-both : (K L : Content) → IsClosed K → IsClosed L → Agree K L → IsFont (seen (both K L))
+IsFont-both K L okK okL agree =
+    let n : glyph_count L.copied ≡ glyph_count K.copied = sym (ap glyph_count (fun_ext agree.copied)) in
+    record {
+      mapped_below = λ c. both-map K L (λ g. g < glyph_count K.copied) c (okK.font.mapped_below c) (rw n at okL.font.mapped_below c);
+      mapped_codes = λ c past. both-map K L (λ g. g ≡ 0) c (okK.font.mapped_codes c past) (okL.font.mapped_codes c past);
+      records = λ g. both-outline K L (IsRecord (glyph_count K.copied)) g (okK.font.records g) (rw n at okL.font.records g);
+      slots = okK.font.slots;
+      head_form = okK.font.head_form;
+      head = okK.font.head;
+      maxp = okK.font.maxp;
+      hhea = okK.font.hhea;
+      hmtx = okK.font.hmtx;
+    }
+
+own_code : (x y : ℕ) → cond (nat_lt 0 x) (cond (nat_eq x 0) y x) 0 ≡ x
+own_code x y = grind (arith, nat_tests)
+
+restricted-own : (m k : ℕ → ℕ) → restricted (is_mapped m) (united m k) ≡ m
+restricted-own m k = fun_ext (λ c. own_code (m c) (k c))
+
+module _ (K L : Content) (okK : IsClosed K) (okL : IsClosed L) (agree : Agree K L) where
+  seen-left : (g : ℕ) → IsHeld K g → (seen (both K L)).outline g ≡ (seen K).outline g
+  seen-left g r =
+      let w = held-some K okK g r in
+      ap (λ o. unwrap_or o []) (in_left K L g w.0 w.1) ∙ sym (ap (λ o. unwrap_or o []) w.1)
+
+  -- the union gives its first part back
+  pub content-left : content (seen (both K L)) (is_mapped K.map) ≡ K
+  content-left =
+      content-same _ (seen K) _ everything (IsFont-both K L okK okL agree) okK.font refl refl (restricted-own K.map L.map)
+      (λ g r. ap padded (seen-left g r))
+      ∙ okK.closed
+
+pub content-right : (K L : Content) → IsClosed K → IsClosed L → Agree K L → content (seen (both K L)) (is_mapped L.map) ≡ L
+content-right K L okK okL agree =
+    ap (λ C. content (seen C) (is_mapped L.map)) (both-swapped K L agree) ∙ content-left L K okL okK (Agree-sym K L agree)
+
+IsHeld-left : (K L : Content) → IsClosed K → IsClosed L → Agree K L → (g : ℕ) → IsHeld K g → IsHeld (both K L) g
+IsHeld-left K L okK okL agree =
+    Reach-along _ _ _ _
+    (is_seed-more _ _ (IsFont-both K L okK okL agree).mapped_codes (λ c. go c (cases_lt 0 (K.map c))))
+    (λ g h r p. subst (λ (b : List ℕ). IsComponentOf b h) (sym (seen-left K L okK okL agree g r)) p)
+  where
+    go : (c : ℕ) → ((0 < K.map c) ⊎ (K.map c ≤ 0)) → (K.map c ≡ 0) ⊎ (K.map c ≡ (both K L).map c)
+    go c (inl some) = inr (sym (united-some K.map L.map c some))
+    go c (inr none) = inl (omega arith)
+
+IsHeld-right : (K L : Content) → IsClosed K → IsClosed L → Agree K L → (g : ℕ) → IsHeld L g → IsHeld (both K L) g
+IsHeld-right K L okK okL agree g r =
+    subst (λ C. IsHeld C g) (sym (both-swapped K L agree)) (IsHeld-left L K okL okK (Agree-sym K L agree) g r)
+
+-- what the union's codes reach is reached in one of its parts
+IsHeld-split : (K L : Content) → IsClosed K → IsClosed L → Agree K L → (g : ℕ) → IsHeld (both K L) g → IsHeld K g ⊎ IsHeld L g
+IsHeld-split K L okK okL agree g (seed h) =
+    elim (is_seed-tells _ g h) [
+      | inl e ↦ inl (seed (subst (λ (x : ℕ). is_seed K.map x ≡ true) (sym e) (is_seed-zero K.map)))
+      | inr w ↦
+          elim (both-map K L (λ x. IsHeld K x ⊎ IsHeld L x) w.0
+          (inl (seed (is_seed-code K.map okK.font.mapped_codes w.0)))
+          (inr (seed (is_seed-code L.map okL.font.mapped_codes w.0)))) [
+            | inl x ↦ inl (subst (λ (y : ℕ). IsHeld K y) w.1 x)
+            | inr x ↦ inr (subst (λ (y : ℕ). IsHeld L y) w.1 x)
+          ]
+    ]
+IsHeld-split K L okK okL agree g (part {s = s} r p) =
+    elim (IsHeld-split K L okK okL agree s r) [
+      | inl h ↦ inl (part h (subst (λ (b : List ℕ). IsComponentOf b g) (seen-left K L okK okL agree s h) p))
+      | inr h ↦
+          let e : (seen (both K L)).outline s ≡ (seen L).outline s =
+          ap (λ C. (seen C).outline s) (both-swapped K L agree) ∙ seen-left L K okL okK (Agree-sym K L agree) s h in
+          inr (part h (subst (λ (b : List ℕ). IsComponentOf b g) e p))
+    ]
+
+module _ (K L : Content) (okK : IsClosed K) (okL : IsClosed L) (agree : Agree K L) where
+  abbrev union : Content
+  union = both K L
+
+  union-held : (g : ℕ) (b : List ℕ) → union.outline g ≡ Some b → IsHeld union g × (padded b ≡ b)
+  union-held g b e = go (cases_option (K.outline g))
+    where
+      go : ((K.outline g ≡ None) ⊎ ((a : List ℕ) × (K.outline g ≡ Some a))) → IsHeld union g × (padded b ≡ b)
+      go (inl n) =
+          let l : L.outline g ≡ Some b = sym (ap (λ o. option_or o (L.outline g)) n) ∙ e in
+          (IsHeld-right K L okK okL agree g (some-held L okL g b l), some-padded L okL g b l)
+      go (inr w) =
+          let k : Some w.0 ≡ Some b = sym (in_left K L g w.0 w.1) ∙ e in
+          let q : w.0 ≡ b = cc in
+          (IsHeld-left K L okK okL agree g (some-held K okK g w.0 w.1), subst (λ (x : List ℕ). padded x ≡ x) q (some-padded K okK g w.0 w.1))
+
+  held-union : (g : ℕ) → IsHeld union g → union.outline g ≡ None → ⊥
+  held-union g r e =
+      elim (IsHeld-split K L okK okL agree g r) [
+        | inl h ↦ let w = held-some K okK g h in let n : Some w.0 ≡ None = sym (in_left K L g w.0 w.1) ∙ e in cc
+        | inr h ↦
+            let w = held-some L okL g h in
+            let n : Some w.0 ≡ None = sym (in_left L K g w.0 w.1) ∙ sym (ap (λ C. C.outline g) (both-swapped K L agree)) ∙ e in cc
+      ]
+
+  -- the union of closed contents is closed
+  pub IsClosed-both : IsClosed union
+  IsClosed-both =
+      record {
+        font = IsFont-both K L okK okL agree;
+        closed = content-path refl refl refl (fun_ext (λ g. go g (cases_option (union.outline g))));
+      }
+    where
+      go : (g : ℕ) → ((union.outline g ≡ None) ⊎ ((b : List ℕ) × (union.outline g ≡ Some b))) → when (is_kept (seen union) everything g) (padded (unwrap_or (union.outline g) [])) ≡ union.outline g
+      go g (inl e) =
+          let f = false_from_ne_true (is_kept (seen union) everything g) (λ t. held-union g ((is_kept-decides (seen union) everything (IsFont-both K L okK okL agree) g).0 t) e) in
+          ap (λ x. when x (padded (unwrap_or (union.outline g) []))) f ∙ sym e
+      go g (inr w) =
+          let h = union-held g w.0 w.1 in
+          let t = (is_kept-decides (seen union) everything (IsFont-both K L okK okL agree) g).1 h.0 in
+          ap (λ x. when x (padded (unwrap_or (union.outline g) []))) t ∙ ap (λ o. Some (padded (unwrap_or o []))) w.1 ∙ ap Some h.1 ∙ sym w.1
+
+-- two contents of one font agree, and their union is its content for the codes of both
+module _ (F : Font) (A B : ℕ → Bool) (ok : IsFont F) where
+  pub Agree-content : Agree (content F A) (content F B)
+  Agree-content = record {
+    copied = λ _. refl;
+    head = refl;
+    map = λ c x y. same_map (A c) (B c) (F.map c) x y;
+    outline = λ g a b x y. same_outline (is_kept F A g) (is_kept F B g) (padded (F.outline g)) a b x y;
+  }
+    where
+      same_map : (a b : Bool) (x : ℕ) → 0 < cond a x 0 → 0 < cond b x 0 → cond a x 0 ≡ cond b x 0
+      same_map true true x h k = refl
+      same_map true false x h k = absurd (omega arith)
+      same_map false b x h k = absurd (omega arith)
+
+      same_outline : (a b : Bool) (o u v : List ℕ) → when a o ≡ Some u → when b o ≡ Some v → u ≡ v
+      same_outline true true o u v x y = cc
+      same_outline true false o u v x y = cc
+      same_outline false b o u v x y = cc
+
+  seeds_either : (g : ℕ) → is_seed (restricted (either A B) F.map) g ≡ true → (is_seed (restricted A F.map) g ≡ true) ⊎ (is_seed (restricted B F.map) g ≡ true)
+  seeds_either g h =
+      elim (is_seed-tells _ g h) [
+        | inl e ↦ inl (subst (λ (x : ℕ). is_seed (restricted A F.map) x ≡ true) (sym e) (is_seed-zero (restricted A F.map)))
+        | inr w ↦
+            elim (go (A w.0) (B w.0) (F.map w.0)) [
+              | inl e ↦ inl (subst (λ (x : ℕ). is_seed (restricted A F.map) x ≡ true) (sym e ∙ w.1) (is_seed-code _ (restricted-past F A ok) w.0))
+              | inr e ↦ inr (subst (λ (x : ℕ). is_seed (restricted B F.map) x ≡ true) (sym e ∙ w.1) (is_seed-code _ (restricted-past F B ok) w.0))
+            ]
+      ]
+    where
+      go : (a b : Bool) (x : ℕ) → (cond (a || b) x 0 ≡ cond a x 0) ⊎ (cond (a || b) x 0 ≡ cond b x 0)
+      go true b x = inl refl
+      go false b x = inr refl
+
+  kept-one : (g : ℕ) → IsKept F (either A B) g → IsKept F A g ⊎ IsKept F B g
+  kept-one g (seed h) = elim (seeds_either g h) [ inl e ↦ inl (seed e) | inr e ↦ inr (seed e) ]
+  kept-one g (part {s = s} r p) = elim (kept-one s r) [ inl h ↦ inl (part h p) | inr h ↦ inr (part h p) ]
+
+  kept-either : (g : ℕ) → IsKept F A g ⊎ IsKept F B g → IsKept F (either A B) g
+  kept-either g (inl h) = Reach-along _ _ _ _ (is_seed-more _ _ (restricted-past F (either A B) ok) (λ c. go (A c) (B c) (F.map c))) (λ _ _ _ p. p) g h
+    where
+      go : (a b : Bool) (x : ℕ) → (cond a x 0 ≡ 0) ⊎ (cond a x 0 ≡ cond (a || b) x 0)
+      go true b x = inr refl
+      go false b x = inl refl
+  kept-either g (inr h) = Reach-along _ _ _ _ (is_seed-more _ _ (restricted-past F (either A B) ok) (λ c. go (A c) (B c) (F.map c))) (λ _ _ _ p. p) g h
+    where
+      go : (a b : Bool) (x : ℕ) → (cond b x 0 ≡ 0) ⊎ (cond b x 0 ≡ cond (a || b) x 0)
+      go true true x = inr refl
+      go false true x = inr refl
+      go a false x = inl refl
+
+  is_kept-either : (g : ℕ) → (is_kept F A g || is_kept F B g) ≡ is_kept F (either A B) g
+  is_kept-either g =
+      same_from_decides {P = IsKept F (either A B) g} _ _
+      (Decides-like _ (kept-either g) (kept-one g) (Decides-or _ _ (is_kept-decides F A ok g) (is_kept-decides F B ok g)))
+      (is_kept-decides F (either A B) ok g)
+
+  pub both-content : both (content F A) (content F B) ≡ content F (either A B)
+  both-content = content-path refl refl (united-restricted A B F.map) (fun_ext outline_either)
+    where
+      go : (a b : Bool) (o : List ℕ) → option_or (when a o) (when b o) ≡ when (a || b) o
+      go true b o = refl
+      go false true o = refl
+      go false false o = refl
+
+      outline_either : (g : ℕ) → (both (content F A) (content F B)).outline g ≡ (content F (either A B)).outline g
+      outline_either g = go (is_kept F A g) (is_kept F B g) (padded (F.outline g)) ∙ ap (λ x. when x (padded (F.outline g))) (is_kept-either g)

@@ -1,0 +1,108 @@
+-- What an accepted font means to a cut, what a cut is made of, and what is read back of a cut. A table stands by its slot, the place of its tag in KEPT.
+use Rattle.std.specs.Prelude.{◌≡◌, ℕ, ◌<◌, ◌≤◌, nat_eq, nat_le, nat_lt, Bool, true, false, ◌||◌, List, [], length, if◌then◌else◌, Option, None, unwrap_or}
+use Rattle.sfnt_bytes.specs.Directory.{kept_tag, table_of}
+use Rattle.sfnt_bytes.specs.Lines.{when}
+use Rattle.font_tables.specs.Fields.{glyph_count_of, num_glyphs, number_of_h_metrics}
+use Rattle.font_tables.specs.Outlines.{outline_of}
+use Rattle.font_tables.specs.Refusals.{is_bad_head, is_bad_hhea, is_bad_hmtx, is_bad_maxp}
+use Rattle.font_tables.specs.Tables.{head_of}
+use Rattle.font_map.specs.CharacterMap.{restricted}
+use Rattle.font_glyph.specs.Reach.{any_below, reached}
+use Rattle.font_glyph.specs.Record.{IsRecord}
+use Rattle.font_glyph.specs.Union.{Records, record_in}
+use Rattle.font_file.specs.Font.{map_of}
+use Rattle.font_theory.specs.Bytes.{cut_head, padded}
+
+-- how many code points there are: 0 to 0x10FFFF
+unfoldable pub CODES : ℕ
+CODES = 0x110000
+
+-- what an accepted font means to a cut
+pub record Font : Type 0 where
+  pub copied : ℕ → Option (List ℕ)  -- by slot: the kept tables but `cmap`, `glyf`, `head` and `loca`
+  pub head : List ℕ  -- as a cut has it, with checksumAdjustment 0
+  pub map : ℕ → ℕ  -- 0: not mapped
+  pub outline : ℕ → List ℕ  -- [] past the last glyph
+
+-- what a cut is made of
+pub record Content : Type 0 where
+  pub copied : ℕ → Option (List ℕ)
+  pub head : List ℕ
+  pub map : ℕ → ℕ
+  pub outline : Records  -- None: not kept
+
+-- `cmap`, `glyf`, `head` and `loca`, which a cut makes anew, and what is no slot
+abbrev pub is_made : ℕ → Bool
+is_made slot = nat_eq slot 1 || nat_eq slot 5 || nat_eq slot 6 || nat_eq slot 9 || nat_le 16 slot
+
+-- the table in a slot, empty where there is none
+abbrev pub table_in_slot : (ℕ → Option (List ℕ)) → ℕ → List ℕ
+table_in_slot copied slot = unwrap_or (copied slot) []
+
+-- numGlyphs of `maxp`
+unfoldable pub glyph_count : (ℕ → Option (List ℕ)) → ℕ
+glyph_count copied = num_glyphs (table_in_slot copied 10)
+
+-- numberOfHMetrics of `hhea`
+unfoldable pub metric_count : (ℕ → Option (List ℕ)) → ℕ
+metric_count copied = number_of_h_metrics (table_in_slot copied 7)
+
+-- all codes
+abbrev pub everything : ℕ → Bool
+everything _ = true
+
+-- .notdef, or the glyph of a mapped code
+unfoldable pub is_seed : (ℕ → ℕ) → ℕ → Bool
+is_seed m g = nat_eq g 0 || any_below (λ c. nat_eq (m c) g) CODES
+
+-- a glyph is kept: a chain of components leads to it from .notdef, or from the glyph of a wanted code
+unfoldable pub is_kept : Font → (ℕ → Bool) → ℕ → Bool
+is_kept F wanted g = reached F.outline (is_seed (restricted wanted F.map)) (glyph_count F.copied) g
+
+-- the content of a font for the wanted codes
+abbrev pub content : Font → (ℕ → Bool) → Content
+content F wanted = record {
+  copied = F.copied;
+  head = F.head;
+  map = restricted wanted F.map;
+  outline = λ g. when (is_kept F wanted g) (padded (F.outline g));
+}
+
+-- what is read of the file of a content
+abbrev pub seen : Content → Font
+seen K = record { copied = K.copied; head = K.head; map = K.map; outline = record_in K.outline }
+
+-- what is read of a file
+abbrev pub font_of : List ℕ → Font
+font_of file = record {
+  copied = λ slot. if is_made slot then None else table_of file (kept_tag slot);
+  head = cut_head (head_of file);
+  map = map_of file;
+  outline = λ g. if nat_lt g (glyph_count_of file) then outline_of file g else [];
+}
+
+-- what holds of each font that is accepted
+pub record IsFont (F : Font) : Type 0 where
+  pub mapped_below : (c : ℕ) → F.map c < glyph_count F.copied
+  pub mapped_codes : (c : ℕ) → CODES ≤ c → F.map c ≡ 0
+  pub records : (g : ℕ) → IsRecord (glyph_count F.copied) (F.outline g)
+  pub slots : (slot : ℕ) → is_made slot ≡ true → F.copied slot ≡ None
+  pub head_form : cut_head F.head ≡ F.head
+  pub head : is_bad_head F.head ≡ false
+  pub maxp : is_bad_maxp (table_in_slot F.copied 10) ≡ false
+  pub hhea : is_bad_hhea (table_in_slot F.copied 7) (glyph_count F.copied) ≡ false
+  pub hmtx : is_bad_hmtx (table_in_slot F.copied 8) (metric_count F.copied) (glyph_count F.copied) ≡ false
+
+-- the content of a file in cut form: a font is read of it, of which it is the content for all codes
+pub record IsClosed (K : Content) : Type 0 where
+  pub font : IsFont (seen K)
+  pub closed : content (seen K) everything ≡ K
+
+-- what a writer needs of a content
+pub record IsWritable (K : Content) : Type 0 where
+  pub mapped_below : (c : ℕ) → K.map c < glyph_count K.copied
+  pub mapped_codes : (c : ℕ) → CODES ≤ c → K.map c ≡ 0
+  pub slots : (slot : ℕ) → is_made slot ≡ true → K.copied slot ≡ None
+  pub head_form : cut_head K.head ≡ K.head
+  pub head_size : 54 ≤ length K.head
+  pub past : (g : ℕ) → glyph_count K.copied ≤ g → K.outline g ≡ None

@@ -1,0 +1,75 @@
+-- Cuts and joins of files, and the order of files, over any reader and writer of files; and those of this program.
+use Rattle.std.specs.Prelude.{◌≡◌, ◌≢◌, ℕ, ◌≤◌, Bool, ◌&&◌, ◌||◌, ◌⊎◌, List, length, is_none, Option, None, Some}
+use Rattle.std.specs.Str.{bytes_eq}
+use Rattle.sfnt_bytes.specs.declared.directory.DirError.TheVariants.{FileTooLarge}
+use Rattle.sfnt_bytes.specs.declared.directory.TheConstants.{MAX_FILE}
+use Rattle.font_map.specs.CharacterMap.{is_mapped}
+use Rattle.font_file.specs.Font.{font_fault}
+use Rattle.font_file.specs.declared.font_error.FontError.{FontError}
+use Rattle.font_file.specs.declared.font_error.FontError.TheVariants.{Directory}
+use Rattle.font_theory.specs.Content.{Content, Font, IsClosed, IsFont, content, everything, font_of, seen}
+use Rattle.font_theory.specs.File.{file, first_form}
+use Rattle.font_theory.specs.Join.{Agree, both}
+
+-- a reader and a writer of files
+pub record Format : Type 0 where
+  pub fault : List ℕ → Option FontError  -- why a file is refused; None: it is accepted
+  pub font : List ℕ → Font  -- what an accepted file means
+  pub file : Content → List ℕ  -- what is written
+  pub old : Content → List ℕ  -- what was written before and is read as a cut, too; at first `file` once more
+  pub most : ℕ  -- the most bytes of a file
+
+-- X is a file of K
+abbrev pub Writes : Format → Content → List ℕ → Type 0
+Writes R K X = (R.file K ≡ X) ⊎ (R.old K ≡ X)
+
+-- what binds a reader and a writer
+pub record IsFormat (R : Format) : Type 0 where
+  pub is_font : (X : List ℕ) → R.fault X ≡ None → IsFont (R.font X)
+  pub accepted_size : (X : List ℕ) → R.fault X ≡ None → length X ≤ R.most
+  pub refused_size : (X : List ℕ) (error : FontError) → R.fault X ≡ Some error → error ≢ Directory FileTooLarge → length X ≤ R.most
+  pub reads_back : (K : Content) (X : List ℕ) → IsClosed K → Writes R K X → length X ≤ R.most → (R.fault X ≡ None) × (R.font X ≡ seen K)
+
+-- the cut of a file for the wanted codes
+abbrev pub cut : Format → List ℕ → (ℕ → Bool) → List ℕ
+cut R F wanted = R.file (content (R.font F) wanted)
+
+-- the content of a file for all codes
+abbrev pub whole : Format → List ℕ → Content
+whole R X = content (R.font X) everything
+
+-- X is in cut form: accepted, and the file of its own content
+pub record IsCut (R : Format) (X : List ℕ) : Type 0 where
+  pub accepted : R.fault X ≡ None
+  pub written : Writes R (whole R X) X
+
+-- an accepted file is in cut form
+unfoldable pub is_cut : Format → List ℕ → Bool
+is_cut R X = bytes_eq (R.file (whole R X)) X || bytes_eq (R.old (whole R X)) X
+
+-- the codes that a file maps, none where it is refused
+abbrev pub codes_of : Format → List ℕ → ℕ → Bool
+codes_of R X c = is_none (R.fault X) && is_mapped (R.font X).map c
+
+-- X is a cut of Z, for the codes of X
+pub record Under (R : Format) (X Z : List ℕ) : Type 0 where
+  pub accepted : R.fault Z ≡ None
+  pub written : Writes R (content (R.font Z) (codes_of R X)) X
+
+-- the file of both contents
+abbrev pub joined : Format → List ℕ → List ℕ → List ℕ
+joined R X Y = R.file (both (whole R X) (whole R Y))
+
+-- what two files need to be joined
+pub record CanJoin (R : Format) (X Y : List ℕ) : Type 0 where
+  pub first : IsCut R X
+  pub second : IsCut R Y
+  pub agree : Agree (whole R X) (whole R Y)
+
+-- the codes of either set
+abbrev pub either : (ℕ → Bool) → (ℕ → Bool) → ℕ → Bool
+either A B c = A c || B c
+
+-- the reader and the writer of this program
+unfoldable pub our_format : Format
+our_format = record { fault = font_fault; font = font_of; file = file first_form; old = file first_form; most = MAX_FILE }

@@ -1,0 +1,140 @@
+-- The one file of a content (OpenType 1.9, Organization of an OpenType Font; cmap, Format 12: Segmented coverage; loca; glyf).
+use Rattle.std.specs.Prelude.{ℕ, ◌+◌, ◌*◌, nat_eq, List, [], ◌∷◌, ◌++◌, length, map, if◌then◌else◌, Option, Some, sum}
+use Rattle.std.specs.List.{concat, flat_map, range_with_len}
+use Rattle.std.specs.Option.{option_map, option_map_or}
+use Rattle.sfnt_bytes.specs.Directory.{kept_tag}
+use Rattle.sfnt_bytes.specs.Lines.{present}
+use Rattle.sfnt_bytes.specs.SearchFields.{search_fields_of}
+use Rattle.sfnt_bytes.specs.Sums.{adjustment_of, checksum_of, without_field}
+use Rattle.sfnt_bytes.specs.declared.records.Entry.{Entry}
+use Rattle.sfnt_bytes.specs.declared.tag.Tag.{Tag}
+use Rattle.font_map.specs.Runs.{groups_from}
+use Rattle.font_map.specs.declared.runs.Run.{Run}
+use Rattle.font_glyph.specs.Union.{record_in}
+use Rattle.font_theory.specs.Bytes.{bytes16, bytes32, padded, with_adjustment}
+use Rattle.font_theory.specs.Content.{Content, glyph_count}
+
+-- startCharCode, endCharCode and startGlyphID of a group
+abbrev pub group_bytes : Run → List ℕ
+group_bytes run = bytes32 run.first ++ (bytes32 run.last ++ bytes32 run.glyph)
+
+-- a subtable of format 12: format, reserved, length, language, numGroups and the groups
+unfoldable pub subtable_bytes : List Run → List ℕ
+subtable_bytes runs =
+    bytes16 12 ++ (bytes16 0 ++ (bytes32 (16 + 12 * length runs) ++ (bytes32 0 ++ (bytes32 (length runs) ++ flat_map group_bytes runs))))
+
+-- `cmap`: version 0, and one record, 3/10, of a subtable right behind it
+unfoldable pub cmap_bytes : List Run → List ℕ
+cmap_bytes runs = bytes16 0 ++ (bytes16 1 ++ (bytes16 3 ++ (bytes16 10 ++ (bytes32 12 ++ subtable_bytes runs))))
+
+-- the groups that spell the map of a content
+unfoldable pub groups_of : Content → List Run
+groups_of K = groups_from K.map 0
+
+-- the outlines of n glyphs from one on, [] for one that is not kept
+abbrev pub outlines_from : Content → ℕ → ℕ → List (List ℕ)
+outlines_from K g n = map (record_in K.outline) (range_with_len g n)
+
+-- the outlines of all glyphs, in order
+unfoldable pub outlines_of : Content → List (List ℕ)
+outlines_of K = outlines_from K 0 (glyph_count K.copied)
+
+-- the offsets of outlines that stand end to end from one on, and that of their end
+abbrev pub offsets_from : ℕ → List (List ℕ) → List ℕ
+offsets_from at [] = at ∷ []
+offsets_from at (outline ∷ outlines) = at ∷ offsets_from (at + length outline) outlines
+
+-- `loca`, in its long form
+unfoldable pub loca_bytes : List (List ℕ) → List ℕ
+loca_bytes outlines = flat_map bytes32 (offsets_from 0 outlines)
+
+-- what a profile settles: the bytes of `cmap`, and what stands behind the outlines in `glyf`
+pub record Form : Type 0 where
+  pub cmap : List Run → List ℕ
+  pub behind : List ℕ → List ℕ
+
+-- the first profile
+unfoldable pub first_form : Form
+first_form = record { cmap = cmap_bytes; behind = λ _. [] }
+
+-- `glyf`: the outlines end to end
+abbrev pub glyf_bytes : Form → List (List ℕ) → List ℕ
+glyf_bytes form outlines = concat outlines ++ form.behind (concat outlines)
+
+-- a table that is written
+pub record Table : Type 0 where
+  pub tag : Tag
+  pub checksum : ℕ
+  pub bytes : List ℕ
+
+-- the bytes of the table in a slot, with this `head`
+unfoldable pub bytes_in_slot : Form → Content → List ℕ → ℕ → Option (List ℕ)
+bytes_in_slot form K head slot =
+    if nat_eq slot 1 then Some (form.cmap (groups_of K))
+    else if nat_eq slot 5 then Some (glyf_bytes form (outlines_of K))
+    else if nat_eq slot 6 then Some head
+    else if nat_eq slot 9 then Some (loca_bytes (outlines_of K))
+    else K.copied slot
+
+-- the checksum of the table in a slot: that of `head` is taken with checksumAdjustment 0
+abbrev pub checksum_in_slot : ℕ → List ℕ → ℕ
+checksum_in_slot slot bytes = if nat_eq slot 6 then checksum_of (without_field bytes 8) else checksum_of bytes
+
+-- the table in a slot, where there is one
+abbrev pub table_in : Form → Content → List ℕ → ℕ → Option Table
+table_in form K head slot =
+    option_map (λ bytes. record { tag = kept_tag slot; checksum = checksum_in_slot slot bytes; bytes = bytes }) (bytes_in_slot form K head slot)
+
+-- the tables in n slots from one on
+abbrev pub tables_from : Form → Content → List ℕ → ℕ → ℕ → List Table
+tables_from form K head slot n = present (map (table_in form K head) (range_with_len slot n))
+
+-- the records of tables that stand end to end from an offset on, each padded
+abbrev pub entries_at : ℕ → List Table → List Entry
+entries_at at [] = []
+entries_at at (table ∷ tables) =
+    record { tag = table.tag; checksum = table.checksum; offset = at; length = length table.bytes }
+    ∷ entries_at (at + length (padded table.bytes)) tables
+
+-- tableTag, checksum, offset and length of a record
+abbrev pub entry_bytes : Entry → List ℕ
+entry_bytes entry = entry.tag.0 ++ (bytes32 entry.checksum ++ (bytes32 entry.offset ++ bytes32 entry.length))
+
+-- searchRange, entrySelector and rangeShift for n tables
+abbrev pub search_bytes : ℕ → List ℕ
+search_bytes n = option_map_or (λ fields. bytes16 fields.0 ++ (bytes16 fields.1 ++ bytes16 fields.2)) (search_fields_of n) []
+
+-- sfntVersion 1.0, numTables and the search fields
+unfoldable pub header_bytes : ℕ → List ℕ
+header_bytes n = bytes32 0x00010000 ++ (bytes16 n ++ search_bytes n)
+
+-- the bytes of tables, each padded
+abbrev pub bodies_of : List Table → List ℕ
+bodies_of tables = flat_map (λ table. padded table.bytes) tables
+
+-- a file of tables: header, records and bodies
+unfoldable pub file_of : List Table → List ℕ
+file_of tables = header_bytes (length tables) ++ (flat_map entry_bytes (entries_at (12 + 16 * length tables) tables) ++ bodies_of tables)
+
+-- the file of a content with this `head`
+abbrev pub file_with : Form → Content → List ℕ → List ℕ
+file_with form K head = file_of (tables_from form K head 0 16)
+
+-- checksumAdjustment of its file, which is summed with that field 0
+unfoldable pub adjustment_in : Form → Content → ℕ
+adjustment_in form K = adjustment_of (checksum_of (file_with form K K.head))
+
+-- the file of a content
+unfoldable pub file : Form → Content → List ℕ
+file form K = file_with form K (with_adjustment (adjustment_in form K) K.head)
+
+-- the length of the table in a slot, padded
+abbrev pub padded_length : Option (List ℕ) → ℕ
+padded_length bytes = option_map_or (λ b. length (padded b)) bytes 0
+
+-- the length of the file of a content in the first profile: 12 bytes and a record for each of k tables; `cmap` of m groups; the kept outlines, padded; `loca`; and the other tables, padded
+unfoldable pub size_of : Content → ℕ
+size_of K =
+    let k = 4 + length (present (map K.copied (range_with_len 0 16))) in
+    12 + 16 * k + (28 + 12 * length (groups_of K)) + length (padded (concat (outlines_of K))) + 4 * (glyph_count K.copied + 1)
+    + length (padded K.head) + sum (map (λ slot. padded_length (K.copied slot)) (range_with_len 0 16))

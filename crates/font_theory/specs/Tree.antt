@@ -1,0 +1,62 @@
+-- Trees of joins, and what they come to.
+use Rattle.std.specs.Prelude.{◌≡◌, ℕ, zero, suc, ◌<◌, ◌≤◌, Bool, false, ◌||◌, ◌⊎◌, List, [], length, get_or}
+use Rattle.font_theory.specs.Cut.{CanJoin, Format, IsCut, cut, joined, whole}
+use Rattle.font_theory.specs.Join.{Agree}
+
+-- a tree of joins
+pub data JoinTree (A : Type 0) : Type 0 where
+  leaf : A → JoinTree A
+  node : JoinTree A → JoinTree A → JoinTree A
+
+-- v is the value of the tree
+abbrev pub Value : Format → JoinTree (List ℕ) → List ℕ → Type 0
+Value R (leaf x) v = v ≡ x
+Value R (node s t) v = (x : List ℕ) × (y : List ℕ) × Value R s x × Value R t y × CanJoin R x y × (v ≡ joined R x y)
+
+-- no value in the tree is too large
+abbrev pub IsSmall : Format → JoinTree (List ℕ) → Type 0
+IsSmall R (leaf x) = length x ≤ R.most
+IsSmall R (node s t) = IsSmall R s × IsSmall R t × ((v : List ℕ) → Value R (node s t) v → length v ≤ R.most)
+
+-- two files in cut form differ
+abbrev pub Clash : Format → List ℕ → List ℕ → Type 0
+Clash R x y = IsCut R x × IsCut R y × ¬ Agree (whole R x) (whole R y)
+
+-- the tree meets a difference
+abbrev pub Differs : Format → JoinTree (List ℕ) → Type 0
+Differs R (leaf x) = ⊥
+Differs R (node s t) = Differs R s ⊎ (Differs R t ⊎ ((x : List ℕ) × (y : List ℕ) × Value R s x × Value R t y × Clash R x y))
+
+-- a is taken in the tree
+abbrev pub Takes : {A : Type 0} → JoinTree A → A → Type 0
+Takes (leaf x) a = a ≡ x
+Takes (node s t) a = Takes s a ⊎ Takes t a
+
+-- file k of a list
+abbrev pub file_at : List (List ℕ) → ℕ → List ℕ
+file_at files k = get_or files k []
+
+-- the tree takes the files of a list, each at least once, and no others
+pub record IsOver (files : List (List ℕ)) (t : JoinTree (List ℕ)) : Type 0 where
+  pub each : (k : ℕ) → k < length files → Takes t (file_at files k)
+  pub only : (x : List ℕ) → Takes t x → (k : ℕ) × (k < length files) × (x ≡ file_at files k)
+
+-- the tree that grows file by file, after k joins of which the first is that of the first file with itself
+abbrev pub grown : List (List ℕ) → ℕ → JoinTree (List ℕ)
+grown files zero = leaf (file_at files 0)
+grown files (suc k) = node (grown files k) (leaf (file_at files k))
+
+-- the cuts of a file for the sets in a tree
+abbrev pub cuts : Format → List ℕ → JoinTree (ℕ → Bool) → JoinTree (List ℕ)
+cuts R F (leaf A) = leaf (cut R F A)
+cuts R F (node s t) = node (cuts R F s) (cuts R F t)
+
+-- the codes of all sets in a tree
+abbrev pub union_in : JoinTree (ℕ → Bool) → ℕ → Bool
+union_in (leaf A) c = A c
+union_in (node s t) c = union_in s c || union_in t c
+
+-- the codes of the first n of some sets
+abbrev pub union_below : (ℕ → ℕ → Bool) → ℕ → ℕ → Bool
+union_below A zero c = false
+union_below A (suc n) c = union_below A n c || A n c

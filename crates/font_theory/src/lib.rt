@@ -1,0 +1,36 @@
+//! What cuts and joins are, and the laws that hold of them: each function's contract is a law.
+#![tactic(auto)]
+
+mod cuts;
+mod files;
+mod joins;
+mod trees;
+
+pub use crate::cuts::{
+    closed_is_writable, closed_keeps, content_is_closed, cut_form_is_decided, cut_is_cut,
+    cut_of_cut, kept_is_reached, meaning_is_font, metrics_are_kept, size_of_file,
+    wanted_is_in_file, wanted_is_kept,
+};
+pub use crate::files::{
+    cut_of_aacute, cut_of_nothing, file_has_no_finding, file_is_accepted, file_means, file_size,
+    our_format_is, outlines_size,
+};
+pub use crate::joins::{
+    can_join_is_decided, join_of_cuts, join_of_one, least_upper_bound, no_difference,
+    true_refusals, under_is_order, under_one_file, union_is_closed, union_of_cuts,
+};
+pub use crate::trees::{
+    clash_everywhere, grown_cuts, same_content, same_union, same_value, same_value_of_cuts,
+    trees_of_cuts,
+};
+
+/// Where two contents differ first.
+#[derive(Clone, Copy, Debug, PartialEq, Eq)]
+pub enum Difference {
+    /// In the table of this slot.
+    AtTable(u8),
+    /// In the glyph of this code.
+    AtCode(u32),
+    /// In the outline of this glyph.
+    AtGlyph(u16),
+}
