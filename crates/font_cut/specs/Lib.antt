@@ -1,2 +1,5 @@
+pub mod Content
+pub mod Cut
 pub mod Fonts
 pub mod Outlet
+pub mod Text

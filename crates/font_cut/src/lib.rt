@@ -1,11 +1,16 @@
 //! Where what is made of fonts goes.
 #![tactic(auto)]
 
+mod content;
+mod cuts;
 mod outlet;
+mod written;
 
+pub use crate::content::CutOf;
+pub use crate::cuts::{CutError, CutIntoError, cut, cut_into};
 pub use crate::outlet::{Outlet, WriteFault};
 pub use font_file::{Font, FontError};
 pub use font_glyph::{Component, Components};
-pub use font_map::{MapError, Mapping};
+pub use font_map::{MapError, Mapping, Wanted, WantedError, WordError, read_word};
 pub use font_tables::{LocaForm, TableError, Tables};
 pub use sfnt_bytes::{BASE6, DirError, Directory, Entry, Finding, KEPT, MAX_FILE, Tag};

@@ -2,6 +2,7 @@
 ghost use Rattle.std.specs.Prelude.{◌≡◌, ℕ, ◌++◌, List, IsSome, ◌+◌, ◌-◌, ◌^◌, ◌<◌, [], take, false, true, length, IfErr, OnErr, OnOk, Some};
 ghost use Rattle.font_cut.specs.Outlet.{HasSent, Sends, broken_of, write_fault_text, fresh_of, writer_of, written_of};
 
+use font_write::{Sink, Stopped};
 use std::error::Error;
 use std::fmt;
 use std::io::Write;
@@ -141,5 +142,19 @@ impl<W: Write> Outlet<W> {
         ensures { result ≡ writer_of self }
     {
         self.writer
+    }
+}
+
+impl<W: Write> Sink for Outlet<W> {
+    ghost use Rattle.std.specs.Prelude.{[]};
+    ghost use Rattle.font_cut.specs.Outlet.{broken_of, writer_of, written_of};
+
+    ghost trace = { λ o. record { fixed = []; count = written_of o; taken = W.contents (writer_of o); shown = W.contents (writer_of o); stopped = broken_of o } };
+
+    fn take(&mut self, bytes: &[u8]) -> Result<(), Stopped> {
+        match self.put(bytes) {
+            Ok(()) => Ok(()),
+            Err(_) => Err(Stopped),
+        }
     }
 }

@@ -72,13 +72,13 @@ metric_of-same file other same g =
     (λ i. metric_in ((sym (hmtx-slot other) ∙ table ∙ hmtx-slot file) i) ((sym (metric_count-file other) ∙ count ∙ metric_count-file file) i) g)
 
 -- no table of an accepted file is bad
-record AreSound (file : List ℕ) : Type 0 where
-  head : is_bad_head (head_of file) ≡ false
-  maxp : is_bad_maxp (maxp_of file) ≡ false
-  hhea : is_bad_hhea (hhea_of file) (glyph_count_of file) ≡ false
-  hmtx : is_bad_hmtx (hmtx_of file) (metric_count_of file) (glyph_count_of file) ≡ false
+pub record AreSound (file : List ℕ) : Type 0 where
+  pub head : is_bad_head (head_of file) ≡ false
+  pub maxp : is_bad_maxp (maxp_of file) ≡ false
+  pub hhea : is_bad_hhea (hhea_of file) (glyph_count_of file) ≡ false
+  pub hmtx : is_bad_hmtx (hmtx_of file) (metric_count_of file) (glyph_count_of file) ≡ false
 
-are_sound : (file : List ℕ) → table_fault file ≡ None → AreSound file
+pub are_sound : (file : List ℕ) → table_fault file ≡ None → AreSound file
 unfolding table_fault
 are_sound file no_fault =
     let line : (k : ℕ) → get_or (table_lines file) k None ≡ None = λ k. first_of_lines-none_at (table_lines file) k no_fault in

@@ -1,0 +1,28 @@
+-- The glyphs that a cut keeps, as marks (OpenType 1.9, glyf, Composite Glyph Description).
+use Rattle.std.specs.Prelude.{◌≡◌, ℕ, ◌+◌, ◌<◌, ◌≤◌, ◌⊎◌, ◌↔◌, Bool, true, List, length}
+use Rattle.font_map.specs.CharacterMap.{restricted}
+use Rattle.font_glyph.specs.Marks.{has}
+use Rattle.font_tables.specs.Fields.{glyph_count_of}
+use Rattle.font_file.specs.Font.{map_of}
+use Rattle.font_theory.specs.Content.{font_of, is_kept, is_seed}
+
+-- n glyphs from one on are marked, beside those that were
+pub record AreMarked (old new : List Bool) (low n : ℕ) : Type 0 where
+  pub count : length new ≡ length old
+  pub marked : (g : ℕ) → has new g ≡ true ↔ ((low ≤ g) × (g < low + n)) ⊎ (has old g ≡ true)
+
+-- .notdef and the glyphs of the wanted codes are marked
+pub record IsSeedSet (file : List ℕ) (wanted : ℕ → Bool) (marks : List Bool) : Type 0 where
+  pub count : length marks ≡ glyph_count_of file
+  pub seeds : (g : ℕ) → has marks g ≡ is_seed (restricted wanted (map_of file)) g
+
+-- the glyphs that a cut keeps are marked
+pub record IsKeptSet (file : List ℕ) (wanted : ℕ → Bool) (marks : List Bool) : Type 0 where
+  pub count : length marks ≡ glyph_count_of file
+  pub kept : (g : ℕ) → has marks g ≡ is_kept (font_of file) wanted g
+
+-- .notdef and the glyphs of the codes below one are marked
+pub record AreSeedsTo (m : ℕ → ℕ) (from : ℕ) (marks : List Bool) : Type 0 where
+  pub zero : has marks 0 ≡ true
+  pub codes : (c : ℕ) → c < from → has marks (m c) ≡ true
+  pub only : (g : ℕ) → has marks g ≡ true → (g ≡ 0) ⊎ ((c : ℕ) × (m c ≡ g))

@@ -1,0 +1,51 @@
+-- What a cut holds of its font, and what is answered where none is made.
+use Rattle.std.specs.Prelude.{◌≡◌, ℕ, ◌<◌, ◌≤◌, Bool, true, false, nat_eq, ◌&&◌, List, [], length, take, Option, None}
+use Rattle.sfnt_bytes.specs.Findings.{findings_of}
+use Rattle.sfnt_bytes.specs.declared.directory.TheConstants.{MAX_FILE}
+use Rattle.font_tables.specs.Metrics.{metric_of}
+use Rattle.font_tables.specs.Outlines.{outline_of}
+use Rattle.font_glyph.specs.Reach.{Reach}
+use Rattle.font_file.specs.Font.{font_fault, map_of}
+use Rattle.font_theory.specs.Bytes.{padded}
+use Rattle.font_theory.specs.Cut.{IsCut, cut, our_format}
+use Rattle.font_cut.specs.Outlet.{Sends, broken_of, written_of}
+use Rattle.font_cut.specs.declared.cuts.CutError.{CutError}
+use Rattle.font_cut.specs.declared.cuts.CutError.TheVariants as cut_errors
+use Rattle.font_cut.specs.declared.cuts.CutIntoError.{CutIntoError}
+use Rattle.font_cut.specs.declared.cuts.CutIntoError.TheVariants as into_errors
+use Rattle.font_cut.specs.declared.outlet.Outlet.{Outlet}
+
+-- the cut of a file for the wanted codes
+abbrev pub cut_of : List ℕ → (ℕ → Bool) → List ℕ
+cut_of file wanted = cut our_format file wanted
+
+-- a size is that of the cut, and too large
+abbrev pub IsTooLarge : List ℕ → ℕ → Type 0
+IsTooLarge cut size = (size ≡ length cut) × (MAX_FILE < size)
+
+-- the bytes are those of a file that is not too large
+pub record IsWritten (file bytes : List ℕ) : Type 0 where
+  pub is : bytes ≡ file
+  pub small : length bytes ≤ MAX_FILE
+
+-- why there is no cut in memory: want of memory, or its size
+abbrev pub IsCutRefusal : List ℕ → CutError → Type 0
+IsCutRefusal cut cut_errors.NoMemory = Unit {0}
+IsCutRefusal cut (cut_errors.TooLarge size) = IsTooLarge cut size
+
+-- why a cut was not sent, and what was: nothing before a write failed, and else a front of it
+abbrev pub StopsCut : {W : Type 0} → (W → Option (List ℕ)) → Outlet W → Outlet W → List ℕ → CutIntoError → Type 0
+StopsCut contents old new cut into_errors.NoMemory = new ≡ old
+StopsCut contents old new cut (into_errors.TooLarge size) = (new ≡ old) × IsTooLarge cut size
+StopsCut contents old new cut (into_errors.WriteFault written) = (broken_of new ≡ true) × (written ≡ written_of new) × Sends contents old new (take written cut)
+
+-- a cut is accepted, has no finding, has the font's metrics, maps the wanted codes as the font does and no others, and keeps the outlines of what their glyphs lead to, up to zeros behind them; and its cuts are the font's, for the codes in both sets
+pub record IsSound (file : List ℕ) (wanted : ℕ → Bool) (made : List ℕ) : Type 0 where
+  pub accepted : font_fault made ≡ None
+  pub clean : findings_of made ≡ []
+  pub metrics : (g : ℕ) → metric_of made g ≡ metric_of file g
+  pub wanted_codes : (c : ℕ) → wanted c ≡ true → map_of made c ≡ map_of file c
+  pub other_codes : (c : ℕ) → wanted c ≡ false → map_of made c ≡ 0
+  pub kept : (c : ℕ) → wanted c ≡ true → (g : ℕ) → Reach (outline_of file) (nat_eq (map_of file c)) g → outline_of made g ≡ padded (outline_of file g)
+  pub cut_form : IsCut our_format made
+  pub cuts : (others : ℕ → Bool) → cut_of made others ≡ cut_of file (λ c. wanted c && others c)

@@ -1,0 +1,17 @@
+-- The numbers of refusals.
+use Rattle.std.specs.Prelude.{ℕ}
+use Rattle.font_cut.specs.declared.cuts.CutError.{CutError}
+use Rattle.font_cut.specs.declared.cuts.CutError.TheVariants as cut_errors
+use Rattle.font_cut.specs.declared.cuts.CutIntoError.{CutIntoError}
+use Rattle.font_cut.specs.declared.cuts.CutIntoError.TheVariants as into_errors
+
+-- that of a cut in memory
+abbrev pub cut_error_number : CutError → ℕ
+cut_error_number cut_errors.NoMemory = 16
+cut_error_number (cut_errors.TooLarge size) = 18
+
+-- that of a cut that is sent
+abbrev pub cut_into_error_number : CutIntoError → ℕ
+cut_into_error_number into_errors.NoMemory = 16
+cut_into_error_number (into_errors.TooLarge size) = 18
+cut_into_error_number (into_errors.WriteFault written) = 19

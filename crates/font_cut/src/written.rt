@@ -1,0 +1,67 @@
+//! The file of any content, in memory, sent, or compared.
+ghost use Rattle.std.specs.Prelude.{◌≡◌, ◌≤◌, length, false, true, IfErr, IfOk, MatchResult, OnOk, IsTrue, ◌↔◌};
+ghost use Rattle.sfnt_bytes.specs.declared.directory.TheConstants.{MAX_FILE};
+ghost use Rattle.font_theory.specs.File.{file, first_form};
+ghost use Rattle.font_cut.specs.Cut.{IsCutRefusal, IsWritten, StopsCut};
+ghost use Rattle.font_cut.specs.Outlet.{Sends, broken_of, fresh_of};
+
+use crate::cuts::{CutError, CutIntoError};
+use crate::outlet::Outlet;
+use font_write::{Source, file_size, is_file_of, plan_of, send_file, write_file};
+use sfnt_bytes::MAX_FILE;
+use std::alloc::Allocator;
+use std::io::Write;
+
+/// The file of a content in one vector, for which memory is asked once.
+pub(crate) fn file_in_memory<S: Source, A: Allocator + Copy>(
+    alloc: A,
+    source: &S,
+) -> Result<Vec<u8, A>, CutError>
+    ensures { MatchResult result (λ v. IsWritten (file first_form (S.content_of source.now)) v.items) (IsCutRefusal (file first_form (S.content_of source.now))) }
+{
+    let size = file_size(source);
+    if size.bytes > MAX_FILE {
+        return Err(CutError::TooLarge(size.bytes));
+    }
+    let plan = plan_of(source, size);
+    match write_file(alloc, source, &plan, size.bytes as usize) {
+        Ok(file) => Ok(file),
+        Err(_) => Err(CutError::NoMemory),
+    }
+}
+
+/// Sends the file of a content, and answers its length. It asks for no memory.
+pub(crate) fn send_whole<S: Source, W: Write>(
+    source: &S,
+    out: &mut Outlet<W>,
+) -> Result<u64, CutIntoError>
+    requires { fresh_of out.old ≡ true }
+    ensures size { IfOk result (λ size. size ≡ length (file first_form (S.content_of source.now))) }
+    ensures small { OnOk result (length (file first_form (S.content_of source.now)) ≤ MAX_FILE) }
+    ensures sends { OnOk result (Sends W.contents out.old out.new (file first_form (S.content_of source.now))) }
+    ensures unbroken { OnOk result (broken_of out.new ≡ false) }
+    ensures stops { IfErr result (StopsCut W.contents out.old out.new (file first_form (S.content_of source.now))) }
+{
+    let size = file_size(source);
+    if size.bytes > MAX_FILE {
+        return Err(CutIntoError::TooLarge(size.bytes));
+    }
+    let plan = plan_of(source, size);
+    if send_file(source, &plan, out).is_err() {
+        return Err(CutIntoError::WriteFault(out.written()));
+    }
+    Ok(size.bytes)
+}
+
+/// Whether a file is that of a content. It asks for no memory.
+pub(crate) fn is_whole<S: Source>(source: &S, bytes: &[u8]) -> bool
+    requires { length bytes.now ≤ MAX_FILE }
+    ensures { IsTrue result ↔ bytes.now ≡ file first_form (S.content_of source.now) }
+{
+    let size = file_size(source);
+    if size.bytes != bytes.len() as u64 {
+        return false;
+    }
+    let plan = plan_of(source, size);
+    is_file_of(source, &plan, bytes)
+}

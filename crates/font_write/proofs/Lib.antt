@@ -1,0 +1,12 @@
+pub mod ChecksumLemmas
+pub mod GroupLemmas
+pub mod HeadLemmas
+pub mod MapLemmas
+pub mod MeasureLemmas
+pub mod NumberLemmas
+pub mod OutlineLemmas
+pub mod PartLemmas
+pub mod SameLemmas
+pub mod SendingLemmas
+pub mod SizeLemmas
+pub mod SlotLemmas

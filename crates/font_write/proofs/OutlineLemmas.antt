@@ -1,0 +1,88 @@
+-- How outlines and their offsets grow, glyph by glyph.
+use Rattle.std.proofs.Common.{◌≡◌, ℕ, zero, suc, ◌+◌, ◌*◌, ◌<◌, List, [], ◌∷◌, ◌++◌, length, sym, ap, ◌∙◌, refl, arith, length-append, append_assoc, flat_map}
+use Rattle.std.specs.List.{concat}
+use Rattle.std.proofs.lemmas.List.{append-nil}
+use Rattle.std.proofs.lemmas.List.Folds.{concat-append}
+use Rattle.std.proofs.lemmas.Grind.{flat_map-append}
+use Rattle.font_glyph.specs.Union.{record_in}
+use Rattle.font_theory.specs.Bytes.{bytes32}
+use Rattle.font_theory.specs.Content.{Content}
+use Rattle.font_theory.specs.File.{loca_bytes, offsets_from, outlines_from}
+use Rattle.font_write.specs.Parts.{glyf_to, loca_to}
+use Rattle.font_write.proofs.PartLemmas.{within}
+
+outlines-split : (K : Content) (k n m : ℕ) → outlines_from K k (n + m) ≡ outlines_from K k n ++ outlines_from K (k + n) m
+outlines-split K k zero m = let a : 0 + m ≡ m = omega arith in let b : k ≡ k + 0 = omega arith in λ i. outlines_from K (b i) (a i)
+outlines-split K k (suc n) m =
+    let a : suc n + m ≡ suc (n + m) = omega arith in
+    let b : k + 1 + n ≡ k + suc n = omega arith in
+    ap (outlines_from K k) a
+    ∙ ap (λ (l : List (List ℕ)). record_in K.outline k ∷ l) (outlines-split K (k + 1) n m ∙ ap (λ (j : ℕ). outlines_from K (k + 1) n ++ outlines_from K j m) b)
+
+outlines-more : (K : Content) (n : ℕ) → outlines_from K 0 (n + 1) ≡ outlines_from K 0 n ++ record_in K.outline n ∷ []
+outlines-more K n = let z : 0 + n ≡ n = omega arith in outlines-split K 0 n 1 ∙ ap (λ (k : ℕ). outlines_from K 0 n ++ record_in K.outline k ∷ []) z
+
+pub glyf_start : (K : Content) → glyf_to K 0 ≡ []
+unfolding glyf_to
+glyf_start K = refl
+
+pub glyf_more : (K : Content) (n : ℕ) → glyf_to K (n + 1) ≡ glyf_to K n ++ record_in K.outline n
+unfolding glyf_to
+glyf_more K n =
+    ap concat (outlines-more K n) ∙ concat-append (outlines_from K 0 n) (record_in K.outline n ∷ []) ∙ ap (λ (b : List ℕ). concat (outlines_from K 0 n) ++ b) (append-nil (record_in K.outline n))
+
+-- the offsets with one more outline
+offsets-more : (at : ℕ) (bs : List (List ℕ)) (b : List ℕ) → offsets_from at (bs ++ b ∷ []) ≡ offsets_from at bs ++ (at + length (concat (bs ++ b ∷ []))) ∷ []
+offsets-more at [] b = let e : length b ≡ length (b ++ []) = sym (ap length (append-nil b)) in λ i. at ∷ (at + e i) ∷ []
+offsets-more at (x ∷ bs) b =
+    let e : at + length x + length (concat (bs ++ b ∷ [])) ≡ at + length (x ++ concat (bs ++ b ∷ [])) = omega (arith, length-append x (concat (bs ++ b ∷ []))) in
+    ap (λ (t : List ℕ). at ∷ t) (offsets-more (at + length x) bs b ∙ ap (λ (k : ℕ). offsets_from (at + length x) bs ++ k ∷ []) e)
+
+pub loca_start : (K : Content) → loca_to K 0 ≡ bytes32 0
+unfolding loca_to loca_bytes
+loca_start K = refl
+
+pub loca_more : (K : Content) (n : ℕ) → loca_to K (n + 1) ≡ loca_to K n ++ bytes32 (length (glyf_to K (n + 1)))
+unfolding loca_to loca_bytes glyf_to
+loca_more K n =
+    let bs = outlines_from K 0 n in
+    let more = bs ++ record_in K.outline n ∷ [] in
+    let z : 0 + length (concat more) ≡ length (concat more) = omega arith in
+    ap (λ (l : List (List ℕ)). flat_map bytes32 (offsets_from 0 l)) (outlines-more K n)
+    ∙ ap (flat_map bytes32) (offsets-more 0 bs (record_in K.outline n) ∙ ap (λ (k : ℕ). offsets_from 0 bs ++ k ∷ []) z)
+    ∙ flat_map-append bytes32 (offsets_from 0 bs) (length (concat more) ∷ [])
+    ∙ (λ i. flat_map bytes32 (offsets_from 0 bs) ++ bytes32 (length (concat (sym (outlines-more K n) i))))
+
+glyf_front : (K : Content) (n m : ℕ) → (rest : List ℕ) × (glyf_to K n ++ rest ≡ glyf_to K (n + m))
+unfolding glyf_to
+glyf_front K n m = (concat (outlines_from K (0 + n) m), sym (ap concat (outlines-split K 0 n m) ∙ concat-append (outlines_from K 0 n) (outlines_from K (0 + n) m)))
+
+loca_front : (K : Content) (n m : ℕ) → (rest : List ℕ) × (loca_to K n ++ rest ≡ loca_to K (n + m))
+loca_front K n zero = let e : n ≡ n + 0 = omega arith in ([], append-nil (loca_to K n) ∙ ap (loca_to K) e)
+loca_front K n (suc m) =
+    let k = loca_front K n m in
+    let w = bytes32 (length (glyf_to K (n + m + 1))) in
+    let e : n + m + 1 ≡ n + suc m = omega arith in
+    (k.0 ++ w, sym (append_assoc (loca_to K n) k.0 w) ∙ ap (λ (t : List ℕ). t ++ w) k.1 ∙ sym (loca_more K (n + m)) ∙ ap (loca_to K) e)
+
+pub length_loca : (K : Content) (n : ℕ) → length (loca_to K n) ≡ 4 * n + 4
+length_loca K zero = ap length (loca_start K)
+length_loca K (suc n) =
+    let e : n + 1 ≡ suc n = omega arith in
+    let w = bytes32 (length (glyf_to K (n + 1))) in
+    let s : length (loca_to K (suc n)) ≡ length (loca_to K n ++ w) = ap (λ (k : ℕ). length (loca_to K k)) (sym e) ∙ ap length (loca_more K n) in
+    omega (arith, s, length-append (loca_to K n) w, length_loca K n)
+
+-- the outline of a glyph stands within all of them
+pub glyf_within : (K : Content) (g n : ℕ) → g < n → (rest : List ℕ) × (glyf_to K g ++ (record_in K.outline g ++ rest) ≡ glyf_to K n)
+glyf_within K g n lt = within (glyf_to K) (record_in K.outline g) g n lt (glyf_more K g) (glyf_front K)
+
+-- and so does its offset
+pub loca_within : (K : Content) (g n : ℕ) → g < n → (rest : List ℕ) × (loca_to K g ++ (bytes32 (length (glyf_to K (g + 1))) ++ rest) ≡ loca_to K n)
+loca_within K g n lt = within (loca_to K) (bytes32 (length (glyf_to K (g + 1)))) g n lt (loca_more K g) (loca_front K)
+
+pub loca_first : (K : Content) (n : ℕ) → (rest : List ℕ) × (bytes32 0 ++ rest ≡ loca_to K n)
+loca_first K n =
+    let f = loca_front K 0 n in
+    let z : 0 + n ≡ n = omega arith in
+    (f.0, ap (λ (t : List ℕ). t ++ f.0) (sym (loca_start K)) ∙ f.1 ∙ ap (loca_to K) z)

@@ -1,0 +1,91 @@
+//! Numbers and padding as bytes. OpenType 1.9, Data Types; Organization of an OpenType Font.
+ghost use Rattle.std.specs.Prelude.{◌≡◌, ◌+◌, ◌<◌, ◌≤◌, ◌++◌, length, false, replicate};
+ghost use Rattle.sfnt_bytes.specs.Findings.{padding_of};
+ghost use Rattle.sfnt_bytes.specs.declared.directory.TheConstants.{MAX_FILE};
+ghost use Rattle.font_theory.specs.Bytes.{bytes16, bytes32, padded};
+ghost use Rattle.font_theory.specs.File.{header_bytes};
+ghost use Rattle.font_write.specs.Trace.{Sends};
+
+use crate::sink::{Sink, Stopped};
+use sfnt_bytes::search_fields;
+
+/// How many zeros fill a length to a multiple of 4.
+pub(crate) fn padding(length: usize) -> usize
+    ensures { result ≡ padding_of length }
+{
+    (4 - length % 4) % 4
+}
+
+/// The bytes of a `u16`.
+pub(crate) fn half(x: u16) -> [u8; 2]
+    ensures { result ≡ bytes16 x }
+{
+    x.to_be_bytes()
+}
+
+/// The bytes of a `u32`.
+#[tactic(auto, using(crate::proofs::NumberLemmas::bytes32_is))]
+pub(crate) fn word(x: u32) -> [u8; 4]
+    ensures { result ≡ bytes32 x }
+{
+    x.to_be_bytes()
+}
+
+/// The bytes of three `u32`.
+pub(crate) fn three_words(x: u32, y: u32, z: u32) -> [u8; 12]
+    ensures { result ≡ bytes32 x ++ (bytes32 y ++ bytes32 z) }
+{
+    let [a, b, c, d] = word(x);
+    let [e, f, g, h] = word(y);
+    let [i, j, k, l] = word(z);
+    [a, b, c, d, e, f, g, h, i, j, k, l]
+}
+
+// sfntVersion 1.0 and four numbers.
+fn header_of(count: u16, range: u16, selector: u16, shift: u16) -> [u8; 12]
+    ensures { result ≡ bytes32 65536 ++ (bytes16 count ++ (bytes16 range ++ (bytes16 selector ++ bytes16 shift))) }
+{
+    let [a, b] = half(count);
+    let [c, d] = half(range);
+    let [e, f] = half(selector);
+    let [g, h] = half(shift);
+    [0, 1, 0, 0, a, b, c, d, e, f, g, h]
+}
+
+/// The header of a file of so many tables.
+pub(crate) fn header(count: u16) -> [u8; 12]
+    requires some { 0 < count }
+    requires few { count ≤ 16 }
+    ensures { result ≡ header_bytes count }
+{
+    let (range, selector, shift) = search_fields(count).unwrap_or((0, 0, 0));
+    header_of(count, range, selector, shift)
+}
+
+/// Sends the bytes of a `u32`.
+pub(crate) fn send_word<K: Sink>(x: u32, sink: &mut K) -> Result<(), Stopped>
+    requires going { (K.trace sink.old).stopped ≡ false }
+    requires fits { (K.trace sink.old).count + 4 ≤ MAX_FILE }
+    ensures { Sends (K.trace sink.old) (K.trace sink.new) (bytes32 x) result }
+{
+    sink.take(&word(x))
+}
+
+/// Sends the zeros that fill a length.
+pub(crate) fn send_padding<K: Sink>(length: usize, sink: &mut K) -> Result<(), Stopped>
+    requires going { (K.trace sink.old).stopped ≡ false }
+    requires fits { (K.trace sink.old).count + padding_of length ≤ MAX_FILE }
+    ensures { Sends (K.trace sink.old) (K.trace sink.new) (replicate (padding_of length) 0) result }
+{
+    sink.take(&[0; 4][..padding(length)])
+}
+
+/// Sends bytes, and the zeros that fill them.
+pub(crate) fn send_padded<K: Sink>(bytes: &[u8], sink: &mut K) -> Result<(), Stopped>
+    requires going { (K.trace sink.old).stopped ≡ false }
+    requires fits { (K.trace sink.old).count + length (padded bytes.now) ≤ MAX_FILE }
+    ensures { Sends (K.trace sink.old) (K.trace sink.new) (padded bytes.now) result }
+{
+    sink.take(bytes)?;
+    send_padding(bytes.len(), sink)
+}

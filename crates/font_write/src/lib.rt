@@ -1,0 +1,19 @@
+//! The one writer of files: it measures a source first, and then sends its file to any sink.
+#![tactic(auto)]
+
+mod bytes;
+mod plan;
+mod room;
+mod same;
+mod sink;
+mod size;
+mod source;
+mod writer;
+
+pub use crate::plan::{Measure, Plan, plan_of};
+pub use crate::room::{Room, write_file};
+pub use crate::same::{Same, is_file_of};
+pub use crate::sink::{Sink, Stopped};
+pub use crate::size::{Size, file_size};
+pub use crate::source::Source;
+pub use crate::writer::send_file;

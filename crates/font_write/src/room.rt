@@ -1,0 +1,58 @@
+//! A sink that appends to a vector, and a file in memory.
+ghost use Rattle.std.specs.Prelude.{◌≡◌, ◌≤◌, length, IfOk};
+ghost use Rattle.sfnt_bytes.specs.declared.directory.TheConstants.{MAX_FILE};
+ghost use Rattle.font_theory.specs.File.{file, first_form};
+ghost use Rattle.font_write.specs.Plan.{IsPlan};
+
+use crate::plan::Plan;
+use crate::sink::{Sink, Stopped};
+use crate::source::Source;
+use crate::writer::send_file;
+use std::alloc::{AllocError, Allocator};
+
+/// Bytes in memory. It stops where memory is refused.
+#[derive(Drop)]
+pub struct Room<A: Allocator + Copy> {
+    bytes: Vec<u8, A>,
+    stopped: bool,
+}
+
+impl<A: Allocator + Copy> Sink for Room<A> {
+    ghost use Rattle.std.specs.Prelude.{Some, []};
+
+    ghost trace = { λ s. record { fixed = []; count = s.bytes.len; taken = Some s.bytes.items; shown = Some s.bytes.items; stopped = s.stopped } };
+
+    fn take(&mut self, bytes: &[u8]) -> Result<(), Stopped> {
+        if self.bytes.extend_from_slice(bytes).is_err() {
+            self.stopped = true;
+            return Err(Stopped);
+        }
+        Ok(())
+    }
+}
+
+/// The file of a source in one vector, for which memory is asked once: `size` bytes.
+///
+/// # Errors
+///
+/// Where that request is refused.
+pub fn write_file<S: Source, A: Allocator + Copy>(
+    alloc: A,
+    source: &S,
+    plan: &Plan,
+    size: usize,
+) -> Result<Vec<u8, A>, AllocError>
+    requires plan { IsPlan (S.content_of source.now) plan.now }
+    requires size { size ≡ length (file first_form (S.content_of source.now)) }
+    requires small { length (file first_form (S.content_of source.now)) ≤ MAX_FILE }
+    ensures { IfOk result (λ v. v.items ≡ file first_form (S.content_of source.now)) }
+{
+    let mut room = Room {
+        bytes: Vec::with_capacity(alloc, size)?,
+        stopped: false,
+    };
+    if send_file(source, plan, &mut room).is_err() {
+        return Err(AllocError);
+    }
+    Ok(room.bytes)
+}

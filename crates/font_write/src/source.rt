@@ -1,0 +1,59 @@
+//! What a file is written from.
+ghost use Rattle.std.specs.Prelude.{◌≡◌, ◌≤◌, ◌<◌, length, None, Some, is_some, IsSome, MatchOption};
+ghost use Rattle.sfnt_bytes.specs.declared.directory.TheConstants.{MAX_FILE};
+ghost use Rattle.font_map.specs.CharacterMap.{IsCharacterMap};
+ghost use Rattle.font_map.specs.Runs.{IsRun, NoRun};
+ghost use Rattle.font_theory.specs.Bytes.{cut_head, padded};
+ghost use Rattle.font_theory.specs.Content.{Content, IsWritable, glyph_count};
+
+use font_map::Run;
+
+/// Tables, a mapping and kept outlines: the content of a file.
+pub trait Source {
+    ghost use Rattle.font_theory.specs.Content.{Content};
+
+    /// The content.
+    ghost content_of: { Self → Content };
+
+    /// What holds of the content. The body is empty.
+    fn known(&self)
+        ensures { IsWritable (content_of self.now) };
+
+    /// The table of a slot that is copied as it is: none of `cmap`, `glyf`, `head` and `loca`.
+    fn copied(&self, slot: usize) -> Option<&[u8]>
+        ensures table { MatchOption result ((content_of self.now).copied slot ≡ None) (λ b. (content_of self.now).copied slot ≡ Some b.now) }
+        ensures small { MatchOption result Unit (λ b. length b.now ≤ MAX_FILE) };
+
+    /// `head`, which may differ from that of the file in `checksumAdjustment` and `indexToLocFormat`.
+    fn head(&self) -> &[u8]
+        ensures head { (content_of self.now).head ≡ cut_head result.now }
+        ensures long { 54 ≤ length result.now }
+        ensures small { length result.now ≤ MAX_FILE };
+
+    /// `numGlyphs`
+    fn glyph_count(&self) -> u16
+        ensures { result ≡ glyph_count (content_of self.now).copied };
+
+    /// The run that begins at the least mapped code not below `from`.
+    fn next_run(&self, from: u32) -> Option<Run>
+        ensures { MatchOption result (NoRun (content_of self.now).map from) (IsRun (content_of self.now).map from) };
+
+    /// Whether a glyph is kept.
+    fn keeps(&self, g: u16) -> bool
+        ensures { result ≡ is_some ((content_of self.now).outline g) };
+
+    /// The outline of a glyph that is kept, without the zeros that fill it.
+    fn outline_of(&self, g: u16) -> &[u8]
+        requires kept { IsSome ((content_of self.now).outline g) }
+        ensures outline { (content_of self.now).outline g ≡ Some (padded result.now) }
+        ensures small { length result.now ≤ MAX_FILE };
+}
+
+/// What is known of the map of a source.
+#[tactic(auto, using(crate::proofs::MapLemmas::is_map))]
+pub(crate) fn known_map<S: Source>(source: &S)
+    ensures { IsCharacterMap (S.content_of source.now).map }
+{
+    source.known();
+    let _count = source.glyph_count();
+}
