@@ -3,3 +3,4 @@ pub mod Cut
 pub mod Fonts
 pub mod Outlet
 pub mod Text
+pub mod Written

@@ -2,15 +2,27 @@
 ghost use Rattle.std.specs.Prelude.{◌≡◌, ◌≤◌, length, false, true, IfErr, IfOk, MatchResult, OnOk, IsTrue, ◌↔◌};
 ghost use Rattle.sfnt_bytes.specs.declared.directory.TheConstants.{MAX_FILE};
 ghost use Rattle.font_theory.specs.File.{file, first_form};
-ghost use Rattle.font_cut.specs.Cut.{IsCutRefusal, IsWritten, StopsCut};
+ghost use Rattle.font_cut.specs.Cut.{IsCutRefusal, IsTooLarge, IsWritten, StopsCut};
+ghost use Rattle.font_cut.specs.Written.{IsMeasured};
 ghost use Rattle.font_cut.specs.Outlet.{Sends, broken_of, fresh_of};
 
 use crate::cuts::{CutError, CutIntoError};
 use crate::outlet::Outlet;
-use font_write::{Source, file_size, is_file_of, plan_of, send_file, write_file};
+use font_write::{Plan, Source, file_size, is_file_of, plan_of, send_file, write_file};
 use sfnt_bytes::MAX_FILE;
 use std::alloc::Allocator;
 use std::io::Write;
+
+// Measures a content. Refused with the length of its file, where that is too large.
+fn measure<S: Source>(source: &S) -> Result<(Plan, u64), u64>
+    ensures { MatchResult result (IsMeasured (S.content_of source.now)) (IsTooLarge (file first_form (S.content_of source.now))) }
+{
+    let size = file_size(source);
+    if size.bytes > MAX_FILE {
+        return Err(size.bytes);
+    }
+    Ok((plan_of(source, size), size.bytes))
+}
 
 /// The file of a content in one vector, for which memory is asked once.
 pub(crate) fn file_in_memory<S: Source, A: Allocator + Copy>(
@@ -19,14 +31,12 @@ pub(crate) fn file_in_memory<S: Source, A: Allocator + Copy>(
 ) -> Result<Vec<u8, A>, CutError>
     ensures { MatchResult result (λ v. IsWritten (file first_form (S.content_of source.now)) v.items) (IsCutRefusal (file first_form (S.content_of source.now))) }
 {
-    let size = file_size(source);
-    if size.bytes > MAX_FILE {
-        return Err(CutError::TooLarge(size.bytes));
-    }
-    let plan = plan_of(source, size);
-    match write_file(alloc, source, &plan, size.bytes as usize) {
-        Ok(file) => Ok(file),
-        Err(_) => Err(CutError::NoMemory),
+    match measure(source) {
+        Ok((plan, size)) => match write_file(alloc, source, &plan, size as usize) {
+            Ok(file) => Ok(file),
+            Err(_) => Err(CutError::NoMemory),
+        },
+        Err(size) => Err(CutError::TooLarge(size)),
     }
 }
 
@@ -42,15 +52,14 @@ pub(crate) fn send_whole<S: Source, W: Write>(
     ensures unbroken { OnOk result (broken_of out.new ≡ false) }
     ensures stops { IfErr result (StopsCut W.contents out.old out.new (file first_form (S.content_of source.now))) }
 {
-    let size = file_size(source);
-    if size.bytes > MAX_FILE {
-        return Err(CutIntoError::TooLarge(size.bytes));
-    }
-    let plan = plan_of(source, size);
+    let (plan, size) = match measure(source) {
+        Ok(measured) => measured,
+        Err(size) => return Err(CutIntoError::TooLarge(size)),
+    };
     if send_file(source, &plan, out).is_err() {
         return Err(CutIntoError::WriteFault(out.written()));
     }
-    Ok(size.bytes)
+    Ok(size)
 }
 
 /// Whether a file is that of a content. It asks for no memory.
