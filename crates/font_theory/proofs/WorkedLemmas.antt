@@ -1,5 +1,5 @@
 -- Two cuts of a small font, computed.
-use Rattle.std.proofs.Common.{◌≡◌, ℕ, ◌<◌, cond, nat_eq, List, [], ◌∷◌, ◌++◌, map, refl, ap, ◌∙◌, arith, Option, Some, option_map}
+use Rattle.std.proofs.Common.{◌≡◌, nat_eq, false, ℕ, ◌<◌, cond, nat_eq, List, [], ◌∷◌, ◌++◌, map, refl, ap, ◌∙◌, arith, Option, Some, option_map}
 use Rattle.std.specs.List.{concat, range_with_len}
 use Rattle.std.proofs.lemmas.Bool.{ne_eqb}
 use Rattle.std.proofs.lemmas.Bool.Decides.{nat_tests}
@@ -16,8 +16,9 @@ use Rattle.font_map.proofs.RunLemmas.{groups_done, groups_next}
 use Rattle.font_theory.specs.Bytes.{padded, with_adjustment}
 use Rattle.font_theory.specs.Content.{Content, glyph_count}
 use Rattle.font_theory.specs.File.{Table, adjustment_in, bytes_in_slot, cmap_bytes, file, file_of, first_form, groups_of, header_bytes, loca_bytes, outlines_of, subtable_bytes}
-use Rattle.font_theory.specs.Cut.{our_format}
-use Rattle.font_theory.specs.WorkedFiles.{CutOfAacute, CutOfNothing, aacute_file, nothing_file}
+use Rattle.sfnt_bytes.specs.declared.base6.TheConstants.{BASE6}
+use Rattle.font_theory.specs.Cut.{cut, our_format}
+use Rattle.font_theory.specs.WorkedFiles.{aacute_file, nothing_file}
 use Rattle.font_theory.proofs.SlotLemmas.{table_with}
 use Rattle.font_theory.proofs.SmallFontLemmas.{content-aacute, content-nothing, one_code, small_content}
 
@@ -52,7 +53,7 @@ nothing_computed : file_by (small_content (λ c. 0) 1) [] ≡ nothing_file
 unfolding padded with_adjustment cmap_bytes subtable_bytes loca_bytes outlines_of header_bytes file_of kept_tag u16_at exponent search_fields_of checksum_of words without_field num_glyphs glyph_count
 nothing_computed = refl
 
-pub cut-nothing : CutOfNothing
+pub cut-nothing : cut our_format BASE6 (λ c. false) ≡ nothing_file
 unfolding our_format
 cut-nothing = ap (file first_form) content-nothing ∙ file-by (small_content (λ c. 0) 1) [] no_groups ∙ nothing_computed
 
@@ -93,6 +94,6 @@ aacute_computed : file_by (small_content one_code 4) (one_run ∷ []) ≡ aacute
 unfolding padded with_adjustment cmap_bytes subtable_bytes loca_bytes outlines_of header_bytes file_of kept_tag u16_at exponent search_fields_of checksum_of words without_field num_glyphs glyph_count
 aacute_computed = refl
 
-pub cut-aacute : CutOfAacute
+pub cut-aacute : cut our_format BASE6 (λ c. nat_eq c 0xC1) ≡ aacute_file
 unfolding our_format
 cut-aacute = ap (file first_form) content-aacute ∙ file-by (small_content one_code 4) (one_run ∷ []) one_group ∙ aacute_computed

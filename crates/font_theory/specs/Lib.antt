@@ -1,12 +1,8 @@
 pub mod Bytes
 pub mod Content
 pub mod Cut
-pub mod CutLaws
 pub mod Difference
 pub mod File
-pub mod FileLaws
 pub mod Join
-pub mod JoinLaws
 pub mod Tree
-pub mod TreeLaws
 pub mod WorkedFiles

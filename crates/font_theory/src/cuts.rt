@@ -1,67 +1,89 @@
 //! The laws of fonts, contents and cuts: the contract of each function is the law.
-ghost use Rattle.font_theory.specs.CutLaws.{ClosedIsWritable, ClosedKeeps, ContentIsClosed, CutFormIsDecided, CutIsCut, CutOfCut, KeptIsReached, MeaningIsFont, MetricsAreKept, SizeOfFile, WantedIsInFile, WantedIsKept};
+ghost use Rattle.std.specs.Prelude.{◌≡◌, ◌≢◌, ℕ, ◌≤◌, ◌↔◌, nat_eq, Bool, true, ◌&&◌, List, length, IsSome, None, Some};
+ghost use Rattle.sfnt_bytes.specs.declared.directory.DirError.TheVariants.{FileTooLarge};
+ghost use Rattle.sfnt_bytes.specs.declared.directory.TheConstants.{MAX_FILE};
+ghost use Rattle.font_tables.specs.Metrics.{metric_of};
+ghost use Rattle.font_tables.specs.Outlines.{outline_of};
+ghost use Rattle.font_map.specs.CharacterMap.{restricted};
+ghost use Rattle.font_glyph.specs.Reach.{Reach};
+ghost use Rattle.font_glyph.specs.Union.{HoldsComponents};
+ghost use Rattle.font_file.specs.Font.{font_fault, map_of};
+ghost use Rattle.font_file.specs.declared.font_error.FontError.{FontError};
+ghost use Rattle.font_file.specs.declared.font_error.FontError.TheVariants.{Directory};
+ghost use Rattle.font_theory.specs.Bytes.{padded};
+ghost use Rattle.font_theory.specs.Content.{Content, Font, IsClosed, IsFont, IsWritable, content, font_of, is_kept, is_seed, seen};
+ghost use Rattle.font_theory.specs.Cut.{Format, IsCut, IsFormat, Writes, cut, is_cut, whole};
 
 /// What an accepted file means is a font.
 pub fn meaning_is_font()
-    ensures { MeaningIsFont }
+    ensures { (file : List ℕ) → font_fault file ≡ None → IsFont (font_of file) }
 {}
 
 /// A file that is accepted, or refused for anything but its size, is not too large.
 pub fn size_of_file()
-    ensures { SizeOfFile }
+    ensures { (file : List ℕ) → (font_fault file ≡ None → length file ≤ MAX_FILE)
+        × ((error : FontError) → font_fault file ≡ Some error → error ≢ Directory FileTooLarge → length file ≤ MAX_FILE) }
 {}
 
 /// A content of a font is closed.
 pub fn content_is_closed()
-    ensures { ContentIsClosed }
+    ensures { (F : Font) (wanted : ℕ → Bool) → IsFont F → IsClosed (content F wanted) }
 {}
 
 /// A closed content is one for which a file is written.
 pub fn closed_is_writable()
-    ensures { ClosedIsWritable }
+    ensures { (K : Content) → IsClosed K → IsWritable K }
 {}
 
 /// A closed content keeps .notdef, the glyph of each code, and each component of an outline that it
 /// keeps.
 pub fn closed_keeps()
-    ensures { ClosedKeeps }
+    ensures { (K : Content) → IsClosed K → IsSome (K.outline 0) × ((c : ℕ) → IsSome (K.outline (K.map c))) × HoldsComponents K.outline
+        × ((g : ℕ) (b : List ℕ) → K.outline g ≡ Some b → padded b ≡ b) }
 {}
 
 /// The content of a content is that of the font for the codes in both sets.
 pub fn cut_of_cut()
-    ensures { CutOfCut }
+    ensures { (F : Font) (A B : ℕ → Bool) → IsFont F → content (seen (content F A)) B ≡ content F (λ c. A c && B c) }
 {}
 
 /// A wanted code keeps its glyph, and what that glyph leads to keeps its outline, up to zeros
 /// behind it.
 pub fn wanted_is_kept()
-    ensures { WantedIsKept }
+    ensures { (F : Font) (wanted : ℕ → Bool) → IsFont F
+        → ((g : ℕ) → Reach F.outline (is_seed (restricted wanted F.map)) g → (seen (content F wanted)).outline g ≡ padded (F.outline g))
+        × ((c : ℕ) → wanted c ≡ true → ((content F wanted).map c ≡ F.map c)
+        × ((g : ℕ) → Reach F.outline (nat_eq (F.map c)) g → (seen (content F wanted)).outline g ≡ padded (F.outline g))) }
 {}
 
 /// What is kept of an accepted file is what its outlines lead to from .notdef and the glyphs of the
 /// wanted codes.
 pub fn kept_is_reached()
-    ensures { KeptIsReached }
+    ensures { (file : List ℕ) (wanted : ℕ → Bool) → font_fault file ≡ None
+        → (g : ℕ) → is_kept (font_of file) wanted g ≡ true ↔ Reach (outline_of file) (is_seed (restricted wanted (map_of file))) g }
 {}
 
 /// In a file of which a content of an accepted one is read back, a wanted code has its glyph, and
 /// what that glyph leads to has its outline, up to zeros behind it.
 pub fn wanted_is_in_file()
-    ensures { WantedIsInFile }
+    ensures { (file other : List ℕ) (wanted : ℕ → Bool) → font_fault file ≡ None → font_of other ≡ seen (content (font_of file) wanted)
+        → (c : ℕ) → wanted c ≡ true → (map_of other c ≡ map_of file c)
+        × ((g : ℕ) → Reach (outline_of file) (nat_eq (map_of file c)) g → outline_of other g ≡ padded (outline_of file g)) }
 {}
 
 /// A file of which a content of another one is read back has the metrics of that one.
 pub fn metrics_are_kept()
-    ensures { MetricsAreKept }
+    ensures { (file other : List ℕ) (wanted : ℕ → Bool) → font_of other ≡ seen (content (font_of file) wanted) → (g : ℕ) → metric_of other g ≡ metric_of file g }
 {}
 
 /// A cut that is not too large is in cut form, and its cuts are those of the font for the codes in
 /// both sets.
 pub fn cut_is_cut()
-    ensures { CutIsCut }
+    ensures { (R : Format) → IsFormat R → (F : List ℕ) → R.fault F ≡ None → (A : ℕ → Bool) (X : List ℕ) → Writes R (content (R.font F) A) X → length X ≤ R.most
+        → IsCut R X × (R.font X ≡ seen (content (R.font F) A)) × (whole R X ≡ content (R.font F) A) × ((B : ℕ → Bool) → cut R X B ≡ cut R F (λ c. A c && B c)) }
 {}
 
 /// Whether an accepted file is in cut form is decided.
 pub fn cut_form_is_decided()
-    ensures { CutFormIsDecided }
+    ensures { (R : Format) → IsFormat R → (X : List ℕ) → R.fault X ≡ None → is_cut R X ≡ true ↔ IsCut R X }
 {}

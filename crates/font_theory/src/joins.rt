@@ -1,55 +1,73 @@
 //! The laws of unions of contents, of joins of files, and of their order: the contract of each
 //! function is the law.
-ghost use Rattle.font_theory.specs.JoinLaws.{CanJoinIsDecided, JoinOfCuts, JoinOfOne, LeastUpperBound, NoDifference, TrueRefusals, UnderIsOrder, UnderOneFile, UnionIsClosed, UnionOfCuts};
+ghost use Rattle.std.specs.Prelude.{◌≡◌, ◌≢◌, ℕ, ◌≤◌, ◌↔◌, Bool, true, false, List, length, None, Some};
+ghost use Rattle.sfnt_bytes.specs.declared.directory.DirError.TheVariants.{FileTooLarge};
+ghost use Rattle.font_file.specs.declared.font_error.FontError.{FontError};
+ghost use Rattle.font_file.specs.declared.font_error.FontError.TheVariants.{Directory};
+ghost use Rattle.font_theory.specs.Content.{Content, Font, IsClosed, IsFont, content};
+ghost use Rattle.font_theory.specs.Cut.{CanJoin, Format, IsCut, IsFormat, Under, Writes, cut, either, is_cut, joined, whole};
+ghost use Rattle.font_theory.specs.Difference.{difference};
+ghost use Rattle.font_theory.specs.Join.{Agree, both};
 
 /// Two contents of a font agree, and their union is its content for the codes of either set.
 pub fn union_of_cuts()
-    ensures { UnionOfCuts }
+    ensures { (F : Font) (A B : ℕ → Bool) → IsFont F → Agree (content F A) (content F B) × (both (content F A) (content F B) ≡ content F (either A B)) }
 {}
 
 /// The union of closed contents that agree is closed.
 pub fn union_is_closed()
-    ensures { UnionIsClosed }
+    ensures { (K L : Content) → IsClosed K → IsClosed L → Agree K L → IsClosed (both K L) }
 {}
 
 /// There is no first difference exactly where contents agree.
 pub fn no_difference()
-    ensures { NoDifference }
+    ensures { (K L : Content) → IsClosed K → IsClosed L → difference K L ≡ None ↔ Agree K L }
 {}
 
 /// A join is in cut form, above both files, and below each file that is above both.
 pub fn least_upper_bound()
-    ensures { LeastUpperBound }
+    ensures { (R : Format) → IsFormat R → (X Y : List ℕ) → CanJoin R X Y → length (joined R X Y) ≤ R.most
+        → IsCut R (joined R X Y) × Under R X (joined R X Y) × Under R Y (joined R X Y)
+        × ((F : List ℕ) → Under R X F → Under R Y F → Under R (joined R X Y) F) }
 {}
 
 /// A file under another is in cut form, where it is not too large, and two files under one agree.
 pub fn under_one_file()
-    ensures { UnderOneFile }
+    ensures { (R : Format) → IsFormat R → ((X F : List ℕ) → Under R X F → length X ≤ R.most → IsCut R X)
+        × ((X Y F : List ℕ) → Under R X F → Under R Y F → length X ≤ R.most → length Y ≤ R.most → Agree (whole R X) (whole R Y)) }
 {}
 
 /// Being a cut of a file orders the files in cut form.
 pub fn under_is_order()
-    ensures { UnderIsOrder }
+    ensures { (R : Format) → IsFormat R → ((X : List ℕ) → IsCut R X → Under R X X)
+        × ((X Y Z : List ℕ) → Under R X Y → Under R Y Z → Under R X Z)
+        × ((X Z : List ℕ) → Under R X Z → Under R Z X → (whole R X ≡ whole R Z) × (R.old ≡ R.file → X ≡ Z)) }
 {}
 
 /// Two cuts of a font can be joined, and give its cut for the codes of either set.
 pub fn join_of_cuts()
-    ensures { JoinOfCuts }
+    ensures { (R : Format) → IsFormat R → (F : List ℕ) → R.fault F ≡ None → (A B : ℕ → Bool) (X Y : List ℕ)
+        → Writes R (content (R.font F) A) X → Writes R (content (R.font F) B) Y → length X ≤ R.most → length Y ≤ R.most
+        → CanJoin R X Y × (joined R X Y ≡ cut R F (either A B)) }
 {}
 
 /// A file in cut form can be joined with itself, which gives the file of its content.
 pub fn join_of_one()
-    ensures { JoinOfOne }
+    ensures { (R : Format) (X : List ℕ) → IsCut R X → CanJoin R X X × (joined R X X ≡ R.file (whole R X)) }
 {}
 
 /// Two accepted files can be joined exactly where both tests of cut form pass and no difference is
 /// found.
 pub fn can_join_is_decided()
-    ensures { CanJoinIsDecided }
+    ensures { (R : Format) → IsFormat R → (X Y : List ℕ) → R.fault X ≡ None → R.fault Y ≡ None
+        → ((is_cut R X ≡ true) × (is_cut R Y ≡ true) × (difference (whole R X) (whole R Y) ≡ None)) ↔ CanJoin R X Y }
 {}
 
 /// What is refused, but for its size, or is not in cut form is under no file, and no file is above
 /// two that differ.
 pub fn true_refusals()
-    ensures { TrueRefusals }
+    ensures { (R : Format) → IsFormat R
+        → ((X F : List ℕ) (error : FontError) → R.fault X ≡ Some error → error ≢ Directory FileTooLarge → ¬ Under R X F)
+        × ((X F : List ℕ) → R.fault X ≡ None → is_cut R X ≡ false → ¬ Under R X F)
+        × ((X Y F : List ℕ) → R.fault X ≡ None → R.fault Y ≡ None → difference (whole R X) (whole R Y) ≢ None → Under R X F → ¬ Under R Y F) }
 {}
