@@ -1,12 +1,15 @@
 -- What a run is given, and how it leaves its inlet and its outlet.
-use Rattle.std.specs.Prelude.{◌≡◌, ℕ, ◌+◌, false, true, List, Option, IfSome, take}
-use Rattle.font_cut.specs.Fonts.{FontError, MAX_FILE, error_number, no_memory_number}
+use Rattle.std.specs.Prelude.{◌≡◌, ℕ, ◌+◌, Bool, false, true, List, None, Option, IfSome, Some, take}
+use Rattle.font_cut.specs.Cut.{IsTooLarge, cut_of}
+use Rattle.font_cut.specs.Fonts.{MAX_FILE, error_number, font_fault, no_memory_number}
+use Rattle.font_cut.specs.declared.cuts.CutIntoError.{CutIntoError}
+use Rattle.font_cut.specs.declared.cuts.CutIntoError.TheVariants as cut_errors
 use Rattle.font_cmd.specs.declared.inlet.Inlet.{Inlet}
 use Rattle.font_cmd.specs.declared.inlet.ReadError.{ReadError}
 use Rattle.font_cmd.specs.declared.inlet.ReadError.TheVariants.{NoMemory, ReadFault}
 use Rattle.font_cut.specs.declared.outlet.Outlet.{Outlet}
 use Rattle.font_cmd.specs.declared.run.RunError.{RunError}
-use Rattle.font_cmd.specs.declared.run.RunError.TheVariants.{Font, Memory, Read, Write}
+use Rattle.font_cmd.specs.declared.run.RunError.TheVariants.{Font, Memory, Read, TooLarge, Write}
 use Rattle.font_cmd.specs.Inlet as inlets
 use Rattle.font_cut.specs.Outlet as outlets
 
@@ -15,22 +18,49 @@ abbrev pub got : {R : Type 0} → (R → Option (List ℕ)) → Inlet R → (Lis
 got remaining inlet P = IfSome (remaining (inlets.reader_of inlet)) (λ bytes. P (take (MAX_FILE + 1) bytes))
 
 -- how a run that is not done leaves its inlet, from i to j, and its outlet, from o to p; `text` is what it sends of a file, and `refuses` says when it refuses one
-abbrev pub RunStops : {R W : Type 0} (remaining : R → Option (List ℕ)) (contents : W → Option (List ℕ)) (text : List ℕ → List ℕ) (refuses : FontError → Type 0) (i j : Inlet R) (o p : Outlet W) → RunError → Type 0
+abbrev pub RunStops : {R W : Type 0} (remaining : R → Option (List ℕ)) (contents : W → Option (List ℕ)) (text : List ℕ → List ℕ) (refuses : RunError → Type 0) (i j : Inlet R) (o p : Outlet W) → RunError → Type 0
 -- the inlet is broken after so many bytes, and nothing was sent
 RunStops remaining contents text refuses i j o p (Read count) = (inlets.broken_of j ≡ true) × inlets.Gives remaining i j count × (p ≡ o)
 -- nothing was sent
 RunStops remaining contents text refuses i j o p Memory = (inlets.broken_of j ≡ false) × (p ≡ o)
 -- the file is refused, and nothing was sent
-RunStops remaining contents text refuses i j o p (Font error) = (inlets.broken_of j ≡ false) × (p ≡ o) × refuses error
+RunStops remaining contents text refuses i j o p (Font error) = (inlets.broken_of j ≡ false) × (p ≡ o) × refuses (Font error)
+RunStops remaining contents text refuses i j o p (TooLarge size) = (inlets.broken_of j ≡ false) × (p ≡ o) × refuses (TooLarge size)
 -- the outlet is broken, and so many bytes of the text went out
 RunStops remaining contents text refuses i j o p (Write count) =
     (inlets.broken_of j ≡ false) × (outlets.broken_of p ≡ true) × (outlets.written_of p ≡ count)
     × got remaining i (λ file. outlets.Sends contents o p (take count (text file)))
 
+-- no file is refused
+abbrev pub RefusesNone : RunError → Type 0
+RefusesNone error = ⊥
+
+-- a file is refused as a font, by the first refusal that applies
+abbrev pub RefusesFont : {R : Type 0} → (R → Option (List ℕ)) → Inlet R → RunError → Type 0
+RefusesFont remaining inlet (Font error) = got remaining inlet (λ file. font_fault file ≡ Some error)
+RefusesFont remaining inlet (TooLarge size) = ⊥
+RefusesFont remaining inlet (Read count) = ⊥
+RefusesFont remaining inlet Memory = ⊥
+RefusesFont remaining inlet (Write count) = ⊥
+
+-- a file is refused as a font, or is one and its cut has so many bytes, more than a file may have
+abbrev pub RefusesCut : {R : Type 0} → (R → Option (List ℕ)) → Inlet R → (ℕ → Bool) → RunError → Type 0
+RefusesCut remaining inlet wanted (Font error) = got remaining inlet (λ file. font_fault file ≡ Some error)
+RefusesCut remaining inlet wanted (TooLarge size) = got remaining inlet (λ file. (font_fault file ≡ None) × IsTooLarge (cut_of file wanted) size)
+RefusesCut remaining inlet wanted (Read count) = ⊥
+RefusesCut remaining inlet wanted Memory = ⊥
+RefusesCut remaining inlet wanted (Write count) = ⊥
+
 -- the error of a run whose inlet was not read to its end
 abbrev pub of_read_error : ReadError → RunError
 of_read_error (ReadFault count) = Read count
 of_read_error NoMemory = Memory
+
+-- the error of a run whose cut was not sent
+abbrev pub of_cut_error : CutIntoError → RunError
+of_cut_error cut_errors.NoMemory = Memory
+of_cut_error (cut_errors.TooLarge size) = TooLarge size
+of_cut_error (cut_errors.WriteFault count) = Write count
 
 -- the number of a run's error
 abbrev pub run_error_number : RunError → ℕ
@@ -38,3 +68,4 @@ run_error_number (Read count) = 25
 run_error_number Memory = no_memory_number
 run_error_number (Write count) = 19
 run_error_number (Font error) = error_number error
+run_error_number (TooLarge size) = 18

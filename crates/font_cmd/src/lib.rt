@@ -3,13 +3,17 @@
 
 mod check;
 mod demo;
+mod files;
 mod inlet;
 mod run;
 mod show;
+mod subset;
+mod wanted;
 mod words;
 
 pub use crate::check::run_check;
 pub use crate::inlet::{Inlet, ReadError};
 pub use crate::run::RunError;
 pub use crate::show::run_show;
+pub use crate::subset::run_subset;
 pub use crate::words::run_words;

@@ -1,11 +1,11 @@
 //! What the runs share: their error, and how they send what they have made.
 ghost use Rattle.std.specs.Prelude.{◌≡◌, false, true, take, IfErr, OnErr, OnOk};
 ghost use Rattle.font_cut.specs.Outlet.{Sends, broken_of, fresh_of, written_of};
-ghost use Rattle.font_cmd.specs.Run.{of_read_error, run_error_number};
+ghost use Rattle.font_cmd.specs.Run.{of_cut_error, of_read_error, run_error_number};
 ghost use Rattle.font_cmd.specs.declared.run.RunError.TheVariants.{Font, Memory, Write};
 
 use crate::inlet::ReadError;
-use font_cut::{FontError, Outlet, WriteFault};
+use font_cut::{CutIntoError, FontError, Outlet, WriteFault};
 use std::alloc::AllocError;
 use std::io;
 use thiserror::Error;
@@ -25,6 +25,9 @@ pub enum RunError {
     /// The font is refused.
     #[error(transparent)]
     Font(FontError),
+    /// The file to be written would have so many bytes, more than a file may have.
+    #[error("too large {0}")]
+    TooLarge(u64),
 }
 
 impl RunError {
@@ -37,6 +40,7 @@ impl RunError {
             RunError::Memory => 16,
             RunError::Write(_) => 19,
             RunError::Font(error) => error.number(),
+            RunError::TooLarge(_) => 18,
         }
     }
 }
@@ -73,6 +77,18 @@ impl From<FontError> for RunError {
 
     fn from(error: FontError) -> RunError {
         RunError::Font(error)
+    }
+}
+
+impl From<CutIntoError> for RunError {
+    ghost from_gives = { λ held error. error ≡ of_cut_error held };
+
+    fn from(error: CutIntoError) -> RunError {
+        match error {
+            CutIntoError::NoMemory => RunError::Memory,
+            CutIntoError::TooLarge(size) => RunError::TooLarge(size),
+            CutIntoError::WriteFault(count) => RunError::Write(count),
+        }
     }
 }
 

@@ -3,7 +3,7 @@ ghost use Rattle.std.specs.Prelude.{◌≡◌, ◌<◌, None, Some, IfErr, OnOk,
 ghost use Rattle.font_cut.specs.Fonts.{font_fault};
 ghost use Rattle.font_cmd.specs.Inlet.{broken_of as inlet_broken_of, fresh_of as inlet_fresh_of};
 ghost use Rattle.font_cut.specs.Outlet.{Sends, broken_of, fresh_of};
-ghost use Rattle.font_cmd.specs.Run.{RunStops, got};
+ghost use Rattle.font_cmd.specs.Run.{RefusesFont, RunStops, got};
 ghost use Rattle.font_cmd.specs.Show.{dropped_line, dropped_text, kept_line, kept_table_line, kept_text, mapped_text, numbers_text, show_text};
 
 use crate::inlet::Inlet;
@@ -168,8 +168,7 @@ pub fn run_show<R: Read, W: Write, A: Allocator + Copy>(
     ensures whole { OnOk result ((inlet_broken_of inlet.new ≡ false) × (broken_of outlet.new ≡ false)) }
 
     ensures error { IfErr result
-        (RunStops R.remaining W.contents show_text
-        (λ error. got R.remaining inlet.old (λ file. font_fault file ≡ Some error))
+        (RunStops R.remaining W.contents show_text (RefusesFont R.remaining inlet.old)
         inlet.old inlet.new outlet.old outlet.new) }
 {
     let file = inlet.read_all(alloc)?;

@@ -1,17 +1,21 @@
 //! The program's body: it does what a command line asks for, and answers the status.
-ghost use Rattle.std.specs.Prelude.{◌≡◌, true};
+ghost use Rattle.std.specs.Prelude.{◌≡◌, IfOk, true};
 ghost use Rattle.font_cut.specs.Outlet.{fresh_of};
+ghost use Rattle.font_cmd.specs.Inlet.{fresh_of as inlet_fresh_of};
 
 use crate::check::run_check;
 use crate::demo::demo_text;
+use crate::files::OutFile;
 use crate::inlet::Inlet;
 use crate::run::{RunError, send};
 use crate::show::run_show;
-use font_cut::{FontError, Outlet};
-use font_line::{LineError, Task, parse};
+use crate::subset::run_subset;
+use crate::wanted::{WordsError, wanted_of};
+use font_cut::{Outlet, Wanted};
+use font_line::{LineError, Subset, Task, parse};
 use std::alloc::Global;
 use std::fs::File;
-use std::io::Write;
+use std::io::{BufWriter, Write};
 use std::rt::Files;
 
 /// What was asked for is done.
@@ -25,6 +29,12 @@ const BAD_WORDS: u8 = 2;
 
 /// A file cannot be read, or an output cannot be written.
 const BAD_FILES: u8 = 3;
+
+// The bytes that are gathered for one write of a file.
+const BLOCK: usize = 64 * 1024;
+
+// What stands for a path where a report cannot be written.
+const STANDARD_OUTPUT: &str = "standard output";
 
 // Prints a text on standard error. That this fails changes no status.
 fn say<V: Write>(err: &mut Outlet<V>, text: &str)
@@ -40,92 +50,137 @@ fn no_memory<V: Write>(err: &mut Outlet<V>) -> u8
     REFUSED
 }
 
-fn refused<V: Write>(alloc: Global, err: &mut Outlet<V>, error: FontError) -> u8
+fn refused<V: Write>(alloc: Global, err: &mut Outlet<V>, fault: RunError) -> u8
     requires { fresh_of err.old ≡ true }
 {
-    let number = error.number();
-    let Ok(text) = format!(in alloc; "fontcut: refused {number} {error}\n") else {
+    let number = fault.number();
+    let Ok(text) = format!(in alloc; "fontcut: refused {number} {fault}\n") else {
         return no_memory(err);
     };
     say(err, text.as_str());
     REFUSED
 }
 
-fn cannot_read<V: Write>(alloc: Global, err: &mut Outlet<V>, path: &str) -> u8
+fn bad_word<V: Write>(alloc: Global, err: &mut Outlet<V>, word: &str) -> u8
     requires { fresh_of err.old ≡ true }
 {
-    let Ok(text) = format!(in alloc; "fontcut: cannot read {path}\n") else {
+    let Ok(text) = format!(in alloc; "fontcut: bad word {word}\n") else {
+        return no_memory(err);
+    };
+    say(err, text.as_str());
+    BAD_WORDS
+}
+
+fn cannot<V: Write>(alloc: Global, err: &mut Outlet<V>, verb: &str, path: &str) -> u8
+    requires { fresh_of err.old ≡ true }
+{
+    let Ok(text) = format!(in alloc; "fontcut: cannot {verb} {path}\n") else {
         return no_memory(err);
     };
     say(err, text.as_str());
     BAD_FILES
 }
 
-fn cannot_write_output<V: Write>(err: &mut Outlet<V>) -> u8
-    requires { fresh_of err.old ≡ true }
-{
-    say(err, "fontcut: cannot write standard output\n");
-    BAD_FILES
-}
-
-// Prints why the run over the file at `path` was not done.
-fn failed<V: Write>(alloc: Global, err: &mut Outlet<V>, path: &str, fault: RunError) -> u8
-    requires { fresh_of err.old ≡ true }
-{
-    match fault {
-        RunError::Memory => no_memory(err),
-        RunError::Read(_) => cannot_read(alloc, err, path),
-        RunError::Write(_) => cannot_write_output(err),
-        RunError::Font(error) => refused(alloc, err, error),
-    }
-}
-
-fn print<W: Write, V: Write>(out: &mut Outlet<W>, err: &mut Outlet<V>, text: &str) -> u8
+fn print<W: Write, V: Write>(
+    alloc: Global,
+    out: &mut Outlet<W>,
+    err: &mut Outlet<V>,
+    text: &str,
+) -> u8
     requires out { fresh_of out.old ≡ true }
     requires err { fresh_of err.old ≡ true }
 {
     match send(out, text.as_bytes()) {
         Ok(()) => DONE,
-        Err(_) => cannot_write_output(err),
+        Err(_) => cannot(alloc, err, "write", STANDARD_OUTPUT),
     }
 }
 
-fn check<F: Files, W: Write, V: Write>(
-    files: &F,
+// The status of a run over the file at the path `font`, and why it was not done.
+fn ended<V: Write>(
     alloc: Global,
-    path: &str,
-    out: &mut Outlet<W>,
     err: &mut Outlet<V>,
+    font: &str,
+    out: &str,
+    answer: Result<bool, RunError>,
 ) -> u8
-    requires out { fresh_of out.old ≡ true }
-    requires err { fresh_of err.old ≡ true }
+    requires { fresh_of err.old ≡ true }
 {
-    let Ok(file) = File::open(files, path) else {
-        return cannot_read(alloc, err, path);
-    };
-    match run_check(alloc, &mut Inlet::new(file), out) {
+    match answer {
         Ok(true) => DONE,
         Ok(false) => REFUSED,
-        Err(fault) => failed(alloc, err, path, fault),
+        Err(RunError::Read(_)) => cannot(alloc, err, "read", font),
+        Err(RunError::Write(_)) => cannot(alloc, err, "write", out),
+        Err(fault) => refused(alloc, err, fault),
     }
 }
 
-fn show<F: Files, W: Write, V: Write>(
+// A file that cannot be opened is one that cannot be read.
+fn opened<F: Files>(files: &F, path: &str) -> Result<Inlet<F::File>, RunError>
+    ensures { IfOk result (λ inlet. inlet_fresh_of inlet ≡ true) }
+{
+    match File::open(files, path) {
+        Ok(file) => Ok(Inlet::new(file)),
+        Err(_) => Err(RunError::Read(0)),
+    }
+}
+
+fn check<F: Files, W: Write>(
     files: &F,
     alloc: Global,
-    path: &str,
+    font: &str,
     out: &mut Outlet<W>,
+) -> Result<bool, RunError>
+    requires { fresh_of out.old ≡ true }
+{
+    run_check(alloc, &mut opened(files, font)?, out)
+}
+
+fn show<F: Files, W: Write>(
+    files: &F,
+    alloc: Global,
+    font: &str,
+    out: &mut Outlet<W>,
+) -> Result<bool, RunError>
+    requires { fresh_of out.old ≡ true }
+{
+    run_show(alloc, &mut opened(files, font)?, out)?;
+    Ok(true)
+}
+
+// Sends the cut of the file at the path `font` to the one at the path `out`, by way of a block of bytes:
+// a cut is made of many short pieces.
+fn cut<F: Files>(
+    files: &F,
+    alloc: Global,
+    font: &str,
+    out: &str,
+    wanted: &Wanted,
+) -> Result<bool, RunError> {
+    let mut inlet = opened(files, font)?;
+    let Ok(block) = BufWriter::with_capacity(alloc, BLOCK, OutFile::new(files, out)) else {
+        return Err(RunError::Memory);
+    };
+    run_subset(alloc, &mut inlet, wanted, &mut Outlet::new(block))?;
+    Ok(true)
+}
+
+// The words are looked at before the font is opened.
+fn subset<F: Files, V: Write>(
+    files: &F,
+    alloc: Global,
+    line: &Subset<'_>,
     err: &mut Outlet<V>,
 ) -> u8
-    requires out { fresh_of out.old ≡ true }
-    requires err { fresh_of err.old ≡ true }
+    requires { fresh_of err.old ≡ true }
 {
-    let Ok(file) = File::open(files, path) else {
-        return cannot_read(alloc, err, path);
-    };
-    match run_show(alloc, &mut Inlet::new(file), out) {
-        Ok(()) => DONE,
-        Err(fault) => failed(alloc, err, path, fault),
+    match wanted_of(alloc, line.text, &line.words) {
+        Ok(wanted) => {
+            let answer = cut(files, alloc, line.font, line.out, &wanted);
+            ended(alloc, err, line.font, line.out, answer)
+        }
+        Err(WordsError::BadWord(word)) => bad_word(alloc, err, word),
+        Err(WordsError::NoMemory) => no_memory(err),
     }
 }
 
@@ -134,7 +189,7 @@ fn demo<W: Write, V: Write>(alloc: Global, out: &mut Outlet<W>, err: &mut Outlet
     requires err { fresh_of err.old ≡ true }
 {
     match demo_text(alloc) {
-        Ok(text) => print(out, err, text.as_str()),
+        Ok(text) => print(alloc, out, err, text.as_str()),
         Err(_) => no_memory(err),
     }
 }
@@ -155,11 +210,18 @@ pub fn run_words<F: Files, W: Write, V: Write>(
     requires err { fresh_of err.old ≡ true }
 {
     match parse(alloc, words) {
-        Ok(Task::Check { font }) => check(files, alloc, font, out, err),
-        Ok(Task::Show { font }) => show(files, alloc, font, out, err),
+        Ok(Task::Check { font }) => {
+            let answer = check(files, alloc, font, out);
+            ended(alloc, err, font, STANDARD_OUTPUT, answer)
+        }
+        Ok(Task::Show { font }) => {
+            let answer = show(files, alloc, font, out);
+            ended(alloc, err, font, STANDARD_OUTPUT, answer)
+        }
+        Ok(Task::Subset(line)) => subset(files, alloc, &line, err),
         Ok(Task::Demo) => demo(alloc, out, err),
         Err(LineError::NoMemory) => no_memory(err),
-        Err(LineError::Help(text)) => print(out, err, text.as_str()),
+        Err(LineError::Help(text)) => print(alloc, out, err, text.as_str()),
         Err(LineError::Words(text)) => {
             say(err, text.as_str());
             BAD_WORDS

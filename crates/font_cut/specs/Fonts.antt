@@ -13,6 +13,7 @@ pub use Rattle.font_tables.specs.declared.loca.LocaForm.TheVariants.{Long, Short
 pub use Rattle.font_map.specs.CharacterMap.{mapped_codes}
 pub use Rattle.font_map.specs.Cmap.{chosen_of}
 pub use Rattle.font_map.specs.Mapping.{mapping_of}
+pub use Rattle.font_map.specs.Wanted.{member}
 pub use Rattle.font_file.specs.Font.{cmap_of, font_fault}
 pub use Rattle.font_file.specs.Text.{error_number, error_text}
 pub use Rattle.font_file.specs.declared.font_error.FontError.{FontError}

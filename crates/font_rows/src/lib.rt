@@ -3,6 +3,8 @@
 #![tactic(auto)]
 
 #[cfg(test)]
+mod cuts;
+#[cfg(test)]
 mod directory;
 #[cfg(test)]
 mod failing_devices;
@@ -18,5 +20,7 @@ mod fonts;
 mod hostile;
 #[cfg(test)]
 mod show_lines;
+#[cfg(test)]
+mod subset_runs;
 #[cfg(test)]
 mod tables;

@@ -31,12 +31,12 @@ kept loca 14
 kept maxp 32
 ";
 
-// What a line answers and prints.
+/// What a line answers and prints.
 #[derive(Debug, Drop)]
-struct Answered {
-    status: u8,
-    out: Vec<u8>,
-    err: Vec<u8>,
+pub struct Answered {
+    pub status: u8,
+    pub out: Vec<u8>,
+    pub err: Vec<u8>,
 }
 
 fn line_of(alloc: Global, words: &[&str]) -> Result<Vec<String>, AllocError> {
@@ -47,7 +47,7 @@ fn line_of(alloc: Global, words: &[&str]) -> Result<Vec<String>, AllocError> {
     Ok(line)
 }
 
-fn run(rt: &HostRuntime, alloc: Global, words: &[&str]) -> Result<Answered, AllocError> {
+pub fn run(rt: &HostRuntime, alloc: Global, words: &[&str]) -> Result<Answered, AllocError> {
     let line = line_of(alloc, words)?;
     let mut out = Outlet::new(Vec::new(alloc));
     let mut err = Outlet::new(Vec::new(alloc));
@@ -70,10 +70,14 @@ fn demo_prints_the_font_it_carries(rt: HostRuntime) -> Result<(), Fail> {
 
 #[test]
 fn faults_of_the_words(rt: HostRuntime) -> Result<(), Fail> {
-    let lines: [&[&str]; 7] = [
+    let lines: [&[&str]; 11] = [
         &[],
         &["check"],
         &["show"],
+        &["subset"],
+        &["subset", "a.ttf"],
+        &["subset", "a.ttf", "b.ttf", "--text"],
+        &["subset", "a.ttf", "b.ttf", "--words", "U+41"],
         &["cut"],
         &["--font"],
         &["demo", "demo"],
@@ -89,7 +93,12 @@ fn faults_of_the_words(rt: HostRuntime) -> Result<(), Fail> {
 
 #[test]
 fn help_goes_to_standard_output(rt: HostRuntime) -> Result<(), Fail> {
-    let lines: [&[&str]; 3] = [&["--help"], &["help"], &["check", "--help"]];
+    let lines: [&[&str]; 4] = [
+        &["--help"],
+        &["help"],
+        &["check", "--help"],
+        &["subset", "--help"],
+    ];
     for line in lines {
         let answer = run(&rt, rt.alloc(), line)?;
         assert_eq!(rt; answer.status, 0, "{line:?}");

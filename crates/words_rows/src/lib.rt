@@ -3,3 +3,7 @@
 
 #[cfg(test)]
 mod command_words;
+#[cfg(test)]
+mod cuts;
+#[cfg(test)]
+mod subset_words;

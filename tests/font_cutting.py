@@ -1,0 +1,132 @@
+"""A small maker of cuts, apart from the program: the bytes that `fontcut subset` has to write.
+
+It follows OpenType 1.9, "Organization of an OpenType Font", `cmap` ("Format 12: Segmented coverage"),
+`loca`, `glyf` and `head`, and docs/FORMAT.md, which says what a cut keeps.
+"""
+import struct
+from array import array
+from collections import namedtuple
+from functools import lru_cache
+
+from font_reading import (KEPT, component_size, mapping, offset, records_of, search_fields, table, table_of, u16,
+                          word_sum)
+
+Group = namedtuple("Group", "first last glyph")
+
+
+def padded(data):
+    """The bytes, and the fewest zeros that fill them to a multiple of 4."""
+    return bytes(data) + bytes(-len(data) % 4)
+
+
+@lru_cache(1)
+def outlines(file):
+    """The records of all glyphs, in order of number."""
+    glyf, loca, form = table(file, b"glyf"), table(file, b"loca"), u16(table(file, b"head"), 50)
+    count = u16(table(file, b"maxp"), 4)
+    places = [offset(loca, form, index) for index in range(count + 1)]
+    return [glyf[begin:end] for begin, end in zip(places, places[1:])]
+
+
+def component_glyphs(record):
+    """The glyphs that a record is composed of; a simple or an empty one of none."""
+    glyphs, place, more = [], 10, len(record) > 0 and record[0] >= 0x80
+    while more:
+        flags, glyph = struct.unpack_from(">HH", record, place)
+        glyphs.append(glyph)
+        place += component_size(flags)
+        more = flags & 0x20 != 0
+    return glyphs
+
+
+@lru_cache(1)
+def whole_map(file):
+    """The glyph of each code that is mapped."""
+    return mapping(table(file, b"cmap"), u16(table(file, b"maxp"), 4))
+
+
+def wanted_map(file, wanted):
+    """The same of the codes that lie in one of the wanted ranges."""
+    return {code: glyph for code, glyph in whole_map(file).items()
+            if any(first <= code <= last for first, last in wanted)}
+
+
+def kept_glyphs(records, glyphs):
+    """What chains of components lead to from .notdef and from these glyphs."""
+    kept, left = set(), [0, *glyphs]
+    while left:
+        glyph = left.pop()
+        if glyph not in kept:
+            kept.add(glyph)
+            left += component_glyphs(records[glyph])
+    return kept
+
+
+def groups_of(glyphs):
+    """The fewest groups, ascending, that spell a map from codes to glyphs."""
+    groups = []
+    for code, glyph in sorted(glyphs.items()):
+        if groups and (groups[-1].last + 1, groups[-1].glyph + code - groups[-1].first) == (code, glyph):
+            groups[-1] = groups[-1]._replace(last=code)
+        else:
+            groups.append(Group(code, code, glyph))
+    return groups
+
+
+def cmap_table(groups):
+    """A `cmap` with one record, 3/10, and a subtable of format 12."""
+    header = struct.pack(">HHHHI", 0, 1, 3, 10, 12)
+    subtable = struct.pack(">HHIII", 12, 0, 16 + 12 * len(groups), 0, len(groups))
+    return header + subtable + b"".join(struct.pack(">III", *group) for group in groups)
+
+
+def glyf_and_loca(records, kept):
+    """The outlines of the kept glyphs, each padded, and the long offsets of all glyphs."""
+    glyf, places = bytearray(), array("I", [0])
+    for glyph, record in enumerate(records):
+        if glyph in kept:
+            glyf += padded(record)
+        places.append(len(glyf))
+    return bytes(glyf), struct.pack(f">{len(places)}I", *places)
+
+
+def adjusted(head, adjustment):
+    """The `head` with this checksumAdjustment."""
+    return head[:8] + struct.pack(">I", adjustment) + head[12:]
+
+
+def assembled(tables):
+    """The file of these tables: the directory, then the tables in order of tag, all sums and search fields right."""
+    tables = {**tables, b"head": adjusted(tables[b"head"], 0)}
+    directory = struct.pack(">IHHHH", 0x00010000, len(tables), *search_fields(len(tables)))
+    place = 12 + 16 * len(tables)
+    for tag, data in sorted(tables.items()):
+        directory += struct.pack(">4sIII", tag, word_sum(data), place, len(data))
+        place += len(padded(data))
+
+    def whole():
+        return directory + b"".join(padded(data) for _, data in sorted(tables.items()))
+
+    tables[b"head"] = adjusted(tables[b"head"], (0xB1B0AFBA - word_sum(whole())) % 2**32)
+    return whole()
+
+
+def cut_tables(file, wanted):
+    """The tables of the cut of a font for wanted ranges of codes, by tag."""
+    records, glyphs = outlines(file), wanted_map(file, wanted)
+    tables = {record.tag: table_of(file, record) for record in records_of(file) if record.tag in KEPT}
+    tables[b"cmap"] = cmap_table(groups_of(glyphs))
+    tables[b"glyf"], tables[b"loca"] = glyf_and_loca(records, kept_glyphs(records, glyphs.values()))
+    head = tables[b"head"]
+    tables[b"head"] = head[:50] + struct.pack(">h", 1) + head[52:]
+    return tables
+
+
+def cut_size(tables):
+    """How many bytes the file of these tables has."""
+    return 12 + 16 * len(tables) + sum(len(data) + -len(data) % 4 for data in tables.values())
+
+
+def cut(file, wanted):
+    """The cut of a font that is accepted, for wanted ranges of codes."""
+    return assembled(cut_tables(file, wanted))

@@ -1,0 +1,111 @@
+"""Worked cuts of a font of six glyphs, typed in by hand: sizes, offsets, sums and bytes."""
+import struct
+
+from font_reading import records_of, table_of
+
+# The font: a directory and seven tables. Its glyphs have 12, 14, 10, 22, 0 and 12 bytes; glyph 3 is
+# composed of 1 and 2. U+0020 is mapped to glyph 4, U+0041 to 1, U+0042 to 5 and U+00C1 to 3.
+BASE6 = bytes.fromhex("""
+    00010000 00070040 00020030
+    636D6170 01C10016 0000007C 00000044
+    676C7966 1B6F056C 000000C0 00000046
+    68656164 610742D9 00000108 00000036
+    68686561 05160197 00000140 00000024
+    686D7478 09F60000 00000164 00000018
+    6C6F6361 004D0035 0000017C 0000000E
+    6D617870 00090004 0000018C 00000020
+    00000001 00030001 0000000C
+    00040038 0000000A 00080002
+    00020020 00410042 00C1FFFF
+    00000020 00410042 00C1FFFF
+    FFE4FFC0 FFC3FF42 00010000 00000000 00000000
+    00000000 00000064 00640000
+    00000000 000000C8 00C80002 11220000
+    00000000 012C012C
+    FFFF0000 000001F4 01F40022 00010000 00020002 05050000
+    00000000 00FA00FA 00000000
+    00010000 00010000 B88E1FF6 5F0F3CF5 000003E8
+    00000000 00000000 00000000 00000000 00000000
+    01F401F4 00000008 00020000 00000000
+    00010000 0320FF38 00000258 00000000 01F40001
+    00000000 00000000 00000000 00000006
+    02580000 01F40000 01900000 01F40000 00FA0000 012C0000
+    00000006 000D0012 001D001D 00230000
+    00010000 00060000 00000000 00000001
+    00000000 00000000 00000002 00020001
+""")
+
+# The cut for no code, whole.
+CUT_OF_NOTHING = bytes.fromhex("""
+    00010000 00070040 00020030
+    636D6170 000F0027 0000007C 0000001C
+    676C7966 00640064 00000098 0000000C
+    68656164 610742DA 000000A4 00000036
+    68686561 05160197 000000DC 00000024
+    686D7478 09F60000 00000100 00000018
+    6C6F6361 00000048 00000118 0000001C
+    6D617870 00090004 00000134 00000020
+    00000001 0003000A 0000000C 000C0000 00000010 00000000 00000000
+    00000000 00000064 00640000
+    00010000 00010000 F2A22C20 5F0F3CF5 000003E8
+    00000000 00000000 00000000 00000000 00000000
+    01F401F4 00000008 00020001 00000000
+    00010000 0320FF38 00000258 00000000 01F40001
+    00000000 00000000 00000000 00000006
+    02580000 01F40000 01900000 01F40000 00FA0000 012C0000
+    00000000 0000000C 0000000C 0000000C 0000000C 0000000C 0000000C
+    00010000 00060000 00000000 00000001
+    00000000 00000000 00000002 00020001
+""")
+
+# The tables `cmap` and `glyf` of the cut for U+00C1.
+CMAP_OF_AACUTE = bytes.fromhex("""
+    00000001 0003000A 0000000C 000C0000 0000001C 00000000 00000001
+    000000C1 000000C1 00000003
+""")
+GLYF_OF_AACUTE = bytes.fromhex("""
+    00000000 00000064 00640000
+    00000000 000000C8 00C80002 11220000
+    00000000 0000012C 012C0000
+    FFFF0000 000001F4 01F40022 00010000 00020002 05050000
+""")
+
+# The offsets of loca in the cuts for U+00C1, and for U+0041 and U+0042.
+LOCA_OF_AACUTE = [0, 12, 28, 40, 64, 64, 64]
+LOCA_OF_A_AND_B = [0, 12, 28, 28, 28, 28, 40]
+
+# Of each cut: the words, the size, the sums of cmap, glyf and loca, checksumAdjustment, the offsets of the
+# seven tables. The sums of head, hhea, hmtx and maxp are the same in all.
+SUMS = {b"head": 0x610742DA, b"hhea": 0x05160197, b"hmtx": 0x09F60000, b"maxp": 0x00090004}
+CUTS = [
+    ("", 340, 0x000F0027, 0x00640064, 0x00000048, 0xF2A22C20, (124, 152, 164, 220, 256, 280, 308)),
+    ("U+20", 352, 0x000F0078, 0x00640064, 0x00000048, 0xF2A22B2A, (124, 164, 176, 232, 268, 292, 320)),
+    ("U+41 U+42", 392, 0x000F014D, 0x13480228, 0x000000A4, 0xCCDA2444, (124, 176, 216, 272, 308, 332, 360)),
+    ("U+C1", 404, 0x000F01B9, 0x1A750472, 0x00000110, 0xBE801DC4, (124, 164, 228, 284, 320, 344, 372)),
+    ("U+41-42 U+C1", 440, 0x000F02DF, 0x1B6F056C, 0x0000011C, 0xBC8C187C, (124, 188, 264, 320, 356, 380, 408)),
+]
+
+
+def base6_tables():
+    return {record.tag: table_of(BASE6, record) for record in records_of(BASE6)}
+
+
+def composite_of_composite():
+    """The tables of the font with glyph 5 composed of glyph 3 alone, in 16 bytes."""
+    tables = base6_tables()
+    tables[b"glyf"] = tables[b"glyf"][:58] + struct.pack(">hhhhhHHbb", -1, 0, 0, 250, 250, 0x0002, 3, 0, 0)
+    tables[b"loca"] = struct.pack(">7H", 0, 6, 13, 18, 29, 29, 37)
+    return tables
+
+
+def three_in_a_row():
+    """The tables of the font with U+0061 to U+0063 on the glyphs 1 to 3 as its only codes."""
+    segments = struct.pack(">2HH2H2h2H", 0x63, 0xFFFF, 0, 0x61, 0xFFFF, 1 - 0x61, 1, 0, 0)
+    subtable = struct.pack(">7H", 4, 14 + len(segments), 0, 4, 4, 1, 0) + segments
+    return {**base6_tables(), b"cmap": struct.pack(">HHHHI", 0, 1, 3, 1, 12) + subtable}
+
+
+def reversed_directory():
+    """The font with its records in reversed order, all checksums 0."""
+    records = [BASE6[at:at + 4] + bytes(4) + BASE6[at + 8:at + 16] for at in range(108, 11, -16)]
+    return BASE6[:12] + b"".join(records) + BASE6[124:]
