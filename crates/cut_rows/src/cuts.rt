@@ -1,0 +1,349 @@
+//! Cuts of small fonts, and the plain cut beside the fast one.
+use crate::bytes::{bytes_of, words_of};
+use crate::fonts;
+use crate::fonts::{cut_of, wanted_of};
+use crate::plain::{codes_of, plain_cut};
+use crate::vectors::{AACUTE, NOTHING};
+use font_cut::Font;
+use sfnt_bytes::{BASE6, Directory};
+use std::alloc::Global;
+use std::test::Fail;
+
+// The slots of the tables that are made anew.
+const CMAP: usize = 1;
+
+const LOCA: usize = 9;
+
+// How many words stand in a cut's `cmap` before its groups.
+const BEFORE_GROUPS: usize = 7;
+
+// The groups of a cut, three words each.
+fn groups_of(alloc: Global, file: &[u8]) -> Result<Vec<u32>, Fail> {
+    let table = Directory::read(file)?.table(CMAP).ok_or("no cmap")?;
+    let words = words_of(alloc, table)?;
+    let groups = words.get(BEFORE_GROUPS..).ok_or("a short cmap")?;
+    let copy = groups.to_vec(alloc)?;
+    Ok(copy)
+}
+
+// The offsets of a cut.
+fn loca_of(alloc: Global, file: &[u8]) -> Result<Vec<u32>, Fail> {
+    let table = Directory::read(file)?.table(LOCA).ok_or("no loca")?;
+    let words = words_of(alloc, table)?;
+    Ok(words)
+}
+
+// Whether a file is accepted, and has no finding.
+fn is_clean(file: &[u8]) -> bool {
+    match Font::open(file) {
+        Ok(font) => font.tables().directory().findings().next().is_none(),
+        Err(_) => false,
+    }
+}
+
+// Whether the cut has this size, these groups and these offsets, is accepted and has no finding.
+fn is_as_stated(
+    alloc: Global,
+    made: &[u8],
+    size: usize,
+    groups: &[u32],
+    loca: &[u32],
+) -> Result<bool, Fail> {
+    let found_groups = groups_of(alloc, made)?;
+    let found_loca = loca_of(alloc, made)?;
+    Ok(
+        made.len() == size
+            && found_groups.as_slice() == groups
+            && found_loca.as_slice() == loca
+            && is_clean(made),
+    )
+}
+
+#[test]
+fn fonts_as_stated(rt: HostRuntime) -> Result<(), Fail> {
+    let alloc = rt.alloc();
+    let tables = fonts::base6_tables(alloc)?;
+    assert_eq!(rt;
+        fonts::file_of_tables(alloc, &tables)?.as_slice(),
+        BASE6.as_slice()
+    );
+    let records = fonts::base6_records(alloc)?;
+    assert_eq!(rt;
+        fonts::base6_with_records(alloc, &records)?.as_slice(),
+        BASE6.as_slice()
+    );
+    let shared = fonts::name_over_glyf(alloc)?;
+    assert_eq!(rt; shared.len(), 444);
+    let many = fonts::many_records(alloc)?;
+    assert_eq!(rt; many.len(), 1_048_876);
+    for (name, file) in small_fonts(alloc)?.iter() {
+        assert_eq!(rt; fonts::refusal_of(file), None, "{name}");
+        assert_eq!(rt; is_clean(file), *name != "reversed directory", "{name}");
+    }
+    Ok(())
+}
+
+#[test]
+fn cut_of_nothing(rt: HostRuntime) -> Result<(), Fail> {
+    let made = cut_of(rt.alloc(), &BASE6, &[])?;
+    assert_eq!(rt; made.len(), 340);
+    assert_eq!(rt; words_of(rt.alloc(), &made)?.as_slice(), NOTHING.as_slice());
+    assert!(rt; is_clean(&made));
+    Ok(())
+}
+
+#[test]
+fn cut_of_aacute(rt: HostRuntime) -> Result<(), Fail> {
+    let made = cut_of(rt.alloc(), &BASE6, &[(0xC1, 0xC1)])?;
+    assert_eq!(rt; made.len(), 404);
+    assert_eq!(rt; words_of(rt.alloc(), &made)?.as_slice(), AACUTE.as_slice());
+    assert!(rt; is_clean(&made));
+    Ok(())
+}
+
+#[test]
+fn cut_of_unmapped(rt: HostRuntime) -> Result<(), Fail> {
+    let made = cut_of(rt.alloc(), &BASE6, &[(0x5A, 0x5A), (0x10_FFFF, 0x10_FFFF)])?;
+    assert_eq!(rt; words_of(rt.alloc(), &made)?.as_slice(), NOTHING.as_slice());
+    Ok(())
+}
+
+#[test]
+fn cut_of_space(rt: HostRuntime) -> Result<(), Fail> {
+    let made = cut_of(rt.alloc(), &BASE6, &[(0x20, 0x20)])?;
+    let loca = [0, 12, 12, 12, 12, 12, 12];
+    assert!(rt;
+        is_as_stated(rt.alloc(), &made, 352, &[0x20, 0x20, 4], &loca)?,
+        "{made:?}"
+    );
+    Ok(())
+}
+
+#[test]
+fn cut_of_a_and_b(rt: HostRuntime) -> Result<(), Fail> {
+    let made = cut_of(rt.alloc(), &BASE6, &[(0x41, 0x42)])?;
+    let groups = [0x41, 0x41, 1, 0x42, 0x42, 5];
+    let loca = [0, 12, 28, 28, 28, 28, 40];
+    assert!(rt;
+        is_as_stated(rt.alloc(), &made, 392, &groups, &loca)?,
+        "{made:?}"
+    );
+    Ok(())
+}
+
+#[test]
+fn composite_of_composite(rt: HostRuntime) -> Result<(), Fail> {
+    let file = fonts::composite_of_composite(rt.alloc())?;
+    let made = cut_of(rt.alloc(), &file, &[(0x42, 0x42)])?;
+    let loca = [0, 12, 28, 40, 64, 64, 80];
+    assert!(rt;
+        is_as_stated(rt.alloc(), &made, 420, &[0x42, 0x42, 5], &loca)?,
+        "{made:?}"
+    );
+    Ok(())
+}
+
+#[test]
+fn glyph_of_itself(rt: HostRuntime) -> Result<(), Fail> {
+    let file = fonts::glyph_of_itself(rt.alloc())?;
+    let made = cut_of(rt.alloc(), &file, &[(0xC1, 0xC1)])?;
+    let loca = [0, 12, 12, 24, 48, 48, 48];
+    assert!(rt;
+        is_as_stated(rt.alloc(), &made, 388, &[0xC1, 0xC1, 3], &loca)?,
+        "{made:?}"
+    );
+    Ok(())
+}
+
+#[test]
+fn gap_closes_in_join(rt: HostRuntime) -> Result<(), Fail> {
+    let file = fonts::three_in_a_row(rt.alloc())?;
+    for (ranges, size, groups, loca) in [
+        (
+            [(0x61, 0x61), (0x63, 0x63)].as_slice(),
+            416,
+            [0x61, 0x61, 1, 0x63, 0x63, 3].as_slice(),
+            [0, 12, 28, 40, 64, 64, 64],
+        ),
+        (
+            &[(0x62, 0x62)],
+            364,
+            &[0x62, 0x62, 2],
+            [0, 12, 12, 24, 24, 24, 24],
+        ),
+        (
+            &[(0x61, 0x61), (0x63, 0x63), (0x62, 0x62)],
+            404,
+            &[0x61, 0x63, 1],
+            [0, 12, 28, 40, 64, 64, 64],
+        ),
+    ] {
+        let made = cut_of(rt.alloc(), &file, ranges)?;
+        assert!(rt;
+            is_as_stated(rt.alloc(), &made, size, groups, &loca)?,
+            "{made:?}"
+        );
+    }
+    Ok(())
+}
+
+#[test]
+fn empty_against_outline(rt: HostRuntime) -> Result<(), Fail> {
+    let without = fonts::without_outline(rt.alloc(), 2)?;
+    let made = cut_of(rt.alloc(), &without, &[(0xC1, 0xC1)])?;
+    let loca = [0, 12, 28, 28, 52, 52, 52];
+    assert!(rt;
+        is_as_stated(rt.alloc(), &made, 392, &[0xC1, 0xC1, 3], &loca)?,
+        "{made:?}"
+    );
+    let more = fonts::one_more_code(rt.alloc())?;
+    let made = cut_of(rt.alloc(), &more, &[(0x43, 0x43)])?;
+    let loca = [0, 12, 12, 24, 24, 24, 24];
+    assert!(rt;
+        is_as_stated(rt.alloc(), &made, 364, &[0x43, 0x43, 2], &loca)?,
+        "{made:?}"
+    );
+    Ok(())
+}
+
+#[test]
+fn reversed_directory(rt: HostRuntime) -> Result<(), Fail> {
+    let file = fonts::reversed_directory(rt.alloc())?;
+    for ranges in sets() {
+        let made = cut_of(rt.alloc(), &file, ranges)?;
+        let stated = cut_of(rt.alloc(), &BASE6, ranges)?;
+        assert_eq!(rt; made.as_slice(), stated.as_slice(), "{ranges:?}");
+    }
+    Ok(())
+}
+
+#[test]
+fn ring_of_two(rt: HostRuntime) -> Result<(), Fail> {
+    let file = fonts::ring_of_two(rt.alloc())?;
+    let made = cut_of(rt.alloc(), &file, &[(0x42, 0x42)])?;
+    let loca = [0, 12, 12, 24, 48, 48, 64];
+    assert!(rt;
+        is_as_stated(rt.alloc(), &made, 404, &[0x42, 0x42, 5], &loca)?,
+        "{made:?}"
+    );
+    Ok(())
+}
+
+#[test]
+fn overlaps_and_many_records(rt: HostRuntime) -> Result<(), Fail> {
+    let shared = fonts::name_over_glyf(rt.alloc())?;
+    let made = cut_of(rt.alloc(), &shared, &[])?;
+    let loca = [0, 12, 12, 12, 12, 12, 12];
+    assert!(rt;
+        is_as_stated(rt.alloc(), &made, 428, &[], &loca)?,
+        "{made:?}"
+    );
+    let made = cut_of(rt.alloc(), &shared, &[(0, 0x10_FFFF)])?;
+    let groups = [0x20, 0x20, 4, 0x41, 0x41, 1, 0x42, 0x42, 5, 0xC1, 0xC1, 3];
+    let loca = [0, 12, 28, 40, 64, 64, 76];
+    assert!(rt;
+        is_as_stated(rt.alloc(), &made, 540, &groups, &loca)?,
+        "{made:?}"
+    );
+    let many = fonts::many_records(rt.alloc())?;
+    let made = cut_of(rt.alloc(), &many, &[(0xC1, 0xC1)])?;
+    assert_eq!(rt; words_of(rt.alloc(), &made)?.as_slice(), AACUTE.as_slice());
+    Ok(())
+}
+
+// The fonts of these tests that are small, and what they are.
+fn small_fonts(alloc: Global) -> Result<Vec<(&'static str, Vec<u8>)>, Fail> {
+    let mut files = Vec::new(alloc);
+    files.push(("Base6", BASE6.to_vec(alloc)?))?;
+    files.push((
+        "composite of composite",
+        fonts::composite_of_composite(alloc)?,
+    ))?;
+    files.push(("ring of two", fonts::ring_of_two(alloc)?))?;
+    files.push(("glyph of itself", fonts::glyph_of_itself(alloc)?))?;
+    files.push((".notdef without outline", fonts::without_outline(alloc, 0)?))?;
+    files.push((
+        "component without outline",
+        fonts::without_outline(alloc, 2)?,
+    ))?;
+    files.push(("other outline", fonts::other_outline(alloc)?))?;
+    files.push(("three in a row", fonts::three_in_a_row(alloc)?))?;
+    files.push(("one more code", fonts::one_more_code(alloc)?))?;
+    files.push(("glyphIdArray", fonts::by_glyph_array(alloc)?))?;
+    files.push(("format 12", fonts::by_groups(alloc)?))?;
+    files.push(("reversed directory", fonts::reversed_directory(alloc)?))?;
+    files.push(("name over glyf", fonts::name_over_glyf(alloc)?))?;
+    files.push(("a cut", bytes_of(alloc, &AACUTE)?))?;
+    Ok(files)
+}
+
+// The wanted sets of these tests.
+fn sets() -> [&'static [(u32, u32)]; 13] {
+    [
+        &[],
+        &[(0x20, 0x20)],
+        &[(0x41, 0x41)],
+        &[(0x42, 0x42)],
+        &[(0x43, 0x43)],
+        &[(0xC1, 0xC1)],
+        &[(0x62, 0x62)],
+        &[(0x41, 0x42)],
+        &[(0x61, 0x61), (0x63, 0x63)],
+        &[(0x63, 0x63), (0x61, 0x61), (0x62, 0x62)],
+        &[(0x41, 0x42), (0xC1, 0xC1)],
+        &[(0x5A, 0x5A), (0x10_FFFF, 0x10_FFFF)],
+        &[(0, 0x10_FFFF)],
+    ]
+}
+
+// Whether the cut is the plain one.
+fn is_as_plain(alloc: Global, file: &[u8], codes: &[u32], made: &[u8]) -> Result<bool, Fail> {
+    let font = Font::open(file)?;
+    let plain = plain_cut(alloc, &font, codes)?;
+    Ok(made == plain.as_slice())
+}
+
+#[test]
+fn plain_cut_as_stated(rt: HostRuntime) -> Result<(), Fail> {
+    let nothing = bytes_of(rt.alloc(), &NOTHING)?;
+    assert!(rt; is_as_plain(rt.alloc(), &BASE6, &[], &nothing)?);
+    let aacute = bytes_of(rt.alloc(), &AACUTE)?;
+    assert!(rt; is_as_plain(rt.alloc(), &BASE6, &[0xC1], &aacute)?);
+    Ok(())
+}
+
+#[test]
+fn cuts_as_plain(rt: HostRuntime) -> Result<(), Fail> {
+    let files = small_fonts(rt.alloc())?;
+    for ranges in sets() {
+        let wanted = wanted_of(rt.alloc(), ranges)?;
+        let codes = codes_of(rt.alloc(), &wanted)?;
+        for (name, file) in files.iter() {
+            let made = cut_of(rt.alloc(), file, ranges)?;
+            let is_plain = is_as_plain(rt.alloc(), file, &codes, &made)?;
+            assert!(rt; is_plain, "{name}, {ranges:?}");
+        }
+    }
+    Ok(())
+}
+
+// Base6 with each byte in turn made 0xFF, where it is accepted then.
+#[test]
+fn cuts_as_plain_with_one_byte_set(rt: HostRuntime) -> Result<(), Fail> {
+    let ranges = [(0x20, 0xC5)];
+    let wanted = wanted_of(rt.alloc(), &ranges)?;
+    let codes = codes_of(rt.alloc(), &wanted)?;
+    let mut accepted = 0u32;
+    for at in 0..428 {
+        let mut file = BASE6;
+        file[at] = 0xFF;
+        if fonts::refusal_of(&file).is_none() {
+            let made = cut_of(rt.alloc(), &file, &ranges)?;
+            assert!(rt; is_as_plain(rt.alloc(), &file, &codes, &made)?, "byte {at}");
+            accepted = accepted.wrapping_add(1);
+        }
+    }
+    // those of sums and search fields alone are 34
+    assert!(rt; accepted > 34, "{accepted}");
+    Ok(())
+}

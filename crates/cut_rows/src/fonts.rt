@@ -1,0 +1,402 @@
+//! Font files for the tests, of tables or of records, with right sums.
+use crate::bytes::{bytes_of, checksum, put_at, put_padded, put_u16, put_u32, zeros};
+use font_cut::{Font, FontError, Wanted, WantedError, cut};
+use sfnt_bytes::{BASE6, Directory, Entry, KEPT, Tag, search_fields};
+use std::alloc::{AllocError, Allocator, Global};
+use std::test::Fail;
+
+/// What a whole file sums to.
+const FILE_SUM: u32 = 0xB1B0_AFBA;
+
+/// A table and its name.
+#[derive(Drop)]
+pub struct Table {
+    pub tag: Tag,
+    pub bytes: Vec<u8>,
+}
+
+/// A set of the codes in these ranges.
+pub fn wanted_of<A: Allocator + Copy>(
+    alloc: A,
+    ranges: &[(u32, u32)],
+) -> Result<Wanted<A>, WantedError> {
+    let mut wanted = Wanted::new(alloc);
+    for (first, last) in ranges {
+        wanted.add(*first, *last)?;
+    }
+    Ok(wanted)
+}
+
+/// The cut of a file for the codes in these ranges.
+pub fn cut_of(alloc: Global, file: &[u8], ranges: &[(u32, u32)]) -> Result<Vec<u8>, Fail> {
+    let font = Font::open(file)?;
+    let wanted = wanted_of(alloc, ranges)?;
+    let made = cut(alloc, &font, &wanted)?;
+    Ok(made)
+}
+
+/// The first refusal that applies to a file.
+pub fn refusal_of(file: &[u8]) -> Option<FontError> {
+    Font::open(file).err()
+}
+
+// A directory with these records, as they stand. Its search fields are right where there are right
+// ones, and else zero. More than 65,535 records are refused.
+fn directory_of(alloc: Global, entries: &[Entry]) -> Result<Vec<u8>, Fail> {
+    let count = u16::try_from(entries.len()).map_err(|_| "too many records")?;
+    let (range, selector, shift) = search_fields(count).unwrap_or((0, 0, 0));
+    let mut directory = Vec::new(alloc);
+    put_u32(&mut directory, &[0x0001_0000])?;
+    put_u16(&mut directory, &[count, range, selector, shift])?;
+    for entry in entries {
+        directory.extend_from_slice(&entry.tag.0)?;
+        put_u32(
+            &mut directory,
+            &[entry.checksum, entry.offset, entry.length],
+        )?;
+    }
+    Ok(directory)
+}
+
+// The bytes of a table in what stands behind a directory of so many bytes.
+fn table_in<'a>(start: usize, rest: &'a [u8], entry: &Entry) -> Option<&'a [u8]> {
+    let at = (entry.offset as usize).checked_sub(start)?;
+    rest.get(at..at.checked_add(entry.length as usize)?)
+}
+
+// The records with right sums.
+fn summed(alloc: Global, entries: &[Entry], rest: &[u8]) -> Result<Vec<Entry>, Fail> {
+    let start = directory_of(alloc, entries)?.len();
+    let mut all = Vec::new(alloc);
+    for entry in entries {
+        let table = table_in(start, rest, entry).ok_or("a table past the end")?;
+        all.push(Entry {
+            checksum: checksum(table),
+            ..*entry
+        })?;
+    }
+    Ok(all)
+}
+
+/// A file with these records and with `rest` behind them, in which `checksumAdjustment` is 0: all
+/// sums and the search fields are made right.
+pub fn file_of(alloc: Global, entries: &[Entry], rest: &[u8]) -> Result<Vec<u8>, Fail> {
+    let all = summed(alloc, entries, rest)?;
+    let mut file = directory_of(alloc, &all)?;
+    file.extend_from_slice(rest)?;
+    let head = entries
+        .iter()
+        .find(|entry| entry.tag == Tag(*b"head"))
+        .ok_or("no head")?;
+    let adjustment = FILE_SUM.wrapping_sub(checksum(&file));
+    put_at(
+        &mut file,
+        head.offset as usize + 8,
+        &adjustment.to_be_bytes(),
+    );
+    Ok(file)
+}
+
+/// The file of these tables, in this order; `checksumAdjustment` is 0 in `head`.
+pub fn file_of_tables(alloc: Global, tables: &[Table]) -> Result<Vec<u8>, Fail> {
+    let count = u16::try_from(tables.len()).map_err(|_| "too many tables")?;
+    let mut offset = 12 + 16 * u32::from(count);
+    let mut entries = Vec::new(alloc);
+    let mut rest = Vec::new(alloc);
+    for table in tables {
+        let length = u32::try_from(table.bytes.len()).map_err(|_| "too long")?;
+        entries.push(Entry {
+            tag: table.tag,
+            checksum: 0,
+            offset,
+            length,
+        })?;
+        offset = offset.wrapping_add(length.wrapping_add(3) / 4 * 4);
+        put_padded(&mut rest, &table.bytes)?;
+    }
+    file_of(alloc, &entries, &rest)
+}
+
+/// The tables of Base6, with `checksumAdjustment` 0.
+pub fn base6_tables(alloc: Global) -> Result<Vec<Table>, Fail> {
+    let mut tables = Vec::new(alloc);
+    for entry in Directory::read(&BASE6)?.records() {
+        let table = table_in(0, &BASE6, &entry).ok_or("a table past the end")?;
+        let mut bytes = table.to_vec(alloc)?;
+        if entry.tag == Tag(*b"head") {
+            put_at(&mut bytes, 8, &[0; 4]);
+        }
+        tables.push(Table {
+            tag: entry.tag,
+            bytes,
+        })?;
+    }
+    Ok(tables)
+}
+
+/// Puts other bytes into the table of this name.
+pub fn replace(tables: &mut Vec<Table>, tag: &[u8; 4], bytes: Vec<u8>) -> Result<(), Fail> {
+    let place = tables
+        .iter()
+        .position(|table| table.tag == Tag(*tag))
+        .ok_or("no such table")?;
+    tables.get_mut(place).ok_or("no such table")?.bytes = bytes;
+    Ok(())
+}
+
+/// Base6 with another `cmap`.
+pub fn base6_with_cmap(alloc: Global, cmap: Vec<u8>) -> Result<Vec<u8>, Fail> {
+    let mut tables = base6_tables(alloc)?;
+    replace(&mut tables, b"cmap", cmap)?;
+    file_of_tables(alloc, &tables)
+}
+
+/// The records of the glyphs of Base6.
+pub fn base6_records(alloc: Global) -> Result<Vec<Vec<u8>>, AllocError> {
+    let mut records = Vec::new(alloc);
+    for record in [
+        &BASE6[192..204],
+        &BASE6[204..218],
+        &BASE6[218..228],
+        &BASE6[228..250],
+        &BASE6[250..250],
+        &BASE6[250..262],
+    ] {
+        records.push(record.to_vec(alloc)?)?;
+    }
+    Ok(records)
+}
+
+/// Base6 with other records, as many, each of an even length.
+pub fn base6_with_records(alloc: Global, records: &[Vec<u8>]) -> Result<Vec<u8>, Fail> {
+    let mut glyf = Vec::new(alloc);
+    let mut loca = Vec::new(alloc);
+    put_u16(&mut loca, &[0])?;
+    for record in records {
+        glyf.extend_from_slice(record)?;
+        let half = u16::try_from(glyf.len() / 2).map_err(|_| "too long")?;
+        put_u16(&mut loca, &[half])?;
+    }
+    let mut tables = base6_tables(alloc)?;
+    replace(&mut tables, b"glyf", glyf)?;
+    replace(&mut tables, b"loca", loca)?;
+    file_of_tables(alloc, &tables)
+}
+
+/// A `cmap` of one record 3/1 of format 4, with these startCode, endCode and idDelta.
+pub fn segments(alloc: Global, listed: &[(u16, u16, u16)]) -> Result<Vec<u8>, Fail> {
+    let count = u16::try_from(listed.len()).map_err(|_| "too many segments")?;
+    let mut cmap = Vec::new(alloc);
+    put_u16(&mut cmap, &[0, 1, 3, 1, 0, 12])?; // version, numTables, the record
+    put_u16(&mut cmap, &[4, 0, 0])?; // format, length, language
+    put_u16(&mut cmap, &[count.wrapping_mul(2), 0, 0, 0])?; // segCountX2, and the search fields
+    for (_, end, _) in listed {
+        put_u16(&mut cmap, &[*end])?; // endCode
+    }
+    put_u16(&mut cmap, &[0])?; // reservedPad
+    for (start, _, _) in listed {
+        put_u16(&mut cmap, &[*start])?; // startCode
+    }
+    for (_, _, delta) in listed {
+        put_u16(&mut cmap, &[*delta])?; // idDelta
+    }
+    for _ in listed {
+        put_u16(&mut cmap, &[0])?; // idRangeOffset
+    }
+    Ok(cmap)
+}
+
+// The record of a glyph with one component, two bytes of arguments and no more.
+fn one_component(alloc: Global, glyph: u8) -> Result<Vec<u8>, AllocError> {
+    let mut record = Vec::new(alloc);
+    put_u16(&mut record, &[0xFFFF, 0, 0, 0, 0])?; // numberOfContours, the bounds
+    put_u16(&mut record, &[0x0002, u16::from(glyph), 0])?; // flags, glyphIndex, two arguments
+    Ok(record)
+}
+
+// The records of Base6, with glyph 3's first component as stated.
+fn records_with_first_component(alloc: Global, glyph: u8) -> Result<Vec<Vec<u8>>, Fail> {
+    let mut records = base6_records(alloc)?;
+    let record = records.get_mut(3).ok_or("no glyph 3")?;
+    *record.get_mut(13).ok_or("no first component")? = glyph;
+    Ok(records)
+}
+
+/// Base6 in which glyph 5 has glyph 3 alone as a component, which has 1 and 2.
+pub fn composite_of_composite(alloc: Global) -> Result<Vec<u8>, Fail> {
+    let mut records = base6_records(alloc)?;
+    *records.get_mut(5).ok_or("no glyph 5")? = one_component(alloc, 3)?;
+    base6_with_records(alloc, &records)
+}
+
+/// Base6 in which glyphs 3 and 5 have each other as components.
+pub fn ring_of_two(alloc: Global) -> Result<Vec<u8>, Fail> {
+    let mut records = records_with_first_component(alloc, 5)?;
+    *records.get_mut(5).ok_or("no glyph 5")? = one_component(alloc, 3)?;
+    base6_with_records(alloc, &records)
+}
+
+/// Base6 in which glyph 3 has itself as its first component.
+pub fn glyph_of_itself(alloc: Global) -> Result<Vec<u8>, Fail> {
+    let records = records_with_first_component(alloc, 3)?;
+    base6_with_records(alloc, &records)
+}
+
+/// Base6 in which this glyph has no outline.
+pub fn without_outline(alloc: Global, glyph: usize) -> Result<Vec<u8>, Fail> {
+    let mut records = base6_records(alloc)?;
+    *records.get_mut(glyph).ok_or("no such glyph")? = Vec::new(alloc);
+    base6_with_records(alloc, &records)
+}
+
+/// Base6 in which the last byte of glyph 1 is 0x23.
+pub fn other_outline(alloc: Global) -> Result<Vec<u8>, Fail> {
+    let mut records = base6_records(alloc)?;
+    let record = records.get_mut(1).ok_or("no glyph 1")?;
+    *record.get_mut(13).ok_or("no last byte")? = 0x23;
+    base6_with_records(alloc, &records)
+}
+
+/// Base6 with 0x61 to 0x63 on the glyphs 1 to 3 as its only codes.
+pub fn three_in_a_row(alloc: Global) -> Result<Vec<u8>, Fail> {
+    let cmap = segments(alloc, &[(0x61, 0x63, 0xFFA0), (0xFFFF, 0xFFFF, 1)])?;
+    base6_with_cmap(alloc, cmap)
+}
+
+/// Base6 with 0x43 mapped to 2 besides.
+pub fn one_more_code(alloc: Global) -> Result<Vec<u8>, Fail> {
+    let cmap = segments(
+        alloc,
+        &[
+            (0x20, 0x20, 0xFFE4),
+            (0x41, 0x41, 0xFFC0),
+            (0x42, 0x42, 0xFFC3),
+            (0x43, 0x43, 0xFFBF),
+            (0xC1, 0xC1, 0xFF42),
+            (0xFFFF, 0xFFFF, 1),
+        ],
+    )?;
+    base6_with_cmap(alloc, cmap)
+}
+
+/// Base6 with one code, 0x42 on glyph 3, by a glyphIdArray; the last segment points past `cmap`.
+pub fn by_glyph_array(alloc: Global) -> Result<Vec<u8>, Fail> {
+    let cmap = bytes_of(
+        alloc,
+        &[
+            0x0000_0001,
+            0x0003_0001,
+            0x0000_000C,
+            0x0004_0024,
+            0x0000_0004,
+            0x0004_0001,
+            0x0000_0042,
+            0xFFFF_0000,
+            0x0041_FFFF,
+            0x0005_0001,
+            0x0004_FFFF,
+            0x0000_FFFE,
+        ],
+    )?;
+    base6_with_cmap(alloc, cmap)
+}
+
+/// Base6 with the groups (0x41, 0x41, 5), (0x42, 0x10FFFF, 0) of format 12 under 3/10, listed behind
+/// its 3/1.
+pub fn by_groups(alloc: Global) -> Result<Vec<u8>, Fail> {
+    let mut cmap = Vec::new(alloc);
+    put_u16(&mut cmap, &[0, 2, 3, 1, 0, 20, 3, 10, 0, 76])?; // version, numTables, two records
+    cmap.extend_from_slice(&BASE6[136..192])?;
+    put_u16(&mut cmap, &[12, 0])?; // format, reserved
+    put_u32(&mut cmap, &[40, 0, 2])?; // length, language, numGroups
+    put_u32(&mut cmap, &[0x41, 0x41, 5, 0x42, 0x10_FFFF, 0])?;
+    base6_with_cmap(alloc, cmap)
+}
+
+/// Base6 with its records in reversed order and no checksum; `checksumAdjustment` stays.
+pub fn reversed_directory(alloc: Global) -> Result<Vec<u8>, Fail> {
+    let mut entries = Vec::new(alloc);
+    for entry in Directory::read(&BASE6)?.records() {
+        entries.insert(
+            0,
+            Entry {
+                checksum: 0,
+                ..entry
+            },
+        )?;
+    }
+    let mut file = directory_of(alloc, &entries)?;
+    file.extend_from_slice(&BASE6[124..])?;
+    Ok(file)
+}
+
+// The records of Base6 with offsets so much higher.
+fn entries_behind(alloc: Global, added: u32) -> Result<Vec<Entry>, Fail> {
+    let mut entries = Vec::new(alloc);
+    for entry in Directory::read(&BASE6)?.records() {
+        let offset = entry.offset.wrapping_add(added);
+        entries.push(Entry { offset, ..entry })?;
+    }
+    Ok(entries)
+}
+
+// What stands behind the directory of Base6, with `checksumAdjustment` 0.
+fn base6_rest(alloc: Global) -> Result<Vec<u8>, AllocError> {
+    let mut rest = BASE6[124..].to_vec(alloc)?;
+    put_at(&mut rest, 148, &[0; 4]);
+    Ok(rest)
+}
+
+/// Base6 with a last record `name` over the bytes of `glyf`.
+pub fn name_over_glyf(alloc: Global) -> Result<Vec<u8>, Fail> {
+    let mut entries = entries_behind(alloc, 16)?;
+    entries.push(Entry {
+        tag: Tag(*b"name"),
+        checksum: 0,
+        offset: 208,
+        length: 70,
+    })?;
+    let rest = base6_rest(alloc)?;
+    file_of(alloc, &entries, &rest)
+}
+
+/// Base6 with 65,528 records `zzzz` of no byte behind its own.
+pub fn many_records(alloc: Global) -> Result<Vec<u8>, Fail> {
+    let mut entries = entries_behind(alloc, 1_048_448)?;
+    for entry in entries.iter_mut() {
+        entry.checksum = 0;
+    }
+    let empty = Entry {
+        tag: Tag(*b"zzzz"),
+        checksum: 0,
+        offset: 1_048_572,
+        length: 0,
+    };
+    let added = vec![in alloc; empty; 65_528]?;
+    entries.extend_from_slice(&added)?;
+    let rest = base6_rest(alloc)?;
+    file_of(alloc, &entries, &rest)
+}
+
+/// How many bytes the shared region of `wide` has.
+pub const REGION: u32 = 14_913_024;
+
+/// Base6 with all nine optional tables over one region of zeros.
+pub fn wide(alloc: Global) -> Result<Vec<u8>, Fail> {
+    let own = entries_behind(alloc, 144)?;
+    let mut entries = Vec::new(alloc);
+    for tag in KEPT {
+        let entry = own.iter().find(|entry| entry.tag == tag);
+        entries.push(
+            entry.copied().unwrap_or(Entry {
+                tag,
+                checksum: 0,
+                offset: 572,
+                length: REGION,
+            }),
+        )?;
+    }
+    let mut rest = base6_rest(alloc)?;
+    rest.extend_from_slice(&zeros(alloc, REGION as usize)?)?;
+    file_of(alloc, &entries, &rest)
+}

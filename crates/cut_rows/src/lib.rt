@@ -1,0 +1,26 @@
+//! Tests over cuts: worked examples, the plain cut beside the fast one, writers that fail and memory
+//! that is refused.
+#![tactic(auto)]
+
+#[cfg(test)]
+mod bytes;
+#[cfg(test)]
+mod cuts;
+#[cfg(test)]
+mod fakes;
+#[cfg(test)]
+mod fonts;
+#[cfg(test)]
+mod kept;
+#[cfg(test)]
+mod limits;
+#[cfg(test)]
+mod plain;
+#[cfg(test)]
+mod refused;
+#[cfg(test)]
+mod sending;
+#[cfg(test)]
+mod sums;
+#[cfg(test)]
+mod vectors;
