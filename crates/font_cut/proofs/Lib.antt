@@ -1,6 +1,14 @@
+pub mod CodeDifferenceLemmas
 pub mod CutLemmas
+pub mod FirstLemmas
 pub mod FontLemmas
+pub mod GlyphDifferenceLemmas
+pub mod InTurnLemmas
+pub mod JoinLemmas
 pub mod OutletLemmas
 pub mod SeedLemmas
 pub mod SinkLemmas
 pub mod SourceLemmas
+pub mod TableDifferenceLemmas
+pub mod UnionLemmas
+pub mod WholeLemmas

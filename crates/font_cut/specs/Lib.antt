@@ -1,6 +1,9 @@
 pub mod Content
 pub mod Cut
 pub mod Fonts
+pub mod InTurn
+pub mod Join
+pub mod JoinText
 pub mod Outlet
 pub mod Text
 pub mod Written

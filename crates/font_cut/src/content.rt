@@ -21,13 +21,13 @@ use std::alloc::{Allocator, Global};
 use std::marker::Model;
 
 // The slots of the tables that are made anew.
-const CMAP: usize = 1;
+pub(crate) const CMAP: usize = 1;
 
-const GLYF: usize = 5;
+pub(crate) const GLYF: usize = 5;
 
-const HEAD: usize = 6;
+pub(crate) const HEAD: usize = 6;
 
-const LOCA: usize = 9;
+pub(crate) const LOCA: usize = 9;
 
 // Marks the glyphs of a run.
 #[tactic(auto, using(crate::proofs::SeedLemmas::marked_start, crate::proofs::SeedLemmas::marked_more, crate::proofs::SeedLemmas::marked_end))]
@@ -69,7 +69,7 @@ fn mark_seeds<A: Allocator + Copy>(
 }
 
 // The glyphs that a cut keeps.
-fn mark_kept<A: Allocator + Copy>(
+pub(crate) fn mark_kept<A: Allocator + Copy>(
     alloc: A,
     font: &Font<'_>,
     wanted: &Wanted<A>,
@@ -91,7 +91,7 @@ fn table_head<'a>(directory: &Directory<'a>) -> &'a [u8]
 
 // `head` of an accepted font.
 #[tactic(auto, using(crate::proofs::SourceLemmas::head_is, crate::proofs::SourceLemmas::head_long, crate::proofs::SourceLemmas::head_small))]
-fn head<'a>(font: &Font<'a>) -> &'a [u8]
+pub(crate) fn head<'a>(font: &Font<'a>) -> &'a [u8]
     ensures head { result.now ≡ head_of font.now }
     ensures long { 54 ≤ length result.now }
     ensures small { length result.now ≤ MAX_FILE }
@@ -101,7 +101,7 @@ fn head<'a>(font: &Font<'a>) -> &'a [u8]
 
 // A table that a cut copies.
 #[tactic(auto, using(crate::proofs::SourceLemmas::table_small))]
-fn copied<'a>(font: &Font<'a>, slot: usize) -> Option<&'a [u8]>
+pub(crate) fn copied<'a>(font: &Font<'a>, slot: usize) -> Option<&'a [u8]>
     requires { slot < 16 }
     ensures table { option_copied result ≡ table_of font.now (kept_tag slot) }
     ensures small { MatchOption result Unit (λ b. length b.now ≤ MAX_FILE) }
@@ -111,7 +111,7 @@ fn copied<'a>(font: &Font<'a>, slot: usize) -> Option<&'a [u8]>
 
 // An outline of an accepted font.
 #[tactic(auto, using(crate::proofs::SourceLemmas::outline_small))]
-fn outline<'a>(font: &Font<'a>, g: u16) -> &'a [u8]
+pub(crate) fn outline<'a>(font: &Font<'a>, g: u16) -> &'a [u8]
     requires { g < glyph_count_of font.now }
     ensures outline { result.now ≡ outline_of font.now g }
     ensures small { length result.now ≤ MAX_FILE }

@@ -1,0 +1,51 @@
+-- What the joins of a list of files in turn answer.
+use Rattle.std.specs.Prelude.{◌≡◌, ℕ, zero, suc, ◌<◌, ◌≤◌, Bool, List, [], length, None}
+use Rattle.sfnt_bytes.specs.declared.directory.TheConstants.{MAX_FILE}
+use Rattle.font_file.specs.Font.{font_fault}
+use Rattle.font_theory.specs.Tree.{file_at, union_below}
+use Rattle.font_cut.specs.Cut.{cut_of}
+use Rattle.font_cut.specs.Join.{IsForSize, IsJoin, IsJoinRefusal}
+use Rattle.font_cut.specs.declared.join_error.JoinAllError.{JoinAllError}
+use Rattle.font_cut.specs.declared.join_error.JoinAllError.TheVariants.{At, NothingToJoin}
+use Rattle.font_cut.specs.declared.join_error.JoinError.{JoinError}
+use Rattle.font_cut.specs.declared.join_error.JoinError.TheVariants.{DifferentGlyph, DifferentMapping, DifferentTable}
+
+-- v stands after k joins in turn, the first of them being that of the first file with itself
+abbrev pub Stands : List (List ℕ) → ℕ → List ℕ → Type 0
+Stands files zero v = v ≡ file_at files 0
+Stands files (suc k) v = (w : List ℕ) × Stands files k w × IsJoin w (file_at files k) v
+
+-- a step is refused
+pub record IsRefusedAt (files : List (List ℕ)) (step : ℕ) (error : JoinError) : Type 0 where
+  pub before : List ℕ
+  pub stands : Stands files step before
+  pub below : step < length files
+  pub refused : IsJoinRefusal before (file_at files step) error
+
+-- why a list of files is not joined: it is empty, or a step is refused
+abbrev pub IsAllRefusal : List (List ℕ) → JoinAllError → Type 0
+IsAllRefusal files NothingToJoin = files ≡ []
+IsAllRefusal files (At step error) = IsRefusedAt files step error
+
+-- z stands after all steps, of which there is one at least
+pub record IsAllJoined (files : List (List ℕ)) (z : List ℕ) : Type 0 where
+  pub some : 0 < length files
+  pub stands : Stands files (length files) z
+
+-- the files are cuts of F for some sets, none of them too large
+pub record AreCuts (F : List ℕ) (A : ℕ → ℕ → Bool) (files : List (List ℕ)) : Type 0 where
+  pub accepted : font_fault F ≡ None
+  pub cuts : (k : ℕ) → k < length files → file_at files k ≡ cut_of F (A k)
+  pub small : (k : ℕ) → k < length files → length (file_at files k) ≤ MAX_FILE
+
+-- refused for want of memory, or for the size of the cut for the first sets
+abbrev pub IsForSizeOf : List ℕ → (ℕ → ℕ → Bool) → List (List ℕ) → JoinAllError → Type 0
+IsForSizeOf F A files NothingToJoin = files ≡ []
+IsForSizeOf F A files (At step error) = IsForSize (length (cut_of F (union_below A (suc step)))) error
+
+-- refused for a difference
+abbrev pub IsForDifference : JoinAllError → Type 0
+IsForDifference (At step (DifferentTable tag)) = Unit {0}
+IsForDifference (At step (DifferentMapping code)) = Unit {0}
+IsForDifference (At step (DifferentGlyph g)) = Unit {0}
+IsForDifference _ = ⊥

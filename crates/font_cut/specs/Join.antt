@@ -1,0 +1,83 @@
+-- What the join of two files answers.
+use Rattle.std.specs.Prelude.{◌≡◌, ◌≢◌, ℕ, ◌<◌, nat_lt, not, List, [], ◌∷◌, ◌++◌, length, Option, None, Some}
+use Rattle.std.specs.Option.{option_map}
+use Rattle.sfnt_bytes.specs.Directory.{kept_tag}
+use Rattle.sfnt_bytes.specs.Lines.{first_of_lines, when}
+use Rattle.sfnt_bytes.specs.declared.directory.DirError.TheVariants.{FileTooLarge}
+use Rattle.sfnt_bytes.specs.declared.directory.TheConstants.{MAX_FILE}
+use Rattle.font_file.specs.Font.{font_fault}
+use Rattle.font_file.specs.declared.font_error.FontError.TheVariants.{Directory}
+use Rattle.font_theory.specs.Cut.{IsCut, Under, is_cut, joined, our_format, whole}
+use Rattle.font_theory.specs.Difference.{difference}
+use Rattle.font_theory.specs.Join.{Agree}
+use Rattle.font_theory.specs.declared.Difference.{Difference}
+use Rattle.font_theory.specs.declared.Difference.TheVariants.{AtCode, AtGlyph, AtTable}
+use Rattle.font_cut.specs.declared.join_error.JoinError.{JoinError}
+use Rattle.font_cut.specs.declared.join_error.JoinError.TheVariants.{DifferentGlyph, DifferentMapping, DifferentTable, Font, NoMemory, NotACut, TooLarge}
+use Rattle.font_cut.specs.declared.join_error.Which.TheVariants.{First, Second}
+
+-- the refusal for a difference
+abbrev pub different : Difference → JoinError
+different (AtTable slot) = DifferentTable (kept_tag slot)
+different (AtCode code) = DifferentMapping code
+different (AtGlyph g) = DifferentGlyph g
+
+-- the refusals of two accepted files but for the size of their join, in their order
+abbrev pub union_lines : List ℕ → List ℕ → List (Option JoinError)
+union_lines x y =
+    when (not (is_cut our_format x)) (NotACut First)
+    ∷ when (not (is_cut our_format y)) (NotACut Second)
+    ∷ option_map different (difference (whole our_format x) (whole our_format y))
+    ∷ []
+
+-- the first of them that applies
+unfoldable pub union_fault : List ℕ → List ℕ → Option JoinError
+union_fault x y = first_of_lines (union_lines x y)
+
+-- the refusals of a join, in their order
+abbrev pub join_lines : List ℕ → List ℕ → List (Option JoinError)
+join_lines x y =
+    option_map (Font First) (font_fault x)
+    ∷ option_map (Font Second) (font_fault y)
+    ∷ (union_lines x y
+    ++ (when (nat_lt MAX_FILE (length (joined our_format x y))) (TooLarge (length (joined our_format x y)))
+    ∷ []))
+
+-- the first of them that applies; with none the files are joined
+unfoldable pub join_fault : List ℕ → List ℕ → Option JoinError
+join_fault x y = first_of_lines (join_lines x y)
+
+-- why two accepted files are not united: want of memory, or the first refusal that applies
+abbrev pub IsUnionRefusal : List ℕ → List ℕ → JoinError → Type 0
+IsUnionRefusal x y NoMemory = Unit {0}
+IsUnionRefusal x y error = union_fault x y ≡ Some error
+
+-- z is the join: no refusal applies, and it is the file of both contents
+pub record IsJoin (x y z : List ℕ) : Type 0 where
+  pub unrefused : join_fault x y ≡ None
+  pub is : z ≡ joined our_format x y
+
+-- why there is no join: want of memory, which comes after the faults of both fonts, or the first refusal that applies
+abbrev pub IsJoinRefusal : List ℕ → List ℕ → JoinError → Type 0
+IsJoinRefusal x y NoMemory = (font_fault x ≡ None) × (font_fault y ≡ None)
+IsJoinRefusal x y error = join_fault x y ≡ Some error
+
+-- refused for want of memory, or for a size that is too large
+abbrev pub IsForSize : ℕ → JoinError → Type 0
+IsForSize size NoMemory = Unit {0}
+IsForSize size (TooLarge s) = (s ≡ size) × (MAX_FILE < size)
+IsForSize size _ = ⊥
+
+-- z is in cut form, x and y are cuts of it, and it is a cut of each file of which both are cuts
+pub record IsLeastUpper (x y z : List ℕ) : Type 0 where
+  pub cut_form : IsCut our_format z
+  pub first : Under our_format x z
+  pub second : Under our_format y z
+  pub least : (F : List ℕ) → Under our_format x F → Under our_format y F → Under our_format z F
+
+-- what a refusal tells: no file has both as cuts, or they agree and their join is too large
+abbrev pub IsTrueRefusal : List ℕ → List ℕ → JoinError → Type 0
+IsTrueRefusal x y NoMemory = Unit {0}
+IsTrueRefusal x y (Font which error) = error ≢ Directory FileTooLarge → (F : List ℕ) → Under our_format x F → Under our_format y F → ⊥
+IsTrueRefusal x y (TooLarge size) = Agree (whole our_format x) (whole our_format y) × (size ≡ length (joined our_format x y)) × (MAX_FILE < size)
+IsTrueRefusal x y _ = (F : List ℕ) → Under our_format x F → Under our_format y F → ⊥

@@ -1,0 +1,29 @@
+//! Whether a font is a cut.
+ghost use Rattle.std.specs.Prelude.{◌≡◌, IfOk, IsTrue, ◌↔◌};
+ghost use Rattle.font_theory.specs.Cut.{IsCut, is_cut, our_format};
+
+use crate::whole::Whole;
+use font_file::Font;
+use sfnt_bytes::NoMemory;
+use std::alloc::Allocator;
+
+// The answer of the test.
+fn is_cut_exactly<A: Allocator + Copy>(alloc: A, font: &Font<'_>) -> Result<bool, NoMemory>
+    ensures { IfOk result (λ b. b ≡ is_cut our_format font.now) }
+{
+    let whole = Whole::new(alloc, font)?;
+    Ok(whole.is_cut())
+}
+
+/// Whether a font is in cut form: its cut for all codes is its file. No cut is built for that.
+///
+/// # Errors
+///
+/// `NoMemory` where memory is refused.
+pub fn is_cut<A: Allocator + Copy>(alloc: A, font: &Font<'_>) -> Result<bool, NoMemory>
+    ensures exact { IfOk result (λ b. b ≡ is_cut our_format font.now) }
+    ensures form { IfOk result (λ b. IsTrue b ↔ IsCut our_format font.now) }
+{
+    let _tables = font.tables();
+    is_cut_exactly(alloc, font)
+}

@@ -1,0 +1,5 @@
+//! Tests over cut form and joins.
+#![tactic(auto)]
+
+#[cfg(test)]
+mod joins;
