@@ -1,4 +1,4 @@
-//! Where what is made of fonts goes.
+//! Cuts of fonts, cut form, joins of cuts, and where a cut goes.
 #![tactic(auto)]
 
 mod content;
