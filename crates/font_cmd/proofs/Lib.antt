@@ -1,2 +1,4 @@
 pub mod CheckLemmas
+pub mod JoinRunLemmas
 pub mod LineLemmas
+pub mod ReadEachLemmas

@@ -4,12 +4,16 @@ use Rattle.font_cut.specs.Cut.{IsTooLarge, cut_of}
 use Rattle.font_cut.specs.Fonts.{MAX_FILE, error_number, font_fault, no_memory_number}
 use Rattle.font_cut.specs.declared.cuts.CutIntoError.{CutIntoError}
 use Rattle.font_cut.specs.declared.cuts.CutIntoError.TheVariants as cut_errors
+use Rattle.font_cut.specs.JoinText.{join_all_error_number}
+use Rattle.font_cut.specs.declared.join_error.JoinAllError.{JoinAllError}
+use Rattle.font_cut.specs.declared.join_error.JoinAllError.TheVariants.{At, NothingToJoin}
+use Rattle.font_cut.specs.declared.join_error.JoinError.TheVariants as join_errors
 use Rattle.font_cmd.specs.declared.inlet.Inlet.{Inlet}
 use Rattle.font_cmd.specs.declared.inlet.ReadError.{ReadError}
 use Rattle.font_cmd.specs.declared.inlet.ReadError.TheVariants.{NoMemory, ReadFault}
 use Rattle.font_cut.specs.declared.outlet.Outlet.{Outlet}
 use Rattle.font_cmd.specs.declared.run.RunError.{RunError}
-use Rattle.font_cmd.specs.declared.run.RunError.TheVariants.{Font, Memory, Read, TooLarge, Write}
+use Rattle.font_cmd.specs.declared.run.RunError.TheVariants.{Font, Join, Memory, Read, TooLarge, Write}
 use Rattle.font_cmd.specs.Inlet as inlets
 use Rattle.font_cut.specs.Outlet as outlets
 
@@ -26,6 +30,7 @@ RunStops remaining contents text refuses i j o p Memory = (inlets.broken_of j �
 -- the file is refused, and nothing was sent
 RunStops remaining contents text refuses i j o p (Font error) = (inlets.broken_of j ≡ false) × (p ≡ o) × refuses (Font error)
 RunStops remaining contents text refuses i j o p (TooLarge size) = (inlets.broken_of j ≡ false) × (p ≡ o) × refuses (TooLarge size)
+RunStops remaining contents text refuses i j o p (Join error) = (inlets.broken_of j ≡ false) × (p ≡ o) × refuses (Join error)
 -- the outlet is broken, and so many bytes of the text went out
 RunStops remaining contents text refuses i j o p (Write count) =
     (inlets.broken_of j ≡ false) × (outlets.broken_of p ≡ true) × (outlets.written_of p ≡ count)
@@ -39,6 +44,7 @@ RefusesNone error = ⊥
 abbrev pub RefusesFont : {R : Type 0} → (R → Option (List ℕ)) → Inlet R → RunError → Type 0
 RefusesFont remaining inlet (Font error) = got remaining inlet (λ file. font_fault file ≡ Some error)
 RefusesFont remaining inlet (TooLarge size) = ⊥
+RefusesFont remaining inlet (Join error) = ⊥
 RefusesFont remaining inlet (Read count) = ⊥
 RefusesFont remaining inlet Memory = ⊥
 RefusesFont remaining inlet (Write count) = ⊥
@@ -47,6 +53,7 @@ RefusesFont remaining inlet (Write count) = ⊥
 abbrev pub RefusesCut : {R : Type 0} → (R → Option (List ℕ)) → Inlet R → (ℕ → Bool) → RunError → Type 0
 RefusesCut remaining inlet wanted (Font error) = got remaining inlet (λ file. font_fault file ≡ Some error)
 RefusesCut remaining inlet wanted (TooLarge size) = got remaining inlet (λ file. (font_fault file ≡ None) × IsTooLarge (cut_of file wanted) size)
+RefusesCut remaining inlet wanted (Join error) = ⊥
 RefusesCut remaining inlet wanted (Read count) = ⊥
 RefusesCut remaining inlet wanted Memory = ⊥
 RefusesCut remaining inlet wanted (Write count) = ⊥
@@ -62,6 +69,11 @@ of_cut_error cut_errors.NoMemory = Memory
 of_cut_error (cut_errors.TooLarge size) = TooLarge size
 of_cut_error (cut_errors.WriteFault count) = Write count
 
+-- the error of a run whose files were not joined: each want of memory is one and the same
+abbrev pub of_join_error : JoinAllError → RunError
+of_join_error (At step join_errors.NoMemory) = Memory
+of_join_error error = Join error
+
 -- the number of a run's error
 abbrev pub run_error_number : RunError → ℕ
 run_error_number (Read count) = 25
@@ -69,3 +81,4 @@ run_error_number Memory = no_memory_number
 run_error_number (Write count) = 19
 run_error_number (Font error) = error_number error
 run_error_number (TooLarge size) = 18
+run_error_number (Join error) = join_all_error_number error

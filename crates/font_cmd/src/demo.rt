@@ -1,9 +1,14 @@
-//! `demo`: what is found in the font that the program carries.
-use font_cut::{BASE6, Directory};
-use std::alloc::{AllocError, Allocator};
+//! `demo`: what is found in the font that the program carries, and what its cuts come to.
+use crate::inlet::Inlet;
+use crate::join::run_join;
+use crate::run::RunError;
+use crate::subset::run_subset;
+use crate::wanted::wanted_of;
+use font_cut::{BASE6, Directory, Font, Outlet};
+use std::alloc::{AllocError, Global};
 
 // A line for the file, one for each table, and the number of findings.
-fn described<A: Allocator>(alloc: A, directory: &Directory<'_>) -> Result<String<A>, AllocError> {
+fn described(alloc: Global, directory: &Directory<'_>) -> Result<String, AllocError> {
     let size = directory.file().len();
     let mut text = String::new(alloc);
     write!(text, "Base6 {size} bytes\n")?;
@@ -16,13 +21,36 @@ fn described<A: Allocator>(alloc: A, directory: &Directory<'_>) -> Result<String
     Ok(text)
 }
 
+// Adds the line of the cut for the codes of some words, and answers the cut.
+fn add_cut(alloc: Global, text: &mut String, words: &[&str]) -> Result<Vec<u8>, RunError> {
+    // The words name ranges, so only memory can be wanting.
+    let Ok(wanted) = wanted_of(alloc, "", words) else {
+        return Err(RunError::Memory);
+    };
+    let mut outlet = Outlet::new(Vec::new(alloc));
+    let mut inlet = Inlet::new(BASE6.as_slice());
+    let size = run_subset(alloc, &mut inlet, &wanted, &mut outlet)?;
+    let name = words.first().copied().unwrap_or("none");
+    write!(text, "cut {name} {size}\n")?;
+    Ok(outlet.into_inner())
+}
+
+// Adds the line of the join of two cuts.
+fn add_join(alloc: Global, text: &mut String, x: &[u8], y: &[u8]) -> Result<(), RunError> {
+    let mut inlets = [Inlet::new(x), Inlet::new(y)];
+    let size = run_join(alloc, &mut inlets, &mut Outlet::new(Vec::new(alloc)))?;
+    write!(text, "join {size}\n")?;
+    Ok(())
+}
+
 /// What `demo` prints.
-pub(crate) fn demo_text<A: Allocator>(alloc: A) -> Result<String<A>, AllocError> {
-    match Directory::read(&BASE6) {
-        Ok(directory) => described(alloc, &directory),
-        Err(error) => {
-            let number = error.number();
-            format!(in alloc; "refused {number} {error}\n")
-        }
-    }
+pub(crate) fn demo_text(alloc: Global) -> Result<String, RunError> {
+    let font = Font::open(&BASE6)?;
+    let mut text = described(alloc, font.tables().directory())?;
+    let x = add_cut(alloc, &mut text, &["U+C1"])?;
+    add_cut(alloc, &mut text, &[])?;
+    add_cut(alloc, &mut text, &["U+20"])?;
+    let y = add_cut(alloc, &mut text, &["U+41-42"])?;
+    add_join(alloc, &mut text, &x, &y)?;
+    Ok(text)
 }

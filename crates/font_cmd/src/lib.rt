@@ -3,8 +3,11 @@
 
 mod check;
 mod demo;
+mod fault;
 mod files;
 mod inlet;
+mod inputs;
+mod join;
 mod run;
 mod show;
 mod subset;
@@ -13,6 +16,7 @@ mod words;
 
 pub use crate::check::run_check;
 pub use crate::inlet::{Inlet, ReadError};
+pub use crate::join::run_join;
 pub use crate::run::RunError;
 pub use crate::show::run_show;
 pub use crate::subset::run_subset;

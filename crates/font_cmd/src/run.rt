@@ -1,11 +1,11 @@
 //! What the runs share: their error, and how they send what they have made.
 ghost use Rattle.std.specs.Prelude.{◌≡◌, false, true, take, IfErr, OnErr, OnOk};
 ghost use Rattle.font_cut.specs.Outlet.{Sends, broken_of, fresh_of, written_of};
-ghost use Rattle.font_cmd.specs.Run.{of_cut_error, of_read_error, run_error_number};
+ghost use Rattle.font_cmd.specs.Run.{of_cut_error, of_join_error, of_read_error, run_error_number};
 ghost use Rattle.font_cmd.specs.declared.run.RunError.TheVariants.{Font, Memory, Write};
 
 use crate::inlet::ReadError;
-use font_cut::{CutIntoError, FontError, Outlet, WriteFault};
+use font_cut::{CutIntoError, FontError, JoinAllError, JoinError, NoMemory, Outlet, WriteFault};
 use std::alloc::AllocError;
 use std::io;
 use thiserror::Error;
@@ -28,6 +28,9 @@ pub enum RunError {
     /// The file to be written would have so many bytes, more than a file may have.
     #[error("too large {0}")]
     TooLarge(u64),
+    /// The files are not joined.
+    #[error(transparent)]
+    Join(JoinAllError),
 }
 
 impl RunError {
@@ -41,6 +44,7 @@ impl RunError {
             RunError::Write(_) => 19,
             RunError::Font(error) => error.number(),
             RunError::TooLarge(_) => 18,
+            RunError::Join(error) => error.number(),
         }
     }
 }
@@ -60,6 +64,14 @@ impl From<AllocError> for RunError {
     ghost from_gives = { λ held error. error ≡ Memory };
 
     fn from(_error: AllocError) -> RunError {
+        RunError::Memory
+    }
+}
+
+impl From<NoMemory> for RunError {
+    ghost from_gives = { λ held error. error ≡ Memory };
+
+    fn from(_error: NoMemory) -> RunError {
         RunError::Memory
     }
 }
@@ -88,6 +100,21 @@ impl From<CutIntoError> for RunError {
             CutIntoError::NoMemory => RunError::Memory,
             CutIntoError::TooLarge(size) => RunError::TooLarge(size),
             CutIntoError::WriteFault(count) => RunError::Write(count),
+        }
+    }
+}
+
+// Each want of memory of a run is `Memory`, whatever step it comes at.
+impl From<JoinAllError> for RunError {
+    ghost from_gives = { λ held error. error ≡ of_join_error held };
+
+    fn from(error: JoinAllError) -> RunError {
+        match error {
+            JoinAllError::At {
+                step: _,
+                error: JoinError::NoMemory,
+            } => RunError::Memory,
+            other => RunError::Join(other),
         }
     }
 }

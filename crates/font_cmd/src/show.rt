@@ -4,11 +4,11 @@ ghost use Rattle.font_cut.specs.Fonts.{font_fault};
 ghost use Rattle.font_cmd.specs.Inlet.{broken_of as inlet_broken_of, fresh_of as inlet_fresh_of};
 ghost use Rattle.font_cut.specs.Outlet.{Sends, broken_of, fresh_of};
 ghost use Rattle.font_cmd.specs.Run.{RefusesFont, RunStops, got};
-ghost use Rattle.font_cmd.specs.Show.{dropped_line, dropped_text, kept_line, kept_table_line, kept_text, mapped_text, numbers_text, show_text};
+ghost use Rattle.font_cmd.specs.Show.{cut_text, dropped_line, dropped_text, font_text, kept_line, kept_table_line, kept_text, mapped_text, numbers_text, show_text};
 
 use crate::inlet::Inlet;
 use crate::run::{RunError, send};
-use font_cut::{Directory, Entry, Font, KEPT, LocaForm, Mapping, Outlet, Tables, Tag};
+use font_cut::{Directory, Entry, Font, KEPT, LocaForm, Mapping, Outlet, Tables, Tag, is_cut};
 use std::alloc::Allocator;
 use std::fmt;
 use std::io::{Read, Write};
@@ -131,25 +131,46 @@ impl<'a> fmt::Display for Mapped<'a> {
     }
 }
 
-// The lines of a font.
+// The line that says whether a font is a cut.
 #[derive(Clone, Copy)]
-struct Shown<'a>(&'a Font<'a>);
+struct CutLine(bool);
+
+impl fmt::Display for CutLine {
+    ghost output = { λ line. Some (cut_text line.0) };
+
+    fn fmt<W: fmt::Write>(&self, f: &mut fmt::Formatter<W>) -> fmt::Result {
+        if self.0 {
+            write!(f, "cut yes\n")
+        } else {
+            write!(f, "cut no\n")
+        }
+    }
+}
+
+// The lines of a font, of which it is known whether it is a cut.
+#[derive(Clone, Copy)]
+struct Shown<'a> {
+    font: &'a Font<'a>,
+    is_cut: bool,
+}
 
 impl<'a> fmt::Display for Shown<'a> {
-    ghost output = { λ shown. Some (show_text shown.0.now) };
+    ghost output = { λ shown. Some (font_text shown.font.now shown.is_cut) };
 
-    #[tactic(auto, unfolding(crate::specs::Show::show_text))]
+    #[tactic(auto, unfolding(crate::specs::Show::font_text))]
     fn fmt<W: fmt::Write>(&self, f: &mut fmt::Formatter<W>) -> fmt::Result {
-        let (numbers, mapped) = (Numbers(self.0.tables()), Mapped(self.0.mapping()));
-        let directory = self.0.tables().directory();
+        let tables = self.font.tables();
+        let (numbers, mapped) = (Numbers(tables), Mapped(self.font.mapping()));
+        let directory = tables.directory();
         let (kept, dropped) = (Kept(directory), Dropped(directory));
-        write!(f, "{numbers}{mapped}{kept}{dropped}")
+        let last = CutLine(self.is_cut);
+        write!(f, "{numbers}{mapped}{kept}{dropped}{last}")
     }
 }
 
 /// Reads a font to its end, and sends its numbers of glyphs, units and metrics, the form of its
-/// `loca`, which subtable its mapping is read from and how many codes that maps, and a line for each
-/// table that a cut keeps or drops.
+/// `loca`, which subtable its mapping is read from and how many codes that maps, a line for each table
+/// that a cut keeps or drops, and whether the font is a cut itself.
 ///
 /// # Errors
 /// `Read` where the reader fails, `Memory` where memory is refused, `Font` where the font is: then
@@ -173,6 +194,10 @@ pub fn run_show<R: Read, W: Write, A: Allocator + Copy>(
 {
     let file = inlet.read_all(alloc)?;
     let font = Font::open(&file)?;
-    let text = Shown(&font).to_string(alloc)?;
+    let shown = Shown {
+        font: &font,
+        is_cut: is_cut(alloc, &font)?,
+    };
+    let text = shown.to_string(alloc)?;
     Ok(send(outlet, text.as_bytes())?)
 }

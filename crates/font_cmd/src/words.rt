@@ -1,36 +1,25 @@
 //! The program's body: it does what a command line asks for, and answers the status.
 ghost use Rattle.std.specs.Prelude.{◌≡◌, IfOk, true};
 ghost use Rattle.font_cut.specs.Outlet.{fresh_of};
-ghost use Rattle.font_cmd.specs.Inlet.{fresh_of as inlet_fresh_of};
 
 use crate::check::run_check;
 use crate::demo::demo_text;
+use crate::fault::Fault;
 use crate::files::OutFile;
 use crate::inlet::Inlet;
+use crate::inputs::{opened, opened_each};
+use crate::join::run_join;
 use crate::run::{RunError, send};
 use crate::show::run_show;
 use crate::subset::run_subset;
-use crate::wanted::{WordsError, wanted_of};
-use font_cut::{Outlet, Wanted};
-use font_line::{LineError, Subset, Task, parse};
+use crate::wanted::wanted_of;
+use font_cut::Outlet;
+use font_line::{Join, LineError, Subset, Task, parse};
 use std::alloc::Global;
-use std::fs::File;
-use std::io::{BufWriter, Write};
+use std::io::{BufWriter, Read, Write};
 use std::rt::Files;
 
-/// What was asked for is done.
-const DONE: u8 = 0;
-
-/// A file is refused, or has a finding, or memory was refused.
-const REFUSED: u8 = 1;
-
-/// The words are at fault.
-const BAD_WORDS: u8 = 2;
-
-/// A file cannot be read, or an output cannot be written.
-const BAD_FILES: u8 = 3;
-
-// The bytes that are gathered for one write of a file.
+// The bytes that are gathered for one write of a file: a cut is made of many short pieces.
 const BLOCK: usize = 64 * 1024;
 
 // What stands for a path where a report cannot be written.
@@ -43,154 +32,147 @@ fn say<V: Write>(err: &mut Outlet<V>, text: &str)
     let _ = err.put(text.as_bytes());
 }
 
-fn no_memory<V: Write>(err: &mut Outlet<V>) -> u8
+// Says what is at fault, and answers the status.
+fn report<V: Write>(alloc: Global, err: &mut Outlet<V>, fault: Fault<'_>) -> u8
     requires { fresh_of err.old ≡ true }
 {
-    say(err, "fontcut: refused 16 no memory\n");
-    REFUSED
+    match format!(in alloc; "fontcut: {fault}\n") {
+        Ok(text) => {
+            say(err, text.as_str());
+            fault.status()
+        }
+        Err(_) => {
+            say(err, "fontcut: refused 16 no memory\n");
+            Fault::Refused(RunError::Memory).status()
+        }
+    }
 }
 
-fn refused<V: Write>(alloc: Global, err: &mut Outlet<V>, fault: RunError) -> u8
-    requires { fresh_of err.old ≡ true }
-{
-    let number = fault.number();
-    let Ok(text) = format!(in alloc; "fontcut: refused {number} {fault}\n") else {
-        return no_memory(err);
-    };
-    say(err, text.as_str());
-    REFUSED
-}
-
-fn bad_word<V: Write>(alloc: Global, err: &mut Outlet<V>, word: &str) -> u8
-    requires { fresh_of err.old ≡ true }
-{
-    let Ok(text) = format!(in alloc; "fontcut: bad word {word}\n") else {
-        return no_memory(err);
-    };
-    say(err, text.as_str());
-    BAD_WORDS
-}
-
-fn cannot<V: Write>(alloc: Global, err: &mut Outlet<V>, verb: &str, path: &str) -> u8
-    requires { fresh_of err.old ≡ true }
-{
-    let Ok(text) = format!(in alloc; "fontcut: cannot {verb} {path}\n") else {
-        return no_memory(err);
-    };
-    say(err, text.as_str());
-    BAD_FILES
-}
-
-fn print<W: Write, V: Write>(
-    alloc: Global,
-    out: &mut Outlet<W>,
-    err: &mut Outlet<V>,
-    text: &str,
-) -> u8
-    requires out { fresh_of out.old ≡ true }
-    requires err { fresh_of err.old ≡ true }
+fn print<W: Write>(out: &mut Outlet<W>, text: &str) -> Result<bool, Fault<'static>>
+    requires { fresh_of out.old ≡ true }
 {
     match send(out, text.as_bytes()) {
-        Ok(()) => DONE,
-        Err(_) => cannot(alloc, err, "write", STANDARD_OUTPUT),
+        Ok(()) => Ok(true),
+        Err(_) => Err(Fault::Unwritten(STANDARD_OUTPUT)),
     }
 }
 
-// The status of a run over the file at the path `font`, and why it was not done.
-fn ended<V: Write>(
-    alloc: Global,
-    err: &mut Outlet<V>,
-    font: &str,
-    out: &str,
-    answer: Result<bool, RunError>,
-) -> u8
-    requires { fresh_of err.old ≡ true }
-{
-    match answer {
-        Ok(true) => DONE,
-        Ok(false) => REFUSED,
-        Err(RunError::Read(_)) => cannot(alloc, err, "read", font),
-        Err(RunError::Write(_)) => cannot(alloc, err, "write", out),
-        Err(fault) => refused(alloc, err, fault),
-    }
-}
-
-// A file that cannot be opened is one that cannot be read.
-fn opened<F: Files>(files: &F, path: &str) -> Result<Inlet<F::File>, RunError>
-    ensures { IfOk result (λ inlet. inlet_fresh_of inlet ≡ true) }
-{
-    match File::open(files, path) {
-        Ok(file) => Ok(Inlet::new(file)),
-        Err(_) => Err(RunError::Read(0)),
-    }
-}
-
-fn check<F: Files, W: Write>(
+fn check<'a, F: Files, W: Write>(
     files: &F,
     alloc: Global,
-    font: &str,
+    font: &'a str,
     out: &mut Outlet<W>,
-) -> Result<bool, RunError>
+) -> Result<bool, Fault<'a>>
     requires { fresh_of out.old ≡ true }
 {
-    run_check(alloc, &mut opened(files, font)?, out)
-}
-
-fn show<F: Files, W: Write>(
-    files: &F,
-    alloc: Global,
-    font: &str,
-    out: &mut Outlet<W>,
-) -> Result<bool, RunError>
-    requires { fresh_of out.old ≡ true }
-{
-    run_show(alloc, &mut opened(files, font)?, out)?;
-    Ok(true)
-}
-
-// Sends the cut of the file at the path `font` to the one at the path `out`, by way of a block of bytes:
-// a cut is made of many short pieces.
-fn cut<F: Files>(
-    files: &F,
-    alloc: Global,
-    font: &str,
-    out: &str,
-    wanted: &Wanted,
-) -> Result<bool, RunError> {
     let mut inlet = opened(files, font)?;
-    let Ok(block) = BufWriter::with_capacity(alloc, BLOCK, OutFile::new(files, out)) else {
-        return Err(RunError::Memory);
-    };
-    run_subset(alloc, &mut inlet, wanted, &mut Outlet::new(block))?;
-    Ok(true)
+    match run_check(alloc, &mut inlet, out) {
+        Ok(is_clean) => Ok(is_clean),
+        Err(error) => Err(Fault::of_run(font, STANDARD_OUTPUT, error)),
+    }
+}
+
+fn show<'a, F: Files, W: Write>(
+    files: &F,
+    alloc: Global,
+    font: &'a str,
+    out: &mut Outlet<W>,
+) -> Result<bool, Fault<'a>>
+    requires { fresh_of out.old ≡ true }
+{
+    let mut inlet = opened(files, font)?;
+    match run_show(alloc, &mut inlet, out) {
+        Ok(()) => Ok(true),
+        Err(error) => Err(Fault::of_run(font, STANDARD_OUTPUT, error)),
+    }
+}
+
+// The file at a path, by way of a block of bytes. It is made at the first write.
+fn outlet<'a, F: Files>(
+    files: &'a F,
+    alloc: Global,
+    path: &'a str,
+) -> Result<Outlet<BufWriter<OutFile<'a, F>>>, Fault<'a>>
+    ensures { IfOk result (λ outlet. fresh_of outlet ≡ true) }
+{
+    match BufWriter::with_capacity(alloc, BLOCK, OutFile::new(files, path)) {
+        Ok(block) => Ok(Outlet::new(block)),
+        Err(_) => Err(Fault::Refused(RunError::Memory)),
+    }
 }
 
 // The words are looked at before the font is opened.
-fn subset<F: Files, V: Write>(
-    files: &F,
+fn subset<'a, F: Files>(
+    files: &'a F,
     alloc: Global,
-    line: &Subset<'_>,
-    err: &mut Outlet<V>,
-) -> u8
-    requires { fresh_of err.old ≡ true }
-{
-    match wanted_of(alloc, line.text, &line.words) {
-        Ok(wanted) => {
-            let answer = cut(files, alloc, line.font, line.out, &wanted);
-            ended(alloc, err, line.font, line.out, answer)
-        }
-        Err(WordsError::BadWord(word)) => bad_word(alloc, err, word),
-        Err(WordsError::NoMemory) => no_memory(err),
+    line: &Subset<'a>,
+) -> Result<bool, Fault<'a>> {
+    let wanted = wanted_of(alloc, line.text, &line.words)?;
+    let mut inlet = opened(files, line.font)?;
+    let mut outlet = outlet(files, alloc, line.out)?;
+    match run_subset(alloc, &mut inlet, &wanted, &mut outlet) {
+        Ok(_) => Ok(true),
+        Err(error) => Err(Fault::of_run(line.font, line.out, error)),
     }
 }
 
-fn demo<W: Write, V: Write>(alloc: Global, out: &mut Outlet<W>, err: &mut Outlet<V>) -> u8
-    requires out { fresh_of out.old ≡ true }
-    requires err { fresh_of err.old ≡ true }
+// The path of the inlet whose reader has failed.
+fn broken_path<'a, R: Read>(inlets: &[Inlet<R>], paths: &[&'a str]) -> Option<&'a str> {
+    for (inlet, &path) in inlets.iter().zip(paths) {
+        if inlet.is_broken() {
+            return Some(path);
+        }
+    }
+    None
+}
+
+fn join<'a, F: Files>(files: &'a F, alloc: Global, line: &Join<'a>) -> Result<bool, Fault<'a>> {
+    let mut inlets = opened_each(files, alloc, &line.files)?;
+    let mut outlet = outlet(files, alloc, line.out)?;
+    match run_join(alloc, &mut inlets, &mut outlet) {
+        Ok(_) => Ok(true),
+        Err(error) => {
+            let font = broken_path(&inlets, &line.files).unwrap_or("");
+            Err(Fault::of_run(font, line.out, error))
+        }
+    }
+}
+
+fn demo<W: Write>(alloc: Global, out: &mut Outlet<W>) -> Result<bool, Fault<'static>>
+    requires { fresh_of out.old ≡ true }
 {
     match demo_text(alloc) {
-        Ok(text) => print(alloc, out, err, text.as_str()),
-        Err(_) => no_memory(err),
+        Ok(text) => print(out, text.as_str()),
+        Err(error) => Err(Fault::Refused(error)),
+    }
+}
+
+// Does what a task asks for, and answers whether all is well.
+fn done<'a, F: Files, W: Write>(
+    files: &'a F,
+    alloc: Global,
+    task: &Task<'a>,
+    out: &mut Outlet<W>,
+) -> Result<bool, Fault<'a>>
+    requires { fresh_of out.old ≡ true }
+{
+    match task {
+        Task::Check { font } => check(files, alloc, font, out),
+        Task::Show { font } => show(files, alloc, font, out),
+        Task::Subset(line) => subset(files, alloc, line),
+        Task::Join(line) => join(files, alloc, line),
+        Task::Demo => demo(alloc, out),
+    }
+}
+
+// The status for what was done.
+fn ended<V: Write>(alloc: Global, err: &mut Outlet<V>, answer: Result<bool, Fault<'_>>) -> u8
+    requires { fresh_of err.old ≡ true }
+{
+    match answer {
+        Ok(true) => 0,
+        Ok(false) => 1,
+        Err(fault) => report(alloc, err, fault),
     }
 }
 
@@ -210,21 +192,12 @@ pub fn run_words<F: Files, W: Write, V: Write>(
     requires err { fresh_of err.old ≡ true }
 {
     match parse(alloc, words) {
-        Ok(Task::Check { font }) => {
-            let answer = check(files, alloc, font, out);
-            ended(alloc, err, font, STANDARD_OUTPUT, answer)
-        }
-        Ok(Task::Show { font }) => {
-            let answer = show(files, alloc, font, out);
-            ended(alloc, err, font, STANDARD_OUTPUT, answer)
-        }
-        Ok(Task::Subset(line)) => subset(files, alloc, &line, err),
-        Ok(Task::Demo) => demo(alloc, out, err),
-        Err(LineError::NoMemory) => no_memory(err),
-        Err(LineError::Help(text)) => print(alloc, out, err, text.as_str()),
+        Ok(task) => ended(alloc, err, done(files, alloc, &task, out)),
+        Err(LineError::NoMemory) => report(alloc, err, Fault::Refused(RunError::Memory)),
+        Err(LineError::Help(text)) => ended(alloc, err, print(out, text.as_str())),
         Err(LineError::Words(text)) => {
             say(err, text.as_str());
-            BAD_WORDS
+            2
         }
     }
 }

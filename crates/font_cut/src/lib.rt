@@ -25,4 +25,4 @@ pub use font_file::{Font, FontError};
 pub use font_glyph::{Component, Components};
 pub use font_map::{MapError, Mapping, Wanted, WantedError, WordError, read_word};
 pub use font_tables::{LocaForm, TableError, Tables};
-pub use sfnt_bytes::{BASE6, DirError, Directory, Entry, Finding, KEPT, MAX_FILE, Tag};
+pub use sfnt_bytes::{BASE6, DirError, Directory, Entry, Finding, KEPT, MAX_FILE, NoMemory, Tag};

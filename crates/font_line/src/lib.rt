@@ -14,6 +14,8 @@ pub enum Task<'a> {
     Show { font: &'a str },
     /// Write the cut of a font to a file.
     Subset(Subset<'a>),
+    /// Write the join of cuts to a file.
+    Join(Join<'a>),
     /// Print what is found in the font that the program carries.
     Demo,
 }
@@ -29,6 +31,15 @@ pub struct Subset<'a> {
     pub text: &'a str,
     /// The words that name ranges of codes that are kept.
     pub words: Vec<&'a str>,
+}
+
+/// What `join` asks for.
+#[derive(Debug, Drop)]
+pub struct Join<'a> {
+    /// The path that the join is written to.
+    pub out: &'a str,
+    /// The paths of the cuts, one at least.
+    pub files: Vec<&'a str>,
 }
 
 /// Why a command line asks for nothing that can be done.
@@ -67,18 +78,31 @@ fn subset_command<'a>(alloc: Global) -> Result<Command<'a>, AllocError> {
         .arg(words)
 }
 
+fn join_command<'a>(alloc: Global) -> Result<Command<'a>, AllocError> {
+    let files = Arg::new(alloc, "FILES")
+        .num_args(1..)
+        .action(ArgAction::Append)
+        .required(true)
+        .help("Cuts of one font, in any order");
+    Command::new(alloc, "join")
+        .about("Writes to OUT the one cut that FILES, cuts of one font, are together")
+        .arg(Arg::new(alloc, "OUT").required(true))?
+        .arg(files)
+}
+
 fn command<'a>(alloc: Global) -> Result<Command<'a>, AllocError> {
     let check = "Prints what is not as the standard asks, and whether FONT is accepted";
-    let show = "Prints the numbers of FONT, and which of its tables a cut keeps";
-    let demo = "Prints what is found in a font of six glyphs";
+    let show = "Prints the numbers of FONT, which of its tables a cut keeps, and whether it is a cut";
+    let demo = "Prints what is found in a font of six glyphs, and the sizes of some of its cuts";
     Command::new(alloc, "fontcut")
         .bin_name("fontcut")?
-        .about("Looks into OpenType fonts with TrueType outlines, and cuts them")
+        .about("Looks into OpenType fonts with TrueType outlines, cuts them, and joins cuts")
         .no_binary_name(true)
         .subcommand_required(true)
         .subcommand(over_font(alloc, "check", check)?)?
         .subcommand(over_font(alloc, "show", show)?)?
         .subcommand(subset_command(alloc)?)?
+        .subcommand(join_command(alloc)?)?
         .subcommand(Command::new(alloc, "demo").about(demo))
 }
 
@@ -109,12 +133,23 @@ fn subset_task<'a>(
     })))
 }
 
+fn join_task<'a>(alloc: Global, matches: &ArgMatches<'a>) -> Result<Option<Task<'a>>, AllocError> {
+    let (Some(out), Some(files)) = (matches.get_str("OUT"), matches.get_strs("FILES")) else {
+        return Ok(None);
+    };
+    Ok(Some(Task::Join(Join {
+        out,
+        files: Vec::from_slice(alloc, files)?,
+    })))
+}
+
 fn parse_task<'a>(alloc: Global, words: &'a [String]) -> Result<Option<Task<'a>>, Error> {
     let matches = command(alloc)?.try_get_matches_from(words)?;
     Ok(match matches.subcommand() {
         Some(("check", inner)) => inner.get_str("FONT").map(|font| Task::Check { font }),
         Some(("show", inner)) => inner.get_str("FONT").map(|font| Task::Show { font }),
         Some(("subset", inner)) => subset_task(alloc, inner)?,
+        Some(("join", inner)) => join_task(alloc, inner)?,
         Some(("demo", _)) => Some(Task::Demo),
         _ => None,
     })

@@ -1,0 +1,89 @@
+-- What the run of a join is given, and how it leaves its inlets and its outlet.
+use Rattle.std.specs.Prelude.{◌≡◌, ℕ, suc, ◌+◌, Bool, false, true, All, List, drop, length, map, Option, Some, take}
+use Rattle.std.specs.List.{AllWithin, slice_get}
+use Rattle.font_cut.specs.Cut.{cut_of}
+use Rattle.font_cut.specs.Fonts.{file_at, union_below}
+use Rattle.font_cut.specs.InTurn.{AreCuts, IsAllJoined, IsAllRefusal}
+use Rattle.font_cut.specs.Join.{IsForSize}
+use Rattle.font_cut.specs.Outlet as outlets
+use Rattle.font_cut.specs.declared.join_error.JoinAllError.TheVariants.{At, NothingToJoin}
+use Rattle.font_cut.specs.declared.outlet.Outlet.{Outlet}
+use Rattle.font_cmd.specs.Inlet as inlets
+use Rattle.font_cmd.specs.Run.{got, of_join_error}
+use Rattle.font_cmd.specs.declared.inlet.Inlet.{Inlet}
+use Rattle.font_cmd.specs.declared.run.RunError.{RunError}
+use Rattle.font_cmd.specs.declared.run.RunError.TheVariants.{Font, Join, Memory, Read, TooLarge, Write}
+
+-- no inlet was read
+abbrev pub AreFresh : {R : Type 0} → List (Inlet R) → Type 0
+AreFresh list = All (λ inlet. inlets.fresh_of inlet ≡ true) list
+
+-- an inlet was read, and no read failed
+abbrev pub IsSpent : {R : Type 0} → Inlet R → Type 0
+IsSpent inlet = (inlets.fresh_of inlet ≡ false) × (inlets.broken_of inlet ≡ false)
+
+-- each inlet was read, and no read failed
+abbrev pub AreSpent : {R : Type 0} → List (Inlet R) → Type 0
+AreSpent list = All IsSpent list
+
+-- no read failed
+abbrev pub AreWhole : {R : Type 0} → List (Inlet R) → Type 0
+AreWhole list = All (λ inlet. inlets.broken_of inlet ≡ false) list
+
+-- the files are what came from the readers of the inlets, one by one, where these tell their bytes
+pub record AreGot {R : Type 0} (remaining : R → Option (List ℕ)) (list : List (Inlet R)) (files : List (List ℕ)) : Type 0 where
+  pub count : length files ≡ length list
+  pub each : (k : ℕ) (inlet : Inlet R) → slice_get list k ≡ Some inlet → got remaining inlet (λ bytes. file_at files k ≡ bytes)
+
+-- a read failed: the inlets before it were read, it is broken after so many bytes, and those behind it are as they were
+pub record BreaksAfter {R : Type 0} (remaining : R → Option (List ℕ)) (old new : List (Inlet R)) (count : ℕ) : Type 0 where
+  pub at : ℕ
+  pub unread : Inlet R
+  pub failed : Inlet R
+  pub was : slice_get old at ≡ Some unread
+  pub is : slice_get new at ≡ Some failed
+  pub broken : inlets.broken_of failed ≡ true
+  pub gives : inlets.Gives remaining unread failed count
+  pub before : AllWithin IsSpent new 0 at
+  pub behind : drop (at + 1) new ≡ drop (at + 1) old
+
+-- how inlets are left that were not all read: a read failed, or memory was refused
+abbrev pub ReadStops : {R : Type 0} (remaining : R → Option (List ℕ)) (old new : List (Inlet R)) → RunError → Type 0
+ReadStops remaining old new (Read count) = BreaksAfter remaining old new count
+ReadStops remaining old new Memory = AreWhole new
+ReadStops remaining old new _ = ⊥
+
+-- P holds of files that came from the readers
+abbrev pub OfGot : {R : Type 0} → (R → Option (List ℕ)) → List (Inlet R) → (List (List ℕ) → Type 0) → Type 0
+OfGot remaining list P = (files : List (List ℕ)) × AreGot remaining list files × P files
+
+-- how a join that is not done leaves its inlets, from i to j, and its outlet, from o to p
+abbrev pub JoinStops : {R W : Type 0} (remaining : R → Option (List ℕ)) (contents : W → Option (List ℕ)) (i j : List (Inlet R)) (o p : Outlet W) → RunError → Type 0
+-- nothing was sent
+JoinStops remaining contents i j o p (Read count) = BreaksAfter remaining i j count × (p ≡ o)
+JoinStops remaining contents i j o p Memory = AreWhole j × (p ≡ o)
+-- the files are refused, by the first refusal that applies, and nothing was sent
+JoinStops remaining contents i j o p (Join error) =
+    AreSpent j × (p ≡ o) × (of_join_error error ≡ Join error) × OfGot remaining i (λ files. IsAllRefusal files error)
+-- the outlet is broken, and so many bytes of the join went out
+JoinStops remaining contents i j o p (Write count) =
+    AreSpent j × (outlets.broken_of p ≡ true) × (outlets.written_of p ≡ count)
+    × OfGot remaining i (λ files. (z : List ℕ) × IsAllJoined files z × outlets.Sends contents o p (take count z))
+-- such a refusal is one of the join
+JoinStops remaining contents i j o p (Font error) = ⊥
+JoinStops remaining contents i j o p (TooLarge size) = ⊥
+
+-- the join of what came from the readers went out, and has so many bytes
+abbrev pub SendsJoin : {R W : Type 0} (remaining : R → Option (List ℕ)) (contents : W → Option (List ℕ)) (i : List (Inlet R)) (o p : Outlet W) → ℕ → Type 0
+SendsJoin remaining contents i o p size =
+    OfGot remaining i (λ files. (z : List ℕ) × IsAllJoined files z × (size ≡ length z) × outlets.Sends contents o p z)
+
+-- what came from the readers, whatever it is, are cuts of F for some sets, none of them too large
+abbrev pub GotCuts : {R : Type 0} → (R → Option (List ℕ)) → List (Inlet R) → List ℕ → (ℕ → ℕ → Bool) → Type 0
+GotCuts remaining list F A = (files : List (List ℕ)) → AreGot remaining list files → AreCuts F A files
+
+-- no refusal but that the cut for the first sets is too large
+abbrev pub OnlySize : List ℕ → (ℕ → ℕ → Bool) → ℕ → RunError → Type 0
+OnlySize F A count (Join NothingToJoin) = count ≡ 0
+OnlySize F A count (Join (At step error)) = IsForSize (length (cut_of F (union_below A (suc step)))) error
+OnlySize F A count _ = Unit {0}
