@@ -78,10 +78,13 @@ module _ {R : Type 0} (remaining : R → Option (List ℕ)) where
       -- the read failed
       pub breaks_after : (count : ℕ) → broken_of y ≡ true → Gives remaining (get_or now k e) y count → BreaksAfter remaining old (set now k y) count
       breaks_after count broken gives = record {
-        at = k; unread = x; failed = y;
+        at = k;
+        unread = x;
+        failed = y;
         was = slice_get_read old (length old) k x refl (subst (λ n. k < n) read.same low) (is ∙ next_is x);
         is = slice_get_read (set now k y) (length (set now k y)) k y refl (subst (λ n. k < n) (sym (length-set now k y)) low) (sym (get_or-set_same now k y y low));
-        broken = broken; gives = gives;
+        broken = broken;
+        gives = gives;
         before = AllWithin-kept now k y low IsSpent read.spent;
         behind = behind_next y;
       }
@@ -90,10 +93,12 @@ module _ {R : Type 0} (remaining : R → Option (List ℕ)) where
       pub still_whole : AreFresh old → broken_of y ≡ false → AreWhole (set now k y)
       still_whole fresh whole = λ j d below.
           elim (cases_lt j k) [
-            inl before ↦ (AllWithin-kept now k y low IsSpent read.spent j d (omega arith) before).1
-          | inr from ↦ elim (cases_lt k j) [
-              inl behind ↦ fresh_whole (get_or (set now k y) j d) (subst (λ i. fresh_of i ≡ true) (sym (behind_is j d behind)) (fresh j d (subst (λ n. j < n) (length-set now k y ∙ read.same) below)))
-            | inr upto ↦ subst (λ i. broken_of i ≡ false) (sym (get_or-set_at now k j y d (omega (arith, from, upto)) low)) whole ] ]
+            | inl before ↦ (AllWithin-kept now k y low IsSpent read.spent j d (omega arith) before).1
+            | inr from ↦ elim (cases_lt k j) [
+              | inl behind ↦ fresh_whole (get_or (set now k y) j d) (subst (λ i. fresh_of i ≡ true) (sym (behind_is j d behind)) (fresh j d (subst (λ n. j < n) (length-set now k y ∙ read.same) below)))
+              | inr upto ↦ subst (λ i. broken_of i ≡ false) (sym (get_or-set_at now k j y d (omega (arith, from, upto)) low)) whole
+            ]
+          ]
         where
           behind_is : (j : ℕ) (d : Inlet R) → k < j → get_or (set now k y) j d ≡ get_or old j d
           behind_is j d behind =

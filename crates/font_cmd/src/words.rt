@@ -102,11 +102,7 @@ fn outlet<'a, F: Files>(
 }
 
 // The words are looked at before the font is opened.
-fn subset<'a, F: Files>(
-    files: &'a F,
-    alloc: Global,
-    line: &Subset<'a>,
-) -> Result<bool, Fault<'a>> {
+fn subset<'a, F: Files>(files: &'a F, alloc: Global, line: &Subset<'a>) -> Result<bool, Fault<'a>> {
     let wanted = wanted_of(alloc, line.text, &line.words)?;
     let mut inlet = opened(files, line.font)?;
     let mut outlet = outlet(files, alloc, line.out)?;

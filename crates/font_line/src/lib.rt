@@ -92,7 +92,8 @@ fn join_command<'a>(alloc: Global) -> Result<Command<'a>, AllocError> {
 
 fn command<'a>(alloc: Global) -> Result<Command<'a>, AllocError> {
     let check = "Prints what is not as the standard asks, and whether FONT is accepted";
-    let show = "Prints the numbers of FONT, which of its tables a cut keeps, and whether it is a cut";
+    let show =
+        "Prints the numbers of FONT, which of its tables a cut keeps, and whether it is a cut";
     let demo = "Prints what is found in a font of six glyphs, and the sizes of some of its cuts";
     Command::new(alloc, "fontcut")
         .bin_name("fontcut")?

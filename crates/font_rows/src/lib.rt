@@ -19,6 +19,8 @@ mod fonts;
 #[cfg(test)]
 mod hostile;
 #[cfg(test)]
+mod join_runs;
+#[cfg(test)]
 mod show_lines;
 #[cfg(test)]
 mod subset_runs;

@@ -1,4 +1,5 @@
 //! What `show` sends of a font, and of a file that is refused.
+use crate::cuts::CUT_OF_AACUTE;
 use crate::fakes::{Endless, Failure, Narrow, Pieces};
 use crate::fonts::{RECORD, RECORDS, base6_with, entry, file_of};
 use font_cmd::{Inlet, RunError, run_show};
@@ -21,14 +22,37 @@ kept hhea 36
 kept hmtx 24
 kept loca 14
 kept maxp 32
+cut no
+";
+
+// Of the cut for U+00C1.
+const CUT_SHOWN: &[u8] = b"glyphs 6
+units 1000
+loca long
+metrics 6
+mapping 3/10 format 12
+mapped 1
+kept cmap 40
+kept glyf 64
+kept head 54
+kept hhea 36
+kept hmtx 24
+kept loca 28
+kept maxp 32
+cut yes
 ";
 
 #[test]
 fn show_lines(rt: HostRuntime) -> Result<(), Fail> {
-    let mut inlet = Inlet::new(BASE6.as_slice());
-    let mut outlet = Outlet::new(Vec::new(rt.alloc()));
-    assert_eq!(rt; run_show(rt.alloc(), &mut inlet, &mut outlet), Ok(()));
-    assert_eq!(rt; outlet.into_inner().as_slice(), SHOWN);
+    for (file, shown) in [
+        (BASE6.as_slice(), SHOWN),
+        (CUT_OF_AACUTE.as_slice(), CUT_SHOWN),
+    ] {
+        let mut inlet = Inlet::new(file);
+        let mut outlet = Outlet::new(Vec::new(rt.alloc()));
+        assert_eq!(rt; run_show(rt.alloc(), &mut inlet, &mut outlet), Ok(()));
+        assert_eq!(rt; outlet.into_inner().as_slice(), shown);
+    }
     Ok(())
 }
 
@@ -47,8 +71,9 @@ fn dropped_tables(rt: HostRuntime) -> Result<(), Fail> {
     let mut outlet = Outlet::new(Vec::new(rt.alloc()));
     assert_eq!(rt; run_show(rt.alloc(), &mut inlet, &mut outlet), Ok(()));
     let text = outlet.into_inner();
-    assert!(rt; text.starts_with(SHOWN));
-    assert!(rt; text.ends_with(b"kept maxp 32\ndropped zzzz 7\ndropped GSUB 12\n"));
+    let kept = SHOWN.strip_suffix(b"cut no\n").unwrap_or(SHOWN);
+    assert!(rt; text.starts_with(kept));
+    assert!(rt; text.ends_with(b"kept maxp 32\ndropped zzzz 7\ndropped GSUB 12\ncut no\n"));
     Ok(())
 }
 

@@ -14,6 +14,11 @@ hmtx 356 24
 loca 380 14
 maxp 396 32
 findings 0
+cut U+C1 404
+cut none 340
+cut U+20 352
+cut U+41-42 392
+join 440
 ";
 
 const SHOWN: &[u8] = b"glyphs 6
@@ -29,6 +34,7 @@ kept hhea 36
 kept hmtx 24
 kept loca 14
 kept maxp 32
+cut no
 ";
 
 /// What a line answers and prints.
@@ -70,7 +76,7 @@ fn demo_prints_the_font_it_carries(rt: HostRuntime) -> Result<(), Fail> {
 
 #[test]
 fn faults_of_the_words(rt: HostRuntime) -> Result<(), Fail> {
-    let lines: [&[&str]; 11] = [
+    let lines: [&[&str]; 14] = [
         &[],
         &["check"],
         &["show"],
@@ -78,6 +84,9 @@ fn faults_of_the_words(rt: HostRuntime) -> Result<(), Fail> {
         &["subset", "a.ttf"],
         &["subset", "a.ttf", "b.ttf", "--text"],
         &["subset", "a.ttf", "b.ttf", "--words", "U+41"],
+        &["join"],
+        &["join", "a.ttf"],
+        &["join", "a.ttf", "b.ttf", "--text", "A"],
         &["cut"],
         &["--font"],
         &["demo", "demo"],
@@ -93,11 +102,12 @@ fn faults_of_the_words(rt: HostRuntime) -> Result<(), Fail> {
 
 #[test]
 fn help_goes_to_standard_output(rt: HostRuntime) -> Result<(), Fail> {
-    let lines: [&[&str]; 4] = [
+    let lines: [&[&str]; 5] = [
         &["--help"],
         &["help"],
         &["check", "--help"],
         &["subset", "--help"],
+        &["join", "--help"],
     ];
     for line in lines {
         let answer = run(&rt, rt.alloc(), line)?;

@@ -6,4 +6,6 @@ mod command_words;
 #[cfg(test)]
 mod cuts;
 #[cfg(test)]
+mod join_words;
+#[cfg(test)]
 mod subset_words;
