@@ -1,4 +1,4 @@
-"""What the test scripts share: running the program, counting checks, Debian's fonts."""
+"""What the test scripts share: running the program, counting checks, files, Debian's fonts."""
 import json
 import os
 import subprocess
@@ -12,6 +12,10 @@ DEJAVU = "/usr/share/fonts/truetype/dejavu"  # Debian's package fonts-dejavu-cor
 LIBERATION = "/usr/share/fonts/truetype/liberation2"  # Debian's package fonts-liberation2
 BABELSTONE = "/usr/share/fonts/truetype/babelstone"  # Debian's package fonts-babelstone-han
 HANAZONO = "/usr/share/fonts/truetype/hanazono"  # Debian's package fonts-hanazono
+FREEFONT = "/usr/share/fonts/truetype/freefont"  # Debian's package fonts-freefont-ttf
+
+# What the program answers where it is done, and has nothing to print.
+DONE = (0, b"", b"")
 
 FONTS = {
     DEJAVU: ("fonts-dejavu-core", """
@@ -24,7 +28,7 @@ FONTS = {
 
 # Prints by fontTools what `show` prints of each font: its numbers, the subtable that its mapping is read from, how many
 # codes that maps, and the tags and lengths of its tables in order of tag, which is that of the records in
-# these fonts; fontTools has them by their offsets.
+# these fonts; fontTools has them by their offsets. At last whether it can be a cut, which has one subtable.
 SHOWN = """
 import json, sys
 from fontTools.ttLib import TTFont
@@ -39,8 +43,9 @@ def shown(path):
     table = subtable_of(font)
     codes = sum(font.getGlyphID(name) != 0 for name in table.cmap.values())
     tables = [[tag, entry.length] for tag, entry in sorted(font.reader.tables.items())]
+    pairs = [(it.platformID, it.platEncID) for it in font["cmap"].tables]
     return [font["maxp"].numGlyphs, font["head"].unitsPerEm, form, font["hhea"].numberOfHMetrics,
-            [table.platformID, table.platEncID, table.format], codes, tables]
+            [table.platformID, table.platEncID, table.format], codes, tables, pairs == [(3, 10)]]
 print(json.dumps([shown(path) for path in sys.argv[1:]]))
 """
 
@@ -97,6 +102,33 @@ def fontcut(*words, **how):
 
 def same(name, wanted, found):
     check(name, wanted == found, f"wanted {wanted}", f"found  {found}")
+
+
+def put(path, data):
+    """Makes a file of these bytes; where there is one it is emptied first."""
+    with open(path, "wb") as out:
+        out.write(data)
+
+
+def held(path):
+    """What a file holds, or None where there is none."""
+    if not os.path.exists(path):
+        return None
+    with open(path, "rb") as opened:
+        return opened.read()
+
+
+def difference(wanted, found):
+    """Where two files differ first, for they are too long to be shown. None is no file."""
+    if wanted is None or found is None:
+        return f"{'no file' if wanted is None else 'a file'} is wanted, {'none' if found is None else 'one'} is there"
+    at = next((at for at, pair in enumerate(zip(wanted, found)) if pair[0] != pair[1]), min(len(wanted), len(found)))
+    return f"{len(wanted)} bytes are wanted, {len(found)} were written; the first {at} agree"
+
+
+def same_bytes(name, wanted, found):
+    """Checks that two files are one, byte for byte."""
+    check(name, wanted == found, difference(wanted, found))
 
 
 def real_fonts(fonts=None):

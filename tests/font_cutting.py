@@ -13,13 +13,21 @@ from font_reading import (KEPT, component_size, mapping, offset, records_of, sea
 
 Group = namedtuple("Group", "first last glyph")
 
+ALL = [(0, 0x10FFFF)]
+
+
+def ranges(words):
+    """The ranges that typed words name, all of them well made."""
+    ends = [word.removeprefix("U+").split("-") for word in words.split()]
+    return [(int(pair[0], 16), int(pair[-1], 16)) for pair in ends]
+
 
 def padded(data):
     """The bytes, and the fewest zeros that fill them to a multiple of 4."""
     return bytes(data) + bytes(-len(data) % 4)
 
 
-@lru_cache(1)
+@lru_cache(2)  # of two files that are joined
 def outlines(file):
     """The records of all glyphs, in order of number."""
     glyf, loca, form = table(file, b"glyf"), table(file, b"loca"), u16(table(file, b"head"), 50)
@@ -39,7 +47,7 @@ def component_glyphs(record):
     return glyphs
 
 
-@lru_cache(1)
+@lru_cache(2)  # of two files that are joined
 def whole_map(file):
     """The glyph of each code that is mapped."""
     return mapping(table(file, b"cmap"), u16(table(file, b"maxp"), 4))
@@ -130,3 +138,8 @@ def cut_size(tables):
 def cut(file, wanted):
     """The cut of a font that is accepted, for wanted ranges of codes."""
     return assembled(cut_tables(file, wanted))
+
+
+def is_cut(file):
+    """Whether a file that is accepted is in cut form: whether it is its own cut for all codes."""
+    return cut(file, ALL) == file

@@ -1,7 +1,9 @@
-"""Worked cuts of a font of six glyphs, typed in by hand: sizes, offsets, sums and bytes."""
+"""Worked cuts and joins of a font of six glyphs, typed in by hand: sizes, offsets, sums and bytes."""
+import os
 import struct
 
-from font_reading import records_of, table_of
+from font_cutting import assembled, cmap_table, cut, groups_of, padded, ranges, whole_map
+from font_reading import KEPT, records_of, search_fields, table_of
 
 # The font: a directory and seven tables. Its glyphs have 12, 14, 10, 22, 0 and 12 bytes; glyph 3 is
 # composed of 1 and 2. U+0020 is mapped to glyph 4, U+0041 to 1, U+0042 to 5 and U+00C1 to 3.
@@ -86,8 +88,13 @@ CUTS = [
 ]
 
 
+def tables_of(file):
+    """The tables of a file, by tag."""
+    return {record.tag: table_of(file, record) for record in records_of(file)}
+
+
 def base6_tables():
-    return {record.tag: table_of(BASE6, record) for record in records_of(BASE6)}
+    return tables_of(BASE6)
 
 
 def composite_of_composite():
@@ -109,3 +116,93 @@ def reversed_directory():
     """The font with its records in reversed order, all checksums 0."""
     records = [BASE6[at:at + 4] + bytes(4) + BASE6[at + 8:at + 16] for at in range(108, 11, -16)]
     return BASE6[:12] + b"".join(records) + BASE6[124:]
+
+
+# With nine tables of so many bytes, the cut for one of two codes has as many bytes as a file may have.
+REGION = 14_913_024
+
+
+def wide_font(path):
+    """Makes the font with all nine optional tables over one region of zeros, its sums left at 0."""
+    count, place, tables, bodies = 16, 12 + 16 * 16, base6_tables(), b""
+    records = {}
+    for tag, data in tables.items():
+        records[tag] = (place + len(bodies), len(data))
+        bodies += padded(data)
+    directory = struct.pack(">IHHHH", 0x00010000, count, *search_fields(count))
+    for tag in KEPT:
+        directory += struct.pack(">4sIII", tag, 0, *records.get(tag, (place + len(bodies), REGION)))
+    with open(path, "wb") as out:
+        out.write(directory + bodies)
+    os.truncate(path, place + len(bodies) + REGION)
+
+
+def cut_for(file, words):
+    return cut(file, ranges(words))
+
+
+def with_tables(**changed):
+    """The font with other bytes for these tables, its sums right."""
+    return assembled({**base6_tables(), **{tag.encode(): data for tag, data in changed.items()}})
+
+
+def with_codes(**codes):
+    """The font with these letters on these glyphs besides its own codes."""
+    return with_tables(cmap=cmap_table(groups_of({**whole_map(BASE6), **{ord(code): codes[code] for code in codes}})))
+
+
+def with_glyph_2_empty():
+    glyf = base6_tables()[b"glyf"]
+    return with_tables(glyf=glyf[:26] + glyf[36:], loca=struct.pack(">7H", 0, 6, 13, 13, 24, 24, 30))
+
+
+def with_byte(file, place, byte):
+    return file[:place] + bytes([byte]) + file[place + 1:]
+
+
+def worked_joins():
+    """Of each join: what it shows, the files, its size, and its bytes."""
+    aacute, both, nothing, three = (cut_for(BASE6, words) for words in ("U+C1", "U+41 U+42", "", "U+41-42 U+C1"))
+    row = assembled(three_in_a_row())
+    ends, middle, filled = (cut_for(row, words) for words in ("U+61 U+63", "U+62", "U+61-63"))
+    first, last = cut_for(row, "U+61"), cut_for(row, "U+63")
+    # The padding of glyph 1, which has 14 bytes from place 176 on.
+    stray = assembled(tables_of(with_byte(aacute, 190, 1)))
+    return [
+        ("two cuts", [aacute, both], 440, three),
+        ("two cuts, turned", [both, aacute], 440, three),
+        ("two cuts, one of them again", [aacute, both, aacute], 440, three),
+        ("two cuts, one of them again, and that for no code", [aacute, both, aacute, nothing], 440, three),
+        ("a cut alone", [aacute], 404, aacute),
+        ("the cut for no code, twice", [nothing, nothing], 340, CUT_OF_NOTHING),
+        ("a gap that closes", [ends, middle], 404, filled),
+        ("a gap that closes, turned", [middle, ends], 404, filled),
+        ("a gap that closes at last", [first, last, middle], 404, filled),
+        ("three in a row", [first, middle, last], 404, filled),
+        ("padding of an outline that is no zero", [stray], 404, stray),
+    ]
+
+
+def worked_refusals():
+    """Of each refusal: what it shows, the files, and the line from the number of the file on."""
+    aacute, letter = cut_for(BASE6, "U+C1"), cut_for(BASE6, "U+41")
+    empty, full = cut_for(with_glyph_2_empty(), "U+C1"), cut_for(with_codes(C=2), "U+43")
+    tables = base6_tables()
+    outline = cut_for(with_tables(glyf=with_byte(tables[b"glyf"], 25, 0x23)), "U+41")
+    metric = cut_for(with_tables(hmtx=with_byte(tables[b"hmtx"], 23, 1)), "U+41")
+    mapping = cut_for(with_codes(A=2), "U+41")
+    # The padding of head, and that of glyph 1.
+    behind_head, stray = with_byte(aacute, 282, 1), assembled(tables_of(with_byte(aacute, 190, 1)))
+    return [
+        ("an empty outline, and one with bytes", [empty, full], "2: refused 23 different glyph 2"),
+        ("an outline with bytes, and an empty one", [full, empty], "2: refused 23 different glyph 2"),
+        ("another outline", [letter, outline], "2: refused 23 different glyph 1"),
+        ("another metric", [letter, metric], "2: refused 21 different table hmtx"),
+        ("a code on another glyph", [letter, mapping], "2: refused 22 different mapping U+0041"),
+        ("a font and a cut", [BASE6, letter], "1: refused 20 not a cut: first"),
+        ("a cut and a font", [aacute, BASE6], "2: refused 20 not a cut: second"),
+        ("padding of head that is no zero, first", [behind_head, aacute], "1: refused 20 not a cut: first"),
+        ("padding of head that is no zero, second", [aacute, behind_head], "2: refused 20 not a cut: second"),
+        ("padding of an outline that is no zero", [aacute, stray], "2: refused 23 different glyph 1"),
+        ("a font without its last byte", [aacute, BASE6[:-1]], "2: refused 6 table out of file maxp"),
+    ]
