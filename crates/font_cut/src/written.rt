@@ -1,4 +1,5 @@
-//! The file of any content, in memory, sent, or compared.
+//! The file of any content, in memory, sent, or compared. OpenType 1.9, Organization of an OpenType
+//! Font.
 ghost use Rattle.std.specs.Prelude.{◌≡◌, ◌≤◌, length, false, true, IfErr, IfOk, MatchResult, OnOk, IsTrue, ◌↔◌};
 ghost use Rattle.sfnt_bytes.specs.declared.directory.TheConstants.{MAX_FILE};
 ghost use Rattle.font_theory.specs.File.{file, first_form};
