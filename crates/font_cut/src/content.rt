@@ -190,6 +190,7 @@ impl<'a, A: Allocator> Source for CutOf<'a, A> {
         head(self.font)
     }
 
+    #[tactic(auto, using(crate::proofs::SourceLemmas::glyph_count_is))]
     fn glyph_count(&self) -> u16 {
         self.font.tables().glyph_count()
     }
@@ -198,10 +199,12 @@ impl<'a, A: Allocator> Source for CutOf<'a, A> {
         wanted_run(self.font, self.wanted, from)
     }
 
+    #[tactic(auto, using(crate::proofs::SourceLemmas::kept_is, crate::proofs::SourceLemmas::not_kept))]
     fn keeps(&self, g: u16) -> bool {
         g < self.font.tables().glyph_count() && self.kept.has(g)
     }
 
+    #[tactic(auto, using(crate::proofs::SourceLemmas::kept_below, crate::proofs::SourceLemmas::kept_outline))]
     fn outline_of(&self, g: u16) -> &[u8] {
         outline(self.font, g)
     }
