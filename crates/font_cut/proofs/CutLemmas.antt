@@ -1,10 +1,10 @@
 -- What a cut that was made holds of its font.
-use Rattle.std.proofs.Common.{◌≡◌, ℕ, ◌≤◌, ◌&&◌, Bool, true, false, nat_eq, List, length, None, inl, refl, sym, ◌∙◌, ap, subst}
+use Rattle.std.proofs.Common.{◌≡◌, ℕ, ◌≤◌, ◌&&◌, Bool, List, length, None, inl, refl, sym, ◌∙◌, ap}
 use Rattle.sfnt_bytes.specs.Findings.{findings_of}
 use Rattle.sfnt_bytes.specs.declared.directory.TheConstants.{MAX_FILE}
-use Rattle.font_file.specs.Font.{font_fault, map_of}
-use Rattle.font_theory.specs.Content.{Content, Font, IsClosed, content, font_of, seen}
-use Rattle.font_theory.specs.Cut.{IsCut, Writes, cut, our_format}
+use Rattle.font_file.specs.Font.{font_fault}
+use Rattle.font_theory.specs.Content.{Content, Font, content, font_of, seen}
+use Rattle.font_theory.specs.Cut.{IsCut, our_format}
 use Rattle.font_theory.specs.File.{file, first_form}
 use Rattle.font_theory.proofs.ContentLemmas.{IsClosed-content}
 use Rattle.font_theory.proofs.CutLemmas.{IsCut-cut, cut-cut}

@@ -1,8 +1,8 @@
 -- What an outlet tells as a sink.
-use Rattle.std.proofs.Common.{◌≡◌, ℕ, ◌++◌, List, take, drop, Option, None, Some, refl, ◌∙◌, ap, append_assoc}
+use Rattle.std.proofs.Common.{ℕ, ◌++◌, List, take, drop, Option, None, Some, refl, ◌∙◌, ap, append_assoc}
 use Rattle.std.specs.Io.KnownBytes.{Appends}
 use Rattle.std.proofs.lemmas.List.{take-append-drop}
-use Rattle.font_write.specs.Trace.{IsFront, IsPrefix}
+use Rattle.font_write.specs.Trace.{IsFront}
 
 -- a front of bytes that was appended
 pub front_appended : (old new : Option (List ℕ)) (n : ℕ) (bytes : List ℕ) → Appends old new (take n bytes) → IsFront old new bytes

@@ -1,5 +1,5 @@
 -- What a font gives to its cuts.
-use Rattle.std.proofs.Common.{◌≡◌, ℕ, zero, suc, ◌+◌, ◌-◌, ◌<◌, ◌≤◌, Bool, true, false, List, [], ◌∷◌, nat_lt, length, slice_range, take, drop, Option, None, Some, option_copied, refl, sym, ◌∙◌, ap, subst, arith, MatchOption}
+use Rattle.std.proofs.Common.{◌≡◌, ℕ, zero, suc, ◌+◌, ◌-◌, ◌<◌, ◌≤◌, Bool, true, false, List, [], ◌∷◌, nat_lt, length, slice_range, drop, Option, None, Some, refl, sym, ◌∙◌, ap, subst, arith, MatchOption}
 use Rattle.std.specs.Option.{option_map, unwrap_or, is_some, IsSome}
 use Rattle.std.proofs.lemmas.List.{length-drop, length-take}
 use Rattle.std.proofs.lemmas.Bool.{false_from_ne_true, le-ltb}
@@ -14,7 +14,7 @@ use Rattle.font_tables.specs.Tables.{glyf_of, glyf_tag, head_of, head_tag, loca_
 use Rattle.font_file.specs.Font.{font_fault}
 use Rattle.font_theory.specs.Bytes.{padded}
 use Rattle.font_glyph.specs.Marks.{has}
-use Rattle.font_theory.specs.Content.{IsWritable, content, font_of, is_kept}
+use Rattle.font_theory.specs.Content.{IsWritable, content, font_of, glyph_count, is_kept}
 use Rattle.font_theory.proofs.ContentLemmas.{IsClosed-content}
 use Rattle.font_theory.proofs.FileWantedLemmas.{outline-file}
 use Rattle.font_theory.proofs.WritableLemmas.{IsWritable-closed}
@@ -54,6 +54,10 @@ pub outline_small : (file : List ℕ) (g : ℕ) → font_fault file ≡ None →
 unfolding outline_of table_or_empty
 outline_small file g accepted =
     omega (arith, slice_small (glyf_of file) (offset_at (loca_form_of file) (loca_of file) g) (offset_at (loca_form_of file) (loca_of file) (g + 1)), table_small file glyf_tag accepted)
+
+-- the count of glyphs is read of a table that is copied
+pub glyph_count_is : (file : List ℕ) → glyph_count_of file ≡ glyph_count (font_of file).copied
+glyph_count_is file = sym (glyph_count-file file)
 
 -- a file of the content can be written
 pub is_writable : (file : List ℕ) (wanted : ℕ → Bool) → font_fault file ≡ None → IsWritable (content (font_of file) wanted)

@@ -1,6 +1,6 @@
 //! What a cut keeps of a font: the wanted codes that are mapped, .notdef, and the glyphs that chains of
 //! components lead to from there. OpenType 1.9, cmap; glyf, Composite Glyph Description.
-ghost use Rattle.std.specs.Prelude.{◌≡◌, ◌+◌, ◌-◌, ◌<◌, ◌≤◌, [], length, option_copied, unwrap_or, IfOk, MatchOption};
+ghost use Rattle.std.specs.Prelude.{◌≡◌, ◌+◌, ◌-◌, ◌<◌, ◌≤◌, [], length, None, option_copied, unwrap_or, IfOk, MatchOption};
 ghost use Rattle.sfnt_bytes.specs.Directory.{kept_tag, table_of};
 ghost use Rattle.sfnt_bytes.specs.declared.directory.TheConstants.{MAX_FILE};
 ghost use Rattle.font_tables.specs.Fields.{glyph_count_of};
@@ -9,7 +9,8 @@ ghost use Rattle.font_tables.specs.Tables.{head_of};
 ghost use Rattle.font_map.specs.CharacterMap.{restricted};
 ghost use Rattle.font_map.specs.Runs.{IsRun, NoRun};
 ghost use Rattle.font_map.specs.Wanted.{member};
-ghost use Rattle.font_file.specs.Font.{map_of};
+ghost use Rattle.font_file.specs.Font.{font_fault, map_of};
+ghost use Rattle.font_theory.specs.Content.{font_of};
 ghost use Rattle.font_cut.specs.Content.{AreMarked, IsKeptSet, IsSeedSet};
 
 use font_file::Font;
@@ -21,13 +22,20 @@ use std::alloc::{Allocator, Global};
 use std::marker::Model;
 
 // The slots of the tables that are made anew.
-pub(crate) const CMAP: usize = 1;
+const CMAP: usize = 1;
 
-pub(crate) const GLYF: usize = 5;
+const GLYF: usize = 5;
 
 pub(crate) const HEAD: usize = 6;
 
-pub(crate) const LOCA: usize = 9;
+const LOCA: usize = 9;
+
+// That nothing refuses a font: its type carries that, and each call of `tables` says it.
+pub(crate) fn accepted(font: &Font<'_>)
+    ensures { font_fault font.now ≡ None }
+{
+    let _tables = font.tables();
+}
 
 // Marks the glyphs of a run.
 #[tactic(auto, using(crate::proofs::SeedLemmas::marked_start, crate::proofs::SeedLemmas::marked_more, crate::proofs::SeedLemmas::marked_end))]
@@ -76,7 +84,7 @@ pub(crate) fn mark_kept<A: Allocator + Copy>(
 ) -> Result<Marks<A>, NoMemory>
     ensures { IfOk result (IsKeptSet font.now (member wanted.now)) }
 {
-    let _tables = font.tables();
+    accepted(font);
     let seeds = mark_seeds(alloc, font, wanted)?;
     let kept = close(alloc, font, &seeds)?;
     Ok(kept)
@@ -99,13 +107,15 @@ pub(crate) fn head<'a>(font: &Font<'a>) -> &'a [u8]
     table_head(font.tables().directory())
 }
 
-// A table that a cut copies.
+// The table of a slot, where a cut copies it.
 #[tactic(auto, using(crate::proofs::SourceLemmas::table_small))]
 pub(crate) fn copied<'a>(font: &Font<'a>, slot: usize) -> Option<&'a [u8]>
-    requires { slot < 16 }
-    ensures table { option_copied result ≡ table_of font.now (kept_tag slot) }
+    ensures table { option_copied result ≡ (font_of font.now).copied slot }
     ensures small { MatchOption result Unit (λ b. length b.now ≤ MAX_FILE) }
 {
+    if slot == CMAP || slot == GLYF || slot == HEAD || slot == LOCA || 16 <= slot {
+        return None;
+    }
     font.tables().directory().table(slot)
 }
 
@@ -116,7 +126,7 @@ pub(crate) fn outline<'a>(font: &Font<'a>, g: u16) -> &'a [u8]
     ensures outline { result.now ≡ outline_of font.now g }
     ensures small { length result.now ≤ MAX_FILE }
 {
-    let _tables = font.tables();
+    accepted(font);
     font.outline(g)
 }
 
@@ -169,13 +179,10 @@ impl<'a, A: Allocator> Source for CutOf<'a, A> {
     ghost content_of = { λ c. content (font_of c.0) (member c.1) };
 
     fn known(&self) {
-        let _tables = self.font.tables();
+        accepted(self.font);
     }
 
     fn copied(&self, slot: usize) -> Option<&[u8]> {
-        if slot == CMAP || slot == GLYF || slot == HEAD || slot == LOCA || 16 <= slot {
-            return None;
-        }
         copied(self.font, slot)
     }
 
@@ -183,6 +190,7 @@ impl<'a, A: Allocator> Source for CutOf<'a, A> {
         head(self.font)
     }
 
+    #[tactic(auto, using(crate::proofs::SourceLemmas::glyph_count_is))]
     fn glyph_count(&self) -> u16 {
         self.font.tables().glyph_count()
     }
@@ -191,10 +199,12 @@ impl<'a, A: Allocator> Source for CutOf<'a, A> {
         wanted_run(self.font, self.wanted, from)
     }
 
+    #[tactic(auto, using(crate::proofs::SourceLemmas::kept_is, crate::proofs::SourceLemmas::not_kept))]
     fn keeps(&self, g: u16) -> bool {
         g < self.font.tables().glyph_count() && self.kept.has(g)
     }
 
+    #[tactic(auto, using(crate::proofs::SourceLemmas::kept_below, crate::proofs::SourceLemmas::kept_outline))]
     fn outline_of(&self, g: u16) -> &[u8] {
         outline(self.font, g)
     }

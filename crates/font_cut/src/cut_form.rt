@@ -1,7 +1,8 @@
-//! Whether a font is a cut.
+//! Cut form, which is this project's own: a font's file is that of its content for all codes.
 ghost use Rattle.std.specs.Prelude.{◌≡◌, IfOk, IsTrue, ◌↔◌};
 ghost use Rattle.font_theory.specs.Cut.{IsCut, is_cut, our_format};
 
+use crate::content::accepted;
 use crate::whole::Whole;
 use font_file::Font;
 use sfnt_bytes::NoMemory;
@@ -24,6 +25,6 @@ pub fn is_cut<A: Allocator + Copy>(alloc: A, font: &Font<'_>) -> Result<bool, No
     ensures exact { IfOk result (λ b. b ≡ is_cut our_format font.now) }
     ensures form { IfOk result (λ b. IsTrue b ↔ IsCut our_format font.now) }
 {
-    let _tables = font.tables();
+    accepted(font);
     is_cut_exactly(alloc, font)
 }

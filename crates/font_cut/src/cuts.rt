@@ -1,4 +1,5 @@
-//! The cut of a font for a wanted set, in memory or sent.
+//! The cut of a font for a wanted set, in memory or sent: a font file in its turn. OpenType 1.9,
+//! Organization of an OpenType Font.
 ghost use Rattle.std.specs.Prelude.{◌≡◌, ◌≤◌, length, false, true, IfErr, IfOk, IsSome, MatchResult, OnOk};
 ghost use Rattle.sfnt_bytes.specs.declared.directory.TheConstants.{MAX_FILE};
 ghost use Rattle.font_map.specs.Wanted.{member};
@@ -8,7 +9,7 @@ ghost use Rattle.font_cut.specs.declared.cuts.CutError.TheVariants.{NoMemory as 
 ghost use Rattle.font_cut.specs.declared.cuts.CutIntoError.TheVariants.{NoMemory as IntoNoMemory};
 ghost use Rattle.font_cut.specs.Text.{cut_error_number, cut_into_error_number};
 
-use crate::content::CutOf;
+use crate::content::{CutOf, accepted};
 use crate::outlet::Outlet;
 use crate::written::{file_in_memory, send_whole};
 use font_file::Font;
@@ -112,7 +113,7 @@ pub fn cut<A: Allocator + Copy>(
     ensures small { IfOk result (λ v. length v.items ≤ MAX_FILE) }
     ensures sound { IfOk result (λ v. IsSound font.now (member wanted.now) v.items) }
 {
-    let _tables = font.tables();
+    accepted(font);
     cut_exactly(alloc, font, wanted)
 }
 
@@ -158,6 +159,6 @@ pub fn cut_into<W: Write, A: Allocator + Copy>(
     ensures stops { IfErr result (StopsCut W.contents out.old out.new (cut_of font.now (member wanted.now))) }
     ensures sound { OnOk result (IsSound font.now (member wanted.now) (cut_of font.now (member wanted.now))) }
 {
-    let _tables = font.tables();
+    accepted(font);
     cut_into_exactly(alloc, font, wanted, out)
 }

@@ -1,4 +1,5 @@
 //! Where two files in cut form differ first: in a table, in the glyph of a code, or in an outline.
+//! OpenType 1.9, `head`, `cmap` and `glyf`.
 ghost use Rattle.std.specs.Prelude.{◌≡◌, ◌<◌, ◌≤◌, length, find, None, Some, MatchOption};
 ghost use Rattle.std.specs.List.{range_with_len};
 ghost use Rattle.std.specs.Str.{bytes_eq};

@@ -1,4 +1,4 @@
-//! The joins of a list of files, one after the other.
+//! Joins of a list of files, one after the other. They are this project's own, and in no standard.
 ghost use Rattle.std.specs.Prelude.{◌≡◌, ◌<◌, ◌≤◌, ℕ, Bool, List, length, map, None, IfErr, IfOk, MatchResult};
 ghost use Rattle.sfnt_bytes.specs.declared.directory.TheConstants.{MAX_FILE};
 ghost use Rattle.font_file.specs.Font.{font_fault};

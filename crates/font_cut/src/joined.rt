@@ -1,10 +1,12 @@
-//! The union of two fonts in cut form.
+//! The union of two fonts in cut form, of which a join is made: this project's own, but for the groups
+//! of its mapping. OpenType 1.9, cmap, Format 12: Segmented coverage.
 ghost use Rattle.std.specs.Prelude.{◌≡◌, ◌<◌, ℕ, None, MatchResult};
 ghost use Rattle.sfnt_bytes.specs.Directory.{kept_tag};
 ghost use Rattle.font_map.specs.CharacterMap.{united};
 ghost use Rattle.font_map.specs.Runs.{IsNext};
 ghost use Rattle.font_cut.specs.Join.{IsUnionRefusal, different, union_fault};
 
+use crate::content::accepted;
 use crate::difference::first_difference;
 use crate::join_error::{JoinError, Which};
 use crate::whole::Whole;
@@ -106,8 +108,8 @@ impl<'a, A: Allocator + Copy> Joined<'a, A> {
     pub fn new(alloc: A, x: &'a Font<'a>, y: &'a Font<'a>) -> Result<Joined<'a, A>, JoinError>
         ensures { MatchResult result (λ joined. (joined ≡ (x.entry.now, y.entry.now)) × (union_fault x.entry.now y.entry.now ≡ None)) (IsUnionRefusal x.entry.now y.entry.now) }
     {
-        let _x_tables = x.tables();
-        let _y_tables = y.tables();
+        accepted(x);
+        accepted(y);
         let Ok(first) = Whole::new(alloc, x) else {
             return Err(JoinError::NoMemory);
         };

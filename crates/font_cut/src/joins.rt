@@ -1,4 +1,4 @@
-//! The join of two cuts: the least file of which both are cuts.
+//! The join of two cuts, which is this project's own: the least file of which both are cuts.
 ghost use Rattle.std.specs.Prelude.{◌≡◌, ℕ, Bool, List, ◌≤◌, length, None, IfErr, IfOk, MatchResult};
 ghost use Rattle.sfnt_bytes.specs.declared.directory.TheConstants.{MAX_FILE};
 ghost use Rattle.font_file.specs.Font.{font_fault};

@@ -1,4 +1,5 @@
-//! What a font holds for all codes: the content of its cut for all of them.
+//! What a font holds for all codes: the content of its cut for all of them. OpenType 1.9, cmap; glyf,
+//! Composite Glyph Description.
 ghost use Rattle.std.specs.Prelude.{◌≡◌, None, Some, IfOk, IsTrue, MatchOption};
 ghost use Rattle.font_map.specs.Runs.{IsNext, IsRun, NoRun};
 ghost use Rattle.font_file.specs.Font.{map_of};
@@ -6,7 +7,7 @@ ghost use Rattle.font_theory.specs.Content.{content, everything, font_of};
 ghost use Rattle.font_theory.specs.Cut.{IsCut, is_cut, our_format};
 ghost use Rattle.font_cut.specs.Content.{IsKeptSet};
 
-use crate::content::{CMAP, GLYF, HEAD, LOCA, copied, head, mark_kept, outline};
+use crate::content::{accepted, copied, head, mark_kept, outline};
 use crate::written::is_whole;
 use font_file::Font;
 use font_glyph::Marks;
@@ -21,7 +22,7 @@ use std::marker::Model;
 fn mark_everything<A: Allocator + Copy>(alloc: A, font: &Font<'_>) -> Result<Marks<A>, NoMemory>
     ensures { IfOk result (IsKeptSet font.now everything) }
 {
-    let _tables = font.tables();
+    accepted(font);
     let all = Wanted::all(alloc)?;
     let kept = mark_kept(alloc, font, &all)?;
     Ok(kept)
@@ -70,13 +71,10 @@ impl<'a, A: Allocator> Source for Whole<'a, A> {
     ghost content_of = { λ file. content (font_of file) everything };
 
     fn known(&self) {
-        let _tables = self.font.tables();
+        accepted(self.font);
     }
 
     fn copied(&self, slot: usize) -> Option<&[u8]> {
-        if slot == CMAP || slot == GLYF || slot == HEAD || slot == LOCA || 16 <= slot {
-            return None;
-        }
         copied(self.font, slot)
     }
 
@@ -84,6 +82,7 @@ impl<'a, A: Allocator> Source for Whole<'a, A> {
         head(self.font)
     }
 
+    #[tactic(auto, using(crate::proofs::SourceLemmas::glyph_count_is))]
     fn glyph_count(&self) -> u16 {
         self.font.tables().glyph_count()
     }
@@ -92,10 +91,12 @@ impl<'a, A: Allocator> Source for Whole<'a, A> {
         run_from(self.font, from)
     }
 
+    #[tactic(auto, using(crate::proofs::SourceLemmas::kept_is, crate::proofs::SourceLemmas::not_kept))]
     fn keeps(&self, g: u16) -> bool {
         g < self.font.tables().glyph_count() && self.kept.has(g)
     }
 
+    #[tactic(auto, using(crate::proofs::SourceLemmas::kept_below, crate::proofs::SourceLemmas::kept_outline))]
     fn outline_of(&self, g: u16) -> &[u8] {
         outline(self.font, g)
     }

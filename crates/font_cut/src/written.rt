@@ -1,9 +1,12 @@
-//! The file of any content, in memory, sent, or compared.
-ghost use Rattle.std.specs.Prelude.{◌≡◌, ◌≤◌, length, false, true, IfErr, IfOk, MatchResult, OnOk, IsTrue, ◌↔◌};
+//! The file of any content, in memory, sent, or compared. OpenType 1.9, Organization of an OpenType
+//! Font.
+ghost use Rattle.std.specs.Prelude.{◌≡◌, ◌≢◌, ◌≤◌, length, false, true, IfErr, IfOk, MatchResult, OnOk, IsTrue, ◌↔◌};
 ghost use Rattle.sfnt_bytes.specs.declared.directory.TheConstants.{MAX_FILE};
 ghost use Rattle.font_theory.specs.File.{file, first_form};
 ghost use Rattle.font_cut.specs.Cut.{IsCutRefusal, IsTooLarge, IsWritten, StopsCut};
 ghost use Rattle.font_cut.specs.Written.{IsMeasured};
+ghost use Rattle.font_cut.specs.declared.cuts.CutError.TheVariants.{NoMemory as CutNoMemory};
+ghost use Rattle.font_cut.specs.declared.cuts.CutIntoError.TheVariants.{NoMemory as IntoNoMemory};
 ghost use Rattle.font_cut.specs.Outlet.{Sends, broken_of, fresh_of};
 
 use crate::cuts::{CutError, CutIntoError};
@@ -24,12 +27,13 @@ fn measure<S: Source>(source: &S) -> Result<(Plan, u64), u64>
     Ok((plan_of(source, size), size.bytes))
 }
 
-/// The file of a content in one vector, for which memory is asked once.
+/// The file of a content in one vector, for which memory is asked once, when its size is known.
 pub(crate) fn file_in_memory<S: Source, A: Allocator + Copy>(
     alloc: A,
     source: &S,
 ) -> Result<Vec<u8, A>, CutError>
-    ensures { MatchResult result (λ v. IsWritten (file first_form (S.content_of source.now)) v.items) (IsCutRefusal (file first_form (S.content_of source.now))) }
+    ensures exact { MatchResult result (λ v. IsWritten (file first_form (S.content_of source.now)) v.items) (IsCutRefusal (file first_form (S.content_of source.now))) }
+    ensures size_first { IfErr result (λ error. error ≡ CutNoMemory → length (file first_form (S.content_of source.now)) ≤ MAX_FILE) }
 {
     match measure(source) {
         Ok((plan, size)) => match write_file(alloc, source, &plan, size as usize) {
@@ -51,6 +55,7 @@ pub(crate) fn send_whole<S: Source, W: Write>(
     ensures sends { OnOk result (Sends W.contents out.old out.new (file first_form (S.content_of source.now))) }
     ensures unbroken { OnOk result (broken_of out.new ≡ false) }
     ensures stops { IfErr result (StopsCut W.contents out.old out.new (file first_form (S.content_of source.now))) }
+    ensures no_memory { IfErr result (λ error. error ≢ IntoNoMemory) }
 {
     let (plan, size) = match measure(source) {
         Ok(measured) => measured,

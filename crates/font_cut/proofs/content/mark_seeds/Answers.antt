@@ -1,8 +1,8 @@
-use Rattle.std.proofs.Common.{◌≡◌, ℕ, Bool, List, ◌∙◌, arith}
+use Rattle.std.proofs.Common.{ℕ, ◌∙◌, arith}
 use Rattle.font_map.specs.CharacterMap.{restricted}
 use Rattle.font_map.specs.Wanted.{member}
 use Rattle.font_file.specs.Font.{map_of}
-use Rattle.font_cut.proofs.SeedLemmas.{run_within, seeds_end, seeds_more, seeds_start, wanted_past}
+use Rattle.font_cut.proofs.SeedLemmas.{run_within, seeds_end, seeds_more, wanted_past}
 use Rattle.font_cut.proofs.content.mark_seeds.Goals as goal
 
 pub mark_run-requires-clause-within : goal.mark_run-requires-clause-within

@@ -4,4 +4,4 @@ use Rattle.font_cut.proofs.cut_form.is_cut.Goals as goal
 
 pub returns-clause-form : goal.returns-clause-form
 returns-clause-form g c =
-    MatchResult-weaker c.is_cut_exactly.result c.is_cut_exactly.ensures (λ b e. is_cut_in_words b c.args.font.now c.tables-tables.ensures.sound e) (λ e h. tt)
+    MatchResult-weaker c.is_cut_exactly.result c.is_cut_exactly.ensures (λ b e. is_cut_in_words b c.args.font.now c.accepted.ensures e) (λ e h. tt)

@@ -5,4 +5,4 @@ use Rattle.font_cut.proofs.cuts.cut.Goals as goal
 
 pub returns-clause-sound : goal.returns-clause-sound
 returns-clause-sound g c =
-    MatchResult-weaker c.cut_exactly.result c.cut_exactly.ensures (λ v written. is_sound c.args.font.now v.items (member c.args.wanted.now) c.tables-tables.ensures.sound written) (λ e h. tt)
+    MatchResult-weaker c.cut_exactly.result c.cut_exactly.ensures (λ v written. is_sound c.args.font.now v.items (member c.args.wanted.now) c.accepted.ensures written) (λ e h. tt)

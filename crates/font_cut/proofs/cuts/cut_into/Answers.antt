@@ -8,5 +8,5 @@ use Rattle.font_cut.proofs.cuts.cut_into.Goals as goal
 pub returns-clause-sound : goal.returns-clause-sound
 returns-clause-sound g c =
     on_ok_weaker c.cut_into_exactly.result
-    (λ small. is_sound c.args.font.now (cut_of c.args.font.now (member c.args.wanted.now)) (member c.args.wanted.now) c.tables-tables.ensures.sound (record { is = refl; small = small }))
+    (λ small. is_sound c.args.font.now (cut_of c.args.font.now (member c.args.wanted.now)) (member c.args.wanted.now) c.accepted.ensures (record { is = refl; small = small }))
     c.cut_into_exactly.ensures.small

@@ -17,13 +17,13 @@ returns-in-Ok-file_in_memory g c =
     let is : c.in-Ok-new.joined ≡ (c.args.x.now, c.args.y.now) = search rules in
     let z : List ℕ = c.in-Ok-file_in_memory.file.items in
     is_join c.args.x.now c.args.y.now c.in-Ok.ensures.1 c.in-Ok-open.ensures.1 none z
-    (subst (λ (v : List ℕ × List ℕ). IsWritten (file first_form (both (content (font_of v.0) everything) (content (font_of v.1) everything))) z) is c.in-Ok-file_in_memory.ensures)
+    (subst (λ (v : List ℕ × List ℕ). IsWritten (file first_form (both (content (font_of v.0) everything) (content (font_of v.1) everything))) z) is c.in-Ok-file_in_memory.ensures.exact)
 
 pub returns : goal.returns
 returns g c =
     let none : union_fault c.args.x.now c.args.y.now ≡ None = search rules in
     let is : c.in-Ok-new.joined ≡ (c.args.x.now, c.args.y.now) = search rules in
     let K : Content = both (content (font_of c.in-Ok-new.joined.0) everything) (content (font_of c.in-Ok-new.joined.1) everything) in
-    let large : IsTooLarge (file first_form K) c.in-Err-TooLarge.size = subst (λ (error : CutError). IsCutRefusal (file first_form K) error) c.in-Err-TooLarge.field-0-is c.in-Err-TooLarge.ensures in
+    let large : IsTooLarge (file first_form K) c.in-Err-TooLarge.size = subst (λ (error : CutError). IsCutRefusal (file first_form K) error) c.in-Err-TooLarge.field-0-is c.in-Err-TooLarge.ensures.exact in
     is_too_large c.args.x.now c.args.y.now c.in-Ok.ensures.1 c.in-Ok-open.ensures.1 none c.in-Err-TooLarge.size
     (subst (λ (v : List ℕ × List ℕ). IsTooLarge (file first_form (both (content (font_of v.0) everything) (content (font_of v.1) everything))) c.in-Err-TooLarge.size) is large)

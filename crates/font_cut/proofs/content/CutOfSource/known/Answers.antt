@@ -6,4 +6,4 @@ use Rattle.font_cut.proofs.SourceLemmas.{is_writable}
 use Rattle.font_cut.proofs.content.CutOfSource.known.Goals as goal
 
 pub returns : goal.returns
-returns g c = subst (λ (v : List ℕ × List Range). IsWritable (content (font_of v.0) (member v.1))) c.self.view_is (is_writable c.self.inside.font.now (member c.self.inside.wanted.now) c.tables-tables.ensures.sound)
+returns g c = subst (λ (v : List ℕ × List Range). IsWritable (content (font_of v.0) (member v.1))) c.self.view_is (is_writable c.self.inside.font.now (member c.self.inside.wanted.now) c.accepted.ensures)

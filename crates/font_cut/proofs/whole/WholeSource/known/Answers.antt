@@ -4,4 +4,4 @@ use Rattle.font_cut.proofs.SourceLemmas.{is_writable}
 use Rattle.font_cut.proofs.whole.WholeSource.known.Goals as goal
 
 pub returns : goal.returns
-returns g c = subst (λ (v : List ℕ). IsWritable (content (font_of v) everything)) c.self.view_is (is_writable c.self.inside.font.now everything c.tables-tables.ensures.sound)
+returns g c = subst (λ (v : List ℕ). IsWritable (content (font_of v) everything)) c.self.view_is (is_writable c.self.inside.font.now everything c.accepted.ensures)
