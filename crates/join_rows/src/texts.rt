@@ -1,0 +1,65 @@
+//! Numbers and texts of the refusals of joins.
+use font_cut::{DirError, FontError, JoinAllError, JoinError, MapError, TableError, Which};
+use sfnt_bytes::Tag;
+use std::test::Fail;
+
+#[test]
+fn texts_of_refusals(rt: HostRuntime) -> Result<(), Fail> {
+    let maxp = FontError::Directory(DirError::TableOutOfFile(Tag(*b"maxp")));
+    let loca = FontError::Tables(TableError::BadLoca(3));
+    let cmap = FontError::Mapping(MapError::BadCmap);
+    for (error, number, text) in [
+        (
+            JoinError::Font(Which::First, maxp),
+            6,
+            "table out of file maxp",
+        ),
+        (JoinError::Font(Which::Second, loca), 12, "bad loca at 3"),
+        (JoinError::Font(Which::First, cmap), 14, "bad cmap"),
+        (
+            JoinError::Font(Which::Second, FontError::BadGlyph(3)),
+            17,
+            "bad glyph 3",
+        ),
+        (JoinError::NotACut(Which::First), 20, "not a cut: first"),
+        (JoinError::NotACut(Which::Second), 20, "not a cut: second"),
+        (
+            JoinError::DifferentTable(Tag(*b"cvt ")),
+            21,
+            "different table cvt ",
+        ),
+        (
+            JoinError::DifferentTable(Tag([0, 1, 0x7F, 0xFF])),
+            21,
+            "different table 0x00017fff",
+        ),
+        (
+            JoinError::DifferentMapping(0x41),
+            22,
+            "different mapping U+0041",
+        ),
+        (
+            JoinError::DifferentMapping(0xABC),
+            22,
+            "different mapping U+0ABC",
+        ),
+        (
+            JoinError::DifferentMapping(0x10_FFFF),
+            22,
+            "different mapping U+10FFFF",
+        ),
+        (JoinError::DifferentGlyph(7), 23, "different glyph 7"),
+        (JoinError::TooLarge(134_217_752), 18, "too large 134217752"),
+        (JoinError::NoMemory, 16, "no memory"),
+    ] {
+        assert_eq!(rt; error.number(), number, "{text}");
+        assert_eq!(rt; error.to_string(rt.alloc())?.as_str(), text);
+        let at = JoinAllError::At { step: 1, error };
+        assert_eq!(rt; at.number(), number, "{text}");
+        assert_eq!(rt; at.to_string(rt.alloc())?.as_str(), text);
+    }
+    let nothing = JoinAllError::NothingToJoin;
+    assert_eq!(rt; nothing.number(), 24);
+    assert_eq!(rt; nothing.to_string(rt.alloc())?.as_str(), "nothing to join");
+    Ok(())
+}
