@@ -16,9 +16,16 @@ fn join_of_many(rt: HostRuntime) -> Result<(), Fail> {
     let a_and_b = cut_of(alloc, &BASE6, &[(0x41, 0x42)])?;
     let all = join_of(alloc, &[&aacute, &a_and_b, &aacute, &nothing])??;
     assert_eq!(rt; words_of(alloc, &all)?.as_slice(), A_B_AACUTE.as_slice());
+    Ok(())
+}
+
+#[test]
+fn join_of_one(rt: HostRuntime) -> Result<(), Fail> {
+    let alloc = rt.alloc();
+    let aacute = bytes_of(alloc, &AACUTE)?;
     let space = cut_of(alloc, &BASE6, &[(0x20, 0x20)])?;
-    assert_eq!(rt; join(alloc, &space, &space)?.as_slice(), space.as_slice());
     for lone in [&aacute, &space] {
+        assert_eq!(rt; join(alloc, lone, lone)?.as_slice(), lone.as_slice());
         assert_eq!(rt; join_of(alloc, &[lone])??.as_slice(), lone.as_slice());
     }
     Ok(())

@@ -54,12 +54,45 @@ fn texts_of_refusals(rt: HostRuntime) -> Result<(), Fail> {
     ] {
         assert_eq!(rt; error.number(), number, "{text}");
         assert_eq!(rt; error.to_string(rt.alloc())?.as_str(), text);
-        let at = JoinAllError::At { step: 1, error };
-        assert_eq!(rt; at.number(), number, "{text}");
-        assert_eq!(rt; at.to_string(rt.alloc())?.as_str(), text);
     }
-    let nothing = JoinAllError::NothingToJoin;
-    assert_eq!(rt; nothing.number(), 24);
-    assert_eq!(rt; nothing.to_string(rt.alloc())?.as_str(), "nothing to join");
+    Ok(())
+}
+
+#[test]
+fn texts_of_refusals_of_many(rt: HostRuntime) -> Result<(), Fail> {
+    let truncated = FontError::Directory(DirError::Truncated);
+    let fault = JoinError::Font(Which::First, truncated);
+    let no_cut = JoinError::NotACut(Which::Second);
+    let no_memory = JoinError::NoMemory;
+    for (error, number, text) in [
+        (JoinAllError::NothingToJoin, 24, "nothing to join"),
+        (
+            JoinAllError::At {
+                step: 0,
+                error: fault,
+            },
+            2,
+            "truncated",
+        ),
+        (
+            JoinAllError::At {
+                step: 1,
+                error: no_cut,
+            },
+            20,
+            "not a cut: second",
+        ),
+        (
+            JoinAllError::At {
+                step: 2,
+                error: no_memory,
+            },
+            16,
+            "no memory",
+        ),
+    ] {
+        assert_eq!(rt; error.number(), number, "{text}");
+        assert_eq!(rt; error.to_string(rt.alloc())?.as_str(), text);
+    }
     Ok(())
 }

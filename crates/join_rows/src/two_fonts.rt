@@ -94,6 +94,8 @@ fn differences(rt: HostRuntime) -> Result<(), Fail> {
         let y = cut_of(alloc, &base6_changed(alloc, changes)?, &[(0x41, last)])?;
         assert_eq!(rt; refusal_of(alloc, &x, &y), Some(stated), "{changes:?}");
         assert_eq!(rt; refusal_of(alloc, &y, &x), Some(stated), "{changes:?}");
+        let no_cut = Some(JoinError::NotACut(Which::First));
+        assert_eq!(rt; refusal_of(alloc, &BASE6, &y), no_cut, "{changes:?}");
     }
     Ok(())
 }
