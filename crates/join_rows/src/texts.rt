@@ -3,51 +3,41 @@ use font_cut::{DirError, FontError, JoinAllError, JoinError, MapError, TableErro
 use sfnt_bytes::Tag;
 use std::test::Fail;
 
+// The refusal for a code.
+fn mapping(code: u32) -> JoinError {
+    JoinError::DifferentMapping(code)
+}
+
 #[test]
-fn texts_of_refusals(rt: HostRuntime) -> Result<(), Fail> {
+fn texts_of_faults(rt: HostRuntime) -> Result<(), Fail> {
     let maxp = FontError::Directory(DirError::TableOutOfFile(Tag(*b"maxp")));
     let loca = FontError::Tables(TableError::BadLoca(3));
     let cmap = FontError::Mapping(MapError::BadCmap);
+    for (which, fault, number, text) in [
+        (Which::First, maxp, 6, "table out of file maxp"),
+        (Which::Second, loca, 12, "bad loca at 3"),
+        (Which::First, cmap, 14, "bad cmap"),
+        (Which::Second, FontError::BadGlyph(3), 17, "bad glyph 3"),
+    ] {
+        let error = JoinError::Font(which, fault);
+        assert_eq!(rt; error.number(), number, "{text}");
+        assert_eq!(rt; error.to_string(rt.alloc())?.as_str(), text);
+    }
+    Ok(())
+}
+
+#[test]
+fn texts_of_refusals(rt: HostRuntime) -> Result<(), Fail> {
+    let cvt = JoinError::DifferentTable(Tag(*b"cvt "));
+    let odd = JoinError::DifferentTable(Tag([0, 1, 0x7F, 0xFF]));
     for (error, number, text) in [
-        (
-            JoinError::Font(Which::First, maxp),
-            6,
-            "table out of file maxp",
-        ),
-        (JoinError::Font(Which::Second, loca), 12, "bad loca at 3"),
-        (JoinError::Font(Which::First, cmap), 14, "bad cmap"),
-        (
-            JoinError::Font(Which::Second, FontError::BadGlyph(3)),
-            17,
-            "bad glyph 3",
-        ),
         (JoinError::NotACut(Which::First), 20, "not a cut: first"),
         (JoinError::NotACut(Which::Second), 20, "not a cut: second"),
-        (
-            JoinError::DifferentTable(Tag(*b"cvt ")),
-            21,
-            "different table cvt ",
-        ),
-        (
-            JoinError::DifferentTable(Tag([0, 1, 0x7F, 0xFF])),
-            21,
-            "different table 0x00017fff",
-        ),
-        (
-            JoinError::DifferentMapping(0x41),
-            22,
-            "different mapping U+0041",
-        ),
-        (
-            JoinError::DifferentMapping(0xABC),
-            22,
-            "different mapping U+0ABC",
-        ),
-        (
-            JoinError::DifferentMapping(0x10_FFFF),
-            22,
-            "different mapping U+10FFFF",
-        ),
+        (cvt, 21, "different table cvt "),
+        (odd, 21, "different table 0x00017fff"),
+        (mapping(0x41), 22, "different mapping U+0041"),
+        (mapping(0xABC), 22, "different mapping U+0ABC"),
+        (mapping(0x10_FFFF), 22, "different mapping U+10FFFF"),
         (JoinError::DifferentGlyph(7), 23, "different glyph 7"),
         (JoinError::TooLarge(134_217_752), 18, "too large 134217752"),
         (JoinError::NoMemory, 16, "no memory"),

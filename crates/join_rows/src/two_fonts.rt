@@ -60,7 +60,7 @@ fn table(tag: [u8; 4]) -> JoinError {
     JoinError::DifferentTable(Tag(tag))
 }
 
-// What the cuts of Base6 and of a font with these changes answer, for the codes from 0x41 to a last one.
+// What cuts of Base6 and of a font with these changes answer, for the codes from 0x41 to the last.
 #[test]
 fn differences(rt: HostRuntime) -> Result<(), Fail> {
     let alloc = rt.alloc();
