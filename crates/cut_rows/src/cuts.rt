@@ -1,70 +1,21 @@
 //! Cuts of small fonts, and the plain cut beside the fast one.
-use crate::bytes::{bytes_of, words_of};
-use crate::fonts;
-use crate::fonts::{cut_of, wanted_of};
 use crate::plain::{codes_of, plain_cut};
-use crate::vectors::{AACUTE, NOTHING};
 use font_cut::Font;
-use sfnt_bytes::{BASE6, Directory};
+use sfnt_bytes::BASE6;
 use std::alloc::Global;
 use std::test::Fail;
-
-// The slots of the tables that are made anew.
-const CMAP: usize = 1;
-
-const LOCA: usize = 9;
-
-// How many words stand in a cut's `cmap` before its groups.
-const BEFORE_GROUPS: usize = 7;
-
-// The groups of a cut, three words each.
-fn groups_of(alloc: Global, file: &[u8]) -> Result<Vec<u32>, Fail> {
-    let table = Directory::read(file)?.table(CMAP).ok_or("no cmap")?;
-    let words = words_of(alloc, table)?;
-    let groups = words.get(BEFORE_GROUPS..).ok_or("a short cmap")?;
-    let copy = groups.to_vec(alloc)?;
-    Ok(copy)
-}
-
-// The offsets of a cut.
-fn loca_of(alloc: Global, file: &[u8]) -> Result<Vec<u32>, Fail> {
-    let table = Directory::read(file)?.table(LOCA).ok_or("no loca")?;
-    let words = words_of(alloc, table)?;
-    Ok(words)
-}
-
-// Whether a file is accepted, and has no finding.
-fn is_clean(file: &[u8]) -> bool {
-    match Font::open(file) {
-        Ok(font) => font.tables().directory().findings().next().is_none(),
-        Err(_) => false,
-    }
-}
-
-// Whether the cut has this size, these groups and these offsets, is accepted and has no finding.
-fn is_as_stated(
-    alloc: Global,
-    made: &[u8],
-    size: usize,
-    groups: &[u32],
-    loca: &[u32],
-) -> Result<bool, Fail> {
-    let found_groups = groups_of(alloc, made)?;
-    let found_loca = loca_of(alloc, made)?;
-    Ok(
-        made.len() == size
-            && found_groups.as_slice() == groups
-            && found_loca.as_slice() == loca
-            && is_clean(made),
-    )
-}
+use worked_fonts::bytes::{bytes_of, words_of};
+use worked_fonts::cuts::{cut_of, is_as_stated, is_clean, refusal_of, wanted_of};
+use worked_fonts::files::file_of_tables;
+use worked_fonts::fonts;
+use worked_fonts::vectors::{AACUTE, NOTHING};
 
 #[test]
 fn fonts_as_stated(rt: HostRuntime) -> Result<(), Fail> {
     let alloc = rt.alloc();
     let tables = fonts::base6_tables(alloc)?;
     assert_eq!(rt;
-        fonts::file_of_tables(alloc, &tables)?.as_slice(),
+        file_of_tables(alloc, &tables)?.as_slice(),
         BASE6.as_slice()
     );
     let records = fonts::base6_records(alloc)?;
@@ -76,8 +27,13 @@ fn fonts_as_stated(rt: HostRuntime) -> Result<(), Fail> {
     assert_eq!(rt; shared.len(), 444);
     let many = fonts::many_records(alloc)?;
     assert_eq!(rt; many.len(), 1_048_876);
-    for (name, file) in small_fonts(alloc)?.iter() {
-        assert_eq!(rt; fonts::refusal_of(file), None, "{name}");
+    Ok(())
+}
+
+#[test]
+fn small_fonts_as_stated(rt: HostRuntime) -> Result<(), Fail> {
+    for (name, file) in small_fonts(rt.alloc())?.iter() {
+        assert_eq!(rt; refusal_of(file), None, "{name}");
         assert_eq!(rt; is_clean(file), *name != "reversed directory", "{name}");
     }
     Ok(())
@@ -251,29 +207,50 @@ fn overlaps_and_many_records(rt: HostRuntime) -> Result<(), Fail> {
     Ok(())
 }
 
-// The fonts of these tests that are small, and what they are.
+// The fonts of these tests that are small.
+const SMALL: [&str; 14] = [
+    "Base6",
+    "composite of composite",
+    "ring of two",
+    "glyph of itself",
+    ".notdef without outline",
+    "component without outline",
+    "other outline",
+    "three in a row",
+    "one more code",
+    "glyphIdArray",
+    "format 12",
+    "reversed directory",
+    "name over glyf",
+    "a cut",
+];
+
+// The font at this place of the list.
+fn small_font(alloc: Global, place: usize) -> Result<Vec<u8>, Fail> {
+    match place {
+        1 => fonts::composite_of_composite(alloc),
+        2 => fonts::ring_of_two(alloc),
+        3 => fonts::glyph_of_itself(alloc),
+        4 => fonts::without_outline(alloc, 0),
+        5 => fonts::without_outline(alloc, 2),
+        6 => fonts::other_outline(alloc),
+        7 => fonts::three_in_a_row(alloc),
+        8 => fonts::one_more_code(alloc),
+        9 => fonts::by_glyph_array(alloc),
+        10 => fonts::by_groups(alloc),
+        11 => fonts::reversed_directory(alloc),
+        12 => fonts::name_over_glyf(alloc),
+        13 => Ok(bytes_of(alloc, &AACUTE)?),
+        _ => Ok(BASE6.to_vec(alloc)?),
+    }
+}
+
+// Each with its name.
 fn small_fonts(alloc: Global) -> Result<Vec<(&'static str, Vec<u8>)>, Fail> {
     let mut files = Vec::new(alloc);
-    files.push(("Base6", BASE6.to_vec(alloc)?))?;
-    files.push((
-        "composite of composite",
-        fonts::composite_of_composite(alloc)?,
-    ))?;
-    files.push(("ring of two", fonts::ring_of_two(alloc)?))?;
-    files.push(("glyph of itself", fonts::glyph_of_itself(alloc)?))?;
-    files.push((".notdef without outline", fonts::without_outline(alloc, 0)?))?;
-    files.push((
-        "component without outline",
-        fonts::without_outline(alloc, 2)?,
-    ))?;
-    files.push(("other outline", fonts::other_outline(alloc)?))?;
-    files.push(("three in a row", fonts::three_in_a_row(alloc)?))?;
-    files.push(("one more code", fonts::one_more_code(alloc)?))?;
-    files.push(("glyphIdArray", fonts::by_glyph_array(alloc)?))?;
-    files.push(("format 12", fonts::by_groups(alloc)?))?;
-    files.push(("reversed directory", fonts::reversed_directory(alloc)?))?;
-    files.push(("name over glyf", fonts::name_over_glyf(alloc)?))?;
-    files.push(("a cut", bytes_of(alloc, &AACUTE)?))?;
+    for (place, name) in SMALL.iter().enumerate() {
+        files.push((*name, small_font(alloc, place)?))?;
+    }
     Ok(files)
 }
 
@@ -337,7 +314,7 @@ fn cuts_as_plain_with_one_byte_set(rt: HostRuntime) -> Result<(), Fail> {
     for at in 0..428 {
         let mut file = BASE6;
         file[at] = 0xFF;
-        if fonts::refusal_of(&file).is_none() {
+        if refusal_of(&file).is_none() {
             let made = cut_of(rt.alloc(), &file, &ranges)?;
             assert!(rt; is_as_plain(rt.alloc(), &file, &codes, &made)?, "byte {at}");
             accepted = accepted.wrapping_add(1);

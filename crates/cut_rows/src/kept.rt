@@ -1,22 +1,16 @@
 //! The glyphs that a cut keeps.
-use crate::fonts;
-use crate::fonts::wanted_of;
 use font_cut::{BASE6, CutOf, Font};
-use font_write::Source;
 use std::alloc::Global;
 use std::test::Fail;
+use worked_fonts::cuts::{kept_of, wanted_of};
+use worked_fonts::fonts;
 
 // The kept glyphs of the cut for the codes of a range, in order.
 fn kept_glyphs(alloc: Global, file: &[u8], range: (u32, u32)) -> Result<Vec<u16>, Fail> {
     let font = Font::open(file)?;
     let wanted = wanted_of(alloc, &[range])?;
     let source = CutOf::new(alloc, &font, &wanted)?;
-    let mut glyphs = Vec::new(alloc);
-    for g in 0..source.glyph_count() {
-        if source.keeps(g) {
-            glyphs.push(g)?;
-        }
-    }
+    let glyphs = kept_of(alloc, &source)?;
     Ok(glyphs)
 }
 

@@ -3,13 +3,9 @@
 #![tactic(auto)]
 
 #[cfg(test)]
-mod bytes;
-#[cfg(test)]
 mod cuts;
 #[cfg(test)]
 mod fakes;
-#[cfg(test)]
-mod fonts;
 #[cfg(test)]
 mod kept;
 #[cfg(test)]
@@ -22,5 +18,3 @@ mod refused;
 mod sending;
 #[cfg(test)]
 mod sums;
-#[cfg(test)]
-mod vectors;

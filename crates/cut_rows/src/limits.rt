@@ -1,9 +1,10 @@
 //! The most bytes that a cut may have.
 use crate::fakes::{Counting, Matching};
-use crate::fonts::{REGION, cut_of, wanted_of, wide};
 use crate::plain::plain_cut;
 use font_cut::{CutError, CutIntoError, Font, MAX_FILE, Outlet, cut, cut_into};
 use std::test::Fail;
+use worked_fonts::cuts::{cut_of, wanted_of};
+use worked_fonts::fonts::{REGION, wide};
 
 // The size that a cut for 0x41 and 0x42 would have.
 const TOO_LARGE: u64 = 134_217_752;

@@ -1,10 +1,10 @@
 //! The cut by its definition: every wanted code and every glyph is asked, and each table is made whole.
-use crate::bytes::{put_at, put_padded, put_u16, put_u32};
-use crate::fonts::{Table, file_of_tables, replace};
 use font_cut::{Font, Wanted};
 use sfnt_bytes::{Directory, KEPT};
 use std::alloc::{AllocError, Global};
 use std::test::Fail;
+use worked_fonts::bytes::{put_at, put_padded, put_u16, put_u32};
+use worked_fonts::files::{Table, file_of_tables, replace};
 
 /// The codes of a set, ascending.
 pub fn codes_of(alloc: Global, wanted: &Wanted<Global>) -> Result<Vec<u32>, AllocError> {

@@ -1,14 +1,14 @@
 //! Memory that is refused, and how often it is asked for.
-use crate::bytes::bytes_of;
 use crate::fakes::Counting;
-use crate::fonts;
-use crate::fonts::wanted_of;
-use crate::vectors::AACUTE;
 use font_cut::{CutError, CutIntoError, Font, Outlet, cut, cut_into};
 use refusing::Refusing;
 use sfnt_bytes::BASE6;
 use std::alloc::Global;
 use std::test::Fail;
+use worked_fonts::bytes::bytes_of;
+use worked_fonts::cuts::{cut_of, wanted_of};
+use worked_fonts::fonts;
+use worked_fonts::vectors::AACUTE;
 
 // The fonts and sets for which memory is refused.
 fn cases(alloc: Global) -> Result<Vec<(Vec<u8>, (u32, u32))>, Fail> {
@@ -27,7 +27,7 @@ fn cases(alloc: Global) -> Result<Vec<(Vec<u8>, (u32, u32))>, Fail> {
 fn refused_memory_in_cut(rt: HostRuntime) -> Result<(), Fail> {
     for (file, range) in cases(rt.alloc())?.iter() {
         let font = Font::open(file)?;
-        let stated = fonts::cut_of(rt.alloc(), file, &[*range])?;
+        let stated = cut_of(rt.alloc(), file, &[*range])?;
         let mut is_done = false;
         for k in 2..100u64 {
             let memory = Refusing::new(rt.alloc(), k);
@@ -51,7 +51,7 @@ fn refused_memory_in_cut(rt: HostRuntime) -> Result<(), Fail> {
 fn refused_memory_in_cut_into(rt: HostRuntime) -> Result<(), Fail> {
     for (file, range) in cases(rt.alloc())?.iter() {
         let font = Font::open(file)?;
-        let stated = fonts::cut_of(rt.alloc(), file, &[*range])?;
+        let stated = cut_of(rt.alloc(), file, &[*range])?;
         let mut is_done = false;
         for k in 2..100u64 {
             let memory = Refusing::new(rt.alloc(), k);

@@ -1,12 +1,13 @@
 //! Cuts that are sent to writers which take little, fail, or have no room.
-use crate::bytes::bytes_of;
 use crate::fakes::{Counting, Failure, Narrow};
-use crate::fonts::{wanted_of, wide};
-use crate::vectors::AACUTE;
 use font_cut::{CutError, CutIntoError, Font, Outlet, cut_into};
 use sfnt_bytes::BASE6;
 use std::alloc::Global;
 use std::test::Fail;
+use worked_fonts::bytes::bytes_of;
+use worked_fonts::cuts::wanted_of;
+use worked_fonts::fonts::wide;
+use worked_fonts::vectors::AACUTE;
 
 const SIZE: u64 = 404;
 

@@ -1,8 +1,8 @@
 //! Sizes, places and sums of the cuts of Base6.
-use crate::fonts::cut_of;
 use sfnt_bytes::{BASE6, Directory, Entry, Tag, be32};
 use std::alloc::Global;
 use std::test::Fail;
+use worked_fonts::cuts::cut_of;
 
 // What is known of a cut: its codes, its size, the sums of `cmap`, `glyf` and `loca`,
 // checksumAdjustment, and the offsets of the seven tables.

@@ -2,4 +2,18 @@
 #![tactic(auto)]
 
 #[cfg(test)]
-mod joins;
+mod answers;
+#[cfg(test)]
+mod cut_form;
+#[cfg(test)]
+mod limits;
+#[cfg(test)]
+mod many;
+#[cfg(test)]
+mod refused;
+#[cfg(test)]
+mod texts;
+#[cfg(test)]
+mod two_fonts;
+#[cfg(test)]
+mod unions;

@@ -1,121 +1,9 @@
-//! Font files for the tests, of tables or of records, with right sums.
-use crate::bytes::{bytes_of, checksum, put_at, put_padded, put_u16, put_u32, zeros};
-use font_cut::{Font, FontError, Wanted, WantedError, cut};
-use sfnt_bytes::{BASE6, Directory, Entry, KEPT, Tag, search_fields};
-use std::alloc::{AllocError, Allocator, Global};
+//! Base6 with other tables or records.
+use crate::bytes::{bytes_of, put_at, put_u16, put_u32, zeros};
+use crate::files::{Table, directory_of, file_of, file_of_tables, replace, table_in, table_named};
+use sfnt_bytes::{BASE6, Directory, Entry, KEPT, Tag};
+use std::alloc::{AllocError, Global};
 use std::test::Fail;
-
-/// What a whole file sums to.
-const FILE_SUM: u32 = 0xB1B0_AFBA;
-
-/// A table and its name.
-#[derive(Drop)]
-pub struct Table {
-    pub tag: Tag,
-    pub bytes: Vec<u8>,
-}
-
-/// A set of the codes in these ranges.
-pub fn wanted_of<A: Allocator + Copy>(
-    alloc: A,
-    ranges: &[(u32, u32)],
-) -> Result<Wanted<A>, WantedError> {
-    let mut wanted = Wanted::new(alloc);
-    for (first, last) in ranges {
-        wanted.add(*first, *last)?;
-    }
-    Ok(wanted)
-}
-
-/// The cut of a file for the codes in these ranges.
-pub fn cut_of(alloc: Global, file: &[u8], ranges: &[(u32, u32)]) -> Result<Vec<u8>, Fail> {
-    let font = Font::open(file)?;
-    let wanted = wanted_of(alloc, ranges)?;
-    let made = cut(alloc, &font, &wanted)?;
-    Ok(made)
-}
-
-/// The first refusal that applies to a file.
-pub fn refusal_of(file: &[u8]) -> Option<FontError> {
-    Font::open(file).err()
-}
-
-// A directory with these records, as they stand. Its search fields are right where there are right
-// ones, and else zero. More than 65,535 records are refused.
-fn directory_of(alloc: Global, entries: &[Entry]) -> Result<Vec<u8>, Fail> {
-    let count = u16::try_from(entries.len()).map_err(|_| "too many records")?;
-    let (range, selector, shift) = search_fields(count).unwrap_or((0, 0, 0));
-    let mut directory = Vec::new(alloc);
-    put_u32(&mut directory, &[0x0001_0000])?;
-    put_u16(&mut directory, &[count, range, selector, shift])?;
-    for entry in entries {
-        directory.extend_from_slice(&entry.tag.0)?;
-        put_u32(
-            &mut directory,
-            &[entry.checksum, entry.offset, entry.length],
-        )?;
-    }
-    Ok(directory)
-}
-
-// The bytes of a table in what stands behind a directory of so many bytes.
-fn table_in<'a>(start: usize, rest: &'a [u8], entry: &Entry) -> Option<&'a [u8]> {
-    let at = (entry.offset as usize).checked_sub(start)?;
-    rest.get(at..at.checked_add(entry.length as usize)?)
-}
-
-// The records with right sums.
-fn summed(alloc: Global, entries: &[Entry], rest: &[u8]) -> Result<Vec<Entry>, Fail> {
-    let start = directory_of(alloc, entries)?.len();
-    let mut all = Vec::new(alloc);
-    for entry in entries {
-        let table = table_in(start, rest, entry).ok_or("a table past the end")?;
-        all.push(Entry {
-            checksum: checksum(table),
-            ..*entry
-        })?;
-    }
-    Ok(all)
-}
-
-/// A file with these records and with `rest` behind them, in which `checksumAdjustment` is 0: all
-/// sums and the search fields are made right.
-pub fn file_of(alloc: Global, entries: &[Entry], rest: &[u8]) -> Result<Vec<u8>, Fail> {
-    let all = summed(alloc, entries, rest)?;
-    let mut file = directory_of(alloc, &all)?;
-    file.extend_from_slice(rest)?;
-    let head = entries
-        .iter()
-        .find(|entry| entry.tag == Tag(*b"head"))
-        .ok_or("no head")?;
-    let adjustment = FILE_SUM.wrapping_sub(checksum(&file));
-    put_at(
-        &mut file,
-        head.offset as usize + 8,
-        &adjustment.to_be_bytes(),
-    );
-    Ok(file)
-}
-
-/// The file of these tables, in this order; `checksumAdjustment` is 0 in `head`.
-pub fn file_of_tables(alloc: Global, tables: &[Table]) -> Result<Vec<u8>, Fail> {
-    let count = u16::try_from(tables.len()).map_err(|_| "too many tables")?;
-    let mut offset = 12 + 16 * u32::from(count);
-    let mut entries = Vec::new(alloc);
-    let mut rest = Vec::new(alloc);
-    for table in tables {
-        let length = u32::try_from(table.bytes.len()).map_err(|_| "too long")?;
-        entries.push(Entry {
-            tag: table.tag,
-            checksum: 0,
-            offset,
-            length,
-        })?;
-        offset = offset.wrapping_add(length.wrapping_add(3) / 4 * 4);
-        put_padded(&mut rest, &table.bytes)?;
-    }
-    file_of(alloc, &entries, &rest)
-}
 
 /// The tables of Base6, with `checksumAdjustment` 0.
 pub fn base6_tables(alloc: Global) -> Result<Vec<Table>, Fail> {
@@ -134,14 +22,43 @@ pub fn base6_tables(alloc: Global) -> Result<Vec<Table>, Fail> {
     Ok(tables)
 }
 
-/// Puts other bytes into the table of this name.
-pub fn replace(tables: &mut Vec<Table>, tag: &[u8; 4], bytes: Vec<u8>) -> Result<(), Fail> {
-    let place = tables
-        .iter()
-        .position(|table| table.tag == Tag(*tag))
-        .ok_or("no such table")?;
-    tables.get_mut(place).ok_or("no such table")?.bytes = bytes;
+/// How a font differs from Base6.
+#[derive(Clone, Copy, Debug)]
+pub enum Change {
+    /// In the table of this name the byte at this place is another.
+    Byte([u8; 4], usize, u8),
+    /// The table of this name has these bytes behind its own. There is one where there was none.
+    Behind([u8; 4], &'static [u8]),
+}
+
+fn apply(alloc: Global, tables: &mut Vec<Table>, change: Change) -> Result<(), Fail> {
+    match change {
+        Change::Byte(tag, at, byte) => {
+            let table = table_named(tables, &tag).ok_or("no such table")?;
+            put_at(table, at, &[byte]);
+        }
+        Change::Behind(tag, added) => {
+            if let Some(table) = table_named(tables, &tag) {
+                table.extend_from_slice(added)?;
+                return Ok(());
+            }
+            let bytes = added.to_vec(alloc)?;
+            tables.push(Table {
+                tag: Tag(tag),
+                bytes,
+            })?;
+        }
+    }
     Ok(())
+}
+
+/// Base6 with these changes.
+pub fn base6_changed(alloc: Global, changes: &[Change]) -> Result<Vec<u8>, Fail> {
+    let mut tables = base6_tables(alloc)?;
+    for change in changes {
+        apply(alloc, &mut tables, *change)?;
+    }
+    file_of_tables(alloc, &tables)
 }
 
 /// Base6 with another `cmap`.
@@ -251,10 +168,7 @@ pub fn without_outline(alloc: Global, glyph: usize) -> Result<Vec<u8>, Fail> {
 
 /// Base6 in which the last byte of glyph 1 is 0x23.
 pub fn other_outline(alloc: Global) -> Result<Vec<u8>, Fail> {
-    let mut records = base6_records(alloc)?;
-    let record = records.get_mut(1).ok_or("no glyph 1")?;
-    *record.get_mut(13).ok_or("no last byte")? = 0x23;
-    base6_with_records(alloc, &records)
+    base6_changed(alloc, &[Change::Byte(*b"glyf", 25, 0x23)])
 }
 
 /// Base6 with 0x61 to 0x63 on the glyphs 1 to 3 as its only codes.

@@ -1,0 +1,113 @@
+//! Font files of tables or of records, with right sums.
+use crate::bytes::{checksum, put_at, put_padded, put_u16, put_u32};
+use sfnt_bytes::{Directory, Entry, Tag, search_fields};
+use std::alloc::Global;
+use std::test::Fail;
+
+/// What a whole file sums to.
+const FILE_SUM: u32 = 0xB1B0_AFBA;
+
+/// A table and its name.
+#[derive(Drop)]
+pub struct Table {
+    pub tag: Tag,
+    pub bytes: Vec<u8>,
+}
+
+/// A directory with these records, as they stand. Its search fields are right where there are right
+/// ones, and else zero. More than 65,535 records are refused.
+pub fn directory_of(alloc: Global, entries: &[Entry]) -> Result<Vec<u8>, Fail> {
+    let count = u16::try_from(entries.len()).map_err(|_| "too many records")?;
+    let (range, selector, shift) = search_fields(count).unwrap_or((0, 0, 0));
+    let mut directory = Vec::new(alloc);
+    put_u32(&mut directory, &[0x0001_0000])?;
+    put_u16(&mut directory, &[count, range, selector, shift])?;
+    for entry in entries {
+        directory.extend_from_slice(&entry.tag.0)?;
+        put_u32(
+            &mut directory,
+            &[entry.checksum, entry.offset, entry.length],
+        )?;
+    }
+    Ok(directory)
+}
+
+/// The bytes of a table in what stands behind a directory of so many bytes.
+pub fn table_in<'a>(start: usize, rest: &'a [u8], entry: &Entry) -> Option<&'a [u8]> {
+    let at = (entry.offset as usize).checked_sub(start)?;
+    rest.get(at..at.checked_add(entry.length as usize)?)
+}
+
+// The records with right sums.
+fn summed(alloc: Global, entries: &[Entry], rest: &[u8]) -> Result<Vec<Entry>, Fail> {
+    let start = directory_of(alloc, entries)?.len();
+    let mut all = Vec::new(alloc);
+    for entry in entries {
+        let table = table_in(start, rest, entry).ok_or("a table past the end")?;
+        all.push(Entry {
+            checksum: checksum(table),
+            ..*entry
+        })?;
+    }
+    Ok(all)
+}
+
+// Where `checksumAdjustment` stands.
+fn adjustment_place(entries: &[Entry]) -> Option<usize> {
+    let head = entries.iter().find(|entry| entry.tag == Tag(*b"head"))?;
+    Some(head.offset as usize + 8)
+}
+
+/// A file with these records and with `rest` behind them, in which `checksumAdjustment` is 0: all
+/// sums and the search fields are made right.
+pub fn file_of(alloc: Global, entries: &[Entry], rest: &[u8]) -> Result<Vec<u8>, Fail> {
+    let all = summed(alloc, entries, rest)?;
+    let mut file = directory_of(alloc, &all)?;
+    file.extend_from_slice(rest)?;
+    let place = adjustment_place(entries).ok_or("no head")?;
+    let adjustment = FILE_SUM.wrapping_sub(checksum(&file));
+    put_at(&mut file, place, &adjustment.to_be_bytes());
+    Ok(file)
+}
+
+/// A file with right sums in the place of its own.
+pub fn mended(alloc: Global, file: &[u8]) -> Result<Vec<u8>, Fail> {
+    let entries: Vec<Entry> = Directory::read(file)?.records().collect(alloc)?;
+    let place = adjustment_place(&entries).ok_or("no head")?;
+    let mut zeroed = file.to_vec(alloc)?;
+    put_at(&mut zeroed, place, &[0; 4]);
+    let start = directory_of(alloc, &entries)?.len();
+    file_of(alloc, &entries, zeroed.get(start..).ok_or("no table")?)
+}
+
+/// The file of these tables, in this order; `checksumAdjustment` is 0 in `head`.
+pub fn file_of_tables(alloc: Global, tables: &[Table]) -> Result<Vec<u8>, Fail> {
+    let count = u16::try_from(tables.len()).map_err(|_| "too many tables")?;
+    let mut offset = 12 + 16 * u32::from(count);
+    let mut entries = Vec::new(alloc);
+    let mut rest = Vec::new(alloc);
+    for table in tables {
+        let length = u32::try_from(table.bytes.len()).map_err(|_| "too long")?;
+        entries.push(Entry {
+            tag: table.tag,
+            checksum: 0,
+            offset,
+            length,
+        })?;
+        offset = offset.wrapping_add(length.wrapping_add(3) / 4 * 4);
+        put_padded(&mut rest, &table.bytes)?;
+    }
+    file_of(alloc, &entries, &rest)
+}
+
+/// The bytes of the table of this name.
+pub fn table_named<'a>(tables: &'a mut Vec<Table>, tag: &[u8; 4]) -> Option<&'a mut Vec<u8>> {
+    let place = tables.iter().position(|table| table.tag == Tag(*tag))?;
+    Some(&mut tables.get_mut(place)?.bytes)
+}
+
+/// Puts other bytes into the table of this name.
+pub fn replace(tables: &mut Vec<Table>, tag: &[u8; 4], bytes: Vec<u8>) -> Result<(), Fail> {
+    *table_named(tables, tag).ok_or("no such table")? = bytes;
+    Ok(())
+}
