@@ -5,7 +5,7 @@ copied, the glyphs of codes, and the outlines of glyphs.
 """
 from font_cutting import (assembled, cmap_table, cut_size, glyf_and_loca, groups_of, is_cut, kept_glyphs, outlines,
                           whole_map)
-from font_reading import KEPT, MAX_FILE, directory_refusal, font_refusal, records_of, table_of, tag_text
+from font_reading import KEPT, MAX_FILE, directory_refusal, font_refusal, tables_of, tag_text
 
 # The tables of which a cut holds its font's own bytes; of `head` it has all but checksumAdjustment.
 COPIED = [tag for tag in KEPT if tag not in (b"cmap", b"glyf", b"loca")]
@@ -13,7 +13,7 @@ COPIED = [tag for tag in KEPT if tag not in (b"cmap", b"glyf", b"loca")]
 
 def copied(file):
     """By tag what a cut has of its font, byte for byte."""
-    tables = {record.tag: table_of(file, record) for record in records_of(file) if record.tag in COPIED}
+    tables = {tag: data for tag, data in tables_of(file).items() if tag in COPIED}
     tables[b"head"] = tables[b"head"][:8] + tables[b"head"][12:]
     return tables
 
@@ -54,7 +54,7 @@ def difference_refusal(first, second):
 
 def joined_tables(first, second):
     """The tables of the join of two cuts that nothing tells apart, by tag."""
-    tables = {record.tag: table_of(first, record) for record in records_of(first)}
+    tables = tables_of(first)
     tables[b"cmap"] = cmap_table(groups_of({**whole_map(first), **whole_map(second)}))
     records = {**kept(first), **kept(second)}
     every = [records.get(glyph, b"") for glyph in range(len(outlines(first)))]

@@ -47,6 +47,11 @@ def table_of(file, record):
     return file[record.offset:record.offset + record.length]
 
 
+def tables_of(file):
+    """The tables of a file, by tag."""
+    return {record.tag: table_of(file, record) for record in records_of(file)}
+
+
 def search_fields(count):
     """searchRange, entrySelector and rangeShift for this many tables, or None where no fields are right."""
     if not 1 <= count <= 4095:

@@ -2,8 +2,9 @@
 import os
 import struct
 
-from font_cutting import assembled, cmap_table, cut, groups_of, padded, ranges, whole_map
-from font_reading import KEPT, records_of, search_fields, table_of
+from font_changing import cut_for, with_codes, with_tables
+from font_cutting import assembled, padded
+from font_reading import KEPT, search_fields, tables_of
 
 # The font: a directory and seven tables. Its glyphs have 12, 14, 10, 22, 0 and 12 bytes; glyph 3 is
 # composed of 1 and 2. U+0020 is mapped to glyph 4, U+0041 to 1, U+0042 to 5 and U+00C1 to 3.
@@ -88,11 +89,6 @@ CUTS = [
 ]
 
 
-def tables_of(file):
-    """The tables of a file, by tag."""
-    return {record.tag: table_of(file, record) for record in records_of(file)}
-
-
 def base6_tables():
     return tables_of(BASE6)
 
@@ -137,23 +133,10 @@ def wide_font(path):
     os.truncate(path, place + len(bodies) + REGION)
 
 
-def cut_for(file, words):
-    return cut(file, ranges(words))
-
-
-def with_tables(**changed):
-    """The font with other bytes for these tables, its sums right."""
-    return assembled({**base6_tables(), **{tag.encode(): data for tag, data in changed.items()}})
-
-
-def with_codes(**codes):
-    """The font with these letters on these glyphs besides its own codes."""
-    return with_tables(cmap=cmap_table(groups_of({**whole_map(BASE6), **{ord(code): codes[code] for code in codes}})))
-
-
 def with_glyph_2_empty():
     glyf = base6_tables()[b"glyf"]
-    return with_tables(glyf=glyf[:26] + glyf[36:], loca=struct.pack(">7H", 0, 6, 13, 13, 24, 24, 30))
+    loca = struct.pack(">7H", 0, 6, 13, 13, 24, 24, 30)
+    return with_tables(BASE6, {b"glyf": glyf[:26] + glyf[36:], b"loca": loca})
 
 
 def with_byte(file, place, byte):
@@ -186,11 +169,14 @@ def worked_joins():
 def worked_refusals():
     """Of each refusal: what it shows, the files, and the line from the number of the file on."""
     aacute, letter = cut_for(BASE6, "U+C1"), cut_for(BASE6, "U+41")
-    empty, full = cut_for(with_glyph_2_empty(), "U+C1"), cut_for(with_codes(C=2), "U+43")
-    tables = base6_tables()
-    outline = cut_for(with_tables(glyf=with_byte(tables[b"glyf"], 25, 0x23)), "U+41")
-    metric = cut_for(with_tables(hmtx=with_byte(tables[b"hmtx"], 23, 1)), "U+41")
-    mapping = cut_for(with_codes(A=2), "U+41")
+    empty, full = cut_for(with_glyph_2_empty(), "U+C1"), cut_for(with_codes(BASE6, {0x43: 2}), "U+43")
+    glyf, hmtx = base6_tables()[b"glyf"], base6_tables()[b"hmtx"]
+    outline = cut_for(with_tables(BASE6, {b"glyf": with_byte(glyf, 25, 0x23)}), "U+41")
+    metric = cut_for(with_tables(BASE6, {b"hmtx": with_byte(hmtx, 23, 1)}), "U+41")
+    # U+0041, U+00C1 and U+1ABCD on glyph 2, and before that on 1, 3 and 5.
+    far, others = {0x1ABCD: 5}, {0x41: 2, 0xC1: 2, 0x1ABCD: 2}
+    codes = [[cut_for(with_codes(BASE6, glyphs), word) for glyphs in (far, others)]
+             for word in ("U+41", "U+C1", "U+1ABCD")]
     # The padding of head, and that of glyph 1.
     behind_head, stray = with_byte(aacute, 282, 1), assembled(tables_of(with_byte(aacute, 190, 1)))
     return [
@@ -198,7 +184,9 @@ def worked_refusals():
         ("an outline with bytes, and an empty one", [full, empty], "2: refused 23 different glyph 2"),
         ("another outline", [letter, outline], "2: refused 23 different glyph 1"),
         ("another metric", [letter, metric], "2: refused 21 different table hmtx"),
-        ("a code on another glyph", [letter, mapping], "2: refused 22 different mapping U+0041"),
+        ("U+0041 on another glyph", codes[0], "2: refused 22 different mapping U+0041"),
+        ("U+00C1 on another glyph", codes[1], "2: refused 22 different mapping U+00C1"),
+        ("U+1ABCD on another glyph", codes[2], "2: refused 22 different mapping U+1ABCD"),
         ("a font and a cut", [BASE6, letter], "1: refused 20 not a cut: first"),
         ("a cut and a font", [aacute, BASE6], "2: refused 20 not a cut: second"),
         ("padding of head that is no zero, first", [behind_head, aacute], "1: refused 20 not a cut: first"),

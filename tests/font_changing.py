@@ -1,0 +1,45 @@
+"""Fonts that are made of a font by small changes, all their sums right."""
+from font_cutting import assembled, cmap_table, cut, groups_of, ranges, whole_map
+from font_reading import offset, table, tables_of, u16
+
+
+def turned(data, place):
+    """The bytes with the one at this place turned, which is then another."""
+    data = bytearray(data)
+    data[place] ^= 0xFF
+    return bytes(data)
+
+
+def with_tables(file, changed):
+    """The font with other bytes for some tables, or without those for which there is None; its sums are right."""
+    tables = {**tables_of(file), **changed}
+    return assembled({tag: data for tag, data in tables.items() if data is not None})
+
+
+def with_bytes(file, places):
+    """The font with a byte of some tables turned."""
+    return with_tables(file, {tag: turned(table(file, tag), place) for tag, place in places.items()})
+
+
+def with_codes(file, codes):
+    """The font with some codes on other glyphs."""
+    return with_tables(file, {b"cmap": cmap_table(groups_of({**whole_map(file), **codes}))})
+
+
+def without_code(file, code):
+    """The font without a code."""
+    glyphs = {other: glyph for other, glyph in whole_map(file).items() if other != code}
+    return with_tables(file, {b"cmap": cmap_table(groups_of(glyphs))})
+
+
+def with_outlines(file, *glyphs):
+    """The font with the last byte of the outline of some simple glyphs turned, which is not looked at."""
+    glyf, loca, form = table(file, b"glyf"), table(file, b"loca"), u16(table(file, b"head"), 50)
+    for glyph in glyphs:
+        glyf = turned(glyf, offset(loca, form, glyph + 1) - 1)
+    return with_tables(file, {b"glyf": glyf})
+
+
+def cut_for(file, words):
+    """The cut of a font for the ranges that typed words name."""
+    return cut(file, ranges(words))
