@@ -78,7 +78,7 @@ fn order_and_grouping(rt: HostRuntime) -> Result<(), Fail> {
 }
 
 #[test]
-fn order_of_two_fonts(rt: HostRuntime) -> Result<(), Fail> {
+fn order_and_grouping_of_two_fonts(rt: HostRuntime) -> Result<(), Fail> {
     let alloc = rt.alloc();
     let nothing = bytes_of(alloc, &NOTHING)?;
     let a = cut_of(alloc, &BASE6, &[(0x41, 0x41)])?;

@@ -106,7 +106,7 @@ fn fault(which: Which, error: DirError) -> JoinError {
 }
 
 #[test]
-fn order_of_refusals(rt: HostRuntime) -> Result<(), Fail> {
+fn join_refusals(rt: HostRuntime) -> Result<(), Fail> {
     let alloc = rt.alloc();
     let cut = bytes_of(alloc, &AACUTE)?;
     let front = cut.get(..403).ok_or("a short cut")?;
