@@ -1,20 +1,16 @@
 -- Inlets that are read one after the other.
-use Rattle.std.proofs.Common.{◌≡◌, ℕ, ◌+◌, ◌-◌, ◌<◌, ◌≤◌, false, true, All, List, [], ◌∷◌, ◌++◌, drop, get_or, length, set, Option, Some, IfSome, refl, sym, ap, subst, ◌∙◌, arith, below_more, inl, inr}
-use Rattle.std.proofs.lemmas.Bool.{cases_lt}
-use Rattle.std.proofs.lemmas.Grind.{get_or-set_at}
-use Rattle.std.proofs.lemmas.List.{drop-drop, drop-set-lt, get_or-append_right, get_or-drop, get_or-set_same, get_or_append_left, get_or_default, length-append, length-set}
-use Rattle.std.proofs.lemmas.List.Elements.{All-from_all_within, All-from_get_or, AllWithin-kept, AllWithin-more_set, AllWithin-none}
+use Rattle.std.proofs.Common.{◌≡◌, ℕ, ◌+◌, ◌-◌, ◌<◌, false, true, List, [], ◌∷◌, ◌++◌, drop, get_or, length, set, Option, refl, sym, ap, subst, ◌∙◌, arith, below_more}
+use Rattle.std.proofs.lemmas.List.{drop-drop, drop-set-lt, drop_all, get_or-append_right, get_or-drop, get_or-set_same, get_or_append_left, get_or_default, length-append, length-set}
+use Rattle.std.proofs.lemmas.List.Elements.{All-from_all_within, AllWithin-from_all, AllWithin-kept, AllWithin-more_set, AllWithin-none}
 use Rattle.std.proofs.lemmas.Option.{get_or_from_slice_get, slice_get_read, slice_get_within}
-use Rattle.std.specs.List.{AllWithin, slice_get}
+use Rattle.std.specs.List.{AllWithin}
 use Rattle.font_cut.specs.Fonts.{file_at}
 use Rattle.font_cmd.specs.Inlet.{Gives, StopsAs, broken_of, fresh_of}
-use Rattle.font_cmd.specs.Join.{AreFresh, AreGot, AreSpent, AreWhole, BreaksAfter, IsSpent, ReadStops}
+use Rattle.font_cmd.specs.Join.{AreGot, AreSpent, AreReadTo, BreaksAfter, IsSpent, ReadStops}
 use Rattle.font_cmd.specs.Run.{got, of_read_error}
 use Rattle.font_cmd.specs.declared.inlet.Inlet.{Inlet}
 use Rattle.font_cmd.specs.declared.inlet.ReadError.{ReadError}
 use Rattle.font_cmd.specs.declared.inlet.ReadError.TheVariants.{NoMemory, ReadFault}
-use Rattle.font_cmd.specs.declared.inlet.State.{State}
-use Rattle.font_cmd.specs.declared.inlet.State.TheVariants.{Broken, Fresh, Spent}
 
 -- the first k inlets were read, which gave the files; those behind them are as they were
 pub record AreRead {R : Type 0} (remaining : R → Option (List ℕ)) (old now : List (Inlet R)) (files : List (List ℕ)) (k : ℕ) : Type 0 where
@@ -24,14 +20,16 @@ pub record AreRead {R : Type 0} (remaining : R → Option (List ℕ)) (old now :
   pub spent : AllWithin IsSpent now 0 k
   pub behind : drop k now ≡ drop k old
 
--- an inlet that was not read is not broken
-pub fresh_whole : {R : Type 0} (inlet : Inlet R) → fresh_of inlet ≡ true → broken_of inlet ≡ false
-fresh_whole inlet fresh = go inlet.state fresh
-  where
-    go : (state : State) → elim state [ Fresh ↦ true | Spent ↦ false | Broken ↦ false ] ≡ true → elim state [ Fresh ↦ false | Spent ↦ false | Broken ↦ true ] ≡ false
-    go Fresh is = refl
-    go Spent is = refl
-    go Broken is = sym is
+-- where none was read, and where all were
+pub none_read_to : {R : Type 0} (old : List (Inlet R)) → AreReadTo old old
+none_read_to old = record { at = 0; before = AllWithin-none IsSpent old 0; behind = refl }
+
+pub all_read_to : {R : Type 0} (old new : List (Inlet R)) → length new ≡ length old → AreSpent new → AreReadTo old new
+all_read_to old new same spent = record {
+  at = length new;
+  before = AllWithin-from_all IsSpent new spent;
+  behind = drop_all (length new) new (omega arith) ∙ sym (drop_all (length new) old (omega (arith, same)));
+}
 
 module _ {R : Type 0} (remaining : R → Option (List ℕ)) where
   pub none_read : (old : List (Inlet R)) → AreRead remaining old old [] 0
@@ -89,26 +87,13 @@ module _ {R : Type 0} (remaining : R → Option (List ℕ)) where
         behind = behind_next y;
       }
 
-      -- no read failed so far, and those behind are fresh
-      pub still_whole : AreFresh old → broken_of y ≡ false → AreWhole (set now k y)
-      still_whole fresh whole = λ j d below.
-          elim (cases_lt j k) [
-            | inl before ↦ (AllWithin-kept now k y low IsSpent read.spent j d (omega arith) before).1
-            | inr from ↦ elim (cases_lt k j) [
-              | inl behind ↦ fresh_whole (get_or (set now k y) j d) (subst (λ i. fresh_of i ≡ true) (sym (behind_is j d behind)) (fresh j d (subst (λ n. j < n) (length-set now k y ∙ read.same) below)))
-              | inr upto ↦ subst (λ i. broken_of i ≡ false) (sym (get_or-set_at now k j y d (omega (arith, from, upto)) low)) whole
-            ]
-          ]
-        where
-          behind_is : (j : ℕ) (d : Inlet R) → k < j → get_or (set now k y) j d ≡ get_or old j d
-          behind_is j d behind =
-              let e : k + 1 + (j - (k + 1)) ≡ j = omega (arith, behind) in
-              let at : (l : List (Inlet R)) → get_or (drop (k + 1) l) (j - (k + 1)) d ≡ get_or l j d = λ l. subst (λ n. get_or (drop (k + 1) l) (j - (k + 1)) d ≡ get_or l n d) e (get_or-drop (k + 1) l (j - (k + 1)) d) in
-              sym (at (set now k y)) ∙ ap (λ l. get_or l (j - (k + 1)) d) (behind_next y) ∙ at old
+      -- no read failed so far
+      pub still_read : fresh_of y ≡ false → broken_of y ≡ false → AreReadTo old (set now k y)
+      still_read spent whole = record { at = k + 1; before = AllWithin-more_set now k y low IsSpent read.spent (spent, whole); behind = behind_next y }
 
-      pub stops_reading : AreFresh old → (error : ReadError) → StopsAs remaining (get_or now k e) y error → ReadStops remaining old (set now k y) (of_read_error error)
-      stops_reading fresh (ReadFault count) stops = breaks_after count stops.0 stops.1
-      stops_reading fresh NoMemory whole = still_whole fresh whole
+      pub stops_reading : fresh_of y ≡ false → (error : ReadError) → StopsAs remaining (get_or now k e) y error → ReadStops remaining old (set now k y) (of_read_error error)
+      stops_reading spent (ReadFault count) stops = breaks_after count stops.0 stops.1
+      stops_reading spent NoMemory whole = still_read spent whole
 
     module _ (all : k ≡ length old) where
       pub all_got : AreGot remaining old files

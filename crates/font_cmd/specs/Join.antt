@@ -1,5 +1,5 @@
 -- What the run of a join is given, and how it leaves its inlets and its outlet.
-use Rattle.std.specs.Prelude.{◌≡◌, ℕ, suc, ◌+◌, Bool, false, true, All, List, drop, length, map, Option, Some, take}
+use Rattle.std.specs.Prelude.{◌≡◌, ℕ, suc, ◌+◌, Bool, false, true, All, List, drop, length, Option, Some, take}
 use Rattle.std.specs.List.{AllWithin, slice_get}
 use Rattle.font_cut.specs.Cut.{cut_of}
 use Rattle.font_cut.specs.Fonts.{file_at, union_below}
@@ -26,9 +26,11 @@ IsSpent inlet = (inlets.fresh_of inlet ≡ false) × (inlets.broken_of inlet ≡
 abbrev pub AreSpent : {R : Type 0} → List (Inlet R) → Type 0
 AreSpent list = All IsSpent list
 
--- no read failed
-abbrev pub AreWhole : {R : Type 0} → List (Inlet R) → Type 0
-AreWhole list = All (λ inlet. inlets.broken_of inlet ≡ false) list
+-- the inlets before some place were read, none of their reads failed, and the others are as they were
+pub record AreReadTo {R : Type 0} (old new : List (Inlet R)) : Type 0 where
+  pub at : ℕ
+  pub before : AllWithin IsSpent new 0 at
+  pub behind : drop at new ≡ drop at old
 
 -- the files are what came from the readers of the inlets, one by one, where these tell their bytes
 pub record AreGot {R : Type 0} (remaining : R → Option (List ℕ)) (list : List (Inlet R)) (files : List (List ℕ)) : Type 0 where
@@ -50,7 +52,7 @@ pub record BreaksAfter {R : Type 0} (remaining : R → Option (List ℕ)) (old n
 -- how inlets are left that were not all read: a read failed, or memory was refused
 abbrev pub ReadStops : {R : Type 0} (remaining : R → Option (List ℕ)) (old new : List (Inlet R)) → RunError → Type 0
 ReadStops remaining old new (Read count) = BreaksAfter remaining old new count
-ReadStops remaining old new Memory = AreWhole new
+ReadStops remaining old new Memory = AreReadTo old new
 ReadStops remaining old new _ = ⊥
 
 -- P holds of files that came from the readers
@@ -61,7 +63,7 @@ OfGot remaining list P = (files : List (List ℕ)) × AreGot remaining list file
 abbrev pub JoinStops : {R W : Type 0} (remaining : R → Option (List ℕ)) (contents : W → Option (List ℕ)) (i j : List (Inlet R)) (o p : Outlet W) → RunError → Type 0
 -- nothing was sent
 JoinStops remaining contents i j o p (Read count) = BreaksAfter remaining i j count × (p ≡ o)
-JoinStops remaining contents i j o p Memory = AreWhole j × (p ≡ o)
+JoinStops remaining contents i j o p Memory = AreReadTo i j × (p ≡ o)
 -- the files are refused, by the first refusal that applies, and nothing was sent
 JoinStops remaining contents i j o p (Join error) =
     AreSpent j × (p ≡ o) × (of_join_error error ≡ Join error) × OfGot remaining i (λ files. IsAllRefusal files error)

@@ -6,7 +6,7 @@ use Rattle.font_cut.specs.declared.cuts.CutIntoError.{CutIntoError}
 use Rattle.font_cut.specs.declared.cuts.CutIntoError.TheVariants as cut_errors
 use Rattle.font_cut.specs.JoinText.{join_all_error_number}
 use Rattle.font_cut.specs.declared.join_error.JoinAllError.{JoinAllError}
-use Rattle.font_cut.specs.declared.join_error.JoinAllError.TheVariants.{At, NothingToJoin}
+use Rattle.font_cut.specs.declared.join_error.JoinAllError.TheVariants.{At}
 use Rattle.font_cut.specs.declared.join_error.JoinError.TheVariants as join_errors
 use Rattle.font_cmd.specs.declared.inlet.Inlet.{Inlet}
 use Rattle.font_cmd.specs.declared.inlet.ReadError.{ReadError}

@@ -60,5 +60,5 @@ unfoldable pub font_text : List ℕ → Bool → List ℕ
 font_text file is_one = numbers_text file ++ mapped_text (cmap_of file) (glyph_count_of file) ++ kept_text file ++ dropped_text file ++ cut_text is_one
 
 -- all that `show` prints of a font that is accepted
-abbrev pub show_text : List ℕ → List ℕ
+unfoldable pub show_text : List ℕ → List ℕ
 show_text file = font_text file (is_cut our_format file)

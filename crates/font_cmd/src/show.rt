@@ -175,6 +175,7 @@ impl<'a> fmt::Display for Shown<'a> {
 /// # Errors
 /// `Read` where the reader fails, `Memory` where memory is refused, `Font` where the font is: then
 /// nothing was sent. `Write` where the writer fails.
+#[tactic(auto, unfolding(crate::specs::Show::show_text))]
 pub fn run_show<R: Read, W: Write, A: Allocator + Copy>(
     alloc: A,
     inlet: &mut Inlet<R>,

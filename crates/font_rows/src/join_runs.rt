@@ -5,7 +5,7 @@ use font_cmd::{Inlet, RunError, run_join, run_subset};
 use font_cut::{DirError, FontError, JoinAllError, JoinError, Outlet, Wanted, Which};
 use refusing::Refusing;
 use sfnt_bytes::BASE6;
-use std::alloc::{Allocator, Global};
+use std::alloc::Global;
 use std::test::Fail;
 
 // The bytes of the joined cut.
@@ -28,14 +28,9 @@ fn cut_for(alloc: Global, codes: &[u32]) -> Result<Vec<u8>, Fail> {
 }
 
 // What `join` answers and sends of two files.
-fn joined<A: Allocator + Copy>(
-    alloc: A,
-    hold: Global,
-    x: &[u8],
-    y: &[u8],
-) -> (Result<u64, RunError>, Vec<u8>) {
+fn joined(alloc: Global, x: &[u8], y: &[u8]) -> (Result<u64, RunError>, Vec<u8>) {
     let mut inlets = [Inlet::new(x), Inlet::new(y)];
-    let mut outlet = Outlet::new(Vec::new(hold));
+    let mut outlet = Outlet::new(Vec::new(alloc));
     let answer = run_join(alloc, &mut inlets, &mut outlet);
     (answer, outlet.into_inner())
 }
@@ -48,7 +43,7 @@ fn subset_and_join_runs(rt: HostRuntime) -> Result<(), Fail> {
     assert_eq!(rt; y.len(), 392);
     let z = cut_for(rt.alloc(), &[0x41, 0x42, 0xC1])?;
     for (first, second) in [(&x, &y), (&y, &x), (&z, &x), (&z, &z)] {
-        let (answer, sent) = joined(rt.alloc(), rt.alloc(), first, second);
+        let (answer, sent) = joined(rt.alloc(), first, second);
         assert_eq!(rt; answer, Ok(JOINED));
         assert_eq!(rt; sent.as_slice(), z.as_slice());
     }
@@ -65,13 +60,16 @@ fn one_cut_alone(rt: HostRuntime) -> Result<(), Fail> {
     Ok(())
 }
 
+// No memory is asked for.
 #[test]
 fn nothing_to_join(rt: HostRuntime) -> Result<(), Fail> {
+    let memory = Refusing::new(rt.alloc(), 1);
     let mut inlets: [Inlet<&[u8]>; 0] = [];
     let mut outlet = Outlet::new(Vec::new(rt.alloc()));
-    let answer = run_join(rt.alloc(), &mut inlets, &mut outlet);
+    let answer = run_join(&memory, &mut inlets, &mut outlet);
     assert_eq!(rt; answer, Err(RunError::Join(JoinAllError::NothingToJoin)));
     assert!(rt; outlet.is_fresh());
+    assert_eq!(rt; memory.requests(), 0);
     Ok(())
 }
 
@@ -85,7 +83,7 @@ fn refused_files(rt: HostRuntime) -> Result<(), Fail> {
         (&[], x, 0, JoinError::Font(Which::First, truncated)),
         (x, &x[..100], 1, JoinError::Font(Which::Second, truncated)),
     ] {
-        let (answer, sent) = joined(rt.alloc(), rt.alloc(), first, second);
+        let (answer, sent) = joined(rt.alloc(), first, second);
         let refusal = JoinAllError::At { step, error };
         assert_eq!(rt; answer, Err(RunError::Join(refusal)));
         assert!(rt; sent.is_empty());
@@ -147,15 +145,24 @@ fn refused_memory_in_run_join(rt: HostRuntime) -> Result<(), Fail> {
     let y = cut_for(rt.alloc(), &[0x41, 0x42])?;
     for k in 1..200u64 {
         let memory = Refusing::new(rt.alloc(), k);
-        let (answer, sent) = joined(&memory, rt.alloc(), &CUT_OF_AACUTE, &y);
+        let mut inlets = [
+            Inlet::new(CUT_OF_AACUTE.as_slice()),
+            Inlet::new(y.as_slice()),
+        ];
+        let mut outlet = Outlet::new(Vec::new(rt.alloc()));
+        let answer = run_join(&memory, &mut inlets, &mut outlet);
         if !memory.has_refused() {
             assert!(rt; k > 1, "no request for memory came");
             assert_eq!(rt; answer, Ok(JOINED));
-            assert_eq!(rt; sent.len() as u64, JOINED);
+            assert_eq!(rt; outlet.written(), JOINED);
             return Ok(());
         }
         assert_eq!(rt; answer, Err(RunError::Memory), "request {k}");
-        assert!(rt; sent.is_empty(), "request {k}");
+        assert!(rt; outlet.is_fresh(), "request {k}");
+        assert!(rt;
+            !inlets[0].is_broken() && !inlets[1].is_broken(),
+            "request {k}"
+        );
     }
     panic!(rt; "each of 199 requests was refused")
 }

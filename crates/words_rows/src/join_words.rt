@@ -46,51 +46,58 @@ fn join_of_files(rt: HostRuntime) -> Result<(), Fail> {
     Ok(())
 }
 
-// The first file is joined with itself, so what refuses it is at file 1; OUT stays as it was.
-#[test]
-fn join_refusals(rt: HostRuntime) -> Result<(), Fail> {
+// The files of a line, its status, and what is printed.
+const REFUSED: [(&[&str], u8, &[u8]); 6] = [
+    (
+        &["cut.ttf", "font.ttf"],
+        1,
+        b"fontcut: file 2: refused 20 not a cut: second\n",
+    ),
+    (
+        &["font.ttf", "cut.ttf"],
+        1,
+        b"fontcut: file 1: refused 20 not a cut: first\n",
+    ),
+    (
+        &["cut.ttf", "cut.ttf", "other.ttf"],
+        1,
+        b"fontcut: file 3: refused 23 different glyph 1\n",
+    ),
+    (
+        &["cut.ttf", "short.ttf"],
+        1,
+        b"fontcut: file 2: refused 6 table out of file maxp\n",
+    ),
+    (
+        &["short.ttf"],
+        1,
+        b"fontcut: file 1: refused 6 table out of file maxp\n",
+    ),
+    (
+        &["other.ttf", "turned.ttf", "absent.ttf"],
+        3,
+        b"fontcut: cannot read absent.ttf\n",
+    ),
+];
+
+// The font of six glyphs, one with another glyph 1, one that is cut short, and cuts of the first two.
+fn write_files(rt: &HostRuntime) -> Result<(), Fail> {
     let mut turned = BASE6;
     // The last byte of glyph 1.
     turned[217] = 0x23;
-    fs::write(&rt, "font.ttf", &BASE6)?;
-    fs::write(&rt, "turned.ttf", &turned)?;
-    fs::write(&rt, "short.ttf", &BASE6[..427])?;
-    write_cut(&rt, "font.ttf", "cut.ttf", "A")?;
-    write_cut(&rt, "turned.ttf", "other.ttf", "A")?;
-    let lines: [(&[&str], u8, &[u8]); 6] = [
-        (
-            &["cut.ttf", "font.ttf"],
-            1,
-            b"fontcut: file 2: refused 20 not a cut: second\n",
-        ),
-        (
-            &["font.ttf", "cut.ttf"],
-            1,
-            b"fontcut: file 1: refused 20 not a cut: first\n",
-        ),
-        (
-            &["cut.ttf", "cut.ttf", "other.ttf"],
-            1,
-            b"fontcut: file 3: refused 23 different glyph 1\n",
-        ),
-        (
-            &["cut.ttf", "short.ttf"],
-            1,
-            b"fontcut: file 2: refused 6 table out of file maxp\n",
-        ),
-        (
-            &["short.ttf"],
-            1,
-            b"fontcut: file 1: refused 6 table out of file maxp\n",
-        ),
-        (
-            &["other.ttf", "turned.ttf", "absent.ttf"],
-            3,
-            b"fontcut: cannot read absent.ttf\n",
-        ),
-    ];
+    fs::write(rt, "font.ttf", &BASE6)?;
+    fs::write(rt, "turned.ttf", &turned)?;
+    fs::write(rt, "short.ttf", &BASE6[..427])?;
+    write_cut(rt, "font.ttf", "cut.ttf", "A")?;
+    write_cut(rt, "turned.ttf", "other.ttf", "A")
+}
+
+// The first file is joined with itself, so what refuses it is at file 1; OUT stays as it was.
+#[test]
+fn join_refusals(rt: HostRuntime) -> Result<(), Fail> {
+    write_files(&rt)?;
     fs::write(&rt, "kept.ttf", b"as it was")?;
-    for (files, status, text) in lines {
+    for (files, status, text) in REFUSED {
         let answer = join(&rt, "kept.ttf", files)?;
         assert_eq!(rt; answer.status, status, "{files:?}");
         assert_eq!(rt; answer.err.as_slice(), text, "{files:?}");

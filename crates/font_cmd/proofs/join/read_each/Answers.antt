@@ -1,7 +1,7 @@
-use Rattle.std.proofs.Common.{◌≡◌, ◌<◌, true, ◌++◌, ◌∷◌, [], IfErr, rules, arith, length, map, sym, subst, ◌∙◌, ap}
+use Rattle.std.proofs.Common.{◌≡◌, ◌<◌, true, ◌++◌, ◌∷◌, [], rules, length, map, sym, subst, ◌∙◌, ap}
 use Rattle.std.proofs.lemmas.List.{map-append}
 use Rattle.font_cmd.specs.Inlet.{fresh_of}
-use Rattle.font_cmd.proofs.ReadEachLemmas.{AreRead, all_got, all_spent, next_is, one_more_read, still_whole, stops_reading}
+use Rattle.font_cmd.proofs.ReadEachLemmas.{all_got, all_spent, next_is, one_more_read, still_read, stops_reading}
 use Rattle.font_cmd.proofs.join.read_each.Goals as goal
 
 pub read_all-requires : goal.read_all-requires
@@ -12,13 +12,13 @@ read_all-requires g c =
 pub returns-in_err-file-clause-stops : goal.returns-in_err-file-clause-stops
 returns-in_err-file-clause-stops g c =
     let low : c.loop-k.k < length c.loop-k.inlets = search rules in
-    let stops = stops_reading _ _ _ _ _ c.loop-k.invariant c.index-inlets-k.result c.read_all.new.self low c.requires c.in_err-file.field-0.0 c.in_err-file.ensures.error in
+    let stops = stops_reading _ _ _ _ _ c.loop-k.invariant c.index-inlets-k.result c.read_all.new.self low c.in_err-file.ensures.spent c.in_err-file.field-0.0 c.in_err-file.ensures.error in
     search (rules, stops)
 
 pub returns-then-is_err-clause-stops : goal.returns-then-is_err-clause-stops
 returns-then-is_err-clause-stops g c =
     let low : c.loop-k.k < length c.loop-k.inlets = search rules in
-    still_whole _ _ _ _ _ c.loop-k.invariant c.index-inlets-k.result c.read_all.new.self low c.requires c.in_ok-file.ensures.whole
+    still_read _ _ _ _ _ c.loop-k.invariant c.index-inlets-k.result c.read_all.new.self low c.in_ok-file.ensures.spent c.in_ok-file.ensures.whole
 
 pub loop-k-preserved : goal.loop-k-preserved
 loop-k-preserved g c =

@@ -1,9 +1,9 @@
-use Rattle.std.proofs.Common.{◌≡◌, List, ℕ, rules, length, map, sym, subst, ◌∙◌, ap}
+use Rattle.std.proofs.Common.{List, ℕ, rules, length, map, sym, subst, ◌∙◌, ap}
 use Rattle.font_cut.specs.Cut.{cut_of}
 use Rattle.font_cut.specs.Fonts.{union_below}
-use Rattle.font_cut.specs.InTurn.{AreCuts}
+use Rattle.font_cut.specs.InTurn.{AreCuts, IsAllRefusal}
 use Rattle.font_cut.specs.Outlet.{Sends}
-use Rattle.font_cmd.proofs.JoinRunLemmas.{only_size_of}
+use Rattle.font_cmd.proofs.JoinRunLemmas.{join_stopped, only_size_of}
 use Rattle.font_cmd.proofs.join.run_join.Goals as goal
 
 pub returns-clause-cuts : goal.returns-clause-cuts
@@ -23,3 +23,12 @@ returns-in_err-joined-clause-cuts g c = λ F A are.
     let size = c.in_err-joined.ensures.cuts F A (subst (AreCuts F A) (sym same) (are _ got)) in
     let only = only_size_of F A _ _ (ap length same ∙ got.count) c.in_err-joined.field-0.0 size in
     search (rules, only)
+
+pub returns-in_err-joined-clause-error : goal.returns-in_err-joined-clause-error
+returns-in_err-joined-clause-error g c =
+    let same = ap (map (λ v. v.items)) c.deref.ensures.value in
+    let read = c.in_ok-files.ensures in
+    let error = c.in_err-joined.field-0.0 in
+    let refused = subst (λ (files : List (List ℕ)). IsAllRefusal files error) same c.in_err-joined.ensures.exact in
+    let stops = join_stopped g.R.Read.remaining g.W.Write.contents _ _ c.args.outlet.now _ c.read_each.auto.inlets read.spent read.got error refused in
+    search (rules, stops)
