@@ -1,7 +1,7 @@
 -- Inlets that are read one after the other.
 use Rattle.std.proofs.Common.{◌≡◌, ℕ, ◌+◌, ◌-◌, ◌<◌, false, true, List, [], ◌∷◌, ◌++◌, drop, get_or, length, set, Option, refl, sym, ap, subst, ◌∙◌, arith, below_more}
 use Rattle.std.proofs.lemmas.List.{drop-drop, drop-set-lt, drop_all, get_or-append_right, get_or-drop, get_or-set_same, get_or_append_left, get_or_default, length-append, length-set}
-use Rattle.std.proofs.lemmas.List.Elements.{All-from_all_within, AllWithin-from_all, AllWithin-kept, AllWithin-more_set, AllWithin-none}
+use Rattle.std.proofs.lemmas.List.Elements.{All-from_all_within, AllWithin-from_all, AllWithin-kept, AllWithin-more_set}
 use Rattle.std.proofs.lemmas.Option.{get_or_from_slice_get, slice_get_read, slice_get_within}
 use Rattle.std.specs.List.{AllWithin}
 use Rattle.font_cut.specs.Fonts.{file_at}
@@ -20,10 +20,7 @@ pub record AreRead {R : Type 0} (remaining : R → Option (List ℕ)) (old now :
   pub spent : AllWithin IsSpent now 0 k
   pub behind : drop k now ≡ drop k old
 
--- where none was read, and where all were
-pub none_read_to : {R : Type 0} (old : List (Inlet R)) → AreReadTo old old
-none_read_to old = record { at = 0; before = AllWithin-none IsSpent old 0; behind = refl }
-
+-- all of them were read
 pub all_read_to : {R : Type 0} (old new : List (Inlet R)) → length new ≡ length old → AreSpent new → AreReadTo old new
 all_read_to old new same spent = record {
   at = length new;
@@ -32,9 +29,6 @@ all_read_to old new same spent = record {
 }
 
 module _ {R : Type 0} (remaining : R → Option (List ℕ)) where
-  pub none_read : (old : List (Inlet R)) → AreRead remaining old old [] 0
-  none_read old = record { same = refl; count = refl; each = (λ j low. absurd (omega (arith, low))); spent = AllWithin-none IsSpent old 0; behind = refl }
-
   module _ (old now : List (Inlet R)) (files : List (List ℕ)) (k : ℕ) (read : AreRead remaining old now files k) where
     -- the inlet that comes next is as it was
     pub next_is : (d : Inlet R) → get_or now k d ≡ get_or old k d
@@ -74,7 +68,7 @@ module _ {R : Type 0} (remaining : R → Option (List ℕ)) where
           same_inlet d = is ∙ get_or_default now k x d low ∙ next_is d
 
       -- the read failed
-      pub breaks_after : (count : ℕ) → broken_of y ≡ true → Gives remaining (get_or now k e) y count → BreaksAfter remaining old (set now k y) count
+      breaks_after : (count : ℕ) → broken_of y ≡ true → Gives remaining (get_or now k e) y count → BreaksAfter remaining old (set now k y) count
       breaks_after count broken gives = record {
         at = k;
         unread = x;
