@@ -1,5 +1,5 @@
 -- Marks of .notdef and of the glyphs of codes.
-use Rattle.std.proofs.Common.{◌≡◌, ℕ, ◌+◌, ◌-◌, ◌<◌, ◌≤◌, ◌↔◌, inl, inr, Bool, true, false, ◌||◌, nat_eq, List, length, None, refl, sym, ◌∙◌, subst, arith}
+use Rattle.std.proofs.Common.{◌≡◌, ℕ, ◌+◌, ◌-◌, ◌<◌, ◌≤◌, ◌↔◌, inl, inr, Bool, true, ◌||◌, nat_eq, List, length, None, refl, sym, ◌∙◌, subst, arith}
 use mathlib.Core.Path.{fun_ext}
 use Rattle.std.proofs.lemmas.Bool.{cases_eq, cases_lt, eq-eqb, eqb-true, or_cases, or_left, or_right}
 use Rattle.std.specs.Cmp.{both_ways}
@@ -47,15 +47,6 @@ marked_more old marks new low at le before count is =
 
 pub marked_end : (old marks : List Bool) (low n k : ℕ) → n ≡ k → AreMarked old marks low n → AreMarked old marks low k
 marked_end old marks low n k e h = subst (AreMarked old marks low) e h
-
--- .notdef alone
-pub seeds_start : (m : ℕ → ℕ) (none marks : List Bool) → ((g : ℕ) → has none g ≡ false) → ((h : ℕ) → has marks h ≡ (nat_eq h 0 || has none h)) → AreSeedsTo m 0 marks
-seeds_start m none marks unmarked is =
-    record {
-      zero = is 0;
-      codes = λ c low. absurd (let q : ⊥ = omega arith in q);
-      only = λ g h. elim (or_cases _ _ (sym (is g) ∙ h)) [ inl e ↦ inl (eqb-true g 0 e) | inr e ↦ absurd (let q : ⊥ = (let f = sym (unmarked g) ∙ e in cc) in q) ];
-    }
 
 -- the glyphs of one more run
 pub seeds_more : (m : ℕ → ℕ) (from : ℕ) (run : Run) (old new : List Bool) → IsRun m from run → AreSeedsTo m from old → AreMarked old new run.glyph (run.last - run.first + 1) → AreSeedsTo m (run.last + 1) new
