@@ -7,6 +7,8 @@ pub mod CountLemmas
 pub mod MappingLemmas
 pub mod MapLemmas
 pub mod RunLemmas
+pub mod LaidOutLemmas
+pub mod FewestLemmas
 pub mod RangeLemmas
 pub mod AddingLemmas
 pub mod WantedLemmas

@@ -1,5 +1,5 @@
 -- The map of a subtable, and of the mapping that chose it.
-use Rattle.std.proofs.Common.{◌≡◌, ◌≢◌, ℕ, ◌<◌, ◌≤◌, ◌⊎◌, Bool, false, cond, nat_eq, List, Option, Some, MatchOption, sym, ap, subst, ◌∙◌, arith, inl, inr}
+use Rattle.std.proofs.Common.{◌≡◌, ◌≢◌, ℕ, ◌<◌, ◌≤◌, ◌⊎◌, Bool, false, cond, get_or, nat_eq, List, Option, Some, MatchOption, sym, ap, subst, ◌∙◌, arith, inl, inr}
 use Rattle.std.proofs.lemmas.Bool.Decides.{nat_tests}
 use Rattle.std.specs.Option.{option_map_or}
 use Rattle.sfnt_bytes.specs.Number.{u16_at}
@@ -8,7 +8,7 @@ use Rattle.font_map.specs.Cmap.{chosen_record, subtable_at}
 use Rattle.font_map.specs.Format4.{segment_glyph}
 use Rattle.font_map.specs.Format12.{group_glyph}
 use Rattle.font_map.specs.Mapping.{listed_glyph, mapping_of}
-use Rattle.font_map.specs.Runs.{IsPiece, IsRun, NoRun}
+use Rattle.font_map.specs.Runs.{IsNext, IsPiece, IsRun, NoRun}
 use Rattle.font_map.specs.declared.runs.Run.{Run}
 use Rattle.font_map.proofs.PieceLemmas.{clipped_past}
 
@@ -33,6 +33,11 @@ pub found_by_groups : (s : List ℕ) (n from stop : ℕ) (r : Option Run) → u1
 found_by_groups s n from stop r h k =
     let same : group_glyph s ≡ listed_glyph s = λ i c. listed_groups s c h i in
     subst (λ (f : ℕ → ℕ). IsFound (clipped n f) from stop r) same k
+
+pub next_by_groups : (s : List ℕ) (n from : ℕ) (r : Option Run) → u16_at s 0 ≢ 4 → IsNext (clipped n (group_glyph s)) from r → IsNext (clipped n (listed_glyph s)) from r
+next_by_groups s n from r h k =
+    let same : group_glyph s ≡ listed_glyph s = λ i c. listed_groups s c h i in
+    subst (λ (f : ℕ → ℕ). IsNext (clipped n f) from r) same k
 
 -- the map of the chosen subtable
 pub mapping_of-chosen : (cmap s : List ℕ) (n k : ℕ) → chosen_record cmap ≡ Some k → s ≡ subtable_at cmap k → clipped n (listed_glyph s) ≡ mapping_of cmap n
@@ -78,3 +83,14 @@ run_of_chosen cmap s n k from r v f h e q p =
     let same : segment_glyph s ≡ listed_glyph s = λ i c. listed_segments s c f i in
     subst (λ (w : List ℕ × ℕ). IsFirst (mapping_of w.0 w.1) from r) q
     (subst (λ (g : ℕ → ℕ). IsFirst g from r) (ap (clipped n) same ∙ mapping_of-chosen cmap s n k h e) p)
+
+-- a list with the glyphs of the chosen subtable is the mapping
+pub laid_out_by_segments : (cmap s glyphs : List ℕ) (n k : ℕ) (v : List ℕ × ℕ) → u16_at s 0 ≡ 4 → chosen_record cmap ≡ Some k → s ≡ subtable_at cmap k → (cmap, n) ≡ v → ((c : ℕ) → get_or glyphs c 0 ≡ clipped n (segment_glyph s) c) → (λ c. get_or glyphs c 0) ≡ mapping_of v.0 v.1
+laid_out_by_segments cmap s glyphs n k v f h e q all =
+    let same : segment_glyph s ≡ listed_glyph s = λ i c. listed_segments s c f i in
+    (λ i c. all c i) ∙ ap (clipped n) same ∙ mapping_of-chosen cmap s n k h e ∙ ap (λ (w : List ℕ × ℕ). mapping_of w.0 w.1) q
+
+pub laid_out_by_groups : (cmap s glyphs : List ℕ) (n k : ℕ) (v : List ℕ × ℕ) → u16_at s 0 ≢ 4 → chosen_record cmap ≡ Some k → s ≡ subtable_at cmap k → (cmap, n) ≡ v → ((c : ℕ) → get_or glyphs c 0 ≡ clipped n (group_glyph s) c) → (λ c. get_or glyphs c 0) ≡ mapping_of v.0 v.1
+laid_out_by_groups cmap s glyphs n k v f h e q all =
+    let same : group_glyph s ≡ listed_glyph s = λ i c. listed_groups s c f i in
+    (λ i c. all c i) ∙ ap (clipped n) same ∙ mapping_of-chosen cmap s n k h e ∙ ap (λ (w : List ℕ × ℕ). mapping_of w.0 w.1) q

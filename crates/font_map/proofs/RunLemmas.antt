@@ -57,7 +57,7 @@ same_run m from r s h k =
     let last : r.last ≡ s.last = omega arith in
     λ i. record { first = first i; last = last i; glyph = glyph i }
 
-some_run : (m : ℕ → ℕ) (from : ℕ) (run : Run) → IsRun m from run → NoRun m from → ⊥
+pub some_run : (m : ℕ → ℕ) (from : ℕ) (run : Run) → IsRun m from run → NoRun m from → ⊥
 some_run m from run h none = omega (arith, none run.first h.piece.from_on, first_mapped m from run h, h.piece.mapped)
 
 -- there is one list of runs
@@ -170,11 +170,11 @@ unfolding groups_from
 groups_few m from = omega (arith, groups_among-length m from (0x110000 - from))
 
 -- what groups give a code, by the first of them
-spelled_in : (run : Run) (runs : List Run) (c : ℕ) → run.first ≤ c → c ≤ run.last → spelled (run ∷ runs) c ≡ run.glyph + (c - run.first)
+pub spelled_in : (run : Run) (runs : List Run) (c : ℕ) → run.first ≤ c → c ≤ run.last → spelled (run ∷ runs) c ≡ run.glyph + (c - run.first)
 spelled_in run runs c a b =
     let yes : nat_le run.first c && nat_le c run.last ≡ true = grind (arith, nat_tests) in ap (λ (t : Bool). cond t (run.glyph + (c - run.first)) (spelled runs c)) yes
 
-spelled_out : (run : Run) (runs : List Run) (c : ℕ) → (c < run.first) ⊎ (run.last < c) → spelled (run ∷ runs) c ≡ spelled runs c
+pub spelled_out : (run : Run) (runs : List Run) (c : ℕ) → (c < run.first) ⊎ (run.last < c) → spelled (run ∷ runs) c ≡ spelled runs c
 spelled_out run runs c h =
     let no : nat_le run.first c && nat_le c run.last ≡ false = grind (arith, nat_tests) in ap (λ (t : Bool). cond t (run.glyph + (c - run.first)) (spelled runs c)) no
 
@@ -185,7 +185,7 @@ runs-ascending m from (run ∷ runs) h =
     (h.0.piece.from_on, h.0.piece.order, h.0.piece.mapped, subst (λ (low : ℕ). AreAscending low runs) (omega arith) (runs-ascending m (run.last + 1) runs h.1))
 
 -- ascending groups give the codes below them nothing
-spelled_below : (low : ℕ) (runs : List Run) (c : ℕ) → AreAscending low runs → c < low → spelled runs c ≡ 0
+pub spelled_below : (low : ℕ) (runs : List Run) (c : ℕ) → AreAscending low runs → c < low → spelled runs c ≡ 0
 spelled_below low [] c o h = refl
 spelled_below low (run ∷ runs) c o h =
     spelled_out run runs c (inl (omega (arith, o.0, h))) ∙ spelled_below (suc run.last) runs c o.3 (omega (arith, o.0, o.1, h))

@@ -2,6 +2,7 @@ pub mod CharacterMap
 pub mod Cmap
 pub mod Format4
 pub mod Format12
+pub mod LaidOut
 pub mod Mapping
 pub mod Order
 pub mod Refusals

@@ -1,6 +1,7 @@
 -- Runs, neighbouring codes on neighbouring glyphs, and the groups that spell a map (OpenType 1.9, cmap, Format 12: Segmented coverage).
-use Rattle.std.specs.Prelude.{◌≡◌, ◌≢◌, ℕ, zero, suc, ◌+◌, ◌-◌, ◌<◌, ◌≤◌, nat_le, nat_eq, ◌&&◌, List, [], ◌∷◌, if◌then◌else◌, Option, MatchOption}
-use Rattle.font_map.specs.CharacterMap.{restricted}
+use Rattle.std.specs.Prelude.{◌≡◌, ◌≢◌, ℕ, zero, suc, ◌+◌, ◌-◌, ◌<◌, ◌≤◌, nat_le, nat_eq, ◌&&◌, List, [], ◌∷◌, Bool, if◌then◌else◌, length, Option, MatchOption}
+use Rattle.std.specs.List.{slice_get}
+use Rattle.font_map.specs.CharacterMap.{IsCharacterMap, restricted}
 use Rattle.font_map.specs.declared.runs.Run.{Run}
 
 -- no code from one on is mapped
@@ -82,3 +83,15 @@ pub record CanonicalGroups (m : ℕ → ℕ) : Type 0 where
   pub behind : (from : ℕ) → AreCanonical (restricted (nat_le from) m) (groups_from m from)
   pub runs : (from : ℕ) → AreRuns m from (groups_from m from)
   pub one : (from : ℕ) (runs : List Run) → AreRuns m from runs → runs ≡ groups_from m from
+
+-- no ascending list of groups that spells a map on a set is shorter than the canonical one
+abbrev pub FewestGroups : Type 0
+FewestGroups =
+    (wanted : ℕ → Bool) (m : ℕ → ℕ) (runs : List Run) → IsCharacterMap m → AreAscending 0 runs → ((c : ℕ) → spelled runs c ≡ restricted wanted m c)
+    → length (groups_from (restricted wanted m) 0) ≤ length runs
+
+-- the run from a code on is the first of the canonical groups of the map on the codes from there on, and there is none where these are none
+abbrev pub RunIsFirstGroup : Type 0
+RunIsFirstGroup =
+    (m : ℕ → ℕ) (from : ℕ) (found : Option Run) (groups : List Run) → IsCharacterMap m → MatchOption found (NoRun m from) (IsRun m from)
+    → AreCanonical (restricted (nat_le from) m) groups → found ≡ slice_get groups 0

@@ -5,7 +5,7 @@ ghost use Rattle.std.specs.Prelude.{◌≡◌, ◌+◌, ◌*◌, ◌<◌, ◌≤
 ghost use Rattle.font_map.specs.CharacterMap.{IsUnmapped, clipped};
 ghost use Rattle.font_map.specs.Format12.{Decides, HasGroups, HasOrderedGroups, glyph_along, glyph_of_group, group_count, group_end, group_glyph, group_in, group_nth, groups_of, holds};
 ghost use Rattle.font_map.specs.Order.{IsPlace};
-ghost use Rattle.font_map.specs.Runs.{IsPiece, NoRun};
+ghost use Rattle.font_map.specs.Runs.{IsNext, IsPiece, NoRun};
 
 use crate::runs::Run;
 use sfnt_bytes::be32;
@@ -29,7 +29,7 @@ pub struct ListedGroup {
 
 impl ListedGroup {
     // Past 2^32, too: the sum does not wrap.
-    fn glyph_along(self, code: u32) -> u64
+    pub(crate) fn glyph_along(self, code: u32) -> u64
         requires { self.first ≤ code }
         ensures { result ≡ glyph_along self code }
     {
@@ -62,7 +62,7 @@ fn read_group(s: &[u8], i: usize) -> ListedGroup
 }
 
 #[tactic(auto, using(crate::proofs::GroupLemmas::group_is, crate::proofs::GroupLemmas::groups_step))]
-fn group_at(s: &[u8], i: usize) -> ListedGroup
+pub(crate) fn group_at(s: &[u8], i: usize) -> ListedGroup
     requires room { HasGroups s.now }
     requires there { i < group_count s.now }
     ensures value { result ≡ group_nth (groups_of s.now) i }
@@ -88,24 +88,46 @@ pub(crate) fn has_ordered_groups(s: &[u8]) -> bool
     true
 }
 
-// The first group that ends at the code or above it, by halves.
-fn place_group(s: &[u8], code: u32) -> usize
+// No hint where a group may stand.
+const ANYWHERE: usize = usize::MAX;
+
+// Returns the place of the first group that ends at the code or above it, by halves. Where that is the
+// place that the hint names or the one behind it, two groups are read.
+fn place_group(s: &[u8], hint: usize, code: u32) -> usize
     requires room { HasGroups s.now }
     requires order { HasOrderedGroups s.now }
     ensures { IsPlace (group_end s.now) (group_count s.now) code result }
 {
     let mut low = 0;
     let mut high = count_groups(s);
+    let mut guess = hint;
+    let mut tries = if hint < high { 2u8 } else { 0 };
     while low < high {
-        let middle = low + (high - low) / 2;
+        let middle = middle_of(low, high, guess, tries);
+        tries = tries.saturating_sub(1);
         let group = group_at(s, middle);
         if group.last < code {
             low = middle + 1;
+            guess = low;
         } else {
             high = middle;
+            guess = high.saturating_sub(1);
         }
     }
     low
+}
+
+// Returns the guess, as long as there are tries for it, and else the middle.
+fn middle_of(low: usize, high: usize, guess: usize, tries: u8) -> usize
+    requires { low < high }
+    ensures from { low ≤ result }
+    ensures to { result < high }
+{
+    if tries > 0 && low <= guess && guess < high {
+        guess
+    } else {
+        low + (high - low) / 2
+    }
 }
 
 // The first listed group that has the code, by halves.
@@ -115,7 +137,7 @@ fn halve_groups(s: &[u8], code: u32) -> Option<ListedGroup>
     ensures value { result ≡ find (holds code) (groups_of s.now) }
     ensures begins { IfSome result (λ group. group.first ≤ code) }
 {
-    let i = place_group(s, code);
+    let i = place_group(s, ANYWHERE, code);
     if i >= count_groups(s) {
         return None;
     }
@@ -197,17 +219,17 @@ fn clip_group(group: ListedGroup, from: u32, glyphs: u16) -> Option<Run>
     })
 }
 
-// The group that alone decides the codes from one on up to a stop, cut off there; and the stop. By
-// halves.
-fn halve_reach(s: &[u8], from: u32) -> (Option<ListedGroup>, u32)
+// Returns the group that alone decides the codes from `from` on up to a stop, cut off there; and the
+// stop. It stands at the place `i`, where groups stand in order.
+fn reach_at(s: &[u8], i: usize, from: u32) -> (Option<ListedGroup>, u32)
     requires room { HasGroups s.now }
     requires order { HasOrderedGroups s.now }
+    requires place { IsPlace (group_end s.now) (group_count s.now) from i }
     requires low { from < 0x110000 }
     ensures order { from < result.1 }
     ensures small { result.1 ≤ 0x110000 }
     ensures found { Decides s.now from result.0 result.1 }
 {
-    let i = place_group(s, from);
     if i >= count_groups(s) {
         return (None, 0x110000);
     }
@@ -249,9 +271,49 @@ fn reach(s: &[u8], ordered: bool, from: u32) -> (Option<ListedGroup>, u32)
     ensures found { Decides s.now from result.0 result.1 }
 {
     if ordered {
-        return halve_reach(s, from);
+        return reach_at(s, place_group(s, ANYWHERE, from), from);
     }
     walk_reach(s, from)
+}
+
+// Returns what the group that decides the codes up to a stop maps of them, as a piece of the map.
+fn stretch_by_group(
+    s: &[u8],
+    found: Option<ListedGroup>,
+    stop: u32,
+    glyphs: u16,
+    from: u32,
+) -> Option<Run>
+    requires { Decides s.now from found stop }
+    ensures { MatchOption result
+        (IsUnmapped (clipped glyphs (group_glyph s.now)) from stop)
+        (IsPiece (clipped glyphs (group_glyph s.now)) from) }
+{
+    match found {
+        Some(group) => clip_group(group, from, glyphs),
+        None => None,
+    }
+}
+
+/// Returns the first piece of the map from a code on, where groups stand in order, and the place of the
+/// group that has it. Where that is the place that the hint names or one soon behind it, no group is
+/// searched for.
+pub(crate) fn piece_near(s: &[u8], glyphs: u16, hint: usize, from: u32) -> (Option<Run>, usize)
+    requires room { HasGroups s.now }
+    requires order { HasOrderedGroups s.now }
+    ensures { IsNext (clipped glyphs (group_glyph s.now)) from result.0 }
+{
+    let mut at = from;
+    let mut place = hint;
+    while at < 0x110000 {
+        place = place_group(s, place, at);
+        let (found, stop) = reach_at(s, place, at);
+        if let Some(run) = stretch_by_group(s, found, stop, glyphs, at) {
+            return (Some(run), place);
+        }
+        at = stop;
+    }
+    (None, place)
 }
 
 /// A piece of the map from a code on, or none up to a stop; and the stop.
@@ -269,8 +331,5 @@ pub(crate) fn stretch_of_groups(
     ensures found { MatchOption result.0 (IsUnmapped (clipped glyphs (group_glyph s.now)) from result.1) (IsPiece (clipped glyphs (group_glyph s.now)) from) }
 {
     let (found, stop) = reach(s, ordered, from);
-    match found {
-        Some(group) => (clip_group(group, from, glyphs), stop),
-        None => (None, stop),
-    }
+    (stretch_by_group(s, found, stop, glyphs, from), stop)
 }

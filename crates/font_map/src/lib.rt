@@ -2,10 +2,12 @@
 //! OpenType 1.9, cmap: Character to Glyph Index Mapping Table, formats 4 and 12.
 #![tactic(auto)]
 
+mod chart;
 mod cmap;
 mod format12;
 mod format4;
 mod groups;
+mod laid_out;
 mod laws;
 mod mapping;
 mod ranges;
@@ -15,8 +17,11 @@ mod wanted;
 mod within;
 mod word;
 
+pub use crate::chart::Chart;
 pub use crate::groups::{Group, Groups};
-pub use crate::laws::{canonical_groups, map_laws, one_range_of_word};
+pub use crate::laws::{
+    canonical_groups, fewest_groups, map_laws, one_range_of_word, run_is_first_group,
+};
 pub use crate::mapping::{MapError, Mapping};
 pub use crate::runs::{Pieces, Run, next_run};
 pub use crate::wanted::{Wanted, WantedError};

@@ -1,20 +1,21 @@
 //! The mapping of a `cmap` from code points to glyphs. OpenType 1.9, cmap: Character to Glyph Index
 //! Mapping Table.
-ghost use Rattle.std.specs.Prelude.{◌≡◌, ℕ, ◌+◌, ◌<◌, ◌≤◌, ◌⊎◌, ◌↔◌, IsTrue, None, Some, MatchOption, MatchResult};
+ghost use Rattle.std.specs.Prelude.{◌≡◌, ℕ, OnOk, length, slice_index, ◌+◌, ◌<◌, ◌≤◌, ◌⊎◌, ◌↔◌, IsTrue, None, Some, MatchOption, MatchResult};
 ghost use Rattle.font_map.specs.CharacterMap.{IsCharacterMap, IsUnmapped, clipped, mapped_codes, restricted};
 ghost use Rattle.font_map.specs.Cmap.{chosen_of};
 ghost use Rattle.font_map.specs.Mapping.{IsOrderly, IsWhole, listed_glyph, mapping_of};
 ghost use Rattle.font_map.specs.Refusals.{map_fault};
-ghost use Rattle.font_map.specs.Runs.{IsPiece, IsRun, NoRun};
+ghost use Rattle.font_map.specs.Runs.{IsNext, IsPiece, IsRun, NoRun};
 ghost use Rattle.font_map.specs.Wanted.{member};
 
 use crate::cmap::{HEADER, RECORD, SEGMENTS, choose_record, has_fault, subtable};
 use crate::format4::{has_ordered_segments, segment_glyph, stretch_of_segments, walk_run};
-use crate::format12::{group_glyph, has_ordered_groups, stretch_of_groups};
+use crate::format12::{group_glyph, has_ordered_groups, piece_near, stretch_of_groups};
+use crate::laid_out::{free, lay_groups, lay_segments};
 use crate::runs::{Pieces, Run, clip, mapped_count, next_run};
 use crate::wanted::Wanted;
 use crate::within::Within;
-use sfnt_bytes::be16;
+use sfnt_bytes::{NoMemory, be16};
 use std::alloc::Allocator;
 use std::marker::Model;
 
@@ -82,6 +83,25 @@ fn piece_in(s: &[u8], ordered: bool, glyphs: u16, from: u32) -> Option<Run>
         at = stop;
     }
     None
+}
+
+// Returns the first piece of the map from a code on, and a hint where the next one may be. Where groups
+// stand in order and the hint is good, no group is searched for.
+fn piece_by_hint(
+    s: &[u8],
+    ordered: bool,
+    glyphs: u16,
+    hint: usize,
+    from: u32,
+) -> (Option<Run>, usize)
+    requires whole { IsWhole s.now }
+    requires order { IsTrue ordered → IsOrderly s.now }
+    ensures { IsNext (clipped glyphs (listed_glyph s.now)) from result.0 }
+{
+    if ordered && be16(s, 0) != SEGMENTS {
+        return piece_near(s, glyphs, hint, from);
+    }
+    (piece_in(s, ordered, glyphs, from), hint)
 }
 
 /// The mapping of a `cmap`, for a font of so many glyphs.
@@ -183,6 +203,34 @@ impl<'a> Mapping<'a> {
         next_run(self, from)
     }
 
+    /// Returns the first piece of the map from a code on, and a hint where the next one may be.
+    pub(crate) fn piece_by_hint(&self, hint: usize, from: u32) -> (Option<Run>, usize)
+        ensures { IsNext (mapping_of self.now.0 self.now.1) from result.0 }
+    {
+        piece_by_hint(self.subtable, self.ordered, self.glyphs, hint, from)
+    }
+
+    /// Returns whether the segments or groups stand in order.
+    pub(crate) fn is_ordered(&self) -> bool {
+        self.ordered
+    }
+
+    /// Gives each code its glyph. Errors where memory is refused, which format 12 alone asks for.
+    pub(crate) fn lay_out<A: Allocator>(&self, alloc: A, glyphs: &mut [u16]) -> Result<(), NoMemory>
+        requires codes { length glyphs.old ≡ 0x110000 }
+        requires unmapped { (c : ℕ) → slice_index glyphs.old c ≡ 0 }
+        ensures codes { length glyphs.new ≡ 0x110000 }
+        ensures map { OnOk result (slice_index glyphs.new ≡ mapping_of self.now.0 self.now.1) }
+    {
+        if be16(self.subtable, 0) == SEGMENTS {
+            lay_segments(self.subtable, self.glyphs, glyphs);
+            return Ok(());
+        }
+        let mut skip = free(alloc, 0x110001)?;
+        lay_groups(self.subtable, self.glyphs, glyphs, &mut skip);
+        Ok(())
+    }
+
     /// The same over the mapped codes of a set.
     pub fn wanted_run<A: Allocator>(&self, wanted: &Wanted<A>, from: u32) -> Option<Run>
         ensures { MatchOption result
@@ -190,7 +238,7 @@ impl<'a> Mapping<'a> {
             (IsRun (restricted (member wanted.now) (mapping_of self.now.0 self.now.1)) from) }
     {
         let within = Within {
-            mapping: self,
+            pieces: self,
             wanted,
         };
         next_run(&within, from)

@@ -33,7 +33,7 @@ fn choice_of_subtable(rt: HostRuntime) -> Result<(), Fail> {
         assert_eq!(rt; mapping.glyph(0x41), 5);
         assert_eq!(rt; mapping.glyph(0x42), 0);
         assert_eq!(rt; mapping.mapped_count(), 1);
-        assert!(rt; is_as_plain(&cmap, 6));
+        assert!(rt; is_as_plain(rt.alloc(), &cmap, 6));
     }
     Ok(())
 }
@@ -49,7 +49,7 @@ fn no_candidate(rt: HostRuntime) -> Result<(), Fail> {
         cmap_of(alloc, &[(3, 10, &thirteen), (3, 1, segments)])?,
     ] {
         assert_eq!(rt; Mapping::choose(&cmap, 6)?.chosen(), (3, 1, 4));
-        assert!(rt; is_as_plain(&cmap, 6));
+        assert!(rt; is_as_plain(rt.alloc(), &cmap, 6));
     }
     for cmap in [
         cmap_of(alloc, &[(3, 10, &thirteen)])?,
@@ -62,7 +62,7 @@ fn no_candidate(rt: HostRuntime) -> Result<(), Fail> {
         cmap_of(alloc, &[(3, 1, &[0])])?,
     ] {
         assert_eq!(rt; Mapping::choose(&cmap, 6).err(), Some(MapError::NoMapping));
-        assert!(rt; is_as_plain(&cmap, 6));
+        assert!(rt; is_as_plain(rt.alloc(), &cmap, 6));
     }
     Ok(())
 }
@@ -97,7 +97,7 @@ fn order_of_pairs(rt: HostRuntime) -> Result<(), Fail> {
     put_at(&mut thirteen, 1, &[13]);
     let cmap = cmap_of(alloc, &[(3, 1, &thirteen), (3, 1, &two), (3, 1, &other)])?;
     assert_eq!(rt; Mapping::choose(&cmap, 6)?.glyph(0x41), 2);
-    assert!(rt; is_as_plain(&cmap, 6));
+    assert!(rt; is_as_plain(rt.alloc(), &cmap, 6));
     Ok(())
 }
 
@@ -108,13 +108,13 @@ fn either_format_under_each_pair(rt: HostRuntime) -> Result<(), Fail> {
     let mapping = Mapping::choose(&cmap, 6)?;
     assert_eq!(rt; mapping.chosen(), (3, 10, 4));
     assert_eq!(rt; mapping.glyph(0xC1), 3);
-    assert!(rt; is_as_plain(&cmap, 6));
+    assert!(rt; is_as_plain(rt.alloc(), &cmap, 6));
     let groups = format12(alloc, &[[0x1_F600, 0x1_F601, 4]])?;
     let cmap = cmap_of(alloc, &[(0, 3, &groups)])?;
     let mapping = Mapping::choose(&cmap, 6)?;
     assert_eq!(rt; mapping.chosen(), (0, 3, 12));
     assert_eq!(rt; mapping.glyph(0x1_F601), 5);
-    assert!(rt; is_as_plain(&cmap, 6));
+    assert!(rt; is_as_plain(rt.alloc(), &cmap, 6));
     Ok(())
 }
 
@@ -124,7 +124,7 @@ fn one_field_changed(rt: HostRuntime) -> Result<(), Fail> {
     let mut cmap = base6_cmap();
     cmap[19] = 11;
     assert_eq!(rt; Mapping::choose(&cmap, 6).err(), Some(MapError::BadCmap));
-    assert!(rt; is_as_plain(&cmap, 6));
+    assert!(rt; is_as_plain(rt.alloc(), &cmap, 6));
     Ok(())
 }
 
@@ -143,7 +143,7 @@ fn no_falling_back(rt: HostRuntime) -> Result<(), Fail> {
             cmap_of(alloc, &[(3, 10, malformed)])?,
         ] {
             assert_eq!(rt; Mapping::choose(&cmap, 6).err(), Some(MapError::BadCmap));
-            assert!(rt; is_as_plain(&cmap, 6));
+            assert!(rt; is_as_plain(rt.alloc(), &cmap, 6));
         }
     }
     Ok(())
@@ -180,7 +180,7 @@ fn subtables_cut_off(rt: HostRuntime) -> Result<(), Fail> {
                 Some(stated),
                 "{length} bytes"
             );
-            assert!(rt; is_as_plain(prefix, 6), "{length} bytes");
+            assert!(rt; is_as_plain(rt.alloc(), prefix, 6), "{length} bytes");
         }
     }
     Ok(())
@@ -198,12 +198,12 @@ fn records_cut_off(rt: HostRuntime) -> Result<(), Fail> {
     let mut cmap = cmap_of(alloc, &[(0, 3, &groups), (1, 0, &[])])?;
     put_at(&mut cmap, 3, &[3]);
     assert_eq!(rt; Mapping::choose(&cmap, 6)?.chosen(), (0, 3, 12));
-    assert!(rt; is_as_plain(&cmap, 6));
+    assert!(rt; is_as_plain(rt.alloc(), &cmap, 6));
     // the header says 65,535 records, and only the first is whole
     let mut cmap = cmap_of(alloc, &[(3, 1, &[0, 4, 0])])?;
     put_at(&mut cmap, 2, &[0xFF, 0xFF]);
     assert_eq!(rt; Mapping::choose(&cmap, 6).err(), Some(MapError::BadCmap));
-    assert!(rt; is_as_plain(&cmap, 6));
+    assert!(rt; is_as_plain(rt.alloc(), &cmap, 6));
     // an offset past the end, and one of 2^32 - 1
     for offset in [[0, 0, 0, 41], [0xFF, 0xFF, 0xFF, 0xFF]] {
         let mut cmap = cmap_of(alloc, &[(3, 1, &groups)])?;

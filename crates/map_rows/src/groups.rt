@@ -43,7 +43,7 @@ fn runs_of_mapping(rt: HostRuntime) -> Result<(), Fail> {
         ),
     ] {
         assert!(rt; is_next_run(&cmap, 6, from, Some(run)), "{run:?}");
-        assert!(rt; is_as_plain(&cmap, 6), "{run:?}");
+        assert!(rt; is_as_plain(rt.alloc(), &cmap, 6), "{run:?}");
     }
     Ok(())
 }
@@ -55,7 +55,7 @@ fn no_groups(rt: HostRuntime) -> Result<(), Fail> {
     assert_eq!(rt; mapping.chosen(), (3, 10, 12));
     assert_eq!(rt; mapping.mapped_count(), 0);
     assert_eq!(rt; mapping.next_run(0), None);
-    assert!(rt; is_as_plain(&cmap, 6));
+    assert!(rt; is_as_plain(rt.alloc(), &cmap, 6));
     Ok(())
 }
 
@@ -64,8 +64,8 @@ fn no_groups(rt: HostRuntime) -> Result<(), Fail> {
 fn glyphs_past_2_32(rt: HostRuntime) -> Result<(), Fail> {
     let cmap = cmap12(rt.alloc(), &[[0x41, 0x44, 0xFFFF_FFFF]])?;
     assert_eq!(rt; Mapping::choose(&cmap, 6)?.mapped_count(), 0);
-    assert!(rt; is_as_plain(&cmap, 6));
-    assert!(rt; is_as_plain(&cmap, 65_535));
+    assert!(rt; is_as_plain(rt.alloc(), &cmap, 6));
+    assert!(rt; is_as_plain(rt.alloc(), &cmap, 65_535));
     Ok(())
 }
 
@@ -75,8 +75,8 @@ fn one_group_of_all(rt: HostRuntime) -> Result<(), Fail> {
     let cmap = cmap12(rt.alloc(), &[[0, 0xFFFF_FFFF, 0]])?;
     assert_eq!(rt; Mapping::choose(&cmap, 65_535)?.mapped_count(), 65_534);
     assert!(rt; is_next_run(&cmap, 65_535, 0, Some((1, 65_534, 1))));
-    assert!(rt; is_as_plain(&cmap, 65_535));
-    assert!(rt; is_as_plain(&cmap, 1));
+    assert!(rt; is_as_plain(rt.alloc(), &cmap, 65_535));
+    assert!(rt; is_as_plain(rt.alloc(), &cmap, 1));
     Ok(())
 }
 
@@ -97,7 +97,7 @@ fn overlapping_and_unordered_groups(rt: HostRuntime) -> Result<(), Fail> {
         assert_eq!(rt; mapping.glyph(code), glyph, "{code}");
     }
     assert_eq!(rt; mapping.mapped_count(), 4);
-    assert!(rt; is_as_plain(&cmap, 40));
+    assert!(rt; is_as_plain(rt.alloc(), &cmap, 40));
     for groups in [
         // one within another, listed behind it
         cmap12(alloc, &[[0x41, 0x50, 1], [0x45, 0x47, 30]])?,
@@ -115,7 +115,7 @@ fn overlapping_and_unordered_groups(rt: HostRuntime) -> Result<(), Fail> {
         // the same group twice, and an empty last one
         cmap12(alloc, &[[0x41, 0x41, 1], [0x41, 0x41, 2], [5, 4, 3]])?,
     ] {
-        assert!(rt; is_as_plain(&groups, 40));
+        assert!(rt; is_as_plain(rt.alloc(), &groups, 40));
     }
     Ok(())
 }
@@ -132,7 +132,7 @@ fn groups_by_chance(rt: HostRuntime) -> Result<(), Fail> {
             groups.push([first, last, chance(&mut seed) % 12])?;
         }
         let cmap = cmap12(rt.alloc(), &groups)?;
-        assert!(rt; is_as_plain(&cmap, 9), "{groups:?}");
+        assert!(rt; is_as_plain(rt.alloc(), &cmap, 9), "{groups:?}");
     }
     Ok(())
 }

@@ -1,5 +1,6 @@
 //! The map of a `cmap` read the plain way: a walk over segments or groups for each code.
-use font_map::{MapError, Mapping, Run};
+use font_map::{Chart, MapError, Mapping, Run};
+use std::alloc::Global;
 
 fn u16_at(bytes: &[u8], at: u64) -> Option<u16> {
     let high = bytes.get(usize::try_from(at).ok()?)?;
@@ -142,14 +143,20 @@ fn goes_on(run: Run, code: u32, glyph: u16) -> bool {
     glyph != 0 && u32::from(glyph) == u32::from(run.glyph).wrapping_add(along)
 }
 
-// Whether each code has the plain program's glyph, and the runs are those of the plain program.
-fn has_same_map(mapping: &Mapping<'_>, plain: &Plain<'_>, glyphs: u16) -> bool {
+// Whether the first run from a code on is this one, by the mapping and by its chart.
+fn is_run(mapping: &Mapping<'_>, chart: &Chart<'_>, from: u32, run: Option<Run>) -> bool {
+    mapping.next_run(from) == run && chart.next_run(from) == run
+}
+
+// Whether each code has the plain program's glyph, and the runs are those of the plain program, by the
+// mapping and by its chart.
+fn has_same_map(mapping: &Mapping<'_>, chart: &Chart<'_>, plain: &Plain<'_>, glyphs: u16) -> bool {
     let mut from = 0;
     let mut count = 0u32;
     let mut last: Option<Run> = None;
     for code in 0..0x110000u32 {
         let glyph = plain.glyph(glyphs, code);
-        if mapping.glyph(code) != glyph {
+        if mapping.glyph(code) != glyph || chart.glyph(code) != glyph {
             return false;
         }
         if glyph != 0 {
@@ -168,7 +175,9 @@ fn has_same_map(mapping: &Mapping<'_>, plain: &Plain<'_>, glyphs: u16) -> bool {
             if goes_on(run, code, glyph) {
                 next = Some(Run { last: code, ..run });
             } else {
-                if mapping.next_run(from) != Some(run) || mapping.next_run(run.first) != Some(run) {
+                if !is_run(mapping, chart, from, Some(run))
+                    || !is_run(mapping, chart, run.first, Some(run))
+                {
                     return false;
                 }
                 from = code;
@@ -176,17 +185,21 @@ fn has_same_map(mapping: &Mapping<'_>, plain: &Plain<'_>, glyphs: u16) -> bool {
         }
         last = next;
     }
-    mapping.next_run(from) == last
+    is_run(mapping, chart, from, last)
         && mapping.mapped_count() == count
-        && mapping.glyph(0x110000) == 0
-        && mapping.glyph(u32::MAX) == 0
-        && mapping.next_run(0x110000) == None
-        && mapping.next_run(u32::MAX) == None
+        && chart.mapped_count() == count
+        && is_unmapped_from(mapping, chart, 0x110000)
+        && is_unmapped_from(mapping, chart, u32::MAX)
+}
+
+// Whether no code from one on is mapped, by the mapping and by its chart.
+fn is_unmapped_from(mapping: &Mapping<'_>, chart: &Chart<'_>, code: u32) -> bool {
+    mapping.glyph(code) == 0 && chart.glyph(code) == 0 && is_run(mapping, chart, code, None)
 }
 
 /// Whether a `cmap` is refused as the plain program refuses it, or has the same choice, glyphs, runs
-/// and number of codes.
-pub fn is_as_plain(cmap: &[u8], glyphs: u16) -> bool {
+/// and number of codes, and a chart that has them too.
+pub fn is_as_plain(alloc: Global, cmap: &[u8], glyphs: u16) -> bool {
     let fast = Mapping::choose(cmap, glyphs);
     let Some(plain) = choose(cmap) else {
         return fast.err() == Some(MapError::NoMapping);
@@ -195,9 +208,12 @@ pub fn is_as_plain(cmap: &[u8], glyphs: u16) -> bool {
         return fast.err() == Some(MapError::BadCmap);
     }
     match fast {
-        Ok(mapping) => {
-            mapping.chosen() == plain.chosen && has_same_map(&mapping, &plain, glyphs)
-        }
+        Ok(mapping) => match Chart::of(alloc, &mapping) {
+            Ok(chart) => {
+                mapping.chosen() == plain.chosen && has_same_map(&mapping, &chart, &plain, glyphs)
+            }
+            Err(_) => false,
+        },
         Err(_) => false,
     }
 }

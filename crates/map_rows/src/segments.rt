@@ -27,7 +27,7 @@ fn format4_lookups(rt: HostRuntime) -> Result<(), Fail> {
     assert_eq!(rt; mapping.glyph(0x42), 3, "0xFFFE + 5 modulo 65536");
     assert_eq!(rt; mapping.glyph(0xFFFF), 0, "an entry past the table");
     assert_eq!(rt; mapping.mapped_count(), 1);
-    assert!(rt; is_as_plain(&cmap, 6));
+    assert!(rt; is_as_plain(rt.alloc(), &cmap, 6));
     Ok(())
 }
 
@@ -51,7 +51,7 @@ fn map_of_base6(rt: HostRuntime) -> Result<(), Fail> {
     ] {
         assert_eq!(rt; mapping.glyph(code), glyph, "{code}");
     }
-    assert!(rt; is_as_plain(&cmap, 6));
+    assert!(rt; is_as_plain(rt.alloc(), &cmap, 6));
     Ok(())
 }
 
@@ -92,9 +92,9 @@ fn deltas_that_wrap(rt: HostRuntime) -> Result<(), Fail> {
     assert!(rt; is_next_run(&cmap, 6, 0, Some((0, 0, 5))));
     assert!(rt; is_next_run(&cmap, 6, 1, Some((0xFFFC, 0xFFFF, 1))));
     assert!(rt; is_next_run(&cmap, 6, 0xFFFE, Some((0xFFFE, 0xFFFF, 3))));
-    assert!(rt; is_as_plain(&cmap, 6));
-    assert!(rt; is_as_plain(&cmap, 65_535));
-    assert!(rt; is_as_plain(&cmap, 0));
+    assert!(rt; is_as_plain(rt.alloc(), &cmap, 6));
+    assert!(rt; is_as_plain(rt.alloc(), &cmap, 65_535));
+    assert!(rt; is_as_plain(rt.alloc(), &cmap, 0));
     Ok(())
 }
 
@@ -114,7 +114,7 @@ fn odd_range_offset(rt: HostRuntime) -> Result<(), Fail> {
     // the bytes 0xAA, 0x00, 0x03, 0xBB from 24 on, of which 0x0003 stands at 25
     let cmap = one_entry(rt.alloc(), 3, &[0xAA00, 0x03BB])?;
     assert_eq!(rt; Mapping::choose(&cmap, 6)?.glyph(0x41), 3);
-    assert!(rt; is_as_plain(&cmap, 6));
+    assert!(rt; is_as_plain(rt.alloc(), &cmap, 6));
     Ok(())
 }
 
@@ -133,7 +133,7 @@ fn entry_in_another_subtable(rt: HostRuntime) -> Result<(), Fail> {
     let mapping = Mapping::choose(&cmap, 6)?;
     assert_eq!(rt; mapping.glyph(0x41), 2, "its last two bytes");
     assert_eq!(rt; mapping.glyph(0x42), 0, "past the table");
-    assert!(rt; is_as_plain(&cmap, 6));
+    assert!(rt; is_as_plain(rt.alloc(), &cmap, 6));
     Ok(())
 }
 
@@ -141,10 +141,10 @@ fn entry_in_another_subtable(rt: HostRuntime) -> Result<(), Fail> {
 fn entry_half_past_the_end(rt: HostRuntime) -> Result<(), Fail> {
     let mut cmap = one_entry(rt.alloc(), 2, &[0x0003])?;
     assert_eq!(rt; Mapping::choose(&cmap, 6)?.glyph(0x41), 3);
-    assert!(rt; is_as_plain(&cmap, 6));
+    assert!(rt; is_as_plain(rt.alloc(), &cmap, 6));
     cmap.truncate(37);
     assert_eq!(rt; Mapping::choose(&cmap, 6)?.glyph(0x41), 0, "one byte of it");
-    assert!(rt; is_as_plain(&cmap, 6));
+    assert!(rt; is_as_plain(rt.alloc(), &cmap, 6));
     Ok(())
 }
 
@@ -167,7 +167,7 @@ fn overlapping_segments(rt: HostRuntime) -> Result<(), Fail> {
     ] {
         assert_eq!(rt; mapping.glyph(code), glyph, "{code}");
     }
-    assert!(rt; is_as_plain(&cmap, 40));
+    assert!(rt; is_as_plain(rt.alloc(), &cmap, 40));
     Ok(())
 }
 
@@ -183,7 +183,7 @@ fn unordered_segments(rt: HostRuntime) -> Result<(), Fail> {
     assert_eq!(rt; mapping.glyph(0x41), 0, "the first segment ends above it");
     assert_eq!(rt; mapping.mapped_count(), 17);
     assert!(rt; is_next_run(&cmap, 40, 0, Some((0x50, 0x60, 1))));
-    assert!(rt; is_as_plain(&cmap, 40));
+    assert!(rt; is_as_plain(rt.alloc(), &cmap, 40));
     // a segment that ends below its start hides the code of its end from the one behind it
     let cmap = cmap4(
         alloc,
@@ -193,7 +193,7 @@ fn unordered_segments(rt: HostRuntime) -> Result<(), Fail> {
     let mapping = Mapping::choose(&cmap, 40)?;
     assert_eq!(rt; mapping.glyph(0x41), 0);
     assert_eq!(rt; mapping.glyph(0x42), 2);
-    assert!(rt; is_as_plain(&cmap, 40));
+    assert!(rt; is_as_plain(rt.alloc(), &cmap, 40));
     // two segments that end alike, and an array among segments out of order
     let array = Segment {
         start: 0x70,
@@ -211,7 +211,7 @@ fn unordered_segments(rt: HostRuntime) -> Result<(), Fail> {
         ],
         &[9, 0, 8, 7],
     )?;
-    assert!(rt; is_as_plain(&cmap, 40));
+    assert!(rt; is_as_plain(rt.alloc(), &cmap, 40));
     Ok(())
 }
 
@@ -221,7 +221,7 @@ fn no_segments(rt: HostRuntime) -> Result<(), Fail> {
     let mapping = Mapping::choose(&cmap, 6)?;
     assert_eq!(rt; mapping.mapped_count(), 0);
     assert_eq!(rt; mapping.next_run(0), None);
-    assert!(rt; is_as_plain(&cmap, 6));
+    assert!(rt; is_as_plain(rt.alloc(), &cmap, 6));
     Ok(())
 }
 
@@ -246,7 +246,7 @@ fn segments_by_chance(rt: HostRuntime) -> Result<(), Fail> {
             })?;
         }
         let cmap = cmap4(rt.alloc(), &segments, &array)?;
-        assert!(rt; is_as_plain(&cmap, 9), "turn {turn}");
+        assert!(rt; is_as_plain(rt.alloc(), &cmap, 9), "turn {turn}");
     }
     Ok(())
 }

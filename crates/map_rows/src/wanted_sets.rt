@@ -1,6 +1,6 @@
 //! Wanted sets, and the groups that spell a mapping on one.
 use crate::cmaps::{Segment, base6_cmap, chance, cmap_of, format4, format12};
-use font_map::{Group, Groups, Mapping, Run, Wanted, WantedError, WordError, read_word};
+use font_map::{Chart, Group, Groups, Mapping, Run, Wanted, WantedError, WordError, read_word};
 use refusing::Refusing;
 use sfnt_bytes::NoMemory;
 use std::alloc::{AllocError, Allocator, Global};
@@ -242,7 +242,11 @@ fn runs_of_mapping(rt: HostRuntime) -> Result<(), Fail> {
 const STOP: u32 = 0x200;
 
 // Whether the groups and runs are those that asking each code gives.
-fn are_plain_groups<A: Allocator>(mapping: &Mapping<'_>, wanted: &Wanted<A>) -> bool {
+fn are_plain_groups<A: Allocator>(
+    mapping: &Mapping<'_>,
+    chart: &Chart<'_>,
+    wanted: &Wanted<A>,
+) -> bool {
     let mut groups = Groups::of(mapping, wanted);
     let mut last: Option<Group> = None;
     let mut from = 0;
@@ -261,7 +265,9 @@ fn are_plain_groups<A: Allocator>(mapping: &Mapping<'_>, wanted: &Wanted<A>) -> 
                 });
                 continue;
             }
-            if groups.next() != Some(group) || mapping.wanted_run(wanted, from) != Some(group) {
+            let run = mapping.wanted_run(wanted, from);
+            let charted = chart.wanted_run(wanted, from);
+            if groups.next() != Some(group) || run != Some(group) || charted != run {
                 return false;
             }
             from = code;
@@ -276,6 +282,7 @@ fn are_plain_groups<A: Allocator>(mapping: &Mapping<'_>, wanted: &Wanted<A>) -> 
         }
     }
     mapping.wanted_run(wanted, from) == last
+        && chart.wanted_run(wanted, from) == last
         && groups.next() == last
         && (last == None || groups.next() == None)
 }
@@ -283,6 +290,7 @@ fn are_plain_groups<A: Allocator>(mapping: &Mapping<'_>, wanted: &Wanted<A>) -> 
 // Sets of one code in three, of ranges, of all codes and of none.
 fn are_groups_of_sets(alloc: Global, cmap: &[u8], glyphs: u16) -> Result<bool, Fail> {
     let mapping = Mapping::choose(cmap, glyphs)?;
+    let chart = Chart::of(alloc, &mapping)?;
     let mut scattered = Wanted::new(alloc);
     let mut ranges = Wanted::new(alloc);
     for i in 0..STOP / 3 {
@@ -296,10 +304,10 @@ fn are_groups_of_sets(alloc: Global, cmap: &[u8], glyphs: u16) -> Result<bool, F
     let none = Wanted::new(alloc);
     let all = Wanted::all(alloc)?;
     Ok(
-        are_plain_groups(&mapping, &scattered)
-            && are_plain_groups(&mapping, &ranges)
-            && are_plain_groups(&mapping, &none)
-            && are_plain_groups(&mapping, &all),
+        are_plain_groups(&mapping, &chart, &scattered)
+            && are_plain_groups(&mapping, &chart, &ranges)
+            && are_plain_groups(&mapping, &chart, &none)
+            && are_plain_groups(&mapping, &chart, &all),
     )
 }
 

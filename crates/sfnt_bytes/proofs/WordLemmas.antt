@@ -3,7 +3,7 @@ use Rattle.std.proofs.Common.{◌≡◌, ℕ, ◌+◌, ◌-◌, ◌*◌, ◌%◌
 use Rattle.std.proofs.Math.Nat.{mod-add-mod}
 use Rattle.std.proofs.lemmas.List.Sums.{sum_by-cons}
 use Rattle.sfnt_bytes.specs.Number.{number, u32_at}
-use Rattle.sfnt_bytes.specs.Sums.{words}
+use Rattle.sfnt_bytes.specs.Sums.{SumOfParts, checksum_of, words}
 
 -- the first word, and those of the bytes behind it
 pub sum_words-first : (b : List ℕ) → 4 ≤ length b → sum (words b) ≡ u32_at b 0 + sum (words (drop 4 b))
@@ -46,6 +46,11 @@ sum_words-append (a ∷ b ∷ c ∷ d ∷ rest) ys h =
     let long = sum_by-cons (λ x. x) (number a b c d) (words (rest ++ ys)) in
     let short = sum_by-cons (λ x. x) (number a b c d) (words rest) in
     omega arith
+
+-- and so do their checksums
+pub sum_of_parts : SumOfParts
+unfolding checksum_of
+sum_of_parts front back h = let all = sum_words-append front back h in omega arith
 
 -- a sum of bytes by their places in words, from place r of a word on
 unfoldable pub weighted : ℕ → List ℕ → ℕ

@@ -57,6 +57,10 @@ has_file_sum file at = nat_eq (u32_at file at) (adjustment_of (checksum_of (with
 unfoldable pub has_wrong_file_sum : List ℕ → Bool
 has_wrong_file_sum file = option_map_or (λ head. nat_le 12 head.length && not (has_file_sum file (head.offset + 8))) (table_entry file HEAD) false
 
+-- there is a checksumAdjustment to be judged at a place, and it is not the one of the file
+abbrev pub is_wrong_at : List ℕ → Option ℕ → Bool
+is_wrong_at file place = option_map_or (λ at. not (has_file_sum file at)) place false
+
 -- findings before those of some records, theirs, and one after them
 abbrev pub findings_left : List ℕ → List Finding → List Entry → Option Finding → List Finding
 findings_left file before entries after = before ++ flat_map (entry_findings file) entries ++ present (after ∷ [])

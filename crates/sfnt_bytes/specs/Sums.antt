@@ -1,5 +1,5 @@
 -- Sums of words (OpenType 1.9, Organization of an OpenType Font, Calculating Checksums).
-use Rattle.std.specs.Prelude.{ℕ, ◌+◌, ◌-◌, ◌%◌, ◌^◌, List, [], ◌∷◌, ◌++◌, drop, replicate, sum, take}
+use Rattle.std.specs.Prelude.{◌≡◌, ℕ, ◌+◌, ◌-◌, ◌%◌, ◌^◌, List, [], ◌∷◌, ◌++◌, drop, length, replicate, sum, take}
 use Rattle.sfnt_bytes.specs.Number.{number}
 
 -- the big-endian u32 words of the bytes, the last one filled with zeros
@@ -21,3 +21,7 @@ without_field bytes at = take at bytes ++ (replicate 4 0 ++ drop (at + 4) bytes)
 -- checksumAdjustment, for what a file sums to with that field as 0
 abbrev pub adjustment_of : ℕ → ℕ
 adjustment_of sum = (2 ^ 32 + 0xB1B0AFBA - sum) % 2 ^ 32
+
+-- the checksum of whole words and of what follows them is the sum of both checksums
+abbrev pub SumOfParts : Type 0
+SumOfParts = (front back : List ℕ) → length front % 4 ≡ 0 → checksum_of (front ++ back) ≡ (checksum_of front + checksum_of back) % 2 ^ 32

@@ -1,17 +1,19 @@
 //! What is not as the standard asks. OpenType 1.9, Organization of an OpenType Font, Table
 //! Directory and Calculating Checksums.
-ghost use Rattle.std.specs.Prelude.{◌≡◌, ◌+◌, ◌<◌, ◌≤◌, ◌^◌, IsTrue, false, length};
+ghost use Rattle.std.specs.Prelude.{◌≡◌, ◌+◌, ◌<◌, ◌≤◌, ◌^◌, IfSome, IsTrue, false, length};
 ghost use Rattle.std.specs.Iterator.{YieldsFirst, item_count};
 ghost use Rattle.sfnt_bytes.specs.Directory.{HasRecords, is_within, records_of};
-ghost use Rattle.sfnt_bytes.specs.Findings.{entry_findings, findings_of, has_file_sum, has_search_fields, is_ascending, is_padded, table_sum, has_wrong_file_sum};
+ghost use Rattle.sfnt_bytes.specs.Findings.{entry_findings, findings_of, has_file_sum, has_search_fields, is_ascending, is_padded, is_wrong_at, table_sum, has_wrong_file_sum};
 ghost use Rattle.sfnt_bytes.specs.Lines.{present, when};
 ghost use Rattle.sfnt_bytes.specs.Refusals.{is_outside};
+ghost use Rattle.sfnt_bytes.specs.declared.findings.Finding.TheVariants.{FileSum};
 ghost use Rattle.sfnt_bytes.specs.declared.tag.TheConstants.{HEAD as HEAD_TAG};
 
 use crate::directory::search_fields;
 use crate::number::{be16, be32};
+use crate::prefixes::TableSums;
 use crate::records::{Entry, Records, find_entry, records_in};
-use crate::sums::{adjustment, sum_without, word_sum};
+use crate::sums::{adjustment, sum_without};
 use crate::tag::{HEAD, Tag};
 use std::marker::Model;
 
@@ -74,16 +76,18 @@ fn has_fields(file: &[u8]) -> bool
 
 // Only a whole `checksumAdjustment` is left out of the sum.
 #[tactic(auto, unfolding(crate::specs::Findings::table_sum))]
-fn sum_of_table(file: &[u8], entry: Entry) -> u32
-    requires { IsTrue (is_within file.now entry) }
-    ensures { result ≡ table_sum file.now entry }
+fn sum_of_table(sums: &mut TableSums<'_>, entry: Entry) -> u32
+    requires { IsTrue (is_within sums.old entry) }
+    ensures sum { result ≡ table_sum sums.old entry }
+    ensures file { sums.new ≡ sums.old }
 {
     let start = entry.offset as usize;
-    let bytes = &file[start..start + entry.length as usize];
+    let end = start + entry.length as usize;
+    let sum = sums.sum(start, end);
     if entry.tag == HEAD && entry.length >= 12 {
-        sum_without(bytes, 8)
+        sum_without(sum, &sums.file()[start..end], 8)
     } else {
-        word_sum(bytes)
+        sum
     }
 }
 
@@ -130,9 +134,11 @@ impl Pending {
 }
 
 #[tactic(auto, unfolding(crate::specs::Findings::entry_findings))]
-fn findings_of_entry(file: &[u8], entry: Entry) -> Pending
-    ensures { result ≡ entry_findings file.now entry }
+fn findings_of_entry(sums: &mut TableSums<'_>, entry: Entry) -> Pending
+    ensures findings { result ≡ entry_findings sums.old entry }
+    ensures file { sums.new ≡ sums.old }
 {
+    let file = sums.file();
     let tag = entry.tag;
     if !entry.is_within(file) {
         return Pending {
@@ -141,7 +147,7 @@ fn findings_of_entry(file: &[u8], entry: Entry) -> Pending
             third: None,
         };
     }
-    let sum = sum_of_table(file, entry);
+    let sum = sum_of_table(sums, entry);
     Pending {
         first: found(entry.offset % 4 != 0, Finding::Unaligned(tag)),
         second: found(!has_padding(file, entry), Finding::Padding(tag)),
@@ -150,42 +156,60 @@ fn findings_of_entry(file: &[u8], entry: Entry) -> Pending
 }
 
 #[tactic(auto, unfolding(crate::specs::Findings::has_file_sum))]
-fn has_right_sum(file: &[u8], at: usize) -> bool
-    requires { at + 4 ≤ length file.now }
-    ensures { result ≡ has_file_sum file.now at }
+fn has_right_sum(sums: &TableSums<'_>, at: usize) -> bool
+    requires { at + 4 ≤ length sums.now }
+    ensures { result ≡ has_file_sum sums.now at }
 {
-    be32(file, at) == adjustment(sum_without(file, at))
+    let file = sums.file();
+    be32(file, at) == adjustment(sum_without(sums.file_sum(), file, at))
 }
 
+// What is found of the sum of the file, where its `checksumAdjustment` stands at a place.
+fn finding_of_sum(sums: &TableSums<'_>, place: Option<usize>) -> Option<Finding>
+    requires { IfSome place (λ at. at + 4 ≤ length sums.now) }
+    ensures { result ≡ when (is_wrong_at sums.now place) FileSum }
+{
+    match place {
+        Some(at) => found(!has_right_sum(sums, at), Finding::FileSum),
+        None => None,
+    }
+}
+
+// Where a whole `checksumAdjustment` stands.
 #[tactic(auto, unfolding(crate::specs::Findings::has_wrong_file_sum))]
-fn has_wrong_sum(file: &[u8]) -> bool
+fn adjustment_place(file: &[u8]) -> Option<usize>
     requires room { HasRecords file.now }
     requires head { is_outside file.now HEAD_TAG ≡ false }
-    ensures { result ≡ has_wrong_file_sum file.now }
+    ensures within { IfSome result (λ at. at + 4 ≤ length file.now) }
+    ensures judged { is_wrong_at file.now result ≡ has_wrong_file_sum file.now }
 {
     match find_entry(file, HEAD) {
-        Some(head) => head.length >= 12 && !has_right_sum(file, head.offset as usize + 8),
-        None => false,
+        Some(head) if head.length >= 12 => Some(head.offset as usize + 8),
+        _ => None,
     }
 }
 
 /// The findings of a file, in order.
 #[derive(Drop)]
 pub struct Findings<'a> {
-    file: &'a [u8],
+    sums: TableSums<'a>,
     pending: Pending,
     records: Records<'a>,
-    last: Option<Finding>,
+    adjustment: Option<usize>,
 }
 
 impl<'a> Model for Findings<'a> {
-    ghost use Rattle.std.specs.Prelude.{List};
-    ghost use Rattle.sfnt_bytes.specs.Findings.{findings_left};
+    ghost use Rattle.std.specs.Prelude.{◌+◌, ◌≤◌, IfSome, List, length};
+    ghost use Rattle.sfnt_bytes.specs.Findings.{findings_left, is_wrong_at};
+    ghost use Rattle.sfnt_bytes.specs.Lines.{when};
     ghost use Rattle.sfnt_bytes.specs.declared.findings.Finding.{Finding};
+    ghost use Rattle.sfnt_bytes.specs.declared.findings.Finding.TheVariants.{FileSum};
 
     ghost Value = { List Finding };
 
-    ghost view = { λ f. findings_left f.file.now f.pending f.records f.last };
+    ghost view = { λ f. findings_left f.sums f.pending f.records (when (is_wrong_at f.sums f.adjustment) FileSum) };
+
+    ghost invariant = { λ f. IfSome f.adjustment (λ at. at + 4 ≤ length f.sums) };
 }
 
 impl<'a> Iterator for Findings<'a> {
@@ -201,9 +225,9 @@ impl<'a> Iterator for Findings<'a> {
                 return Some(finding);
             }
             let Some(entry) = self.records.next() else {
-                return self.last.take();
+                return finding_of_sum(&self.sums, self.adjustment.take());
             };
-            self.pending = findings_of_entry(self.file, entry);
+            self.pending = findings_of_entry(&mut self.sums, entry);
         }
     }
 }
@@ -217,13 +241,13 @@ pub(crate) fn findings_in(file: &[u8]) -> Findings<'_>
     ensures count { length result < 2 ^ 18 }
 {
     Findings {
-        file,
+        sums: TableSums::of(file),
         pending: Pending {
             first: found(!has_sorted_records(file), Finding::Unsorted),
             second: found(!has_fields(file), Finding::SearchFields),
             third: None,
         },
         records: records_in(file),
-        last: found(has_wrong_sum(file), Finding::FileSum),
+        adjustment: adjustment_place(file),
     }
 }

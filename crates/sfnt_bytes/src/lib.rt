@@ -5,7 +5,9 @@
 mod base6;
 mod directory;
 mod findings;
+mod laws;
 mod number;
+mod prefixes;
 mod records;
 mod sums;
 mod tag;
@@ -14,6 +16,7 @@ mod text;
 pub use crate::base6::BASE6;
 pub use crate::directory::{DirError, Directory, MAX_FILE, NoMemory, search_fields};
 pub use crate::findings::{Finding, Findings};
+pub use crate::laws::sum_of_parts;
 pub use crate::number::{be16, be32};
 pub use crate::records::{Dropped, Entry, Records};
 pub use crate::sums::word_sum;

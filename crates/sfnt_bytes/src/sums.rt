@@ -33,15 +33,17 @@ pub fn word_sum(b: &[u8]) -> u32
     sum.wrapping_add(last_word(rest))
 }
 
-/// The checksum of `b` with the four bytes at `at` as zeros, wherever in a word they stand.
-pub(crate) fn sum_without(b: &[u8], at: usize) -> u32
-    requires { at + 4 ≤ length b.now }
+/// The checksum of `b`, which is `sum`, with the four bytes at `at` as zeros, wherever in a word they
+/// stand.
+pub(crate) fn sum_without(sum: u32, b: &[u8], at: usize) -> u32
+    requires sum { sum ≡ checksum_of b.now }
+    requires room { at + 4 ≤ length b.now }
     ensures { result ≡ checksum_of (without_field b.now at) }
 {
     let place = at % 4;
     let mut field = [0u8; 8];
     field[place..place + 4].copy_from_slice(&b[at..at + 4]);
-    word_sum(b).wrapping_sub(word_sum(&field))
+    sum.wrapping_sub(word_sum(&field))
 }
 
 /// The `checksumAdjustment` of a file that sums to `sum` with that field as 0.

@@ -1,8 +1,8 @@
 use Rattle.std.proofs.Common.{arith, sym}
 use Rattle.sfnt_bytes.specs.declared.tag.TheConstants.{HEAD}
 use Rattle.sfnt_bytes.proofs.RefusalLemmas.{table_is_within}
-use Rattle.sfnt_bytes.proofs.findings.has_wrong_sum.Goals as goal
+use Rattle.sfnt_bytes.proofs.findings.adjustment_place.Goals as goal
 
-pub has_right_sum-requires : goal.has_right_sum-requires
-has_right_sum-requires c =
+pub returns-in-Some-clause-within : goal.returns-in-Some-clause-within
+returns-in-Some-clause-within c =
     let inside = table_is_within c.args.file.now HEAD c.in-Some.head c.requires.head (sym c.in-Some.ensures) in omega arith

@@ -1,0 +1,5 @@
+use Rattle.font_map.proofs.FewestLemmas.{fewest_groups}
+use Rattle.font_map.proofs.laws.fewest_groups.Goals as goal
+
+pub returns : goal.returns
+returns c = fewest_groups
