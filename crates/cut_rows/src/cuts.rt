@@ -42,7 +42,7 @@ fn small_fonts_as_stated(rt: HostRuntime) -> Result<(), Fail> {
 #[test]
 fn cut_of_nothing(rt: HostRuntime) -> Result<(), Fail> {
     let made = cut_of(rt.alloc(), &BASE6, &[])?;
-    assert_eq!(rt; made.len(), 340);
+    assert_eq!(rt; made.len(), 348);
     assert_eq!(rt; words_of(rt.alloc(), &made)?.as_slice(), NOTHING.as_slice());
     assert!(rt; is_clean(&made));
     Ok(())
@@ -51,7 +51,7 @@ fn cut_of_nothing(rt: HostRuntime) -> Result<(), Fail> {
 #[test]
 fn cut_of_aacute(rt: HostRuntime) -> Result<(), Fail> {
     let made = cut_of(rt.alloc(), &BASE6, &[(0xC1, 0xC1)])?;
-    assert_eq!(rt; made.len(), 404);
+    assert_eq!(rt; made.len(), 412);
     assert_eq!(rt; words_of(rt.alloc(), &made)?.as_slice(), AACUTE.as_slice());
     assert!(rt; is_clean(&made));
     Ok(())
@@ -69,7 +69,7 @@ fn cut_of_space(rt: HostRuntime) -> Result<(), Fail> {
     let made = cut_of(rt.alloc(), &BASE6, &[(0x20, 0x20)])?;
     let loca = [0, 12, 12, 12, 12, 12, 12];
     assert!(rt;
-        is_as_stated(rt.alloc(), &made, 352, &[0x20, 0x20, 4], &loca)?,
+        is_as_stated(rt.alloc(), &made, 360, &[0x20, 0x20, 4], &loca)?,
         "{made:?}"
     );
     Ok(())
@@ -81,7 +81,7 @@ fn cut_of_a_and_b(rt: HostRuntime) -> Result<(), Fail> {
     let groups = [0x41, 0x41, 1, 0x42, 0x42, 5];
     let loca = [0, 12, 28, 28, 28, 28, 40];
     assert!(rt;
-        is_as_stated(rt.alloc(), &made, 392, &groups, &loca)?,
+        is_as_stated(rt.alloc(), &made, 400, &groups, &loca)?,
         "{made:?}"
     );
     Ok(())
@@ -93,7 +93,7 @@ fn composite_of_composite(rt: HostRuntime) -> Result<(), Fail> {
     let made = cut_of(rt.alloc(), &file, &[(0x42, 0x42)])?;
     let loca = [0, 12, 28, 40, 64, 64, 80];
     assert!(rt;
-        is_as_stated(rt.alloc(), &made, 420, &[0x42, 0x42, 5], &loca)?,
+        is_as_stated(rt.alloc(), &made, 428, &[0x42, 0x42, 5], &loca)?,
         "{made:?}"
     );
     Ok(())
@@ -105,7 +105,7 @@ fn glyph_of_itself(rt: HostRuntime) -> Result<(), Fail> {
     let made = cut_of(rt.alloc(), &file, &[(0xC1, 0xC1)])?;
     let loca = [0, 12, 12, 24, 48, 48, 48];
     assert!(rt;
-        is_as_stated(rt.alloc(), &made, 388, &[0xC1, 0xC1, 3], &loca)?,
+        is_as_stated(rt.alloc(), &made, 396, &[0xC1, 0xC1, 3], &loca)?,
         "{made:?}"
     );
     Ok(())
@@ -117,19 +117,19 @@ fn gap_closes_in_join(rt: HostRuntime) -> Result<(), Fail> {
     for (ranges, size, groups, loca) in [
         (
             [(0x61, 0x61), (0x63, 0x63)].as_slice(),
-            416,
+            424,
             [0x61, 0x61, 1, 0x63, 0x63, 3].as_slice(),
             [0, 12, 28, 40, 64, 64, 64],
         ),
         (
             &[(0x62, 0x62)],
-            364,
+            372,
             &[0x62, 0x62, 2],
             [0, 12, 12, 24, 24, 24, 24],
         ),
         (
             &[(0x61, 0x61), (0x63, 0x63), (0x62, 0x62)],
-            404,
+            412,
             &[0x61, 0x63, 1],
             [0, 12, 28, 40, 64, 64, 64],
         ),
@@ -149,14 +149,14 @@ fn empty_against_outline(rt: HostRuntime) -> Result<(), Fail> {
     let made = cut_of(rt.alloc(), &without, &[(0xC1, 0xC1)])?;
     let loca = [0, 12, 28, 28, 52, 52, 52];
     assert!(rt;
-        is_as_stated(rt.alloc(), &made, 392, &[0xC1, 0xC1, 3], &loca)?,
+        is_as_stated(rt.alloc(), &made, 400, &[0xC1, 0xC1, 3], &loca)?,
         "{made:?}"
     );
     let more = fonts::one_more_code(rt.alloc())?;
     let made = cut_of(rt.alloc(), &more, &[(0x43, 0x43)])?;
     let loca = [0, 12, 12, 24, 24, 24, 24];
     assert!(rt;
-        is_as_stated(rt.alloc(), &made, 364, &[0x43, 0x43, 2], &loca)?,
+        is_as_stated(rt.alloc(), &made, 372, &[0x43, 0x43, 2], &loca)?,
         "{made:?}"
     );
     Ok(())
@@ -179,7 +179,7 @@ fn ring_of_two(rt: HostRuntime) -> Result<(), Fail> {
     let made = cut_of(rt.alloc(), &file, &[(0x42, 0x42)])?;
     let loca = [0, 12, 12, 24, 48, 48, 64];
     assert!(rt;
-        is_as_stated(rt.alloc(), &made, 404, &[0x42, 0x42, 5], &loca)?,
+        is_as_stated(rt.alloc(), &made, 412, &[0x42, 0x42, 5], &loca)?,
         "{made:?}"
     );
     Ok(())
@@ -191,17 +191,18 @@ fn overlaps_and_many_records(rt: HostRuntime) -> Result<(), Fail> {
     let made = cut_of(rt.alloc(), &shared, &[])?;
     let loca = [0, 12, 12, 12, 12, 12, 12];
     assert!(rt;
-        is_as_stated(rt.alloc(), &made, 428, &[], &loca)?,
+        is_as_stated(rt.alloc(), &made, 436, &[], &loca)?,
         "{made:?}"
     );
     let made = cut_of(rt.alloc(), &shared, &[(0, 0x10_FFFF)])?;
     let groups = [0x20, 0x20, 4, 0x41, 0x41, 1, 0x42, 0x42, 5, 0xC1, 0xC1, 3];
     let loca = [0, 12, 28, 40, 64, 64, 76];
     assert!(rt;
-        is_as_stated(rt.alloc(), &made, 540, &groups, &loca)?,
+        is_as_stated(rt.alloc(), &made, 548, &groups, &loca)?,
         "{made:?}"
     );
     let many = fonts::many_records(rt.alloc())?;
+    assert_eq!(rt; refusal_of(&many), None);
     let made = cut_of(rt.alloc(), &many, &[(0xC1, 0xC1)])?;
     assert_eq!(rt; words_of(rt.alloc(), &made)?.as_slice(), AACUTE.as_slice());
     Ok(())

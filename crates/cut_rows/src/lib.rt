@@ -17,4 +17,6 @@ mod refused;
 #[cfg(test)]
 mod sending;
 #[cfg(test)]
+mod sources;
+#[cfg(test)]
 mod sums;

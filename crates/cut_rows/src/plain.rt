@@ -82,8 +82,11 @@ fn cmap(alloc: Global, font: &Font<'_>, codes: &[u32]) -> Result<Vec<u8>, Fail> 
     let groups = groups(alloc, font, codes)?;
     let count = u32::try_from(groups.len()).map_err(|_| "too many groups")?;
     let mut cmap = Vec::new(alloc);
-    put_u16(&mut cmap, &[0, 1, 3, 10])?; // version, numTables, platformID, encodingID
-    put_u32(&mut cmap, &[12])?; // offset
+    put_u16(&mut cmap, &[0, 2])?; // version, numTables
+    for (platform, encoding) in [(0, 4), (3, 10)] {
+        put_u16(&mut cmap, &[platform, encoding])?; // platformID, encodingID
+        put_u32(&mut cmap, &[20])?; // offset
+    }
     put_u16(&mut cmap, &[12, 0])?; // format, reserved
     let length = count.wrapping_mul(12).wrapping_add(16);
     put_u32(&mut cmap, &[length, 0, count])?; // length, language, numGroups
@@ -105,6 +108,9 @@ fn outlines(alloc: Global, font: &Font<'_>, codes: &[u32]) -> Result<(Vec<u8>, V
         }
         let offset = u32::try_from(glyf.len()).map_err(|_| "too long")?;
         put_u32(&mut loca, &[offset])?;
+    }
+    if glyf.is_empty() {
+        put_u32(&mut glyf, &[0])?;
     }
     Ok((glyf, loca))
 }

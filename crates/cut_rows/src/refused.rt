@@ -91,7 +91,7 @@ fn outlets_after_a_refusal(rt: HostRuntime) -> Result<(), Fail> {
     assert_eq!(rt; answer, Err(CutIntoError::NoMemory));
     assert!(rt; outlet.is_fresh());
     let answer = cut_into(&memory, &font, &wanted, &mut outlet);
-    assert_eq!(rt; answer, Ok(404));
+    assert_eq!(rt; answer, Ok(412));
     let aacute = bytes_of(rt.alloc(), &AACUTE)?;
     assert_eq!(rt; outlet.into_inner().as_slice(), aacute.as_slice());
     Ok(())

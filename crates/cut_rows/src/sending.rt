@@ -9,7 +9,7 @@ use worked_fonts::cuts::wanted_of;
 use worked_fonts::fonts::wide;
 use worked_fonts::vectors::AACUTE;
 
-const SIZE: u64 = 404;
+const SIZE: u64 = 412;
 
 type Sent = (Result<u64, CutIntoError>, Outlet<Narrow>);
 
@@ -40,17 +40,17 @@ fn sends_the_cut(rt: HostRuntime) -> Result<(), Fail> {
 #[test]
 fn short_writer(rt: HostRuntime) -> Result<(), Fail> {
     let aacute = bytes_of(rt.alloc(), &AACUTE)?;
-    for room in 0..406usize {
+    for room in 0..414usize {
         let (answer, outlet) = send_aacute(rt.alloc(), 4096, Failure::Full(room))?;
         let written = (room as u64).min(SIZE);
-        let stated = if room < 404 {
+        let stated = if room < 412 {
             Err(CutIntoError::WriteFault(written))
         } else {
             Ok(SIZE)
         };
         assert_eq!(rt; answer, stated, "room for {room}");
         assert_eq!(rt; outlet.written(), written, "room for {room}");
-        assert_eq!(rt; outlet.is_broken(), room < 404, "room for {room}");
+        assert_eq!(rt; outlet.is_broken(), room < 412, "room for {room}");
         let writer = outlet.into_inner();
         assert_eq!(rt;
             Some(writer.held()),
@@ -77,7 +77,7 @@ fn one_byte_writer(rt: HostRuntime) -> Result<(), Fail> {
 #[test]
 fn failing_writes_of_one_byte(rt: HostRuntime) -> Result<(), Fail> {
     let aacute = bytes_of(rt.alloc(), &AACUTE)?;
-    for k in 1..405u64 {
+    for k in 1..413u64 {
         for failure in [Failure::AtWrite(k), Failure::TakesNoneAt(k)] {
             let (answer, outlet) = send_aacute(rt.alloc(), 1, failure)?;
             let written = k - 1;
@@ -101,7 +101,7 @@ fn failing_writes_of_one_byte(rt: HostRuntime) -> Result<(), Fail> {
 fn breaks_without_failure(rt: HostRuntime) -> Result<(), Fail> {
     let aacute = bytes_of(rt.alloc(), &AACUTE)?;
     for piece in [1, 3, 7, 100, 4096] {
-        for k in 1..406u64 {
+        for k in 1..414u64 {
             for failure in [Failure::AtWrite(k), Failure::TakesNoneAt(k)] {
                 let (answer, outlet) = send_aacute(rt.alloc(), piece, failure)?;
                 let (written, is_broken) = (outlet.written(), outlet.is_broken());
@@ -116,7 +116,7 @@ fn breaks_without_failure(rt: HostRuntime) -> Result<(), Fail> {
                 };
                 assert_eq!(rt; answer, stated, "{piece}, {failure:?}");
                 assert!(rt; aacute.starts_with(held), "{piece}, {failure:?}");
-                assert_eq!(rt; is_broken, held.len() < 404, "{piece}, {failure:?}");
+                assert_eq!(rt; is_broken, held.len() < 412, "{piece}, {failure:?}");
             }
         }
         // the first write is one

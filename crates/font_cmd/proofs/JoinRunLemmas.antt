@@ -1,12 +1,15 @@
 -- How a join that is refused leaves things, and what refuses that of cuts of one font.
-use Rattle.std.proofs.Common.{◌≡◌, ◌∙◌, ℕ, Bool, List, Option, ap, length, refl, sym}
-use Rattle.font_cut.specs.InTurn.{IsAllRefusal, IsForSizeOf}
+use Rattle.std.proofs.Common.{rules, ◌≡◌, ◌∙◌, ℕ, Bool, List, [], Option, ap, length, refl, sym}
+use Rattle.font_cut.specs.InTurn.{IsAllRefusal, IsForSizeInto, IsForSizeOf}
+use Rattle.font_cut.specs.Outlet as outlets
+use Rattle.font_cut.specs.declared.join_error.JoinAllIntoError.{JoinAllIntoError}
+use Rattle.font_cut.specs.declared.join_error.JoinAllIntoError.TheVariants.{NotJoined, WriteFault}
 use Rattle.font_cut.specs.declared.join_error.JoinAllError.{JoinAllError}
 use Rattle.font_cut.specs.declared.join_error.JoinAllError.TheVariants.{At, NothingToJoin}
 use Rattle.font_cut.specs.declared.join_error.JoinError.TheVariants.{DifferentGlyph, DifferentMapping, DifferentTable, Font, NoMemory, NotACut, TooLarge}
 use Rattle.font_cut.specs.declared.outlet.Outlet.{Outlet}
 use Rattle.font_cmd.specs.Join.{AreGot, AreSpent, JoinStops, OnlySize}
-use Rattle.font_cmd.specs.Run.{of_join_error}
+use Rattle.font_cmd.specs.Run.{of_join_error, of_join_into_error}
 use Rattle.font_cmd.specs.declared.inlet.Inlet.{Inlet}
 use Rattle.font_cmd.proofs.ReadEachLemmas.{all_read_to}
 
@@ -30,3 +33,11 @@ join_stopped remaining contents old new o files same spent got (At step (NotACut
 join_stopped remaining contents old new o files same spent got (At step (DifferentTable tag)) r = (spent, refl, refl, (files, got, r))
 join_stopped remaining contents old new o files same spent got (At step (DifferentMapping code)) r = (spent, refl, refl, (files, got, r))
 join_stopped remaining contents old new o files same spent got (At step (DifferentGlyph g)) r = (spent, refl, refl, (files, got, r))
+
+pub only_size_into : (F : List ℕ) (A : ℕ → ℕ → Bool) (files : List (List ℕ)) (count : ℕ) → length files ≡ count → (error : JoinAllIntoError) → IsForSizeInto F A files error → OnlySize F A count (of_join_into_error error)
+only_size_into F A files count long (NotJoined error) is = only_size_of F A files count long error is
+only_size_into F A files count long (WriteFault written) is = tt
+
+-- what went out goes on with nothing
+pub sends_end : {W : Type 0} (contents : W → Option (List ℕ)) (o m p : Outlet W) (z : List ℕ) → outlets.Sends contents o m z → outlets.Sends contents m p [] → outlets.Sends contents o p z
+sends_end contents o m p z sent flushed = search rules

@@ -1,10 +1,12 @@
 -- What a run is given, and how it leaves its inlet and its outlet.
-use Rattle.std.specs.Prelude.{◌≡◌, ℕ, ◌+◌, Bool, false, true, List, None, Option, IfSome, Some, take}
+use Rattle.std.specs.Prelude.{◌≡◌, ℕ, ◌+◌, ◌≤◌, Bool, false, true, length, List, None, Option, IfSome, Some, take}
 use Rattle.font_cut.specs.Cut.{IsTooLarge, cut_of}
 use Rattle.font_cut.specs.Fonts.{MAX_FILE, error_number, font_fault, no_memory_number}
 use Rattle.font_cut.specs.declared.cuts.CutIntoError.{CutIntoError}
 use Rattle.font_cut.specs.declared.cuts.CutIntoError.TheVariants as cut_errors
 use Rattle.font_cut.specs.JoinText.{join_all_error_number}
+use Rattle.font_cut.specs.declared.join_error.JoinAllIntoError.{JoinAllIntoError}
+use Rattle.font_cut.specs.declared.join_error.JoinAllIntoError.TheVariants as join_into_errors
 use Rattle.font_cut.specs.declared.join_error.JoinAllError.{JoinAllError}
 use Rattle.font_cut.specs.declared.join_error.JoinAllError.TheVariants.{At}
 use Rattle.font_cut.specs.declared.join_error.JoinError.TheVariants as join_errors
@@ -21,20 +23,32 @@ use Rattle.font_cut.specs.Outlet as outlets
 abbrev pub got : {R : Type 0} → (R → Option (List ℕ)) → Inlet R → (List ℕ → Type 0) → Type 0
 got remaining inlet P = IfSome (remaining (inlets.reader_of inlet)) (λ bytes. P (take (MAX_FILE + 1) bytes))
 
--- how a run that is not done leaves its inlet, from i to j, and its outlet, from o to p; `text` is what it sends of a file, and `refuses` says when it refuses one
-abbrev pub RunStops : {R W : Type 0} (remaining : R → Option (List ℕ)) (contents : W → Option (List ℕ)) (text : List ℕ → List ℕ) (refuses : RunError → Type 0) (i j : Inlet R) (o p : Outlet W) → RunError → Type 0
+-- how a run that is not done leaves its inlet, from i to j, and its outlet, from o to p; `serves` says of which files it sends something, `text` what it sends of them, and `refuses` when it refuses a file
+abbrev pub RunStops : {R W : Type 0} (remaining : R → Option (List ℕ)) (contents : W → Option (List ℕ)) (serves : List ℕ → Type 0) (text : List ℕ → List ℕ) (refuses : RunError → Type 0) (i j : Inlet R) (o p : Outlet W) → RunError → Type 0
 -- the inlet is broken after so many bytes, and nothing was sent
-RunStops remaining contents text refuses i j o p (Read count) = (inlets.broken_of j ≡ true) × inlets.Gives remaining i j count × (p ≡ o)
+RunStops remaining contents serves text refuses i j o p (Read count) = (inlets.broken_of j ≡ true) × inlets.Gives remaining i j count × (p ≡ o)
 -- nothing was sent
-RunStops remaining contents text refuses i j o p Memory = (inlets.broken_of j ≡ false) × (p ≡ o)
+RunStops remaining contents serves text refuses i j o p Memory = (inlets.broken_of j ≡ false) × (p ≡ o)
 -- the file is refused, and nothing was sent
-RunStops remaining contents text refuses i j o p (Font error) = (inlets.broken_of j ≡ false) × (p ≡ o) × refuses (Font error)
-RunStops remaining contents text refuses i j o p (TooLarge size) = (inlets.broken_of j ≡ false) × (p ≡ o) × refuses (TooLarge size)
-RunStops remaining contents text refuses i j o p (Join error) = (inlets.broken_of j ≡ false) × (p ≡ o) × refuses (Join error)
--- the outlet is broken, and so many bytes of the text went out
-RunStops remaining contents text refuses i j o p (Write count) =
+RunStops remaining contents serves text refuses i j o p (Font error) = (inlets.broken_of j ≡ false) × (p ≡ o) × refuses (Font error)
+RunStops remaining contents serves text refuses i j o p (TooLarge size) = (inlets.broken_of j ≡ false) × (p ≡ o) × refuses (TooLarge size)
+RunStops remaining contents serves text refuses i j o p (Join error) = (inlets.broken_of j ≡ false) × (p ≡ o) × refuses (Join error)
+-- the file is one that is served, the outlet is broken, and so many bytes of the text went out
+RunStops remaining contents serves text refuses i j o p (Write count) =
     (inlets.broken_of j ≡ false) × (outlets.broken_of p ≡ true) × (outlets.written_of p ≡ count)
-    × got remaining i (λ file. outlets.Sends contents o p (take count (text file)))
+    × got remaining i (λ file. serves file × outlets.Sends contents o p (take count (text file)))
+
+-- each file is served
+abbrev pub AnyFile : List ℕ → Type 0
+AnyFile file = Unit {0}
+
+-- a file is accepted
+abbrev pub IsAccepted : List ℕ → Type 0
+IsAccepted file = font_fault file ≡ None
+
+-- a file is accepted, and its cut for the wanted codes is not too large
+abbrev pub HasCut : (ℕ → Bool) → List ℕ → Type 0
+HasCut wanted file = (font_fault file ≡ None) × (length (cut_of file wanted) ≤ MAX_FILE)
 
 -- no file is refused
 abbrev pub RefusesNone : RunError → Type 0
@@ -73,6 +87,11 @@ of_cut_error (cut_errors.WriteFault count) = Write count
 abbrev pub of_join_error : JoinAllError → RunError
 of_join_error (At step join_errors.NoMemory) = Memory
 of_join_error error = Join error
+
+-- the error of a run whose join was not sent
+abbrev pub of_join_into_error : JoinAllIntoError → RunError
+of_join_into_error (join_into_errors.NotJoined error) = of_join_error error
+of_join_into_error (join_into_errors.WriteFault count) = Write count
 
 -- the number of a run's error
 abbrev pub run_error_number : RunError → ℕ

@@ -2,7 +2,7 @@
 use Rattle.std.specs.Prelude.{ℕ, Bool, if◌then◌else◌, List, [], ◌∷◌, ◌++◌, codes, decimal, length, Option}
 use Rattle.std.specs.List.{flat_map, range_with_len}
 use Rattle.std.specs.Option.{option_copied, option_map_or}
-use Rattle.font_cut.specs.Fonts.{Entry, LocaForm, Long, Short, Tag, chosen_of, cmap_of, dropped_of, glyph_count_of, is_cut, kept_tag, loca_form_of, mapped_codes, mapping_of, metric_count_of, our_format, table_of, tag_text, units_per_em_of}
+use Rattle.font_cut.specs.Fonts.{Entry, LocaForm, Long, Short, Tag, chosen_of, cmap_of, dropped_of, glyph_count_of, is_current, kept_tag, loca_form_of, mapped_codes, mapping_of, metric_count_of, our_format, table_of, tag_text, units_per_em_of}
 use Rattle.font_cmd.specs.Check.{line}
 use Rattle.font_cmd.specs.declared.show.KeptLine.{KeptLine}
 
@@ -47,18 +47,18 @@ numbers_text file =
 abbrev pub chosen_text : ℕ × ℕ × ℕ → List ℕ
 chosen_text chosen = line (codes "mapping " ++ decimal chosen.0 ++ 47 ∷ decimal chosen.1 ++ codes " format " ++ decimal chosen.2)
 
--- the lines of the mapping of a `cmap` to so many glyphs
+-- the lines of the mapping of a `cmap`, which maps so many codes
 abbrev pub mapped_text : List ℕ → ℕ → List ℕ
-mapped_text cmap glyphs = chosen_text (chosen_of cmap) ++ line (codes "mapped " ++ decimal (mapped_codes (mapping_of cmap glyphs)))
+mapped_text cmap count = chosen_text (chosen_of cmap) ++ line (codes "mapped " ++ decimal count)
 
 -- whether the font is a cut
 abbrev pub cut_text : Bool → List ℕ
 cut_text is_one = line (codes "cut " ++ (if is_one then codes "yes" else codes "no"))
 
--- all lines of a font, the last of them saying whether it is a cut
-unfoldable pub font_text : List ℕ → Bool → List ℕ
-font_text file is_one = numbers_text file ++ mapped_text (cmap_of file) (glyph_count_of file) ++ kept_text file ++ dropped_text file ++ cut_text is_one
+-- all lines of a font that maps so many codes, the last line saying whether it is a cut
+unfoldable pub font_text : List ℕ → ℕ → Bool → List ℕ
+font_text file count is_one = numbers_text file ++ mapped_text (cmap_of file) count ++ kept_text file ++ dropped_text file ++ cut_text is_one
 
 -- all that `show` prints of a font that is accepted
 unfoldable pub show_text : List ℕ → List ℕ
-show_text file = font_text file (is_cut our_format file)
+show_text file = font_text file (mapped_codes (mapping_of (cmap_of file) (glyph_count_of file))) (is_current our_format file)

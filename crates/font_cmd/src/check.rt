@@ -5,7 +5,7 @@ ghost use Rattle.font_cut.specs.Fonts.{findings_of, font_fault};
 ghost use Rattle.font_cmd.specs.Check.{check_text, finding_line, read_findings, report_text, shown_findings};
 ghost use Rattle.font_cmd.specs.Inlet.{broken_of as inlet_broken_of, fresh_of as inlet_fresh_of};
 ghost use Rattle.font_cut.specs.Outlet.{Sends, broken_of, fresh_of};
-ghost use Rattle.font_cmd.specs.Run.{RefusesNone, RunStops, got};
+ghost use Rattle.font_cmd.specs.Run.{AnyFile, RefusesNone, RunStops, got};
 
 use crate::inlet::Inlet;
 use crate::run::{RunError, send};
@@ -107,7 +107,7 @@ pub fn run_check<R: Read, W: Write, A: Allocator + Copy>(
 
     // A file is never refused: that is what is sent of it.
     ensures error { IfErr result
-        (RunStops R.remaining W.contents check_text RefusesNone inlet.old inlet.new outlet.old outlet.new) }
+        (RunStops R.remaining W.contents AnyFile check_text RefusesNone inlet.old inlet.new outlet.old outlet.new) }
 {
     let file = inlet.read_all(alloc)?;
     let report = Report::of(alloc, &file)?;

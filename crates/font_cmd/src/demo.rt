@@ -21,6 +21,14 @@ fn described(alloc: Global, directory: &Directory<'_>) -> Result<String, AllocEr
     Ok(text)
 }
 
+// The outlets of `demo` hold what they take in memory, so where one cannot be written memory was refused.
+fn in_memory(error: RunError) -> RunError {
+    match error {
+        RunError::Write(_) => RunError::Memory,
+        error => error,
+    }
+}
+
 // Adds the line of the cut for the codes of some words, and answers the cut.
 fn add_cut(alloc: Global, text: &mut String, words: &[&str]) -> Result<Vec<u8>, RunError> {
     // The words name ranges, so only memory can be wanting.
@@ -29,7 +37,7 @@ fn add_cut(alloc: Global, text: &mut String, words: &[&str]) -> Result<Vec<u8>, 
     };
     let mut outlet = Outlet::new(Vec::new(alloc));
     let mut inlet = Inlet::new(BASE6.as_slice());
-    let size = run_subset(alloc, &mut inlet, &wanted, &mut outlet)?;
+    let size = run_subset(alloc, &mut inlet, &wanted, &mut outlet).map_err(in_memory)?;
     let name = words.first().copied().unwrap_or("none");
     write!(text, "cut {name} {size}\n")?;
     Ok(outlet.into_inner())
@@ -38,7 +46,8 @@ fn add_cut(alloc: Global, text: &mut String, words: &[&str]) -> Result<Vec<u8>, 
 // Adds the line of the join of two cuts.
 fn add_join(alloc: Global, text: &mut String, x: &[u8], y: &[u8]) -> Result<(), RunError> {
     let mut inlets = [Inlet::new(x), Inlet::new(y)];
-    let size = run_join(alloc, &mut inlets, &mut Outlet::new(Vec::new(alloc)))?;
+    let mut outlet = Outlet::new(Vec::new(alloc));
+    let size = run_join(alloc, &mut inlets, &mut outlet).map_err(in_memory)?;
     write!(text, "join {size}\n")?;
     Ok(())
 }

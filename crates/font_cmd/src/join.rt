@@ -6,8 +6,8 @@ ghost use Rattle.font_cut.specs.Outlet.{Sends, broken_of, fresh_of};
 ghost use Rattle.font_cmd.specs.Join.{AreFresh, AreGot, AreSpent, GotCuts, JoinStops, OnlySize, ReadStops, SendsJoin};
 
 use crate::inlet::Inlet;
-use crate::run::{RunError, send};
-use font_cut::{Outlet, join_all};
+use crate::run::RunError;
+use font_cut::{Outlet, join_all_into};
 use std::alloc::Allocator;
 use std::io::{Read, Write};
 
@@ -54,7 +54,7 @@ pub fn run_join<R: Read, W: Write, A: Allocator + Copy>(
         (JoinStops R.remaining W.contents inlets.old inlets.new outlet.old outlet.new) }
 {
     let files = read_each(alloc, inlets)?;
-    let joined = join_all(alloc, &files)?;
-    send(outlet, &joined)?;
-    Ok(joined.len() as u64)
+    let size = join_all_into(alloc, &files, outlet)?;
+    outlet.finish()?;
+    Ok(size)
 }

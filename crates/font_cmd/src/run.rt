@@ -1,11 +1,14 @@
 //! What the runs share: their error, and how they send what they have made.
 ghost use Rattle.std.specs.Prelude.{◌≡◌, false, true, take, IfErr, OnErr, OnOk};
 ghost use Rattle.font_cut.specs.Outlet.{Sends, broken_of, fresh_of, written_of};
-ghost use Rattle.font_cmd.specs.Run.{of_cut_error, of_join_error, of_read_error, run_error_number};
+ghost use Rattle.font_cmd.specs.Run.{of_cut_error, of_join_error, of_join_into_error, of_read_error, run_error_number};
 ghost use Rattle.font_cmd.specs.declared.run.RunError.TheVariants.{Font, Memory, Write};
 
 use crate::inlet::ReadError;
-use font_cut::{CutIntoError, FontError, JoinAllError, JoinError, NoMemory, Outlet, WriteFault};
+use font_cut::{
+    CutIntoError, FontError, JoinAllError, JoinAllIntoError, JoinError, NoMemory, Outlet,
+    WriteFault,
+};
 use std::alloc::AllocError;
 use std::io;
 use thiserror::Error;
@@ -115,6 +118,17 @@ impl From<JoinAllError> for RunError {
                 error: JoinError::NoMemory,
             } => RunError::Memory,
             other => RunError::Join(other),
+        }
+    }
+}
+
+impl From<JoinAllIntoError> for RunError {
+    ghost from_gives = { λ held error. error ≡ of_join_into_error held };
+
+    fn from(error: JoinAllIntoError) -> RunError {
+        match error {
+            JoinAllIntoError::NotJoined(error) => RunError::from(error),
+            JoinAllIntoError::WriteFault(count) => RunError::Write(count),
         }
     }
 }

@@ -1,14 +1,16 @@
 //! `show`: what a person asks of a font, and what a cut of it keeps and drops.
-ghost use Rattle.std.specs.Prelude.{◌≡◌, ◌<◌, None, Some, IfErr, OnOk, false, true};
-ghost use Rattle.font_cut.specs.Fonts.{font_fault};
+ghost use Rattle.std.specs.Prelude.{◌≡◌, ◌<◌, None, Some, IfErr, IfOk, OnOk, false, true};
+ghost use Rattle.font_cut.specs.Fonts.{cmap_of, font_fault, glyph_count_of, mapped_codes, mapping_of};
 ghost use Rattle.font_cmd.specs.Inlet.{broken_of as inlet_broken_of, fresh_of as inlet_fresh_of};
 ghost use Rattle.font_cut.specs.Outlet.{Sends, broken_of, fresh_of};
-ghost use Rattle.font_cmd.specs.Run.{RefusesFont, RunStops, got};
+ghost use Rattle.font_cmd.specs.Run.{IsAccepted, RefusesFont, RunStops, got};
 ghost use Rattle.font_cmd.specs.Show.{cut_text, dropped_line, dropped_text, font_text, kept_line, kept_table_line, kept_text, mapped_text, numbers_text, show_text};
 
 use crate::inlet::Inlet;
 use crate::run::{RunError, send};
-use font_cut::{Directory, Entry, Font, KEPT, LocaForm, Mapping, Outlet, Tables, Tag, is_cut};
+use font_cut::{
+    Chart, Directory, Entry, Font, KEPT, LocaForm, Mapping, NoMemory, Outlet, Tables, Tag, is_cut,
+};
 use std::alloc::Allocator;
 use std::fmt;
 use std::io::{Read, Write};
@@ -114,16 +116,19 @@ impl<'a> fmt::Display for Numbers<'a> {
     }
 }
 
-// The lines of the mapping.
+// The lines of the mapping, of which it is known how many codes it maps.
 #[derive(Clone, Copy)]
-struct Mapped<'a>(&'a Mapping<'a>);
+struct Mapped<'a> {
+    mapping: &'a Mapping<'a>,
+    count: u32,
+}
 
 impl<'a> fmt::Display for Mapped<'a> {
-    ghost output = { λ mapped. Some (mapped_text mapped.0.now.0 mapped.0.now.1) };
+    ghost output = { λ mapped. Some (mapped_text mapped.mapping.now.0 mapped.count) };
 
     fn fmt<W: fmt::Write>(&self, f: &mut fmt::Formatter<W>) -> fmt::Result {
-        let (platform, encoding, format) = self.0.chosen();
-        let mapped = self.0.mapped_count();
+        let (platform, encoding, format) = self.mapping.chosen();
+        let mapped = self.count;
         write!(
             f,
             "mapping {platform}/{encoding} format {format}\nmapped {mapped}\n"
@@ -147,20 +152,33 @@ impl fmt::Display for CutLine {
     }
 }
 
-// The lines of a font, of which it is known whether it is a cut.
+// Counts the codes that a font maps, by a chart, so that no order of its subtable is slow.
+fn count_mapped<A: Allocator + Copy>(alloc: A, font: &Font<'_>) -> Result<u32, NoMemory>
+    ensures { IfOk result (λ count. count ≡ mapped_codes (mapping_of (cmap_of font.now) (glyph_count_of font.now))) }
+{
+    let chart = Chart::of(alloc, font.mapping())?;
+    Ok(chart.mapped_count())
+}
+
+// The lines of a font, of which it is known how many codes it maps and whether it is a cut.
 #[derive(Clone, Copy)]
 struct Shown<'a> {
     font: &'a Font<'a>,
+    mapped: u32,
     is_cut: bool,
 }
 
 impl<'a> fmt::Display for Shown<'a> {
-    ghost output = { λ shown. Some (font_text shown.font.now shown.is_cut) };
+    ghost output = { λ shown. Some (font_text shown.font.now shown.mapped shown.is_cut) };
 
     #[tactic(auto, unfolding(crate::specs::Show::font_text))]
     fn fmt<W: fmt::Write>(&self, f: &mut fmt::Formatter<W>) -> fmt::Result {
         let tables = self.font.tables();
-        let (numbers, mapped) = (Numbers(tables), Mapped(self.font.mapping()));
+        let numbers = Numbers(tables);
+        let mapped = Mapped {
+            mapping: self.font.mapping(),
+            count: self.mapped,
+        };
         let directory = tables.directory();
         let (kept, dropped) = (Kept(directory), Dropped(directory));
         let last = CutLine(self.is_cut);
@@ -190,13 +208,14 @@ pub fn run_show<R: Read, W: Write, A: Allocator + Copy>(
     ensures whole { OnOk result ((inlet_broken_of inlet.new ≡ false) × (broken_of outlet.new ≡ false)) }
 
     ensures error { IfErr result
-        (RunStops R.remaining W.contents show_text (RefusesFont R.remaining inlet.old)
+        (RunStops R.remaining W.contents IsAccepted show_text (RefusesFont R.remaining inlet.old)
         inlet.old inlet.new outlet.old outlet.new) }
 {
     let file = inlet.read_all(alloc)?;
     let font = Font::open(&file)?;
     let shown = Shown {
         font: &font,
+        mapped: count_mapped(alloc, &font)?,
         is_cut: is_cut(alloc, &font)?,
     };
     let text = shown.to_string(alloc)?;

@@ -4,7 +4,7 @@ ghost use Rattle.font_cut.specs.Cut.{cut_of};
 ghost use Rattle.font_cut.specs.Fonts.{MAX_FILE, font_fault, member};
 ghost use Rattle.font_cut.specs.Outlet.{Sends, broken_of, fresh_of};
 ghost use Rattle.font_cmd.specs.Inlet.{broken_of as inlet_broken_of, fresh_of as inlet_fresh_of};
-ghost use Rattle.font_cmd.specs.Run.{RefusesCut, RunStops, got};
+ghost use Rattle.font_cmd.specs.Run.{HasCut, RefusesCut, RunStops, got};
 
 use crate::inlet::Inlet;
 use crate::run::RunError;
@@ -36,7 +36,7 @@ pub fn run_subset<R: Read, W: Write, A: Allocator + Copy>(
     ensures whole { OnOk result ((inlet_broken_of inlet.new ≡ false) × (broken_of outlet.new ≡ false)) }
 
     ensures error { IfErr result
-        (RunStops R.remaining W.contents (λ file. cut_of file (member wanted.now))
+        (RunStops R.remaining W.contents (HasCut (member wanted.now)) (λ file. cut_of file (member wanted.now))
         (RefusesCut R.remaining inlet.old (member wanted.now))
         inlet.old inlet.new outlet.old outlet.new) }
 {

@@ -1,34 +1,27 @@
 //! The wanted set of a command line: the ranges of its words, and the characters of its text.
 use crate::fault::Fault;
 use crate::run::RunError;
-use font_cut::{Wanted, WantedError, read_word};
+use font_cut::{Wanted, read_word};
 use std::alloc::Global;
 
 const NO_MEMORY: Fault<'static> = Fault::Refused(RunError::Memory);
 
-fn add_word<'a>(wanted: &mut Wanted, word: &'a str) -> Result<(), Fault<'a>> {
-    let Ok((first, last)) = read_word(word) else {
-        return Err(Fault::BadWord(word));
-    };
-    match wanted.add(first, last) {
-        Ok(()) => Ok(()),
-        Err(WantedError::BadRange) => Err(Fault::BadWord(word)),
-        Err(WantedError::NoMemory) => Err(NO_MEMORY),
-    }
-}
-
-// The ranges of the words, up to the first one that is no word.
-fn add_words<'a>(wanted: &mut Wanted, words: &[&'a str]) -> Result<(), Fault<'a>> {
+// Puts the ranges of the words behind others, up to the first one that is no word.
+fn push_words<'a>(ranges: &mut Vec<(u32, u32)>, words: &[&'a str]) -> Result<(), Fault<'a>> {
     for &word in words {
-        add_word(wanted, word)?;
+        let Ok(range) = read_word(word) else {
+            return Err(Fault::BadWord(word));
+        };
+        if ranges.push(range).is_err() {
+            return Err(NO_MEMORY);
+        }
     }
     Ok(())
 }
 
-fn add_text<'a>(wanted: &mut Wanted, text: &str) -> Result<(), Fault<'a>> {
+fn push_text<'a>(ranges: &mut Vec<(u32, u32)>, text: &str) -> Result<(), Fault<'a>> {
     for letter in text.chars() {
-        // A character is a code point, so only memory can be wanting.
-        if wanted.add(letter as u32, letter as u32).is_err() {
+        if ranges.push((letter as u32, letter as u32)).is_err() {
             return Err(NO_MEMORY);
         }
     }
@@ -37,6 +30,9 @@ fn add_text<'a>(wanted: &mut Wanted, text: &str) -> Result<(), Fault<'a>> {
 
 /// The codes of all the words and of the characters of the text.
 ///
+/// The ranges are added in rising order, so that each goes behind those that are there: of a hundred
+/// thousand words in falling order each one would move all others.
+///
 /// # Errors
 /// `BadWord` with the first word that names no range, `Refused` where memory is.
 pub(crate) fn wanted_of<'a>(
@@ -44,8 +40,17 @@ pub(crate) fn wanted_of<'a>(
     text: &str,
     words: &[&'a str],
 ) -> Result<Wanted, Fault<'a>> {
+    let mut ranges = Vec::new(alloc);
+    push_words(&mut ranges, words)?;
+    push_text(&mut ranges, text)?;
+    ranges.sort_unstable();
     let mut wanted = Wanted::new(alloc);
-    add_words(&mut wanted, words)?;
-    add_text(&mut wanted, text)?;
+    for (first, last) in ranges {
+        // A word that was read is a good range and a character is a code point, so only memory can be
+        // refused.
+        if wanted.add(first, last).is_err() {
+            return Err(NO_MEMORY);
+        }
+    }
     Ok(wanted)
 }

@@ -1,5 +1,5 @@
 -- What stands after joins in turn, and what that tells.
-use Rattle.std.proofs.Common.{◌≡◌, ℕ, zero, suc, ◌+◌, ◌<◌, ◌≤◌, Bool, List, [], get_or, length, map, refl, sym, ◌∙◌, subst, arith, None}
+use Rattle.std.proofs.Common.{◌≡◌, ℕ, zero, suc, ◌+◌, ◌<◌, ◌≤◌, Bool, List, [], get_or, length, map, refl, sym, ◌∙◌, subst, arith, Option, None, Result, Ok, Err, IfOk, IfErr, MatchResult}
 use Rattle.std.proofs.lemmas.List.{get_or-map}
 use Rattle.sfnt_bytes.specs.declared.directory.TheConstants.{MAX_FILE}
 use Rattle.font_file.specs.Font.{font_fault}
@@ -9,10 +9,14 @@ use Rattle.font_theory.proofs.FontLemmas.{size-accepted}
 use Rattle.font_theory.proofs.FormatLemmas.{our_format-most, our_format-old}
 use Rattle.font_theory.proofs.GrownLemmas.{Differs-grown, Value-grown, Value-grown_cuts, Value-grown_same, grown-cuts, grown-joins}
 use Rattle.font_theory.proofs.OurFormatLemmas.{our_format-is}
+use Rattle.font_theory.proofs.CutLemmas.{IsCut-current}
 use Rattle.font_cut.specs.Cut.{cut_of}
-use Rattle.font_cut.specs.InTurn.{AreCuts, IsAllJoined, IsAllRefusal, IsForDifference, IsForSizeOf, IsRefusedAt, Stands}
+use Rattle.font_cut.specs.InTurn.{AreCuts, IsAllJoined, IsAllRefusal, IsForDifference, IsForSizeInto, IsForSizeOf, IsRefusedAt, Stands, StopsJoin}
 use Rattle.font_cut.specs.Join.{IsForSize, IsJoin}
 use Rattle.font_cut.specs.declared.join_error.JoinAllError.{JoinAllError}
+use Rattle.font_cut.specs.declared.join_error.JoinAllIntoError.{JoinAllIntoError}
+use Rattle.font_cut.specs.declared.join_error.JoinAllIntoError.TheVariants.{NotJoined, WriteFault}
+use Rattle.font_cut.specs.declared.outlet.Outlet.{Outlet}
 use Rattle.font_cut.specs.declared.join_error.JoinAllError.TheVariants.{At, NothingToJoin}
 use Rattle.font_cut.specs.declared.join_error.JoinError.{JoinError}
 use Rattle.font_cut.specs.declared.join_error.JoinError.TheVariants.{DifferentGlyph, DifferentMapping, DifferentTable, Font, NoMemory, NotACut, TooLarge}
@@ -21,6 +25,11 @@ use Rattle.font_cut.proofs.WholeLemmas.{our_format-fault}
 
 pub file_at-map : {X : Type 0} (f : X → List ℕ) (xs : List X) (k : ℕ) (d : X) → k < length xs → f (get_or xs k d) ≡ file_at (map f xs) k
 file_at-map f xs k d low = sym (get_or-map f xs k d [] low)
+
+-- what holds of an answer, and what of a refusal
+pub result_cases : {T E : Type 0} (P : T → Type 0) (Q : E → Type 0) (r : Result T E) → IfOk r P → IfErr r Q → MatchResult r P Q
+result_cases P Q (Ok x) a b = a
+result_cases P Q (Err e) a b = b
 
 -- a size that is no more than the program's is no more than the format's
 to_most : (b : List ℕ) → length b ≤ MAX_FILE → length b ≤ our_format.most
@@ -48,7 +57,7 @@ module _ (files : List (List ℕ)) where
 
   stands_cut : (k : ℕ) (v : List ℕ) → IsCut our_format (file_at files 0) → Stands files k v → IsCut our_format v
   stands_cut zero v form e = subst (IsCut our_format) (sym e) form
-  stands_cut (suc k) v form s = (least_upper s.0 (file_at files k) v s.2).cut_form
+  stands_cut (suc k) v form s = IsCut-current our_format v (least_upper s.0 (file_at files k) v s.2).cut_form
 
   pub small_joined : (z : List ℕ) → IsAllJoined files z → length z ≤ MAX_FILE
   small_joined z all = go (length files) refl all.stands
@@ -119,3 +128,7 @@ module _ (files : List (List ℕ)) where
     pub cuts_refused_in_turn : (error : JoinAllError) → IsAllRefusal files error → IsForSizeOf F A files error
     cuts_refused_in_turn NothingToJoin h = h
     cuts_refused_in_turn (At k error) r = cuts_refused_at k error r
+
+    pub cuts_refused_into : {W : Type 0} (contents : W → Option (List ℕ)) (old new : Outlet W) (error : JoinAllIntoError) → StopsJoin contents old new files error → IsForSizeInto F A files error
+    cuts_refused_into contents old new (NotJoined error) r = cuts_refused_in_turn error r.1
+    cuts_refused_into contents old new (WriteFault written) r = tt

@@ -9,23 +9,23 @@ use Rattle.font_file.specs.declared.font_error.FontError.{FontError}
 use Rattle.font_theory.specs.Content.{content, everything, font_of}
 use Rattle.font_theory.specs.Cut.{CanJoin, Under, either, is_cut, joined, our_format, whole}
 use Rattle.font_theory.specs.Difference.{difference}
-use Rattle.font_theory.specs.File.{file, first_form}
+use Rattle.font_theory.specs.File.{file, current_form}
 use Rattle.font_theory.specs.Join.{both}
 use Rattle.font_theory.specs.declared.Difference.{Difference}
 use Rattle.font_theory.specs.declared.Difference.TheVariants.{AtCode, AtGlyph, AtTable}
-use Rattle.font_theory.proofs.CutLemmas.{CanJoin-cuts, CanJoin-self, IsCut-joined, Under-joined_left, Under-joined_right, Under-least, joined-cuts, joined-self}
+use Rattle.font_theory.proofs.CutLemmas.{CanJoin-cuts, CanJoin-self, IsCurrent-joined, Under-joined_left, Under-joined_right, Under-least, joined-cuts, joined-self}
 use Rattle.font_theory.proofs.FormatLemmas.{our_format-most}
 use Rattle.font_theory.proofs.FontLemmas.{size-accepted}
 use Rattle.font_theory.proofs.OurFormatLemmas.{our_format-is}
 use Rattle.font_theory.proofs.RefusalLemmas.{CanJoin-tested, different-under, no_cut-under, refused-under, tested-CanJoin}
-use Rattle.font_cut.specs.Cut.{IsTooLarge, IsWritten, cut_of}
+use Rattle.font_cut.specs.Cut.{IsCutOf, IsTooLarge, IsWritten, cut_of}
 use Rattle.font_cut.specs.Join.{IsForSize, IsJoin, IsJoinRefusal, IsLeastUpper, IsTrueRefusal, IsUnionRefusal, different, join_fault, union_fault}
 use Rattle.font_cut.specs.declared.join_error.JoinError.{JoinError}
 use Rattle.font_cut.specs.declared.join_error.JoinError.TheVariants.{DifferentGlyph, DifferentMapping, DifferentTable, Font, NoMemory, NotACut, TooLarge}
 use Rattle.font_cut.specs.declared.join_error.Which.TheVariants.{First, Second}
 use Rattle.font_cut.proofs.WholeLemmas.{our_format-fault}
 
-pub our_format-joined : (x y : List ℕ) → joined our_format x y ≡ file first_form (both (content (font_of x) everything) (content (font_of y) everything))
+pub our_format-joined : (x y : List ℕ) → joined our_format x y ≡ file current_form (both (content (font_of x) everything) (content (font_of y) everything))
 unfolding our_format
 our_format-joined x y = refl
 
@@ -92,14 +92,14 @@ module _ (x y : List ℕ) where
   fault_after e f h = accepted_lines e f ∙ size_last (is_cut our_format x) (is_cut our_format y) (difference (whole our_format x) (whole our_format y)) _ _ h
 
   pub is_join : font_fault x ≡ None → font_fault y ≡ None → union_fault x y ≡ None → (z : List ℕ)
-      → IsWritten (file first_form (both (content (font_of x) everything) (content (font_of y) everything))) z → IsJoin x y z
+      → IsWritten (file current_form (both (content (font_of x) everything) (content (font_of y) everything))) z → IsJoin x y z
   is_join e f h z w =
       let is : z ≡ joined our_format x y = w.is ∙ sym (our_format-joined x y) in
       let small : nat_lt MAX_FILE (length (joined our_format x y)) ≡ false = subst (λ (b : List ℕ). nat_lt MAX_FILE (length b) ≡ false) is (le-ltb MAX_FILE (length z) w.small) in
       record { unrefused = fault_after e f h ∙ ap (λ (b : Bool). when b (TooLarge (length (joined our_format x y)))) small; is = is }
 
   pub is_too_large : font_fault x ≡ None → font_fault y ≡ None → union_fault x y ≡ None → (s : ℕ)
-      → IsTooLarge (file first_form (both (content (font_of x) everything) (content (font_of y) everything))) s → join_fault x y ≡ Some (TooLarge s)
+      → IsTooLarge (file current_form (both (content (font_of x) everything) (content (font_of y) everything))) s → join_fault x y ≡ Some (TooLarge s)
   is_too_large e f h s w =
       let is : s ≡ length (joined our_format x y) = w.0 ∙ ap length (sym (our_format-joined x y)) in
       let big : nat_lt MAX_FILE (length (joined our_format x y)) ≡ true = lt-ltb MAX_FILE _ (subst (λ (n : ℕ). MAX_FILE < n) is w.1) in
@@ -161,7 +161,7 @@ module _ (x y : List ℕ) where
       let w = joinable ok.unrefused in
       let small : length (joined our_format x y) ≤ our_format.most = subst (λ (n : ℕ). length (joined our_format x y) ≤ n) (sym our_format-most) w.1 in
       subst (IsLeastUpper x y) (sym ok.is) (record {
-        cut_form = IsCut-joined our_format our_format-is x y w.0 small;
+        cut_form = IsCurrent-joined our_format our_format-is x y w.0 small;
         first = Under-joined_left our_format our_format-is x y w.0 small;
         second = Under-joined_right our_format our_format-is x y w.0 small;
         least = λ F u v. Under-least our_format our_format-is x y F w.0 small u v;
@@ -201,13 +201,13 @@ module _ (x y : List ℕ) where
           go None None true true None false a b c c' g k h = cc
 
 -- cuts of one font
-module _ (F : List ℕ) (A B : ℕ → Bool) (x y : List ℕ) (accepted : font_fault F ≡ None) (ex : x ≡ cut_of F A) (ey : y ≡ cut_of F B) (sx : length x ≤ MAX_FILE) (sy : length y ≤ MAX_FILE) where
+module _ (F : List ℕ) (A B : ℕ → Bool) (x y : List ℕ) (accepted : font_fault F ≡ None) (ex : IsCutOf F A x) (ey : IsCutOf F B y) (sx : length x ≤ MAX_FILE) (sy : length y ≤ MAX_FILE) where
   pub can_join_cuts : CanJoin our_format x y
-  can_join_cuts = CanJoin-cuts our_format our_format-is F (our_format-fault F ∙ accepted) A B x y (inl (sym ex)) (inl (sym ey))
+  can_join_cuts = CanJoin-cuts our_format our_format-is F (our_format-fault F ∙ accepted) A B x y ex ey
       (subst (λ (n : ℕ). length x ≤ n) (sym our_format-most) sx) (subst (λ (n : ℕ). length y ≤ n) (sym our_format-most) sy)
 
   is_union : joined our_format x y ≡ cut_of F (either A B)
-  is_union = joined-cuts our_format our_format-is F (our_format-fault F ∙ accepted) A B x y (inl (sym ex)) (inl (sym ey))
+  is_union = joined-cuts our_format our_format-is F (our_format-fault F ∙ accepted) A B x y ex ey
       (subst (λ (n : ℕ). length x ≤ n) (sym our_format-most) sx) (subst (λ (n : ℕ). length y ≤ n) (sym our_format-most) sy)
 
   pub cuts_joined : (z : List ℕ) → IsJoin x y z → z ≡ cut_of F (either A B)

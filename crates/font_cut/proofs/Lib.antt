@@ -2,7 +2,6 @@ pub mod CodeDifferenceLemmas
 pub mod CutLemmas
 pub mod FirstLemmas
 pub mod FontLemmas
-pub mod GlyphDifferenceLemmas
 pub mod InTurnLemmas
 pub mod JoinLemmas
 pub mod OutletLemmas
@@ -11,4 +10,8 @@ pub mod SinkLemmas
 pub mod SourceLemmas
 pub mod TableDifferenceLemmas
 pub mod UnionLemmas
+pub mod UnionSizeLemmas
 pub mod WholeLemmas
+pub mod RunListLemmas
+pub mod OutlineListLemmas
+pub mod AddLemmas

@@ -14,9 +14,10 @@ use Rattle.font_tables.specs.Tables.{glyf_of, glyf_tag, head_of, head_tag, loca_
 use Rattle.font_file.specs.Font.{font_fault}
 use Rattle.font_theory.specs.Bytes.{padded}
 use Rattle.font_glyph.specs.Marks.{has}
-use Rattle.font_theory.specs.Content.{IsWritable, content, font_of, glyph_count, is_kept}
+use Rattle.font_theory.specs.Content.{IsWritable, KeepsComponents, content, font_of, glyph_count, is_kept}
 use Rattle.font_theory.proofs.ContentLemmas.{IsClosed-content}
 use Rattle.font_theory.proofs.FileWantedLemmas.{outline-file}
+use Rattle.font_theory.proofs.HeldLemmas.{KeepsComponents-closed}
 use Rattle.font_theory.proofs.WritableLemmas.{IsWritable-closed}
 use Rattle.font_cut.specs.Content.{IsKeptSet}
 use Rattle.font_theory.proofs.FontLemmas.{IsFont-accepted, are_sound, glyph_count-file, size-accepted, table_fault-accepted}
@@ -62,6 +63,10 @@ glyph_count_is file = sym (glyph_count-file file)
 -- a file of the content can be written
 pub is_writable : (file : List ℕ) (wanted : ℕ → Bool) → font_fault file ≡ None → IsWritable (content (font_of file) wanted)
 is_writable file wanted accepted = IsWritable-closed (content (font_of file) wanted) (IsClosed-content (font_of file) wanted (IsFont-accepted file accepted))
+
+-- and it keeps what its own outlines are made of
+pub keeps_components : (file : List ℕ) (wanted : ℕ → Bool) → font_fault file ≡ None → KeepsComponents (content (font_of file) wanted)
+keeps_components file wanted accepted = KeepsComponents-closed (content (font_of file) wanted) (IsClosed-content (font_of file) wanted (IsFont-accepted file accepted))
 
 -- no mark stands past the marks
 has-past : (marks : List Bool) (g : ℕ) → has marks g ≡ true → g < length marks

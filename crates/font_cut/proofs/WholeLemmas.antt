@@ -1,48 +1,21 @@
 -- What a font holds for all codes, and whether its file is the file of that.
-use Rattle.std.proofs.Common.{◌≡◌, ℕ, ◌<◌, Some, inl, inr, Bool, true, cond, List, None, IsTrue, ◌↔◌, refl, sym, ◌∙◌, ap, arith}
-use Rattle.std.proofs.Math.Path.{fun_ext}
+use Rattle.std.proofs.Common.{◌≡◌, ℕ, ◌<◌, Some, Bool, true, List, None, IsTrue, ◌↔◌, refl, sym, ◌∙◌, ap}
 use Rattle.std.specs.Option.{is_some}
 use Rattle.std.specs.Str.{bytes_eq}
-use Rattle.std.proofs.lemmas.Bool.{cases_lt, le-leb}
 use Rattle.std.proofs.lemmas.Slice.Eq.{bytes_eq-Decides}
 use Rattle.std.proofs.Math.Bool.{or_self}
 use Rattle.std.specs.Cmp.{both_ways}
-use Rattle.font_glyph.specs.Reach.{reached}
-use Rattle.font_map.proofs.MapLemmas.{same_cond}
-use Rattle.font_map.specs.CharacterMap.{restricted}
-use Rattle.font_map.specs.Wanted.{all_codes}
-use Rattle.font_file.specs.Font.{font_fault, map_of}
-use Rattle.font_theory.specs.Content.{CODES, content, everything, font_of, glyph_count, is_kept, is_seed}
-use Rattle.font_theory.specs.Cut.{IsCut, is_cut, our_format, whole}
-use Rattle.font_theory.proofs.CutLemmas.{is_cut-of, is_cut-tells, outline-whole}
+use Rattle.font_file.specs.Font.{font_fault}
+use Rattle.font_theory.specs.Content.{content, everything, font_of}
+use Rattle.font_theory.specs.Cut.{IsCurrent, IsCut, is_current, is_cut, our_format, whole}
+use Rattle.font_theory.proofs.CutLemmas.{is_current-of, is_current-tells, is_cut-tells, outline-whole}
 use Rattle.font_theory.proofs.OurFormatLemmas.{our_format-is}
-use Rattle.font_theory.specs.File.{file, first_form}
-use Rattle.font_theory.proofs.FontLemmas.{IsFont-accepted}
+use Rattle.font_theory.specs.File.{file, current_form}
 use Rattle.font_theory.proofs.FileWantedLemmas.{outline-file}
 use Rattle.font_tables.specs.Fields.{glyph_count_of}
 use Rattle.font_tables.specs.Outlines.{outline_of}
 use Rattle.font_cut.specs.Content.{IsKeptSet}
 use Rattle.font_cut.proofs.SourceLemmas.{kept_below, kept_is}
-
--- no code above the last code point is mapped
-restricted-all : (file : List ℕ) → font_fault file ≡ None → restricted all_codes (map_of file) ≡ restricted everything (map_of file)
-unfolding CODES
-restricted-all file accepted = fun_ext (λ c. elim (cases_lt c 0x110000) [
-  | inl low ↦ let e : all_codes c ≡ true = le-leb c 0x10FFFF (omega arith) in ap (λ (b : Bool). cond b (map_of file c) 0) e
-  | inr past ↦ let none = (IsFont-accepted file accepted).mapped_codes c past in rw none (same_cond (all_codes c) 0)
-])
-
-is_kept-all : (file : List ℕ) → font_fault file ≡ None → is_kept (font_of file) all_codes ≡ is_kept (font_of file) everything
-unfolding is_kept
-is_kept-all file accepted =
-    let kept : (ℕ → ℕ) → ℕ → Bool = λ m g. reached (font_of file).outline (is_seed m) (glyph_count (font_of file).copied) g in
-    ap kept (restricted-all file accepted)
-
--- so all codes keep what the code points keep
-pub kept_everything : (file : List ℕ) (wanted : ℕ → Bool) (marks : List Bool) → font_fault file ≡ None → wanted ≡ all_codes → IsKeptSet file wanted marks → IsKeptSet file everything marks
-kept_everything file wanted marks accepted all is =
-    let same : is_kept (font_of file) wanted ≡ is_kept (font_of file) everything = ap (is_kept (font_of file)) all ∙ is_kept-all file accepted in
-    record { count = is.count; kept = λ g. is.kept g ∙ ap (λ (k : ℕ → Bool). k g) same }
 
 -- what this program reads of a file, and why it refuses one
 pub our_format-fault : (X : List ℕ) → our_format.fault X ≡ font_fault X
@@ -53,20 +26,27 @@ pub our_format-whole : (X : List ℕ) → whole our_format X ≡ content (font_o
 unfolding our_format
 our_format-whole X = refl
 
--- whether a file is that of its content is whether it is in cut form
-pub is_cut_by : (b : Bool) (X : List ℕ) → (IsTrue b ↔ (X ≡ file first_form (content (font_of X) everything))) → b ≡ is_cut our_format X
-unfolding is_cut our_format
-is_cut_by b X h =
-    let t : Bool = bytes_eq (file first_form (content (font_of X) everything)) X in
-    both_ways b t (λ e. (bytes_eq-Decides (file first_form (content (font_of X) everything)) X).1 (sym (h.0 e)))
-    (λ e. h.1 (sym ((bytes_eq-Decides (file first_form (content (font_of X) everything)) X).0 e)))
-    ∙ sym (or_self t)
+-- whether a file is that of its content is whether it is current
+pub is_current_by : (b : Bool) (X : List ℕ) → (IsTrue b ↔ (X ≡ file current_form (content (font_of X) everything))) → b ≡ is_current our_format X
+unfolding is_current our_format
+is_current_by b X h =
+    let t : Bool = bytes_eq (file current_form (content (font_of X) everything)) X in
+    both_ways b t (λ e. (bytes_eq-Decides (file current_form (content (font_of X) everything)) X).1 (sym (h.0 e)))
+    (λ e. h.1 (sym ((bytes_eq-Decides (file current_form (content (font_of X) everything)) X).0 e)))
+
+-- today the one form is the current one
+pub is_cut_current : (b : Bool) (X : List ℕ) → b ≡ is_current our_format X → b ≡ is_cut our_format X
+unfolding is_current is_cut our_format
+is_cut_current b X e = e ∙ sym (or_self (bytes_eq (file current_form (content (font_of X) everything)) X))
 
 -- in words
-pub is_cut_in_words : (b : Bool) (X : List ℕ) → font_fault X ≡ None → b ≡ is_cut our_format X → IsTrue b ↔ IsCut our_format X
-is_cut_in_words b X accepted e =
+pub is_current_in_words : (b : Bool) (X : List ℕ) → font_fault X ≡ None → b ≡ is_current our_format X → IsTrue b ↔ IsCurrent our_format X
+is_current_in_words b X accepted e =
     let ok : our_format.fault X ≡ None = our_format-fault X ∙ accepted in
-    (λ t. is_cut-tells our_format our_format-is X ok (sym e ∙ t), λ is. e ∙ is_cut-of our_format our_format-is X is)
+    (λ t. is_current-tells our_format X ok (sym e ∙ t), λ is. e ∙ is_current-of our_format X is)
+
+pub is_cut_tells : (b : Bool) (X : List ℕ) → font_fault X ≡ None → b ≡ is_cut our_format X → IsTrue b → IsCut our_format X
+is_cut_tells b X accepted e t = is_cut-tells our_format our_format-is X (our_format-fault X ∙ accepted) (sym e ∙ t)
 
 -- an outline that is kept is one of the font, and in a file in cut form has its zeros
 module _ (file : List ℕ) (marks : List Bool) (kept : IsKeptSet file everything marks) where

@@ -1,10 +1,21 @@
 -- The glyphs that a cut keeps, as marks (OpenType 1.9, glyf, Composite Glyph Description).
-use Rattle.std.specs.Prelude.{◌≡◌, ℕ, ◌+◌, ◌<◌, ◌≤◌, ◌⊎◌, ◌↔◌, Bool, true, List, length}
+use Rattle.std.specs.Prelude.{◌≡◌, ℕ, ◌+◌, ◌<◌, ◌≤◌, ◌⊎◌, ◌↔◌, Bool, true, List, length, Option, None, Some}
 use Rattle.font_map.specs.CharacterMap.{restricted}
+use Rattle.font_map.specs.Wanted.{member}
+use Rattle.font_map.specs.declared.ranges.Range.{Range}
 use Rattle.font_glyph.specs.Marks.{has}
 use Rattle.font_tables.specs.Fields.{glyph_count_of}
 use Rattle.font_file.specs.Font.{map_of}
-use Rattle.font_theory.specs.Content.{font_of, is_kept, is_seed}
+use Rattle.font_theory.specs.Content.{everything, font_of, is_kept, is_seed}
+
+-- the wanted codes: those in some ranges, or all
+abbrev pub codes_wanted : Option (List Range) → ℕ → Bool
+codes_wanted None = everything
+codes_wanted (Some ranges) = member ranges
+
+-- the character map of a file on the wanted codes
+abbrev pub wanted_map : List ℕ → Option (List Range) → ℕ → ℕ
+wanted_map file wanted = restricted (codes_wanted wanted) (map_of file)
 
 -- n glyphs from one on are marked, beside those that were
 pub record AreMarked (old new : List Bool) (low n : ℕ) : Type 0 where

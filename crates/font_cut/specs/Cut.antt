@@ -7,7 +7,8 @@ use Rattle.font_tables.specs.Outlines.{outline_of}
 use Rattle.font_glyph.specs.Reach.{Reach}
 use Rattle.font_file.specs.Font.{font_fault, map_of}
 use Rattle.font_theory.specs.Bytes.{padded}
-use Rattle.font_theory.specs.Cut.{IsCut, cut, our_format}
+use Rattle.font_theory.specs.Content.{content}
+use Rattle.font_theory.specs.Cut.{IsCurrent, Writes, cut, our_format}
 use Rattle.font_cut.specs.Outlet.{Sends, broken_of, written_of}
 use Rattle.font_cut.specs.declared.cuts.CutError.{CutError}
 use Rattle.font_cut.specs.declared.cuts.CutError.TheVariants as cut_errors
@@ -18,6 +19,10 @@ use Rattle.font_cut.specs.declared.outlet.Outlet.{Outlet}
 -- the cut of a file for the wanted codes
 abbrev pub cut_of : List ℕ → (ℕ → Bool) → List ℕ
 cut_of file wanted = cut our_format file wanted
+
+-- a file is a cut of another for the wanted codes, in some form
+abbrev pub IsCutOf : List ℕ → (ℕ → Bool) → List ℕ → Type 0
+IsCutOf file wanted made = Writes our_format (content (our_format.font file) wanted) made
 
 -- a size is that of the cut, and too large
 abbrev pub IsTooLarge : List ℕ → ℕ → Type 0
@@ -33,11 +38,12 @@ abbrev pub IsCutRefusal : List ℕ → CutError → Type 0
 IsCutRefusal cut cut_errors.NoMemory = Unit {0}
 IsCutRefusal cut (cut_errors.TooLarge size) = IsTooLarge cut size
 
--- why a cut was not sent, and what was: nothing before a write failed, and else a front of it
+-- why a cut was not sent, and what was: nothing before a write failed, and else a front of it, which is not too large
 abbrev pub StopsCut : {W : Type 0} → (W → Option (List ℕ)) → Outlet W → Outlet W → List ℕ → CutIntoError → Type 0
 StopsCut contents old new cut into_errors.NoMemory = new ≡ old
 StopsCut contents old new cut (into_errors.TooLarge size) = (new ≡ old) × IsTooLarge cut size
-StopsCut contents old new cut (into_errors.WriteFault written) = (broken_of new ≡ true) × (written ≡ written_of new) × Sends contents old new (take written cut)
+StopsCut contents old new cut (into_errors.WriteFault written) =
+    (length cut ≤ MAX_FILE) × (broken_of new ≡ true) × (written ≡ written_of new) × Sends contents old new (take written cut)
 
 -- a cut is accepted, has no finding, has the font's metrics, maps the wanted codes as the font does and no others, and keeps the outlines of what their glyphs lead to, up to zeros behind them; and its cuts are the font's, for the codes in both sets
 pub record IsSound (file : List ℕ) (wanted : ℕ → Bool) (made : List ℕ) : Type 0 where
@@ -47,5 +53,5 @@ pub record IsSound (file : List ℕ) (wanted : ℕ → Bool) (made : List ℕ) :
   pub wanted_codes : (c : ℕ) → wanted c ≡ true → map_of made c ≡ map_of file c
   pub other_codes : (c : ℕ) → wanted c ≡ false → map_of made c ≡ 0
   pub kept : (c : ℕ) → wanted c ≡ true → (g : ℕ) → Reach (outline_of file) (nat_eq (map_of file c)) g → outline_of made g ≡ padded (outline_of file g)
-  pub cut_form : IsCut our_format made
+  pub cut_form : IsCurrent our_format made
   pub cuts : (others : ℕ → Bool) → cut_of made others ≡ cut_of file (λ c. wanted c && others c)

@@ -7,7 +7,7 @@ use Rattle.sfnt_bytes.specs.declared.directory.DirError.TheVariants.{FileTooLarg
 use Rattle.sfnt_bytes.specs.declared.directory.TheConstants.{MAX_FILE}
 use Rattle.font_file.specs.Font.{font_fault}
 use Rattle.font_file.specs.declared.font_error.FontError.TheVariants.{Directory}
-use Rattle.font_theory.specs.Cut.{IsCut, Under, is_cut, joined, our_format, whole}
+use Rattle.font_theory.specs.Cut.{IsCurrent, Under, is_cut, joined, our_format, whole}
 use Rattle.font_theory.specs.Difference.{difference}
 use Rattle.font_theory.specs.Join.{Agree}
 use Rattle.font_theory.specs.declared.Difference.{Difference}
@@ -68,9 +68,9 @@ IsForSize size NoMemory = Unit {0}
 IsForSize size (TooLarge s) = (s ≡ size) × (MAX_FILE < size)
 IsForSize size _ = ⊥
 
--- z is in cut form, x and y are cuts of it, and it is a cut of each file of which both are cuts
+-- z is current, x and y are cuts of it, and it is a cut of each file of which both are cuts
 pub record IsLeastUpper (x y z : List ℕ) : Type 0 where
-  pub cut_form : IsCut our_format z
+  pub cut_form : IsCurrent our_format z
   pub first : Under our_format x z
   pub second : Under our_format y z
   pub least : (F : List ℕ) → Under our_format x F → Under our_format y F → Under our_format z F

@@ -3,6 +3,8 @@ use Rattle.std.specs.Prelude.{ℕ, List, codes}
 use Rattle.font_file.specs.Text as font
 use Rattle.font_cut.specs.declared.join_error.JoinAllError.{JoinAllError}
 use Rattle.font_cut.specs.declared.join_error.JoinAllError.TheVariants.{At, NothingToJoin}
+use Rattle.font_cut.specs.declared.join_error.JoinAllIntoError.{JoinAllIntoError}
+use Rattle.font_cut.specs.declared.join_error.JoinAllIntoError.TheVariants.{NotJoined, WriteFault}
 use Rattle.font_cut.specs.declared.join_error.JoinError.{JoinError}
 use Rattle.font_cut.specs.declared.join_error.JoinError.TheVariants.{DifferentGlyph, DifferentMapping, DifferentTable, Font, NoMemory, NotACut, TooLarge}
 use Rattle.font_cut.specs.declared.join_error.Which.{Which}
@@ -27,3 +29,8 @@ join_error_number NoMemory = 16
 abbrev pub join_all_error_number : JoinAllError → ℕ
 join_all_error_number NothingToJoin = 24
 join_all_error_number (At step error) = join_error_number error
+
+-- and of one that is sent
+abbrev pub join_all_into_error_number : JoinAllIntoError → ℕ
+join_all_into_error_number (NotJoined error) = join_all_error_number error
+join_all_into_error_number (WriteFault written) = 19

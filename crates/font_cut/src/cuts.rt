@@ -9,7 +9,7 @@ ghost use Rattle.font_cut.specs.declared.cuts.CutError.TheVariants.{NoMemory as 
 ghost use Rattle.font_cut.specs.declared.cuts.CutIntoError.TheVariants.{NoMemory as IntoNoMemory};
 ghost use Rattle.font_cut.specs.Text.{cut_error_number, cut_into_error_number};
 
-use crate::content::{CutOf, accepted};
+use crate::cut_source::{CutOf, accepted};
 use crate::outlet::Outlet;
 use crate::written::{file_in_memory, send_whole};
 use font_file::Font;

@@ -1,21 +1,23 @@
-//! Where two files in cut form differ first: in a table, in the glyph of a code, or in an outline.
-//! OpenType 1.9, `head`, `cmap` and `glyf`.
-ghost use Rattle.std.specs.Prelude.{◌≡◌, ◌<◌, ◌≤◌, length, find, None, Some, MatchOption};
+//! Where two contents differ first, in a table or in the glyph of a code, and the refusal for that.
+//! OpenType 1.9, `head` and `cmap`.
+ghost use Rattle.std.specs.Prelude.{◌≡◌, ◌<◌, ◌≤◌, ℕ, length, find, None, Some};
 ghost use Rattle.std.specs.List.{range_with_len};
 ghost use Rattle.std.specs.Str.{bytes_eq};
 ghost use Rattle.font_theory.specs.Bytes.{cut_head};
-ghost use Rattle.font_theory.specs.Content.{CODES, content, everything, font_of, glyph_count};
-ghost use Rattle.font_theory.specs.Cut.{IsCut, our_format};
-ghost use Rattle.font_theory.specs.Difference.{difference, is_different_code, is_different_glyph, is_different_table};
+ghost use Rattle.font_theory.specs.Content.{CODES};
+ghost use Rattle.font_theory.specs.Difference.{is_different_code, is_different_table};
+ghost use Rattle.sfnt_bytes.specs.Directory.{kept_tag};
+ghost use Rattle.font_cut.specs.Join.{different};
+ghost use Rattle.font_cut.specs.Union.{early_difference};
 
-use crate::content::HEAD;
-use crate::whole::Whole;
+use crate::cut_source::HEAD;
+use crate::join_error::JoinError;
 use font_theory::Difference;
 use font_write::Source;
-use std::alloc::Allocator;
+use sfnt_bytes::{KEPT, Tag};
 
-// Whether two slices hold the same bytes.
-fn is_same(a: &[u8], b: &[u8]) -> bool
+/// Whether two slices hold the same bytes.
+pub(crate) fn is_same(a: &[u8], b: &[u8]) -> bool
     ensures { result ≡ bytes_eq a.now b.now }
 {
     a == b
@@ -82,42 +84,10 @@ fn different_code<K: Source, L: Source>(k: &K, l: &L) -> Option<u32>
     None
 }
 
-// Whether both keep a glyph, with two outlines.
-fn is_other_glyph<A: Allocator>(k: &Whole<'_, A>, l: &Whole<'_, A>, g: u16) -> bool
-    requires first { IsCut our_format k.now }
-    requires second { IsCut our_format l.now }
-    ensures { result ≡ is_different_glyph (content (font_of k.now) everything) (content (font_of l.now) everything) g }
-{
-    match (k.written_outline(g), l.written_outline(g)) {
-        (Some(a), Some(b)) => !is_same(a, b),
-        _ => false,
-    }
-}
-
-// The first glyph that both keep, with two outlines.
-#[tactic(auto, using(crate::proofs::FirstLemmas::first_found, font_file::proofs::FontLemmas::find_step, crate::proofs::FirstLemmas::first_end))]
-fn different_glyph<A: Allocator>(k: &Whole<'_, A>, l: &Whole<'_, A>) -> Option<u16>
-    requires first { IsCut our_format k.now }
-    requires second { IsCut our_format l.now }
-    ensures { result ≡ find (is_different_glyph (content (font_of k.now) everything) (content (font_of l.now) everything)) (range_with_len 0 (glyph_count (content (font_of k.now) everything).copied)) }
-{
-    for g in 0..k.glyph_count() {
-        if is_other_glyph(k, l, g) {
-            return Some(g);
-        }
-    }
-    None
-}
-
-/// The first difference of the contents of two files in cut form.
-#[tactic(auto, unfolding(font_theory::specs::Difference::difference))]
-pub(crate) fn first_difference<A: Allocator>(
-    k: &Whole<'_, A>,
-    l: &Whole<'_, A>,
-) -> Option<Difference>
-    requires first { IsCut our_format k.now }
-    requires second { IsCut our_format l.now }
-    ensures { result ≡ difference (content (font_of k.now) everything) (content (font_of l.now) everything) }
+/// The first table or code that tells two contents apart.
+#[tactic(auto, unfolding(crate::specs::Union::early_difference))]
+pub(crate) fn early_difference<K: Source, L: Source>(k: &K, l: &L) -> Option<Difference>
+    ensures { result ≡ early_difference (K.content_of k.now) (L.content_of l.now) }
 {
     if let Some(slot) = different_table(k, l) {
         return Some(Difference::AtTable(slot));
@@ -125,8 +95,26 @@ pub(crate) fn first_difference<A: Allocator>(
     if let Some(code) = different_code(k, l) {
         return Some(Difference::AtCode(code));
     }
-    if let Some(g) = different_glyph(k, l) {
-        return Some(Difference::AtGlyph(g));
-    }
     None
+}
+
+// The tag of a slot.
+#[tactic(auto, unfolding(sfnt_bytes::specs::Directory::kept_tag))]
+fn tag_of(slot: u8) -> Tag
+    requires { slot < 16 }
+    ensures { result ≡ kept_tag slot }
+{
+    KEPT[usize::from(slot)]
+}
+
+/// The refusal for a difference.
+pub(crate) fn refusal_of(difference: Difference) -> JoinError
+    requires { (slot : ℕ) → difference ≡ Difference.AtTable slot → slot < 16 }
+    ensures { result ≡ different difference }
+{
+    match difference {
+        Difference::AtTable(slot) => JoinError::DifferentTable(tag_of(slot)),
+        Difference::AtCode(code) => JoinError::DifferentMapping(code),
+        Difference::AtGlyph(g) => JoinError::DifferentGlyph(g),
+    }
 }

@@ -1,6 +1,6 @@
 //! Why files are not joined.
 ghost use Rattle.std.specs.Prelude.{◌≡◌, Some};
-ghost use Rattle.font_cut.specs.JoinText.{join_all_error_number, join_error_number, which_text};
+ghost use Rattle.font_cut.specs.JoinText.{join_all_error_number, join_all_into_error_number, join_error_number, which_text};
 
 use font_file::FontError;
 use sfnt_bytes::Tag;
@@ -91,6 +91,29 @@ impl JoinAllError {
         match self {
             JoinAllError::NothingToJoin => 24,
             JoinAllError::At { step: _, error } => error.number(),
+        }
+    }
+}
+
+/// Why the join of a list of files is not sent.
+#[derive(Clone, Copy, Debug, PartialEq, Eq, Error)]
+pub enum JoinAllIntoError {
+    /// The files are not joined. Nothing was sent.
+    #[error("{0}")]
+    NotJoined(JoinAllError),
+    /// A write failed after so many bytes.
+    #[error("write fault after {0}")]
+    WriteFault(u64),
+}
+
+impl JoinAllIntoError {
+    /// The number of the refusal: that of the join, or 19.
+    pub fn number(&self) -> u8
+        ensures { result ≡ join_all_into_error_number self.now }
+    {
+        match self {
+            JoinAllIntoError::NotJoined(error) => error.number(),
+            JoinAllIntoError::WriteFault(_) => 19,
         }
     }
 }

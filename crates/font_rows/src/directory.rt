@@ -1,5 +1,7 @@
 //! Numbers, sums, the records of a directory and its refusals.
-use crate::fonts::{RECORD, RECORDS, base6_with, entry, file_of, findings_of};
+use crate::fonts::{RECORD, RECORDS, base6_with, entry, file_of, findings_of, refusal_of};
+use font_cut::FontError;
+use font_tables::TableError;
 use sfnt_bytes::{
     BASE6, DirError, Directory, Entry, Finding, KEPT, NoMemory, Tag, be16, be32, search_fields,
     word_sum,
@@ -156,6 +158,9 @@ fn check_of_base6(rt: HostRuntime) -> Result<(), Fail> {
     Ok(())
 }
 
+// What a file without records is refused for, where its directory is not.
+const NO_CMAP: FontError = FontError::Tables(TableError::MissingTable(Tag(*b"cmap")));
+
 #[test]
 fn prefixes_and_versions(rt: HostRuntime) -> Result<(), Fail> {
     for (length, error) in [
@@ -170,6 +175,8 @@ fn prefixes_and_versions(rt: HostRuntime) -> Result<(), Fail> {
             Some(error),
             "{length} bytes"
         );
+        let opened = Some(FontError::Directory(error));
+        assert_eq!(rt; refusal_of(prefix), opened, "{length} bytes");
     }
     for (version, error) in [
         (*b"ttcf", Some(DirError::Collection)),
@@ -181,6 +188,8 @@ fn prefixes_and_versions(rt: HostRuntime) -> Result<(), Fail> {
         let mut file = [0; 12];
         file[..4].copy_from_slice(&version);
         assert_eq!(rt; Directory::read(&file).err(), error, "version {version:?}");
+        let opened = Some(error.map_or(NO_CMAP, FontError::Directory));
+        assert_eq!(rt; refusal_of(&file), opened, "version {version:?}");
         if error.is_none() {
             let found = findings_of(rt.alloc(), &file)?;
             assert_eq!(rt; found.as_slice(), [Finding::SearchFields].as_slice());
@@ -201,6 +210,8 @@ fn largest_file(rt: HostRuntime) -> Result<(), Fail> {
     ] {
         let file = zeros(rt.alloc(), length)?;
         assert_eq!(rt; Directory::read(&file).err(), Some(error), "{length} bytes");
+        let opened = Some(FontError::Directory(error));
+        assert_eq!(rt; refusal_of(&file), opened, "{length} bytes");
     }
     Ok(())
 }
@@ -222,6 +233,8 @@ fn one_field_changed(rt: HostRuntime) {
         Directory::read(&file).err(),
         Some(DirError::DuplicateTable(Tag(*b"hmtx")))
     );
+    let opened = Some(FontError::Directory(DirError::DuplicateTable(Tag(*b"hmtx"))));
+    assert_eq!(rt; refusal_of(&file), opened);
 }
 
 // The refusal of a file of these records and nothing behind them.

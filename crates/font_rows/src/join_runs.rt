@@ -9,7 +9,7 @@ use std::alloc::Global;
 use std::test::Fail;
 
 // The bytes of the joined cut.
-const JOINED: u64 = 440;
+const JOINED: u64 = 448;
 
 // The cut for some codes, as `subset` sends it.
 fn cut_for(alloc: Global, codes: &[u32]) -> Result<Vec<u8>, Fail> {
@@ -40,7 +40,7 @@ fn subset_and_join_runs(rt: HostRuntime) -> Result<(), Fail> {
     let x = cut_for(rt.alloc(), &[0xC1])?;
     assert_eq!(rt; x.as_slice(), CUT_OF_AACUTE.as_slice());
     let y = cut_for(rt.alloc(), &[0x41, 0x42])?;
-    assert_eq!(rt; y.len(), 392);
+    assert_eq!(rt; y.len(), 400);
     let z = cut_for(rt.alloc(), &[0x41, 0x42, 0xC1])?;
     for (first, second) in [(&x, &y), (&y, &x), (&z, &x), (&z, &z)] {
         let (answer, sent) = joined(rt.alloc(), first, second);
@@ -54,7 +54,7 @@ fn subset_and_join_runs(rt: HostRuntime) -> Result<(), Fail> {
 fn one_cut_alone(rt: HostRuntime) -> Result<(), Fail> {
     let mut inlets = [Inlet::new(CUT_OF_AACUTE.as_slice())];
     let mut outlet = Outlet::new(Vec::new(rt.alloc()));
-    assert_eq!(rt; run_join(rt.alloc(), &mut inlets, &mut outlet), Ok(404));
+    assert_eq!(rt; run_join(rt.alloc(), &mut inlets, &mut outlet), Ok(412));
     assert!(rt; !inlets[0].is_fresh() && !inlets[0].is_broken());
     assert_eq!(rt; outlet.into_inner().as_slice(), CUT_OF_AACUTE.as_slice());
     Ok(())
@@ -95,7 +95,7 @@ fn refused_files(rt: HostRuntime) -> Result<(), Fail> {
 #[test]
 fn failing_readers(rt: HostRuntime) -> Result<(), Fail> {
     // how many bytes a read, which read of the second inlet fails, and how many bytes had come
-    for (piece, k, came) in [(4096, 1, 0), (100, 2, 100), (404, 2, 404)] {
+    for (piece, k, came) in [(4096, 1, 0), (100, 2, 100), (412, 2, 412)] {
         let mut inlets = [
             Inlet::new(Pieces::new(&CUT_OF_AACUTE, 7, 1000)),
             Inlet::new(Pieces::new(&CUT_OF_AACUTE, piece, k)),
@@ -121,7 +121,7 @@ fn failing_writers(rt: HostRuntime) -> Result<(), Fail> {
     let z = cut_for(rt.alloc(), &[0x41, 0x42, 0xC1])?;
     for (piece, failure, written) in [
         (1, Failure::AtWrite(101), 100),
-        (1, Failure::TakesNoneAt(440), 439),
+        (1, Failure::TakesNoneAt(448), 447),
         (4096, Failure::AtWrite(1), 0),
         (4096, Failure::AtFlush, JOINED),
     ] {
@@ -138,33 +138,6 @@ fn failing_writers(rt: HostRuntime) -> Result<(), Fail> {
         assert!(rt; z.starts_with(writer.held()), "{failure:?}");
     }
     Ok(())
-}
-
-#[test]
-fn refused_memory_in_run_join(rt: HostRuntime) -> Result<(), Fail> {
-    let y = cut_for(rt.alloc(), &[0x41, 0x42])?;
-    for k in 1..200u64 {
-        let memory = Refusing::new(rt.alloc(), k);
-        let mut inlets = [
-            Inlet::new(CUT_OF_AACUTE.as_slice()),
-            Inlet::new(y.as_slice()),
-        ];
-        let mut outlet = Outlet::new(Vec::new(rt.alloc()));
-        let answer = run_join(&memory, &mut inlets, &mut outlet);
-        if !memory.has_refused() {
-            assert!(rt; k > 1, "no request for memory came");
-            assert_eq!(rt; answer, Ok(JOINED));
-            assert_eq!(rt; outlet.written(), JOINED);
-            return Ok(());
-        }
-        assert_eq!(rt; answer, Err(RunError::Memory), "request {k}");
-        assert!(rt; outlet.is_fresh(), "request {k}");
-        assert!(rt;
-            !inlets[0].is_broken() && !inlets[1].is_broken(),
-            "request {k}"
-        );
-    }
-    panic!(rt; "each of 199 requests was refused")
 }
 
 #[test]

@@ -21,6 +21,8 @@ mod hostile;
 #[cfg(test)]
 mod join_runs;
 #[cfg(test)]
+mod overlaps;
+#[cfg(test)]
 mod show_lines;
 #[cfg(test)]
 mod subset_runs;

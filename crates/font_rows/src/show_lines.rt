@@ -32,7 +32,7 @@ loca long
 metrics 6
 mapping 3/10 format 12
 mapped 1
-kept cmap 40
+kept cmap 48
 kept glyf 64
 kept head 54
 kept hhea 36

@@ -23,8 +23,8 @@ fn subset_runs(rt: HostRuntime) -> Result<(), Fail> {
         let mut inlet = Inlet::new(BASE6.as_slice());
         let mut outlet = Outlet::new(Narrow::new(rt.alloc(), piece, Failure::Nowhere));
         let answer = run_subset(rt.alloc(), &mut inlet, &wanted, &mut outlet);
-        assert_eq!(rt; answer, Ok(404), "{piece}");
-        assert_eq!(rt; outlet.written(), 404, "{piece}");
+        assert_eq!(rt; answer, Ok(412), "{piece}");
+        assert_eq!(rt; outlet.written(), 412, "{piece}");
         assert!(rt; !outlet.is_broken() && !inlet.is_broken(), "{piece}");
         let writer = outlet.into_inner();
         assert_eq!(rt; writer.held(), CUT_OF_AACUTE.as_slice(), "{piece}");
@@ -74,10 +74,10 @@ fn failing_writers(rt: HostRuntime) -> Result<(), Fail> {
     let wanted = aacute(rt.alloc())?;
     for (piece, failure, written) in [
         (1, Failure::AtWrite(101), 100),
-        (1, Failure::AtWrite(404), 403),
+        (1, Failure::AtWrite(412), 411),
         (1, Failure::TakesNoneAt(1), 0),
         (4096, Failure::AtWrite(1), 0),
-        (4096, Failure::AtFlush, 404),
+        (4096, Failure::AtFlush, 412),
     ] {
         let mut inlet = Inlet::new(BASE6.as_slice());
         let mut outlet = Outlet::new(Narrow::new(rt.alloc(), piece, failure));
@@ -105,7 +105,7 @@ fn refused_memory_in_run_subset(rt: HostRuntime) -> Result<(), Fail> {
         let answer = run_subset(&memory, &mut inlet, &wanted, &mut outlet);
         if !memory.has_refused() {
             assert!(rt; k > 2, "no request for memory came");
-            assert_eq!(rt; answer, Ok(404));
+            assert_eq!(rt; answer, Ok(412));
             assert_eq!(rt; outlet.into_inner().as_slice(), CUT_OF_AACUTE.as_slice());
             return Ok(());
         }

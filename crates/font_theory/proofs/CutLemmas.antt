@@ -10,7 +10,7 @@ use Rattle.sfnt_bytes.specs.Lines.{when}
 use Rattle.font_theory.specs.Bytes.{padded}
 use Rattle.font_map.proofs.MapLemmas.{same_cond}
 use Rattle.font_theory.specs.Content.{Content, IsClosed, content, everything, is_kept, seen}
-use Rattle.font_theory.specs.Cut.{CanJoin, Format, IsCut, IsFormat, Under, Writes, codes_of, cut, either, is_cut, joined, whole}
+use Rattle.font_theory.specs.Cut.{CanJoin, Format, IsCurrent, IsCut, IsFormat, Under, Writes, codes_of, cut, either, is_current, is_cut, joined, whole}
 use Rattle.font_theory.specs.Join.{Agree, both}
 use Rattle.font_theory.proofs.ContentLemmas.{IsClosed-content, content-mapped, content-seen}
 use Rattle.font_theory.proofs.JoinLemmas.{Agree-content, Agree-self, IsClosed-both, both-content, both-self, content-left, content-right}
@@ -41,6 +41,19 @@ CanJoin-self R X ok = record { first = ok; second = ok; agree = Agree-self (whol
 pub joined-self : (R : Format) (X : List ℕ) → joined R X X ≡ R.file (whole R X)
 joined-self R X = ap R.file (both-self (whole R X))
 
+-- a current file is in cut form
+pub IsCut-current : (R : Format) (X : List ℕ) → IsCurrent R X → IsCut R X
+IsCut-current R X ok = record { accepted = ok.accepted; written = inl ok.written }
+
+-- whether an accepted file is current is decided
+pub is_current-tells : (R : Format) (X : List ℕ) → R.fault X ≡ None → is_current R X ≡ true → IsCurrent R X
+unfolding is_current
+is_current-tells R X h t = record { accepted = h; written = (bytes_eq-Decides (R.file (whole R X)) X).0 t }
+
+pub is_current-of : (R : Format) (X : List ℕ) → IsCurrent R X → is_current R X ≡ true
+unfolding is_current
+is_current-of R X ok = (bytes_eq-Decides (R.file (whole R X)) X).1 ok.written
+
 module _ (R : Format) (law : IsFormat R) where
   pub codes_of-accepted : (X : List ℕ) → R.fault X ≡ None → codes_of R X ≡ is_mapped (R.font X).map
   codes_of-accepted X h = ap (λ o c. is_none o && is_mapped (R.font X).map c) h
@@ -53,6 +66,12 @@ module _ (R : Format) (law : IsFormat R) where
   IsCut-written K X ok w small = record {
     accepted = (law.reads_back K X ok w small).0;
     written = subst (λ C. Writes R C X) (sym (whole-written K X ok w small)) w;
+  }
+
+  pub IsCurrent-written : (K : Content) (X : List ℕ) → IsClosed K → R.file K ≡ X → length X ≤ R.most → IsCurrent R X
+  IsCurrent-written K X ok w small = record {
+    accepted = (law.reads_back K X ok (inl w) small).0;
+    written = ap R.file (whole-written K X ok (inl w) small) ∙ w;
   }
 
   pub font-whole : (X : List ℕ) → IsCut R X → R.font X ≡ seen (whole R X)
@@ -105,6 +124,10 @@ module _ (R : Format) (law : IsFormat R) where
     pub cut-cut : (B : ℕ → Bool) → cut R X B ≡ cut R F (λ c. A c && B c)
     cut-cut B = ap R.file (content-cut B)
 
+  -- and as it is written it is current
+  pub IsCurrent-cut : (F : List ℕ) → R.fault F ≡ None → (A : ℕ → Bool) (X : List ℕ) → X ≡ cut R F A → length X ≤ R.most → IsCurrent R X
+  IsCurrent-cut F h A X is small = IsCurrent-written (content (R.font F) A) X (IsClosed-content (R.font F) A (law.is_font F h)) (sym is) small
+
   -- joining two cuts of a font, in any forms
   module _ (F : List ℕ) (h : R.fault F ≡ None) (A B : ℕ → Bool) (X Y : List ℕ)
       (wX : Writes R (content (R.font F) A) X) (wY : Writes R (content (R.font F) B) Y) (sX : length X ≤ R.most) (sY : length Y ≤ R.most) where
@@ -132,8 +155,11 @@ module _ (R : Format) (law : IsFormat R) where
     back : (R.fault (joined R X Y) ≡ None) × (R.font (joined R X Y) ≡ seen (both (whole R X) (whole R Y)))
     back = law.reads_back _ _ okU (inl refl) small
 
+    pub IsCurrent-joined : IsCurrent R (joined R X Y)
+    IsCurrent-joined = IsCurrent-written _ _ okU refl small
+
     pub IsCut-joined : IsCut R (joined R X Y)
-    IsCut-joined = IsCut-written _ _ okU (inl refl) small
+    IsCut-joined = IsCut-current R _ IsCurrent-joined
 
     pub whole-joined : whole R (joined R X Y) ≡ both (whole R X) (whole R Y)
     whole-joined = whole-written _ _ okU (inl refl) small

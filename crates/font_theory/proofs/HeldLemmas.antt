@@ -7,7 +7,7 @@ use Rattle.font_glyph.specs.Reach.{IsComponentOf, Reach}
 use Rattle.font_glyph.specs.Reach.Reach.{seed, part}
 use Rattle.font_glyph.specs.Union.{HoldsComponents}
 use Rattle.font_theory.specs.Bytes.{padded}
-use Rattle.font_theory.specs.Content.{Content, IsClosed, everything, is_kept, is_seed, seen}
+use Rattle.font_theory.specs.Content.{KeepsComponents, Content, IsClosed, everything, is_kept, is_seed, seen}
 use Rattle.font_theory.proofs.PaddedLemmas.{IsRecord-nil}
 use Rattle.font_theory.proofs.WantedLemmas.{component-below, is_kept-decides, is_seed-code, is_seed-zero}
 
@@ -63,3 +63,6 @@ module _ (K : Content) (ok : IsClosed K) where
       go : ((K.outline s ≡ None) ⊎ ((b : List ℕ) × (K.outline s ≡ Some b))) → IsSome (K.outline g)
       go (inl none) = absurd (component-nil g (subst (λ (b : List ℕ). IsComponentOf b g) (ap (λ o. unwrap_or o []) none) p))
       go (inr some) = some-is g (part (some-held s some.0 some.1) p)
+
+pub KeepsComponents-closed : (K : Content) → IsClosed K → KeepsComponents K
+KeepsComponents-closed K ok = record { notdef = zero-kept K ok; mapped = code-kept K ok; components = components-kept K ok }

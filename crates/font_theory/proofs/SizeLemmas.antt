@@ -2,13 +2,13 @@
 use Rattle.std.proofs.Common.{◌≡◌, ℕ, zero, suc, ◌+◌, ◌%◌, cond, nat_eq, List, [], ◌∷◌, length, map, sum, unwrap_or, refl, sym, ap, subst, ◌∙◌, arith, Option, Some, None, option_map, inl, inr}
 use Rattle.std.specs.List.{concat, range_with_len}
 use Rattle.std.proofs.lemmas.Bool.{cases_eq, ne_eqb}
-use Rattle.std.proofs.lemmas.List.{append-nil, length-append}
+use Rattle.std.proofs.lemmas.List.{length-append}
 use Rattle.std.proofs.lemmas.List.Sums.{sum_by-cons}
 use Rattle.sfnt_bytes.specs.Findings.{padding_of}
 use Rattle.sfnt_bytes.specs.Lines.{present}
 use Rattle.font_theory.specs.Bytes.{padded}
 use Rattle.font_theory.specs.Content.{Content, IsWritable, glyph_count}
-use Rattle.font_theory.specs.File.{Form, adjustment_in, bodies_of, bytes_in_slot, cmap_bytes, file, first_form, glyf_bytes, groups_of, loca_bytes, outlines_from, outlines_of, padded_length, size_of, table_in, tables_from}
+use Rattle.font_theory.specs.File.{Form, adjustment_in, bodies_of, bytes_in_slot, cmap_bytes, file, glyf_bytes, groups_of, loca_bytes, outlines_from, outlines_of, padded_length, size_of, table_in, tables_from}
 use Rattle.font_theory.proofs.AdjustmentLemmas.{length-with_adjustment}
 use Rattle.font_theory.proofs.CmapLemmas.{length-cmap_bytes}
 use Rattle.font_theory.proofs.MeaningLemmas.{file-is, last_head, last_tables}
@@ -71,7 +71,7 @@ total-extra a b c d = omega arith
 -- a measure of a slot is that of the copied table, or of one of the four
 abbrev IsMeasured : Form → Content → List ℕ → (Option (List ℕ) → ℕ) → ℕ → Type 0
 IsMeasured form K head m slot = m (bytes_in_slot form K head slot)
-    ≡ m (K.copied slot) + extra (m (Some (form.cmap (groups_of K)))) (m (Some (glyf_bytes form (outlines_of K)))) (m (Some head)) (m (Some (loca_bytes (outlines_of K)))) slot
+    ≡ m (K.copied slot) + extra (m (Some (cmap_bytes form (groups_of K)))) (m (Some (glyf_bytes form (outlines_of K)))) (m (Some head)) (m (Some (loca_bytes (outlines_of K)))) slot
 
 none_copied : (x y : ℕ) → x ≡ 0 → y ≡ x + y
 none_copied x y none = omega arith
@@ -101,9 +101,9 @@ is_measured form K head m slot ok none =
 -- all slots
 total-slots : (form : Form) (K : Content) (head : List ℕ) (m : Option (List ℕ) → ℕ) → IsWritable K → m None ≡ 0
     → total (λ slot. m (bytes_in_slot form K head slot)) 0 16
-    ≡ total (λ slot. m (K.copied slot)) 0 16 + (m (Some (form.cmap (groups_of K))) + m (Some (glyf_bytes form (outlines_of K))) + m (Some head) + m (Some (loca_bytes (outlines_of K))))
+    ≡ total (λ slot. m (K.copied slot)) 0 16 + (m (Some (cmap_bytes form (groups_of K))) + m (Some (glyf_bytes form (outlines_of K))) + m (Some head) + m (Some (loca_bytes (outlines_of K))))
 total-slots form K head m ok none =
-    let a = m (Some (form.cmap (groups_of K))) in
+    let a = m (Some (cmap_bytes form (groups_of K))) in
     let b = m (Some (glyf_bytes form (outlines_of K))) in
     let c = m (Some head) in
     let d = m (Some (loca_bytes (outlines_of K))) in
@@ -120,7 +120,7 @@ length-last_tables form K ok =
 
 pub length-last_bodies : (form : Form) (K : Content) → IsWritable K → length (bodies_of (last_tables form K))
     ≡ sum (map (λ slot. padded_length (K.copied slot)) (range_with_len 0 16))
-    + (length (padded (form.cmap (groups_of K))) + length (padded (glyf_bytes form (outlines_of K))) + length (padded K.head) + length (padded (loca_bytes (outlines_of K))))
+    + (length (padded (cmap_bytes form (groups_of K))) + length (padded (glyf_bytes form (outlines_of K))) + length (padded K.head) + length (padded (loca_bytes (outlines_of K))))
 length-last_bodies form K ok =
     let long = ok.head_size in
     let all = length-bodies form K (last_head form K) 0 16 in
@@ -131,23 +131,22 @@ length-last_bodies form K ok =
     length-padded-is (last_head form K) ∙ (λ i. same i + padding_of (same i)) ∙ sym (length-padded-is K.head) in
     omega (arith, all, copied, parts, head)
 
--- the length of a file in the first profile
-pub length-file : (K : Content) → IsWritable K → length (file first_form K) ≡ size_of K
-unfolding first_form size_of
-length-file K ok =
-    let whole = ap (λ (b : List ℕ). length b) (file-is first_form K) ∙ length-file_of (last_tables first_form K) (are_tables first_form K (last_head first_form K)) in
-    let count = length-last_tables first_form K ok in
-    let bodies = length-last_bodies first_form K ok in
-    let cmap_long = length-cmap_bytes (groups_of K) in
-    let cmap = ap (λ (b : List ℕ). length b) (padded-same (cmap_bytes (groups_of K)) (omega arith)) in
-    let glyf = ap (λ (b : List ℕ). length (padded b)) (append-nil (concat (outlines_of K))) in
+-- the length of a file
+pub length-file : (form : Form) (K : Content) → IsWritable K → length (file form K) ≡ size_of form K
+unfolding size_of
+length-file form K ok =
+    let whole = ap (λ (b : List ℕ). length b) (file-is form K) ∙ length-file_of (last_tables form K) (are_tables form K (last_head form K)) in
+    let count = length-last_tables form K ok in
+    let bodies = length-last_bodies form K ok in
+    let cmap_long = length-cmap_bytes form (groups_of K) in
+    let cmap = ap (λ (b : List ℕ). length b) (padded-same (cmap_bytes form (groups_of K)) (omega arith)) in
     let loca_long = length-loca_bytes (outlines_of K) in
     let loca = ap (λ (b : List ℕ). length b) (padded-same (loca_bytes (outlines_of K)) (omega arith)) in
     let glyphs = length-outlines_of K in
-    omega (arith, whole, count, bodies, cmap, cmap_long, glyf, loca, loca_long, glyphs)
+    omega (arith, whole, count, bodies, cmap, cmap_long, loca, loca_long, glyphs)
 
 -- outlines that are padded one by one need no padding together
-length-concat-whole : (outlines : List (List ℕ)) → Each (λ outline. padded outline ≡ outline) outlines → (length (concat outlines) % 4 ≡ 0) × (length (concat outlines) ≡ sum (map length outlines))
+pub length-concat-whole : (outlines : List (List ℕ)) → Each (λ outline. padded outline ≡ outline) outlines → (length (concat outlines) % 4 ≡ 0) × (length (concat outlines) ≡ sum (map length outlines))
 length-concat-whole [] each = (refl, refl)
 length-concat-whole (outline ∷ outlines) each =
     let rest = length-concat-whole outlines each.1 in
@@ -162,7 +161,7 @@ record_in-padded : (o : Option (List ℕ)) → ((b : List ℕ) → o ≡ Some b 
 record_in-padded None h = padded-nil
 record_in-padded (Some b) h = h b refl
 
-outlines-padded : (K : Content) → ((g : ℕ) (b : List ℕ) → K.outline g ≡ Some b → padded b ≡ b) → (g n : ℕ) → Each (λ outline. padded outline ≡ outline) (outlines_from K g n)
+pub outlines-padded : (K : Content) → ((g : ℕ) (b : List ℕ) → K.outline g ≡ Some b → padded b ≡ b) → (g n : ℕ) → Each (λ outline. padded outline ≡ outline) (outlines_from K g n)
 outlines-padded K h g zero = tt
 outlines-padded K h g (suc n) = (record_in-padded (K.outline g) (h g), outlines-padded K h (g + 1) n)
 

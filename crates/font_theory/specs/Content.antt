@@ -1,5 +1,5 @@
 -- What an accepted font means to a cut, what a cut is made of, and what is read back of a cut. A table stands by its slot, the place of its tag in KEPT.
-use Rattle.std.specs.Prelude.{◌≡◌, ℕ, ◌<◌, ◌≤◌, nat_eq, nat_le, nat_lt, Bool, true, false, ◌||◌, List, [], length, if◌then◌else◌, Option, None, unwrap_or}
+use Rattle.std.specs.Prelude.{◌≡◌, ℕ, ◌<◌, ◌≤◌, nat_eq, nat_le, nat_lt, Bool, true, false, ◌||◌, List, [], length, if◌then◌else◌, Option, None, IsSome, unwrap_or}
 use Rattle.sfnt_bytes.specs.Directory.{kept_tag, table_of}
 use Rattle.sfnt_bytes.specs.Lines.{when}
 use Rattle.font_tables.specs.Fields.{glyph_count_of, num_glyphs, number_of_h_metrics}
@@ -9,7 +9,7 @@ use Rattle.font_tables.specs.Tables.{head_of}
 use Rattle.font_map.specs.CharacterMap.{restricted}
 use Rattle.font_glyph.specs.Reach.{any_below, reached}
 use Rattle.font_glyph.specs.Record.{IsRecord}
-use Rattle.font_glyph.specs.Union.{Records, record_in}
+use Rattle.font_glyph.specs.Union.{HoldsComponents, Records, record_in}
 use Rattle.font_file.specs.Font.{map_of}
 use Rattle.font_theory.specs.Bytes.{cut_head, padded}
 
@@ -106,3 +106,9 @@ pub record IsWritable (K : Content) : Type 0 where
   pub head_form : cut_head K.head ≡ K.head
   pub head_size : 54 ≤ length K.head
   pub past : (g : ℕ) → glyph_count K.copied ≤ g → K.outline g ≡ None
+
+-- a content keeps .notdef, the glyph of each code, and each component of an outline that it keeps
+pub record KeepsComponents (K : Content) : Type 0 where
+  pub notdef : IsSome (K.outline 0)
+  pub mapped : (c : ℕ) → IsSome (K.outline (K.map c))
+  pub components : HoldsComponents K.outline

@@ -8,7 +8,7 @@ use Rattle.font_file.specs.Font.{font_fault}
 use Rattle.font_file.specs.declared.font_error.FontError.{FontError}
 use Rattle.font_file.specs.declared.font_error.FontError.TheVariants.{Directory}
 use Rattle.font_theory.specs.Content.{Content, Font, IsClosed, IsFont, content, everything, font_of, seen}
-use Rattle.font_theory.specs.File.{file, first_form}
+use Rattle.font_theory.specs.File.{Form, current_form, file}
 use Rattle.font_theory.specs.Join.{Agree, both}
 
 -- a reader and a writer of files
@@ -38,7 +38,7 @@ cut R F wanted = R.file (content (R.font F) wanted)
 abbrev pub whole : Format → List ℕ → Content
 whole R X = content (R.font X) everything
 
--- X is in cut form: accepted, and the file of its own content
+-- X is in cut form: accepted, and a file of its own content
 pub record IsCut (R : Format) (X : List ℕ) : Type 0 where
   pub accepted : R.fault X ≡ None
   pub written : Writes R (whole R X) X
@@ -46,6 +46,15 @@ pub record IsCut (R : Format) (X : List ℕ) : Type 0 where
 -- an accepted file is in cut form
 unfoldable pub is_cut : Format → List ℕ → Bool
 is_cut R X = bytes_eq (R.file (whole R X)) X || bytes_eq (R.old (whole R X)) X
+
+-- X is current: accepted, and its own file as it is written
+pub record IsCurrent (R : Format) (X : List ℕ) : Type 0 where
+  pub accepted : R.fault X ≡ None
+  pub written : R.file (whole R X) ≡ X
+
+-- an accepted file is current
+unfoldable pub is_current : Format → List ℕ → Bool
+is_current R X = bytes_eq (R.file (whole R X)) X
 
 -- the codes that a file maps, none where it is refused
 abbrev pub codes_of : Format → List ℕ → ℕ → Bool
@@ -70,6 +79,10 @@ pub record CanJoin (R : Format) (X Y : List ℕ) : Type 0 where
 abbrev pub either : (ℕ → Bool) → (ℕ → Bool) → ℕ → Bool
 either A B c = A c || B c
 
+-- the reader of this program, a form that is written, and one that is read as a cut too
+abbrev pub format_of : Form → Form → Format
+format_of form old = record { fault = font_fault; font = font_of; file = file form; old = file old; most = MAX_FILE }
+
 -- the reader and the writer of this program
 unfoldable pub our_format : Format
-our_format = record { fault = font_fault; font = font_of; file = file first_form; old = file first_form; most = MAX_FILE }
+our_format = format_of current_form current_form

@@ -1,5 +1,5 @@
 -- The one file of a content (OpenType 1.9, Organization of an OpenType Font; cmap, Format 12: Segmented coverage; loca; glyf).
-use Rattle.std.specs.Prelude.{ℕ, ◌+◌, ◌*◌, nat_eq, List, [], ◌∷◌, ◌++◌, length, map, if◌then◌else◌, Option, Some, sum}
+use Rattle.std.specs.Prelude.{◌≡◌, ℕ, ◌+◌, ◌*◌, nat_eq, List, [], ◌∷◌, ◌++◌, length, map, replicate, if◌then◌else◌, Option, None, Some, sum}
 use Rattle.std.specs.List.{concat, flat_map, range_with_len}
 use Rattle.std.specs.Option.{option_map, option_map_or}
 use Rattle.sfnt_bytes.specs.Directory.{kept_tag}
@@ -8,24 +8,16 @@ use Rattle.sfnt_bytes.specs.SearchFields.{search_fields_of}
 use Rattle.sfnt_bytes.specs.Sums.{adjustment_of, checksum_of, without_field}
 use Rattle.sfnt_bytes.specs.declared.records.Entry.{Entry}
 use Rattle.sfnt_bytes.specs.declared.tag.Tag.{Tag}
-use Rattle.font_map.specs.Runs.{groups_from}
+use Rattle.font_map.specs.CharacterMap.{clipped}
+use Rattle.font_map.specs.Mapping.{mapping_of}
+use Rattle.font_map.specs.Refusals.{map_fault}
+use Rattle.font_map.specs.Runs.{groups_from, spelled}
 use Rattle.font_map.specs.declared.runs.Run.{Run}
 use Rattle.font_glyph.specs.Union.{record_in}
 use Rattle.font_theory.specs.Bytes.{bytes16, bytes32, padded, with_adjustment}
 use Rattle.font_theory.specs.Content.{Content, glyph_count}
-
--- startCharCode, endCharCode and startGlyphID of a group
-abbrev pub group_bytes : Run → List ℕ
-group_bytes run = bytes32 run.first ++ (bytes32 run.last ++ bytes32 run.glyph)
-
--- a subtable of format 12: format, reserved, length, language, numGroups and the groups
-unfoldable pub subtable_bytes : List Run → List ℕ
-subtable_bytes runs =
-    bytes16 12 ++ (bytes16 0 ++ (bytes32 (16 + 12 * length runs) ++ (bytes32 0 ++ (bytes32 (length runs) ++ flat_map group_bytes runs))))
-
--- `cmap`: version 0, and one record, 3/10, of a subtable right behind it
-unfoldable pub cmap_bytes : List Run → List ℕ
-cmap_bytes runs = bytes16 0 ++ (bytes16 1 ++ (bytes16 3 ++ (bytes16 10 ++ (bytes32 12 ++ subtable_bytes runs))))
+use Rattle.font_theory.specs.declared.Profile.{Profile}
+use Rattle.font_theory.specs.declared.Profile.TheVariants.{First, Second}
 
 -- the groups that spell the map of a content
 unfoldable pub groups_of : Content → List Run
@@ -48,18 +40,68 @@ offsets_from at (outline ∷ outlines) = at ∷ offsets_from (at + length outlin
 unfoldable pub loca_bytes : List (List ℕ) → List ℕ
 loca_bytes outlines = flat_map bytes32 (offsets_from 0 outlines)
 
--- what a profile settles: the bytes of `cmap`, and what stands behind the outlines in `glyf`
-pub record Form : Type 0 where
-  pub cmap : List Run → List ℕ
-  pub behind : List ℕ → List ℕ
+-- startCharCode, endCharCode and startGlyphID of a group
+abbrev pub numbers_of : Run → List ℕ
+numbers_of run = run.first ∷ run.last ∷ run.glyph ∷ []
 
--- the first profile
+abbrev pub group_bytes : Run → List ℕ
+group_bytes run = bytes32 run.first ++ (bytes32 run.last ++ bytes32 run.glyph)
+
+-- a subtable of format 12 up to its n groups, word by word: format and reserved, length, language and numGroups
+abbrev pub subtable_front : ℕ → List ℕ
+subtable_front n = 0x000C0000 ∷ (16 + 12 * n) ∷ 0 ∷ n ∷ []
+
+-- what a profile settles
+pub record Form : Type 0 where
+  pub front : ℕ → List ℕ  -- `cmap` up to its n groups, word by word
+  pub zeros : ℕ → ℕ  -- how many zeros stand in `glyf` behind outlines of n bytes
+
+-- the first profile. `cmap`: version 0, and one record, 3/10, of a subtable right behind it
 unfoldable pub first_form : Form
-first_form = record { cmap = cmap_bytes; behind = λ _. [] }
+first_form = record {
+  front = λ n. 0x00000001 ∷ 0x0003000A ∷ 12 ∷ subtable_front n;
+  zeros = λ _. 0;
+}
+
+-- the second profile. `cmap`: two records, 0/4 and 3/10, of one subtable right behind them. `glyf` is never empty
+unfoldable pub second_form : Form
+second_form = record {
+  front = λ n. 0x00000002 ∷ 0x00000004 ∷ 20 ∷ 0x0003000A ∷ 20 ∷ subtable_front n;
+  zeros = λ n. if nat_eq n 0 then 4 else 0;
+}
+
+-- the form of a profile
+unfoldable pub form_of : Profile → Form
+form_of First = first_form
+form_of Second = second_form
+
+-- what this program writes
+abbrev pub current_profile : Profile
+current_profile = Second
+
+abbrev pub current_form : Form
+current_form = form_of current_profile
+
+-- `cmap` up to its n groups
+unfoldable pub cmap_front : Form → ℕ → List ℕ
+cmap_front form n = flat_map bytes32 (form.front n)
+
+-- `cmap`
+unfoldable pub cmap_bytes : Form → List Run → List ℕ
+cmap_bytes form runs = cmap_front form (length runs) ++ flat_map group_bytes runs
+
+-- what stands in `glyf` behind outlines
+abbrev pub behind : Form → List ℕ → List ℕ
+behind form outlines = replicate (form.zeros (length outlines)) 0
 
 -- `glyf`: the outlines end to end
 abbrev pub glyf_bytes : Form → List (List ℕ) → List ℕ
-glyf_bytes form outlines = concat outlines ++ form.behind (concat outlines)
+glyf_bytes form outlines = concat outlines ++ behind form (concat outlines)
+
+-- what is asked of a form: its `cmap` is accepted, and maps by its groups
+pub record IsForm (form : Form) : Type 0 where
+  pub accepted : (runs : List Run) → map_fault (cmap_bytes form runs) ≡ None
+  pub maps : (runs : List Run) (glyphs : ℕ) → mapping_of (cmap_bytes form runs) glyphs ≡ clipped glyphs (spelled runs)
 
 -- a table that is written
 pub record Table : Type 0 where
@@ -70,7 +112,7 @@ pub record Table : Type 0 where
 -- the bytes of the table in a slot, with this `head`
 unfoldable pub bytes_in_slot : Form → Content → List ℕ → ℕ → Option (List ℕ)
 bytes_in_slot form K head slot =
-    if nat_eq slot 1 then Some (form.cmap (groups_of K))
+    if nat_eq slot 1 then Some (cmap_bytes form (groups_of K))
     else if nat_eq slot 5 then Some (glyf_bytes form (outlines_of K))
     else if nat_eq slot 6 then Some head
     else if nat_eq slot 9 then Some (loca_bytes (outlines_of K))
@@ -132,9 +174,14 @@ file form K = file_with form K (with_adjustment (adjustment_in form K) K.head)
 abbrev pub padded_length : Option (List ℕ) → ℕ
 padded_length bytes = option_map_or (λ b. length (padded b)) bytes 0
 
--- the length of the file of a content in the first profile: 12 bytes and a record for each of k tables; `cmap` of m groups; the kept outlines, padded; `loca`; and the other tables, padded
-unfoldable pub size_of : Content → ℕ
-size_of K =
+-- the length of the file of a content, with these lengths of its `cmap` and of its `glyf`, padded: 12 bytes and a record for each of k tables; `loca`; and the other tables, padded
+abbrev pub size_with : Content → ℕ → ℕ → ℕ
+size_with K cmap glyf =
     let k = 4 + length (present (map K.copied (range_with_len 0 16))) in
-    12 + 16 * k + (28 + 12 * length (groups_of K)) + length (padded (concat (outlines_of K))) + 4 * (glyph_count K.copied + 1)
+    12 + 16 * k + cmap + glyf + 4 * (glyph_count K.copied + 1)
     + length (padded K.head) + sum (map (λ slot. padded_length (K.copied slot)) (range_with_len 0 16))
+
+-- that with the `cmap` and the `glyf` of a form
+unfoldable pub size_of : Form → Content → ℕ
+size_of form K =
+    size_with K (4 * length (form.front (length (groups_of K))) + 12 * length (groups_of K)) (length (padded (glyf_bytes form (outlines_of K))))

@@ -1,18 +1,17 @@
 //! The laws of fonts, contents and cuts: the contract of each function is the law.
-ghost use Rattle.std.specs.Prelude.{◌≡◌, ◌≢◌, ℕ, ◌≤◌, ◌↔◌, nat_eq, Bool, true, ◌&&◌, List, length, IsSome, None, Some};
+ghost use Rattle.std.specs.Prelude.{◌≡◌, ◌≢◌, ℕ, ◌≤◌, ◌↔◌, nat_eq, Bool, true, ◌&&◌, List, length, None, Some};
 ghost use Rattle.sfnt_bytes.specs.declared.directory.DirError.TheVariants.{FileTooLarge};
 ghost use Rattle.sfnt_bytes.specs.declared.directory.TheConstants.{MAX_FILE};
 ghost use Rattle.font_tables.specs.Metrics.{metric_of};
 ghost use Rattle.font_tables.specs.Outlines.{outline_of};
 ghost use Rattle.font_map.specs.CharacterMap.{restricted};
 ghost use Rattle.font_glyph.specs.Reach.{Reach};
-ghost use Rattle.font_glyph.specs.Union.{HoldsComponents};
 ghost use Rattle.font_file.specs.Font.{font_fault, map_of};
 ghost use Rattle.font_file.specs.declared.font_error.FontError.{FontError};
 ghost use Rattle.font_file.specs.declared.font_error.FontError.TheVariants.{Directory};
 ghost use Rattle.font_theory.specs.Bytes.{padded};
-ghost use Rattle.font_theory.specs.Content.{Content, Font, IsClosed, IsFont, IsWritable, content, font_of, is_kept, is_seed, seen};
-ghost use Rattle.font_theory.specs.Cut.{Format, IsCut, IsFormat, Writes, cut, is_cut, whole};
+ghost use Rattle.font_theory.specs.Content.{Content, Font, IsClosed, IsFont, IsWritable, KeepsComponents, content, font_of, is_kept, is_seed, seen};
+ghost use Rattle.font_theory.specs.Cut.{Format, IsCurrent, IsCut, IsFormat, Writes, cut, is_current, is_cut, whole};
 
 /// What an accepted file means is a font.
 pub fn meaning_is_font()
@@ -38,8 +37,7 @@ pub fn closed_is_writable()
 /// A closed content keeps .notdef, the glyph of each code, and each component of an outline that it
 /// keeps.
 pub fn closed_keeps()
-    ensures { (K : Content) → IsClosed K → IsSome (K.outline 0) × ((c : ℕ) → IsSome (K.outline (K.map c))) × HoldsComponents K.outline
-        × ((g : ℕ) (b : List ℕ) → K.outline g ≡ Some b → padded b ≡ b) }
+    ensures { (K : Content) → IsClosed K → KeepsComponents K × ((g : ℕ) (b : List ℕ) → K.outline g ≡ Some b → padded b ≡ b) }
 {}
 
 /// The content of a content is that of the font for the codes in both sets.
@@ -86,4 +84,19 @@ pub fn cut_is_cut()
 /// Whether an accepted file is in cut form is decided.
 pub fn cut_form_is_decided()
     ensures { (R : Format) → IsFormat R → (X : List ℕ) → R.fault X ≡ None → is_cut R X ≡ true ↔ IsCut R X }
+{}
+
+/// A cut that is written, and is not too large, is current.
+pub fn cut_is_current()
+    ensures { (R : Format) → IsFormat R → (F : List ℕ) → R.fault F ≡ None → (A : ℕ → Bool) → length (cut R F A) ≤ R.most → IsCurrent R (cut R F A) }
+{}
+
+/// A current file is in cut form.
+pub fn current_is_cut()
+    ensures { (R : Format) (X : List ℕ) → IsCurrent R X → IsCut R X }
+{}
+
+/// Whether an accepted file is current is decided.
+pub fn current_is_decided()
+    ensures { (R : Format) (X : List ℕ) → R.fault X ≡ None → is_current R X ≡ true ↔ IsCurrent R X }
 {}

@@ -1,5 +1,5 @@
 //! The laws of files: the contract of each function is the law.
-ghost use Rattle.std.specs.Prelude.{◌≡◌, ◌≤◌, [], false, length, map, nat_eq, None, sum};
+ghost use Rattle.std.specs.Prelude.{◌≡◌, ◌≢◌, ℕ, ◌+◌, ◌*◌, ◌≤◌, List, [], false, length, map, max, nat_eq, None, sum};
 ghost use Rattle.std.specs.List.{concat};
 ghost use Rattle.sfnt_bytes.specs.Findings.{findings_of};
 ghost use Rattle.sfnt_bytes.specs.declared.directory.TheConstants.{MAX_FILE};
@@ -7,18 +7,20 @@ ghost use Rattle.font_file.specs.Font.{font_fault};
 ghost use Rattle.font_theory.specs.Bytes.{padded};
 ghost use Rattle.font_theory.specs.Content.{Content, IsClosed, IsWritable, font_of, seen};
 ghost use Rattle.sfnt_bytes.specs.declared.base6.TheConstants.{BASE6};
-ghost use Rattle.font_theory.specs.Cut.{IsFormat, cut, our_format};
-ghost use Rattle.font_theory.specs.File.{file, first_form, outlines_of, size_of};
-ghost use Rattle.font_theory.specs.WorkedFiles.{aacute_file, nothing_file};
+ghost use Rattle.font_theory.specs.Cut.{IsFormat, cut, format_of, our_format};
+ghost use Rattle.font_theory.specs.File.{Form, IsForm, file, form_of, glyf_bytes, groups_of, outlines_of, size_of, size_with};
+ghost use Rattle.font_theory.specs.declared.Profile.{Profile};
+ghost use Rattle.font_theory.specs.declared.Profile.TheVariants.{First, Second};
+ghost use Rattle.font_theory.specs.WorkedFiles.{aacute_file, nothing_file, nothing_second_file};
 
 /// What is read of the file of a content is the content.
 pub fn file_means()
-    ensures { (K : Content) → IsWritable K → font_of (file first_form K) ≡ seen K }
+    ensures { (form : Form) → IsForm form → (K : Content) → IsWritable K → font_of (file form K) ≡ seen K }
 {}
 
 /// How many bytes the file of a content has.
 pub fn file_size()
-    ensures { (K : Content) → IsWritable K → length (file first_form K) ≡ size_of K }
+    ensures { (form : Form) (K : Content) → IsWritable K → length (file form K) ≡ size_of form K }
 {}
 
 /// The outlines of a closed content take as many bytes in its file as they have.
@@ -26,14 +28,49 @@ pub fn outlines_size()
     ensures { (K : Content) → IsClosed K → length (padded (concat (outlines_of K))) ≡ sum (map length (outlines_of K)) }
 {}
 
+/// How many bytes a file in the first profile has, by how many groups spell its map and how many bytes
+/// its outlines have.
+pub fn size_in_first_profile()
+    ensures { (K : Content) → IsClosed K
+        → size_of (form_of First) K ≡ size_with K (28 + 12 * length (groups_of K)) (sum (map length (outlines_of K))) }
+{}
+
+/// The same in the second profile.
+pub fn size_in_second_profile()
+    ensures { (K : Content) → IsClosed K
+        → size_of (form_of Second) K ≡ size_with K (36 + 12 * length (groups_of K)) (max (sum (map length (outlines_of K))) 4) }
+{}
+
 /// The file of a closed content is accepted, where it is not too large.
 pub fn file_is_accepted()
-    ensures { (K : Content) → IsClosed K → length (file first_form K) ≤ MAX_FILE → font_fault (file first_form K) ≡ None }
+    ensures { (form : Form) → IsForm form → (K : Content) → IsClosed K → length (file form K) ≤ MAX_FILE → font_fault (file form K) ≡ None }
 {}
 
 /// Nothing is found in the file of a closed content.
 pub fn file_has_no_finding()
-    ensures { (K : Content) → IsClosed K → length (file first_form K) ≤ MAX_FILE → findings_of (file first_form K) ≡ [] }
+    ensures { (form : Form) (K : Content) → IsClosed K → length (file form K) ≤ MAX_FILE → findings_of (file form K) ≡ [] }
+{}
+
+/// Each profile has a form.
+pub fn profiles_are_forms()
+    ensures { (profile : Profile) → IsForm (form_of profile) }
+{}
+
+/// No file is in both forms.
+pub fn forms_are_apart()
+    ensures { (K L : Content) → file (form_of First) K ≢ file (form_of Second) L }
+{}
+
+/// In the second form `glyf` has four bytes or the outlines alone.
+pub fn second_glyf_has_bytes()
+    ensures { (outlines : List (List ℕ)) → (length (concat outlines) ≡ 0 → length (glyf_bytes (form_of Second) outlines) ≡ 4)
+        × (length (concat outlines) ≢ 0 → length (glyf_bytes (form_of Second) outlines) ≡ length (concat outlines)) }
+{}
+
+/// The reader of this program goes with any form that is written, and any that is read as a cut
+/// too.
+pub fn forms_are_formats()
+    ensures { (form old : Form) → IsForm form → IsForm old → IsFormat (format_of form old) }
 {}
 
 /// The reader and the writer of this program go together.
@@ -41,12 +78,17 @@ pub fn our_format_is()
     ensures { IsFormat our_format × (our_format.old ≡ our_format.file) × (our_format.most ≡ MAX_FILE) }
 {}
 
-/// The cut of a small font for no code, byte by byte.
+/// The cut of a small font for no code in the first profile, byte by byte.
 pub fn cut_of_nothing()
-    ensures { cut our_format BASE6 (λ c. false) ≡ nothing_file }
+    ensures { cut (format_of (form_of First) (form_of First)) BASE6 (λ c. false) ≡ nothing_file }
+{}
+
+/// The same in the second profile.
+pub fn cut_of_nothing_second()
+    ensures { cut (format_of (form_of Second) (form_of First)) BASE6 (λ c. false) ≡ nothing_second_file }
 {}
 
 /// Its cut for the code of a composite glyph, byte by byte.
 pub fn cut_of_aacute()
-    ensures { cut our_format BASE6 (λ c. nat_eq c 0xC1) ≡ aacute_file }
+    ensures { cut (format_of (form_of First) (form_of First)) BASE6 (λ c. nat_eq c 0xC1) ≡ aacute_file }
 {}

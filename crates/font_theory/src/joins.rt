@@ -5,7 +5,7 @@ ghost use Rattle.sfnt_bytes.specs.declared.directory.DirError.TheVariants.{FileT
 ghost use Rattle.font_file.specs.declared.font_error.FontError.{FontError};
 ghost use Rattle.font_file.specs.declared.font_error.FontError.TheVariants.{Directory};
 ghost use Rattle.font_theory.specs.Content.{Content, Font, IsClosed, IsFont, content};
-ghost use Rattle.font_theory.specs.Cut.{CanJoin, Format, IsCut, IsFormat, Under, Writes, cut, either, is_cut, joined, whole};
+ghost use Rattle.font_theory.specs.Cut.{CanJoin, Format, IsCurrent, IsCut, IsFormat, Under, Writes, cut, either, is_cut, joined, whole};
 ghost use Rattle.font_theory.specs.Difference.{difference};
 ghost use Rattle.font_theory.specs.Join.{Agree, both};
 
@@ -24,10 +24,10 @@ pub fn no_difference()
     ensures { (K L : Content) → IsClosed K → IsClosed L → difference K L ≡ None ↔ Agree K L }
 {}
 
-/// A join is in cut form, above both files, and below each file that is above both.
+/// A join is current, above both files, and below each file that is above both.
 pub fn least_upper_bound()
     ensures { (R : Format) → IsFormat R → (X Y : List ℕ) → CanJoin R X Y → length (joined R X Y) ≤ R.most
-        → IsCut R (joined R X Y) × Under R X (joined R X Y) × Under R Y (joined R X Y)
+        → IsCurrent R (joined R X Y) × Under R X (joined R X Y) × Under R Y (joined R X Y)
         × ((F : List ℕ) → Under R X F → Under R Y F → Under R (joined R X Y) F) }
 {}
 

@@ -7,13 +7,14 @@ mod joins;
 mod trees;
 
 pub use crate::cuts::{
-    closed_is_writable, closed_keeps, content_is_closed, cut_form_is_decided, cut_is_cut,
-    cut_of_cut, kept_is_reached, meaning_is_font, metrics_are_kept, size_of_file,
-    wanted_is_in_file, wanted_is_kept,
+    closed_is_writable, closed_keeps, content_is_closed, current_is_cut, current_is_decided,
+    cut_form_is_decided, cut_is_current, cut_is_cut, cut_of_cut, kept_is_reached, meaning_is_font,
+    metrics_are_kept, size_of_file, wanted_is_in_file, wanted_is_kept,
 };
 pub use crate::files::{
-    cut_of_aacute, cut_of_nothing, file_has_no_finding, file_is_accepted, file_means, file_size,
-    our_format_is, outlines_size,
+    cut_of_aacute, cut_of_nothing, cut_of_nothing_second, file_has_no_finding, file_is_accepted,
+    file_means, file_size, forms_are_apart, forms_are_formats, our_format_is, outlines_size,
+    profiles_are_forms, second_glyf_has_bytes, size_in_first_profile, size_in_second_profile,
 };
 pub use crate::joins::{
     can_join_is_decided, join_of_cuts, join_of_one, least_upper_bound, no_difference,
@@ -23,6 +24,15 @@ pub use crate::trees::{
     clash_everywhere, grown_cuts, same_content, same_union, same_value, same_value_of_cuts,
     trees_of_cuts,
 };
+
+/// How the tables that a cut makes anew are laid out.
+#[derive(Clone, Copy, Debug, PartialEq, Eq)]
+pub enum Profile {
+    /// `cmap` has one record, 3/10, and `glyf` the outlines alone.
+    First,
+    /// `cmap` has two records, 0/4 and 3/10, of one subtable; `glyf` is never empty.
+    Second,
+}
 
 /// Where two contents differ first.
 #[derive(Clone, Copy, Debug, PartialEq, Eq)]

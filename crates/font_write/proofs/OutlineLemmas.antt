@@ -1,14 +1,14 @@
 -- How outlines and their offsets grow, glyph by glyph.
-use Rattle.std.proofs.Common.{◌≡◌, ℕ, zero, suc, ◌+◌, ◌*◌, ◌<◌, List, [], ◌∷◌, ◌++◌, length, sym, ap, ◌∙◌, refl, arith, length-append, append_assoc, flat_map}
+use Rattle.std.proofs.Common.{◌≡◌, ℕ, zero, suc, ◌+◌, ◌-◌, ◌*◌, ◌<◌, ◌≤◌, List, [], ◌∷◌, ◌++◌, length, sym, ap, ◌∙◌, refl, arith, length-append, append_assoc, flat_map}
 use Rattle.std.specs.List.{concat}
-use Rattle.std.proofs.lemmas.List.{append-nil}
+use Rattle.std.proofs.lemmas.List.{append-nil, length-replicate}
 use Rattle.std.proofs.lemmas.List.Folds.{concat-append}
 use Rattle.std.proofs.lemmas.Grind.{flat_map-append}
 use Rattle.font_glyph.specs.Union.{record_in}
 use Rattle.font_theory.specs.Bytes.{bytes32}
 use Rattle.font_theory.specs.Content.{Content}
-use Rattle.font_theory.specs.File.{loca_bytes, offsets_from, outlines_from}
-use Rattle.font_write.specs.Parts.{glyf_to, loca_to}
+use Rattle.font_theory.specs.File.{Form, behind, loca_bytes, offsets_from, outlines_from}
+use Rattle.font_write.specs.Parts.{all_outlines, glyf_in, glyf_to, loca_to}
 use Rattle.font_write.proofs.PartLemmas.{within}
 
 outlines-split : (K : Content) (k n m : ℕ) → outlines_from K k (n + m) ≡ outlines_from K k n ++ outlines_from K (k + n) m
@@ -81,8 +81,18 @@ glyf_within K g n lt = within (glyf_to K) (record_in K.outline g) g n lt (glyf_m
 pub loca_within : (K : Content) (g n : ℕ) → g < n → (rest : List ℕ) × (loca_to K g ++ (bytes32 (length (glyf_to K (g + 1))) ++ rest) ≡ loca_to K n)
 loca_within K g n lt = within (loca_to K) (bytes32 (length (glyf_to K (g + 1)))) g n lt (loca_more K g) (loca_front K)
 
+-- the offsets behind some glyphs stand within all of them
+pub loca_within_all : (K : Content) (g n : ℕ) (chunk : List ℕ) (from : ℕ) → g ≤ n → loca_to K from ++ chunk ≡ loca_to K g → (rest : List ℕ) × (loca_to K from ++ (chunk ++ rest) ≡ loca_to K n)
+loca_within_all K g n chunk from le e =
+    let f = loca_front K g (n - g) in
+    let all : g + (n - g) ≡ n = omega arith in
+    (f.0, sym (append_assoc (loca_to K from) chunk f.0) ∙ ap (λ (t : List ℕ). t ++ f.0) e ∙ f.1 ∙ ap (loca_to K) all)
+
 pub loca_first : (K : Content) (n : ℕ) → (rest : List ℕ) × (bytes32 0 ++ rest ≡ loca_to K n)
 loca_first K n =
     let f = loca_front K 0 n in
     let z : 0 + n ≡ n = omega arith in
     (f.0, ap (λ (t : List ℕ). t ++ f.0) (sym (loca_start K)) ∙ f.1 ∙ ap (loca_to K) z)
+
+pub length-glyf_in : (form : Form) (K : Content) → length (glyf_in form K) ≡ length (all_outlines K) + form.zeros (length (all_outlines K))
+length-glyf_in form K = omega (arith, length-append (all_outlines K) (behind form (all_outlines K)), length-replicate {A = ℕ} (form.zeros (length (all_outlines K))) 0)

@@ -2,11 +2,16 @@
 #![tactic(auto)]
 
 mod bytes;
+mod made_cmap;
+mod made_glyf;
+mod made_head;
+mod made_loca;
 mod plan;
 mod room;
 mod same;
 mod sink;
 mod size;
+mod slots;
 mod source;
 mod writer;
 
@@ -14,6 +19,7 @@ pub use crate::plan::{Measure, Plan, plan_of};
 pub use crate::room::{Room, write_file};
 pub use crate::same::{Same, is_file_of};
 pub use crate::sink::{Sink, Stopped};
-pub use crate::size::{Size, file_size};
+pub use crate::size::{Counts, Size, counted_size, file_size};
 pub use crate::source::Source;
 pub use crate::writer::send_file;
+pub use font_theory::Profile;

@@ -1,8 +1,7 @@
 //! A sink that appends to a vector, and a file in memory.
 ghost use Rattle.std.specs.Prelude.{◌≡◌, ◌≤◌, length, IfOk};
 ghost use Rattle.sfnt_bytes.specs.declared.directory.TheConstants.{MAX_FILE};
-ghost use Rattle.font_theory.specs.File.{file, first_form};
-ghost use Rattle.font_write.specs.Plan.{IsPlan};
+ghost use Rattle.font_write.specs.Plan.{IsPlan, planned_file};
 
 use crate::plan::Plan;
 use crate::sink::{Sink, Stopped};
@@ -43,9 +42,9 @@ pub fn write_file<S: Source, A: Allocator + Copy>(
     size: usize,
 ) -> Result<Vec<u8, A>, AllocError>
     requires plan { IsPlan (S.content_of source.now) plan.now }
-    requires size { size ≡ length (file first_form (S.content_of source.now)) }
-    requires small { length (file first_form (S.content_of source.now)) ≤ MAX_FILE }
-    ensures { IfOk result (λ v. v.items ≡ file first_form (S.content_of source.now)) }
+    requires size { size ≡ length (planned_file plan.now (S.content_of source.now)) }
+    requires small { length (planned_file plan.now (S.content_of source.now)) ≤ MAX_FILE }
+    ensures { IfOk result (λ v. v.items ≡ planned_file plan.now (S.content_of source.now)) }
 {
     let mut room = Room {
         bytes: Vec::with_capacity(alloc, size)?,

@@ -1,9 +1,8 @@
 //! A sink that compares with a file, so that nothing is built only to be compared.
 ghost use Rattle.std.specs.Prelude.{◌≡◌, ◌≢◌, ◌≤◌, ◌<◌, length, take, slice_index, false, true, [], None, IsTrue, ◌↔◌};
 ghost use Rattle.sfnt_bytes.specs.declared.directory.TheConstants.{MAX_FILE};
-ghost use Rattle.font_theory.specs.File.{file, first_form};
 ghost use Rattle.font_write.specs.Comparing.{IsOdd};
-ghost use Rattle.font_write.specs.Plan.{IsPlan};
+ghost use Rattle.font_write.specs.Plan.{IsPlan, planned_file};
 
 use crate::plan::Plan;
 use crate::sink::{Sink, Stopped};
@@ -98,8 +97,8 @@ impl<'a> Sink for Same<'a> {
 /// Whether a file is that of a source.
 pub fn is_file_of<S: Source>(source: &S, plan: &Plan, file_bytes: &[u8]) -> bool
     requires plan { IsPlan (S.content_of source.now) plan.now }
-    requires small { length (file first_form (S.content_of source.now)) ≤ MAX_FILE }
-    ensures { IsTrue result ↔ file_bytes.now ≡ file first_form (S.content_of source.now) }
+    requires small { length (planned_file plan.now (S.content_of source.now)) ≤ MAX_FILE }
+    ensures { IsTrue result ↔ file_bytes.now ≡ planned_file plan.now (S.content_of source.now) }
 {
     let mut same = Same::new(file_bytes);
     if send_file(source, plan, &mut same).is_err() {

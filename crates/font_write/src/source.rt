@@ -1,10 +1,10 @@
-//! What a file is written from.
+//! What a file is written from: this project's own.
 ghost use Rattle.std.specs.Prelude.{◌≡◌, ◌≤◌, ◌<◌, length, None, Some, is_some, IsSome, MatchOption};
 ghost use Rattle.sfnt_bytes.specs.declared.directory.TheConstants.{MAX_FILE};
 ghost use Rattle.font_map.specs.CharacterMap.{IsCharacterMap};
 ghost use Rattle.font_map.specs.Runs.{IsRun, NoRun};
 ghost use Rattle.font_theory.specs.Bytes.{cut_head, padded};
-ghost use Rattle.font_theory.specs.Content.{Content, IsWritable, glyph_count};
+ghost use Rattle.font_theory.specs.Content.{Content, IsWritable, KeepsComponents, glyph_count};
 
 use font_map::Run;
 
@@ -15,9 +15,11 @@ pub trait Source {
     /// The content.
     ghost content_of: { Self → Content };
 
-    /// What holds of the content. The body is empty.
+    /// Recalls what holds of the content: a file of it can be written, and it keeps .notdef, the glyph
+    /// of each mapped code, and each component of an outline that it keeps. Does nothing at run time.
     fn known(&self)
-        ensures { IsWritable (content_of self.now) };
+        ensures writable { IsWritable (content_of self.now) }
+        ensures components { KeepsComponents (content_of self.now) };
 
     /// The table of a slot that is copied as it is: none of `cmap`, `glyf`, `head` and `loca`.
     fn copied(&self, slot: usize) -> Option<&[u8]>
@@ -38,14 +40,24 @@ pub trait Source {
     fn next_run(&self, from: u32) -> Option<Run>
         ensures { MatchOption result (NoRun (content_of self.now).map from) (IsRun (content_of self.now).map from) };
 
+    /// The glyph of a code, 0 where it is not mapped.
+    fn glyph(&self, code: u32) -> u16
+        ensures { result ≡ (content_of self.now).map code }
+    {
+        match self.next_run(code) {
+            Some(run) if run.first == code => run.glyph,
+            _ => 0,
+        }
+    }
+
     /// Whether a glyph is kept.
     fn keeps(&self, g: u16) -> bool
         ensures { result ≡ is_some ((content_of self.now).outline g) };
 
-    /// The outline of a glyph that is kept, without the zeros that fill it.
+    /// The outline of a glyph that is kept, without the zeros that fill it. Of any other glyph it is
+    /// not said which bytes it gives.
     fn outline_of(&self, g: u16) -> &[u8]
-        requires kept { IsSome ((content_of self.now).outline g) }
-        ensures outline { (content_of self.now).outline g ≡ Some (padded result.now) }
+        ensures outline { IsSome ((content_of self.now).outline g) → (content_of self.now).outline g ≡ Some (padded result.now) }
         ensures small { length result.now ≤ MAX_FILE };
 }
 

@@ -6,11 +6,17 @@ mod answers;
 #[cfg(test)]
 mod cut_form;
 #[cfg(test)]
+mod empty_glyf;
+#[cfg(test)]
+mod first_profile;
+#[cfg(test)]
 mod limits;
 #[cfg(test)]
 mod many;
 #[cfg(test)]
 mod refused;
+#[cfg(test)]
+mod sending;
 #[cfg(test)]
 mod texts;
 #[cfg(test)]

@@ -57,7 +57,7 @@ fn order_and_grouping(rt: HostRuntime) -> Result<(), Fail> {
     let y = cut_of(alloc, &BASE6, &[(0x20, 0x20)])?;
     let z = cut_of(alloc, &BASE6, &[(0x41, 0x42)])?;
     let all = cut_of(alloc, &BASE6, &[(0x20, 0x20), (0x41, 0x42), (0xC1, 0xC1)])?;
-    assert_eq!(rt; all.len(), 452);
+    assert_eq!(rt; all.len(), 460);
     let groups = [0x20, 0x20, 4, 0x41, 0x41, 1, 0x42, 0x42, 5, 0xC1, 0xC1, 3];
     assert_eq!(rt; groups_of(alloc, &all)?.as_slice(), groups.as_slice());
     for files in [

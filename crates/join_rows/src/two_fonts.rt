@@ -14,7 +14,7 @@ fn empty_against_outline(rt: HostRuntime) -> Result<(), Fail> {
     let alloc = rt.alloc();
     let x = cut_of(alloc, &fonts::without_outline(alloc, 2)?, &[(0xC1, 0xC1)])?;
     let y = cut_of(alloc, &fonts::one_more_code(alloc)?, &[(0x43, 0x43)])?;
-    assert_eq!(rt; (x.len(), y.len()), (392, 364));
+    assert_eq!(rt; (x.len(), y.len()), (400, 372));
     let stated = Some(JoinError::DifferentGlyph(2));
     assert_eq!(rt; refusal_of(alloc, &x, &y), stated);
     assert_eq!(rt; refusal_of(alloc, &y, &x), stated);
@@ -109,7 +109,7 @@ fn fault(which: Which, error: DirError) -> JoinError {
 fn join_refusals(rt: HostRuntime) -> Result<(), Fail> {
     let alloc = rt.alloc();
     let cut = bytes_of(alloc, &AACUTE)?;
-    let front = cut.get(..403).ok_or("a short cut")?;
+    let front = cut.get(..411).ok_or("a short cut")?;
     let other = cut_of(alloc, &base6_changed(alloc, &[BEARING])?, &[(0x41, 0x41)])?;
     let maxp = DirError::TableOutOfFile(Tag(*b"maxp"));
     for (x, y, stated) in [

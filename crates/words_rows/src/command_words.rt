@@ -14,11 +14,11 @@ hmtx 356 24
 loca 380 14
 maxp 396 32
 findings 0
-cut U+C1 404
-cut none 340
-cut U+20 352
-cut U+41-42 392
-join 440
+cut U+C1 412
+cut none 348
+cut U+20 360
+cut U+41-42 400
+join 448
 ";
 
 const SHOWN: &[u8] = b"glyphs 6
@@ -45,7 +45,7 @@ pub struct Answered {
     pub err: Vec<u8>,
 }
 
-fn line_of(alloc: Global, words: &[&str]) -> Result<Vec<String>, AllocError> {
+pub fn line_of(alloc: Global, words: &[&str]) -> Result<Vec<String>, AllocError> {
     let mut line: Vec<String> = Vec::new(alloc);
     for word in words {
         line.push(String::from_str(alloc, word)?)?;

@@ -8,4 +8,8 @@ mod cuts;
 #[cfg(test)]
 mod join_words;
 #[cfg(test)]
+mod short_files;
+#[cfg(test)]
 mod subset_words;
+#[cfg(test)]
+mod wide_characters;

@@ -9,12 +9,14 @@ use std::test::Fail;
 // The slots of tables.
 const CMAP: usize = 1;
 
+const GLYF: usize = 5;
+
 const HEAD: usize = 6;
 
 const LOCA: usize = 9;
 
 // How many words stand in a cut's `cmap` before its groups.
-const BEFORE_GROUPS: usize = 7;
+const BEFORE_GROUPS: usize = 9;
 
 /// A set of the codes in these ranges.
 pub fn wanted_of<A: Allocator + Copy>(
@@ -55,6 +57,12 @@ pub fn loca_of(alloc: Global, file: &[u8]) -> Result<Vec<u32>, Fail> {
     let table = Directory::read(file)?.table(LOCA).ok_or("no loca")?;
     let words = words_of(alloc, table)?;
     Ok(words)
+}
+
+/// `glyf` of a file.
+pub fn glyf_of(file: &[u8]) -> Result<&[u8], Fail> {
+    let glyf = Directory::read(file)?.table(GLYF).ok_or("no glyf")?;
+    Ok(glyf)
 }
 
 /// `head` of a file.

@@ -32,8 +32,12 @@ pub fn directory_of(alloc: Global, entries: &[Entry]) -> Result<Vec<u8>, Fail> {
     Ok(directory)
 }
 
-/// The bytes of a table in what stands behind a directory of so many bytes.
+/// The bytes of a table in what stands behind a directory of so many bytes. A table of no byte may
+/// stand anywhere.
 pub fn table_in<'a>(start: usize, rest: &'a [u8], entry: &Entry) -> Option<&'a [u8]> {
+    if entry.length == 0 {
+        return Some(&[]);
+    }
     let at = (entry.offset as usize).checked_sub(start)?;
     rest.get(at..at.checked_add(entry.length as usize)?)
 }

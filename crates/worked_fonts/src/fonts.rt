@@ -274,7 +274,7 @@ pub fn name_over_glyf(alloc: Global) -> Result<Vec<u8>, Fail> {
     file_of(alloc, &entries, &rest)
 }
 
-/// Base6 with 65,528 records `zzzz` of no byte behind its own.
+/// Base6 with 65,528 records `zzzz` behind its own, whose offset, length and checksum are 0.
 pub fn many_records(alloc: Global) -> Result<Vec<u8>, Fail> {
     let mut entries = entries_behind(alloc, 1_048_448)?;
     for entry in entries.iter_mut() {
@@ -283,7 +283,7 @@ pub fn many_records(alloc: Global) -> Result<Vec<u8>, Fail> {
     let empty = Entry {
         tag: Tag(*b"zzzz"),
         checksum: 0,
-        offset: 1_048_572,
+        offset: 0,
         length: 0,
     };
     let added = vec![in alloc; empty; 65_528]?;
@@ -295,18 +295,27 @@ pub fn many_records(alloc: Global) -> Result<Vec<u8>, Fail> {
 /// How many bytes the shared region of `wide` has.
 pub const REGION: u32 = 14_913_024;
 
-/// Base6 with all nine optional tables over one region of zeros.
+// How many of its last bytes `vhea` and `vmtx` leave out.
+const LEFT_OUT: u32 = 4;
+
+/// Base6 with all nine optional tables over one region of zeros, `vhea` and `vmtx` over all but its
+/// last four bytes.
 pub fn wide(alloc: Global) -> Result<Vec<u8>, Fail> {
     let own = entries_behind(alloc, 144)?;
     let mut entries = Vec::new(alloc);
     for tag in KEPT {
         let entry = own.iter().find(|entry| entry.tag == tag);
+        let is_shorter = tag == Tag(*b"vhea") || tag == Tag(*b"vmtx");
         entries.push(
             entry.copied().unwrap_or(Entry {
                 tag,
                 checksum: 0,
                 offset: 572,
-                length: REGION,
+                length: if is_shorter {
+                    REGION - LEFT_OUT
+                } else {
+                    REGION
+                },
             }),
         )?;
     }

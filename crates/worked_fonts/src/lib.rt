@@ -4,5 +4,6 @@
 pub mod bytes;
 pub mod cuts;
 pub mod files;
+pub mod first_profile;
 pub mod fonts;
 pub mod vectors;

@@ -1,12 +1,16 @@
-use Rattle.std.proofs.Common.{rules, ◌≡◌, None}
-use Rattle.font_file.specs.Font.{font_fault}
-use Rattle.font_cut.specs.Join.{union_fault}
-use Rattle.font_cut.proofs.UnionLemmas.{can_unite}
+use Rattle.std.proofs.Common.{refl, ◌∙◌}
+use Rattle.font_cut.specs.Union.{content_in}
+use Rattle.font_cut.proofs.AddLemmas.{fault_of_two, refused_one, refused_two}
 use Rattle.font_cut.proofs.joined.Joined.new.Goals as goal
 
-pub invariant_of-result : goal.invariant_of-result
-invariant_of-result g c =
-    let x : font_fault c.in-Ok.first ≡ None = search rules in
-    let y : font_fault c.in-Ok-new.second ≡ None = search rules in
-    let none : union_fault c.in-Ok.first c.in-Ok-new.second ≡ None = search rules in
-    can_unite c.in-Ok.first c.in-Ok-new.second x y none
+pub returns-in-Err : goal.returns-in-Err
+returns-in-Err g c = refused_one c.args.x.now c.args.y.now c.in-Err.error c.in-Err.ensures
+
+pub returns-in-Ok-add : goal.returns-in-Ok-add
+returns-in-Ok-add g c =
+    (refl, fault_of_two (content_in c.in-Ok.one) c.args.x.now c.args.y.now c.in-Ok.ensures.0 c.in-Ok.ensures.1 ∙ c.in-Ok-add.ensures.1)
+
+pub returns-in-Err-add : goal.returns-in-Err-add
+returns-in-Err-add g c =
+    refused_two (content_in c.in-Ok.one) c.args.x.now c.args.y.now c.in-Err-add.error
+    (fault_of_two (content_in c.in-Ok.one) c.args.x.now c.args.y.now c.in-Ok.ensures.0 c.in-Ok.ensures.1) c.in-Err-add.ensures

@@ -1,0 +1,186 @@
+//! The union of many files in cut form, added one after the other: the bytes of each are read once.
+//! This is this project's own, but for the groups of the mapping. OpenType 1.9, cmap, Format 12:
+//! Segmented coverage.
+ghost use Rattle.std.specs.Prelude.{◌≡◌, ◌≤◌, length, None, Some, MatchOption, MatchResult};
+ghost use Rattle.sfnt_bytes.specs.declared.directory.TheConstants.{MAX_FILE};
+ghost use Rattle.font_theory.specs.Bytes.{padded};
+ghost use Rattle.font_theory.specs.Content.{content, everything, font_of};
+ghost use Rattle.font_theory.specs.Cut.{IsCut, our_format};
+ghost use Rattle.font_theory.specs.File.{current_form, file};
+ghost use Rattle.font_theory.specs.Join.{both};
+ghost use Rattle.font_cut.specs.Union.{AgreesEarly, IsAddRefusal, IsFirstRefusal, IsUnion, add_fault, content_in};
+
+use crate::cut_source::{accepted, copied, head};
+use crate::difference::{early_difference, refusal_of};
+use crate::join_error::{JoinError, Which};
+use crate::listed::Listed;
+use crate::merging::{run_among, runs_of_both};
+use crate::outlines::Outlines;
+use crate::written::CURRENT;
+use font_file::Font;
+use font_map::Run;
+use font_write::{Counts, Source, counted_size};
+use std::alloc::Allocator;
+use std::marker::Model;
+
+/// The union of files in cut form: the tables of the first of them, the merged runs of all maps, and
+/// for each glyph the slice of the first file that keeps it.
+#[derive(Drop)]
+pub(crate) struct Union<'f, 'a, A: Allocator> {
+    first: &'f Font<'a>,
+    runs: Vec<Run, A>,
+    outlines: Outlines<'a, A>,
+}
+
+// Its value is what is held: the file whose tables it has, the runs and the outlines.
+impl<'f, 'a, A: Allocator> Model for Union<'f, 'a, A> {
+    ghost use Rattle.font_cut.specs.Union.{Held, IsUnion};
+
+    ghost Value = { Held };
+
+    ghost view = { λ u. record { tables = u.first.now; runs = u.runs.items; outlines = u.outlines } };
+
+    ghost invariant = { λ u. IsUnion (record { tables = u.first.now; runs = u.runs.items; outlines = u.outlines }) };
+}
+
+impl<'f, 'a, A: Allocator> Source for Union<'f, 'a, A> {
+    ghost use Rattle.font_cut.specs.Union.{content_in};
+
+    ghost content_of = { content_in };
+
+    fn known(&self) {
+        accepted(self.first);
+    }
+
+    fn copied(&self, slot: usize) -> Option<&[u8]> {
+        copied(self.first, slot)
+    }
+
+    fn head(&self) -> &[u8] {
+        head(self.first)
+    }
+
+    #[tactic(auto, using(crate::proofs::SourceLemmas::glyph_count_is))]
+    fn glyph_count(&self) -> u16 {
+        self.first.tables().glyph_count()
+    }
+
+    fn next_run(&self, from: u32) -> Option<Run> {
+        run_among(&self.runs, from)
+    }
+
+    fn keeps(&self, g: u16) -> bool {
+        self.outline(g).is_some()
+    }
+
+    fn outline_of(&self, g: u16) -> &[u8] {
+        match self.outline(g) {
+            Some(outline) => outline,
+            None => &[],
+        }
+    }
+}
+
+impl<'f, 'a, A: Allocator> Union<'f, 'a, A> {
+    // The outline of a glyph, with the zeros that fill it.
+    fn outline(&self, g: u16) -> Option<&'a [u8]>
+        ensures outline { MatchOption result ((content_in self.now).outline g ≡ None) (λ b. (content_in self.now).outline g ≡ Some b.now) }
+        ensures filled { MatchOption result Unit (λ b. padded b.now ≡ b.now) }
+        ensures small { MatchOption result Unit (λ b. length b.now ≤ MAX_FILE) }
+    {
+        if g < self.first.tables().glyph_count() {
+            return self.outlines.at(g);
+        }
+        None
+    }
+}
+
+impl<'f, 'a, A: Allocator> Union<'f, 'a, A> {
+    /// How many bytes the file of the union has. Its runs and its outlines are counted as they are added,
+    /// so that no step goes over all of them.
+    pub(crate) fn size(&self) -> u64
+        ensures { result ≡ length (file current_form (content_in self.now)) }
+    {
+        let counts = Counts {
+            groups: self.runs.len() as u32,
+            outlines: self.outlines.bytes() as usize,
+        };
+        counted_size(self, CURRENT, counts).bytes
+    }
+}
+
+// Why a file is not added, before outlines are compared.
+fn early_refusal<A: Allocator, B: Allocator>(
+    k: &Union<'_, '_, A>,
+    l: &Listed<'_, '_, B>,
+) -> Option<JoinError>
+    ensures { MatchOption result (AgreesEarly (content_in k.now) l.now) (λ error. add_fault (content_in k.now) l.now ≡ Some error) }
+{
+    if !l.is_cut() {
+        return Some(JoinError::NotACut(Which::Second));
+    }
+    match early_difference(k, l) {
+        Some(difference) => Some(refusal_of(difference)),
+        None => None,
+    }
+}
+
+impl<'f, 'a, A: Allocator + Copy> Union<'f, 'a, A> {
+    /// The union of one file in cut form.
+    ///
+    /// # Errors
+    ///
+    /// `NotACut` of the first, or `NoMemory`.
+    pub(crate) fn of_first(alloc: A, font: &'f Font<'a>) -> Result<Union<'f, 'a, A>, JoinError>
+        ensures { MatchResult result (λ union. (content_in union ≡ content (font_of font.entry.now) everything) × IsCut our_format font.entry.now) (IsFirstRefusal font.entry.now) }
+    {
+        accepted(font);
+        let Ok(file) = Listed::new(alloc, &*font) else {
+            return Err(JoinError::NoMemory);
+        };
+        if !file.is_cut() {
+            return Err(JoinError::NotACut(Which::First));
+        }
+        let count = file.glyph_count();
+        let Ok(mut outlines) = Outlines::new(alloc, count) else {
+            return Err(JoinError::NoMemory);
+        };
+        // There is nothing yet that its outlines could differ from.
+        let _other = outlines.take(&file, count);
+        Ok(Union {
+            first: font,
+            runs: file.into_runs(),
+            outlines,
+        })
+    }
+
+    /// The union with one more file, but for its size.
+    ///
+    /// # Errors
+    ///
+    /// `NotACut` of the second, the first difference, or `NoMemory`.
+    pub(crate) fn add(self, alloc: A, font: &Font<'a>) -> Result<Union<'f, 'a, A>, JoinError>
+        ensures { MatchResult result (λ union. (content_in union ≡ both (content_in self.entry) (content (font_of font.now) everything)) × (add_fault (content_in self.entry) font.now ≡ None)) (IsAddRefusal (content_in self.entry) font.now) }
+    {
+        accepted(font);
+        let Ok(file) = Listed::new(alloc, font) else {
+            return Err(JoinError::NoMemory);
+        };
+        if let Some(error) = early_refusal(&self, &file) {
+            return Err(error);
+        }
+        let Ok(runs) = runs_of_both(alloc, &self.runs, file.runs()) else {
+            return Err(JoinError::NoMemory);
+        };
+        let count = self.first.tables().glyph_count();
+        let mut outlines = self.outlines;
+        if let Some(g) = outlines.take(&file, count) {
+            return Err(JoinError::DifferentGlyph(g));
+        }
+        Ok(Union {
+            first: self.first,
+            runs,
+            outlines,
+        })
+    }
+}

@@ -1,0 +1,157 @@
+//! Tables that lie over each other, and files whose tables lie in any order: their sums.
+use crate::fonts::{entry, file_of, findings_of};
+use sfnt_bytes::{Entry, Finding, Tag};
+use std::alloc::Global;
+use std::test::Fail;
+
+// The sum of the words of bytes, word by word.
+fn plain_sum(bytes: &[u8]) -> u32 {
+    let mut sum = 0u32;
+    for word in bytes.chunks(4) {
+        let mut field = [0u8; 4];
+        for (byte, other) in field.iter_mut().zip(word) {
+            *byte = *other;
+        }
+        sum = sum.wrapping_add(u32::from_be_bytes(field));
+    }
+    sum
+}
+
+// A number below 65,536 that is not easily told from the one before it.
+fn chance(seed: &mut u32) -> u32 {
+    *seed = seed.wrapping_mul(1_664_525).wrapping_add(1_013_904_223);
+    *seed / 65536
+}
+
+// So many bytes, a multiple of four.
+fn noise(alloc: Global, count: u32) -> Result<Vec<u8>, Fail> {
+    let mut seed = count;
+    let mut bytes = Vec::new(alloc);
+    for _ in 0..count / 4 {
+        let word = chance(&mut seed).wrapping_mul(65_537) ^ chance(&mut seed);
+        bytes.extend_from_slice(&word.to_be_bytes())?;
+    }
+    Ok(bytes)
+}
+
+// How many records the files of overlapping tables have, and where the bytes behind these begin.
+const RECORDS: u32 = 32;
+
+const BODY: u32 = 12 + 16 * RECORDS;
+
+// Tables at all four offsets modulo 4, with lengths of all four remainders; each is nearly all of the
+// body, so that the tables at one offset modulo 4 have many times the bytes of the file. The sum of
+// each stands wrong by `wrong`.
+fn overlapping(alloc: Global, body: &[u8], wrong: u32) -> Result<Vec<u8>, Fail> {
+    let length = u32::try_from(body.len()).map_err(|_| "too long")?;
+    let mut records = Vec::new(alloc);
+    for k in 0..RECORDS {
+        let (start, less) = (k % 4 + 4 * (k / 16), k / 4 % 4 + 31 * (k / 16));
+        let end = length.saturating_sub(less);
+        let table = body
+            .get(start as usize..end as usize)
+            .ok_or("no such table")?;
+        let tag = (0x7A00_0000 + k).to_be_bytes();
+        let sum = plain_sum(table).wrapping_add(wrong);
+        records.push(entry(&tag, sum, BODY + start, end.saturating_sub(start)))?;
+    }
+    file_of(alloc, &records, body)
+}
+
+#[test]
+fn overlapping_tables(rt: HostRuntime) -> Result<(), Fail> {
+    let alloc = rt.alloc();
+    for length in [400u32, 70_000, 140_000] {
+        let body = noise(alloc, length)?;
+        let found = findings_of(alloc, &overlapping(alloc, &body, 0)?)?;
+        assert!(rt;
+            found
+                .iter()
+                .all(|finding| !matches!(finding, Finding::Checksum(_))),
+            "{length} bytes"
+        );
+        let found = findings_of(alloc, &overlapping(alloc, &body, 1)?)?;
+        let wrong = found
+            .iter()
+            .filter(|finding| matches!(finding, Finding::Checksum(_)));
+        assert_eq!(rt; wrong.count(), 32, "{length} bytes");
+    }
+    Ok(())
+}
+
+// A file of a `head` and some tables wherever chance puts them; its sum is right.
+fn scattered(alloc: Global, seed: &mut u32) -> Result<(Vec<u8>, usize), Fail> {
+    let body = noise(alloc, 600)?;
+    let mut records: Vec<Entry> = Vec::new(alloc);
+    for k in 0..8u32 {
+        let tag = (0x6100_0000 + k).to_be_bytes();
+        let start = chance(seed) % 400;
+        let aligned = if k % 3 == 0 { start } else { start / 4 * 4 };
+        records.push(entry(&tag, 0, 156 + aligned, chance(seed) % 200))?;
+    }
+    let head = 156 + chance(seed) % 540;
+    records.push(entry(b"head", 0, head, 54))?;
+    let mut file = file_of(alloc, &records, &body)?;
+    let place = head as usize + 8;
+    put(&mut file, place, 0);
+    let sum = plain_sum(&file);
+    put(&mut file, place, 0xB1B0_AFBAu32.wrapping_sub(sum));
+    Ok((file, place))
+}
+
+// Puts a word in the place of four bytes.
+fn put(file: &mut Vec<u8>, place: usize, word: u32) {
+    for (byte, other) in file.iter_mut().skip(place).zip(word.to_be_bytes()) {
+        *byte = other;
+    }
+}
+
+#[test]
+fn file_sum_over_tables_in_any_order(rt: HostRuntime) -> Result<(), Fail> {
+    let alloc = rt.alloc();
+    let mut seed = 5;
+    for turn in 0..60u32 {
+        let (mut file, place) = scattered(alloc, &mut seed)?;
+        let found = findings_of(alloc, &file)?;
+        assert!(rt; !found.contains(&Finding::FileSum), "turn {turn}");
+        let last = file.last_mut().ok_or("an empty file")?;
+        *last = last.wrapping_add(1);
+        let found = findings_of(alloc, &file)?;
+        assert!(rt; found.contains(&Finding::FileSum), "turn {turn}, {place}");
+    }
+    Ok(())
+}
+
+// Tables in order, each beside the last, with gaps between some of them.
+#[test]
+fn file_sum_over_tables_in_order(rt: HostRuntime) -> Result<(), Fail> {
+    let alloc = rt.alloc();
+    let records = [
+        entry(b"aaaa", 0, 92, 31),
+        entry(b"bbbb", 0, 124, 70),
+        entry(b"head", 0, 204, 54),
+        entry(b"mmmm", 0, 264, 21),
+        entry(b"zzzz", 0, 285, 100),
+    ];
+    let mut file = file_of(alloc, &records, &noise(alloc, 300)?)?;
+    put(&mut file, 212, 0);
+    let sum = plain_sum(&file);
+    put(&mut file, 212, 0xB1B0_AFBAu32.wrapping_sub(sum));
+    let found = findings_of(alloc, &file)?;
+    assert!(rt; !found.contains(&Finding::FileSum));
+    for at in [93, 123, 125, 200, 204, 230, 262, 264, 284, 285, 390] {
+        let was = *file.get(at).ok_or("too short")?;
+        put_byte(&mut file, at, was.wrapping_add(1));
+        let found = findings_of(alloc, &file)?;
+        assert!(rt; found.contains(&Finding::FileSum), "byte {at}");
+        put_byte(&mut file, at, was);
+    }
+    assert!(rt; found.contains(&Finding::Unaligned(Tag(*b"zzzz"))));
+    Ok(())
+}
+
+fn put_byte(file: &mut Vec<u8>, at: usize, byte: u8) {
+    if let Some(place) = file.get_mut(at) {
+        *place = byte;
+    }
+}

@@ -1,0 +1,43 @@
+-- The length of a file in each form, by its groups and its outlines.
+use Rattle.std.proofs.Common.{◌≡◌, ℕ, ◌+◌, ◌*◌, ◌%◌, List, length, map, max, sum, ap, ◌∙◌, arith, inl, inr}
+use Rattle.std.specs.List.{concat}
+use Rattle.std.proofs.lemmas.Bool.{cases_eq}
+use Rattle.std.proofs.lemmas.List.{append-nil}
+use Rattle.font_theory.specs.Bytes.{padded}
+use Rattle.font_theory.specs.Content.{Content, IsClosed, glyph_count}
+use Rattle.font_theory.specs.File.{first_form, form_of, glyf_bytes, groups_of, outlines_of, second_form, size_of, size_with}
+use Rattle.font_theory.specs.declared.Profile.TheVariants.{First, Second}
+use Rattle.font_theory.proofs.FormLemmas.{length-second_glyf}
+use Rattle.font_theory.proofs.HeldLemmas.{some-padded}
+use Rattle.font_theory.proofs.PaddingLemmas.{length-padded-is}
+use Rattle.font_theory.proofs.SizeLemmas.{length-concat-whole, length-padded-outlines, outlines-padded}
+
+-- the outlines of a closed content are whole words
+outlines_whole : (K : Content) → IsClosed K → (length (concat (outlines_of K)) % 4 ≡ 0) × (length (concat (outlines_of K)) ≡ sum (map length (outlines_of K)))
+unfolding outlines_of
+outlines_whole K ok = length-concat-whole (outlines_of K) (outlines-padded K (some-padded K ok) 0 (glyph_count K.copied))
+
+first_glyf : (outlines : List (List ℕ)) → glyf_bytes (form_of First) outlines ≡ concat outlines
+unfolding form_of first_form
+first_glyf outlines = append-nil (concat outlines)
+
+pub size-first : (K : Content) → IsClosed K → size_of (form_of First) K ≡ size_with K (28 + 12 * length (groups_of K)) (sum (map length (outlines_of K)))
+unfolding size_of form_of first_form
+size-first K ok =
+    ap (λ (n : ℕ). size_with K (28 + 12 * length (groups_of K)) n) (ap (λ (b : List ℕ). length (padded b)) (first_glyf (outlines_of K)) ∙ length-padded-outlines K (some-padded K ok))
+
+-- four zeros stand in `glyf` where there is no other byte
+second_glyf : (K : Content) → IsClosed K → length (padded (glyf_bytes (form_of Second) (outlines_of K))) ≡ max (sum (map length (outlines_of K))) 4
+second_glyf K ok =
+    let b : List ℕ = glyf_bytes (form_of Second) (outlines_of K) in
+    let four = (outlines_whole K ok).0 in
+    let all = (outlines_whole K ok).1 in
+    let long = length-padded-is b in
+    elim (cases_eq (length (concat (outlines_of K))) 0) [
+      | inl none ↦ let n = (length-second_glyf (outlines_of K)).0 none in omega (arith, four, all, long, n, none)
+      | inr some ↦ let n = (length-second_glyf (outlines_of K)).1 some in omega (arith, four, all, long, n, some)
+    ]
+
+pub size-second : (K : Content) → IsClosed K → size_of (form_of Second) K ≡ size_with K (36 + 12 * length (groups_of K)) (max (sum (map length (outlines_of K))) 4)
+unfolding size_of form_of second_form
+size-second K ok = ap (λ (n : ℕ). size_with K (36 + 12 * length (groups_of K)) n) (second_glyf K ok)

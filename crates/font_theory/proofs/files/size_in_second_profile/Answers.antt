@@ -1,0 +1,5 @@
+use Rattle.font_theory.proofs.FormSizeLemmas.{size-second}
+use Rattle.font_theory.proofs.files.size_in_second_profile.Goals as goal
+
+pub returns : goal.returns
+returns c = size-second

@@ -1,0 +1,115 @@
+//! Readers and writers that give and take little, and fail once, at a call and with a kind of error of
+//! the test's choice. A call that was tried again would succeed, and be seen by that.
+use std::alloc::Global;
+use std::io;
+use std::io::{ErrorKind, Read, Write};
+
+/// Which call fails. The first call of a sort has the number 1.
+#[derive(Clone, Copy, Debug, PartialEq, Eq)]
+pub enum Failure {
+    /// None does.
+    Nowhere,
+    /// The read of this number is an error of this kind.
+    AtRead(u64, ErrorKind),
+    /// The write of this number is an error of this kind.
+    AtWrite(u64, ErrorKind),
+    /// The write of this number takes no byte.
+    TakesNoneAt(u64),
+    /// The first flush is an error of this kind.
+    AtFlush(ErrorKind),
+}
+
+/// A reader of given bytes, at most `piece` of them a read.
+#[derive(Drop)]
+pub struct Pieces<'a> {
+    rest: &'a [u8],
+    piece: usize,
+    failure: Failure,
+    reads: u64,
+}
+
+impl<'a> Pieces<'a> {
+    pub fn new(rest: &'a [u8], piece: usize, failure: Failure) -> Pieces<'a> {
+        Pieces {
+            rest,
+            piece,
+            failure,
+            reads: 0,
+        }
+    }
+}
+
+impl Read for Pieces<'_> {
+    fn read(&mut self, buf: &mut [u8]) -> io::Result<usize> {
+        self.reads = self.reads.saturating_add(1);
+        match self.failure {
+            Failure::AtRead(k, kind) if k == self.reads => Err(io::Error::from(kind)),
+            _ => {
+                let most = self.piece.min(buf.len());
+                self.rest.read(&mut buf[..most])
+            }
+        }
+    }
+}
+
+/// A writer that holds what it takes, at most `piece` bytes a write.
+#[derive(Drop)]
+pub struct Narrow {
+    held: Vec<u8>,
+    piece: usize,
+    failure: Failure,
+    writes: u64,
+    has_failed: bool,
+}
+
+impl Narrow {
+    pub fn new(alloc: Global, piece: usize, failure: Failure) -> Narrow {
+        Narrow {
+            held: Vec::new(alloc),
+            piece,
+            failure,
+            writes: 0,
+            has_failed: false,
+        }
+    }
+
+    /// What it took.
+    pub fn held(&self) -> &[u8] {
+        self.held.as_slice()
+    }
+
+    /// Whether the call that is to fail has come.
+    pub fn has_failed(&self) -> bool {
+        self.has_failed
+    }
+}
+
+impl Write for Narrow {
+    fn write(&mut self, buf: &[u8]) -> io::Result<usize> {
+        self.writes = self.writes.saturating_add(1);
+        match self.failure {
+            Failure::AtWrite(k, kind) if k == self.writes => {
+                self.has_failed = true;
+                Err(io::Error::from(kind))
+            }
+            Failure::TakesNoneAt(k) if k == self.writes => {
+                self.has_failed = true;
+                Ok(0)
+            }
+            _ => {
+                let most = self.piece.min(buf.len());
+                self.held.write(&buf[..most])
+            }
+        }
+    }
+
+    fn flush(&mut self) -> io::Result<()> {
+        match self.failure {
+            Failure::AtFlush(kind) if !self.has_failed => {
+                self.has_failed = true;
+                Err(io::Error::from(kind))
+            }
+            _ => Ok(()),
+        }
+    }
+}

@@ -1,0 +1,14 @@
+//! Tests of the four runs over readers and writers that fail at each call in turn, with each kind of
+//! error, and over memory that is refused.
+#![tactic(auto)]
+
+#[cfg(test)]
+mod failing_runs;
+#[cfg(test)]
+mod fakes;
+#[cfg(test)]
+mod known;
+#[cfg(test)]
+mod refused_memory;
+#[cfg(test)]
+mod runs;
