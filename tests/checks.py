@@ -28,7 +28,7 @@ FONTS = {
 
 # Prints by fontTools what `show` prints of each font: its numbers, the subtable that its mapping is read from, how many
 # codes that maps, and the tags and lengths of its tables in order of tag, which is that of the records in
-# these fonts; fontTools has them by their offsets. At last whether it can be a cut, which has one subtable.
+# these fonts; fontTools has them by their offsets. At last whether it can be a cut, which has two records.
 SHOWN = """
 import json, sys
 from fontTools.ttLib import TTFont
@@ -45,7 +45,7 @@ def shown(path):
     tables = [[tag, entry.length] for tag, entry in sorted(font.reader.tables.items())]
     pairs = [(it.platformID, it.platEncID) for it in font["cmap"].tables]
     return [font["maxp"].numGlyphs, font["head"].unitsPerEm, form, font["hhea"].numberOfHMetrics,
-            [table.platformID, table.platEncID, table.format], codes, tables, pairs == [(3, 10)]]
+            [table.platformID, table.platEncID, table.format], codes, tables, pairs == [(0, 4), (3, 10)]]
 print(json.dumps([shown(path) for path in sys.argv[1:]]))
 """
 

@@ -82,8 +82,8 @@ def groups_of(glyphs):
 
 
 def cmap_table(groups):
-    """A `cmap` with one record, 3/10, and a subtable of format 12."""
-    header = struct.pack(">HHHHI", 0, 1, 3, 10, 12)
+    """A `cmap` with two records, 0/4 and 3/10, of one subtable of format 12."""
+    header = struct.pack(">HHHHIHHI", 0, 2, 0, 4, 20, 3, 10, 20)
     subtable = struct.pack(">HHIII", 12, 0, 16 + 12 * len(groups), 0, len(groups))
     return header + subtable + b"".join(struct.pack(">III", *group) for group in groups)
 
@@ -95,7 +95,8 @@ def glyf_and_loca(records, kept):
         if glyph in kept:
             glyf += padded(record)
         places.append(len(glyf))
-    return bytes(glyf), struct.pack(f">{len(places)}I", *places)
+    # A `glyf` without a byte would be refused by some readers.
+    return bytes(glyf) or bytes(4), struct.pack(f">{len(places)}I", *places)
 
 
 def adjusted(head, adjustment):
