@@ -15,6 +15,7 @@ use font_map::Run;
 use font_write::Source;
 use sfnt_bytes::NoMemory;
 use std::alloc::Allocator;
+use std::cell::Cell;
 use std::marker::Model;
 
 /// A font, the glyphs that its codes keep, and its runs.
@@ -22,6 +23,8 @@ use std::marker::Model;
 pub(crate) struct Listed<'f, 'a, A: Allocator> {
     font: CutOf<'f, 'a, A>,
     runs: Vec<Run, A>,
+    // Where the run that was read last stands.
+    hint: Cell<usize>,
 }
 
 // Its value is the file of the font.
@@ -48,7 +51,11 @@ impl<'f, 'a, A: Allocator + Copy> Listed<'f, 'a, A> {
     {
         let font = CutOf::for_all_codes(alloc, font)?;
         let runs = runs_of(alloc, &font)?;
-        Ok(Listed { font, runs })
+        Ok(Listed {
+            font,
+            runs,
+            hint: Cell::new(0),
+        })
     }
 }
 
@@ -75,7 +82,7 @@ impl<'f, 'a, A: Allocator> Source for Listed<'f, 'a, A> {
 
     #[tactic(auto, using(crate::proofs::AddLemmas::run_listed))]
     fn next_run(&self, from: u32) -> Option<Run> {
-        run_among(&self.runs, from)
+        run_among(&self.runs, &self.hint, from)
     }
 
     fn keeps(&self, g: u16) -> bool {

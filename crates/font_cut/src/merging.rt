@@ -8,6 +8,7 @@ use font_map::Run;
 use font_write::Source;
 use sfnt_bytes::NoMemory;
 use std::alloc::Allocator;
+use std::cell::Cell;
 
 // The place of the first run that ends at a code or above it, by halving.
 #[tactic(auto, using(crate::proofs::RunListLemmas::past_middle, crate::proofs::RunListLemmas::past_none))]
@@ -62,12 +63,26 @@ fn run_from(runs: &[Run], place: usize, from: u32) -> Option<Run>
     })
 }
 
-/// The run that begins at the least mapped code not below `from`.
-pub(crate) fn run_among(runs: &[Run], from: u32) -> Option<Run>
+// The same: on from `hint`, where the run before it ends below the code; else by halving.
+fn place_near(runs: &[Run], hint: usize, from: u32) -> usize
+    requires { AreMapRuns runs.now }
+    ensures { IsPlace runs.now from result }
+{
+    if 0 < hint && hint <= runs.len() && runs[hint - 1].last < from {
+        return place_after(runs, hint, from);
+    }
+    place_of(runs, from)
+}
+
+/// The run that begins at the least mapped code not below `from`. `hint` keeps the place of the run that
+/// was found last: a walk over the runs goes on from there.
+pub(crate) fn run_among(runs: &[Run], hint: &Cell<usize>, from: u32) -> Option<Run>
     requires { AreMapRuns runs.now }
     ensures { MatchOption result (NoRun (spelled runs.now) from) (IsRun (spelled runs.now) from) }
 {
-    run_from(runs, place_of(runs, from), from)
+    let place = place_near(runs, hint.get(), from);
+    hint.set(place);
+    run_from(runs, place, from)
 }
 
 // The first piece of the union of two maps, where the first pieces of both are known: one of them, up
@@ -160,7 +175,10 @@ pub(crate) fn runs_of_both<A: Allocator>(
     ensures spelled { IfOk result (λ v. spelled v.items ≡ united (spelled a.now) (spelled b.now)) }
     ensures runs { IfOk result (λ v. AreMapRuns v.items) }
 {
-    let mut runs = Vec::new(alloc);
+    // As many as there can be where the maps agree: without them the list is copied as it grows.
+    let Ok(mut runs) = Vec::with_capacity(alloc, a.len().saturating_add(b.len())) else {
+        return Err(NoMemory);
+    };
     let (mut ahead, mut places) = piece_of_both(a, b, (0, 0), 0);
     let mut from = 0;
     while let Some(piece) = ahead {

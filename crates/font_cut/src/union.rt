@@ -21,6 +21,7 @@ use font_file::Font;
 use font_map::Run;
 use font_write::{Counts, Source, counted_size};
 use std::alloc::Allocator;
+use std::cell::Cell;
 use std::marker::Model;
 
 /// The union of files in cut form: the tables of the first of them, the merged runs of all maps, and
@@ -29,6 +30,8 @@ use std::marker::Model;
 pub(crate) struct Union<'f, 'a, A: Allocator> {
     first: &'f Font<'a>,
     runs: Vec<Run, A>,
+    // Where the run that was read last stands.
+    hint: Cell<usize>,
     outlines: Outlines<'a, A>,
 }
 
@@ -66,7 +69,7 @@ impl<'f, 'a, A: Allocator> Source for Union<'f, 'a, A> {
     }
 
     fn next_run(&self, from: u32) -> Option<Run> {
-        run_among(&self.runs, from)
+        run_among(&self.runs, &self.hint, from)
     }
 
     fn keeps(&self, g: u16) -> bool {
@@ -150,6 +153,7 @@ impl<'f, 'a, A: Allocator + Copy> Union<'f, 'a, A> {
         Ok(Union {
             first: font,
             runs: file.into_runs(),
+            hint: Cell::new(0),
             outlines,
         })
     }
@@ -180,6 +184,7 @@ impl<'f, 'a, A: Allocator + Copy> Union<'f, 'a, A> {
         Ok(Union {
             first: self.first,
             runs,
+            hint: Cell::new(0),
             outlines,
         })
     }

@@ -18,9 +18,8 @@ use std::marker::Model;
 
 // Returns the first free code from `from` on. `skip` says for each code how many codes from it on are
 // known to be taken, 0 for a free one; these numbers grow as they are followed, so that a long row of
-// taken codes is passed in a few steps the next time. A step is at most 65,535 codes, which keeps the
-// list half as large, and a row of all codes takes 17 steps.
-fn free_from(skip: &mut [u16], from: u32) -> u32
+// taken codes is passed in a few steps the next time.
+fn free_from(skip: &mut [u32], from: u32) -> u32
     requires skips { IsSkip skip.old }
     requires size { length skip.old ≡ 0x110001 }
     requires within { from < length skip.old }
@@ -30,16 +29,15 @@ fn free_from(skip: &mut [u16], from: u32) -> u32
 {
     let mut at = from;
     while skip[at as usize] > 0 {
-        let next = at + u32::from(skip[at as usize]);
-        let step = skip[at as usize].saturating_add(skip[next as usize]);
-        skip[at as usize] = step;
-        at += u32::from(step);
+        let next = at + skip[at as usize];
+        skip[at as usize] += skip[next as usize];
+        at += skip[at as usize];
     }
     at
 }
 
 // Gives their glyphs to the codes of group `i` that no group listed before it contains.
-fn lay_group(s: &[u8], i: usize, count: u16, glyphs: &mut [u16], skip: &mut [u16])
+fn lay_group(s: &[u8], i: usize, count: u16, glyphs: &mut [u16], skip: &mut [u32])
     requires room { HasGroups s.now }
     requires there { i < group_count s.now }
     requires laid { IsLaid s.now count (drop i (groups_of s.now)) glyphs.old skip.old }
@@ -59,7 +57,7 @@ fn lay_group(s: &[u8], i: usize, count: u16, glyphs: &mut [u16], skip: &mut [u16
 }
 
 // Gives each code its glyph, group by group in the order listed.
-pub(crate) fn lay_groups(s: &[u8], count: u16, glyphs: &mut [u16], skip: &mut [u16])
+pub(crate) fn lay_groups(s: &[u8], count: u16, glyphs: &mut [u16], skip: &mut [u32])
     requires room { HasGroups s.now }
     requires codes { length glyphs.old ≡ 0x110000 }
     requires stops { length skip.old ≡ 0x110001 }
@@ -89,10 +87,18 @@ pub(crate) fn lay_segments(s: &[u8], count: u16, glyphs: &mut [u16])
     }
 }
 
-// Returns `count` zeros: codes that are not mapped, or that are free.
-pub(crate) fn zeros<A: Allocator>(alloc: A, count: usize) -> Result<Vec<u16, A>, NoMemory>
-    ensures count { IfOk result (λ zeros. length zeros.items ≡ count) }
-    ensures zero { IfOk result (λ zeros. (c : ℕ) → slice_index zeros.items c ≡ 0) }
+// Returns glyphs for `count` codes, none of which is mapped.
+pub(crate) fn unmapped<A: Allocator>(alloc: A, count: usize) -> Result<Vec<u16, A>, NoMemory>
+    ensures count { IfOk result (λ glyphs. length glyphs.items ≡ count) }
+    ensures unmapped { IfOk result (λ glyphs. (c : ℕ) → slice_index glyphs.items c ≡ 0) }
+{
+    vec![in alloc; 0; count].map_err(|_| NoMemory)
+}
+
+// Returns numbers for `count` codes, all of which are free.
+pub(crate) fn free<A: Allocator>(alloc: A, count: usize) -> Result<Vec<u32, A>, NoMemory>
+    ensures count { IfOk result (λ skip. length skip.items ≡ count) }
+    ensures free { IfOk result (λ skip. (c : ℕ) → slice_index skip.items c ≡ 0) }
 {
     vec![in alloc; 0; count].map_err(|_| NoMemory)
 }
@@ -154,7 +160,7 @@ impl<A: Allocator + Copy> LaidOut<A> {
     pub(crate) fn of(alloc: A, mapping: &Mapping<'_>) -> Result<LaidOut<A>, NoMemory>
         ensures { IfOk result (λ laid_out. slice_index laid_out ≡ mapping_of mapping.now.0 mapping.now.1) }
     {
-        let mut glyphs = zeros(alloc, 0x110000)?;
+        let mut glyphs = unmapped(alloc, 0x110000)?;
         mapping.lay_out(alloc, &mut glyphs)?;
         Ok(LaidOut { glyphs })
     }
