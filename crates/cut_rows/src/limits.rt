@@ -63,19 +63,3 @@ fn largest_cut_as_plain(rt: HostRuntime) -> Result<(), Fail> {
     assert_eq!(rt; outlet.into_inner().left(), 0);
     Ok(())
 }
-
-// The sizes are those of the definition.
-#[test]
-fn plain_sizes(rt: HostRuntime) -> Result<(), Fail> {
-    let file = wide(rt.alloc())?;
-    let font = Font::open(&file)?;
-    for (codes, size) in [
-        ([0x41].as_slice(), MAX_FILE),
-        (&[0x42], 134_217_724),
-        (&[0x41, 0x42], TOO_LARGE),
-    ] {
-        let plain = plain_cut(rt.alloc(), &font, codes)?;
-        assert_eq!(rt; plain.len() as u64, size, "{codes:?}");
-    }
-    Ok(())
-}

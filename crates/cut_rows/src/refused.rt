@@ -97,23 +97,6 @@ fn outlets_after_a_refusal(rt: HostRuntime) -> Result<(), Fail> {
     Ok(())
 }
 
-// Memory is wanted only where it was refused.
-#[test]
-fn always_out_of_memory(rt: HostRuntime) -> Result<(), Fail> {
-    for (file, range) in cases(rt.alloc())?.iter() {
-        let font = Font::open(file)?;
-        let memory = Refusing::new(rt.alloc(), 0);
-        let wanted = wanted_of(&memory, &[*range])?;
-        assert!(rt; cut(&memory, &font, &wanted).is_ok(), "{range:?}");
-        let mut outlet = Outlet::new(Counting::new());
-        let answer = cut_into(&memory, &font, &wanted, &mut outlet);
-        assert_eq!(rt; answer, Ok(outlet.written()), "{range:?}");
-        let wanted = wanted_of(rt.alloc(), &[*range])?;
-        assert!(rt; cut(rt.alloc(), &font, &wanted).is_ok(), "{range:?}");
-    }
-    Ok(())
-}
-
 // How many requests for memory the cut for 0x42 makes, counted by refusing each in turn. The set has
 // one of its own, the first.
 fn growths_of_cut(alloc: Global, file: &[u8]) -> Result<u64, Fail> {

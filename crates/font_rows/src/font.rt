@@ -1,5 +1,5 @@
 //! Fonts that are opened: their refusals behind those of the tables, and their look-ups.
-use crate::fonts::{base6_with, entry, file_of, refusal_of};
+use crate::fonts::{base6_with, refusal_of};
 use font_cut::{Component, Font, FontError, MapError};
 use sfnt_bytes::BASE6;
 use std::test::Fail;
@@ -47,22 +47,6 @@ fn bad_cmap_before_bad_glyph(rt: HostRuntime) {
         refusal_of(&file),
         Some(FontError::Mapping(MapError::BadCmap))
     );
-}
-
-#[test]
-fn reversed_directory(rt: HostRuntime) -> Result<(), Fail> {
-    let records = [
-        entry(b"maxp", 0, 396, 32),
-        entry(b"loca", 0, 380, 14),
-        entry(b"hmtx", 0, 356, 24),
-        entry(b"hhea", 0, 320, 36),
-        entry(b"head", 0, 264, 54),
-        entry(b"glyf", 0, 192, 70),
-        entry(b"cmap", 0, 124, 68),
-    ];
-    let file = file_of(rt.alloc(), &records, &BASE6[124..])?;
-    assert_eq!(rt; refusal_of(&file), None);
-    Ok(())
 }
 
 #[test]
