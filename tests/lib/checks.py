@@ -4,7 +4,7 @@ import os
 import subprocess
 import sys
 
-TOP = os.path.dirname(os.path.dirname(os.path.abspath(__file__)))
+TOP = os.path.dirname(os.path.dirname(os.path.dirname(os.path.abspath(__file__))))
 FONTCUT = os.path.join(TOP, "fontcut")
 PROGRAM = os.path.join(TOP, "crates", "fontcut", "out", "fontcut")
 
