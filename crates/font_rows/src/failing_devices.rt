@@ -1,5 +1,5 @@
 //! Readers and writers that fail, and memory that is refused.
-use crate::fakes::{Endless, Failure, Narrow};
+use crate::fakes::{Endless, Failure, Narrow, Pieces};
 use font_cmd::{Inlet, ReadError, RunError, run_check};
 use font_cut::{FontError, Outlet, WriteFault};
 use refusing::Refusing;
@@ -66,6 +66,84 @@ fn short_writer(rt: HostRuntime) -> Result<(), Fail> {
             }
         }
     }
+    Ok(())
+}
+
+#[test]
+fn failing_readers(rt: HostRuntime) -> Result<(), Fail> {
+    // how many bytes a read, and how many reads give all of the file and then none
+    for (piece, reads) in [(1, 429), (7, 63), (4096, 2)] {
+        for k in 1..431u64 {
+            let came = bytes_before(k, piece, 428);
+            let mut inlet = Inlet::new(Pieces::new(&BASE6, piece, k));
+            let answer = inlet.read_all(rt.alloc());
+            assert!(rt; !inlet.is_fresh(), "{piece} {k}");
+            assert_eq!(rt; inlet.is_broken(), k <= reads, "{piece} {k}");
+            if k <= reads {
+                assert_eq!(rt;
+                    answer.err(),
+                    Some(ReadError::ReadFault(came)),
+                    "{piece} {k}"
+                );
+            } else {
+                assert_eq!(rt; answer?.as_slice(), BASE6.as_slice(), "{piece} {k}");
+            }
+            let mut inlet = Inlet::new(Pieces::new(&BASE6, piece, k));
+            let mut outlet = Outlet::new(Vec::new(rt.alloc()));
+            let answer = run_check(rt.alloc(), &mut inlet, &mut outlet);
+            assert!(rt; !inlet.is_fresh(), "{piece} {k}");
+            assert_eq!(rt; inlet.is_broken(), k <= reads, "{piece} {k}");
+            if k <= reads {
+                assert_eq!(rt; answer, Err(RunError::Read(came)), "{piece} {k}");
+                assert!(rt; outlet.is_fresh(), "{piece} {k}");
+            } else {
+                assert_eq!(rt; answer, Ok(true), "{piece} {k}");
+                assert_eq!(rt; outlet.into_inner().as_slice(), ACCEPTED, "{piece} {k}");
+            }
+        }
+    }
+    Ok(())
+}
+
+#[test]
+fn failing_writers(rt: HostRuntime) -> Result<(), Fail> {
+    let length = ACCEPTED.len() as u64;
+    for piece in [1, 7, 4096] {
+        for k in 1..23u64 {
+            for failure in [Failure::AtWrite(k), Failure::TakesNoneAt(k)] {
+                let mut inlet = Inlet::new(BASE6.as_slice());
+                let mut outlet = Outlet::new(Narrow::new(rt.alloc(), piece, failure));
+                let answer = run_check(rt.alloc(), &mut inlet, &mut outlet);
+                let written = bytes_before(k, piece, length);
+                assert_eq!(rt; outlet.written(), written, "{piece} {failure:?}");
+                assert_eq!(rt; outlet.is_broken(), written < length, "{piece} {failure:?}");
+                if written < length {
+                    assert_eq!(rt;
+                        answer,
+                        Err(RunError::Write(written)),
+                        "{piece} {failure:?}"
+                    );
+                } else {
+                    assert_eq!(rt; answer, Ok(true), "{piece} {failure:?}");
+                }
+                let writer = outlet.into_inner();
+                assert_eq!(rt; writer.held().len() as u64, written, "{piece} {failure:?}");
+                assert!(rt; ACCEPTED.starts_with(writer.held()), "{piece} {failure:?}");
+            }
+        }
+    }
+    Ok(())
+}
+
+#[test]
+fn failing_flush(rt: HostRuntime) -> Result<(), Fail> {
+    let mut inlet = Inlet::new(BASE6.as_slice());
+    let mut outlet = Outlet::new(Narrow::new(rt.alloc(), 4096, Failure::AtFlush));
+    let answer = run_check(rt.alloc(), &mut inlet, &mut outlet);
+    assert_eq!(rt; answer, Err(RunError::Write(ACCEPTED.len() as u64)));
+    assert_eq!(rt; outlet.written(), ACCEPTED.len() as u64);
+    assert!(rt; outlet.is_broken());
+    assert_eq!(rt; outlet.into_inner().held(), ACCEPTED);
     Ok(())
 }
 

@@ -1,6 +1,6 @@
 //! What `join` sends of cuts, of files that are refused, and where a device or memory fails.
 use crate::cuts::CUT_OF_AACUTE;
-use crate::fakes::Pieces;
+use crate::fakes::{Failure, Narrow, Pieces};
 use font_cmd::{Inlet, RunError, run_join, run_subset};
 use font_cut::{DirError, FontError, JoinAllError, JoinError, Outlet, Wanted, Which};
 use refusing::Refusing;
@@ -111,6 +111,31 @@ fn failing_readers(rt: HostRuntime) -> Result<(), Fail> {
         );
         assert!(rt; inlets[1].is_broken(), "{piece} {k}");
         assert!(rt; inlets[2].is_fresh(), "{piece} {k}");
+    }
+    Ok(())
+}
+
+#[test]
+fn failing_writers(rt: HostRuntime) -> Result<(), Fail> {
+    let x = cut_for(rt.alloc(), &[0x41, 0x42])?;
+    let z = cut_for(rt.alloc(), &[0x41, 0x42, 0xC1])?;
+    for (piece, failure, written) in [
+        (1, Failure::AtWrite(101), 100),
+        (1, Failure::TakesNoneAt(448), 447),
+        (4096, Failure::AtWrite(1), 0),
+        (4096, Failure::AtFlush, JOINED),
+    ] {
+        let mut inlets = [
+            Inlet::new(x.as_slice()),
+            Inlet::new(CUT_OF_AACUTE.as_slice()),
+        ];
+        let mut outlet = Outlet::new(Narrow::new(rt.alloc(), piece, failure));
+        let answer = run_join(rt.alloc(), &mut inlets, &mut outlet);
+        assert_eq!(rt; answer, Err(RunError::Write(written)), "{failure:?}");
+        assert!(rt; outlet.is_broken(), "{failure:?}");
+        let writer = outlet.into_inner();
+        assert_eq!(rt; writer.held().len() as u64, written, "{failure:?}");
+        assert!(rt; z.starts_with(writer.held()), "{failure:?}");
     }
     Ok(())
 }
