@@ -1,8 +1,8 @@
 //! Readers and writers that fail, and memory that is refused.
 use crate::fakes::{Endless, Failure, Narrow, Pieces};
+use fakes::Refusing;
 use font_cmd::{Inlet, ReadError, RunError, run_check};
 use font_cut::{FontError, Outlet, WriteFault};
-use refusing::Refusing;
 use sfnt_bytes::{BASE6, DirError, Tag};
 use std::test::Fail;
 

@@ -1,9 +1,9 @@
 //! What `join` sends of cuts, of files that are refused, and where a device or memory fails.
 use crate::cuts::CUT_OF_AACUTE;
 use crate::fakes::{Failure, Narrow, Pieces};
+use fakes::Refusing;
 use font_cmd::{Inlet, RunError, run_join, run_subset};
 use font_cut::{DirError, FontError, JoinAllError, JoinError, Outlet, Wanted, Which};
-use refusing::Refusing;
 use sfnt_bytes::BASE6;
 use std::alloc::Global;
 use std::test::Fail;

@@ -2,10 +2,10 @@
 use crate::cuts::CUT_OF_AACUTE;
 use crate::fakes::{Endless, Failure, Narrow, Pieces};
 use crate::fonts::{RECORD, RECORDS, base6_with, entry, file_of};
+use fakes::Refusing;
 use font_cmd::{Inlet, RunError, run_show};
 use font_cut::{FontError, Outlet};
 use font_tables::TableError;
-use refusing::Refusing;
 use sfnt_bytes::{BASE6, DirError, Directory, Entry, Tag};
 use std::test::Fail;
 

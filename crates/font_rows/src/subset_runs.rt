@@ -2,9 +2,9 @@
 use crate::cuts::CUT_OF_AACUTE;
 use crate::fakes::{Endless, Failure, Narrow, Pieces};
 use crate::fonts::base6_with;
+use fakes::Refusing;
 use font_cmd::{Inlet, RunError, run_subset};
 use font_cut::{FontError, Outlet, Wanted};
-use refusing::Refusing;
 use sfnt_bytes::{BASE6, DirError};
 use std::alloc::Allocator;
 use std::test::Fail;

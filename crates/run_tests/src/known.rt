@@ -1,4 +1,4 @@
-//! Cuts that are known byte for byte. What stands where is told beside the same bytes in `worked_fonts`.
+//! Cuts that are known byte for byte. What stands where is told beside the same bytes in `sample_fonts`.
 
 /// The cut of Base6 for U+00C1.
 pub const CUT_OF_AACUTE: [u8; 412] = [

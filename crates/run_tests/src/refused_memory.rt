@@ -1,8 +1,8 @@
 //! Memory that is refused to a join, request by request, up to a run that meets no refusal.
 use crate::known::{CUT_OF_A_AND_B, CUT_OF_AACUTE, JOINED};
+use fakes::Refusing;
 use font_cmd::{Inlet, RunError, run_join};
 use font_cut::Outlet;
-use refusing::Refusing;
 use std::test::Fail;
 
 #[test]

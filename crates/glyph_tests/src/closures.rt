@@ -1,0 +1,154 @@
+//! What components reach.
+ghost use Rattle.std.specs.Prelude.{◌≡◌, ◌<◌, length, IfOk};
+
+use crate::glyphs::{base6_records, composite, part};
+use crate::records::Records;
+use fakes::Refusing;
+use font_glyph::{Marks, Outlines, close};
+use sfnt_bytes::NoMemory;
+use std::alloc::{AllocError, Allocator, Global};
+use std::test::Fail;
+
+// The marked glyphs, in order.
+fn marked<A: Allocator>(alloc: Global, marks: &Marks<A>, count: u16) -> Result<Vec<u16>, AllocError>
+    requires { length marks.now ≡ count }
+{
+    let mut glyphs = Vec::new(alloc);
+    for g in 0..count {
+        if marks.has(g) {
+            glyphs.push(g)?;
+        }
+    }
+    Ok(glyphs)
+}
+
+// The outlines of these records, among which is this glyph.
+fn outlines_with(records: Vec<Vec<u8>>, g: u16) -> Result<Records, Fail>
+    ensures { IfOk result (λ outlines. g < length outlines) }
+{
+    let outlines = Records::new(records).ok_or("a record is bad")?;
+    if g >= outlines.count() {
+        return Err(Fail::from("no such glyph"));
+    }
+    Ok(outlines)
+}
+
+// The seed alone, and what it reaches, with this memory.
+fn closed<A: Allocator + Copy>(
+    alloc: A,
+    outlines: &Records,
+    seed: u16,
+) -> Result<Marks<A>, NoMemory>
+    requires { seed < length outlines.now }
+    ensures { IfOk result (λ marks. length marks ≡ length outlines.now) }
+{
+    let mut seeds = Marks::new(alloc, outlines.count())?;
+    seeds.set(seed);
+    close(alloc, outlines, &seeds)
+}
+
+// What one glyph of these records reaches.
+fn reached_from(alloc: Global, records: Vec<Vec<u8>>, seed: u16) -> Result<Vec<u16>, Fail> {
+    let outlines = outlines_with(records, seed)?;
+    let marks = closed(alloc, &outlines, seed)?;
+    let glyphs = marked(alloc, &marks, outlines.count())?;
+    Ok(glyphs)
+}
+
+#[test]
+fn composite_of_composite(rt: HostRuntime) -> Result<(), Fail> {
+    let mut records = base6_records(rt.alloc())?;
+    *records.get_mut(5).ok_or("no glyph 5")? = composite(rt.alloc(), &[part(0x0002, 3)], &[])?;
+    let glyphs = reached_from(rt.alloc(), records, 5)?;
+    assert_eq!(rt; glyphs.as_slice(), [1, 2, 3, 5].as_slice());
+    Ok(())
+}
+
+// Base6 whose glyph 3 has this as its first component.
+fn with_first_component(alloc: Global, glyph: u8) -> Result<Vec<Vec<u8>>, Fail> {
+    let mut records = base6_records(alloc)?;
+    let record = records.get_mut(3).ok_or("no glyph 3")?;
+    *record.get_mut(13).ok_or("no first component")? = glyph;
+    Ok(records)
+}
+
+#[test]
+fn glyph_of_itself(rt: HostRuntime) -> Result<(), Fail> {
+    let records = with_first_component(rt.alloc(), 3)?;
+    let glyphs = reached_from(rt.alloc(), records, 3)?;
+    assert_eq!(rt; glyphs.as_slice(), [2, 3].as_slice());
+    Ok(())
+}
+
+#[test]
+fn ring_of_two(rt: HostRuntime) -> Result<(), Fail> {
+    for seed in [3, 5] {
+        let mut records = with_first_component(rt.alloc(), 5)?;
+        *records.get_mut(5).ok_or("no glyph 5")? = composite(rt.alloc(), &[part(0x0002, 3)], &[])?;
+        let glyphs = reached_from(rt.alloc(), records, seed)?;
+        assert_eq!(rt; glyphs.as_slice(), [2, 3, 5].as_slice(), "from {seed}");
+    }
+    Ok(())
+}
+
+#[test]
+fn seeds_alone(rt: HostRuntime) -> Result<(), Fail> {
+    for seed in [0, 1, 2, 4, 5] {
+        let glyphs = reached_from(rt.alloc(), base6_records(rt.alloc())?, seed)?;
+        assert_eq!(rt; glyphs.as_slice(), [seed].as_slice());
+    }
+    Ok(())
+}
+
+#[test]
+fn no_seed(rt: HostRuntime) -> Result<(), Fail> {
+    let outlines = Records::new(base6_records(rt.alloc())?).ok_or("a record is bad")?;
+    let count = outlines.count();
+    let seeds = Marks::new(rt.alloc(), count)?;
+    let marks = close(rt.alloc(), &outlines, &seeds)?;
+    assert!(rt; marked(rt.alloc(), &marks, count)?.is_empty());
+    Ok(())
+}
+
+#[test]
+fn refused_memory(rt: HostRuntime) -> Result<(), Fail> {
+    let outlines = outlines_with(base6_records(rt.alloc())?, 3)?;
+    for k in 1..100u64 {
+        let memory = Refusing::new(rt.alloc(), k);
+        let answer = closed(&memory, &outlines, 3);
+        if !memory.has_refused() {
+            // one for the seeds, and two for what they reach
+            assert_eq!(rt; memory.requests(), 3);
+            let marks = answer?;
+            let glyphs = marked(rt.alloc(), &marks, outlines.count())?;
+            assert_eq!(rt; glyphs.as_slice(), [1, 2, 3].as_slice());
+            return Ok(());
+        }
+        assert_eq!(rt; answer.err(), Some(NoMemory), "request {k}");
+    }
+    panic!(rt; "each of 99 requests was refused")
+}
+
+// After a refusal the same seeds close once there is memory.
+#[test]
+fn seeds_after_a_refusal(rt: HostRuntime) -> Result<(), Fail> {
+    let outlines = outlines_with(with_first_component(rt.alloc(), 3)?, 3)?;
+    let count = outlines.count();
+    for k in [2, 3] {
+        let memory = Refusing::new(rt.alloc(), k);
+        let mut seeds = Marks::new(&memory, count)?;
+        seeds.set(3);
+        let answer = close(&memory, &outlines, &seeds);
+        assert_eq!(rt; answer.err(), Some(NoMemory), "request {k}");
+        assert_eq!(rt;
+            marked(rt.alloc(), &seeds, count)?.as_slice(),
+            [3].as_slice()
+        );
+        let marks = close(&memory, &outlines, &seeds)?;
+        assert_eq!(rt;
+            marked(rt.alloc(), &marks, count)?.as_slice(),
+            [2, 3].as_slice()
+        );
+    }
+    Ok(())
+}
