@@ -1,11 +1,10 @@
 //! Cuts of small fonts, and the plain cut beside the fast one.
 use crate::plain::{codes_of, plain_cut};
 use font_cut::Font;
-use sample_fonts::bytes::{bytes_of, words_of};
-use sample_fonts::cuts::{cut_of, is_as_stated, is_clean, refusal_of, wanted_of};
+use sample_cuts::{cut_of, is_as_stated, is_clean, refusal_of, wanted_of};
 use sample_fonts::files::file_of_tables;
 use sample_fonts::fonts;
-use sample_fonts::vectors::{AACUTE, NOTHING};
+use sample_fonts::known_cuts::{AACUTE, NOTHING};
 use sfnt_bytes::BASE6;
 use std::alloc::Global;
 use std::test::Fail;
@@ -43,7 +42,7 @@ fn small_fonts_as_stated(rt: HostRuntime) -> Result<(), Fail> {
 fn cut_of_nothing(rt: HostRuntime) -> Result<(), Fail> {
     let made = cut_of(rt.alloc(), &BASE6, &[])?;
     assert_eq!(rt; made.len(), 348);
-    assert_eq!(rt; words_of(rt.alloc(), &made)?.as_slice(), NOTHING.as_slice());
+    assert_eq!(rt; made.as_slice(), NOTHING.as_slice());
     assert!(rt; is_clean(&made));
     Ok(())
 }
@@ -52,7 +51,7 @@ fn cut_of_nothing(rt: HostRuntime) -> Result<(), Fail> {
 fn cut_of_aacute(rt: HostRuntime) -> Result<(), Fail> {
     let made = cut_of(rt.alloc(), &BASE6, &[(0xC1, 0xC1)])?;
     assert_eq!(rt; made.len(), 412);
-    assert_eq!(rt; words_of(rt.alloc(), &made)?.as_slice(), AACUTE.as_slice());
+    assert_eq!(rt; made.as_slice(), AACUTE.as_slice());
     assert!(rt; is_clean(&made));
     Ok(())
 }
@@ -60,7 +59,7 @@ fn cut_of_aacute(rt: HostRuntime) -> Result<(), Fail> {
 #[test]
 fn cut_of_unmapped(rt: HostRuntime) -> Result<(), Fail> {
     let made = cut_of(rt.alloc(), &BASE6, &[(0x5A, 0x5A), (0x10_FFFF, 0x10_FFFF)])?;
-    assert_eq!(rt; words_of(rt.alloc(), &made)?.as_slice(), NOTHING.as_slice());
+    assert_eq!(rt; made.as_slice(), NOTHING.as_slice());
     Ok(())
 }
 
@@ -204,7 +203,7 @@ fn overlaps_and_many_records(rt: HostRuntime) -> Result<(), Fail> {
     let many = fonts::many_records(rt.alloc())?;
     assert_eq!(rt; refusal_of(&many), None);
     let made = cut_of(rt.alloc(), &many, &[(0xC1, 0xC1)])?;
-    assert_eq!(rt; words_of(rt.alloc(), &made)?.as_slice(), AACUTE.as_slice());
+    assert_eq!(rt; made.as_slice(), AACUTE.as_slice());
     Ok(())
 }
 
@@ -241,7 +240,7 @@ fn small_font(alloc: Global, place: usize) -> Result<Vec<u8>, Fail> {
         10 => fonts::by_groups(alloc),
         11 => fonts::reversed_directory(alloc),
         12 => fonts::name_over_glyf(alloc),
-        13 => Ok(bytes_of(alloc, &AACUTE)?),
+        13 => Ok(AACUTE.to_vec(alloc)?),
         _ => Ok(BASE6.to_vec(alloc)?),
     }
 }
@@ -283,9 +282,9 @@ fn is_as_plain(alloc: Global, file: &[u8], codes: &[u32], made: &[u8]) -> Result
 
 #[test]
 fn plain_cut_as_stated(rt: HostRuntime) -> Result<(), Fail> {
-    let nothing = bytes_of(rt.alloc(), &NOTHING)?;
+    let nothing = NOTHING.to_vec(rt.alloc())?;
     assert!(rt; is_as_plain(rt.alloc(), &BASE6, &[], &nothing)?);
-    let aacute = bytes_of(rt.alloc(), &AACUTE)?;
+    let aacute = AACUTE.to_vec(rt.alloc())?;
     assert!(rt; is_as_plain(rt.alloc(), &BASE6, &[0xC1], &aacute)?);
     Ok(())
 }

@@ -1,6 +1,6 @@
 //! The glyphs that a cut keeps.
 use font_cut::{BASE6, CutOf, Font};
-use sample_fonts::cuts::{kept_of, wanted_of};
+use sample_cuts::{kept_of, wanted_of};
 use sample_fonts::fonts;
 use std::alloc::Global;
 use std::test::Fail;

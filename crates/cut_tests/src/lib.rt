@@ -5,8 +5,6 @@
 #[cfg(test)]
 mod cuts;
 #[cfg(test)]
-mod fakes;
-#[cfg(test)]
 mod kept;
 #[cfg(test)]
 mod limits;

@@ -1,8 +1,8 @@
 //! The most bytes that a cut may have.
-use crate::fakes::{Counting, Matching};
 use crate::plain::plain_cut;
+use fakes::devices::{Counting, Matching};
 use font_cut::{CutError, CutIntoError, Font, MAX_FILE, Outlet, cut, cut_into};
-use sample_fonts::cuts::{cut_of, wanted_of};
+use sample_cuts::{cut_of, wanted_of};
 use sample_fonts::fonts::{REGION, wide};
 use std::test::Fail;
 

@@ -1,11 +1,10 @@
 //! Memory that is refused, and how often it is asked for.
-use crate::fakes::Counting;
 use fakes::Refusing;
+use fakes::devices::Counting;
 use font_cut::{CutError, CutIntoError, Font, Outlet, cut, cut_into};
-use sample_fonts::bytes::bytes_of;
-use sample_fonts::cuts::{cut_of, wanted_of};
+use sample_cuts::{cut_of, wanted_of};
 use sample_fonts::fonts;
-use sample_fonts::vectors::AACUTE;
+use sample_fonts::known_cuts::AACUTE;
 use sfnt_bytes::BASE6;
 use std::alloc::Global;
 use std::test::Fail;
@@ -92,7 +91,7 @@ fn outlets_after_a_refusal(rt: HostRuntime) -> Result<(), Fail> {
     assert!(rt; outlet.is_fresh());
     let answer = cut_into(&memory, &font, &wanted, &mut outlet);
     assert_eq!(rt; answer, Ok(412));
-    let aacute = bytes_of(rt.alloc(), &AACUTE)?;
+    let aacute = AACUTE.to_vec(rt.alloc())?;
     assert_eq!(rt; outlet.into_inner().as_slice(), aacute.as_slice());
     Ok(())
 }

@@ -1,12 +1,12 @@
 //! Cuts that are sent to writers which take little, fail, or have no room.
-use crate::fakes::{Counting, Failure, Narrow};
+use fakes::devices::{Counting, Failure, Narrow};
 use font_cut::{CutError, CutIntoError, Font, Outlet, cut_into};
-use sample_fonts::bytes::bytes_of;
-use sample_fonts::cuts::wanted_of;
+use sample_cuts::wanted_of;
 use sample_fonts::fonts::wide;
-use sample_fonts::vectors::AACUTE;
+use sample_fonts::known_cuts::AACUTE;
 use sfnt_bytes::BASE6;
 use std::alloc::Global;
+use std::io::ErrorKind;
 use std::test::Fail;
 
 const SIZE: u64 = 412;
@@ -24,7 +24,7 @@ fn send_aacute(alloc: Global, piece: usize, failure: Failure) -> Result<Sent, Fa
 
 #[test]
 fn sends_the_cut(rt: HostRuntime) -> Result<(), Fail> {
-    let aacute = bytes_of(rt.alloc(), &AACUTE)?;
+    let aacute = AACUTE.to_vec(rt.alloc())?;
     let font = Font::open(&BASE6)?;
     let wanted = wanted_of(rt.alloc(), &[(0xC1, 0xC1)])?;
     let mut outlet = Outlet::new(Vec::new(rt.alloc()));
@@ -39,7 +39,7 @@ fn sends_the_cut(rt: HostRuntime) -> Result<(), Fail> {
 
 #[test]
 fn short_writer(rt: HostRuntime) -> Result<(), Fail> {
-    let aacute = bytes_of(rt.alloc(), &AACUTE)?;
+    let aacute = AACUTE.to_vec(rt.alloc())?;
     for room in 0..414usize {
         let (answer, outlet) = send_aacute(rt.alloc(), 4096, Failure::Full(room))?;
         let written = (room as u64).min(SIZE);
@@ -64,7 +64,7 @@ fn short_writer(rt: HostRuntime) -> Result<(), Fail> {
 
 #[test]
 fn one_byte_writer(rt: HostRuntime) -> Result<(), Fail> {
-    let aacute = bytes_of(rt.alloc(), &AACUTE)?;
+    let aacute = AACUTE.to_vec(rt.alloc())?;
     let (answer, outlet) = send_aacute(rt.alloc(), 1, Failure::Nowhere)?;
     assert_eq!(rt; answer, Ok(SIZE));
     assert_eq!(rt; outlet.written(), SIZE);
@@ -76,9 +76,12 @@ fn one_byte_writer(rt: HostRuntime) -> Result<(), Fail> {
 // With one byte a write, the write of a number comes after one byte less.
 #[test]
 fn failing_writes_of_one_byte(rt: HostRuntime) -> Result<(), Fail> {
-    let aacute = bytes_of(rt.alloc(), &AACUTE)?;
+    let aacute = AACUTE.to_vec(rt.alloc())?;
     for k in 1..413u64 {
-        for failure in [Failure::AtWrite(k), Failure::TakesNoneAt(k)] {
+        for failure in [
+            Failure::AtWrite(k, ErrorKind::Interrupted),
+            Failure::TakesNoneAt(k),
+        ] {
             let (answer, outlet) = send_aacute(rt.alloc(), 1, failure)?;
             let written = k - 1;
             let fault = CutIntoError::WriteFault(written);
@@ -99,10 +102,13 @@ fn failing_writes_of_one_byte(rt: HostRuntime) -> Result<(), Fail> {
 // An outlet breaks where a write failed, and nowhere else; then a front of the cut is out.
 #[test]
 fn breaks_without_failure(rt: HostRuntime) -> Result<(), Fail> {
-    let aacute = bytes_of(rt.alloc(), &AACUTE)?;
+    let aacute = AACUTE.to_vec(rt.alloc())?;
     for piece in [1, 3, 7, 100, 4096] {
         for k in 1..414u64 {
-            for failure in [Failure::AtWrite(k), Failure::TakesNoneAt(k)] {
+            for failure in [
+                Failure::AtWrite(k, ErrorKind::Interrupted),
+                Failure::TakesNoneAt(k),
+            ] {
                 let (answer, outlet) = send_aacute(rt.alloc(), piece, failure)?;
                 let (written, is_broken) = (outlet.written(), outlet.is_broken());
                 let writer = outlet.into_inner();
@@ -120,7 +126,11 @@ fn breaks_without_failure(rt: HostRuntime) -> Result<(), Fail> {
             }
         }
         // the first write is one
-        let (_, outlet) = send_aacute(rt.alloc(), piece, Failure::AtWrite(1))?;
+        let (_, outlet) = send_aacute(
+            rt.alloc(),
+            piece,
+            Failure::AtWrite(1, ErrorKind::Interrupted),
+        )?;
         assert!(rt; outlet.is_broken(), "{piece}");
     }
     Ok(())
@@ -131,7 +141,11 @@ fn unbroken_after_refusals(rt: HostRuntime) -> Result<(), Fail> {
     let file = wide(rt.alloc())?;
     let font = Font::open(&file)?;
     let wanted = wanted_of(rt.alloc(), &[(0x41, 0x42)])?;
-    let mut outlet = Outlet::new(Narrow::new(rt.alloc(), 1, Failure::AtWrite(1)));
+    let mut outlet = Outlet::new(Narrow::new(
+        rt.alloc(),
+        1,
+        Failure::AtWrite(1, ErrorKind::Interrupted),
+    ));
     let answer = cut_into(rt.alloc(), &font, &wanted, &mut outlet);
     assert_eq!(rt; answer, Err(CutIntoError::TooLarge(134_217_752)));
     assert!(rt; outlet.is_fresh() && !outlet.is_broken());

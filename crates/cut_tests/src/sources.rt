@@ -1,7 +1,7 @@
 //! Memory that is refused to the source of a cut, which asks for all that a cut needs before its file.
 use fakes::Refusing;
 use font_cut::{BASE6, CutOf, Font};
-use sample_fonts::cuts::{kept_of, wanted_of};
+use sample_cuts::{kept_of, wanted_of};
 use sample_fonts::fonts;
 use sfnt_bytes::NoMemory;
 use std::alloc::Global;

@@ -1,5 +1,5 @@
 //! Sizes, places and sums of the cuts of Base6.
-use sample_fonts::cuts::cut_of;
+use sample_cuts::cut_of;
 use sfnt_bytes::{BASE6, Directory, Entry, Tag, be32};
 use std::alloc::Global;
 use std::test::Fail;

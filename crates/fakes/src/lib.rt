@@ -1,8 +1,11 @@
-//! An allocator for tests: it counts the requests for memory that it passes on, and refuses one.
+//! What fails on purpose, for tests: an allocator that refuses one request for memory, and readers and
+//! writers that fail at one call.
 #![tactic(auto)]
 
 ghost use Rattle.std.specs.Prelude.{◌≡◌, ◌<◌, [], ◌∷◌, MatchOption, false};
 ghost use Rattle.fakes.specs.Tokens.{held_token};
+
+pub mod devices;
 
 use std::alloc::{AllocError, Allocator};
 use std::cell::Cell;

@@ -1,9 +1,9 @@
 //! Cut form, and bytes that no table has.
 use crate::answers::{is_cut_form, refusal_of};
 use font_cut::{DirError, FontError, JoinError, Which, join};
-use sample_fonts::bytes::{bytes_of, put_at, words_of};
+use sample_fonts::bytes::put_at;
 use sample_fonts::files::mended;
-use sample_fonts::vectors::{AACUTE, NOTHING};
+use sample_fonts::known_cuts::{AACUTE, NOTHING};
 use sfnt_bytes::{BASE6, Tag};
 use std::alloc::{AllocError, Global};
 use std::test::Fail;
@@ -11,8 +11,8 @@ use std::test::Fail;
 #[test]
 fn cut_form_of_files(rt: HostRuntime) -> Result<(), Fail> {
     let alloc = rt.alloc();
-    let aacute = bytes_of(alloc, &AACUTE)?;
-    let nothing = bytes_of(alloc, &NOTHING)?;
+    let aacute = AACUTE.to_vec(alloc)?;
+    let nothing = NOTHING.to_vec(alloc)?;
     for (file, stated) in [(aacute.as_slice(), true), (&nothing, true), (&BASE6, false)] {
         assert_eq!(rt; is_cut_form(alloc, file)?, stated, "{} bytes", file.len());
         assert_eq!(rt; mended(alloc, file)?.as_slice(), file);
@@ -22,7 +22,7 @@ fn cut_form_of_files(rt: HostRuntime) -> Result<(), Fail> {
 
 // The cut for 0xC1 with this byte made 1.
 fn with_byte(alloc: Global, at: usize) -> Result<Vec<u8>, AllocError> {
-    let mut file = bytes_of(alloc, &AACUTE)?;
+    let mut file = AACUTE.to_vec(alloc)?;
     put_at(&mut file, at, &[1]);
     Ok(file)
 }
@@ -31,7 +31,7 @@ fn with_byte(alloc: Global, at: usize) -> Result<Vec<u8>, AllocError> {
 #[test]
 fn stray_padding(rt: HostRuntime) -> Result<(), Fail> {
     let alloc = rt.alloc();
-    let cut = bytes_of(alloc, &AACUTE)?;
+    let cut = AACUTE.to_vec(alloc)?;
     let behind = with_byte(alloc, 290)?;
     assert!(rt; !is_cut_form(alloc, &behind)?);
     let within = mended(alloc, &with_byte(alloc, 198)?)?;
@@ -70,7 +70,7 @@ fn fault_of_front(length: usize) -> FontError {
 #[test]
 fn prefixes(rt: HostRuntime) -> Result<(), Fail> {
     let alloc = rt.alloc();
-    let cut = bytes_of(alloc, &AACUTE)?;
+    let cut = AACUTE.to_vec(alloc)?;
     for (length, _) in cut.iter().enumerate() {
         let front = cut.get(..length).ok_or("no front")?;
         let fault = fault_of_front(length);
@@ -86,7 +86,7 @@ fn prefixes(rt: HostRuntime) -> Result<(), Fail> {
         );
     }
     let whole = join(alloc, &cut, &cut)?;
-    assert_eq!(rt; words_of(alloc, &whole)?.as_slice(), AACUTE.as_slice());
+    assert_eq!(rt; whole.as_slice(), AACUTE.as_slice());
     Ok(())
 }
 
@@ -94,7 +94,7 @@ fn prefixes(rt: HostRuntime) -> Result<(), Fail> {
 #[test]
 fn longer_by_a_byte(rt: HostRuntime) -> Result<(), Fail> {
     let alloc = rt.alloc();
-    let mut file = bytes_of(alloc, &AACUTE)?;
+    let mut file = AACUTE.to_vec(alloc)?;
     file.push(0)?;
     assert!(rt; !is_cut_form(alloc, &file)?);
     Ok(())

@@ -1,7 +1,7 @@
 //! Cuts that keep no byte of an outline: their `glyf` has four zeros that no glyph uses.
 use crate::answers::is_cut_form;
 use font_cut::{Mapping, join};
-use sample_fonts::cuts::{cut_of, glyf_of, is_clean, loca_of};
+use sample_cuts::{cut_of, glyf_of, is_clean, loca_of};
 use sample_fonts::fonts::without_outline;
 use sfnt_bytes::Directory;
 use std::test::Fail;

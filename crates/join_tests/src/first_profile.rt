@@ -1,10 +1,9 @@
 //! Cuts of the first profile, which are fonts as any other.
 use crate::answers::{is_cut_form, refusal_of};
 use font_cut::{JoinError, Which};
-use sample_fonts::bytes::bytes_of;
-use sample_fonts::cuts::{cut_of, is_clean};
+use sample_cuts::{cut_of, is_clean};
 use sample_fonts::first_profile;
-use sample_fonts::vectors::{A_B_AACUTE, AACUTE, NOTHING};
+use sample_fonts::known_cuts::{A_B_AACUTE, AACUTE, NOTHING};
 use std::test::Fail;
 
 #[test]
@@ -15,7 +14,7 @@ fn cuts_of_the_first_profile(rt: HostRuntime) -> Result<(), Fail> {
         (&first_profile::AACUTE, &AACUTE),
         (&first_profile::A_B_AACUTE, &A_B_AACUTE),
     ] {
-        let (first, current) = (bytes_of(alloc, first)?, bytes_of(alloc, current)?);
+        let (first, current) = (first.to_vec(alloc)?, current.to_vec(alloc)?);
         assert!(rt; is_clean(&first) && !is_cut_form(alloc, &first)?);
         let made = cut_of(alloc, &first, &[(0, 0x10_FFFF)])?;
         assert_eq!(rt; made.as_slice(), current.as_slice());

@@ -1,7 +1,7 @@
 //! The most bytes that a join may have.
 use crate::answers::{is_cut_form, refusal_of};
 use font_cut::{JoinError, join};
-use sample_fonts::cuts::cut_of;
+use sample_cuts::cut_of;
 use sample_fonts::fonts::wide;
 use std::test::Fail;
 

@@ -1,28 +1,27 @@
 //! Joins of many cuts of Base6, in any order and grouping.
 use crate::answers::join_of;
 use font_cut::{DirError, FontError, JoinAllError, JoinError, Which, join};
-use sample_fonts::bytes::{bytes_of, words_of};
-use sample_fonts::cuts::{cut_of, groups_of};
+use sample_cuts::{cut_of, groups_of};
 use sample_fonts::fonts::other_outline;
-use sample_fonts::vectors::{A_B_AACUTE, AACUTE, NOTHING};
+use sample_fonts::known_cuts::{A_B_AACUTE, AACUTE, NOTHING};
 use sfnt_bytes::BASE6;
 use std::test::Fail;
 
 #[test]
 fn join_of_many(rt: HostRuntime) -> Result<(), Fail> {
     let alloc = rt.alloc();
-    let aacute = bytes_of(alloc, &AACUTE)?;
-    let nothing = bytes_of(alloc, &NOTHING)?;
+    let aacute = AACUTE.to_vec(alloc)?;
+    let nothing = NOTHING.to_vec(alloc)?;
     let a_and_b = cut_of(alloc, &BASE6, &[(0x41, 0x42)])?;
     let all = join_of(alloc, &[&aacute, &a_and_b, &aacute, &nothing])??;
-    assert_eq!(rt; words_of(alloc, &all)?.as_slice(), A_B_AACUTE.as_slice());
+    assert_eq!(rt; all.as_slice(), A_B_AACUTE.as_slice());
     Ok(())
 }
 
 #[test]
 fn join_of_one(rt: HostRuntime) -> Result<(), Fail> {
     let alloc = rt.alloc();
-    let aacute = bytes_of(alloc, &AACUTE)?;
+    let aacute = AACUTE.to_vec(alloc)?;
     let space = cut_of(alloc, &BASE6, &[(0x20, 0x20)])?;
     for lone in [&aacute, &space] {
         assert_eq!(rt; join(alloc, lone, lone)?.as_slice(), lone.as_slice());
@@ -34,7 +33,7 @@ fn join_of_one(rt: HostRuntime) -> Result<(), Fail> {
 #[test]
 fn refusals_of_many(rt: HostRuntime) -> Result<(), Fail> {
     let alloc = rt.alloc();
-    let aacute = bytes_of(alloc, &AACUTE)?;
+    let aacute = AACUTE.to_vec(alloc)?;
     let none = join_of(alloc, &[])?.err();
     assert_eq!(rt; none, Some(JoinAllError::NothingToJoin));
     let second = join_of(alloc, &[&aacute, &BASE6])?.err();
@@ -53,7 +52,7 @@ fn refusals_of_many(rt: HostRuntime) -> Result<(), Fail> {
 #[test]
 fn order_and_grouping(rt: HostRuntime) -> Result<(), Fail> {
     let alloc = rt.alloc();
-    let x = bytes_of(alloc, &AACUTE)?;
+    let x = AACUTE.to_vec(alloc)?;
     let y = cut_of(alloc, &BASE6, &[(0x20, 0x20)])?;
     let z = cut_of(alloc, &BASE6, &[(0x41, 0x42)])?;
     let all = cut_of(alloc, &BASE6, &[(0x20, 0x20), (0x41, 0x42), (0xC1, 0xC1)])?;
@@ -80,7 +79,7 @@ fn order_and_grouping(rt: HostRuntime) -> Result<(), Fail> {
 #[test]
 fn order_and_grouping_of_two_fonts(rt: HostRuntime) -> Result<(), Fail> {
     let alloc = rt.alloc();
-    let nothing = bytes_of(alloc, &NOTHING)?;
+    let nothing = NOTHING.to_vec(alloc)?;
     let a = cut_of(alloc, &BASE6, &[(0x41, 0x41)])?;
     let b = cut_of(alloc, &other_outline(alloc)?, &[(0x41, 0x41)])?;
     let stated = JoinAllError::At {

@@ -4,10 +4,9 @@ use fakes::Refusing;
 use font_cut::{
     DirError, Font, FontError, JoinAllError, JoinError, Joined, Which, is_cut, join, join_all,
 };
-use sample_fonts::bytes::bytes_of;
-use sample_fonts::cuts::cut_of;
+use sample_cuts::cut_of;
 use sample_fonts::fonts;
-use sample_fonts::vectors::{A_B_AACUTE, AACUTE, NOTHING};
+use sample_fonts::known_cuts::{A_B_AACUTE, AACUTE, NOTHING};
 use sfnt_bytes::{BASE6, NoMemory};
 use std::alloc::Global;
 use std::test::Fail;
@@ -18,7 +17,7 @@ const MANY: u64 = 200;
 #[test]
 fn refused_memory_in_is_cut(rt: HostRuntime) -> Result<(), Fail> {
     let ring = fonts::ring_of_two(rt.alloc())?;
-    let aacute = bytes_of(rt.alloc(), &AACUTE)?;
+    let aacute = AACUTE.to_vec(rt.alloc())?;
     for (file, stated) in [(aacute.as_slice(), true), (&BASE6, false), (&ring, false)] {
         let font = Font::open(file)?;
         let mut is_done = false;
@@ -51,9 +50,9 @@ fn pairs(alloc: Global) -> Result<Vec<Pair>, Fail> {
     let three = fonts::three_in_a_row(alloc)?;
     let mut pairs = Vec::new(alloc);
     pairs.push(Pair {
-        x: bytes_of(alloc, &AACUTE)?,
+        x: AACUTE.to_vec(alloc)?,
         y: cut_of(alloc, &BASE6, &[(0x41, 0x42)])?,
-        file: bytes_of(alloc, &A_B_AACUTE)?,
+        file: A_B_AACUTE.to_vec(alloc)?,
         refusal: None,
     })?;
     pairs.push(Pair {
@@ -63,7 +62,7 @@ fn pairs(alloc: Global) -> Result<Vec<Pair>, Fail> {
         refusal: None,
     })?;
     pairs.push(Pair {
-        x: bytes_of(alloc, &AACUTE)?,
+        x: AACUTE.to_vec(alloc)?,
         y: BASE6.to_vec(alloc)?,
         file: Vec::new(alloc),
         refusal: Some(JoinError::NotACut(Which::Second)),
@@ -194,10 +193,10 @@ fn last_step(
 #[test]
 fn refused_memory_in_join_all(rt: HostRuntime) -> Result<(), Fail> {
     let alloc = rt.alloc();
-    let aacute = bytes_of(alloc, &AACUTE)?;
-    let nothing = bytes_of(alloc, &NOTHING)?;
+    let aacute = AACUTE.to_vec(alloc)?;
+    let nothing = NOTHING.to_vec(alloc)?;
     let a_and_b = cut_of(alloc, &BASE6, &[(0x41, 0x42)])?;
-    let all = bytes_of(alloc, &A_B_AACUTE)?;
+    let all = A_B_AACUTE.to_vec(alloc)?;
     let files = [aacute.as_slice(), &a_and_b, &aacute, &nothing];
     assert_eq!(rt; last_step(alloc, &files, &all, None)?, 3);
     let no_cut = JoinAllError::At {

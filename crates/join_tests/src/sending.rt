@@ -2,9 +2,8 @@
 use crate::answers::copies;
 use fakes::Refusing;
 use font_cut::{JoinAllError, JoinAllIntoError, JoinError, Outlet, Which, join_all_into};
-use sample_fonts::bytes::bytes_of;
-use sample_fonts::cuts::cut_of;
-use sample_fonts::vectors::{A_B_AACUTE, AACUTE};
+use sample_cuts::cut_of;
+use sample_fonts::known_cuts::{A_B_AACUTE, AACUTE};
 use sfnt_bytes::BASE6;
 use std::alloc::Global;
 use std::io;
@@ -52,9 +51,9 @@ impl Write for Failing {
 #[test]
 fn sends_the_join(rt: HostRuntime) -> Result<(), Fail> {
     let alloc = rt.alloc();
-    let aacute = bytes_of(alloc, &AACUTE)?;
+    let aacute = AACUTE.to_vec(alloc)?;
     let a_and_b = cut_of(alloc, &BASE6, &[(0x41, 0x42)])?;
-    let all = bytes_of(alloc, &A_B_AACUTE)?;
+    let all = A_B_AACUTE.to_vec(alloc)?;
     let files = copies(alloc, alloc, &[&aacute, &a_and_b, &aacute])?;
     let mut outlet = Outlet::new(Vec::new(alloc));
     assert_eq!(rt;
@@ -69,9 +68,9 @@ fn sends_the_join(rt: HostRuntime) -> Result<(), Fail> {
 #[test]
 fn failing_writers(rt: HostRuntime) -> Result<(), Fail> {
     let alloc = rt.alloc();
-    let aacute = bytes_of(alloc, &AACUTE)?;
+    let aacute = AACUTE.to_vec(alloc)?;
     let a_and_b = cut_of(alloc, &BASE6, &[(0x41, 0x42)])?;
-    let all = bytes_of(alloc, &A_B_AACUTE)?;
+    let all = A_B_AACUTE.to_vec(alloc)?;
     let files = copies(alloc, alloc, &[&aacute, &a_and_b])?;
     let mut is_done = false;
     for k in 1..1000u64 {
@@ -105,9 +104,9 @@ fn failing_writers(rt: HostRuntime) -> Result<(), Fail> {
 #[test]
 fn refused_memory_in_join_all_into(rt: HostRuntime) -> Result<(), Fail> {
     let alloc = rt.alloc();
-    let aacute = bytes_of(alloc, &AACUTE)?;
+    let aacute = AACUTE.to_vec(alloc)?;
     let a_and_b = cut_of(alloc, &BASE6, &[(0x41, 0x42)])?;
-    let all = bytes_of(alloc, &A_B_AACUTE)?;
+    let all = A_B_AACUTE.to_vec(alloc)?;
     let mut is_done = false;
     // The files have one request each.
     for k in 4..MANY {
@@ -142,7 +141,7 @@ fn refused_memory_in_join_all_into(rt: HostRuntime) -> Result<(), Fail> {
 #[test]
 fn refusals_leave_outlets_fresh(rt: HostRuntime) -> Result<(), Fail> {
     let alloc = rt.alloc();
-    let aacute = bytes_of(alloc, &AACUTE)?;
+    let aacute = AACUTE.to_vec(alloc)?;
     let error = JoinError::NotACut(Which::Second);
     for (files, refusal) in [
         (copies(alloc, alloc, &[])?, JoinAllError::NothingToJoin),

@@ -1,11 +1,10 @@
 //! Cuts of two fonts, and what tells them apart.
 use crate::answers::refusal_of;
 use font_cut::{DirError, FontError, JoinError, Which};
-use sample_fonts::bytes::bytes_of;
-use sample_fonts::cuts::cut_of;
+use sample_cuts::cut_of;
 use sample_fonts::fonts;
 use sample_fonts::fonts::{Change, base6_changed};
-use sample_fonts::vectors::AACUTE;
+use sample_fonts::known_cuts::AACUTE;
 use sfnt_bytes::{BASE6, Tag};
 use std::test::Fail;
 
@@ -108,7 +107,7 @@ fn fault(which: Which, error: DirError) -> JoinError {
 #[test]
 fn join_refusals(rt: HostRuntime) -> Result<(), Fail> {
     let alloc = rt.alloc();
-    let cut = bytes_of(alloc, &AACUTE)?;
+    let cut = AACUTE.to_vec(alloc)?;
     let front = cut.get(..411).ok_or("a short cut")?;
     let other = cut_of(alloc, &base6_changed(alloc, &[BEARING])?, &[(0x41, 0x41)])?;
     let maxp = DirError::TableOutOfFile(Tag(*b"maxp"));

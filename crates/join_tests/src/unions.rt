@@ -1,10 +1,9 @@
 //! Joins of two cuts of one font.
 use crate::answers::{is_cut_form, join_of};
 use font_cut::{Font, Joined, join};
-use sample_fonts::bytes::{bytes_of, words_of};
-use sample_fonts::cuts::{cut_of, groups_of, head_of, is_as_stated, kept_of};
+use sample_cuts::{cut_of, groups_of, head_of, is_as_stated, kept_of};
 use sample_fonts::fonts;
-use sample_fonts::vectors::{A_B_AACUTE, AACUTE};
+use sample_fonts::known_cuts::{A_B_AACUTE, AACUTE};
 use sfnt_bytes::BASE6;
 use std::alloc::Global;
 use std::test::Fail;
@@ -12,11 +11,11 @@ use std::test::Fail;
 #[test]
 fn join_of_two_cuts(rt: HostRuntime) -> Result<(), Fail> {
     let alloc = rt.alloc();
-    let stated = bytes_of(alloc, &A_B_AACUTE)?;
+    let stated = A_B_AACUTE.to_vec(alloc)?;
     assert_eq!(rt; stated.len(), 448);
     let made = cut_of(alloc, &BASE6, &[(0x41, 0x42), (0xC1, 0xC1)])?;
     assert_eq!(rt; made.as_slice(), stated.as_slice());
-    let x = bytes_of(alloc, &AACUTE)?;
+    let x = AACUTE.to_vec(alloc)?;
     let y = cut_of(alloc, &BASE6, &[(0x41, 0x42)])?;
     for (first, second) in [
         (&x, &y),
@@ -26,7 +25,7 @@ fn join_of_two_cuts(rt: HostRuntime) -> Result<(), Fail> {
         (&stated, &stated),
     ] {
         let joined = join(alloc, first, second)?;
-        assert_eq!(rt; words_of(alloc, &joined)?.as_slice(), A_B_AACUTE.as_slice());
+        assert_eq!(rt; joined.as_slice(), A_B_AACUTE.as_slice());
     }
     assert!(rt; is_cut_form(alloc, &stated)?);
     Ok(())
@@ -35,7 +34,7 @@ fn join_of_two_cuts(rt: HostRuntime) -> Result<(), Fail> {
 // checksumAdjustment stands in the bytes 8 to 11.
 #[test]
 fn heads_of_two_cuts(rt: HostRuntime) -> Result<(), Fail> {
-    let x = bytes_of(rt.alloc(), &AACUTE)?;
+    let x = AACUTE.to_vec(rt.alloc())?;
     let y = cut_of(rt.alloc(), &BASE6, &[(0x41, 0x42)])?;
     let (a, b) = (head_of(&x)?, head_of(&y)?);
     assert_eq!(rt; (a.len(), b.len()), (54, 54));
@@ -55,7 +54,7 @@ fn kept_of_union(alloc: Global, x: &[u8], y: &[u8]) -> Result<Vec<u16>, Fail> {
 
 #[test]
 fn kept_of_two_cuts(rt: HostRuntime) -> Result<(), Fail> {
-    let x = bytes_of(rt.alloc(), &AACUTE)?;
+    let x = AACUTE.to_vec(rt.alloc())?;
     let y = cut_of(rt.alloc(), &BASE6, &[(0x41, 0x42)])?;
     let kept = kept_of_union(rt.alloc(), &x, &y)?;
     assert_eq!(rt; kept.as_slice(), [0, 1, 2, 3, 5].as_slice());

@@ -1,6 +1,6 @@
 //! `join` over real files: the order of its faults, what is printed of them, and what becomes of OUT.
 use crate::command_words::{Answered, run};
-use crate::cuts::CUT_OF_A_AND_B;
+use sample_fonts::known_cuts::A_AND_B;
 use sfnt_bytes::BASE6;
 use std::alloc::AllocError;
 use std::fs;
@@ -38,7 +38,7 @@ fn join_of_files(rt: HostRuntime) -> Result<(), Fail> {
         assert_eq!(rt; answer.status, 0, "{files:?}");
         assert!(rt; answer.out.is_empty() && answer.err.is_empty(), "{files:?}");
         let made = fs::read(&rt, out)?;
-        assert_eq!(rt; made.as_slice(), CUT_OF_A_AND_B.as_slice(), "{files:?}");
+        assert_eq!(rt; made.as_slice(), A_AND_B.as_slice(), "{files:?}");
     }
     for path in ["whole.ttf", "a.ttf", "b.ttf", "joined.ttf"] {
         fs::remove_file(&rt, path)?;

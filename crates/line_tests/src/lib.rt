@@ -4,8 +4,6 @@
 #[cfg(test)]
 mod command_words;
 #[cfg(test)]
-mod cuts;
-#[cfg(test)]
 mod join_words;
 #[cfg(test)]
 mod short_files;

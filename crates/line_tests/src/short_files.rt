@@ -1,8 +1,8 @@
 //! Files that take few bytes a write, and that are full at some size.
 use crate::command_words::line_of;
-use crate::cuts::CUT_OF_A_AND_B;
 use font_cmd::run_words;
 use font_cut::Outlet;
+use sample_fonts::known_cuts::A_AND_B;
 use sfnt_bytes::BASE6;
 use std::alloc::{Allocator, Global};
 use std::fs::{Metadata, OpenFile, OpenOptions};
@@ -143,14 +143,14 @@ fn is_told(rt: &HostRuntime, words: &[&str], most: usize, room: usize) -> Result
     let (status, said) = run_short(&files, rt.alloc(), words)?;
     let made = fs::read(rt, "short.ttf")?;
     if room < 400 {
-        let is_front = CUT_OF_A_AND_B.starts_with(&made) && made.len() == room;
+        let is_front = A_AND_B.starts_with(&made) && made.len() == room;
         return Ok(
             is_front
                 && status == 3
                 && said.as_slice() == b"fontcut: cannot write short.ttf\n".as_slice(),
         );
     }
-    Ok(made.as_slice() == CUT_OF_A_AND_B.as_slice() && status == 0 && said.is_empty())
+    Ok(made.as_slice() == A_AND_B.as_slice() && status == 0 && said.is_empty())
 }
 
 // How many bytes a write takes, and how much room there is.
@@ -166,7 +166,7 @@ const SHORT: [(usize, usize); 6] = [
 #[test]
 fn short_writes_of_out(rt: HostRuntime) -> Result<(), Fail> {
     fs::write(&rt, "plain.ttf", &BASE6)?;
-    fs::write(&rt, "known.ttf", &CUT_OF_A_AND_B)?;
+    fs::write(&rt, "known.ttf", &A_AND_B)?;
     for (most, room) in SHORT {
         let subset = ["subset", "plain.ttf", "short.ttf", "--text", "AB"];
         assert!(rt; is_told(&rt, &subset, most, room)?, "{most}, {room}");

@@ -1,6 +1,6 @@
 //! `subset` over real files: the wanted words, fonts that are refused, and what becomes of OUT.
 use crate::command_words::{Answered, run};
-use crate::cuts::CUT_OF_A_AND_B;
+use sample_fonts::known_cuts::A_AND_B;
 use sfnt_bytes::BASE6;
 use std::alloc::AllocError;
 use std::fs;
@@ -92,7 +92,7 @@ fn subset_of_a_and_b(rt: HostRuntime) -> Result<(), Fail> {
         assert_eq!(rt; answer.status, 0, "{more:?}");
         assert!(rt; answer.out.is_empty() && answer.err.is_empty(), "{more:?}");
         let made = fs::read(&rt, "cut.ttf")?;
-        assert_eq!(rt; made.as_slice(), CUT_OF_A_AND_B.as_slice(), "{more:?}");
+        assert_eq!(rt; made.as_slice(), A_AND_B.as_slice(), "{more:?}");
         fs::remove_file(&rt, "cut.ttf")?;
     }
     fs::remove_file(&rt, "font.ttf")?;
@@ -107,7 +107,7 @@ fn cut_in_place(rt: HostRuntime) -> Result<(), Fail> {
     assert_eq!(rt; answer.status, 0);
     assert!(rt; answer.out.is_empty() && answer.err.is_empty());
     let made = fs::read(&rt, "same.ttf")?;
-    assert_eq!(rt; made.as_slice(), CUT_OF_A_AND_B.as_slice());
+    assert_eq!(rt; made.as_slice(), A_AND_B.as_slice());
     fs::remove_file(&rt, "same.ttf")?;
     Ok(())
 }

@@ -1,7 +1,7 @@
 //! Characters above U+FFFF in the text of a line.
 use crate::command_words::run;
+use sample_cuts::is_as_stated;
 use sample_fonts::bytes::{put_u16, put_u32};
-use sample_fonts::cuts::is_as_stated;
 use sample_fonts::fonts::base6_with_cmap;
 use std::alloc::Global;
 use std::fs;

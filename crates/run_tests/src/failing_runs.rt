@@ -1,6 +1,6 @@
 //! Each read, write and flush of each run fails in turn, with each kind of error.
-use crate::fakes::{Failure, Narrow, Pieces};
 use crate::runs::{Outcome, RUNS, Run, made};
+use fakes::devices::{Failure, Narrow, Pieces};
 use font_cmd::RunError;
 use std::alloc::Global;
 use std::io::ErrorKind;

@@ -3,12 +3,16 @@
 #![tactic(auto)]
 
 #[cfg(test)]
+mod failing_devices;
+#[cfg(test)]
 mod failing_runs;
 #[cfg(test)]
-mod fakes;
-#[cfg(test)]
-mod known;
+mod join_runs;
 #[cfg(test)]
 mod refused_memory;
 #[cfg(test)]
 mod runs;
+#[cfg(test)]
+mod show_lines;
+#[cfg(test)]
+mod subset_runs;

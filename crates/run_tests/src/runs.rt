@@ -1,8 +1,8 @@
 //! The four runs, each over one reader and one writer of the test's, and what they are to send.
-use crate::fakes::{Failure, Narrow, Pieces};
-use crate::known::{CUT_OF_A_AND_B, CUT_OF_AACUTE, JOINED};
+use fakes::devices::{Failure, Narrow, Pieces};
 use font_cmd::{Inlet, RunError, run_check, run_join, run_show, run_subset};
 use font_cut::{BASE6, Outlet, Wanted};
+use sample_fonts::known_cuts::{A_AND_B, A_B_AACUTE, AACUTE};
 use std::alloc::Global;
 use std::test::Fail;
 
@@ -48,7 +48,7 @@ impl Run {
     pub fn file(self) -> &'static [u8] {
         match self {
             Run::Check | Run::Show | Run::Subset => &BASE6,
-            Run::JoinFirst | Run::JoinSecond => &CUT_OF_AACUTE,
+            Run::JoinFirst | Run::JoinSecond => &AACUTE,
         }
     }
 
@@ -57,8 +57,8 @@ impl Run {
         match self {
             Run::Check => CHECKED,
             Run::Show => SHOWN,
-            Run::Subset => &CUT_OF_AACUTE,
-            Run::JoinFirst | Run::JoinSecond => &JOINED,
+            Run::Subset => &AACUTE,
+            Run::JoinFirst | Run::JoinSecond => &A_B_AACUTE,
         }
     }
 }
@@ -124,7 +124,7 @@ fn run_joined(
 
 /// Makes a run. The other reader of a join gives its file at once.
 pub fn made(alloc: Global, run: Run, reader: Pieces<'_>, writer: Narrow) -> Result<Outcome, Fail> {
-    let other = Pieces::new(&CUT_OF_A_AND_B, 4096, Failure::Nowhere);
+    let other = Pieces::new(&A_AND_B, 4096, Failure::Nowhere);
     match run {
         Run::JoinFirst => Ok(run_joined(alloc, false, reader, other, writer)),
         Run::JoinSecond => Ok(run_joined(alloc, true, reader, other, writer)),

@@ -1,5 +1,6 @@
 //! Lists of bytes, their fields and their sums.
 use std::alloc::{AllocError, Global};
+use std::test::Fail;
 
 /// Adds big-endian `u16` fields.
 pub fn put_u16(bytes: &mut Vec<u8>, fields: &[u16]) -> Result<(), AllocError> {
@@ -58,8 +59,11 @@ pub fn bytes_of(alloc: Global, words: &[u32]) -> Result<Vec<u8>, AllocError> {
     Ok(bytes)
 }
 
-/// The whole words of bytes.
-pub fn words_of(alloc: Global, bytes: &[u8]) -> Result<Vec<u32>, AllocError> {
+/// Returns the big-endian words of bytes. A number of bytes that is no multiple of four is an error.
+pub fn words_of(alloc: Global, bytes: &[u8]) -> Result<Vec<u32>, Fail> {
+    if bytes.len() % 4 != 0 {
+        return Err(Fail::from("no whole number of words"));
+    }
     let mut words = Vec::new(alloc);
     let mut word = 0u32;
     for (place, byte) in bytes.iter().enumerate() {

@@ -14,6 +14,22 @@ pub struct Table {
     pub bytes: Vec<u8>,
 }
 
+/// Where the records of a directory begin.
+pub const RECORDS: usize = 12;
+
+/// How many bytes a record has.
+pub const RECORD: usize = 16;
+
+/// Returns a record.
+pub fn entry(tag: &[u8; 4], checksum: u32, offset: u32, length: u32) -> Entry {
+    Entry {
+        tag: Tag(*tag),
+        checksum,
+        offset,
+        length,
+    }
+}
+
 /// A directory with these records, as they stand. Its search fields are right where there are right
 /// ones, and else zero. More than 65,535 records are refused.
 pub fn directory_of(alloc: Global, entries: &[Entry]) -> Result<Vec<u8>, Fail> {
@@ -30,6 +46,13 @@ pub fn directory_of(alloc: Global, entries: &[Entry]) -> Result<Vec<u8>, Fail> {
         )?;
     }
     Ok(directory)
+}
+
+/// Returns a file with these records, as they stand, and with `rest` behind them: no sum is made right.
+pub fn file_as_stated(alloc: Global, entries: &[Entry], rest: &[u8]) -> Result<Vec<u8>, Fail> {
+    let mut file = directory_of(alloc, entries)?;
+    file.extend_from_slice(rest)?;
+    Ok(file)
 }
 
 /// The bytes of a table in what stands behind a directory of so many bytes. A table of no byte may

@@ -1,9 +1,27 @@
-//! Base6 with other tables or records.
+//! Base6 with other bytes, tables or records.
+ghost use Rattle.std.specs.Prelude.{◌+◌, ◌≤◌, length};
+
 use crate::bytes::{bytes_of, put_at, put_u16, put_u32, zeros};
 use crate::files::{Table, directory_of, file_of, file_of_tables, replace, table_in, table_named};
 use sfnt_bytes::{BASE6, Directory, Entry, KEPT, Tag};
 use std::alloc::{AllocError, Global};
 use std::test::Fail;
+
+/// Returns a file as long as Base6 with these bytes from the place `at` on.
+pub fn with_bytes(file: [u8; 428], at: usize, bytes: &[u8]) -> [u8; 428]
+    requires { at + length bytes.now ≤ 428 }
+{
+    let mut changed = file;
+    changed[at..at + bytes.len()].copy_from_slice(bytes);
+    changed
+}
+
+/// Returns Base6 with these bytes from the place `at` on. No sum is made right.
+pub fn base6_with(at: usize, bytes: &[u8]) -> [u8; 428]
+    requires { at + length bytes.now ≤ 428 }
+{
+    with_bytes(BASE6, at, bytes)
+}
 
 /// The tables of Base6, with `checksumAdjustment` 0.
 pub fn base6_tables(alloc: Global) -> Result<Vec<Table>, Fail> {

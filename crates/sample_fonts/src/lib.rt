@@ -1,9 +1,8 @@
-//! Fonts for the tests of cuts and of joins, made with right sums, and what stands in their cuts.
+//! Small font files for the tests, made with right sums, and cuts that are known byte for byte.
 #![tactic(auto)]
 
 pub mod bytes;
-pub mod cuts;
 pub mod files;
 pub mod first_profile;
 pub mod fonts;
-pub mod vectors;
+pub mod known_cuts;

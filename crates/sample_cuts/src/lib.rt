@@ -1,7 +1,9 @@
-//! Cuts, and what stands in them.
-use crate::bytes::words_of;
+//! Cuts that tests make of sample fonts, and what stands in them.
+#![tactic(auto)]
+
 use font_cut::{Font, FontError, Wanted, WantedError, cut};
 use font_write::Source;
+use sample_fonts::bytes::words_of;
 use sfnt_bytes::Directory;
 use std::alloc::{AllocError, Allocator, Global};
 use std::test::Fail;

@@ -1,12 +1,14 @@
 //! What `show` sends of a font, and of a file that is refused.
-use crate::cuts::CUT_OF_AACUTE;
-use crate::fakes::{Endless, Failure, Narrow, Pieces};
-use crate::fonts::{RECORD, RECORDS, base6_with, entry, file_of};
 use fakes::Refusing;
+use fakes::devices::{Endless, Failure, Narrow, Pieces};
 use font_cmd::{Inlet, RunError, run_show};
 use font_cut::{FontError, Outlet};
 use font_tables::TableError;
+use sample_fonts::files::{RECORD, RECORDS, entry, file_as_stated};
+use sample_fonts::fonts::base6_with;
+use sample_fonts::known_cuts::AACUTE;
 use sfnt_bytes::{BASE6, DirError, Directory, Entry, Tag};
+use std::io::ErrorKind;
 use std::test::Fail;
 
 const SHOWN: &[u8] = b"glyphs 6
@@ -44,10 +46,7 @@ cut yes
 
 #[test]
 fn show_lines(rt: HostRuntime) -> Result<(), Fail> {
-    for (file, shown) in [
-        (BASE6.as_slice(), SHOWN),
-        (CUT_OF_AACUTE.as_slice(), CUT_SHOWN),
-    ] {
+    for (file, shown) in [(BASE6.as_slice(), SHOWN), (AACUTE.as_slice(), CUT_SHOWN)] {
         let mut inlet = Inlet::new(file);
         let mut outlet = Outlet::new(Vec::new(rt.alloc()));
         assert_eq!(rt; run_show(rt.alloc(), &mut inlet, &mut outlet), Ok(()));
@@ -66,7 +65,7 @@ fn dropped_tables(rt: HostRuntime) -> Result<(), Fail> {
         records.push(Entry { offset, ..record })?;
     }
     records.push(entry(b"GSUB", 0, 0, 12))?;
-    let file = file_of(rt.alloc(), &records, &BASE6[124..])?;
+    let file = file_as_stated(rt.alloc(), &records, &BASE6[124..])?;
     let mut inlet = Inlet::new(file.as_slice());
     let mut outlet = Outlet::new(Vec::new(rt.alloc()));
     assert_eq!(rt; run_show(rt.alloc(), &mut inlet, &mut outlet), Ok(()));
@@ -109,14 +108,18 @@ fn endless_reader(rt: HostRuntime) -> Result<(), Fail> {
 
 #[test]
 fn failing_devices(rt: HostRuntime) -> Result<(), Fail> {
-    let mut inlet = Inlet::new(Pieces::new(&BASE6, 100, 3));
+    let mut inlet = Inlet::new(Pieces::new(
+        &BASE6,
+        100,
+        Failure::AtRead(3, ErrorKind::Interrupted),
+    ));
     let mut outlet = Outlet::new(Vec::new(rt.alloc()));
     let answer = run_show(rt.alloc(), &mut inlet, &mut outlet);
     assert_eq!(rt; answer, Err(RunError::Read(200)));
     assert!(rt; outlet.is_fresh() && inlet.is_broken());
     for (failure, written) in [
-        (Failure::AtWrite(4), 21),
-        (Failure::AtFlush, SHOWN.len() as u64),
+        (Failure::AtWrite(4, ErrorKind::Interrupted), 21),
+        (Failure::AtFlush(ErrorKind::Other), SHOWN.len() as u64),
     ] {
         let mut inlet = Inlet::new(BASE6.as_slice());
         let mut outlet = Outlet::new(Narrow::new(rt.alloc(), 7, failure));

@@ -1,9 +1,10 @@
 //! The tables that every font must have: their refusals, and what is read of them.
-use crate::fonts::{
-    HEAD, HHEA, LOCA, MAXP, RECORD, RECORDS, base6_with, refusal_of, with_bytes, with_table,
-};
-use font_cut::{FontError, MapError};
+use crate::fonts::{HEAD, HHEA, LOCA, MAXP, refusal_of, with_table};
+use font_file::FontError;
+use font_map::MapError;
 use font_tables::{LocaForm, TableError, Tables};
+use sample_fonts::files::{RECORD, RECORDS};
+use sample_fonts::fonts::{base6_with, with_bytes};
 use sfnt_bytes::{BASE6, Directory, Tag};
 use std::alloc::{AllocError, Global};
 use std::test::Fail;

@@ -1,9 +1,10 @@
 //! Files broken on purpose, and the first refusal of each.
-use crate::fonts::{
-    LOCA, RECORD, RECORDS, TAGS, base6_with, entry, file_of, findings_of, refusal_of,
-};
-use font_cut::{FontError, MapError};
+use crate::fonts::{LOCA, TAGS, findings_of, refusal_of};
+use font_file::FontError;
+use font_map::MapError;
 use font_tables::TableError;
+use sample_fonts::files::{RECORD, RECORDS, entry, file_as_stated};
+use sample_fonts::fonts::base6_with;
 use sfnt_bytes::{BASE6, DirError, Directory, Entry, Finding, Tag};
 use std::test::Fail;
 
@@ -71,7 +72,7 @@ fn many_records(rt: HostRuntime) -> Result<(), Fail> {
     }
     let empty = vec![in rt.alloc(); entry(b"zzzz", 0, 0, 0); 65_528]?;
     records.extend_from_slice(&empty)?;
-    let mut file = file_of(rt.alloc(), &records, &BASE6[124..])?;
+    let mut file = file_as_stated(rt.alloc(), &records, &BASE6[124..])?;
     assert_eq!(rt; file.len(), 1_048_876);
     // checksumAdjustment
     file[1_048_720..1_048_724].copy_from_slice(&0x1181_F7B6u32.to_be_bytes());

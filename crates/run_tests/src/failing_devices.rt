@@ -1,9 +1,10 @@
 //! Readers and writers that fail, and memory that is refused.
-use crate::fakes::{Endless, Failure, Narrow, Pieces};
 use fakes::Refusing;
+use fakes::devices::{Endless, Failure, Narrow, Pieces};
 use font_cmd::{Inlet, ReadError, RunError, run_check};
 use font_cut::{FontError, Outlet, WriteFault};
 use sfnt_bytes::{BASE6, DirError, Tag};
+use std::io::ErrorKind;
 use std::test::Fail;
 
 const ACCEPTED: &[u8] = b"findings 0\naccepted\n";
@@ -48,7 +49,10 @@ fn sends_the_report(rt: HostRuntime) -> Result<(), Fail> {
 fn short_writer(rt: HostRuntime) -> Result<(), Fail> {
     for piece in [1, 7, 100, 4096] {
         for k in 1..430u64 {
-            for failure in [Failure::AtWrite(k), Failure::TakesNoneAt(k)] {
+            for failure in [
+                Failure::AtWrite(k, ErrorKind::Interrupted),
+                Failure::TakesNoneAt(k),
+            ] {
                 let mut outlet = Outlet::new(Narrow::new(rt.alloc(), piece, failure));
                 let answer = outlet.put(&BASE6);
                 let written = bytes_before(k, piece, 428);
@@ -75,7 +79,11 @@ fn failing_readers(rt: HostRuntime) -> Result<(), Fail> {
     for (piece, reads) in [(1, 429), (7, 63), (4096, 2)] {
         for k in 1..431u64 {
             let came = bytes_before(k, piece, 428);
-            let mut inlet = Inlet::new(Pieces::new(&BASE6, piece, k));
+            let mut inlet = Inlet::new(Pieces::new(
+                &BASE6,
+                piece,
+                Failure::AtRead(k, ErrorKind::Interrupted),
+            ));
             let answer = inlet.read_all(rt.alloc());
             assert!(rt; !inlet.is_fresh(), "{piece} {k}");
             assert_eq!(rt; inlet.is_broken(), k <= reads, "{piece} {k}");
@@ -88,7 +96,11 @@ fn failing_readers(rt: HostRuntime) -> Result<(), Fail> {
             } else {
                 assert_eq!(rt; answer?.as_slice(), BASE6.as_slice(), "{piece} {k}");
             }
-            let mut inlet = Inlet::new(Pieces::new(&BASE6, piece, k));
+            let mut inlet = Inlet::new(Pieces::new(
+                &BASE6,
+                piece,
+                Failure::AtRead(k, ErrorKind::Interrupted),
+            ));
             let mut outlet = Outlet::new(Vec::new(rt.alloc()));
             let answer = run_check(rt.alloc(), &mut inlet, &mut outlet);
             assert!(rt; !inlet.is_fresh(), "{piece} {k}");
@@ -110,7 +122,10 @@ fn failing_writers(rt: HostRuntime) -> Result<(), Fail> {
     let length = ACCEPTED.len() as u64;
     for piece in [1, 7, 4096] {
         for k in 1..23u64 {
-            for failure in [Failure::AtWrite(k), Failure::TakesNoneAt(k)] {
+            for failure in [
+                Failure::AtWrite(k, ErrorKind::Interrupted),
+                Failure::TakesNoneAt(k),
+            ] {
                 let mut inlet = Inlet::new(BASE6.as_slice());
                 let mut outlet = Outlet::new(Narrow::new(rt.alloc(), piece, failure));
                 let answer = run_check(rt.alloc(), &mut inlet, &mut outlet);
@@ -138,7 +153,7 @@ fn failing_writers(rt: HostRuntime) -> Result<(), Fail> {
 #[test]
 fn failing_flush(rt: HostRuntime) -> Result<(), Fail> {
     let mut inlet = Inlet::new(BASE6.as_slice());
-    let mut outlet = Outlet::new(Narrow::new(rt.alloc(), 4096, Failure::AtFlush));
+    let mut outlet = Outlet::new(Narrow::new(rt.alloc(), 4096, Failure::AtFlush(ErrorKind::Other)));
     let answer = run_check(rt.alloc(), &mut inlet, &mut outlet);
     assert_eq!(rt; answer, Err(RunError::Write(ACCEPTED.len() as u64)));
     assert_eq!(rt; outlet.written(), ACCEPTED.len() as u64);

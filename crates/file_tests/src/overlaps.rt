@@ -1,5 +1,6 @@
 //! Tables that lie over each other, and files whose tables lie in any order: their sums.
-use crate::fonts::{entry, file_of, findings_of};
+use crate::fonts::findings_of;
+use sample_fonts::files::{entry, file_as_stated};
 use sfnt_bytes::{Entry, Finding, Tag};
 use std::alloc::Global;
 use std::test::Fail;
@@ -55,7 +56,7 @@ fn overlapping(alloc: Global, body: &[u8], wrong: u32) -> Result<Vec<u8>, Fail> 
         let sum = plain_sum(table).wrapping_add(wrong);
         records.push(entry(&tag, sum, BODY + start, end.saturating_sub(start)))?;
     }
-    file_of(alloc, &records, body)
+    file_as_stated(alloc, &records, body)
 }
 
 #[test]
@@ -91,7 +92,7 @@ fn scattered(alloc: Global, seed: &mut u32) -> Result<(Vec<u8>, usize), Fail> {
     }
     let head = 156 + chance(seed) % 540;
     records.push(entry(b"head", 0, head, 54))?;
-    let mut file = file_of(alloc, &records, &body)?;
+    let mut file = file_as_stated(alloc, &records, &body)?;
     let place = head as usize + 8;
     put(&mut file, place, 0);
     let sum = plain_sum(&file);
@@ -133,7 +134,7 @@ fn file_sum_over_tables_in_order(rt: HostRuntime) -> Result<(), Fail> {
         entry(b"mmmm", 0, 264, 21),
         entry(b"zzzz", 0, 285, 100),
     ];
-    let mut file = file_of(alloc, &records, &noise(alloc, 300)?)?;
+    let mut file = file_as_stated(alloc, &records, &noise(alloc, 300)?)?;
     put(&mut file, 212, 0);
     let sum = plain_sum(&file);
     put(&mut file, 212, 0xB1B0_AFBAu32.wrapping_sub(sum));

@@ -1,12 +1,13 @@
 //! What `subset` sends of a font, of a file that is refused, and where a device or memory fails.
-use crate::cuts::CUT_OF_AACUTE;
-use crate::fakes::{Endless, Failure, Narrow, Pieces};
-use crate::fonts::base6_with;
 use fakes::Refusing;
+use fakes::devices::{Endless, Failure, Narrow, Pieces};
 use font_cmd::{Inlet, RunError, run_subset};
 use font_cut::{FontError, Outlet, Wanted};
+use sample_fonts::fonts::base6_with;
+use sample_fonts::known_cuts::AACUTE;
 use sfnt_bytes::{BASE6, DirError};
 use std::alloc::Allocator;
+use std::io::ErrorKind;
 use std::test::Fail;
 
 // U+00C1 alone.
@@ -27,7 +28,7 @@ fn subset_runs(rt: HostRuntime) -> Result<(), Fail> {
         assert_eq!(rt; outlet.written(), 412, "{piece}");
         assert!(rt; !outlet.is_broken() && !inlet.is_broken(), "{piece}");
         let writer = outlet.into_inner();
-        assert_eq!(rt; writer.held(), CUT_OF_AACUTE.as_slice(), "{piece}");
+        assert_eq!(rt; writer.held(), AACUTE.as_slice(), "{piece}");
     }
     Ok(())
 }
@@ -60,7 +61,11 @@ fn failing_readers(rt: HostRuntime) -> Result<(), Fail> {
     let wanted = aacute(rt.alloc())?;
     // how many bytes a read, which read fails, and how many bytes had come
     for (piece, k, came) in [(4096, 1, 0), (100, 3, 200), (428, 2, 428)] {
-        let mut inlet = Inlet::new(Pieces::new(&BASE6, piece, k));
+        let mut inlet = Inlet::new(Pieces::new(
+            &BASE6,
+            piece,
+            Failure::AtRead(k, ErrorKind::Interrupted),
+        ));
         let mut outlet = Outlet::new(Vec::new(rt.alloc()));
         let answer = run_subset(rt.alloc(), &mut inlet, &wanted, &mut outlet);
         assert_eq!(rt; answer, Err(RunError::Read(came)), "{piece} {k}");
@@ -73,11 +78,11 @@ fn failing_readers(rt: HostRuntime) -> Result<(), Fail> {
 fn failing_writers(rt: HostRuntime) -> Result<(), Fail> {
     let wanted = aacute(rt.alloc())?;
     for (piece, failure, written) in [
-        (1, Failure::AtWrite(101), 100),
-        (1, Failure::AtWrite(412), 411),
+        (1, Failure::AtWrite(101, ErrorKind::Interrupted), 100),
+        (1, Failure::AtWrite(412, ErrorKind::Interrupted), 411),
         (1, Failure::TakesNoneAt(1), 0),
-        (4096, Failure::AtWrite(1), 0),
-        (4096, Failure::AtFlush, 412),
+        (4096, Failure::AtWrite(1, ErrorKind::Interrupted), 0),
+        (4096, Failure::AtFlush(ErrorKind::Other), 412),
     ] {
         let mut inlet = Inlet::new(BASE6.as_slice());
         let mut outlet = Outlet::new(Narrow::new(rt.alloc(), piece, failure));
@@ -87,7 +92,7 @@ fn failing_writers(rt: HostRuntime) -> Result<(), Fail> {
         assert_eq!(rt; outlet.written(), written, "{failure:?}");
         let writer = outlet.into_inner();
         assert_eq!(rt; writer.held().len() as u64, written, "{failure:?}");
-        assert!(rt; CUT_OF_AACUTE.starts_with(writer.held()), "{failure:?}");
+        assert!(rt; AACUTE.starts_with(writer.held()), "{failure:?}");
     }
     Ok(())
 }
@@ -106,7 +111,7 @@ fn refused_memory_in_run_subset(rt: HostRuntime) -> Result<(), Fail> {
         if !memory.has_refused() {
             assert!(rt; k > 2, "no request for memory came");
             assert_eq!(rt; answer, Ok(412));
-            assert_eq!(rt; outlet.into_inner().as_slice(), CUT_OF_AACUTE.as_slice());
+            assert_eq!(rt; outlet.into_inner().as_slice(), AACUTE.as_slice());
             return Ok(());
         }
         assert_eq!(rt; answer, Err(RunError::Memory), "request {k}");

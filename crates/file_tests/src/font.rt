@@ -1,6 +1,9 @@
 //! Fonts that are opened: their refusals behind those of the tables, and their look-ups.
-use crate::fonts::{base6_with, refusal_of};
-use font_cut::{Component, Font, FontError, MapError};
+use crate::fonts::refusal_of;
+use font_file::{Font, FontError};
+use font_glyph::Component;
+use font_map::MapError;
+use sample_fonts::fonts::base6_with;
 use sfnt_bytes::BASE6;
 use std::test::Fail;
 

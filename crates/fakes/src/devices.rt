@@ -1,5 +1,5 @@
-//! Readers and writers that give and take little, and fail once, at a call and with a kind of error of
-//! the test's choice. A call that was tried again would succeed, and be seen by that.
+//! Readers and writers for tests: they give and take little, and fail once, at a call of the test's
+//! choice. A call that was tried again would succeed, and be seen by that.
 use std::alloc::Global;
 use std::io;
 use std::io::{ErrorKind, Read, Write};
@@ -15,6 +15,8 @@ pub enum Failure {
     AtWrite(u64, ErrorKind),
     /// The write of this number takes no byte.
     TakesNoneAt(u64),
+    /// So many bytes are taken in all, and then none.
+    Full(usize),
     /// The first flush is an error of this kind.
     AtFlush(ErrorKind),
 }
@@ -29,6 +31,7 @@ pub struct Pieces<'a> {
 }
 
 impl<'a> Pieces<'a> {
+    /// Returns a reader of these bytes. Of the failures, a failed read alone concerns it.
     pub fn new(rest: &'a [u8], piece: usize, failure: Failure) -> Pieces<'a> {
         Pieces {
             rest,
@@ -52,6 +55,16 @@ impl Read for Pieces<'_> {
     }
 }
 
+/// A reader of zeros that has no end.
+#[derive(Drop)]
+pub struct Endless;
+
+impl Read for Endless {
+    fn read(&mut self, buf: &mut [u8]) -> io::Result<usize> {
+        io::repeat(0).read(buf)
+    }
+}
+
 /// A writer that holds what it takes, at most `piece` bytes a write.
 #[derive(Drop)]
 pub struct Narrow {
@@ -63,6 +76,7 @@ pub struct Narrow {
 }
 
 impl Narrow {
+    /// Returns a writer that holds nothing yet. Of the failures, a failed read does not concern it.
     pub fn new(alloc: Global, piece: usize, failure: Failure) -> Narrow {
         Narrow {
             held: Vec::new(alloc),
@@ -73,14 +87,23 @@ impl Narrow {
         }
     }
 
-    /// What it took.
+    /// Returns what it took.
     pub fn held(&self) -> &[u8] {
         self.held.as_slice()
     }
 
-    /// Whether the call that is to fail has come.
+    /// Returns whether the call that is to fail has come.
     pub fn has_failed(&self) -> bool {
         self.has_failed
+    }
+
+    // How many bytes the next write takes at most.
+    fn room(&self) -> usize {
+        match self.failure {
+            Failure::Full(room) => self.piece.min(room.saturating_sub(self.held.len())),
+            Failure::TakesNoneAt(k) if k == self.writes => 0,
+            _ => self.piece,
+        }
     }
 }
 
@@ -92,12 +115,9 @@ impl Write for Narrow {
                 self.has_failed = true;
                 Err(io::Error::from(kind))
             }
-            Failure::TakesNoneAt(k) if k == self.writes => {
-                self.has_failed = true;
-                Ok(0)
-            }
             _ => {
-                let most = self.piece.min(buf.len());
+                let most = self.room().min(buf.len());
+                self.has_failed |= most == 0;
                 self.held.write(&buf[..most])
             }
         }
@@ -111,5 +131,68 @@ impl Write for Narrow {
             }
             _ => Ok(()),
         }
+    }
+}
+
+/// A writer that counts what it takes, which is all.
+#[derive(Drop)]
+pub struct Counting {
+    count: u64,
+}
+
+impl Counting {
+    /// Returns a writer that has taken nothing yet.
+    pub fn new() -> Counting {
+        Counting { count: 0 }
+    }
+
+    /// Returns how many bytes it took.
+    pub fn count(&self) -> u64 {
+        self.count
+    }
+}
+
+impl Write for Counting {
+    fn write(&mut self, buf: &[u8]) -> io::Result<usize> {
+        self.count = self.count.saturating_add(buf.len() as u64);
+        Ok(buf.len())
+    }
+
+    fn flush(&mut self) -> io::Result<()> {
+        Ok(())
+    }
+}
+
+/// A writer that takes the bytes which it awaits, and no others.
+#[derive(Drop)]
+pub struct Matching<'a> {
+    awaited: &'a [u8],
+}
+
+impl<'a> Matching<'a> {
+    /// Returns a writer that awaits these bytes.
+    pub fn new(awaited: &'a [u8]) -> Matching<'a> {
+        Matching { awaited }
+    }
+
+    /// Returns how many bytes have not come.
+    pub fn left(&self) -> usize {
+        self.awaited.len()
+    }
+}
+
+impl Write for Matching<'_> {
+    fn write(&mut self, buf: &[u8]) -> io::Result<usize> {
+        match self.awaited.strip_prefix(buf) {
+            Some(rest) => {
+                self.awaited = rest;
+                Ok(buf.len())
+            }
+            None => Ok(0),
+        }
+    }
+
+    fn flush(&mut self) -> io::Result<()> {
+        Ok(())
     }
 }

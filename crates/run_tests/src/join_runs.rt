@@ -1,11 +1,12 @@
 //! What `join` sends of cuts, of files that are refused, and where a device or memory fails.
-use crate::cuts::CUT_OF_AACUTE;
-use crate::fakes::{Failure, Narrow, Pieces};
 use fakes::Refusing;
+use fakes::devices::{Failure, Narrow, Pieces};
 use font_cmd::{Inlet, RunError, run_join, run_subset};
 use font_cut::{DirError, FontError, JoinAllError, JoinError, Outlet, Wanted, Which};
+use sample_fonts::known_cuts::AACUTE;
 use sfnt_bytes::BASE6;
 use std::alloc::Global;
+use std::io::ErrorKind;
 use std::test::Fail;
 
 // The bytes of the joined cut.
@@ -38,7 +39,7 @@ fn joined(alloc: Global, x: &[u8], y: &[u8]) -> (Result<u64, RunError>, Vec<u8>)
 #[test]
 fn subset_and_join_runs(rt: HostRuntime) -> Result<(), Fail> {
     let x = cut_for(rt.alloc(), &[0xC1])?;
-    assert_eq!(rt; x.as_slice(), CUT_OF_AACUTE.as_slice());
+    assert_eq!(rt; x.as_slice(), AACUTE.as_slice());
     let y = cut_for(rt.alloc(), &[0x41, 0x42])?;
     assert_eq!(rt; y.len(), 400);
     let z = cut_for(rt.alloc(), &[0x41, 0x42, 0xC1])?;
@@ -52,11 +53,11 @@ fn subset_and_join_runs(rt: HostRuntime) -> Result<(), Fail> {
 
 #[test]
 fn one_cut_alone(rt: HostRuntime) -> Result<(), Fail> {
-    let mut inlets = [Inlet::new(CUT_OF_AACUTE.as_slice())];
+    let mut inlets = [Inlet::new(AACUTE.as_slice())];
     let mut outlet = Outlet::new(Vec::new(rt.alloc()));
     assert_eq!(rt; run_join(rt.alloc(), &mut inlets, &mut outlet), Ok(412));
     assert!(rt; !inlets[0].is_fresh() && !inlets[0].is_broken());
-    assert_eq!(rt; outlet.into_inner().as_slice(), CUT_OF_AACUTE.as_slice());
+    assert_eq!(rt; outlet.into_inner().as_slice(), AACUTE.as_slice());
     Ok(())
 }
 
@@ -75,7 +76,7 @@ fn nothing_to_join(rt: HostRuntime) -> Result<(), Fail> {
 
 #[test]
 fn refused_files(rt: HostRuntime) -> Result<(), Fail> {
-    let x = CUT_OF_AACUTE.as_slice();
+    let x = AACUTE.as_slice();
     let truncated = FontError::from(DirError::Truncated);
     for (first, second, step, error) in [
         (x, BASE6.as_slice(), 1, JoinError::NotACut(Which::Second)),
@@ -97,9 +98,9 @@ fn failing_readers(rt: HostRuntime) -> Result<(), Fail> {
     // how many bytes a read, which read of the second inlet fails, and how many bytes had come
     for (piece, k, came) in [(4096, 1, 0), (100, 2, 100), (412, 2, 412)] {
         let mut inlets = [
-            Inlet::new(Pieces::new(&CUT_OF_AACUTE, 7, 1000)),
-            Inlet::new(Pieces::new(&CUT_OF_AACUTE, piece, k)),
-            Inlet::new(Pieces::new(&CUT_OF_AACUTE, 7, 1)),
+            Inlet::new(Pieces::new(&AACUTE, 7, Failure::AtRead(1000, ErrorKind::Interrupted))),
+            Inlet::new(Pieces::new(&AACUTE, piece, Failure::AtRead(k, ErrorKind::Interrupted))),
+            Inlet::new(Pieces::new(&AACUTE, 7, Failure::AtRead(1, ErrorKind::Interrupted))),
         ];
         let mut outlet = Outlet::new(Vec::new(rt.alloc()));
         let answer = run_join(rt.alloc(), &mut inlets, &mut outlet);
@@ -120,15 +121,12 @@ fn failing_writers(rt: HostRuntime) -> Result<(), Fail> {
     let x = cut_for(rt.alloc(), &[0x41, 0x42])?;
     let z = cut_for(rt.alloc(), &[0x41, 0x42, 0xC1])?;
     for (piece, failure, written) in [
-        (1, Failure::AtWrite(101), 100),
+        (1, Failure::AtWrite(101, ErrorKind::Interrupted), 100),
         (1, Failure::TakesNoneAt(448), 447),
-        (4096, Failure::AtWrite(1), 0),
-        (4096, Failure::AtFlush, JOINED),
+        (4096, Failure::AtWrite(1, ErrorKind::Interrupted), 0),
+        (4096, Failure::AtFlush(ErrorKind::Other), JOINED),
     ] {
-        let mut inlets = [
-            Inlet::new(x.as_slice()),
-            Inlet::new(CUT_OF_AACUTE.as_slice()),
-        ];
+        let mut inlets = [Inlet::new(x.as_slice()), Inlet::new(AACUTE.as_slice())];
         let mut outlet = Outlet::new(Narrow::new(rt.alloc(), piece, failure));
         let answer = run_join(rt.alloc(), &mut inlets, &mut outlet);
         assert_eq!(rt; answer, Err(RunError::Write(written)), "{failure:?}");

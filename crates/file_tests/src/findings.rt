@@ -1,5 +1,7 @@
 //! The findings of a file, which are what is not as the standard says, and their order.
-use crate::fonts::{base6_with, entry, file_of, findings_of};
+use crate::fonts::findings_of;
+use sample_fonts::files::{entry, file_as_stated};
+use sample_fonts::fonts::base6_with;
 use sfnt_bytes::{BASE6, Directory, Entry, Finding, Tag};
 use std::test::Fail;
 
@@ -14,7 +16,7 @@ fn reversed_directory(rt: HostRuntime) -> Result<(), Fail> {
         entry(b"glyf", 0, 192, 70),
         entry(b"cmap", 0, 124, 68),
     ];
-    let file = file_of(rt.alloc(), &records, &BASE6[124..])?;
+    let file = file_as_stated(rt.alloc(), &records, &BASE6[124..])?;
     let found = findings_of(rt.alloc(), &file)?;
     assert_eq!(rt;
         found.as_slice(),
@@ -143,7 +145,7 @@ fn findings_of_one_record(rt: HostRuntime) -> Result<(), Fail> {
             &[Finding::Unaligned(head), Finding::FileSum],
         ),
     ] {
-        let file = file_of(rt.alloc(), &[record], rest)?;
+        let file = file_as_stated(rt.alloc(), &[record], rest)?;
         let found = findings_of(rt.alloc(), &file)?;
         assert_eq!(rt; found.as_slice(), stated, "{case}");
     }
@@ -158,7 +160,7 @@ fn order_of_records(rt: HostRuntime) -> Result<(), Fail> {
         ("two equal", &[a, a], &[Finding::Unsorted]),
         ("falling twice", &[b, a, b, a], &[Finding::Unsorted]),
     ] {
-        let file = file_of(rt.alloc(), records, &[])?;
+        let file = file_as_stated(rt.alloc(), records, &[])?;
         let found = findings_of(rt.alloc(), &file)?;
         assert_eq!(rt; found.as_slice(), stated, "{case}");
         let dropped: Vec<Entry> = Directory::read(&file)?.dropped().collect(rt.alloc())?;
@@ -182,13 +184,13 @@ fn search_field_findings(rt: HostRuntime) -> Result<(), Fail> {
         let tag = (0x7A00_0000 + number).to_be_bytes();
         records.push(entry(&tag, 0, 0, 0))?;
     }
-    let most = file_of(rt.alloc(), records.get(..4095).ok_or("too few")?, &[])?;
+    let most = file_as_stated(rt.alloc(), records.get(..4095).ok_or("too few")?, &[])?;
     assert_eq!(rt;
         findings_of(rt.alloc(), &most)?.as_slice(),
         [].as_slice(),
         "4,095 tables"
     );
-    let more = file_of(rt.alloc(), &records, &[])?;
+    let more = file_as_stated(rt.alloc(), &records, &[])?;
     assert_eq!(rt;
         findings_of(rt.alloc(), &more)?.as_slice(),
         [Finding::SearchFields].as_slice(),

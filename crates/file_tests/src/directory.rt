@@ -1,7 +1,9 @@
 //! Numbers, sums, the records of a directory and its refusals.
-use crate::fonts::{RECORD, RECORDS, base6_with, entry, file_of, findings_of, refusal_of};
-use font_cut::FontError;
+use crate::fonts::{findings_of, refusal_of};
+use font_file::FontError;
 use font_tables::TableError;
+use sample_fonts::files::{RECORD, RECORDS, entry, file_as_stated};
+use sample_fonts::fonts::base6_with;
 use sfnt_bytes::{
     BASE6, DirError, Directory, Entry, Finding, KEPT, NoMemory, Tag, be16, be32, search_fields,
     word_sum,
@@ -239,7 +241,7 @@ fn one_field_changed(rt: HostRuntime) {
 
 // The refusal of a file of these records and nothing behind them.
 fn refusal(alloc: Global, records: &[Entry]) -> Result<Option<DirError>, Fail> {
-    let file = file_of(alloc, records, &[])?;
+    let file = file_as_stated(alloc, records, &[])?;
     Ok(Directory::read(&file).err())
 }
 
