@@ -107,7 +107,8 @@ pub fn run_check<R: Read, W: Write, A: Allocator + Copy>(
 
     // A file is never refused: that is what is sent of it.
     ensures error { IfErr result
-        (RunStops R.remaining W.contents AnyFile check_text RefusesNone inlet.old inlet.new outlet.old outlet.new) }
+        (RunStops R.remaining W.contents AnyFile check_text RefusesNone inlet.old inlet.new outlet.old
+        outlet.new) }
 {
     let file = inlet.read_all(alloc)?;
     let report = Report::of(alloc, &file)?;

@@ -48,7 +48,9 @@ pub fn run_join<R: Read, W: Write, A: Allocator + Copy>(
     ensures sent { IfOk result (SendsJoin R.remaining W.contents inlets.old outlet.old outlet.new) }
     ensures small { IfOk result (λ size. size ≤ MAX_FILE) }
     ensures whole { OnOk result (AreSpent inlets.new × (broken_of outlet.new ≡ false)) }
-    ensures cuts { (F : List ℕ) (A : ℕ → ℕ → Bool) → GotCuts R.remaining inlets.old F A → MatchResult result (λ size. let z = cut_of F (union_below A (length inlets.old)) in (size ≡ length z) × Sends W.contents outlet.old outlet.new z) (OnlySize F A (length inlets.old)) }
+    ensures cuts { (F : List ℕ) (A : ℕ → ℕ → Bool) → GotCuts R.remaining inlets.old F A →
+        MatchResult result (λ size. let z = cut_of F (union_below A (length inlets.old)) in
+        (size ≡ length z) × Sends W.contents outlet.old outlet.new z) (OnlySize F A (length inlets.old)) }
 
     ensures error { IfErr result
         (JoinStops R.remaining W.contents inlets.old inlets.new outlet.old outlet.new) }

@@ -154,7 +154,8 @@ impl fmt::Display for CutLine {
 
 // Counts the codes that a font maps, by a chart, so that no order of its subtable is slow.
 fn count_mapped<A: Allocator + Copy>(alloc: A, font: &Font<'_>) -> Result<u32, NoMemory>
-    ensures { IfOk result (λ count. count ≡ mapped_codes (mapping_of (cmap_of font.now) (glyph_count_of font.now))) }
+    ensures { IfOk result (λ count. count ≡ mapped_codes
+        (mapping_of (cmap_of font.now) (glyph_count_of font.now))) }
 {
     let chart = Chart::of(alloc, font.mapping())?;
     Ok(chart.mapped_count())

@@ -30,13 +30,15 @@ pub fn run_subset<R: Read, W: Write, A: Allocator + Copy>(
     ensures spent { inlet_fresh_of inlet.new ≡ false }
 
     ensures sent { OnOk result (got R.remaining inlet.old
-        (λ file. (font_fault file ≡ None) × Sends W.contents outlet.old outlet.new (cut_of file (member wanted.now)))) }
+        (λ file. (font_fault file ≡ None) × Sends W.contents outlet.old outlet.new
+        (cut_of file (member wanted.now)))) }
     ensures size { IfOk result (λ size. (size ≤ MAX_FILE) × got R.remaining inlet.old
         (λ file. size ≡ length (cut_of file (member wanted.now)))) }
     ensures whole { OnOk result ((inlet_broken_of inlet.new ≡ false) × (broken_of outlet.new ≡ false)) }
 
     ensures error { IfErr result
-        (RunStops R.remaining W.contents (HasCut (member wanted.now)) (λ file. cut_of file (member wanted.now))
+        (RunStops R.remaining W.contents (HasCut (member wanted.now))
+        (λ file. cut_of file (member wanted.now))
         (RefusesCut R.remaining inlet.old (member wanted.now))
         inlet.old inlet.new outlet.old outlet.new) }
 {

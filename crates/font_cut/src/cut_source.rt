@@ -283,7 +283,8 @@ impl<'f, 'a, A: Allocator> CutOf<'f, 'a, A> {
     pub(crate) fn written_outline(&self, g: u16) -> Option<&'a [u8]>
         requires form { IsCut our_format self.now.0 }
         requires all { self.now.1 ≡ None }
-        ensures outline { MatchOption result ((content (font_of self.now.0) everything).outline g ≡ None) (λ b. (content (font_of self.now.0) everything).outline g ≡ Some b.now) }
+        ensures outline { MatchOption result ((content (font_of self.now.0) everything).outline g ≡ None)
+            (λ b. (content (font_of self.now.0) everything).outline g ≡ Some b.now) }
         ensures small { MatchOption result Unit (λ b. length b.now ≤ MAX_FILE) }
     {
         if self.keeps(g) {

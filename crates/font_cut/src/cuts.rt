@@ -92,7 +92,8 @@ fn cut_exactly<A: Allocator + Copy>(
     font: &Font<'_>,
     wanted: &Wanted<A>,
 ) -> Result<Vec<u8, A>, CutError>
-    ensures { MatchResult result (λ v. IsWritten (cut_of font.now (member wanted.now)) v.items) (IsCutRefusal (cut_of font.now (member wanted.now))) }
+    ensures { MatchResult result (λ v. IsWritten (cut_of font.now (member wanted.now)) v.items)
+        (IsCutRefusal (cut_of font.now (member wanted.now))) }
 {
     let source = CutOf::new(alloc, font, wanted)?;
     file_in_memory(alloc, &source)
@@ -109,7 +110,8 @@ pub fn cut<A: Allocator + Copy>(
     font: &Font<'_>,
     wanted: &Wanted<A>,
 ) -> Result<Vec<u8, A>, CutError>
-    ensures exact { MatchResult result (λ v. v.items ≡ cut_of font.now (member wanted.now)) (IsCutRefusal (cut_of font.now (member wanted.now))) }
+    ensures exact { MatchResult result (λ v. v.items ≡ cut_of font.now (member wanted.now))
+        (IsCutRefusal (cut_of font.now (member wanted.now))) }
     ensures small { IfOk result (λ v. length v.items ≤ MAX_FILE) }
     ensures sound { IfOk result (λ v. IsSound font.now (member wanted.now) v.items) }
 {
@@ -153,7 +155,8 @@ pub fn cut_into<W: Write, A: Allocator + Copy>(
     requires { fresh_of out.old ≡ true }
     ensures size { IfOk result (λ size. size ≡ length (cut_of font.now (member wanted.now))) }
     ensures small { OnOk result (length (cut_of font.now (member wanted.now)) ≤ MAX_FILE) }
-    ensures sent { OnOk result (IsSome (W.contents (writer_of out.old)) → HasSent W.contents out.new (cut_of font.now (member wanted.now))) }
+    ensures sent { OnOk result (IsSome (W.contents (writer_of out.old)) →
+        HasSent W.contents out.new (cut_of font.now (member wanted.now))) }
     ensures sends { OnOk result (Sends W.contents out.old out.new (cut_of font.now (member wanted.now))) }
     ensures unbroken { OnOk result (broken_of out.new ≡ false) }
     ensures stops { IfErr result (StopsCut W.contents out.old out.new (cut_of font.now (member wanted.now))) }

@@ -54,7 +54,8 @@ fn is_other_table<K: Source, L: Source>(k: &K, l: &L, slot: usize) -> bool
 // The first slot whose tables differ.
 #[tactic(auto, using(crate::proofs::FirstLemmas::first_found, font_file::proofs::FontLemmas::find_step, crate::proofs::FirstLemmas::first_end))]
 fn different_table<K: Source, L: Source>(k: &K, l: &L) -> Option<u8>
-    ensures { result ≡ find (is_different_table (K.content_of k.now) (L.content_of l.now)) (range_with_len 0 16) }
+    ensures { result ≡ find (is_different_table (K.content_of k.now) (L.content_of l.now))
+        (range_with_len 0 16) }
 {
     for slot in 0..16u8 {
         if is_other_table(k, l, usize::from(slot)) {
@@ -67,7 +68,8 @@ fn different_table<K: Source, L: Source>(k: &K, l: &L) -> Option<u8>
 // The first code that both map, to two glyphs.
 #[tactic(auto, using(crate::proofs::CodeDifferenceLemmas::end_left, crate::proofs::CodeDifferenceLemmas::end_right))]
 fn different_code<K: Source, L: Source>(k: &K, l: &L) -> Option<u32>
-    ensures { result ≡ find (is_different_code (K.content_of k.now) (L.content_of l.now)) (range_with_len 0 CODES) }
+    ensures { result ≡ find (is_different_code (K.content_of k.now) (L.content_of l.now))
+        (range_with_len 0 CODES) }
 {
     let mut from = 0;
     while let (Some(a), Some(b)) = (k.next_run(from), l.next_run(from)) {

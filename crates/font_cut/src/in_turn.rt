@@ -22,7 +22,8 @@ use std::io::Write;
 
 // Opens the first file.
 fn open_first<A: Allocator>(files: &[Vec<u8, A>]) -> Result<Font<'_>, JoinAllError>
-    ensures { let bytes = map (λ v. v.items) files.now in MatchResult result (IsFirst bytes) (IsAllRefusal bytes) }
+    ensures { let bytes = map (λ v. v.items) files.now in
+        MatchResult result (IsFirst bytes) (IsAllRefusal bytes) }
 {
     if files.is_empty() {
         return Err(JoinAllError::NothingToJoin);
@@ -41,7 +42,8 @@ fn first_of<'f, 'a, A: Allocator + Copy>(
     alloc: A,
     font: &'f Font<'a>,
 ) -> Result<Union<'f, 'a, A>, JoinError>
-    ensures { MatchResult result (λ union. HoldsFile union font.entry.now) (IsJoinRefusal font.entry.now font.entry.now) }
+    ensures { MatchResult result (λ union. HoldsFile union font.entry.now)
+        (IsJoinRefusal font.entry.now font.entry.now) }
 {
     accepted(font);
     Union::of_first(alloc, font)
@@ -53,7 +55,8 @@ fn joined_with<'f, 'a, A: Allocator + Copy>(
     all: Union<'f, 'a, A>,
     y: &'a [u8],
 ) -> Result<Union<'f, 'a, A>, JoinError>
-    ensures { (x : List ℕ) → HoldsFile all.entry x → MatchResult result (λ union. (z : List ℕ) × IsJoin x y.now z × HoldsFile union z) (IsJoinRefusal x y.now) }
+    ensures { (x : List ℕ) → HoldsFile all.entry x → MatchResult result
+        (λ union. (z : List ℕ) × IsJoin x y.now z × HoldsFile union z) (IsJoinRefusal x y.now) }
 {
     let next = match Font::open(y) {
         Ok(next) => next,
@@ -77,7 +80,8 @@ fn union_in_turn<'f, 'a, A: Allocator + Copy>(
     files: &'a [Vec<u8, A>],
 ) -> Result<Union<'f, 'a, A>, JoinAllError>
     requires { IsFirst (map (λ v. v.items) files.now) first.now }
-    ensures { let bytes = map (λ v. v.items) files.now in MatchResult result (λ union. IsUnited bytes union) (IsAllRefusal bytes) }
+    ensures { let bytes = map (λ v. v.items) files.now in
+        MatchResult result (λ union. IsUnited bytes union) (IsAllRefusal bytes) }
 {
     let mut all = match first_of(alloc, first) {
         Ok(all) => all,
@@ -97,7 +101,8 @@ fn join_in_turn<A: Allocator + Copy>(
     alloc: A,
     files: &[Vec<u8, A>],
 ) -> Result<Vec<u8, A>, JoinAllError>
-    ensures { let bytes = map (λ v. v.items) files.now in MatchResult result (λ z. IsAllJoined bytes z.items) (IsAllRefusal bytes) }
+    ensures { let bytes = map (λ v. v.items) files.now in
+        MatchResult result (λ z. IsAllJoined bytes z.items) (IsAllRefusal bytes) }
 {
     let first = match open_first(files) {
         Ok(first) => first,
@@ -127,14 +132,26 @@ pub fn join_all<A: Allocator + Copy>(
     alloc: A,
     files: &[Vec<u8, A>],
 ) -> Result<Vec<u8, A>, JoinAllError>
-    ensures exact { let bytes = map (λ v. v.items) files.now in MatchResult result (λ z. IsAllJoined bytes z.items) (IsAllRefusal bytes) }
+    ensures exact { let bytes = map (λ v. v.items) files.now in
+        MatchResult result (λ z. IsAllJoined bytes z.items) (IsAllRefusal bytes) }
     ensures small { IfOk result (λ z. length z.items ≤ MAX_FILE) }
-    ensures grown { let bytes = map (λ v. v.items) files.now in IfOk result (λ z. Value our_format (grown bytes (length bytes)) z.items) }
-    ensures cuts { let bytes = map (λ v. v.items) files.now in (F : List ℕ) (A : ℕ → ℕ → Bool) → AreCuts F A bytes → MatchResult result (λ z. z.items ≡ cut_of F (union_below A (length bytes))) (IsForSizeOf F A bytes) }
-    ensures grouping { let bytes = map (λ v. v.items) files.now in (F : List ℕ) (t : JoinTree (ℕ → Bool)) → font_fault F ≡ None → IsOver bytes (cuts our_format F t) → IsSmall our_format (cuts our_format F t) → IfOk result (λ z. Value our_format (cuts our_format F t) z.items) }
-    ensures trees { let bytes = map (λ v. v.items) files.now in (t : JoinTree (List ℕ)) → IsOver bytes t → IsSmall our_format t → IfOk result (λ z. (v : List ℕ) × Value our_format t v × (our_format.file (whole our_format v) ≡ z.items)) }
-    ensures one_form { let bytes = map (λ v. v.items) files.now in (t : JoinTree (List ℕ)) → IsOver bytes t → IsSmall our_format t → IfOk result (λ z. Value our_format t z.items) }
-    ensures clash { let bytes = map (λ v. v.items) files.now in ((k : ℕ) → k < length bytes → IsCut our_format (file_at bytes k)) → (t : JoinTree (List ℕ)) → IsOver bytes t → IsSmall our_format t → IfErr result (λ error. IsForDifference error → Differs our_format t) }
+    ensures grown { let bytes = map (λ v. v.items) files.now in
+        IfOk result (λ z. Value our_format (grown bytes (length bytes)) z.items) }
+    ensures cuts { let bytes = map (λ v. v.items) files.now in (F : List ℕ) (A : ℕ → ℕ → Bool) →
+        AreCuts F A bytes → MatchResult result (λ z. z.items ≡ cut_of F (union_below A (length bytes)))
+        (IsForSizeOf F A bytes) }
+    ensures grouping { let bytes = map (λ v. v.items) files.now in (F : List ℕ) (t : JoinTree (ℕ → Bool)) →
+        font_fault F ≡ None → IsOver bytes (cuts our_format F t) → IsSmall our_format (cuts our_format F t) →
+        IfOk result (λ z. Value our_format (cuts our_format F t) z.items) }
+    ensures trees { let bytes = map (λ v. v.items) files.now in (t : JoinTree (List ℕ)) → IsOver bytes t →
+        IsSmall our_format t → IfOk result (λ z. (v : List ℕ) × Value our_format t v
+        × (our_format.file (whole our_format v) ≡ z.items)) }
+    ensures one_form { let bytes = map (λ v. v.items) files.now in (t : JoinTree (List ℕ)) → IsOver bytes t →
+        IsSmall our_format t → IfOk result (λ z. Value our_format t z.items) }
+    ensures clash { let bytes = map (λ v. v.items) files.now in
+        ((k : ℕ) → k < length bytes → IsCut our_format (file_at bytes k)) → (t : JoinTree (List ℕ)) →
+        IsOver bytes t → IsSmall our_format t → IfErr result (λ error. IsForDifference error →
+        Differs our_format t) }
 {
     join_in_turn(alloc, files)
 }
@@ -146,9 +163,11 @@ fn send_in_turn<A: Allocator + Copy, W: Write>(
     out: &mut Outlet<W>,
 ) -> Result<u64, JoinAllIntoError>
     requires { fresh_of out.old ≡ true }
-    ensures sends { let bytes = map (λ v. v.items) files.now in IfOk result (SendsAll W.contents out.old out.new bytes) }
+    ensures sends { let bytes = map (λ v. v.items) files.now in
+        IfOk result (SendsAll W.contents out.old out.new bytes) }
     ensures unbroken { OnOk result (broken_of out.new ≡ false) }
-    ensures stops { let bytes = map (λ v. v.items) files.now in IfErr result (StopsJoin W.contents out.old out.new bytes) }
+    ensures stops { let bytes = map (λ v. v.items) files.now in
+        IfErr result (StopsJoin W.contents out.old out.new bytes) }
 {
     let first = match open_first(files) {
         Ok(first) => first,

@@ -31,7 +31,8 @@ impl<'a, A: Allocator> Model for Joined<'a, A> {
 
     ghost view = { λ j. (j.first.now, j.second.now) };
 
-    ghost invariant = { λ j. content_in j.union ≡ both (content (font_of j.first.now) everything) (content (font_of j.second.now) everything) };
+    ghost invariant = { λ j. content_in j.union ≡ both (content (font_of j.first.now) everything)
+        (content (font_of j.second.now) everything) };
 }
 
 impl<'a, A: Allocator + Copy> Joined<'a, A> {
@@ -43,7 +44,8 @@ impl<'a, A: Allocator + Copy> Joined<'a, A> {
     /// `NoMemory` where memory is refused, and else the first of `NotACut`, of the first font and
     /// then of the second, `DifferentTable`, `DifferentMapping` and `DifferentGlyph` that applies.
     pub fn new(alloc: A, x: &'a Font<'a>, y: &'a Font<'a>) -> Result<Joined<'a, A>, JoinError>
-        ensures { MatchResult result (λ joined. (joined ≡ (x.entry.now, y.entry.now)) × (union_fault x.entry.now y.entry.now ≡ None)) (IsUnionRefusal x.entry.now y.entry.now) }
+        ensures { MatchResult result (λ joined. (joined ≡ (x.entry.now, y.entry.now))
+            × (union_fault x.entry.now y.entry.now ≡ None)) (IsUnionRefusal x.entry.now y.entry.now) }
     {
         accepted(x);
         accepted(y);
@@ -66,7 +68,8 @@ impl<'a, A: Allocator> Source for Joined<'a, A> {
     ghost use Rattle.font_theory.specs.Content.{content, everything, font_of};
     ghost use Rattle.font_theory.specs.Join.{both};
 
-    ghost content_of = { λ files. both (content (font_of files.0) everything) (content (font_of files.1) everything) };
+    ghost content_of = { λ files. both (content (font_of files.0) everything)
+        (content (font_of files.1) everything) };
 
     fn known(&self) {
         self.union.known();

@@ -46,8 +46,12 @@ fn join_exactly<A: Allocator + Copy>(alloc: A, x: &[u8], y: &[u8]) -> Result<Vec
 /// The first [`JoinError`] that applies.
 pub fn join<A: Allocator + Copy>(alloc: A, x: &[u8], y: &[u8]) -> Result<Vec<u8, A>, JoinError>
     ensures exact { MatchResult result (λ z. IsJoin x.now y.now z.items) (IsJoinRefusal x.now y.now) }
-    ensures cuts { (F : List ℕ) (A B : ℕ → Bool) → font_fault F ≡ None → IsCutOf F A x.now → IsCutOf F B y.now → length x.now ≤ MAX_FILE → length y.now ≤ MAX_FILE → MatchResult result (λ z. z.items ≡ cut_of F (either A B)) (IsForSize (length (cut_of F (either A B)))) }
-    ensures itself { font_fault x.now ≡ None → cut_of x.now everything ≡ x.now → y.now ≡ x.now → MatchResult result (λ z. z.items ≡ x.now) (λ error. error ≡ JoinError.NoMemory) }
+    ensures cuts { (F : List ℕ) (A B : ℕ → Bool) → font_fault F ≡ None → IsCutOf F A x.now →
+        IsCutOf F B y.now → length x.now ≤ MAX_FILE → length y.now ≤ MAX_FILE →
+        MatchResult result (λ z. z.items ≡ cut_of F (either A B))
+        (IsForSize (length (cut_of F (either A B)))) }
+    ensures itself { font_fault x.now ≡ None → cut_of x.now everything ≡ x.now → y.now ≡ x.now →
+        MatchResult result (λ z. z.items ≡ x.now) (λ error. error ≡ JoinError.NoMemory) }
     ensures upper { IfOk result (λ z. IsLeastUpper x.now y.now z.items) }
     ensures small { IfOk result (λ z. length z.items ≤ MAX_FILE) }
     ensures refused { IfErr result (IsTrueRefusal x.now y.now) }

@@ -112,7 +112,8 @@ impl<'f, 'a, A: Allocator> Listed<'f, 'a, A> {
     /// The outline of a glyph that is kept, as a file in cut form has it: with the zeros that fill it.
     pub(crate) fn written_outline(&self, g: u16) -> Option<&'a [u8]>
         requires { IsCut our_format self.now }
-        ensures outline { MatchOption result ((content (font_of self.now) everything).outline g ≡ None) (λ b. (content (font_of self.now) everything).outline g ≡ Some b.now) }
+        ensures outline { MatchOption result ((content (font_of self.now) everything).outline g ≡ None)
+            (λ b. (content (font_of self.now) everything).outline g ≡ Some b.now) }
         ensures small { MatchOption result Unit (λ b. length b.now ≤ MAX_FILE) }
     {
         self.font.written_outline(g)

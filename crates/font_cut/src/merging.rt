@@ -143,7 +143,8 @@ fn run_of_both(
     requires small { piece.last ≤ 0x10FFFF }
     requires first_past { IsPast a.now (piece.last + 1) places.0 }
     requires second_past { IsPast b.now (piece.last + 1) places.1 }
-    ensures run { (from : ℕ) → IsPiece (united (spelled a.now) (spelled b.now)) from piece → IsRun (united (spelled a.now) (spelled b.now)) from result.0 }
+    ensures run { (from : ℕ) → IsPiece (united (spelled a.now) (spelled b.now)) from piece →
+        IsRun (united (spelled a.now) (spelled b.now)) from result.0 }
     ensures small { result.0.last ≤ 0x10FFFF }
     ensures behind { IsNext (united (spelled a.now) (spelled b.now)) (result.0.last + 1) result.1 }
     ensures first_past { IsPast a.now (result.0.last + 1) result.2.0 }

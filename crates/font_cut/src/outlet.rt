@@ -87,7 +87,8 @@ impl<W: Write> Outlet<W> {
         requires fits { written_of self.old + length bytes.now < 2 ^ 64 }
 
         ensures ok { OnOk result (Sends W.contents self.old self.new bytes.now) }
-        ensures sent { OnOk result ((bs : List ℕ) → HasSent W.contents self.old bs → HasSent W.contents self.new (bs ++ bytes.now)) }
+        ensures sent { OnOk result ((bs : List ℕ) → HasSent W.contents self.old bs →
+            HasSent W.contents self.new (bs ++ bytes.now)) }
         ensures unbroken { OnOk result (broken_of self.new ≡ false) }
 
         // What went out before a failure is a front of the bytes, and never all of them.
@@ -149,7 +150,13 @@ impl<W: Write> Sink for Outlet<W> {
     ghost use Rattle.std.specs.Prelude.{[]};
     ghost use Rattle.font_cut.specs.Outlet.{broken_of, writer_of, written_of};
 
-    ghost trace = { λ o. record { fixed = []; count = written_of o; taken = W.contents (writer_of o); shown = W.contents (writer_of o); stopped = broken_of o } };
+    ghost trace = { λ o. record {
+      fixed = [];
+      count = written_of o;
+      taken = W.contents (writer_of o);
+      shown = W.contents (writer_of o);
+      stopped = broken_of o;
+    } };
 
     fn take(&mut self, bytes: &[u8]) -> Result<(), Stopped> {
         match self.put(bytes) {

@@ -85,9 +85,11 @@ impl<'a, A: Allocator> Outlines<'a, A> {
     fn take_one<B: Allocator>(&mut self, file: &Listed<'_, 'a, B>, g: u16) -> bool
         requires form { IsCut our_format file.now }
         requires within { g < length self.old }
-        ensures differs { result ≡ is_other (outline_in self.old) (content (font_of file.now) everything).outline g }
+        ensures differs { result ≡ is_other (outline_in self.old)
+            (content (font_of file.now) everything).outline g }
         ensures count { length self.new ≡ length self.old }
-        ensures taken { outline_in self.new g ≡ union_of (outline_in self.old) (content (font_of file.now) everything).outline g }
+        ensures taken { outline_in self.new g ≡ union_of (outline_in self.old)
+            (content (font_of file.now) everything).outline g }
         ensures others { (h : ℕ) → h ≢ g → outline_in self.new h ≡ outline_in self.old h }
     {
         let Some(outline) = file.written_outline(g) else {
@@ -105,8 +107,10 @@ impl<'a, A: Allocator> Outlines<'a, A> {
     pub(crate) fn take<B: Allocator>(&mut self, file: &Listed<'_, 'a, B>, count: u16) -> Option<u16>
         requires form { IsCut our_format file.now }
         requires count { length self.old ≡ count }
-        ensures differs { result ≡ find (is_other (outline_in self.old) (content (font_of file.now) everything).outline) (range_with_len 0 count) }
-        ensures taken { result ≡ None → AreTaken self.old self.new (content (font_of file.now) everything).outline count }
+        ensures differs { result ≡ find (is_other (outline_in self.old)
+            (content (font_of file.now) everything).outline) (range_with_len 0 count) }
+        ensures taken { result ≡ None → AreTaken self.old self.new
+            (content (font_of file.now) everything).outline count }
     {
         for g in 0..count {
             if self.take_one(file, g) {

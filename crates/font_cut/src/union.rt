@@ -43,7 +43,11 @@ impl<'f, 'a, A: Allocator> Model for Union<'f, 'a, A> {
 
     ghost view = { λ u. record { tables = u.first.now; runs = u.runs.items; outlines = u.outlines } };
 
-    ghost invariant = { λ u. IsUnion (record { tables = u.first.now; runs = u.runs.items; outlines = u.outlines }) };
+    ghost invariant = { λ u. IsUnion (record {
+      tables = u.first.now;
+      runs = u.runs.items;
+      outlines = u.outlines;
+    }) };
 }
 
 impl<'f, 'a, A: Allocator> Source for Union<'f, 'a, A> {
@@ -87,7 +91,8 @@ impl<'f, 'a, A: Allocator> Source for Union<'f, 'a, A> {
 impl<'f, 'a, A: Allocator> Union<'f, 'a, A> {
     // The outline of a glyph, with the zeros that fill it.
     fn outline(&self, g: u16) -> Option<&'a [u8]>
-        ensures outline { MatchOption result ((content_in self.now).outline g ≡ None) (λ b. (content_in self.now).outline g ≡ Some b.now) }
+        ensures outline { MatchOption result ((content_in self.now).outline g ≡ None)
+            (λ b. (content_in self.now).outline g ≡ Some b.now) }
         ensures filled { MatchOption result Unit (λ b. padded b.now ≡ b.now) }
         ensures small { MatchOption result Unit (λ b. length b.now ≤ MAX_FILE) }
     {
@@ -117,7 +122,8 @@ fn early_refusal<A: Allocator, B: Allocator>(
     k: &Union<'_, '_, A>,
     l: &Listed<'_, '_, B>,
 ) -> Option<JoinError>
-    ensures { MatchOption result (AgreesEarly (content_in k.now) l.now) (λ error. add_fault (content_in k.now) l.now ≡ Some error) }
+    ensures { MatchOption result (AgreesEarly (content_in k.now) l.now)
+        (λ error. add_fault (content_in k.now) l.now ≡ Some error) }
 {
     if !l.is_cut() {
         return Some(JoinError::NotACut(Which::Second));
@@ -135,7 +141,9 @@ impl<'f, 'a, A: Allocator + Copy> Union<'f, 'a, A> {
     ///
     /// `NotACut` of the first, or `NoMemory`.
     pub(crate) fn of_first(alloc: A, font: &'f Font<'a>) -> Result<Union<'f, 'a, A>, JoinError>
-        ensures { MatchResult result (λ union. (content_in union ≡ content (font_of font.entry.now) everything) × IsCut our_format font.entry.now) (IsFirstRefusal font.entry.now) }
+        ensures { MatchResult result (λ union. (content_in union ≡ content
+            (font_of font.entry.now) everything) × IsCut our_format font.entry.now)
+            (IsFirstRefusal font.entry.now) }
     {
         accepted(font);
         let Ok(file) = Listed::new(alloc, &*font) else {
@@ -164,7 +172,9 @@ impl<'f, 'a, A: Allocator + Copy> Union<'f, 'a, A> {
     ///
     /// `NotACut` of the second, the first difference, or `NoMemory`.
     pub(crate) fn add(self, alloc: A, font: &Font<'a>) -> Result<Union<'f, 'a, A>, JoinError>
-        ensures { MatchResult result (λ union. (content_in union ≡ both (content_in self.entry) (content (font_of font.now) everything)) × (add_fault (content_in self.entry) font.now ≡ None)) (IsAddRefusal (content_in self.entry) font.now) }
+        ensures { MatchResult result (λ union. (content_in union ≡ both (content_in self.entry)
+            (content (font_of font.now) everything)) × (add_fault (content_in self.entry) font.now ≡ None))
+            (IsAddRefusal (content_in self.entry) font.now) }
     {
         accepted(font);
         let Ok(file) = Listed::new(alloc, font) else {

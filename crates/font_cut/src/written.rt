@@ -21,7 +21,8 @@ pub(crate) const CURRENT: Profile = Profile::Second;
 
 // Measures a content. Refused with the length of its file, where that is too large.
 fn measure<S: Source>(source: &S) -> Result<(Plan, u64), u64>
-    ensures { MatchResult result (IsMeasured (S.content_of source.now)) (IsTooLarge (file current_form (S.content_of source.now))) }
+    ensures { MatchResult result (IsMeasured (S.content_of source.now))
+        (IsTooLarge (file current_form (S.content_of source.now))) }
 {
     let size = file_size(source, CURRENT);
     if size.bytes > MAX_FILE {
@@ -35,8 +36,10 @@ pub(crate) fn file_in_memory<S: Source, A: Allocator + Copy>(
     alloc: A,
     source: &S,
 ) -> Result<Vec<u8, A>, CutError>
-    ensures exact { MatchResult result (λ v. IsWritten (file current_form (S.content_of source.now)) v.items) (IsCutRefusal (file current_form (S.content_of source.now))) }
-    ensures size_first { IfErr result (λ error. error ≡ CutNoMemory → length (file current_form (S.content_of source.now)) ≤ MAX_FILE) }
+    ensures exact { MatchResult result (λ v. IsWritten (file current_form (S.content_of source.now)) v.items)
+        (IsCutRefusal (file current_form (S.content_of source.now))) }
+    ensures size_first { IfErr result (λ error. error ≡ CutNoMemory →
+        length (file current_form (S.content_of source.now)) ≤ MAX_FILE) }
 {
     match measure(source) {
         Ok((plan, size)) => match write_file(alloc, source, &plan, size as usize) {
@@ -55,9 +58,11 @@ pub(crate) fn send_whole<S: Source, W: Write>(
     requires { fresh_of out.old ≡ true }
     ensures size { IfOk result (λ size. size ≡ length (file current_form (S.content_of source.now))) }
     ensures small { OnOk result (length (file current_form (S.content_of source.now)) ≤ MAX_FILE) }
-    ensures sends { OnOk result (Sends W.contents out.old out.new (file current_form (S.content_of source.now))) }
+    ensures sends { OnOk result (Sends W.contents out.old out.new
+        (file current_form (S.content_of source.now))) }
     ensures unbroken { OnOk result (broken_of out.new ≡ false) }
-    ensures stops { IfErr result (StopsCut W.contents out.old out.new (file current_form (S.content_of source.now))) }
+    ensures stops { IfErr result (StopsCut W.contents out.old out.new
+        (file current_form (S.content_of source.now))) }
     ensures no_memory { IfErr result (λ error. error ≢ IntoNoMemory) }
 {
     let (plan, size) = match measure(source) {

@@ -31,7 +31,8 @@ fn visit<A: Allocator>(
 ) -> Result<(), NoMemory>
     requires { AllByRecursion (λ component. component.glyph < length marks.old) components }
     ensures marks { OnOk result (marks.new ≡ marks_after (glyphs_of components.entry) marks.old) }
-    ensures work { OnOk result (work.new.items ≡ work_after (glyphs_of components.entry) marks.old work.old.items) }
+    ensures work { OnOk result (work.new.items ≡ work_after
+        (glyphs_of components.entry) marks.old work.old.items) }
 {
     for component in components {
         if !marks.has(component.glyph) {
@@ -68,7 +69,8 @@ pub fn close<O: Outlines, A: Allocator + Copy>(
 ) -> Result<Marks<A>, NoMemory>
     requires { length seeds.now ≡ O.count_of outlines.now }
     ensures count { IfOk result (λ marks. length marks ≡ O.count_of outlines.now) }
-    ensures reached { IfOk result (λ marks. (g : ℕ) → has marks g ≡ true ↔ Reach (O.record_at outlines.now) (has seeds.now) g) }
+    ensures reached { IfOk result (λ marks. (g : ℕ) → has marks g ≡ true ↔ Reach (O.record_at outlines.now)
+        (has seeds.now) g) }
 {
     let mut marks = seeds.copied(alloc)?;
     let mut work = marked(alloc, seeds, outlines.count())?;

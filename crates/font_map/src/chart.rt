@@ -35,7 +35,8 @@ impl<'a, A: Allocator> Model for Chart<'a, A> {
 
     ghost view = { λ c. c.mapping.now };
 
-    ghost invariant = { λ c. IfSome c.laid_out (λ l. slice_index l ≡ mapping_of c.mapping.now.0 c.mapping.now.1) };
+    ghost invariant = { λ c. IfSome c.laid_out (λ l. slice_index l
+        ≡ mapping_of c.mapping.now.0 c.mapping.now.1) };
 }
 
 impl<'a, A: Allocator + Copy> Chart<'a, A> {

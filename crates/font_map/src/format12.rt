@@ -191,7 +191,8 @@ pub(crate) fn group_glyph(s: &[u8], ordered: bool, code: u32) -> u64
 
 // The codes from one on that a group alone maps to one of the glyphs.
 fn clip_group(group: ListedGroup, from: u32, glyphs: u16) -> Option<Run>
-    ensures { MatchOption result (NoRun (clipped glyphs (glyph_of_group group)) from) (IsPiece (clipped glyphs (glyph_of_group group)) from) }
+    ensures { MatchOption result (NoRun (clipped glyphs (glyph_of_group group)) from)
+        (IsPiece (clipped glyphs (glyph_of_group group)) from) }
 {
     let end = group.last.min(0x10FFFF);
     let mut first = from.max(group.first);
@@ -328,7 +329,8 @@ pub(crate) fn stretch_of_groups(
     requires low { from < 0x110000 }
     ensures order { from < result.1 }
     ensures small { result.1 ≤ 0x110000 }
-    ensures found { MatchOption result.0 (IsUnmapped (clipped glyphs (group_glyph s.now)) from result.1) (IsPiece (clipped glyphs (group_glyph s.now)) from) }
+    ensures found { MatchOption result.0 (IsUnmapped (clipped glyphs (group_glyph s.now)) from result.1)
+        (IsPiece (clipped glyphs (group_glyph s.now)) from) }
 {
     let (found, stop) = reach(s, ordered, from);
     (stretch_by_group(s, found, stop, glyphs, from), stop)

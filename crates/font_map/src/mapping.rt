@@ -60,7 +60,8 @@ fn stretch(s: &[u8], ordered: bool, glyphs: u16, from: u32) -> (Option<Run>, u32
     requires low { from < 0x110000 }
     ensures order { from < result.1 }
     ensures small { result.1 ≤ 0x110000 }
-    ensures found { MatchOption result.0 (IsUnmapped (clipped glyphs (listed_glyph s.now)) from result.1) (IsPiece (clipped glyphs (listed_glyph s.now)) from) }
+    ensures found { MatchOption result.0 (IsUnmapped (clipped glyphs (listed_glyph s.now)) from result.1)
+        (IsPiece (clipped glyphs (listed_glyph s.now)) from) }
 {
     if be16(s, 0) == SEGMENTS {
         return stretch_of_segments(s, ordered, glyphs, from);
@@ -72,7 +73,8 @@ fn stretch(s: &[u8], ordered: bool, glyphs: u16, from: u32) -> (Option<Run>, u32
 fn piece_in(s: &[u8], ordered: bool, glyphs: u16, from: u32) -> Option<Run>
     requires whole { IsWhole s.now }
     requires order { IsTrue ordered → IsOrderly s.now }
-    ensures { MatchOption result (NoRun (clipped glyphs (listed_glyph s.now)) from) (IsPiece (clipped glyphs (listed_glyph s.now)) from) }
+    ensures { MatchOption result (NoRun (clipped glyphs (listed_glyph s.now)) from)
+        (IsPiece (clipped glyphs (listed_glyph s.now)) from) }
 {
     let mut at = from;
     while at < 0x110000 {
@@ -195,7 +197,8 @@ impl<'a> Mapping<'a> {
     /// lie on neighbouring glyphs.
     #[tactic(auto, using(crate::proofs::MappingLemmas::run_of_chosen))]
     pub fn next_run(&self, from: u32) -> Option<Run>
-        ensures { MatchOption result (NoRun (mapping_of self.now.0 self.now.1) from) (IsRun (mapping_of self.now.0 self.now.1) from) }
+        ensures { MatchOption result (NoRun (mapping_of self.now.0 self.now.1) from)
+            (IsRun (mapping_of self.now.0 self.now.1) from) }
     {
         if !self.ordered && be16(self.subtable, 0) == SEGMENTS {
             return walk_run(self.subtable, self.glyphs, from);

@@ -69,7 +69,8 @@ pub(crate) fn row_from(ranges: &[Range], from: u32) -> Option<Range>
 fn count_before(ranges: &[Range], range: Range) -> usize
     requires { AreSeparate 0 ranges.now }
     ensures within { result ≤ length ranges.now }
-    ensures rest { with_range range ranges.now ≡ take result ranges.now ++ absorbed range (drop result ranges.now) }
+    ensures rest { with_range range ranges.now ≡ take result ranges.now ++ absorbed range
+        (drop result ranges.now) }
 {
     place_range(ranges, range.first.saturating_sub(1))
 }

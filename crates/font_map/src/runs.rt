@@ -29,7 +29,8 @@ pub trait Pieces {
 pub(crate) fn run_of<P: Pieces>(pieces: &P, piece: Run) -> (Run, Option<Run>)
     requires order { piece.first ≤ piece.last }
     requires small { piece.last ≤ 0x10FFFF }
-    ensures run { (from : ℕ) → IsPiece (P.map_of pieces.now) from piece → IsRun (P.map_of pieces.now) from result.0 }
+    ensures run { (from : ℕ) → IsPiece (P.map_of pieces.now) from piece →
+        IsRun (P.map_of pieces.now) from result.0 }
     ensures small { result.0.last ≤ 0x10FFFF }
     ensures behind { IsNext (P.map_of pieces.now) (result.0.last + 1) result.1 }
 {

@@ -49,7 +49,8 @@ fn read_code(digits: &str) -> Option<u32>
 
 // One code, or two with `-` between.
 fn read_codes(text: &str) -> Option<(u32, u32)>
-    ensures { MatchOption result ((first last : ℕ) → WritesCodes text.now first last → ⊥) (λ range. WritesCodes text.now range.0 range.1) }
+    ensures { MatchOption result ((first last : ℕ) → WritesCodes text.now first last → ⊥)
+        (λ range. WritesCodes text.now range.0 range.1) }
 {
     let Some((first, last)) = text.split_once('-') else {
         let Some(code) = read_code(text) else {

@@ -114,7 +114,8 @@ impl<'a> Model for Tables<'a> {
 
     ghost view = { λ t. t.directory };
 
-    ghost invariant = { λ t. IsOpened t.directory t.hmtx.now t.loca.now t.glyf.now t.glyph_count t.units_per_em t.metric_count t.form };
+    ghost invariant = { λ t. IsOpened t.directory t.hmtx.now t.loca.now t.glyf.now t.glyph_count
+        t.units_per_em t.metric_count t.form };
 }
 
 impl<'a> Tables<'a> {

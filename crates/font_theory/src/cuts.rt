@@ -21,7 +21,8 @@ pub fn meaning_is_font()
 /// A file that is accepted, or refused for anything but its size, is not too large.
 pub fn size_of_file()
     ensures { (file : List ℕ) → (font_fault file ≡ None → length file ≤ MAX_FILE)
-        × ((error : FontError) → font_fault file ≡ Some error → error ≢ Directory FileTooLarge → length file ≤ MAX_FILE) }
+        × ((error : FontError) → font_fault file ≡ Some error → error ≢ Directory FileTooLarge →
+        length file ≤ MAX_FILE) }
 {}
 
 /// A content of a font is closed.
@@ -37,48 +38,59 @@ pub fn closed_is_writable()
 /// A closed content keeps .notdef, the glyph of each code, and each component of an outline that it
 /// keeps.
 pub fn closed_keeps()
-    ensures { (K : Content) → IsClosed K → KeepsComponents K × ((g : ℕ) (b : List ℕ) → K.outline g ≡ Some b → padded b ≡ b) }
+    ensures { (K : Content) → IsClosed K → KeepsComponents K
+        × ((g : ℕ) (b : List ℕ) → K.outline g ≡ Some b → padded b ≡ b) }
 {}
 
 /// The content of a content is that of the font for the codes in both sets.
 pub fn cut_of_cut()
-    ensures { (F : Font) (A B : ℕ → Bool) → IsFont F → content (seen (content F A)) B ≡ content F (λ c. A c && B c) }
+    ensures { (F : Font) (A B : ℕ → Bool) → IsFont F → content (seen (content F A)) B ≡ content F
+        (λ c. A c && B c) }
 {}
 
 /// A wanted code keeps its glyph, and what that glyph leads to keeps its outline, up to zeros
 /// behind it.
 pub fn wanted_is_kept()
     ensures { (F : Font) (wanted : ℕ → Bool) → IsFont F
-        → ((g : ℕ) → Reach F.outline (is_seed (restricted wanted F.map)) g → (seen (content F wanted)).outline g ≡ padded (F.outline g))
+        → ((g : ℕ) → Reach F.outline (is_seed (restricted wanted F.map)) g →
+        (seen (content F wanted)).outline g ≡ padded (F.outline g))
         × ((c : ℕ) → wanted c ≡ true → ((content F wanted).map c ≡ F.map c)
-        × ((g : ℕ) → Reach F.outline (nat_eq (F.map c)) g → (seen (content F wanted)).outline g ≡ padded (F.outline g))) }
+        × ((g : ℕ) → Reach F.outline (nat_eq (F.map c)) g →
+        (seen (content F wanted)).outline g ≡ padded (F.outline g))) }
 {}
 
 /// What is kept of an accepted file is what its outlines lead to from .notdef and the glyphs of the
 /// wanted codes.
 pub fn kept_is_reached()
     ensures { (file : List ℕ) (wanted : ℕ → Bool) → font_fault file ≡ None
-        → (g : ℕ) → is_kept (font_of file) wanted g ≡ true ↔ Reach (outline_of file) (is_seed (restricted wanted (map_of file))) g }
+        → (g : ℕ) → is_kept (font_of file) wanted g ≡ true ↔ Reach (outline_of file)
+        (is_seed (restricted wanted (map_of file))) g }
 {}
 
 /// In a file of which a content of an accepted one is read back, a wanted code has its glyph, and
 /// what that glyph leads to has its outline, up to zeros behind it.
 pub fn wanted_is_in_file()
-    ensures { (file other : List ℕ) (wanted : ℕ → Bool) → font_fault file ≡ None → font_of other ≡ seen (content (font_of file) wanted)
+    ensures { (file other : List ℕ) (wanted : ℕ → Bool) → font_fault file ≡ None →
+        font_of other ≡ seen (content (font_of file) wanted)
         → (c : ℕ) → wanted c ≡ true → (map_of other c ≡ map_of file c)
-        × ((g : ℕ) → Reach (outline_of file) (nat_eq (map_of file c)) g → outline_of other g ≡ padded (outline_of file g)) }
+        × ((g : ℕ) → Reach (outline_of file) (nat_eq (map_of file c)) g →
+        outline_of other g ≡ padded (outline_of file g)) }
 {}
 
 /// A file of which a content of another one is read back has the metrics of that one.
 pub fn metrics_are_kept()
-    ensures { (file other : List ℕ) (wanted : ℕ → Bool) → font_of other ≡ seen (content (font_of file) wanted) → (g : ℕ) → metric_of other g ≡ metric_of file g }
+    ensures { (file other : List ℕ) (wanted : ℕ → Bool) →
+        font_of other ≡ seen (content (font_of file) wanted) → (g : ℕ) →
+        metric_of other g ≡ metric_of file g }
 {}
 
 /// A cut that is not too large is in cut form, and its cuts are those of the font for the codes in
 /// both sets.
 pub fn cut_is_cut()
-    ensures { (R : Format) → IsFormat R → (F : List ℕ) → R.fault F ≡ None → (A : ℕ → Bool) (X : List ℕ) → Writes R (content (R.font F) A) X → length X ≤ R.most
-        → IsCut R X × (R.font X ≡ seen (content (R.font F) A)) × (whole R X ≡ content (R.font F) A) × ((B : ℕ → Bool) → cut R X B ≡ cut R F (λ c. A c && B c)) }
+    ensures { (R : Format) → IsFormat R → (F : List ℕ) → R.fault F ≡ None → (A : ℕ → Bool) (X : List ℕ) →
+        Writes R (content (R.font F) A) X → length X ≤ R.most
+        → IsCut R X × (R.font X ≡ seen (content (R.font F) A)) × (whole R X ≡ content (R.font F) A)
+        × ((B : ℕ → Bool) → cut R X B ≡ cut R F (λ c. A c && B c)) }
 {}
 
 /// Whether an accepted file is in cut form is decided.
@@ -88,7 +100,8 @@ pub fn cut_form_is_decided()
 
 /// A cut that is written, and is not too large, is current.
 pub fn cut_is_current()
-    ensures { (R : Format) → IsFormat R → (F : List ℕ) → R.fault F ≡ None → (A : ℕ → Bool) → length (cut R F A) ≤ R.most → IsCurrent R (cut R F A) }
+    ensures { (R : Format) → IsFormat R → (F : List ℕ) → R.fault F ≡ None → (A : ℕ → Bool) →
+        length (cut R F A) ≤ R.most → IsCurrent R (cut R F A) }
 {}
 
 /// A current file is in cut form.

@@ -25,30 +25,35 @@ pub fn file_size()
 
 /// The outlines of a closed content take as many bytes in its file as they have.
 pub fn outlines_size()
-    ensures { (K : Content) → IsClosed K → length (padded (concat (outlines_of K))) ≡ sum (map length (outlines_of K)) }
+    ensures { (K : Content) → IsClosed K → length (padded (concat (outlines_of K))) ≡ sum
+        (map length (outlines_of K)) }
 {}
 
 /// How many bytes a file in the first profile has, by how many groups spell its map and how many bytes
 /// its outlines have.
 pub fn size_in_first_profile()
     ensures { (K : Content) → IsClosed K
-        → size_of (form_of First) K ≡ size_with K (28 + 12 * length (groups_of K)) (sum (map length (outlines_of K))) }
+        → size_of (form_of First) K ≡ size_with K (28 + 12 * length (groups_of K))
+        (sum (map length (outlines_of K))) }
 {}
 
 /// The same in the second profile.
 pub fn size_in_second_profile()
     ensures { (K : Content) → IsClosed K
-        → size_of (form_of Second) K ≡ size_with K (36 + 12 * length (groups_of K)) (max (sum (map length (outlines_of K))) 4) }
+        → size_of (form_of Second) K ≡ size_with K (36 + 12 * length (groups_of K))
+        (max (sum (map length (outlines_of K))) 4) }
 {}
 
 /// The file of a closed content is accepted, where it is not too large.
 pub fn file_is_accepted()
-    ensures { (form : Form) → IsForm form → (K : Content) → IsClosed K → length (file form K) ≤ MAX_FILE → font_fault (file form K) ≡ None }
+    ensures { (form : Form) → IsForm form → (K : Content) → IsClosed K → length (file form K) ≤ MAX_FILE →
+        font_fault (file form K) ≡ None }
 {}
 
 /// Nothing is found in the file of a closed content.
 pub fn file_has_no_finding()
-    ensures { (form : Form) (K : Content) → IsClosed K → length (file form K) ≤ MAX_FILE → findings_of (file form K) ≡ [] }
+    ensures { (form : Form) (K : Content) → IsClosed K → length (file form K) ≤ MAX_FILE →
+        findings_of (file form K) ≡ [] }
 {}
 
 /// Each profile has a form.
@@ -63,8 +68,10 @@ pub fn forms_are_apart()
 
 /// In the second form `glyf` has four bytes or the outlines alone.
 pub fn second_glyf_has_bytes()
-    ensures { (outlines : List (List ℕ)) → (length (concat outlines) ≡ 0 → length (glyf_bytes (form_of Second) outlines) ≡ 4)
-        × (length (concat outlines) ≢ 0 → length (glyf_bytes (form_of Second) outlines) ≡ length (concat outlines)) }
+    ensures { (outlines : List (List ℕ)) → (length (concat outlines) ≡ 0 →
+        length (glyf_bytes (form_of Second) outlines) ≡ 4)
+        × (length (concat outlines) ≢ 0 → length (glyf_bytes (form_of Second) outlines) ≡ length
+        (concat outlines)) }
 {}
 
 /// The reader of this program goes with any form that is written, and any that is read as a cut

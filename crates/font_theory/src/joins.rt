@@ -11,7 +11,8 @@ ghost use Rattle.font_theory.specs.Join.{Agree, both};
 
 /// Two contents of a font agree, and their union is its content for the codes of either set.
 pub fn union_of_cuts()
-    ensures { (F : Font) (A B : ℕ → Bool) → IsFont F → Agree (content F A) (content F B) × (both (content F A) (content F B) ≡ content F (either A B)) }
+    ensures { (F : Font) (A B : ℕ → Bool) → IsFont F → Agree (content F A) (content F B)
+        × (both (content F A) (content F B) ≡ content F (either A B)) }
 {}
 
 /// The union of closed contents that agree is closed.
@@ -34,7 +35,8 @@ pub fn least_upper_bound()
 /// A file under another is in cut form, where it is not too large, and two files under one agree.
 pub fn under_one_file()
     ensures { (R : Format) → IsFormat R → ((X F : List ℕ) → Under R X F → length X ≤ R.most → IsCut R X)
-        × ((X Y F : List ℕ) → Under R X F → Under R Y F → length X ≤ R.most → length Y ≤ R.most → Agree (whole R X) (whole R Y)) }
+        × ((X Y F : List ℕ) → Under R X F → Under R Y F → length X ≤ R.most → length Y ≤ R.most →
+        Agree (whole R X) (whole R Y)) }
 {}
 
 /// Being a cut of a file orders the files in cut form.
@@ -47,7 +49,8 @@ pub fn under_is_order()
 /// Two cuts of a font can be joined, and give its cut for the codes of either set.
 pub fn join_of_cuts()
     ensures { (R : Format) → IsFormat R → (F : List ℕ) → R.fault F ≡ None → (A B : ℕ → Bool) (X Y : List ℕ)
-        → Writes R (content (R.font F) A) X → Writes R (content (R.font F) B) Y → length X ≤ R.most → length Y ≤ R.most
+        → Writes R (content (R.font F) A) X → Writes R (content (R.font F) B) Y → length X ≤ R.most →
+        length Y ≤ R.most
         → CanJoin R X Y × (joined R X Y ≡ cut R F (either A B)) }
 {}
 
@@ -60,14 +63,17 @@ pub fn join_of_one()
 /// found.
 pub fn can_join_is_decided()
     ensures { (R : Format) → IsFormat R → (X Y : List ℕ) → R.fault X ≡ None → R.fault Y ≡ None
-        → ((is_cut R X ≡ true) × (is_cut R Y ≡ true) × (difference (whole R X) (whole R Y) ≡ None)) ↔ CanJoin R X Y }
+        → ((is_cut R X ≡ true) × (is_cut R Y ≡ true) × (difference (whole R X) (whole R Y) ≡ None)) ↔ CanJoin
+        R X Y }
 {}
 
 /// What is refused, but for its size, or is not in cut form is under no file, and no file is above
 /// two that differ.
 pub fn true_refusals()
     ensures { (R : Format) → IsFormat R
-        → ((X F : List ℕ) (error : FontError) → R.fault X ≡ Some error → error ≢ Directory FileTooLarge → ¬ Under R X F)
+        → ((X F : List ℕ) (error : FontError) → R.fault X ≡ Some error → error ≢ Directory FileTooLarge →
+        ¬ Under R X F)
         × ((X F : List ℕ) → R.fault X ≡ None → is_cut R X ≡ false → ¬ Under R X F)
-        × ((X Y F : List ℕ) → R.fault X ≡ None → R.fault Y ≡ None → difference (whole R X) (whole R Y) ≢ None → Under R X F → ¬ Under R Y F) }
+        × ((X Y F : List ℕ) → R.fault X ≡ None → R.fault Y ≡ None →
+        difference (whole R X) (whole R Y) ≢ None → Under R X F → ¬ Under R Y F) }
 {}

@@ -6,27 +6,33 @@ ghost use Rattle.font_theory.specs.Tree.{Differs, IsOver, IsSmall, JoinTree, Tak
 
 /// A tree of cuts of one font that meets no size has as its value the cut for the union of its sets.
 pub fn trees_of_cuts()
-    ensures { (R : Format) → IsFormat R → (F : List ℕ) → R.fault F ≡ None → (t : JoinTree (ℕ → Bool)) → IsSmall R (cuts R F t) → Value R (cuts R F t) (cut R F (union_in t)) }
+    ensures { (R : Format) → IsFormat R → (F : List ℕ) → R.fault F ≡ None → (t : JoinTree (ℕ → Bool)) →
+        IsSmall R (cuts R F t) → Value R (cuts R F t) (cut R F (union_in t)) }
 {}
 
 /// Trees that take the same sets, in any order, grouping and repetition, have one union.
 pub fn same_union()
-    ensures { (s t : JoinTree (ℕ → Bool)) → ((A : ℕ → Bool) → Takes s A → Takes t A) → ((A : ℕ → Bool) → Takes t A → Takes s A) → union_in s ≡ union_in t }
+    ensures { (s t : JoinTree (ℕ → Bool)) → ((A : ℕ → Bool) → Takes s A → Takes t A) →
+        ((A : ℕ → Bool) → Takes t A → Takes s A) → union_in s ≡ union_in t }
 {}
 
 /// The tree that grows over cuts of one font comes to the cut for all their sets, and at each step
 /// the two can be joined.
 pub fn grown_cuts()
-    ensures { (R : Format) → IsFormat R → (files : List (List ℕ)) (F : List ℕ) → R.fault F ≡ None → (A : ℕ → ℕ → Bool)
-        → ((k : ℕ) → k < length files → file_at files k ≡ cut R F (A k)) → ((k : ℕ) → k < length files → length (file_at files k) ≤ R.most)
+    ensures { (R : Format) → IsFormat R → (files : List (List ℕ)) (F : List ℕ) → R.fault F ≡ None →
+        (A : ℕ → ℕ → Bool)
+        → ((k : ℕ) → k < length files → file_at files k ≡ cut R F (A k)) →
+        ((k : ℕ) → k < length files → length (file_at files k) ≤ R.most)
         → (k : ℕ) → k < length files
         → ((v : List ℕ) → Value R (grown files (suc k)) v → v ≡ cut R F (union_below A (suc k)))
-        × ((x : List ℕ) → Value R (grown files k) x → length x ≤ R.most → CanJoin R x (file_at files k) × (joined R x (file_at files k) ≡ cut R F (union_below A (suc k)))) }
+        × ((x : List ℕ) → Value R (grown files k) x → length x ≤ R.most →
+        CanJoin R x (file_at files k) × (joined R x (file_at files k) ≡ cut R F (union_below A (suc k)))) }
 {}
 
 /// Two trees over the same files in cut form that meet no size have values of one content.
 pub fn same_content()
-    ensures { (R : Format) → IsFormat R → (files : List (List ℕ)) → ((k : ℕ) → k < length files → IsCut R (file_at files k))
+    ensures { (R : Format) → IsFormat R → (files : List (List ℕ)) →
+        ((k : ℕ) → k < length files → IsCut R (file_at files k))
         → (s t : JoinTree (List ℕ)) → IsOver files s → IsOver files t → IsSmall R s → IsSmall R t
         → (z : List ℕ) → Value R s z → (v : List ℕ) × Value R t v × (whole R v ≡ whole R z) }
 {}
@@ -34,21 +40,27 @@ pub fn same_content()
 /// Where the tree that grows has a value, each tree over all files that meets no size has a value of
 /// the same content, whose file is that value.
 pub fn same_value()
-    ensures { (R : Format) → IsFormat R → (files : List (List ℕ)) → 0 < length files → (z : List ℕ) → Value R (grown files (length files)) z → length z ≤ R.most
+    ensures { (R : Format) → IsFormat R → (files : List (List ℕ)) → 0 < length files → (z : List ℕ) →
+        Value R (grown files (length files)) z → length z ≤ R.most
         → (t : JoinTree (List ℕ)) → IsOver files t → IsSmall R t
-        → ((v : List ℕ) × Value R t v × (whole R v ≡ whole R z) × (R.file (whole R v) ≡ z)) × (R.old ≡ R.file → Value R t z) }
+        → ((v : List ℕ) × Value R t v × (whole R v ≡ whole R z) × (R.file (whole R v) ≡ z))
+        × (R.old ≡ R.file → Value R t z) }
 {}
 
 /// Each tree over cuts of one font that meets no size has the value of the tree that grows.
 pub fn same_value_of_cuts()
-    ensures { (R : Format) → IsFormat R → (files : List (List ℕ)) → 0 < length files → (z : List ℕ) → Value R (grown files (length files)) z → length z ≤ R.most
-        → (F : List ℕ) → R.fault F ≡ None → (t : JoinTree (ℕ → Bool)) → IsOver files (cuts R F t) → IsSmall R (cuts R F t) → Value R (cuts R F t) z }
+    ensures { (R : Format) → IsFormat R → (files : List (List ℕ)) → 0 < length files → (z : List ℕ) →
+        Value R (grown files (length files)) z → length z ≤ R.most
+        → (F : List ℕ) → R.fault F ≡ None → (t : JoinTree (ℕ → Bool)) → IsOver files (cuts R F t) →
+        IsSmall R (cuts R F t) → Value R (cuts R F t) z }
 {}
 
 /// Where a tree that grows meets a difference, each tree over all files that meets no size meets
 /// one.
 pub fn clash_everywhere()
-    ensures { (R : Format) → IsFormat R → (files : List (List ℕ)) → ((k : ℕ) → k < length files → IsCut R (file_at files k))
-        → (k : ℕ) → k < length files → (x : List ℕ) → Value R (grown files k) x → length x ≤ R.most → ¬ Agree (whole R x) (whole R (file_at files k))
+    ensures { (R : Format) → IsFormat R → (files : List (List ℕ)) →
+        ((k : ℕ) → k < length files → IsCut R (file_at files k))
+        → (k : ℕ) → k < length files → (x : List ℕ) → Value R (grown files k) x → length x ≤ R.most →
+        ¬ Agree (whole R x) (whole R (file_at files k))
         → (t : JoinTree (List ℕ)) → IsOver files t → IsSmall R t → Differs R t }
 {}

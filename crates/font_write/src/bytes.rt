@@ -43,7 +43,8 @@ pub(crate) fn three_words(x: u32, y: u32, z: u32) -> [u8; 12]
 
 // sfntVersion 1.0 and four numbers.
 fn header_of(count: u16, range: u16, selector: u16, shift: u16) -> [u8; 12]
-    ensures { result ≡ bytes32 65536 ++ (bytes16 count ++ (bytes16 range ++ (bytes16 selector ++ bytes16 shift))) }
+    ensures { result ≡ bytes32 65536 ++ (bytes16 count ++
+        (bytes16 range ++ (bytes16 selector ++ bytes16 shift))) }
 {
     let [a, b] = half(count);
     let [c, d] = half(range);

@@ -67,7 +67,8 @@ fn gather_offsets<S: Source>(
     requires start { start ≡ length (glyf_to (S.content_of source.now) from) }
     requires small { length (all_outlines (S.content_of source.now)) ≤ MAX_FILE }
     ensures end { result ≡ length (glyf_to (S.content_of source.now) to) }
-    ensures gathered { loca_to (S.content_of source.now) from ++ take (4 * (to - from)) block.new ≡ loca_to (S.content_of source.now) to }
+    ensures gathered { loca_to (S.content_of source.now) from ++ take (4 * (to - from)) block.new ≡ loca_to
+        (S.content_of source.now) to }
 {
     let mut offset = start;
     for g in from..to {

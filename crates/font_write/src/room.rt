@@ -19,7 +19,13 @@ pub struct Room<A: Allocator + Copy> {
 impl<A: Allocator + Copy> Sink for Room<A> {
     ghost use Rattle.std.specs.Prelude.{Some, []};
 
-    ghost trace = { λ s. record { fixed = []; count = s.bytes.len; taken = Some s.bytes.items; shown = Some s.bytes.items; stopped = s.stopped } };
+    ghost trace = { λ s. record {
+      fixed = [];
+      count = s.bytes.len;
+      taken = Some s.bytes.items;
+      shown = Some s.bytes.items;
+      stopped = s.stopped;
+    } };
 
     fn take(&mut self, bytes: &[u8]) -> Result<(), Stopped> {
         if self.bytes.extend_from_slice(bytes).is_err() {

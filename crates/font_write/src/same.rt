@@ -25,9 +25,15 @@ impl<'a> Model for Same<'a> {
 
     ghost Value = { Comparing };
 
-    ghost view = { λ s. record { file = s.file.now; taken = take s.at s.file.now; odd = s.odd; stopped = s.stopped } };
+    ghost view = { λ s. record {
+      file = s.file.now;
+      taken = take s.at s.file.now;
+      odd = s.odd;
+      stopped = s.stopped;
+    } };
 
-    ghost invariant = { λ s. (s.at ≤ length s.file.now) × (s.stopped ≡ true → IsOdd s.file.now (take s.at s.file.now) s.odd) };
+    ghost invariant = { λ s. (s.at ≤ length s.file.now) × (s.stopped ≡ true →
+        IsOdd s.file.now (take s.at s.file.now) s.odd) };
 }
 
 // How many bytes two slices begin with alike.
@@ -35,7 +41,8 @@ fn common(a: &[u8], b: &[u8]) -> usize
     ensures a { result ≤ length a.now }
     ensures b { result ≤ length b.now }
     ensures same { take result a.now ≡ take result b.now }
-    ensures differs { result < length a.now → result < length b.now → slice_index a.now result ≢ slice_index b.now result }
+    ensures differs { result < length a.now → result < length b.now →
+        slice_index a.now result ≢ slice_index b.now result }
 {
     let n = a.len().min(b.len());
     if a[..n] == b[..n] {

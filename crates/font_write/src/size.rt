@@ -38,7 +38,8 @@ pub(crate) fn table_length<S: Source>(
     slot: usize,
 ) -> Option<u64>
     requires counts { AreCounts (S.content_of source.now) counts }
-    ensures exact { result ≡ option_map (λ bytes. length bytes) (table_at (form_of profile) (S.content_of source.now) slot) }
+    ensures exact { result ≡ option_map (λ bytes. length bytes)
+        (table_at (form_of profile) (S.content_of source.now) slot) }
     ensures small { MatchOption result Unit (λ n. n ≤ 0x0001_0000_0000_0004) }
 {
     if slot == CMAP {
@@ -70,7 +71,8 @@ fn padded_size(length: u64) -> u64
 // The length of the table in a slot, padded, with its record, and 0 where there is none.
 fn slot_size<S: Source>(source: &S, profile: Profile, counts: Counts, slot: usize) -> u64
     requires counts { AreCounts (S.content_of source.now) counts }
-    ensures exact { result ≡ option_map_or (λ bytes. 16 + length (padded bytes)) (table_at (form_of profile) (S.content_of source.now) slot) 0 }
+    ensures exact { result ≡ option_map_or (λ bytes. 16 + length (padded bytes))
+        (table_at (form_of profile) (S.content_of source.now) slot) 0 }
     ensures small { result ≤ 0x0002_0000_0000_0000 }
 {
     match table_length(source, profile, counts, slot) {

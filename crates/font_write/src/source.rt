@@ -23,7 +23,8 @@ pub trait Source {
 
     /// The table of a slot that is copied as it is: none of `cmap`, `glyf`, `head` and `loca`.
     fn copied(&self, slot: usize) -> Option<&[u8]>
-        ensures table { MatchOption result ((content_of self.now).copied slot ≡ None) (λ b. (content_of self.now).copied slot ≡ Some b.now) }
+        ensures table { MatchOption result ((content_of self.now).copied slot ≡ None)
+            (λ b. (content_of self.now).copied slot ≡ Some b.now) }
         ensures small { MatchOption result Unit (λ b. length b.now ≤ MAX_FILE) };
 
     /// `head`, which may differ from that of the file in `checksumAdjustment` and `indexToLocFormat`.
@@ -38,7 +39,8 @@ pub trait Source {
 
     /// The run that begins at the least mapped code not below `from`.
     fn next_run(&self, from: u32) -> Option<Run>
-        ensures { MatchOption result (NoRun (content_of self.now).map from) (IsRun (content_of self.now).map from) };
+        ensures { MatchOption result (NoRun (content_of self.now).map from)
+            (IsRun (content_of self.now).map from) };
 
     /// The glyph of a code, 0 where it is not mapped.
     fn glyph(&self, code: u32) -> u16
@@ -57,7 +59,8 @@ pub trait Source {
     /// The outline of a glyph that is kept, without the zeros that fill it. Of any other glyph it is
     /// not said which bytes it gives.
     fn outline_of(&self, g: u16) -> &[u8]
-        ensures outline { IsSome ((content_of self.now).outline g) → (content_of self.now).outline g ≡ Some (padded result.now) }
+        ensures outline { IsSome ((content_of self.now).outline g) →
+            (content_of self.now).outline g ≡ Some (padded result.now) }
         ensures small { length result.now ≤ MAX_FILE };
 }
 

@@ -31,8 +31,10 @@ fn send_table<S: Source, K: Sink>(
     requires plan { IsPlan (S.content_of source.now) plan.now }
     requires small { length (planned_file plan.now (S.content_of source.now)) ≤ MAX_FILE }
     requires slot { slot < 16 }
-    requires fits { (K.trace sink.old).count + length (bytes_at (form_of plan.now.profile) (S.content_of source.now) slot) ≤ MAX_FILE }
-    ensures { Sends (K.trace sink.old) (K.trace sink.new) (bytes_at (form_of plan.now.profile) (S.content_of source.now) slot) result }
+    requires fits { (K.trace sink.old).count + length (bytes_at (form_of plan.now.profile)
+        (S.content_of source.now) slot) ≤ MAX_FILE }
+    ensures { Sends (K.trace sink.old) (K.trace sink.new)
+        (bytes_at (form_of plan.now.profile) (S.content_of source.now) slot) result }
 {
     if slot == CMAP {
         return send_cmap(source, plan.profile, plan.counts.groups, sink);
@@ -62,7 +64,8 @@ fn send_entry<K: Sink>(
 ) -> Result<(), Stopped>
     requires going { (K.trace sink.old).stopped ≡ false }
     requires fits { (K.trace sink.old).count + 16 ≤ MAX_FILE }
-    ensures { Sends (K.trace sink.old) (K.trace sink.new) (entry_bytes (record { tag = tag; checksum = checksum; offset = offset; length = length })) result }
+    ensures { Sends (K.trace sink.old) (K.trace sink.new)
+        (entry_bytes (record { tag = tag; checksum = checksum; offset = offset; length = length })) result }
 {
     sink.take(&tag.0)?;
     sink.take(&three_words(checksum, offset, length))
@@ -80,9 +83,12 @@ fn send_record<S: Source, K: Sink>(
     requires going { (K.trace sink.old).stopped ≡ false }
     requires measure { IsMeasure (form_of profile) (S.content_of source.now) slot measure }
     requires slot { slot < 16 }
-    requires offset { offset ≡ start_of (form_of profile) (S.content_of source.now) + length (bodies_to (form_of profile) (S.content_of source.now) slot) }
-    requires fits { (K.trace sink.old).count + length (record_at (form_of profile) (S.content_of source.now) slot) ≤ MAX_FILE }
-    ensures { Sends (K.trace sink.old) (K.trace sink.new) (record_at (form_of profile) (S.content_of source.now) slot) result }
+    requires offset { offset ≡ start_of (form_of profile) (S.content_of source.now) + length
+        (bodies_to (form_of profile) (S.content_of source.now) slot) }
+    requires fits { (K.trace sink.old).count + length (record_at (form_of profile)
+        (S.content_of source.now) slot) ≤ MAX_FILE }
+    ensures { Sends (K.trace sink.old) (K.trace sink.new)
+        (record_at (form_of profile) (S.content_of source.now) slot) result }
 {
     if measure.is_there {
         return send_entry(KEPT[slot], measure.checksum, offset, measure.length, sink);
@@ -95,8 +101,10 @@ fn send_records<S: Source, K: Sink>(source: &S, plan: &Plan, sink: &mut K) -> Re
     requires going { (K.trace sink.old).stopped ≡ false }
     requires plan { IsPlan (S.content_of source.now) plan.now }
     requires small { length (planned_file plan.now (S.content_of source.now)) ≤ MAX_FILE }
-    requires fits { (K.trace sink.old).count + length (records_to (form_of plan.now.profile) (S.content_of source.now) 16) ≤ MAX_FILE }
-    ensures { Sends (K.trace sink.old) (K.trace sink.new) (records_to (form_of plan.now.profile) (S.content_of source.now) 16) result }
+    requires fits { (K.trace sink.old).count + length (records_to (form_of plan.now.profile)
+        (S.content_of source.now) 16) ≤ MAX_FILE }
+    ensures { Sends (K.trace sink.old) (K.trace sink.new)
+        (records_to (form_of plan.now.profile) (S.content_of source.now) 16) result }
 {
     let mut offset = 12 + 16 * u32::from(plan.count);
     for slot in 0..16usize {
@@ -118,8 +126,10 @@ fn send_body<S: Source, K: Sink>(
     requires plan { IsPlan (S.content_of source.now) plan.now }
     requires small { length (planned_file plan.now (S.content_of source.now)) ≤ MAX_FILE }
     requires slot { slot < 16 }
-    requires fits { (K.trace sink.old).count + length (padded (bytes_at (form_of plan.now.profile) (S.content_of source.now) slot)) ≤ MAX_FILE }
-    ensures { Sends (K.trace sink.old) (K.trace sink.new) (padded (bytes_at (form_of plan.now.profile) (S.content_of source.now) slot)) result }
+    requires fits { (K.trace sink.old).count + length (padded
+        (bytes_at (form_of plan.now.profile) (S.content_of source.now) slot)) ≤ MAX_FILE }
+    ensures { Sends (K.trace sink.old) (K.trace sink.new)
+        (padded (bytes_at (form_of plan.now.profile) (S.content_of source.now) slot)) result }
 {
     send_table(source, plan, slot, sink)?;
     send_padding(plan.measures[slot].length as usize, sink)
@@ -130,8 +140,10 @@ fn send_bodies<S: Source, K: Sink>(source: &S, plan: &Plan, sink: &mut K) -> Res
     requires going { (K.trace sink.old).stopped ≡ false }
     requires plan { IsPlan (S.content_of source.now) plan.now }
     requires small { length (planned_file plan.now (S.content_of source.now)) ≤ MAX_FILE }
-    requires fits { (K.trace sink.old).count + length (bodies_to (form_of plan.now.profile) (S.content_of source.now) 16) ≤ MAX_FILE }
-    ensures { Sends (K.trace sink.old) (K.trace sink.new) (bodies_to (form_of plan.now.profile) (S.content_of source.now) 16) result }
+    requires fits { (K.trace sink.old).count + length (bodies_to (form_of plan.now.profile)
+        (S.content_of source.now) 16) ≤ MAX_FILE }
+    ensures { Sends (K.trace sink.old) (K.trace sink.new)
+        (bodies_to (form_of plan.now.profile) (S.content_of source.now) 16) result }
 {
     for slot in 0..16usize {
         send_body(source, plan, slot, sink)?;
@@ -144,8 +156,10 @@ fn send_bodies<S: Source, K: Sink>(source: &S, plan: &Plan, sink: &mut K) -> Res
 pub fn send_file<S: Source, K: Sink>(source: &S, plan: &Plan, sink: &mut K) -> Result<(), Stopped>
     requires going { (K.trace sink.old).stopped ≡ false }
     requires plan { IsPlan (S.content_of source.now) plan.now }
-    requires fits { (K.trace sink.old).count + length (planned_file plan.now (S.content_of source.now)) ≤ MAX_FILE }
-    ensures { Sends (K.trace sink.old) (K.trace sink.new) (planned_file plan.now (S.content_of source.now)) result }
+    requires fits { (K.trace sink.old).count + length (planned_file plan.now (S.content_of source.now))
+        ≤ MAX_FILE }
+    ensures { Sends (K.trace sink.old) (K.trace sink.new)
+        (planned_file plan.now (S.content_of source.now)) result }
 {
     sink.take(&header(plan.count))?;
     send_records(source, plan, sink)?;

@@ -207,7 +207,8 @@ impl<'a> Model for Findings<'a> {
 
     ghost Value = { List Finding };
 
-    ghost view = { λ f. findings_left f.sums f.pending f.records (when (is_wrong_at f.sums f.adjustment) FileSum) };
+    ghost view = { λ f. findings_left f.sums f.pending f.records
+        (when (is_wrong_at f.sums f.adjustment) FileSum) };
 
     ghost invariant = { λ f. IfSome f.adjustment (λ at. at + 4 ≤ length f.sums) };
 }
