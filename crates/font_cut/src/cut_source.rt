@@ -4,6 +4,7 @@
 ghost use Rattle.std.specs.Prelude.{◌≡◌, ◌+◌, ◌-◌, ◌<◌, ◌≤◌, [], length, None, Some, option_copied, unwrap_or, IfOk, MatchOption};
 ghost use Rattle.sfnt_bytes.specs.Directory.{kept_tag, table_of};
 ghost use Rattle.sfnt_bytes.specs.declared.directory.TheConstants.{MAX_FILE};
+ghost use Rattle.sfnt_bytes.specs.declared.tag.TheConstants.{HEAD};
 ghost use Rattle.font_tables.specs.Fields.{glyph_count_of};
 ghost use Rattle.font_tables.specs.Outlines.{outline_of};
 ghost use Rattle.font_tables.specs.Tables.{head_of};
@@ -18,18 +19,9 @@ use font_file::Font;
 use font_glyph::{Marks, close};
 use font_map::{Chart, Run, Wanted};
 use font_write::Source;
-use sfnt_bytes::{Directory, NoMemory};
+use sfnt_bytes::{CMAP, Directory, GLYF, HEAD, LOCA, NoMemory};
 use std::alloc::{Allocator, Global};
 use std::marker::Model;
-
-// The slots of the tables that are made anew.
-const CMAP: usize = 1;
-
-const GLYF: usize = 5;
-
-pub(crate) const HEAD: usize = 6;
-
-const LOCA: usize = 9;
 
 // That nothing refuses a font: its type carries that, and each call of `tables` says it.
 pub(crate) fn accepted(font: &Font<'_>)
@@ -138,7 +130,7 @@ fn mark_kept<A: Allocator + Copy>(
 
 // The bytes of `head`.
 fn table_head<'a>(directory: &Directory<'a>) -> &'a [u8]
-    ensures { result.now ≡ unwrap_or (table_of directory.now (kept_tag 6)) [] }
+    ensures { result.now ≡ unwrap_or (table_of directory.now (kept_tag HEAD)) [] }
 {
     directory.table(HEAD).unwrap_or(&[])
 }

@@ -10,11 +10,10 @@ ghost use Rattle.sfnt_bytes.specs.Directory.{kept_tag};
 ghost use Rattle.font_cut.specs.Join.{different};
 ghost use Rattle.font_cut.specs.Union.{early_difference};
 
-use crate::cut_source::HEAD;
 use crate::join_error::JoinError;
 use font_theory::Difference;
 use font_write::Source;
-use sfnt_bytes::{KEPT, Tag};
+use sfnt_bytes::{HEAD, KEPT, Tag};
 
 /// Whether two slices hold the same bytes.
 pub(crate) fn is_same(a: &[u8], b: &[u8]) -> bool

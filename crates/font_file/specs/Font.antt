@@ -4,6 +4,7 @@ use Rattle.std.specs.List.{list_all, range_with_len}
 use Rattle.std.specs.Option.{option_map, option_map_or}
 use Rattle.sfnt_bytes.specs.Lines.{first_of_lines}
 use Rattle.sfnt_bytes.specs.Directory.{kept_tag, table_of}
+use Rattle.sfnt_bytes.specs.declared.tag.TheConstants.{CMAP}
 use Rattle.sfnt_bytes.specs.Refusals.{directory_lines}
 use Rattle.font_tables.specs.Fields.{glyph_count_of}
 use Rattle.font_tables.specs.Outlines.{outline_of}
@@ -16,7 +17,7 @@ use Rattle.font_file.specs.declared.font_error.FontError.TheVariants.{BadGlyph, 
 
 -- the bytes of `cmap`
 unfoldable pub cmap_of : List ℕ → List ℕ
-cmap_of file = unwrap_or (table_of file (kept_tag 1)) []
+cmap_of file = unwrap_or (table_of file (kept_tag CMAP)) []
 
 -- a record has a list of components, all of them glyphs below a count
 unfoldable pub is_record : ℕ → List ℕ → Bool

@@ -11,11 +11,8 @@ use crate::font_error::FontError;
 use font_glyph::{Components, Outlines, check_record};
 use font_map::Mapping;
 use font_tables::Tables;
-use sfnt_bytes::Directory;
+use sfnt_bytes::{CMAP, Directory};
 use std::marker::Model;
-
-/// The slot of `cmap`.
-const CMAP: usize = 1;
 
 // Whether a record has a list of components, all of them glyphs below the count.
 fn has_record(outline: &[u8], glyphs: u16) -> bool

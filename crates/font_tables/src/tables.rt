@@ -14,23 +14,8 @@ use crate::hhea::{has_bad_hhea, read_number_of_h_metrics};
 use crate::hmtx::{has_bad_hmtx, read_metric};
 use crate::loca::{LocaForm, first_bad_offset, outline_within};
 use crate::maxp::{has_bad_maxp, read_num_glyphs};
-use sfnt_bytes::{Directory, KEPT, Tag};
+use sfnt_bytes::{CMAP, Directory, GLYF, HEAD, HHEA, HMTX, KEPT, LOCA, MAXP, Tag};
 use std::marker::Model;
-
-// The slots of the required tables in `KEPT`.
-const CMAP: usize = 1;
-
-const GLYF: usize = 5;
-
-const HEAD: usize = 6;
-
-const HHEA: usize = 7;
-
-const HMTX: usize = 8;
-
-const LOCA: usize = 9;
-
-const MAXP: usize = 10;
 
 /// Why the tables of a font cannot be used: the first that applies, in this order.
 #[derive(Clone, Copy, Debug, PartialEq, Eq)]

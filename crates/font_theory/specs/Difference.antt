@@ -4,13 +4,14 @@ use Rattle.std.specs.List.{range_with_len}
 use Rattle.std.specs.Option.{option_eq, option_map}
 use Rattle.std.specs.Str.{bytes_eq}
 use Rattle.sfnt_bytes.specs.Lines.{first_of_lines}
+use Rattle.sfnt_bytes.specs.declared.tag.TheConstants.{HEAD}
 use Rattle.font_theory.specs.Content.{CODES, Content, glyph_count}
 use Rattle.font_theory.specs.declared.Difference.{Difference}
 use Rattle.font_theory.specs.declared.Difference.TheVariants.{AtCode, AtGlyph, AtTable}
 
 -- a copied table that one lacks or that differs, or `head`
 unfoldable pub is_different_table : Content → Content → ℕ → Bool
-is_different_table K L slot = if nat_eq slot 6 then not (bytes_eq K.head L.head) else not (option_eq bytes_eq (K.copied slot) (L.copied slot))
+is_different_table K L slot = if nat_eq slot HEAD then not (bytes_eq K.head L.head) else not (option_eq bytes_eq (K.copied slot) (L.copied slot))
 
 -- both map the code, to two glyphs
 unfoldable pub is_different_code : Content → Content → ℕ → Bool

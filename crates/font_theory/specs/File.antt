@@ -8,6 +8,7 @@ use Rattle.sfnt_bytes.specs.SearchFields.{search_fields_of}
 use Rattle.sfnt_bytes.specs.Sums.{adjustment_of, checksum_of, without_field}
 use Rattle.sfnt_bytes.specs.declared.records.Entry.{Entry}
 use Rattle.sfnt_bytes.specs.declared.tag.Tag.{Tag}
+use Rattle.sfnt_bytes.specs.declared.tag.TheConstants.{CMAP, GLYF, HEAD, LOCA}
 use Rattle.font_map.specs.CharacterMap.{clipped}
 use Rattle.font_map.specs.Mapping.{mapping_of}
 use Rattle.font_map.specs.Refusals.{map_fault}
@@ -112,15 +113,15 @@ pub record Table : Type 0 where
 -- the bytes of the table in a slot, with this `head`
 unfoldable pub bytes_in_slot : Form → Content → List ℕ → ℕ → Option (List ℕ)
 bytes_in_slot form K head slot =
-    if nat_eq slot 1 then Some (cmap_bytes form (groups_of K))
-    else if nat_eq slot 5 then Some (glyf_bytes form (outlines_of K))
-    else if nat_eq slot 6 then Some head
-    else if nat_eq slot 9 then Some (loca_bytes (outlines_of K))
+    if nat_eq slot CMAP then Some (cmap_bytes form (groups_of K))
+    else if nat_eq slot GLYF then Some (glyf_bytes form (outlines_of K))
+    else if nat_eq slot HEAD then Some head
+    else if nat_eq slot LOCA then Some (loca_bytes (outlines_of K))
     else K.copied slot
 
 -- the checksum of the table in a slot: that of `head` is taken with checksumAdjustment 0
 abbrev pub checksum_in_slot : ℕ → List ℕ → ℕ
-checksum_in_slot slot bytes = if nat_eq slot 6 then checksum_of (without_field bytes 8) else checksum_of bytes
+checksum_in_slot slot bytes = if nat_eq slot HEAD then checksum_of (without_field bytes 8) else checksum_of bytes
 
 -- the table in a slot, where there is one
 abbrev pub table_in : Form → Content → List ℕ → ℕ → Option Table

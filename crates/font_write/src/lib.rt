@@ -11,7 +11,6 @@ mod room;
 mod same;
 mod sink;
 mod size;
-mod slots;
 mod source;
 mod writer;
 

@@ -12,9 +12,9 @@ use crate::bytes::padding;
 use crate::made_cmap::{cmap_length, count_groups};
 use crate::made_glyf::{glyf_length, outlines_size};
 use crate::made_loca::loca_length;
-use crate::slots::{CMAP, GLYF, HEAD, LOCA};
 use crate::source::Source;
 use font_theory::Profile;
+use sfnt_bytes::{CMAP, GLYF, HEAD, LOCA};
 
 /// How many groups a map has, and how many bytes all outlines.
 #[derive(Clone, Copy, Debug, PartialEq, Eq)]

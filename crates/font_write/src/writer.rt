@@ -15,10 +15,9 @@ use crate::made_head::send_head;
 use crate::made_loca::send_loca;
 use crate::plan::{Measure, Plan};
 use crate::sink::{Sink, Stopped};
-use crate::slots::{CMAP, GLYF, HEAD, LOCA};
 use crate::source::Source;
 use font_theory::Profile;
-use sfnt_bytes::{KEPT, Tag};
+use sfnt_bytes::{CMAP, GLYF, HEAD, KEPT, LOCA, Tag};
 
 // The table in a slot, where there is one.
 fn send_table<S: Source, K: Sink>(

@@ -4,18 +4,9 @@
 use font_cut::{Font, FontError, Wanted, WantedError, cut};
 use font_write::Source;
 use sample_fonts::bytes::words_of;
-use sfnt_bytes::Directory;
+use sfnt_bytes::{CMAP, Directory, GLYF, HEAD, LOCA};
 use std::alloc::{AllocError, Allocator, Global};
 use std::test::Fail;
-
-// The slots of tables.
-const CMAP: usize = 1;
-
-const GLYF: usize = 5;
-
-const HEAD: usize = 6;
-
-const LOCA: usize = 9;
 
 // How many words stand in a cut's `cmap` before its groups.
 const BEFORE_GROUPS: usize = 9;

@@ -9,7 +9,7 @@ use Rattle.sfnt_bytes.specs.SearchFields.{search_fields_of}
 use Rattle.sfnt_bytes.specs.Tag.{tag_number}
 use Rattle.sfnt_bytes.specs.Directory.{table_count, has_tag, is_within, records_of, table_bytes, table_entry}
 use Rattle.sfnt_bytes.specs.declared.records.Entry.{Entry}
-use Rattle.sfnt_bytes.specs.declared.tag.TheConstants.{HEAD}
+use Rattle.sfnt_bytes.specs.declared.tag.TheConstants.{HEAD_TAG}
 use Rattle.sfnt_bytes.specs.declared.findings.Finding.{Finding}
 use Rattle.sfnt_bytes.specs.declared.findings.Finding.TheVariants.{Unsorted, SearchFields, OutOfFile, Unaligned, Padding, Checksum, FileSum}
 
@@ -35,7 +35,7 @@ is_padded file entry = starts_with nat_eq (drop (entry.offset + entry.length) fi
 -- the checksum of a record's table: of `head` with checksumAdjustment, where it is whole, as 0
 unfoldable pub table_sum : List ℕ → Entry → ℕ
 table_sum file entry = let bytes = table_bytes file entry in
-    if has_tag HEAD entry && nat_le 12 entry.length then checksum_of (without_field bytes 8) else checksum_of bytes
+    if has_tag HEAD_TAG entry && nat_le 12 entry.length then checksum_of (without_field bytes 8) else checksum_of bytes
 
 -- what is not as asked of a record whose table lies within the file
 abbrev pub record_lines : List ℕ → Entry → List (Option Finding)
@@ -55,7 +55,7 @@ has_file_sum file at = nat_eq (u32_at file at) (adjustment_of (checksum_of (with
 
 -- there is a `head` with a whole checksumAdjustment, which is not the one of the file
 unfoldable pub has_wrong_file_sum : List ℕ → Bool
-has_wrong_file_sum file = option_map_or (λ head. nat_le 12 head.length && not (has_file_sum file (head.offset + 8))) (table_entry file HEAD) false
+has_wrong_file_sum file = option_map_or (λ head. nat_le 12 head.length && not (has_file_sum file (head.offset + 8))) (table_entry file HEAD_TAG) false
 
 -- there is a checksumAdjustment to be judged at a place, and it is not the one of the file
 abbrev pub is_wrong_at : List ℕ → Option ℕ → Bool

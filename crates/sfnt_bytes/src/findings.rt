@@ -7,14 +7,14 @@ ghost use Rattle.sfnt_bytes.specs.Findings.{entry_findings, findings_of, has_fil
 ghost use Rattle.sfnt_bytes.specs.Lines.{present, when};
 ghost use Rattle.sfnt_bytes.specs.Refusals.{is_outside};
 ghost use Rattle.sfnt_bytes.specs.declared.findings.Finding.TheVariants.{FileSum};
-ghost use Rattle.sfnt_bytes.specs.declared.tag.TheConstants.{HEAD as HEAD_TAG};
+ghost use Rattle.sfnt_bytes.specs.declared.tag.TheConstants.{HEAD_TAG};
 
 use crate::directory::search_fields;
 use crate::number::{be16, be32};
 use crate::prefixes::TableSums;
 use crate::records::{Entry, Records, find_entry, records_in};
 use crate::sums::{adjustment, sum_without};
-use crate::tag::{HEAD, Tag};
+use crate::tag::{HEAD_TAG, Tag};
 use std::marker::Model;
 
 /// What is not as the standard asks in a file that is read all the same.
@@ -84,7 +84,7 @@ fn sum_of_table(sums: &mut TableSums<'_>, entry: Entry) -> u32
     let start = entry.offset as usize;
     let end = start + entry.length as usize;
     let sum = sums.sum(start, end);
-    if entry.tag == HEAD && entry.length >= 12 {
+    if entry.tag == HEAD_TAG && entry.length >= 12 {
         sum_without(sum, &sums.file()[start..end], 8)
     } else {
         sum
@@ -183,7 +183,7 @@ fn adjustment_place(file: &[u8]) -> Option<usize>
     ensures within { IfSome result (λ at. at + 4 ≤ length file.now) }
     ensures judged { is_wrong_at file.now result ≡ has_wrong_file_sum file.now }
 {
-    match find_entry(file, HEAD) {
+    match find_entry(file, HEAD_TAG) {
         Some(head) if head.length >= 12 => Some(head.offset as usize + 8),
         _ => None,
     }

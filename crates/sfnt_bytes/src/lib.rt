@@ -19,5 +19,5 @@ pub use crate::findings::{Finding, Findings};
 pub use crate::laws::sum_of_parts;
 pub use crate::number::{be16, be32};
 pub use crate::records::{Dropped, Entry, Records};
-pub use crate::sums::word_sum;
-pub use crate::tag::{KEPT, Tag};
+pub use crate::sums::{adjustment, word_sum};
+pub use crate::tag::{CMAP, GLYF, HEAD, HHEA, HMTX, KEPT, LOCA, MAXP, Tag};

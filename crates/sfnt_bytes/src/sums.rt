@@ -46,8 +46,8 @@ pub(crate) fn sum_without(sum: u32, b: &[u8], at: usize) -> u32
     sum.wrapping_sub(word_sum(&field))
 }
 
-/// The `checksumAdjustment` of a file that sums to `sum` with that field as 0.
-pub(crate) fn adjustment(sum: u32) -> u32
+/// Returns the `checksumAdjustment` of `head` in a file that sums to `sum` with that field as 0.
+pub fn adjustment(sum: u32) -> u32
     ensures { result ≡ adjustment_of sum }
 {
     FILE_SUM.wrapping_sub(sum)

@@ -30,8 +30,29 @@ pub const KEPT: [Tag; 16] = [
     Tag(*b"vmtx"),
 ];
 
+/// The slot of `cmap`.
+pub const CMAP: usize = 1;
+
+/// The slot of `glyf`.
+pub const GLYF: usize = 5;
+
+/// The slot of `head`.
+pub const HEAD: usize = 6;
+
+/// The slot of `hhea`.
+pub const HHEA: usize = 7;
+
+/// The slot of `hmtx`.
+pub const HMTX: usize = 8;
+
+/// The slot of `loca`.
+pub const LOCA: usize = 9;
+
+/// The slot of `maxp`.
+pub const MAXP: usize = 10;
+
 /// The table whose checksum leaves a field out.
-pub(crate) const HEAD: Tag = Tag(*b"head");
+pub(crate) const HEAD_TAG: Tag = Tag(*b"head");
 
 fn is_among(tags: &[Tag], tag: Tag) -> bool
     ensures { result ≡ list_any (λ kept. bytes_eq kept.0 tag.0) tags.now }
