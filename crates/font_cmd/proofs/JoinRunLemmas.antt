@@ -1,6 +1,6 @@
 -- How a join that is refused leaves things, and what refuses that of cuts of one font.
 use Rattle.std.proofs.Common.{rules, ◌≡◌, ◌∙◌, ℕ, Bool, List, [], Option, ap, length, refl, sym}
-use Rattle.font_cut.specs.InTurn.{IsAllRefusal, IsForSizeInto, IsForSizeOf}
+use Rattle.font_cut.specs.JoinList.{IsAllRefusal, IsForSizeInto, IsForSizeOf}
 use Rattle.font_cut.specs.Outlet as outlets
 use Rattle.font_cut.specs.declared.join_error.JoinAllIntoError.{JoinAllIntoError}
 use Rattle.font_cut.specs.declared.join_error.JoinAllIntoError.TheVariants.{NotJoined, WriteFault}
@@ -10,7 +10,7 @@ use Rattle.font_cut.specs.declared.join_error.JoinError.TheVariants.{DifferentGl
 use Rattle.font_cut.specs.declared.outlet.Outlet.{Outlet}
 use Rattle.font_cmd.specs.Join.{AreGot, AreSpent, JoinStops, OnlySize}
 use Rattle.font_cmd.specs.Run.{of_join_error, of_join_into_error}
-use Rattle.font_cmd.specs.declared.inlet.Inlet.{Inlet}
+use Rattle.font_cmd.specs.declared.runs.inlet.Inlet.{Inlet}
 use Rattle.font_cmd.proofs.ReadEachLemmas.{all_read_to}
 
 pub only_size_of : (F : List ℕ) (A : ℕ → ℕ → Bool) (files : List (List ℕ)) (count : ℕ) → length files ≡ count → (error : JoinAllError) → IsForSizeOf F A files error → OnlySize F A count (of_join_error error)

@@ -3,16 +3,16 @@ use Rattle.std.specs.Prelude.{◌≡◌, ℕ, suc, ◌+◌, Bool, false, true, A
 use Rattle.std.specs.List.{AllWithin, slice_get}
 use Rattle.font_cut.specs.Cut.{cut_of}
 use Rattle.font_cut.specs.Fonts.{file_at, union_below}
-use Rattle.font_cut.specs.InTurn.{AreCuts, IsAllJoined, IsAllRefusal}
+use Rattle.font_cut.specs.JoinList.{AreCuts, IsAllJoined, IsAllRefusal}
 use Rattle.font_cut.specs.Join.{IsForSize}
 use Rattle.font_cut.specs.Outlet as outlets
 use Rattle.font_cut.specs.declared.join_error.JoinAllError.TheVariants.{At, NothingToJoin}
 use Rattle.font_cut.specs.declared.outlet.Outlet.{Outlet}
 use Rattle.font_cmd.specs.Inlet as inlets
 use Rattle.font_cmd.specs.Run.{got, of_join_error}
-use Rattle.font_cmd.specs.declared.inlet.Inlet.{Inlet}
-use Rattle.font_cmd.specs.declared.run.RunError.{RunError}
-use Rattle.font_cmd.specs.declared.run.RunError.TheVariants.{Font, Join, Memory, Read, TooLarge, Write}
+use Rattle.font_cmd.specs.declared.runs.inlet.Inlet.{Inlet}
+use Rattle.font_cmd.specs.declared.runs.run_error.RunError.{RunError}
+use Rattle.font_cmd.specs.declared.runs.run_error.RunError.TheVariants.{Font, Join, Memory, Read, TooLarge, Write}
 
 -- no inlet was read
 abbrev pub AreFresh : {R : Type 0} → List (Inlet R) → Type 0

@@ -2,20 +2,20 @@
 use Rattle.std.specs.Prelude.{◌≡◌, ℕ, ◌+◌, ◌≤◌, Bool, false, true, length, List, None, Option, IfSome, Some, take}
 use Rattle.font_cut.specs.Cut.{IsTooLarge, cut_of}
 use Rattle.font_cut.specs.Fonts.{MAX_FILE, error_number, font_fault, no_memory_number}
-use Rattle.font_cut.specs.declared.cuts.CutIntoError.{CutIntoError}
-use Rattle.font_cut.specs.declared.cuts.CutIntoError.TheVariants as cut_errors
+use Rattle.font_cut.specs.declared.cut_font.CutIntoError.{CutIntoError}
+use Rattle.font_cut.specs.declared.cut_font.CutIntoError.TheVariants as cut_errors
 use Rattle.font_cut.specs.JoinText.{join_all_error_number}
 use Rattle.font_cut.specs.declared.join_error.JoinAllIntoError.{JoinAllIntoError}
 use Rattle.font_cut.specs.declared.join_error.JoinAllIntoError.TheVariants as join_into_errors
 use Rattle.font_cut.specs.declared.join_error.JoinAllError.{JoinAllError}
 use Rattle.font_cut.specs.declared.join_error.JoinAllError.TheVariants.{At}
 use Rattle.font_cut.specs.declared.join_error.JoinError.TheVariants as join_errors
-use Rattle.font_cmd.specs.declared.inlet.Inlet.{Inlet}
-use Rattle.font_cmd.specs.declared.inlet.ReadError.{ReadError}
-use Rattle.font_cmd.specs.declared.inlet.ReadError.TheVariants.{NoMemory, ReadFault}
+use Rattle.font_cmd.specs.declared.runs.inlet.Inlet.{Inlet}
+use Rattle.font_cmd.specs.declared.runs.inlet.ReadError.{ReadError}
+use Rattle.font_cmd.specs.declared.runs.inlet.ReadError.TheVariants.{NoMemory, ReadFault}
 use Rattle.font_cut.specs.declared.outlet.Outlet.{Outlet}
-use Rattle.font_cmd.specs.declared.run.RunError.{RunError}
-use Rattle.font_cmd.specs.declared.run.RunError.TheVariants.{Font, Join, Memory, Read, TooLarge, Write}
+use Rattle.font_cmd.specs.declared.runs.run_error.RunError.{RunError}
+use Rattle.font_cmd.specs.declared.runs.run_error.RunError.TheVariants.{Font, Join, Memory, Read, TooLarge, Write}
 use Rattle.font_cmd.specs.Inlet as inlets
 use Rattle.font_cut.specs.Outlet as outlets
 

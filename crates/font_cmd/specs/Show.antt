@@ -4,7 +4,7 @@ use Rattle.std.specs.List.{flat_map, range_with_len}
 use Rattle.std.specs.Option.{option_copied, option_map_or}
 use Rattle.font_cut.specs.Fonts.{Entry, LocaForm, Long, Short, Tag, chosen_of, cmap_of, dropped_of, glyph_count_of, is_current, kept_tag, loca_form_of, mapped_codes, mapping_of, metric_count_of, our_format, table_of, tag_text, units_per_em_of}
 use Rattle.font_cmd.specs.Check.{line}
-use Rattle.font_cmd.specs.declared.show.KeptLine.{KeptLine}
+use Rattle.font_cmd.specs.declared.runs.show.KeptLine.{KeptLine}
 
 -- the name of a form of `loca`
 abbrev pub form_text : LocaForm → List ℕ

@@ -25,9 +25,9 @@ use Rattle.font_theory.proofs.FormatLemmas.{our_format-most}
 use Rattle.font_theory.proofs.JoinLemmas.{IsClosed-both, both-self}
 use Rattle.font_theory.proofs.OurFormatLemmas.{our_format-is}
 use Rattle.font_cut.specs.Cut.{IsWritten}
-use Rattle.font_cut.specs.InTurn.{HoldsFile, IsAllJoined, IsRefusedAt, IsUnited, Stands}
+use Rattle.font_cut.specs.JoinList.{HoldsFile, IsAllJoined, IsRefusedAt, IsUnited, Stands}
 use Rattle.font_theory.specs.Tree.{file_at}
-use Rattle.font_cut.proofs.InTurnLemmas.{stands_more}
+use Rattle.font_cut.proofs.JoinListLemmas.{stands_more}
 use Rattle.font_theory.proofs.RefusalLemmas.{tested-CanJoin}
 use Rattle.font_cut.specs.Join.{IsJoin, IsJoinRefusal, IsUnionRefusal, different, union_fault}
 use Rattle.font_cut.specs.Union.{AgreesEarly, AreMapRuns, AreRunsOf, AreTaken, Held, IsAddRefusal, IsFirstRefusal, IsUnion, add_fault, content_in, early_difference, is_other, outline_in}

@@ -2,7 +2,7 @@ pub mod CodeDifferenceLemmas
 pub mod CutLemmas
 pub mod FirstLemmas
 pub mod FontLemmas
-pub mod InTurnLemmas
+pub mod JoinListLemmas
 pub mod JoinLemmas
 pub mod OutletLemmas
 pub mod SeedLemmas

@@ -10,10 +10,10 @@ use Rattle.font_theory.specs.Bytes.{padded}
 use Rattle.font_theory.specs.Content.{content}
 use Rattle.font_theory.specs.Cut.{IsCurrent, Writes, cut, our_format}
 use Rattle.font_cut.specs.Outlet.{Sends, broken_of, written_of}
-use Rattle.font_cut.specs.declared.cuts.CutError.{CutError}
-use Rattle.font_cut.specs.declared.cuts.CutError.TheVariants as cut_errors
-use Rattle.font_cut.specs.declared.cuts.CutIntoError.{CutIntoError}
-use Rattle.font_cut.specs.declared.cuts.CutIntoError.TheVariants as into_errors
+use Rattle.font_cut.specs.declared.cut_font.CutError.{CutError}
+use Rattle.font_cut.specs.declared.cut_font.CutError.TheVariants as cut_errors
+use Rattle.font_cut.specs.declared.cut_font.CutIntoError.{CutIntoError}
+use Rattle.font_cut.specs.declared.cut_font.CutIntoError.TheVariants as into_errors
 use Rattle.font_cut.specs.declared.outlet.Outlet.{Outlet}
 
 -- the cut of a file for the wanted codes

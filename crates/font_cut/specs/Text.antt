@@ -1,9 +1,9 @@
 -- The numbers of refusals.
 use Rattle.std.specs.Prelude.{ℕ}
-use Rattle.font_cut.specs.declared.cuts.CutError.{CutError}
-use Rattle.font_cut.specs.declared.cuts.CutError.TheVariants as cut_errors
-use Rattle.font_cut.specs.declared.cuts.CutIntoError.{CutIntoError}
-use Rattle.font_cut.specs.declared.cuts.CutIntoError.TheVariants as into_errors
+use Rattle.font_cut.specs.declared.cut_font.CutError.{CutError}
+use Rattle.font_cut.specs.declared.cut_font.CutError.TheVariants as cut_errors
+use Rattle.font_cut.specs.declared.cut_font.CutIntoError.{CutIntoError}
+use Rattle.font_cut.specs.declared.cut_font.CutIntoError.TheVariants as into_errors
 
 -- that of a cut in memory
 abbrev pub cut_error_number : CutError → ℕ

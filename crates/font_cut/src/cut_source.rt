@@ -14,7 +14,7 @@ ghost use Rattle.font_theory.specs.Content.{content, everything, font_of};
 ghost use Rattle.font_theory.specs.Cut.{IsCut, is_current, our_format};
 ghost use Rattle.font_cut.specs.Content.{AreMarked, IsKeptSet, IsSeedSet, codes_wanted, wanted_map};
 
-use crate::written::is_whole;
+use crate::emit::is_whole;
 use font_file::Font;
 use font_glyph::{Marks, close};
 use font_map::{Chart, Run, Wanted};

@@ -1,28 +1,28 @@
 //! Cuts of fonts, cut form, joins of cuts, and where a cut goes.
 #![tactic(auto)]
 
+mod cut_font;
 mod cut_form;
 mod cut_source;
-mod cuts;
 mod difference;
-mod in_turn;
+mod emit;
 mod join_error;
-mod joined;
-mod joins;
+mod join_list;
+mod join_pair;
+mod join_source;
 mod listed;
 mod merging;
 mod outlet;
 mod outlines;
 mod union;
-mod written;
 
+pub use crate::cut_font::{CutError, CutIntoError, cut, cut_into};
 pub use crate::cut_form::is_cut;
 pub use crate::cut_source::CutOf;
-pub use crate::cuts::{CutError, CutIntoError, cut, cut_into};
-pub use crate::in_turn::{join_all, join_all_into};
 pub use crate::join_error::{JoinAllError, JoinAllIntoError, JoinError, Which};
-pub use crate::joined::Joined;
-pub use crate::joins::join;
+pub use crate::join_list::{join_all, join_all_into};
+pub use crate::join_pair::join;
+pub use crate::join_source::Joined;
 pub use crate::outlet::{Outlet, WriteFault};
 pub use font_file::{Font, FontError};
 pub use font_glyph::{Component, Components};

@@ -8,8 +8,8 @@ ghost use Rattle.font_theory.specs.Cut.{IsCut, is_cut, our_format};
 ghost use Rattle.font_cut.specs.Union.{AreRunsOf};
 
 use crate::cut_source::CutOf;
+use crate::emit::is_whole;
 use crate::merging::{run_among, runs_of};
-use crate::written::is_whole;
 use font_file::Font;
 use font_map::Run;
 use font_write::Source;

@@ -12,11 +12,11 @@ ghost use Rattle.font_cut.specs.Union.{AgreesEarly, IsAddRefusal, IsFirstRefusal
 
 use crate::cut_source::{accepted, copied, head};
 use crate::difference::{early_difference, refusal_of};
+use crate::emit::CURRENT;
 use crate::join_error::{JoinError, Which};
 use crate::listed::Listed;
 use crate::merging::{run_among, runs_of_both};
 use crate::outlines::Outlines;
-use crate::written::CURRENT;
 use font_file::Font;
 use font_map::Run;
 use font_write::{Counts, Source, counted_size};

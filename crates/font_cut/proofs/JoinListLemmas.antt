@@ -1,0 +1,134 @@
+-- What stands after joins in turn, and what that tells.
+use Rattle.std.proofs.Common.{◌≡◌, ℕ, zero, suc, ◌+◌, ◌<◌, ◌≤◌, Bool, List, [], get_or, length, map, refl, sym, ◌∙◌, subst, arith, Option, None, Result, Ok, Err, IfOk, IfErr, MatchResult}
+use Rattle.std.proofs.lemmas.List.{get_or-map}
+use Rattle.sfnt_bytes.specs.declared.directory.TheConstants.{MAX_FILE}
+use Rattle.font_file.specs.Font.{font_fault}
+use Rattle.font_theory.specs.Cut.{IsCut, our_format, whole}
+use Rattle.font_theory.specs.Tree.{Differs, IsOver, IsSmall, JoinTree, Value, cuts, file_at, grown, union_below}
+use Rattle.font_theory.proofs.FontLemmas.{size-accepted}
+use Rattle.font_theory.proofs.FormatLemmas.{our_format-most, our_format-old}
+use Rattle.font_theory.proofs.GrownLemmas.{Differs-grown, Value-grown, Value-grown_cuts, Value-grown_same, grown-cuts, grown-joins}
+use Rattle.font_theory.proofs.OurFormatLemmas.{our_format-is}
+use Rattle.font_theory.proofs.CutLemmas.{IsCut-current}
+use Rattle.font_cut.specs.Cut.{cut_of}
+use Rattle.font_cut.specs.JoinList.{AreCuts, IsAllJoined, IsAllRefusal, IsForDifference, IsForSizeInto, IsForSizeOf, IsRefusedAt, Stands, StopsJoin}
+use Rattle.font_cut.specs.Join.{IsForSize, IsJoin}
+use Rattle.font_cut.specs.declared.join_error.JoinAllError.{JoinAllError}
+use Rattle.font_cut.specs.declared.join_error.JoinAllIntoError.{JoinAllIntoError}
+use Rattle.font_cut.specs.declared.join_error.JoinAllIntoError.TheVariants.{NotJoined, WriteFault}
+use Rattle.font_cut.specs.declared.outlet.Outlet.{Outlet}
+use Rattle.font_cut.specs.declared.join_error.JoinAllError.TheVariants.{At, NothingToJoin}
+use Rattle.font_cut.specs.declared.join_error.JoinError.{JoinError}
+use Rattle.font_cut.specs.declared.join_error.JoinError.TheVariants.{DifferentGlyph, DifferentMapping, DifferentTable, Font, NoMemory, NotACut, TooLarge}
+use Rattle.font_cut.proofs.JoinLemmas.{joinable, least_upper, only_size, small_join}
+use Rattle.font_cut.proofs.WholeLemmas.{our_format-fault}
+
+pub file_at-map : {X : Type 0} (f : X → List ℕ) (xs : List X) (k : ℕ) (d : X) → k < length xs → f (get_or xs k d) ≡ file_at (map f xs) k
+file_at-map f xs k d low = sym (get_or-map f xs k d [] low)
+
+-- what holds of an answer, and what of a refusal
+pub result_cases : {T E : Type 0} (P : T → Type 0) (Q : E → Type 0) (r : Result T E) → IfOk r P → IfErr r Q → MatchResult r P Q
+result_cases P Q (Ok x) a b = a
+result_cases P Q (Err e) a b = b
+
+-- a size that is no more than the program's is no more than the format's
+to_most : (b : List ℕ) → length b ≤ MAX_FILE → length b ≤ our_format.most
+to_most b small = subst (λ (n : ℕ). length b ≤ n) (sym our_format-most) small
+
+module _ (files : List (List ℕ)) where
+  pub stands_more : (k : ℕ) (w x y v : List ℕ) → Stands files k w → x ≡ w → y ≡ file_at files k → IsJoin x y v → Stands files (k + 1) v
+  stands_more k w x y v s ex ey j =
+      let e : suc k ≡ k + 1 = omega arith in
+      let j' : IsJoin w (file_at files k) v = subst (λ (a : List ℕ). IsJoin a (file_at files k) v) ex (subst (λ (b : List ℕ). IsJoin x b v) ey j) in
+      subst (λ (n : ℕ). Stands files n v) e (w, s, j')
+
+  pub stands_end : (k : ℕ) (z : List ℕ) → k ≡ length files → 0 < length files → Stands files k z → IsAllJoined files z
+  stands_end k z e some s = record { some = some; stands = subst (λ (n : ℕ). Stands files n z) e s }
+
+  -- what stands after k joins is the value of the tree that grows file by file
+  pub Value-stands : (k : ℕ) (v : List ℕ) → Stands files k v → Value our_format (grown files k) v
+  Value-stands zero v e = e
+  Value-stands (suc k) v s = (s.0, file_at files k, Value-stands k s.0 s.1, refl, (joinable s.0 (file_at files k) s.2.unrefused).0, s.2.is)
+
+  -- it is no larger than the first file may be, and in cut form where that is
+  stands_small : (k : ℕ) (v : List ℕ) → length (file_at files 0) ≤ MAX_FILE → Stands files k v → length v ≤ MAX_FILE
+  stands_small zero v few e = subst (λ (b : List ℕ). length b ≤ MAX_FILE) (sym e) few
+  stands_small (suc k) v few s = small_join s.0 (file_at files k) v s.2
+
+  stands_cut : (k : ℕ) (v : List ℕ) → IsCut our_format (file_at files 0) → Stands files k v → IsCut our_format v
+  stands_cut zero v form e = subst (IsCut our_format) (sym e) form
+  stands_cut (suc k) v form s = IsCut-current our_format v (least_upper s.0 (file_at files k) v s.2).cut_form
+
+  pub small_joined : (z : List ℕ) → IsAllJoined files z → length z ≤ MAX_FILE
+  small_joined z all = go (length files) refl all.stands
+    where
+      go : (n : ℕ) → n ≡ length files → Stands files n z → length z ≤ MAX_FILE
+      go zero e s = let h = all.some in absurd (omega arith)
+      go (suc n) e s = small_join s.0 (file_at files n) z s.2
+
+  -- each tree over the files that meets no size has a value whose file is the answer
+  pub value_of_tree : (z : List ℕ) → IsAllJoined files z → (t : JoinTree (List ℕ)) → IsOver files t → IsSmall our_format t
+      → (v : List ℕ) × Value our_format t v × (our_format.file (whole our_format v) ≡ z)
+  value_of_tree z all t over few =
+      let q = Value-grown our_format our_format-is files all.some z (Value-stands (length files) z all.stands) (to_most z (small_joined z all)) t over few in
+      (q.0, q.1, q.3)
+
+  pub same_of_tree : (z : List ℕ) → IsAllJoined files z → (t : JoinTree (List ℕ)) → IsOver files t → IsSmall our_format t → Value our_format t z
+  same_of_tree z all t over few =
+      Value-grown_same our_format our_format-is files all.some z (Value-stands (length files) z all.stands) (to_most z (small_joined z all)) our_format-old t over few
+
+  pub value_of_cuts : (z : List ℕ) → IsAllJoined files z → (F : List ℕ) → font_fault F ≡ None → (t : JoinTree (ℕ → Bool)) → IsOver files (cuts our_format F t) → IsSmall our_format (cuts our_format F t)
+      → Value our_format (cuts our_format F t) z
+  value_of_cuts z all F accepted t over few =
+      Value-grown_cuts our_format our_format-is files all.some z (Value-stands (length files) z all.stands) (to_most z (small_joined z all)) F (our_format-fault F ∙ accepted) t over few
+
+  -- a difference met in turn is met in each tree
+  clash_at : (k : ℕ) (error : JoinError) → IsRefusedAt files k error → ((n : ℕ) → IsForSize n error → ⊥)
+      → ((i : ℕ) → i < length files → IsCut our_format (file_at files i)) → (t : JoinTree (List ℕ)) → IsOver files t → IsSmall our_format t → Differs our_format t
+  clash_at k error r other forms t over few =
+      let low = r.below in
+      let some : 0 < length files = omega arith in
+      let x = r.before in
+      let form = stands_cut k x (forms 0 some) r.stands in
+      let small : length x ≤ MAX_FILE = size-accepted x (sym (our_format-fault x) ∙ form.accepted) in
+      Differs-grown our_format our_format-is files forms k low x (Value-stands k x r.stands) (to_most x small)
+      (λ agree. other _ (only_size x (file_at files k) (record { first = form; second = forms k low; agree = agree }) error r.refused)) t over few
+
+  pub clash_differs : (error : JoinAllError) → IsAllRefusal files error → IsForDifference error
+      → ((i : ℕ) → i < length files → IsCut our_format (file_at files i)) → (t : JoinTree (List ℕ)) → IsOver files t → IsSmall our_format t → Differs our_format t
+  clash_differs NothingToJoin r d = absurd d
+  clash_differs (At k (Font which f)) r d = absurd d
+  clash_differs (At k (NotACut which)) r d = absurd d
+  clash_differs (At k (DifferentTable tag)) r d = clash_at k _ r (λ n o. o)
+  clash_differs (At k (DifferentMapping code)) r d = clash_at k _ r (λ n o. o)
+  clash_differs (At k (DifferentGlyph g)) r d = clash_at k _ r (λ n o. o)
+  clash_differs (At k (TooLarge s)) r d = absurd d
+  clash_differs (At k NoMemory) r d = absurd d
+
+  -- cuts of one font
+  module _ (F : List ℕ) (A : ℕ → ℕ → Bool) (are : AreCuts F A files) where
+    most : (k : ℕ) → k < length files → length (file_at files k) ≤ our_format.most
+    most k low = to_most (file_at files k) (are.small k low)
+
+    pub cuts_in_turn : (z : List ℕ) → IsAllJoined files z → z ≡ cut_of F (union_below A (length files))
+    cuts_in_turn z all = go (length files) refl all.stands
+      where
+        go : (n : ℕ) → n ≡ length files → Stands files n z → z ≡ cut_of F (union_below A n)
+        go zero e s = let h = all.some in absurd (omega arith)
+        go (suc n) e s = grown-cuts our_format our_format-is files F (our_format-fault F ∙ are.accepted) A are.cuts most n (omega (arith, e)) z (Value-stands (suc n) z s)
+
+    cuts_refused_at : (k : ℕ) (error : JoinError) → IsRefusedAt files k error → IsForSize (length (cut_of F (union_below A (suc k)))) error
+    cuts_refused_at k error r =
+        let low = r.below in
+        let some : 0 < length files = omega arith in
+        let w = grown-joins our_format our_format-is files F (our_format-fault F ∙ are.accepted) A are.cuts most k low r.before (Value-stands k r.before r.stands)
+        (to_most r.before (stands_small k r.before (are.small 0 some) r.stands)) in
+        subst (λ (b : List ℕ). IsForSize (length b) error) w.1 (only_size r.before (file_at files k) w.0 error r.refused)
+
+    pub cuts_refused_in_turn : (error : JoinAllError) → IsAllRefusal files error → IsForSizeOf F A files error
+    cuts_refused_in_turn NothingToJoin h = h
+    cuts_refused_in_turn (At k error) r = cuts_refused_at k error r
+
+    pub cuts_refused_into : {W : Type 0} (contents : W → Option (List ℕ)) (old new : Outlet W) (error : JoinAllIntoError) → StopsJoin contents old new files error → IsForSizeInto F A files error
+    cuts_refused_into contents old new (NotJoined error) r = cuts_refused_in_turn error r.1
+    cuts_refused_into contents old new (WriteFault written) r = tt

@@ -1,0 +1,22 @@
+use Rattle.std.proofs.Common.{rules, ◌≡◌, ◌<◌, ℕ, List, arith, map, length, ◌∙◌, ap}
+use Rattle.std.proofs.lemmas.List.{length-map}
+use Rattle.font_theory.specs.Tree.{file_at}
+use Rattle.font_cut.proofs.AddLemmas.{refused_at_first}
+use Rattle.font_cut.proofs.JoinListLemmas.{file_at-map}
+use Rattle.font_cut.proofs.JoinLemmas.{first_refused}
+use Rattle.font_cut.proofs.join_list.open_first.Goals as goal
+
+pub returns-in-Ok : goal.returns-in-Ok
+returns-in-Ok g c =
+    let bytes = map (λ v. v.items) c.args.files.now in
+    let some : 0 < length c.args.files.now = search rules in
+    let e : c.as_slice.result.now ≡ file_at bytes 0 = c.as_slice.ensures.value ∙ ap (λ v. v.items) c.index-files-0.is ∙ file_at-map (λ v. v.items) c.args.files.now 0 c.index-files-0.result some in
+    record { some = omega (arith, length-map c.args.files.now (λ v. v.items), some); is = c.in-Ok.ensures.0 ∙ e; accepted = search rules }
+
+pub returns-in-Err : goal.returns-in-Err
+returns-in-Err g c =
+    let bytes = map (λ v. v.items) c.args.files.now in
+    let some : 0 < length c.args.files.now = search rules in
+    let x : List ℕ = c.as_slice.result.now in
+    let e : x ≡ file_at bytes 0 = c.as_slice.ensures.value ∙ ap (λ v. v.items) c.index-files-0.is ∙ file_at-map (λ v. v.items) c.args.files.now 0 c.index-files-0.result some in
+    refused_at_first bytes x _ (omega (arith, length-map c.args.files.now (λ v. v.items), some)) e (first_refused x x c.in-Err.error c.in-Err.ensures)

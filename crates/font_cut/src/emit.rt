@@ -1,0 +1,89 @@
+//! The file of any content, in memory, sent, or compared. OpenType 1.9, Organization of an OpenType
+//! Font.
+ghost use Rattle.std.specs.Prelude.{◌≡◌, ◌≢◌, ◌≤◌, length, false, true, IfErr, IfOk, MatchResult, OnOk, IsTrue, ◌↔◌};
+ghost use Rattle.sfnt_bytes.specs.declared.directory.TheConstants.{MAX_FILE};
+ghost use Rattle.font_theory.specs.File.{file, current_form};
+ghost use Rattle.font_cut.specs.Cut.{IsCutRefusal, IsTooLarge, IsWritten, StopsCut};
+ghost use Rattle.font_cut.specs.Written.{IsMeasured};
+ghost use Rattle.font_cut.specs.declared.cut_font.CutError.TheVariants.{NoMemory as CutNoMemory};
+ghost use Rattle.font_cut.specs.declared.cut_font.CutIntoError.TheVariants.{NoMemory as IntoNoMemory};
+ghost use Rattle.font_cut.specs.Outlet.{Sends, broken_of, fresh_of};
+
+use crate::cut_font::{CutError, CutIntoError};
+use crate::outlet::Outlet;
+use font_write::{Plan, Profile, Source, file_size, is_file_of, plan_of, send_file, write_file};
+use sfnt_bytes::MAX_FILE;
+use std::alloc::Allocator;
+use std::io::Write;
+
+// The profile that is written.
+pub(crate) const CURRENT: Profile = Profile::Second;
+
+// Measures a content. Refused with the length of its file, where that is too large.
+fn measure<S: Source>(source: &S) -> Result<(Plan, u64), u64>
+    ensures { MatchResult result (IsMeasured (S.content_of source.now))
+        (IsTooLarge (file current_form (S.content_of source.now))) }
+{
+    let size = file_size(source, CURRENT);
+    if size.bytes > MAX_FILE {
+        return Err(size.bytes);
+    }
+    Ok((plan_of(source, CURRENT, size), size.bytes))
+}
+
+/// The file of a content in one vector, for which memory is asked once, when its size is known.
+pub(crate) fn file_in_memory<S: Source, A: Allocator + Copy>(
+    alloc: A,
+    source: &S,
+) -> Result<Vec<u8, A>, CutError>
+    ensures exact { MatchResult result (λ v. IsWritten (file current_form (S.content_of source.now)) v.items)
+        (IsCutRefusal (file current_form (S.content_of source.now))) }
+    ensures size_first { IfErr result (λ error. error ≡ CutNoMemory →
+        length (file current_form (S.content_of source.now)) ≤ MAX_FILE) }
+{
+    match measure(source) {
+        Ok((plan, size)) => match write_file(alloc, source, &plan, size as usize) {
+            Ok(file) => Ok(file),
+            Err(_) => Err(CutError::NoMemory),
+        },
+        Err(size) => Err(CutError::TooLarge(size)),
+    }
+}
+
+/// Sends the file of a content, and answers its length. It asks for no memory.
+pub(crate) fn send_whole<S: Source, W: Write>(
+    source: &S,
+    out: &mut Outlet<W>,
+) -> Result<u64, CutIntoError>
+    requires { fresh_of out.old ≡ true }
+    ensures size { IfOk result (λ size. size ≡ length (file current_form (S.content_of source.now))) }
+    ensures small { OnOk result (length (file current_form (S.content_of source.now)) ≤ MAX_FILE) }
+    ensures sends { OnOk result (Sends W.contents out.old out.new
+        (file current_form (S.content_of source.now))) }
+    ensures unbroken { OnOk result (broken_of out.new ≡ false) }
+    ensures stops { IfErr result (StopsCut W.contents out.old out.new
+        (file current_form (S.content_of source.now))) }
+    ensures no_memory { IfErr result (λ error. error ≢ IntoNoMemory) }
+{
+    let (plan, size) = match measure(source) {
+        Ok(measured) => measured,
+        Err(size) => return Err(CutIntoError::TooLarge(size)),
+    };
+    if send_file(source, &plan, out).is_err() {
+        return Err(CutIntoError::WriteFault(out.written()));
+    }
+    Ok(size)
+}
+
+/// Whether a file is that of a content. It asks for no memory.
+pub(crate) fn is_whole<S: Source>(source: &S, bytes: &[u8]) -> bool
+    requires { length bytes.now ≤ MAX_FILE }
+    ensures { IsTrue result ↔ bytes.now ≡ file current_form (S.content_of source.now) }
+{
+    let size = file_size(source, CURRENT);
+    if size.bytes != bytes.len() as u64 {
+        return false;
+    }
+    let plan = plan_of(source, CURRENT, size);
+    is_file_of(source, &plan, bytes)
+}

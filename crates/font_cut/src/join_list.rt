@@ -1,0 +1,235 @@
+//! Joins of a list of files, one after the other. They are this project's own, and in no standard.
+ghost use Rattle.std.specs.Prelude.{◌≡◌, ◌<◌, ◌≤◌, ℕ, Bool, List, length, map, false, true, None, Err, IfErr, IfOk, IsSome, MatchResult, OnOk};
+ghost use Rattle.sfnt_bytes.specs.declared.directory.TheConstants.{MAX_FILE};
+ghost use Rattle.font_file.specs.Font.{font_fault};
+ghost use Rattle.font_theory.specs.Cut.{IsCut, our_format, whole};
+ghost use Rattle.font_theory.specs.Tree.{Differs, IsOver, IsSmall, JoinTree, Value, cuts, file_at, grown, union_below};
+ghost use Rattle.font_cut.specs.Cut.{cut_of};
+ghost use Rattle.font_cut.specs.Outlet.{HasSent, broken_of, fresh_of, writer_of};
+ghost use Rattle.font_cut.specs.Join.{IsJoin, IsJoinRefusal};
+ghost use Rattle.font_cut.specs.JoinList.{AreCuts, HoldsFile, IsAllJoined, IsAllRefusal, IsFirst, IsForDifference, IsForSizeInto, IsForSizeOf, IsSentAs, IsUnited, SendsAll, StopsJoin};
+ghost use Rattle.font_cut.specs.declared.join_error.JoinAllIntoError.TheVariants.{NotJoined};
+
+use crate::cut_source::accepted;
+use crate::emit::{file_in_memory, send_whole};
+use crate::join_error::{JoinAllError, JoinAllIntoError, JoinError, Which};
+use crate::outlet::Outlet;
+use crate::union::Union;
+use font_file::Font;
+use sfnt_bytes::MAX_FILE;
+use std::alloc::Allocator;
+use std::io::Write;
+
+// Opens the first file.
+fn open_first<A: Allocator>(files: &[Vec<u8, A>]) -> Result<Font<'_>, JoinAllError>
+    ensures { let bytes = map (λ v. v.items) files.now in
+        MatchResult result (IsFirst bytes) (IsAllRefusal bytes) }
+{
+    if files.is_empty() {
+        return Err(JoinAllError::NothingToJoin);
+    }
+    match Font::open(files[0].as_slice()) {
+        Ok(font) => Ok(font),
+        Err(error) => Err(JoinAllError::At {
+            step: 0,
+            error: JoinError::Font(Which::First, error),
+        }),
+    }
+}
+
+// The first file joined with itself.
+fn first_of<'f, 'a, A: Allocator + Copy>(
+    alloc: A,
+    font: &'f Font<'a>,
+) -> Result<Union<'f, 'a, A>, JoinError>
+    ensures { MatchResult result (λ union. HoldsFile union font.entry.now)
+        (IsJoinRefusal font.entry.now font.entry.now) }
+{
+    accepted(font);
+    Union::of_first(alloc, font)
+}
+
+// What stands, joined with the next file.
+fn joined_with<'f, 'a, A: Allocator + Copy>(
+    alloc: A,
+    all: Union<'f, 'a, A>,
+    y: &'a [u8],
+) -> Result<Union<'f, 'a, A>, JoinError>
+    ensures { (x : List ℕ) → HoldsFile all.entry x → MatchResult result
+        (λ union. (z : List ℕ) × IsJoin x y.now z × HoldsFile union z) (IsJoinRefusal x y.now) }
+{
+    let next = match Font::open(y) {
+        Ok(next) => next,
+        Err(error) => return Err(JoinError::Font(Which::Second, error)),
+    };
+    let union = match all.add(alloc, &next) {
+        Ok(union) => union,
+        Err(error) => return Err(error),
+    };
+    let size = union.size();
+    if size > MAX_FILE {
+        return Err(JoinError::TooLarge(size));
+    }
+    Ok(union)
+}
+
+// The union of all files, of which the first is open, or the first refusal.
+fn union_in_turn<'f, 'a, A: Allocator + Copy>(
+    alloc: A,
+    first: &'f Font<'a>,
+    files: &'a [Vec<u8, A>],
+) -> Result<Union<'f, 'a, A>, JoinAllError>
+    requires { IsFirst (map (λ v. v.items) files.now) first.now }
+    ensures { let bytes = map (λ v. v.items) files.now in
+        MatchResult result (λ union. IsUnited bytes union) (IsAllRefusal bytes) }
+{
+    let mut all = match first_of(alloc, first) {
+        Ok(all) => all,
+        Err(error) => return Err(JoinAllError::At { step: 0, error }),
+    };
+    for step in 1..files.len() {
+        all = match joined_with(alloc, all, files[step].as_slice()) {
+            Ok(next) => next,
+            Err(error) => return Err(JoinAllError::At { step, error }),
+        };
+    }
+    Ok(all)
+}
+
+// The join of all files, or the first refusal.
+fn join_in_turn<A: Allocator + Copy>(
+    alloc: A,
+    files: &[Vec<u8, A>],
+) -> Result<Vec<u8, A>, JoinAllError>
+    ensures { let bytes = map (λ v. v.items) files.now in
+        MatchResult result (λ z. IsAllJoined bytes z.items) (IsAllRefusal bytes) }
+{
+    let first = match open_first(files) {
+        Ok(first) => first,
+        Err(error) => return Err(error),
+    };
+    let all = match union_in_turn(alloc, &first, files) {
+        Ok(all) => all,
+        Err(error) => return Err(error),
+    };
+    match file_in_memory(alloc, &all) {
+        Ok(file) => Ok(file),
+        Err(_) => Err(JoinAllError::At {
+            step: files.len() - 1,
+            error: JoinError::NoMemory,
+        }),
+    }
+}
+
+/// The first file joined with itself, and then what stands with each next file in turn. Cuts of one
+/// font give its cut for the codes of all of them, in whatever order they come, and each tree of
+/// joins over the same files gives the same file.
+///
+/// # Errors
+///
+/// `NothingToJoin` for an empty list, and else the first step that is refused.
+pub fn join_all<A: Allocator + Copy>(
+    alloc: A,
+    files: &[Vec<u8, A>],
+) -> Result<Vec<u8, A>, JoinAllError>
+    ensures exact { let bytes = map (λ v. v.items) files.now in
+        MatchResult result (λ z. IsAllJoined bytes z.items) (IsAllRefusal bytes) }
+    ensures small { IfOk result (λ z. length z.items ≤ MAX_FILE) }
+    ensures grown { let bytes = map (λ v. v.items) files.now in
+        IfOk result (λ z. Value our_format (grown bytes (length bytes)) z.items) }
+    ensures cuts { let bytes = map (λ v. v.items) files.now in (F : List ℕ) (A : ℕ → ℕ → Bool) →
+        AreCuts F A bytes → MatchResult result (λ z. z.items ≡ cut_of F (union_below A (length bytes)))
+        (IsForSizeOf F A bytes) }
+    ensures grouping { let bytes = map (λ v. v.items) files.now in (F : List ℕ) (t : JoinTree (ℕ → Bool)) →
+        font_fault F ≡ None → IsOver bytes (cuts our_format F t) → IsSmall our_format (cuts our_format F t) →
+        IfOk result (λ z. Value our_format (cuts our_format F t) z.items) }
+    ensures trees { let bytes = map (λ v. v.items) files.now in (t : JoinTree (List ℕ)) → IsOver bytes t →
+        IsSmall our_format t → IfOk result (λ z. (v : List ℕ) × Value our_format t v
+        × (our_format.file (whole our_format v) ≡ z.items)) }
+    ensures one_form { let bytes = map (λ v. v.items) files.now in (t : JoinTree (List ℕ)) → IsOver bytes t →
+        IsSmall our_format t → IfOk result (λ z. Value our_format t z.items) }
+    ensures clash { let bytes = map (λ v. v.items) files.now in
+        ((k : ℕ) → k < length bytes → IsCut our_format (file_at bytes k)) → (t : JoinTree (List ℕ)) →
+        IsOver bytes t → IsSmall our_format t → IfErr result (λ error. IsForDifference error →
+        Differs our_format t) }
+{
+    join_in_turn(alloc, files)
+}
+
+// Sends the join of all files, or answers the first refusal.
+fn send_in_turn<A: Allocator + Copy, W: Write>(
+    alloc: A,
+    files: &[Vec<u8, A>],
+    out: &mut Outlet<W>,
+) -> Result<u64, JoinAllIntoError>
+    requires { fresh_of out.old ≡ true }
+    ensures sends { let bytes = map (λ v. v.items) files.now in
+        IfOk result (SendsAll W.contents out.old out.new bytes) }
+    ensures unbroken { OnOk result (broken_of out.new ≡ false) }
+    ensures stops { let bytes = map (λ v. v.items) files.now in
+        IfErr result (StopsJoin W.contents out.old out.new bytes) }
+{
+    let first = match open_first(files) {
+        Ok(first) => first,
+        Err(error) => return Err(JoinAllIntoError::NotJoined(error)),
+    };
+    let all = match union_in_turn(alloc, &first, files) {
+        Ok(all) => all,
+        Err(error) => return Err(JoinAllIntoError::NotJoined(error)),
+    };
+    match send_whole(&all, out) {
+        Ok(size) => Ok(size),
+        // A join that is too large was refused before, and sending asks for no memory.
+        Err(_) => Err(JoinAllIntoError::WriteFault(out.written())),
+    }
+}
+
+/// Sends the join of a list of files, and answers how many bytes it has. All memory is asked for before
+/// the first write: a mark and a place for each glyph, and the groups of the union, but none for the join
+/// itself. It is sent in short pieces, so a writer that costs something at each call should gather them.
+///
+/// # Errors
+///
+/// `NotJoined` with the refusal of [`join_all`]: nothing was sent. `WriteFault` where a write failed: the
+/// outlet is broken, and a front of the join went out.
+pub fn join_all_into<A: Allocator + Copy, W: Write>(
+    alloc: A,
+    files: &[Vec<u8, A>],
+    out: &mut Outlet<W>,
+) -> Result<u64, JoinAllIntoError>
+    requires { fresh_of out.old ≡ true }
+    ensures exact { let bytes = map (λ v. v.items) files.now in
+        IfOk result (SendsAll W.contents out.old out.new bytes) }
+    ensures small { IfOk result (λ size. size ≤ MAX_FILE) }
+    ensures sent { let bytes = map (λ v. v.items) files.now in
+        IfOk result (λ size. IsSome (W.contents (writer_of out.old)) →
+        (z : List ℕ) × IsAllJoined bytes z × HasSent W.contents out.new z) }
+    ensures unbroken { OnOk result (broken_of out.new ≡ false) }
+    ensures stops { let bytes = map (λ v. v.items) files.now in
+        IfErr result (StopsJoin W.contents out.old out.new bytes) }
+
+    // The laws of `join_all`, of the bytes that went out.
+    ensures grown { let bytes = map (λ v. v.items) files.now in
+        IfOk result (λ size. (z : List ℕ) × IsSentAs W.contents out.old out.new z size
+        × Value our_format (grown bytes (length bytes)) z) }
+    ensures cuts { let bytes = map (λ v. v.items) files.now in (F : List ℕ) (A : ℕ → ℕ → Bool) →
+        AreCuts F A bytes → MatchResult result
+        (IsSentAs W.contents out.old out.new (cut_of F (union_below A (length bytes))))
+        (IsForSizeInto F A bytes) }
+    ensures grouping { let bytes = map (λ v. v.items) files.now in (F : List ℕ) (t : JoinTree (ℕ → Bool)) →
+        font_fault F ≡ None → IsOver bytes (cuts our_format F t) → IsSmall our_format (cuts our_format F t) →
+        IfOk result (λ size. (z : List ℕ) × IsSentAs W.contents out.old out.new z size
+        × Value our_format (cuts our_format F t) z) }
+    ensures trees { let bytes = map (λ v. v.items) files.now in (t : JoinTree (List ℕ)) →
+        IsOver bytes t → IsSmall our_format t → IfOk result (λ size. (v : List ℕ) × Value our_format t v
+        × IsSentAs W.contents out.old out.new (our_format.file (whole our_format v)) size) }
+    ensures one_form { let bytes = map (λ v. v.items) files.now in (t : JoinTree (List ℕ)) →
+        IsOver bytes t → IsSmall our_format t → IfOk result (λ size. (z : List ℕ)
+        × IsSentAs W.contents out.old out.new z size × Value our_format t z) }
+    ensures clash { let bytes = map (λ v. v.items) files.now in
+        ((k : ℕ) → k < length bytes → IsCut our_format (file_at bytes k)) → (t : JoinTree (List ℕ)) →
+        IsOver bytes t → IsSmall our_format t → (error : JoinAllError) → result ≡ Err (NotJoined error) →
+        IsForDifference error → Differs our_format t }
+{
+    send_in_turn(alloc, files, out)
+}

@@ -1,0 +1,60 @@
+//! The join of two cuts, which is this project's own: the least file of which both are cuts.
+ghost use Rattle.std.specs.Prelude.{◌≡◌, ℕ, Bool, List, ◌≤◌, length, None, IfErr, IfOk, MatchResult};
+ghost use Rattle.sfnt_bytes.specs.declared.directory.TheConstants.{MAX_FILE};
+ghost use Rattle.font_file.specs.Font.{font_fault};
+ghost use Rattle.font_theory.specs.Content.{everything};
+ghost use Rattle.font_theory.specs.Cut.{either};
+ghost use Rattle.font_cut.specs.Cut.{IsCutOf, cut_of};
+ghost use Rattle.font_cut.specs.Join.{IsForSize, IsJoin, IsJoinRefusal, IsLeastUpper, IsTrueRefusal};
+
+use crate::cut_font::CutError;
+use crate::emit::file_in_memory;
+use crate::join_error::{JoinError, Which};
+use crate::join_source::Joined;
+use font_file::Font;
+use std::alloc::Allocator;
+
+// The join, or the refusal that applies.
+#[tactic(auto, using(crate::proofs::JoinLemmas::first_refused, crate::proofs::JoinLemmas::second_refused, crate::proofs::JoinLemmas::union_refused, crate::proofs::JoinLemmas::is_join, crate::proofs::JoinLemmas::is_too_large))]
+fn join_exactly<A: Allocator + Copy>(alloc: A, x: &[u8], y: &[u8]) -> Result<Vec<u8, A>, JoinError>
+    ensures { MatchResult result (λ z. IsJoin x.now y.now z.items) (IsJoinRefusal x.now y.now) }
+{
+    let first = match Font::open(x) {
+        Ok(first) => first,
+        Err(error) => return Err(JoinError::Font(Which::First, error)),
+    };
+    let second = match Font::open(y) {
+        Ok(second) => second,
+        Err(error) => return Err(JoinError::Font(Which::Second, error)),
+    };
+    let joined = match Joined::new(alloc, &first, &second) {
+        Ok(joined) => joined,
+        Err(error) => return Err(error),
+    };
+    match file_in_memory(alloc, &joined) {
+        Ok(file) => Ok(file),
+        Err(CutError::NoMemory) => Err(JoinError::NoMemory),
+        Err(CutError::TooLarge(size)) => Err(JoinError::TooLarge(size)),
+    }
+}
+
+/// The join of two files in cut form: the file that has the tables of both, and the codes and the
+/// outlines of each. Cuts of one font give its cut for the codes of both.
+///
+/// # Errors
+///
+/// The first [`JoinError`] that applies.
+pub fn join<A: Allocator + Copy>(alloc: A, x: &[u8], y: &[u8]) -> Result<Vec<u8, A>, JoinError>
+    ensures exact { MatchResult result (λ z. IsJoin x.now y.now z.items) (IsJoinRefusal x.now y.now) }
+    ensures cuts { (F : List ℕ) (A B : ℕ → Bool) → font_fault F ≡ None → IsCutOf F A x.now →
+        IsCutOf F B y.now → length x.now ≤ MAX_FILE → length y.now ≤ MAX_FILE →
+        MatchResult result (λ z. z.items ≡ cut_of F (either A B))
+        (IsForSize (length (cut_of F (either A B)))) }
+    ensures itself { font_fault x.now ≡ None → cut_of x.now everything ≡ x.now → y.now ≡ x.now →
+        MatchResult result (λ z. z.items ≡ x.now) (λ error. error ≡ JoinError.NoMemory) }
+    ensures upper { IfOk result (λ z. IsLeastUpper x.now y.now z.items) }
+    ensures small { IfOk result (λ z. length z.items ≤ MAX_FILE) }
+    ensures refused { IfErr result (IsTrueRefusal x.now y.now) }
+{
+    join_exactly(alloc, x, y)
+}
