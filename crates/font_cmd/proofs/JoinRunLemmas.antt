@@ -39,5 +39,5 @@ only_size_into F A files count long (NotJoined error) is = only_size_of F A file
 only_size_into F A files count long (WriteFault written) is = tt
 
 -- what went out goes on with nothing
-pub sends_end : {W : Type 0} (contents : W → Option (List ℕ)) (o m p : Outlet W) (z : List ℕ) → outlets.Sends contents o m z → outlets.Sends contents m p [] → outlets.Sends contents o p z
+pub sends_end : {W : Type 0} (contents : W → Option (List ℕ)) (o m p : Outlet W) (z : List ℕ) → outlets.WentOut contents o m z → outlets.WentOut contents m p [] → outlets.WentOut contents o p z
 sends_end contents o m p z sent flushed = search rules

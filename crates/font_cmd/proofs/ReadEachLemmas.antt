@@ -5,7 +5,7 @@ use Rattle.std.proofs.lemmas.List.Elements.{All-from_all_within, AllWithin-from_
 use Rattle.std.proofs.lemmas.Option.{get_or_from_slice_get, slice_get_read, slice_get_within}
 use Rattle.std.specs.List.{AllWithin}
 use Rattle.font_cut.specs.Fonts.{file_at}
-use Rattle.font_cmd.specs.Inlet.{Gives, StopsAs, broken_of, fresh_of}
+use Rattle.font_cmd.specs.Inlet.{Gives, StopsAs, inlet_broken_of, inlet_fresh_of}
 use Rattle.font_cmd.specs.Join.{AreGot, AreSpent, AreReadTo, BreaksAfter, IsSpent, ReadStops}
 use Rattle.font_cmd.specs.Run.{got, of_read_error}
 use Rattle.font_cmd.specs.declared.runs.inlet.Inlet.{Inlet}
@@ -47,7 +47,7 @@ module _ {R : Type 0} (remaining : R → Option (List ℕ)) where
       is : x ≡ get_or now k x
       is = get_or_default now k e x low
 
-      pub one_more_read : (bytes : List ℕ) (more : List (List ℕ)) → more ≡ files ++ bytes ∷ [] → got remaining (get_or now k e) (λ bs. bytes ≡ bs) → fresh_of y ≡ false → broken_of y ≡ false → AreRead remaining old (set now k y) more (k + 1)
+      pub one_more_read : (bytes : List ℕ) (more : List (List ℕ)) → more ≡ files ++ bytes ∷ [] → got remaining (get_or now k e) (λ bs. bytes ≡ bs) → inlet_fresh_of y ≡ false → inlet_broken_of y ≡ false → AreRead remaining old (set now k y) more (k + 1)
       one_more_read bytes more are came spent whole = subst (λ l. AreRead remaining old (set now k y) l (k + 1)) (sym are) (record {
         same = length-set now k y ∙ read.same;
         count = length-append files (bytes ∷ []) ∙ ap (λ n. n + 1) read.count;
@@ -68,7 +68,7 @@ module _ {R : Type 0} (remaining : R → Option (List ℕ)) where
           same_inlet d = is ∙ get_or_default now k x d low ∙ next_is d
 
       -- the read failed
-      breaks_after : (count : ℕ) → broken_of y ≡ true → Gives remaining (get_or now k e) y count → BreaksAfter remaining old (set now k y) count
+      breaks_after : (count : ℕ) → inlet_broken_of y ≡ true → Gives remaining (get_or now k e) y count → BreaksAfter remaining old (set now k y) count
       breaks_after count broken gives = record {
         at = k;
         unread = x;
@@ -82,10 +82,10 @@ module _ {R : Type 0} (remaining : R → Option (List ℕ)) where
       }
 
       -- no read failed so far
-      pub still_read : fresh_of y ≡ false → broken_of y ≡ false → AreReadTo old (set now k y)
+      pub still_read : inlet_fresh_of y ≡ false → inlet_broken_of y ≡ false → AreReadTo old (set now k y)
       still_read spent whole = record { at = k + 1; before = AllWithin-more_set now k y low IsSpent read.spent (spent, whole); behind = behind_next y }
 
-      pub stops_reading : fresh_of y ≡ false → (error : ReadError) → StopsAs remaining (get_or now k e) y error → ReadStops remaining old (set now k y) (of_read_error error)
+      pub stops_reading : inlet_fresh_of y ≡ false → (error : ReadError) → StopsAs remaining (get_or now k e) y error → ReadStops remaining old (set now k y) (of_read_error error)
       stops_reading spent (ReadFault count) stops = breaks_after count stops.0 stops.1
       stops_reading spent NoMemory whole = still_read spent whole
 

@@ -1,4 +1,4 @@
--- What a clause reads of an `Inlet`.
+-- What a clause reads of an `Inlet`, this project's own.
 use Rattle.std.specs.Prelude.{◌≡◌, ℕ, Bool, true, false, List, ◌++◌, length, Option, codes, decimal}
 use Rattle.std.specs.Io.KnownBytes.{Consumes}
 use Rattle.font_cut.specs.Fonts.{no_memory_number, no_memory_text}
@@ -8,12 +8,12 @@ use Rattle.font_cmd.specs.declared.runs.inlet.ReadError.TheVariants.{ReadFault, 
 use Rattle.font_cmd.specs.declared.runs.inlet.State.TheVariants.{Fresh, Spent, Broken}
 
 -- `inlet.is_fresh()`
-abbrev pub fresh_of : {R : Type 0} → Inlet R → Bool
-fresh_of inlet = elim inlet.state [ Fresh ↦ true | Spent ↦ false | Broken ↦ false ]
+abbrev pub inlet_fresh_of : {R : Type 0} → Inlet R → Bool
+inlet_fresh_of inlet = elim inlet.state [ Fresh ↦ true | Spent ↦ false | Broken ↦ false ]
 
 -- `inlet.is_broken()`
-abbrev pub broken_of : {R : Type 0} → Inlet R → Bool
-broken_of inlet = elim inlet.state [ Fresh ↦ false | Spent ↦ false | Broken ↦ true ]
+abbrev pub inlet_broken_of : {R : Type 0} → Inlet R → Bool
+inlet_broken_of inlet = elim inlet.state [ Fresh ↦ false | Spent ↦ false | Broken ↦ true ]
 
 -- the reader as it stands
 abbrev pub reader_of : {R : Type 0} → Inlet R → R
@@ -26,8 +26,8 @@ Gives remaining old new count =
 
 -- how a failed call leaves the inlet
 abbrev pub StopsAs : {R : Type 0} (remaining : R → Option (List ℕ)) (old new : Inlet R) → ReadError → Type 0
-StopsAs remaining old new (ReadFault count) = (broken_of new ≡ true) × Gives remaining old new count
-StopsAs remaining old new NoMemory = broken_of new ≡ false
+StopsAs remaining old new (ReadFault count) = (inlet_broken_of new ≡ true) × Gives remaining old new count
+StopsAs remaining old new NoMemory = inlet_broken_of new ≡ false
 
 -- the number of a failed read
 abbrev pub read_error_number : ReadError → ℕ

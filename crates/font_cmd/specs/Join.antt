@@ -1,4 +1,4 @@
--- What the run of a join is given, and how it leaves its inlets and its outlet.
+-- What the run of a join is given, and how it leaves its inlets and its outlet, this project's own.
 use Rattle.std.specs.Prelude.{◌≡◌, ℕ, suc, ◌+◌, Bool, false, true, All, List, drop, length, Option, Some, take}
 use Rattle.std.specs.List.{AllWithin, slice_get}
 use Rattle.font_cut.specs.Cut.{cut_of}
@@ -16,11 +16,11 @@ use Rattle.font_cmd.specs.declared.runs.run_error.RunError.TheVariants.{Font, Jo
 
 -- no inlet was read
 abbrev pub AreFresh : {R : Type 0} → List (Inlet R) → Type 0
-AreFresh list = All (λ inlet. inlets.fresh_of inlet ≡ true) list
+AreFresh list = All (λ inlet. inlets.inlet_fresh_of inlet ≡ true) list
 
 -- an inlet was read, and no read failed
 abbrev pub IsSpent : {R : Type 0} → Inlet R → Type 0
-IsSpent inlet = (inlets.fresh_of inlet ≡ false) × (inlets.broken_of inlet ≡ false)
+IsSpent inlet = (inlets.inlet_fresh_of inlet ≡ false) × (inlets.inlet_broken_of inlet ≡ false)
 
 -- each inlet was read, and no read failed
 abbrev pub AreSpent : {R : Type 0} → List (Inlet R) → Type 0
@@ -44,7 +44,7 @@ pub record BreaksAfter {R : Type 0} (remaining : R → Option (List ℕ)) (old n
   pub failed : Inlet R
   pub was : slice_get old at ≡ Some unread
   pub is : slice_get new at ≡ Some failed
-  pub broken : inlets.broken_of failed ≡ true
+  pub broken : inlets.inlet_broken_of failed ≡ true
   pub gives : inlets.Gives remaining unread failed count
   pub before : AllWithin IsSpent new 0 at
   pub behind : drop (at + 1) new ≡ drop (at + 1) old
@@ -70,7 +70,7 @@ JoinStops remaining contents i j o p (Join error) =
 -- the outlet is broken, and so many bytes of the join went out
 JoinStops remaining contents i j o p (Write count) =
     AreSpent j × (outlets.broken_of p ≡ true) × (outlets.written_of p ≡ count)
-    × OfGot remaining i (λ files. (z : List ℕ) × IsAllJoined files z × outlets.Sends contents o p (take count z))
+    × OfGot remaining i (λ files. (z : List ℕ) × IsAllJoined files z × outlets.WentOut contents o p (take count z))
 -- such a refusal is one of the join
 JoinStops remaining contents i j o p (Font error) = ⊥
 JoinStops remaining contents i j o p (TooLarge size) = ⊥
@@ -78,7 +78,7 @@ JoinStops remaining contents i j o p (TooLarge size) = ⊥
 -- the join of what came from the readers went out, and has so many bytes
 abbrev pub SendsJoin : {R W : Type 0} (remaining : R → Option (List ℕ)) (contents : W → Option (List ℕ)) (i : List (Inlet R)) (o p : Outlet W) → ℕ → Type 0
 SendsJoin remaining contents i o p size =
-    OfGot remaining i (λ files. (z : List ℕ) × IsAllJoined files z × (size ≡ length z) × outlets.Sends contents o p z)
+    OfGot remaining i (λ files. (z : List ℕ) × IsAllJoined files z × (size ≡ length z) × outlets.WentOut contents o p z)
 
 -- what came from the readers, whatever it is, are cuts of F for some sets, none of them too large
 abbrev pub GotCuts : {R : Type 0} → (R → Option (List ℕ)) → List (Inlet R) → List ℕ → (ℕ → ℕ → Bool) → Type 0

@@ -1,4 +1,4 @@
--- What a run is given, and how it leaves its inlet and its outlet.
+-- What a run is given, and how it leaves its inlet and its outlet, this project's own.
 use Rattle.std.specs.Prelude.{◌≡◌, ℕ, ◌+◌, ◌≤◌, Bool, false, true, length, List, None, Option, IfSome, Some, take}
 use Rattle.font_cut.specs.Cut.{IsTooLarge, cut_of}
 use Rattle.font_cut.specs.Fonts.{MAX_FILE, error_number, font_fault, no_memory_number}
@@ -26,17 +26,17 @@ got remaining inlet P = IfSome (remaining (inlets.reader_of inlet)) (λ bytes. P
 -- how a run that is not done leaves its inlet, from i to j, and its outlet, from o to p; `serves` says of which files it sends something, `text` what it sends of them, and `refuses` when it refuses a file
 abbrev pub RunStops : {R W : Type 0} (remaining : R → Option (List ℕ)) (contents : W → Option (List ℕ)) (serves : List ℕ → Type 0) (text : List ℕ → List ℕ) (refuses : RunError → Type 0) (i j : Inlet R) (o p : Outlet W) → RunError → Type 0
 -- the inlet is broken after so many bytes, and nothing was sent
-RunStops remaining contents serves text refuses i j o p (Read count) = (inlets.broken_of j ≡ true) × inlets.Gives remaining i j count × (p ≡ o)
+RunStops remaining contents serves text refuses i j o p (Read count) = (inlets.inlet_broken_of j ≡ true) × inlets.Gives remaining i j count × (p ≡ o)
 -- nothing was sent
-RunStops remaining contents serves text refuses i j o p Memory = (inlets.broken_of j ≡ false) × (p ≡ o)
+RunStops remaining contents serves text refuses i j o p Memory = (inlets.inlet_broken_of j ≡ false) × (p ≡ o)
 -- the file is refused, and nothing was sent
-RunStops remaining contents serves text refuses i j o p (Font error) = (inlets.broken_of j ≡ false) × (p ≡ o) × refuses (Font error)
-RunStops remaining contents serves text refuses i j o p (TooLarge size) = (inlets.broken_of j ≡ false) × (p ≡ o) × refuses (TooLarge size)
-RunStops remaining contents serves text refuses i j o p (Join error) = (inlets.broken_of j ≡ false) × (p ≡ o) × refuses (Join error)
+RunStops remaining contents serves text refuses i j o p (Font error) = (inlets.inlet_broken_of j ≡ false) × (p ≡ o) × refuses (Font error)
+RunStops remaining contents serves text refuses i j o p (TooLarge size) = (inlets.inlet_broken_of j ≡ false) × (p ≡ o) × refuses (TooLarge size)
+RunStops remaining contents serves text refuses i j o p (Join error) = (inlets.inlet_broken_of j ≡ false) × (p ≡ o) × refuses (Join error)
 -- the file is one that is served, the outlet is broken, and so many bytes of the text went out
 RunStops remaining contents serves text refuses i j o p (Write count) =
-    (inlets.broken_of j ≡ false) × (outlets.broken_of p ≡ true) × (outlets.written_of p ≡ count)
-    × got remaining i (λ file. serves file × outlets.Sends contents o p (take count (text file)))
+    (inlets.inlet_broken_of j ≡ false) × (outlets.broken_of p ≡ true) × (outlets.written_of p ≡ count)
+    × got remaining i (λ file. serves file × outlets.WentOut contents o p (take count (text file)))
 
 -- each file is served
 abbrev pub AnyFile : List ℕ → Type 0

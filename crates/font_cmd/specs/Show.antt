@@ -1,4 +1,4 @@
--- What `show` prints of a font.
+-- What `show` prints of a font, this project's own.
 use Rattle.std.specs.Prelude.{ℕ, Bool, if◌then◌else◌, List, [], ◌∷◌, ◌++◌, codes, decimal, length, Option}
 use Rattle.std.specs.List.{flat_map, range_with_len}
 use Rattle.std.specs.Option.{option_copied, option_map_or}

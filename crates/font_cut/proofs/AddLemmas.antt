@@ -11,7 +11,7 @@ use Rattle.font_map.specs.Runs.{IsRun, NoRun, spelled}
 use Rattle.font_map.specs.declared.runs.Run.{Run}
 use Rattle.font_glyph.specs.Union.{Records, union_of}
 use Rattle.font_file.specs.Font.{font_fault}
-use Rattle.font_theory.specs.Content.{Content, IsClosed, content, everything, font_of, glyph_count}
+use Rattle.font_theory.specs.Content.{Content, IsClosedContent, content, everything, font_of, glyph_count}
 use Rattle.font_theory.specs.Cut.{CanJoin, IsCut, is_cut, joined, our_format}
 use Rattle.font_theory.specs.Difference.{are_different, difference, is_different_glyph}
 use Rattle.font_theory.specs.File.{file, current_form}
@@ -25,12 +25,13 @@ use Rattle.font_theory.proofs.FormatLemmas.{our_format-most}
 use Rattle.font_theory.proofs.JoinLemmas.{IsClosed-both, both-self}
 use Rattle.font_theory.proofs.OurFormatLemmas.{our_format-is}
 use Rattle.font_cut.specs.Cut.{IsWritten}
-use Rattle.font_cut.specs.JoinList.{HoldsFile, IsAllJoined, IsRefusedAt, IsUnited, Stands}
+use Rattle.font_cut.specs.JoinList.{IsAllJoined, IsRefusedAt, Stands}
+use Rattle.font_cut.specs.Inside.{AgreesEarly, AreTaken, HoldsFile, IsAddRefusal, IsFirstRefusal, IsUnited, add_fault, early_difference}
 use Rattle.font_theory.specs.Tree.{file_at}
 use Rattle.font_cut.proofs.JoinListLemmas.{stands_more}
 use Rattle.font_theory.proofs.RefusalLemmas.{tested-CanJoin}
 use Rattle.font_cut.specs.Join.{IsJoin, IsJoinRefusal, IsUnionRefusal, different, union_fault}
-use Rattle.font_cut.specs.Union.{AgreesEarly, AreMapRuns, AreRunsOf, AreTaken, Held, IsAddRefusal, IsFirstRefusal, IsUnion, add_fault, content_in, early_difference, is_other, outline_in}
+use Rattle.font_cut.specs.Union.{AreMapRuns, AreRunsOf, Held, IsUnion, content_in, is_other, listed_outline}
 use Rattle.font_cut.proofs.FirstLemmas.{first_none}
 use Rattle.font_cut.proofs.OutlineListLemmas.{taken_whole}
 use Rattle.font_cut.specs.declared.join_error.JoinError.{JoinError}
@@ -67,7 +68,7 @@ unrefused K y h = go (is_cut our_format y) (difference K (content (font_of y) ev
     go true (Some d) a b h = cc
     go true None a b h = (a, b)
 
-closed_cut : (y : List ℕ) → IsCut our_format y → IsClosed (content (font_of y) everything)
+closed_cut : (y : List ℕ) → IsCut our_format y → IsClosedContent (content (font_of y) everything)
 unfolding our_format
 closed_cut y form = IsClosed-whole our_format our_format-is y form.accepted
 
@@ -102,12 +103,12 @@ early_form K y accepted h = is_cut-tells our_format our_format-is y (our_format-
 
 -- a file that agrees in its tables and its map, whose outlines were compared
 module _ (u : Held) (y : List ℕ) (ok : IsUnion u) (agrees : AgreesEarly (content_in u) y) (found : Option ℕ)
-    (compared : found ≡ find (is_other (outline_in u.outlines) (content (font_of y) everything).outline) (range_with_len 0 (glyph_count_of u.tables))) where
+    (compared : found ≡ find (is_other (listed_outline u.outlines) (content (font_of y) everything).outline) (range_with_len 0 (glyph_count_of u.tables))) where
   late : difference (content_in u) (content (font_of y) everything) ≡ option_map AtGlyph found
   unfolding is_different_glyph
   late =
       difference-late (content_in u) (content (font_of y) everything) agrees.early
-      ∙ ap (λ (n : ℕ). option_map AtGlyph (find (is_other (outline_in u.outlines) (content (font_of y) everything).outline) (range_with_len 0 n))) (glyph_count-file u.tables)
+      ∙ ap (λ (n : ℕ). option_map AtGlyph (find (is_other (listed_outline u.outlines) (content (font_of y) everything).outline) (range_with_len 0 n))) (glyph_count-file u.tables)
       ∙ ap (option_map AtGlyph) (sym compared)
 
   pub other_glyph : (g : ℕ) → found ≡ Some g → add_fault (content_in u) y ≡ Some (DifferentGlyph g)
@@ -117,11 +118,11 @@ module _ (u : Held) (y : List ℕ) (ok : IsUnion u) (agrees : AgreesEarly (conte
   no_other_glyph e = sym (difference_added (content_in u) y agrees.form None (sym (late ∙ ap (option_map AtGlyph) e)))
 
 -- nothing is told from nothing
-pub none_other : (outlines : List (Option (List ℕ))) (L : Records) (n : ℕ) → ((g : ℕ) → outline_in outlines g ≡ None) → find (is_other (outline_in outlines) L) (range_with_len 0 n) ≡ None
+pub none_other : (outlines : List (Option (List ℕ))) (L : Records) (n : ℕ) → ((g : ℕ) → listed_outline outlines g ≡ None) → find (is_other (listed_outline outlines) L) (range_with_len 0 n) ≡ None
 none_other outlines L n none =
     let all : n - 0 ≡ n = omega arith in
-    ap (λ (k : ℕ). find (is_other (outline_in outlines) L) (range_with_len 0 k)) (sym all)
-    ∙ first_none (is_other (outline_in outlines) L) n 0 (λ g low. ap (λ (o : Option (List ℕ)). are_different o (L g)) (none g))
+    ap (λ (k : ℕ). find (is_other (listed_outline outlines) L) (range_with_len 0 k)) (sym all)
+    ∙ first_none (is_other (listed_outline outlines) L) n 0 (λ g low. ap (λ (o : Option (List ℕ)). are_different o (L g)) (none g))
 
 module _ (u : Held) (y : List ℕ) (ok : IsUnion u) (accepted : font_fault y ≡ None) (none : add_fault (content_in u) y ≡ None) where
   pub form_added : IsCut our_format y
@@ -134,11 +135,11 @@ module _ (u : Held) (y : List ℕ) (ok : IsUnion u) (accepted : font_fault y ≡
   count_added = sym (glyph_count-file u.tables) ∙ ap glyph_count (fun_ext agree_added.copied)
 
   pub taken_added : (outlines : List (Option (List ℕ))) (n : ℕ) → n ≡ glyph_count_of u.tables → AreTaken u.outlines outlines (content (font_of y) everything).outline n
-      → (g : ℕ) → outline_in outlines g ≡ union_of (outline_in u.outlines) (content (font_of y) everything).outline g
+      → (g : ℕ) → listed_outline outlines g ≡ union_of (listed_outline u.outlines) (content (font_of y) everything).outline g
   taken_added outlines n e are = taken_whole u.outlines outlines y n form_added (e ∙ count_added) (ok.count ∙ sym e) are
 
   module _ (runs : List Run) (outlines : List (Option (List ℕ))) (spells : spelled runs ≡ united (spelled u.runs) (content (font_of y) everything).map)
-      (taken : (g : ℕ) → outline_in outlines g ≡ union_of (outline_in u.outlines) (content (font_of y) everything).outline g) where
+      (taken : (g : ℕ) → listed_outline outlines g ≡ union_of (listed_outline u.outlines) (content (font_of y) everything).outline g) where
     pub content_added : content_in (record { tables = u.tables; runs = runs; outlines = outlines }) ≡ both (content_in u) (content (font_of y) everything)
     content_added = λ i. record { copied = (font_of u.tables).copied; head = (font_of u.tables).head; map = spells i; outline = fun_ext taken i }
 
@@ -147,13 +148,13 @@ module _ (u : Held) (y : List ℕ) (ok : IsUnion u) (accepted : font_fault y ≡
         record {
           accepted = ok.accepted;
           count = count ∙ ok.count;
-          closed = subst IsClosed (sym content_added) (IsClosed-both _ _ ok.closed (closed_cut y form_added) agree_added);
+          closed = subst IsClosedContent (sym content_added) (IsClosed-both _ _ ok.closed (closed_cut y form_added) agree_added);
           runs = are;
         }
 
 -- a first file
 module _ (x : List ℕ) (form : IsCut our_format x) (runs : List Run) (outlines : List (Option (List ℕ))) (spells : spelled runs ≡ (content (font_of x) everything).map)
-    (taken : (g : ℕ) → outline_in outlines g ≡ (content (font_of x) everything).outline g) where
+    (taken : (g : ℕ) → listed_outline outlines g ≡ (content (font_of x) everything).outline g) where
   pub content_first : content_in (record { tables = x; runs = runs; outlines = outlines }) ≡ content (font_of x) everything
   content_first = λ i. record { copied = (font_of x).copied; head = (font_of x).head; map = spells i; outline = fun_ext taken i }
 
@@ -162,7 +163,7 @@ module _ (x : List ℕ) (form : IsCut our_format x) (runs : List Run) (outlines 
       record {
         accepted = sym (our_format-fault x) ∙ form.accepted;
         count = count;
-        closed = subst IsClosed (sym content_first) (closed_cut x form);
+        closed = subst IsClosedContent (sym content_first) (closed_cut x form);
         runs = are;
       }
 

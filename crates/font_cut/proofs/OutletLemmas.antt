@@ -1,7 +1,7 @@
 -- What an outlet has sent, at first and after more was sent.
 use Rattle.std.proofs.Common.{rules, ◌≡◌, ℕ, ◌+◌, List, [], ◌++◌, Option, Some, None, IsSomeAnd, IsSome, length, sym, ap, ◌∙◌, append_assoc, append-nil, length-append}
 use Rattle.std.specs.Io.KnownBytes.{Appends}
-use Rattle.font_cut.specs.Outlet.{HasSent, Sends, writer_of, written_of}
+use Rattle.font_cut.specs.Outlet.{HasSent, WentOut, writer_of, written_of}
 use Rattle.font_cut.specs.declared.outlet.Outlet.{Outlet}
 
 -- the same, over what the writer tells before and after
@@ -13,7 +13,7 @@ more_of (Some x) (Some y) m n s bs p e (front, is, len) =
     (front, p ∙ ap (λ l. l ++ bs) is ∙ append_assoc front s bs, length-append s bs ∙ ap (λ k. k + length bs) len ∙ sym e)
 
 -- what was sent before a step, and what the step sends
-pub sent_more : {W : Type 0} (contents : W → Option (List ℕ)) (old new : Outlet W) (bs s : List ℕ) → Sends contents old new bs
+pub sent_more : {W : Type 0} (contents : W → Option (List ℕ)) (old new : Outlet W) (bs s : List ℕ) → WentOut contents old new bs
     → HasSent contents old s → HasSent contents new (s ++ bs)
 sent_more contents old new bs s h = more_of (contents (writer_of old)) (contents (writer_of new)) (written_of old) (written_of new) s bs h.appends h.counts
 

@@ -16,21 +16,22 @@ use Rattle.font_theory.specs.Cut.{IsCut, our_format}
 use Rattle.font_theory.proofs.CutLemmas.{IsClosed-whole}
 use Rattle.font_theory.proofs.OurFormatLemmas.{our_format-is}
 use Rattle.font_theory.proofs.WritableLemmas.{IsWritable-closed}
-use Rattle.font_cut.specs.Union.{AreCounted, AreSmall, AreTaken, is_other, outline_in, outlines_length}
+use Rattle.font_cut.specs.Union.{AreCounted, AreSmall, is_other, listed_outline, outlines_length}
+use Rattle.font_cut.specs.Inside.{AreTaken}
 
 -- past the last glyph there is none
-pub outline_in_past : (outlines : List (Option (List ℕ))) (g : ℕ) → length outlines ≤ g → outline_in outlines g ≡ None
+pub outline_in_past : (outlines : List (Option (List ℕ))) (g : ℕ) → length outlines ≤ g → listed_outline outlines g ≡ None
 outline_in_past [] g h = refl
 outline_in_past (o ∷ os) zero h = absurd (omega (arith, h))
 outline_in_past (o ∷ os) (suc g) h = outline_in_past os g (omega (arith, h))
 
 -- one that is set, and the others
-pub outline_in_set : (outlines : List (Option (List ℕ))) (g : ℕ) (o : Option (List ℕ)) → g < length outlines → outline_in (slice_set outlines g o) g ≡ o
+pub outline_in_set : (outlines : List (Option (List ℕ))) (g : ℕ) (o : Option (List ℕ)) → g < length outlines → listed_outline (slice_set outlines g o) g ≡ o
 outline_in_set [] g o h = absurd (omega (arith, h))
 outline_in_set (x ∷ xs) zero o h = refl
 outline_in_set (x ∷ xs) (suc g) o h = outline_in_set xs g o (omega (arith, h))
 
-pub outline_in_other : (outlines : List (Option (List ℕ))) (g h : ℕ) (o : Option (List ℕ)) → h ≢ g → outline_in (slice_set outlines g o) h ≡ outline_in outlines h
+pub outline_in_other : (outlines : List (Option (List ℕ))) (g h : ℕ) (o : Option (List ℕ)) → h ≢ g → listed_outline (slice_set outlines g o) h ≡ listed_outline outlines h
 outline_in_other [] g h o n = refl
 outline_in_other (x ∷ xs) zero zero o n = absurd (n refl)
 outline_in_other (x ∷ xs) zero (suc h) o n = refl
@@ -39,7 +40,7 @@ outline_in_other (x ∷ xs) (suc g) (suc h) o n = outline_in_other xs g h o (λ 
 
 pub small_set : (outlines : List (Option (List ℕ))) (g : ℕ) (b : List ℕ) → g < length outlines → length b ≤ MAX_FILE → AreSmall outlines → AreSmall (slice_set outlines g (Some b))
 small_set outlines g b low small all h = elim (cases_eq h g) [
-  | inl e ↦ subst (λ (k : ℕ). IfSome (outline_in (slice_set outlines g (Some b)) k) (λ x. length x ≤ MAX_FILE)) (sym e)
+  | inl e ↦ subst (λ (k : ℕ). IfSome (listed_outline (slice_set outlines g (Some b)) k) (λ x. length x ≤ MAX_FILE)) (sym e)
       (subst (λ (o : Option (List ℕ)). IfSome o (λ x. length x ≤ MAX_FILE)) (sym (outline_in_set outlines g (Some b) low)) small)
   | inr n ↦ subst (λ (o : Option (List ℕ)). IfSome o (λ x. length x ≤ MAX_FILE)) (sym (outline_in_other outlines g h (Some b) n)) (all h)
 ]
@@ -61,13 +62,13 @@ union_of_absent K L g e = ap (λ (o : Option (List ℕ)). option_or (K g) o) e �
 pub taken_none : (old : List (Option (List ℕ))) (L : Records) → AreTaken old old L 0
 taken_none old L = record { count = refl; below = λ g h. absurd (omega (arith, h)); above = λ g h. refl }
 
-pub taken_more : (old now new : List (Option (List ℕ))) (L : Records) (n : ℕ) → AreTaken old now L n → length new ≡ length now → outline_in new n ≡ union_of (outline_in now) L n
-    → ((h : ℕ) → h ≢ n → outline_in new h ≡ outline_in now h) → AreTaken old new L (n + 1)
+pub taken_more : (old now new : List (Option (List ℕ))) (L : Records) (n : ℕ) → AreTaken old now L n → length new ≡ length now → listed_outline new n ≡ union_of (listed_outline now) L n
+    → ((h : ℕ) → h ≢ n → listed_outline new h ≡ listed_outline now h) → AreTaken old new L (n + 1)
 taken_more old now new L n before count taken others =
     record {
       count = count ∙ before.count;
       below = λ g h. elim (cases_eq g n) [
-        | inl e ↦ subst (λ (k : ℕ). outline_in new k ≡ union_of (outline_in old) L k) (sym e)
+        | inl e ↦ subst (λ (k : ℕ). listed_outline new k ≡ union_of (listed_outline old) L k) (sym e)
             (taken ∙ ap (λ (o : Option (List ℕ)). option_or o (L n)) (before.above n (omega arith)))
         | inr d ↦ others g d ∙ before.below g (omega (arith, h, d))
       ];
@@ -75,13 +76,13 @@ taken_more old now new L n before count taken others =
     }
 
 -- a glyph that is not taken yet is told from that of the beginning
-pub other_now : (old now : List (Option (List ℕ))) (L : Records) (n : ℕ) (b : Bool) → AreTaken old now L n → b ≡ is_other (outline_in now) L n → b ≡ is_other (outline_in old) L n
+pub other_now : (old now : List (Option (List ℕ))) (L : Records) (n : ℕ) (b : Bool) → AreTaken old now L n → b ≡ is_other (listed_outline now) L n → b ≡ is_other (listed_outline old) L n
 other_now old now L n b are e = e ∙ ap (λ (o : Option (List ℕ)). are_different o (L n)) (are.above n (omega arith))
 
-pub taken_all : (old now : List (Option (List ℕ))) (L : Records) (n : ℕ) → AreTaken old now L n → length old ≡ n → ((g : ℕ) → n ≤ g → L g ≡ None) → (g : ℕ) → outline_in now g ≡ union_of (outline_in old) L g
+pub taken_all : (old now : List (Option (List ℕ))) (L : Records) (n : ℕ) → AreTaken old now L n → length old ≡ n → ((g : ℕ) → n ≤ g → L g ≡ None) → (g : ℕ) → listed_outline now g ≡ union_of (listed_outline old) L g
 taken_all old now L n are count past g = elim (cases_lt g n) [
   | inl low ↦ are.below g low
-  | inr high ↦ are.above g high ∙ sym (union_of_absent (outline_in old) L g (past g high))
+  | inr high ↦ are.above g high ∙ sym (union_of_absent (listed_outline old) L g (past g high))
 ]
 
 -- a file in cut form keeps no glyph past its count
@@ -90,10 +91,10 @@ unfolding our_format
 whole_past X form g h = (IsWritable-closed _ (IsClosed-whole our_format our_format-is X form.accepted)).past g h
 
 pub taken_whole : (old now : List (Option (List ℕ))) (X : List ℕ) (n : ℕ) → IsCut our_format X → n ≡ glyph_count (font_of X).copied → length old ≡ n → AreTaken old now (content (font_of X) everything).outline n
-    → (g : ℕ) → outline_in now g ≡ union_of (outline_in old) (content (font_of X) everything).outline g
+    → (g : ℕ) → listed_outline now g ≡ union_of (listed_outline old) (content (font_of X) everything).outline g
 taken_whole old now X n form e count are = taken_all old now (content (font_of X) everything).outline n are count (λ g h. whole_past X form g (omega (arith, h, e)))
 
-pub outline_none : {X : Type 0} (f : X → Option (List ℕ)) (x : X) → f x ≡ None → (n g : ℕ) → outline_in (map f (replicate n x)) g ≡ None
+pub outline_none : {X : Type 0} (f : X → Option (List ℕ)) (x : X) → f x ≡ None → (n g : ℕ) → listed_outline (map f (replicate n x)) g ≡ None
 outline_none f x e zero g = refl
 outline_none f x e (suc n) zero = e
 outline_none f x e (suc n) (suc g) = outline_none f x e n g
@@ -108,7 +109,7 @@ filled_by bytes None o e h = tt
 filled_by bytes (Some x) o e h = h (bytes x) (sym e)
 
 -- what is added to the length of all outlines
-pub outlines_length-set : (outlines : List (Option (List ℕ))) (g : ℕ) (b : List ℕ) → g < length outlines → outline_in outlines g ≡ None → outlines_length (slice_set outlines g (Some b)) ≡ outlines_length outlines + length b
+pub outlines_length-set : (outlines : List (Option (List ℕ))) (g : ℕ) (b : List ℕ) → g < length outlines → listed_outline outlines g ≡ None → outlines_length (slice_set outlines g (Some b)) ≡ outlines_length outlines + length b
 unfolding outlines_length
 outlines_length-set [] g b h e = absurd (omega (arith, h))
 outlines_length-set (o ∷ os) zero b h e =
@@ -129,7 +130,7 @@ outlines_length-most (o ∷ os) h = omega (arith, small_first o (h 0), outlines_
 pub bytes_few : (outlines : List (Option (List ℕ))) (bytes n : ℕ) → AreCounted outlines bytes → n ≤ MAX_FILE → bytes + n < 2 ^ 64
 bytes_few outlines bytes n ok small = omega (arith, ok.few, ok.counted, outlines_length-most outlines ok.small, small)
 
-pub counted_set : (outlines : List (Option (List ℕ))) (bytes g : ℕ) (b : List ℕ) → AreCounted outlines bytes → g < length outlines → outline_in outlines g ≡ None → length b ≤ MAX_FILE → AreCounted (slice_set outlines g (Some b)) (bytes + length b)
+pub counted_set : (outlines : List (Option (List ℕ))) (bytes g : ℕ) (b : List ℕ) → AreCounted outlines bytes → g < length outlines → listed_outline outlines g ≡ None → length b ≤ MAX_FILE → AreCounted (slice_set outlines g (Some b)) (bytes + length b)
 counted_set outlines bytes g b ok low none small =
     record {
       few = subst (λ (n : ℕ). n < 65536) (sym (length-set outlines g (Some b))) ok.few;
@@ -156,7 +157,7 @@ small_by bytes None o e h = tt
 small_by bytes (Some x) o e h = subst (λ (o : Option (List ℕ)). IfSome o (λ b. length b ≤ MAX_FILE)) (sym e) h
 
 -- the outlines of a file written end to end
-length-outlines : (f : ℕ → Option (List ℕ)) (outlines : List (Option (List ℕ))) (k : ℕ) → ((j : ℕ) → f (k + j) ≡ outline_in outlines j) → length (concat (map (record_in f) (range_with_len k (length outlines)))) ≡ outlines_length outlines
+length-outlines : (f : ℕ → Option (List ℕ)) (outlines : List (Option (List ℕ))) (k : ℕ) → ((j : ℕ) → f (k + j) ≡ listed_outline outlines j) → length (concat (map (record_in f) (range_with_len k (length outlines)))) ≡ outlines_length outlines
 unfolding outlines_length
 length-outlines f [] k h = refl
 length-outlines f (o ∷ os) k h =
@@ -165,6 +166,6 @@ length-outlines f (o ∷ os) k h =
     let both = length-append (record_in f k) (concat (map (record_in f) (range_with_len (k + 1) (length os)))) in
     omega (arith, ap (λ (b : List ℕ). length b) first, rest, both)
 
-pub length-glyf_to : (K : Content) (outlines : List (Option (List ℕ))) → K.outline ≡ outline_in outlines → length (glyf_to K (length outlines)) ≡ outlines_length outlines
+pub length-glyf_to : (K : Content) (outlines : List (Option (List ℕ))) → K.outline ≡ listed_outline outlines → length (glyf_to K (length outlines)) ≡ outlines_length outlines
 unfolding glyf_to
 length-glyf_to K outlines e = length-outlines K.outline outlines 0 (λ j. let z : 0 + j ≡ j = omega arith in ap K.outline z ∙ (λ i. e i j))

@@ -8,7 +8,8 @@ use Rattle.font_map.specs.Runs.{AreRuns, IsNext, IsRun, NoRun, groups_from, spel
 use Rattle.font_map.specs.declared.runs.Run.{Run}
 use Rattle.font_map.proofs.MapLemmas.{united-map}
 use Rattle.font_map.proofs.RunLemmas.{canonical, groups_done, groups_from-runs}
-use Rattle.font_cut.specs.Union.{AreMapRuns, IsPast, IsPlace, run_at}
+use Rattle.font_cut.specs.Union.{AreMapRuns}
+use Rattle.font_cut.specs.Inside.{IsPast, IsPlace, run_at}
 
 -- the ends of runs ascend
 ends_above : (m : ℕ → ℕ) (low : ℕ) (runs : List Run) → AreRuns m low runs → (k : ℕ) → k < length runs → low ≤ (run_at runs k).last

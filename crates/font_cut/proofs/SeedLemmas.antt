@@ -16,7 +16,8 @@ use Rattle.font_file.specs.Font.{font_fault, map_of}
 use Rattle.font_theory.proofs.FileWantedLemmas.{is_kept-file}
 use Rattle.font_theory.proofs.FontLemmas.{IsFont-accepted, glyph_count-file}
 use Rattle.font_theory.proofs.WantedLemmas.{restricted-cases}
-use Rattle.font_cut.specs.Content.{AreMarked, AreSeedsTo, IsKeptSet, IsSeedSet}
+use Rattle.font_cut.specs.Content.{IsKeptSet}
+use Rattle.font_cut.specs.Inside.{AreMarked, AreSeedsTo, IsSeedSet}
 
 pub marked_start : (old : List Bool) (low : ℕ) → AreMarked old old low (low - low)
 marked_start old low =

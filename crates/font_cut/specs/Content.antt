@@ -1,12 +1,12 @@
 -- The glyphs that a cut keeps, as marks (OpenType 1.9, glyf, Composite Glyph Description).
-use Rattle.std.specs.Prelude.{◌≡◌, ℕ, ◌+◌, ◌<◌, ◌≤◌, ◌⊎◌, ◌↔◌, Bool, true, List, length, Option, None, Some}
+use Rattle.std.specs.Prelude.{◌≡◌, ℕ, Bool, List, length, Option, None, Some}
 use Rattle.font_map.specs.CharacterMap.{restricted}
 use Rattle.font_map.specs.Wanted.{member}
 use Rattle.font_map.specs.declared.ranges.Range.{Range}
 use Rattle.font_glyph.specs.Marks.{has}
 use Rattle.font_tables.specs.Fields.{glyph_count_of}
 use Rattle.font_file.specs.Font.{map_of}
-use Rattle.font_theory.specs.Content.{everything, font_of, is_kept, is_seed}
+use Rattle.font_theory.specs.Content.{everything, font_of, is_kept}
 
 -- the wanted codes: those in some ranges, or all
 abbrev pub codes_wanted : Option (List Range) → ℕ → Bool
@@ -17,23 +17,7 @@ codes_wanted (Some ranges) = member ranges
 abbrev pub wanted_map : List ℕ → Option (List Range) → ℕ → ℕ
 wanted_map file wanted = restricted (codes_wanted wanted) (map_of file)
 
--- n glyphs from one on are marked, beside those that were
-pub record AreMarked (old new : List Bool) (low n : ℕ) : Type 0 where
-  pub count : length new ≡ length old
-  pub marked : (g : ℕ) → has new g ≡ true ↔ ((low ≤ g) × (g < low + n)) ⊎ (has old g ≡ true)
-
--- .notdef and the glyphs of the wanted codes are marked
-pub record IsSeedSet (file : List ℕ) (wanted : ℕ → Bool) (marks : List Bool) : Type 0 where
-  pub count : length marks ≡ glyph_count_of file
-  pub seeds : (g : ℕ) → has marks g ≡ is_seed (restricted wanted (map_of file)) g
-
 -- the glyphs that a cut keeps are marked
 pub record IsKeptSet (file : List ℕ) (wanted : ℕ → Bool) (marks : List Bool) : Type 0 where
   pub count : length marks ≡ glyph_count_of file
   pub kept : (g : ℕ) → has marks g ≡ is_kept (font_of file) wanted g
-
--- .notdef and the glyphs of the codes below one are marked
-pub record AreSeedsTo (m : ℕ → ℕ) (from : ℕ) (marks : List Bool) : Type 0 where
-  pub zero : has marks 0 ≡ true
-  pub codes : (c : ℕ) → c < from → has marks (m c) ≡ true
-  pub only : (g : ℕ) → has marks g ≡ true → (g ≡ 0) ⊎ ((c : ℕ) × (m c ≡ g))

@@ -1,4 +1,4 @@
--- What a cut holds of its font, and what is answered where none is made.
+-- What a cut holds of its font, and what is answered where none is made, this project's own.
 use Rattle.std.specs.Prelude.{◌≡◌, ℕ, ◌<◌, ◌≤◌, Bool, true, false, nat_eq, ◌&&◌, List, [], length, take, Option, None}
 use Rattle.sfnt_bytes.specs.Findings.{findings_of}
 use Rattle.sfnt_bytes.specs.declared.directory.TheConstants.{MAX_FILE}
@@ -9,7 +9,7 @@ use Rattle.font_file.specs.Font.{font_fault, map_of}
 use Rattle.font_theory.specs.Bytes.{padded}
 use Rattle.font_theory.specs.Content.{content}
 use Rattle.font_theory.specs.Cut.{IsCurrent, Writes, cut, our_format}
-use Rattle.font_cut.specs.Outlet.{Sends, broken_of, written_of}
+use Rattle.font_cut.specs.Outlet.{WentOut, broken_of, written_of}
 use Rattle.font_cut.specs.declared.cut_font.CutError.{CutError}
 use Rattle.font_cut.specs.declared.cut_font.CutError.TheVariants as cut_errors
 use Rattle.font_cut.specs.declared.cut_font.CutIntoError.{CutIntoError}
@@ -43,7 +43,7 @@ abbrev pub StopsCut : {W : Type 0} → (W → Option (List ℕ)) → Outlet W �
 StopsCut contents old new cut into_errors.NoMemory = new ≡ old
 StopsCut contents old new cut (into_errors.TooLarge size) = (new ≡ old) × IsTooLarge cut size
 StopsCut contents old new cut (into_errors.WriteFault written) =
-    (length cut ≤ MAX_FILE) × (broken_of new ≡ true) × (written ≡ written_of new) × Sends contents old new (take written cut)
+    (length cut ≤ MAX_FILE) × (broken_of new ≡ true) × (written ≡ written_of new) × WentOut contents old new (take written cut)
 
 -- a cut is accepted, has no finding, has the font's metrics, maps the wanted codes as the font does and no others, and keeps the outlines of what their glyphs lead to, up to zeros behind them; and its cuts are the font's, for the codes in both sets
 pub record IsSound (file : List ℕ) (wanted : ℕ → Bool) (made : List ℕ) : Type 0 where

@@ -1,4 +1,4 @@
--- What the join of two files answers.
+-- What the join of two files answers, this project's own.
 use Rattle.std.specs.Prelude.{◌≡◌, ◌≢◌, ℕ, ◌<◌, nat_lt, not, List, [], ◌∷◌, ◌++◌, length, Option, None, Some}
 use Rattle.std.specs.Option.{option_map}
 use Rattle.sfnt_bytes.specs.Directory.{kept_tag}

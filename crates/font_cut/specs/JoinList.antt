@@ -1,15 +1,12 @@
--- What the joins of a list of files in turn answer.
+-- What the joins of a list of files in turn answer, this project's own.
 use Rattle.std.specs.Prelude.{◌≡◌, ℕ, zero, suc, ◌<◌, ◌≤◌, Bool, true, List, [], length, take, Option, None}
 use Rattle.sfnt_bytes.specs.declared.directory.TheConstants.{MAX_FILE}
 use Rattle.font_file.specs.Font.{font_fault}
-use Rattle.font_theory.specs.Content.{content, everything, font_of}
-use Rattle.font_theory.specs.Cut.{IsCut, our_format}
-use Rattle.font_theory.specs.File.{file, current_form}
+use Rattle.font_theory.specs.File.{file}
 use Rattle.font_theory.specs.Tree.{file_at, union_below}
 use Rattle.font_cut.specs.Cut.{cut_of}
 use Rattle.font_cut.specs.Join.{IsForSize, IsJoin, IsJoinRefusal}
-use Rattle.font_cut.specs.Outlet.{Sends, broken_of, written_of}
-use Rattle.font_cut.specs.Union.{Held, content_in}
+use Rattle.font_cut.specs.Outlet.{WentOut, broken_of, written_of}
 use Rattle.font_cut.specs.declared.outlet.Outlet.{Outlet}
 use Rattle.font_cut.specs.declared.join_error.JoinAllIntoError.{JoinAllIntoError}
 use Rattle.font_cut.specs.declared.join_error.JoinAllIntoError.TheVariants.{NotJoined, WriteFault}
@@ -58,30 +55,10 @@ IsForDifference (At step (DifferentMapping code)) = Unit {0}
 IsForDifference (At step (DifferentGlyph g)) = Unit {0}
 IsForDifference _ = ⊥
 
--- a union has the content of a file in cut form, which is its file
-pub record HoldsFile (u : Held) (x : List ℕ) : Type 0 where
-  pub form : IsCut our_format x
-  pub whole : content_in u ≡ content (font_of x) everything
-  pub written : x ≡ file current_form (content_in u)
-  pub small : length x ≤ MAX_FILE
-
--- a union stands after all steps, the first of which is that of the first file with itself
-pub record IsUnited (files : List (List ℕ)) (u : Held) : Type 0 where
-  pub some : 0 < length files
-  pub last : List ℕ
-  pub stands : Stands files (length files) last
-  pub holds : HoldsFile u last
-
--- a file is the first one of a list, and accepted
-pub record IsFirst (files : List (List ℕ)) (x : List ℕ) : Type 0 where
-  pub some : 0 < length files
-  pub is : x ≡ file_at files 0
-  pub accepted : font_fault x ≡ None
-
 -- z went out between two moments, and has so many bytes
 pub record IsSentAs {W : Type 0} (contents : W → Option (List ℕ)) (old new : Outlet W) (z : List ℕ) (size : ℕ) : Type 0 where
   pub size_is : size ≡ length z
-  pub sends : Sends contents old new z
+  pub sends : WentOut contents old new z
 
 -- the join of all files went out, and has so many bytes
 pub record SendsAll {W : Type 0} (contents : W → Option (List ℕ)) (old new : Outlet W) (files : List (List ℕ)) (size : ℕ) : Type 0 where
@@ -93,7 +70,7 @@ pub record SendsAll {W : Type 0} (contents : W → Option (List ℕ)) (old new :
 pub record IsCutOff {W : Type 0} (contents : W → Option (List ℕ)) (old new : Outlet W) (z : List ℕ) (written : ℕ) : Type 0 where
   pub broken : broken_of new ≡ true
   pub count : written ≡ written_of new
-  pub front : Sends contents old new (take written z)
+  pub front : WentOut contents old new (take written z)
 
 -- why the join of a list of files was not sent, and what was: nothing before a write failed, and else a front of it
 abbrev pub StopsJoin : {W : Type 0} → (W → Option (List ℕ)) → Outlet W → Outlet W → List (List ℕ) → JoinAllIntoError → Type 0

@@ -1,4 +1,4 @@
--- The texts and numbers of what refuses a join.
+-- The texts and numbers of what refuses a join, this project's own.
 use Rattle.std.specs.Prelude.{ℕ, List, codes}
 use Rattle.font_file.specs.Text as font
 use Rattle.font_cut.specs.declared.join_error.JoinAllError.{JoinAllError}

@@ -1,4 +1,4 @@
--- What a clause reads of an `Outlet`.
+-- What a clause reads of an `Outlet`, this project's own.
 use Rattle.std.specs.Prelude.{◌≡◌, ℕ, ◌+◌, Bool, ◌&&◌, List, ◌++◌, length, ◌==◌, not, Option, IsSomeAnd, codes, decimal}
 use Rattle.std.specs.Io.KnownBytes.{Appends}
 use Rattle.font_cut.specs.declared.outlet.Outlet.{Outlet}
@@ -26,7 +26,7 @@ HasSent contents outlet bs =
     IsSomeAnd (contents (writer_of outlet)) (λ xs. (front : List ℕ) × (xs ≡ front ++ bs) × (length bs ≡ written_of outlet))
 
 -- bs went out between two moments, and nothing before them changed
-pub record Sends {W : Type 0} (contents : W → Option (List ℕ)) (old new : Outlet W) (bs : List ℕ) : Type 0 where
+pub record WentOut {W : Type 0} (contents : W → Option (List ℕ)) (old new : Outlet W) (bs : List ℕ) : Type 0 where
   pub appends : Appends (contents (writer_of old)) (contents (writer_of new)) bs
   pub counts : written_of new ≡ written_of old + length bs
 

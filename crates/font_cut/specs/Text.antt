@@ -1,4 +1,4 @@
--- The numbers of refusals.
+-- The numbers of refusals, this project's own.
 use Rattle.std.specs.Prelude.{ℕ}
 use Rattle.font_cut.specs.declared.cut_font.CutError.{CutError}
 use Rattle.font_cut.specs.declared.cut_font.CutError.TheVariants as cut_errors

@@ -4,7 +4,7 @@ ghost use Rattle.std.specs.Prelude.{◌≡◌, ◌≤◌, length, false, true, I
 ghost use Rattle.sfnt_bytes.specs.declared.directory.TheConstants.{MAX_FILE};
 ghost use Rattle.font_map.specs.Wanted.{member};
 ghost use Rattle.font_cut.specs.Cut.{IsCutRefusal, IsSound, IsWritten, StopsCut, cut_of};
-ghost use Rattle.font_cut.specs.Outlet.{HasSent, Sends, broken_of, fresh_of, writer_of};
+ghost use Rattle.font_cut.specs.Outlet.{HasSent, WentOut, broken_of, fresh_of, writer_of};
 ghost use Rattle.font_cut.specs.declared.cut_font.CutError.TheVariants.{NoMemory as CutNoMemory};
 ghost use Rattle.font_cut.specs.declared.cut_font.CutIntoError.TheVariants.{NoMemory as IntoNoMemory};
 ghost use Rattle.font_cut.specs.Text.{cut_error_number, cut_into_error_number};
@@ -119,7 +119,7 @@ pub fn cut<A: Allocator + Copy>(
     cut_exactly(alloc, font, wanted)
 }
 
-// Sends the cut, or answers the refusal that applies.
+// WentOut the cut, or answers the refusal that applies.
 #[tactic(auto, using(crate::proofs::CutLemmas::cut_of_is))]
 fn cut_into_exactly<W: Write, A: Allocator + Copy>(
     alloc: A,
@@ -130,7 +130,7 @@ fn cut_into_exactly<W: Write, A: Allocator + Copy>(
     requires { fresh_of out.old ≡ true }
     ensures size { IfOk result (λ size. size ≡ length (cut_of font.now (member wanted.now))) }
     ensures small { OnOk result (length (cut_of font.now (member wanted.now)) ≤ MAX_FILE) }
-    ensures sends { OnOk result (Sends W.contents out.old out.new (cut_of font.now (member wanted.now))) }
+    ensures sends { OnOk result (WentOut W.contents out.old out.new (cut_of font.now (member wanted.now))) }
     ensures unbroken { OnOk result (broken_of out.new ≡ false) }
     ensures stops { IfErr result (StopsCut W.contents out.old out.new (cut_of font.now (member wanted.now))) }
 {
@@ -138,7 +138,7 @@ fn cut_into_exactly<W: Write, A: Allocator + Copy>(
     send_whole(&source, out)
 }
 
-/// Sends the cut of a font for the wanted codes, and answers how many bytes it has. All memory is
+/// WentOut the cut of a font for the wanted codes, and answers how many bytes it has. All memory is
 /// asked for before the first write: that for the glyphs that it keeps, and none for the cut itself.
 /// The cut is sent in short pieces, so a writer that costs something at each call should gather them.
 ///
@@ -157,7 +157,7 @@ pub fn cut_into<W: Write, A: Allocator + Copy>(
     ensures small { OnOk result (length (cut_of font.now (member wanted.now)) ≤ MAX_FILE) }
     ensures sent { OnOk result (IsSome (W.contents (writer_of out.old)) →
         HasSent W.contents out.new (cut_of font.now (member wanted.now))) }
-    ensures sends { OnOk result (Sends W.contents out.old out.new (cut_of font.now (member wanted.now))) }
+    ensures sends { OnOk result (WentOut W.contents out.old out.new (cut_of font.now (member wanted.now))) }
     ensures unbroken { OnOk result (broken_of out.new ≡ false) }
     ensures stops { IfErr result (StopsCut W.contents out.old out.new (cut_of font.now (member wanted.now))) }
     ensures sound { OnOk result (IsSound font.now (member wanted.now) (cut_of font.now (member wanted.now))) }

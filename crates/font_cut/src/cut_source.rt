@@ -12,7 +12,8 @@ ghost use Rattle.font_map.specs.Runs.{IsRun, NoRun};
 ghost use Rattle.font_file.specs.Font.{font_fault};
 ghost use Rattle.font_theory.specs.Content.{content, everything, font_of};
 ghost use Rattle.font_theory.specs.Cut.{IsCut, is_current, our_format};
-ghost use Rattle.font_cut.specs.Content.{AreMarked, IsKeptSet, IsSeedSet, codes_wanted, wanted_map};
+ghost use Rattle.font_cut.specs.Content.{IsKeptSet, codes_wanted, wanted_map};
+ghost use Rattle.font_cut.specs.Inside.{AreMarked, IsSeedSet};
 
 use crate::emit::is_whole;
 use font_file::Font;

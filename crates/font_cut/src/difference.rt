@@ -8,7 +8,7 @@ ghost use Rattle.font_theory.specs.Content.{CODES};
 ghost use Rattle.font_theory.specs.Difference.{is_different_code, is_different_table};
 ghost use Rattle.sfnt_bytes.specs.Directory.{kept_tag};
 ghost use Rattle.font_cut.specs.Join.{different};
-ghost use Rattle.font_cut.specs.Union.{early_difference};
+ghost use Rattle.font_cut.specs.Inside.{early_difference};
 
 use crate::join_error::JoinError;
 use font_theory::Difference;
@@ -86,7 +86,7 @@ fn different_code<K: Source, L: Source>(k: &K, l: &L) -> Option<u32>
 }
 
 /// The first table or code that tells two contents apart.
-#[tactic(auto, unfolding(crate::specs::Union::early_difference))]
+#[tactic(auto, unfolding(crate::specs::Inside::early_difference))]
 pub(crate) fn early_difference<K: Source, L: Source>(k: &K, l: &L) -> Option<Difference>
     ensures { result ≡ early_difference (K.content_of k.now) (L.content_of l.now) }
 {

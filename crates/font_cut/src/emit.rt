@@ -4,10 +4,10 @@ ghost use Rattle.std.specs.Prelude.{◌≡◌, ◌≢◌, ◌≤◌, length, fal
 ghost use Rattle.sfnt_bytes.specs.declared.directory.TheConstants.{MAX_FILE};
 ghost use Rattle.font_theory.specs.File.{file, current_form};
 ghost use Rattle.font_cut.specs.Cut.{IsCutRefusal, IsTooLarge, IsWritten, StopsCut};
-ghost use Rattle.font_cut.specs.Written.{IsMeasured};
+ghost use Rattle.font_cut.specs.Inside.{IsMeasured};
 ghost use Rattle.font_cut.specs.declared.cut_font.CutError.TheVariants.{NoMemory as CutNoMemory};
 ghost use Rattle.font_cut.specs.declared.cut_font.CutIntoError.TheVariants.{NoMemory as IntoNoMemory};
-ghost use Rattle.font_cut.specs.Outlet.{Sends, broken_of, fresh_of};
+ghost use Rattle.font_cut.specs.Outlet.{WentOut, broken_of, fresh_of};
 
 use crate::cut_font::{CutError, CutIntoError};
 use crate::outlet::Outlet;
@@ -50,7 +50,7 @@ pub(crate) fn file_in_memory<S: Source, A: Allocator + Copy>(
     }
 }
 
-/// Sends the file of a content, and answers its length. It asks for no memory.
+/// WentOut the file of a content, and answers its length. It asks for no memory.
 pub(crate) fn send_whole<S: Source, W: Write>(
     source: &S,
     out: &mut Outlet<W>,
@@ -58,7 +58,7 @@ pub(crate) fn send_whole<S: Source, W: Write>(
     requires { fresh_of out.old ≡ true }
     ensures size { IfOk result (λ size. size ≡ length (file current_form (S.content_of source.now))) }
     ensures small { OnOk result (length (file current_form (S.content_of source.now)) ≤ MAX_FILE) }
-    ensures sends { OnOk result (Sends W.contents out.old out.new
+    ensures sends { OnOk result (WentOut W.contents out.old out.new
         (file current_form (S.content_of source.now))) }
     ensures unbroken { OnOk result (broken_of out.new ≡ false) }
     ensures stops { IfErr result (StopsCut W.contents out.old out.new

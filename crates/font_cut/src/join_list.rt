@@ -7,7 +7,8 @@ ghost use Rattle.font_theory.specs.Tree.{Differs, IsOver, IsSmall, JoinTree, Val
 ghost use Rattle.font_cut.specs.Cut.{cut_of};
 ghost use Rattle.font_cut.specs.Outlet.{HasSent, broken_of, fresh_of, writer_of};
 ghost use Rattle.font_cut.specs.Join.{IsJoin, IsJoinRefusal};
-ghost use Rattle.font_cut.specs.JoinList.{AreCuts, HoldsFile, IsAllJoined, IsAllRefusal, IsFirst, IsForDifference, IsForSizeInto, IsForSizeOf, IsSentAs, IsUnited, SendsAll, StopsJoin};
+ghost use Rattle.font_cut.specs.JoinList.{AreCuts, IsAllJoined, IsAllRefusal, IsForDifference, IsForSizeInto, IsForSizeOf, IsSentAs, SendsAll, StopsJoin};
+ghost use Rattle.font_cut.specs.Inside.{HoldsFile, IsFirst, IsUnited};
 ghost use Rattle.font_cut.specs.declared.join_error.JoinAllIntoError.TheVariants.{NotJoined};
 
 use crate::cut_source::accepted;

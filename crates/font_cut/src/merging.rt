@@ -2,7 +2,8 @@
 ghost use Rattle.std.specs.Prelude.{◌≡◌, ◌+◌, ◌≤◌, ℕ, length, IfOk, MatchOption};
 ghost use Rattle.font_map.specs.CharacterMap.{IsCharacterMap, united};
 ghost use Rattle.font_map.specs.Runs.{IsNext, IsPiece, IsRun, NoRun, spelled};
-ghost use Rattle.font_cut.specs.Union.{AreMapRuns, IsPast, IsPlace};
+ghost use Rattle.font_cut.specs.Union.{AreMapRuns};
+ghost use Rattle.font_cut.specs.Inside.{IsPast, IsPlace};
 
 use font_map::Run;
 use font_write::Source;

@@ -1,6 +1,6 @@
 //! A writer that counts the bytes it took, and stays broken after its first failure.
 ghost use Rattle.std.specs.Prelude.{◌≡◌, ℕ, ◌++◌, List, IsSome, ◌+◌, ◌-◌, ◌^◌, ◌<◌, [], take, false, true, length, IfErr, OnErr, OnOk, Some};
-ghost use Rattle.font_cut.specs.Outlet.{HasSent, Sends, broken_of, write_fault_text, fresh_of, writer_of, written_of};
+ghost use Rattle.font_cut.specs.Outlet.{HasSent, WentOut, broken_of, write_fault_text, fresh_of, writer_of, written_of};
 
 use font_write::{Sink, Stopped};
 use std::error::Error;
@@ -77,7 +77,7 @@ impl<W: Write> Outlet<W> {
         self.written == 0 && !self.broken
     }
 
-    /// Sends all of `bytes`. An interrupted write is a failed one, and is not tried again.
+    /// WentOut all of `bytes`. An interrupted write is a failed one, and is not tried again.
     ///
     /// # Errors
     /// `WriteFault` where a write fails, or takes none of the bytes that are left. What went out is a
@@ -86,7 +86,7 @@ impl<W: Write> Outlet<W> {
         requires whole { broken_of self.old ≡ false }
         requires fits { written_of self.old + length bytes.now < 2 ^ 64 }
 
-        ensures ok { OnOk result (Sends W.contents self.old self.new bytes.now) }
+        ensures ok { OnOk result (WentOut W.contents self.old self.new bytes.now) }
         ensures sent { OnOk result ((bs : List ℕ) → HasSent W.contents self.old bs →
             HasSent W.contents self.new (bs ++ bytes.now)) }
         ensures unbroken { OnOk result (broken_of self.new ≡ false) }
@@ -95,7 +95,7 @@ impl<W: Write> Outlet<W> {
         ensures broken { OnErr result (broken_of self.new ≡ true) }
         ensures count { IfErr result (λ fault. fault.written ≡ written_of self.new) }
         ensures short { OnErr result (written_of self.new < written_of self.old + length bytes.now) }
-        ensures prefix { OnErr result (Sends W.contents self.old self.new
+        ensures prefix { OnErr result (WentOut W.contents self.old self.new
             (take (written_of self.new - written_of self.old) bytes.now)) }
     {
         let mut at = 0;
@@ -122,7 +122,7 @@ impl<W: Write> Outlet<W> {
     /// `WriteFault` where the flush fails; the outlet is broken.
     pub fn finish(&mut self) -> Result<(), WriteFault>
         requires { broken_of self.old ≡ false }
-        ensures sends { Sends W.contents self.old self.new [] }
+        ensures sends { WentOut W.contents self.old self.new [] }
         ensures unbroken { OnOk result (broken_of self.new ≡ false) }
         ensures broken { OnErr result (broken_of self.new ≡ true) }
         ensures count { IfErr result (λ fault. fault.written ≡ written_of self.new) }

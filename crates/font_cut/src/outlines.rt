@@ -5,7 +5,8 @@ ghost use Rattle.sfnt_bytes.specs.declared.directory.TheConstants.{MAX_FILE};
 ghost use Rattle.font_glyph.specs.Union.{union_of};
 ghost use Rattle.font_theory.specs.Content.{content, everything, font_of};
 ghost use Rattle.font_theory.specs.Cut.{IsCut, our_format};
-ghost use Rattle.font_cut.specs.Union.{AreCounted, AreTaken, is_other, outline_in};
+ghost use Rattle.font_cut.specs.Union.{AreCounted, is_other, listed_outline};
+ghost use Rattle.font_cut.specs.Inside.{AreTaken};
 
 use crate::difference::is_same;
 use crate::listed::Listed;
@@ -36,7 +37,7 @@ impl<'a, A: Allocator + Copy> Outlines<'a, A> {
     /// None, for glyphs below `count`.
     pub(crate) fn new(alloc: A, count: u16) -> Result<Outlines<'a, A>, NoMemory>
         ensures count { IfOk result (λ outlines. length outlines ≡ count) }
-        ensures none { IfOk result (λ outlines. (g : ℕ) → outline_in outlines g ≡ None) }
+        ensures none { IfOk result (λ outlines. (g : ℕ) → listed_outline outlines g ≡ None) }
     {
         let outlines = vec![in alloc; None; count as usize].map_err(|_| NoMemory)?;
         Ok(Outlines { outlines, bytes: 0 })
@@ -47,7 +48,7 @@ impl<'a, A: Allocator> Outlines<'a, A> {
     // What was kept at the place of a glyph.
     fn kept_at(&self, g: u16) -> Option<&'a [u8]>
         requires { g < length self.now }
-        ensures { option_copied result ≡ outline_in self.now g }
+        ensures { option_copied result ≡ listed_outline self.now g }
     {
         self.outlines[g as usize]
     }
@@ -55,7 +56,7 @@ impl<'a, A: Allocator> Outlines<'a, A> {
     /// The outline of a glyph.
     pub(crate) fn at(&self, g: u16) -> Option<&'a [u8]>
         requires { g < length self.now }
-        ensures outline { option_copied result ≡ outline_in self.now g }
+        ensures outline { option_copied result ≡ listed_outline self.now g }
         ensures small { MatchOption result Unit (λ b. length b.now ≤ MAX_FILE) }
     {
         // None of those that are counted is too large.
@@ -73,7 +74,7 @@ impl<'a, A: Allocator> Outlines<'a, A> {
     // Sets the outline of a glyph that has none.
     fn set(&mut self, g: u16, outline: &'a [u8])
         requires within { g < length self.old }
-        requires none { outline_in self.old g ≡ None }
+        requires none { listed_outline self.old g ≡ None }
         requires small { length outline.now ≤ MAX_FILE }
         ensures { self.new ≡ slice_set self.old g (Some outline.now) }
     {
@@ -85,12 +86,12 @@ impl<'a, A: Allocator> Outlines<'a, A> {
     fn take_one<B: Allocator>(&mut self, file: &Listed<'_, 'a, B>, g: u16) -> bool
         requires form { IsCut our_format file.now }
         requires within { g < length self.old }
-        ensures differs { result ≡ is_other (outline_in self.old)
+        ensures differs { result ≡ is_other (listed_outline self.old)
             (content (font_of file.now) everything).outline g }
         ensures count { length self.new ≡ length self.old }
-        ensures taken { outline_in self.new g ≡ union_of (outline_in self.old)
+        ensures taken { listed_outline self.new g ≡ union_of (listed_outline self.old)
             (content (font_of file.now) everything).outline g }
-        ensures others { (h : ℕ) → h ≢ g → outline_in self.new h ≡ outline_in self.old h }
+        ensures others { (h : ℕ) → h ≢ g → listed_outline self.new h ≡ listed_outline self.old h }
     {
         let Some(outline) = file.written_outline(g) else {
             return false;
@@ -107,7 +108,7 @@ impl<'a, A: Allocator> Outlines<'a, A> {
     pub(crate) fn take<B: Allocator>(&mut self, file: &Listed<'_, 'a, B>, count: u16) -> Option<u16>
         requires form { IsCut our_format file.now }
         requires count { length self.old ≡ count }
-        ensures differs { result ≡ find (is_other (outline_in self.old)
+        ensures differs { result ≡ find (is_other (listed_outline self.old)
             (content (font_of file.now) everything).outline) (range_with_len 0 count) }
         ensures taken { result ≡ None → AreTaken self.old self.new
             (content (font_of file.now) everything).outline count }

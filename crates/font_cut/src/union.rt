@@ -8,7 +8,8 @@ ghost use Rattle.font_theory.specs.Content.{content, everything, font_of};
 ghost use Rattle.font_theory.specs.Cut.{IsCut, our_format};
 ghost use Rattle.font_theory.specs.File.{current_form, file};
 ghost use Rattle.font_theory.specs.Join.{both};
-ghost use Rattle.font_cut.specs.Union.{AgreesEarly, IsAddRefusal, IsFirstRefusal, IsUnion, add_fault, content_in};
+ghost use Rattle.font_cut.specs.Union.{IsUnion, content_in};
+ghost use Rattle.font_cut.specs.Inside.{AgreesEarly, IsAddRefusal, IsFirstRefusal, add_fault};
 
 use crate::cut_source::{accepted, copied, head};
 use crate::difference::{early_difference, refusal_of};

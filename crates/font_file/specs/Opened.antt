@@ -4,6 +4,6 @@ use Rattle.font_tables.specs.Fields.{glyph_count_of}
 use Rattle.font_file.specs.Font.{cmap_of, font_fault}
 
 -- the file is accepted, and the mapping is that of its `cmap` to its glyphs
-pub record IsOpened (file : List ℕ) (mapping : List ℕ × ℕ) : Type 0 where
+pub record IsOpenedFont (file : List ℕ) (mapping : List ℕ × ℕ) : Type 0 where
   pub accepted : font_fault file ≡ None
   pub mapping_is : mapping ≡ (cmap_of file, glyph_count_of file)

@@ -61,13 +61,13 @@ pub struct Font<'a> {
 
 impl<'a> Model for Font<'a> {
     ghost use Rattle.std.specs.Prelude.{ℕ, List};
-    ghost use Rattle.font_file.specs.Opened.{IsOpened};
+    ghost use Rattle.font_file.specs.Opened.{IsOpenedFont};
 
     ghost Value = { List ℕ };
 
     ghost view = { λ f. f.tables };
 
-    ghost invariant = { λ f. IsOpened f.tables f.mapping };
+    ghost invariant = { λ f. IsOpenedFont f.tables f.mapping };
 }
 
 impl<'a> Font<'a> {

@@ -1,4 +1,4 @@
--- What a visit of some glyphs does to marks and to the work.
+-- What a visit of some glyphs does to marks and to the work, this project's own.
 use Rattle.std.specs.Prelude.{ℕ, Bool, true, List, [], ◌∷◌, ◌++◌, slice_set, if◌then◌else◌}
 use Rattle.font_glyph.specs.Marks.{has}
 

@@ -1,4 +1,4 @@
--- The laws, each of them the contract of a function.
+-- Laws of closures, this project's own, each of them the contract of a function.
 use Rattle.std.specs.Prelude.{◌≡◌, ℕ, ◌<◌, ◌≤◌, ◌↔◌, Bool, true, List, ◌++◌, length, Some}
 use Rattle.font_glyph.specs.Record.{ComponentList, components_of}
 use Rattle.font_glyph.specs.Reach.{IsClosed, IsComponentOf, Reach, reached}

@@ -1,4 +1,4 @@
--- A set of glyphs below a count, as the list of answers.
+-- A set of glyphs below a count, as the list of answers, this project's own.
 use Rattle.std.specs.Prelude.{ℕ, Bool, false, List, slice_index_or}
 
 -- the glyph is marked

@@ -1,4 +1,4 @@
--- What chains of components reach.
+-- What chains of components reach (OpenType 1.9, glyf, Composite Glyph Description).
 use Rattle.std.specs.Prelude.{◌≡◌, ℕ, zero, suc, Bool, true, false, nat_eq, ◌&&◌, ◌||◌, List, [], Contains}
 use Rattle.std.specs.List.{list_any}
 use Rattle.std.specs.Option.{unwrap_or}

@@ -1,4 +1,4 @@
--- The text and the number of a refusal.
+-- The text and the number of a refusal, this project's own.
 use Rattle.std.specs.Prelude.{ℕ, List, codes}
 
 -- the text of a record that is refused

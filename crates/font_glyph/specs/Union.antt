@@ -1,4 +1,4 @@
--- Maps from numbers to records, and their unions.
+-- Maps from numbers to records, and their unions, this project's own.
 use Rattle.std.specs.Prelude.{◌≡◌, ℕ, Bool, true, List, [], Option, Some, IsSome}
 use Rattle.std.specs.Option.{option_or, unwrap_or}
 use Rattle.font_glyph.specs.Reach.{IsComponentOf}

@@ -3,8 +3,8 @@ use Rattle.std.proofs.Common.{◌≡◌, ℕ, zero, suc, ◌+◌, ◌-◌, ◌<�
 use Rattle.std.proofs.lemmas.List.{drop_more, take_more, drop_all}
 use Rattle.std.proofs.lemmas.Bool.{cases_lt}
 use Rattle.std.proofs.lemmas.Bool.Decides.{nat_tests}
-use Rattle.font_map.specs.Order.{IsPlace}
-use Rattle.font_map.specs.Wanted.{AreSeparate, absorbed, codes_between, either, hull, member, range_end, with_range}
+use Rattle.font_map.specs.Inside.{IsPlace, absorbed, hull, range_end, with_range}
+use Rattle.font_map.specs.Wanted.{AreSeparate, codes_between, either, member}
 use Rattle.font_map.specs.declared.ranges.Range.{Range}
 use Rattle.font_map.proofs.RangeLemmas.{range_nth}
 

@@ -2,8 +2,8 @@
 use Rattle.std.proofs.Common.{◌≡◌, ℕ, zero, suc, ◌+◌, ◌<◌, ◌≤◌, ◌⊎◌, ◌||◌, Bool, true, false, List, [], ◌∷◌, length, get_or, max, ap, subst, ◌∙◌, refl, arith, inl, inr}
 use Rattle.std.proofs.lemmas.Bool.{cases_lt}
 use Rattle.std.proofs.lemmas.Bool.Decides.{nat_tests}
-use Rattle.font_map.specs.Order.{IsPlace}
-use Rattle.font_map.specs.Wanted.{AreSeparate, IsRow, NoRow, codes_between, member, range_end}
+use Rattle.font_map.specs.Inside.{IsPlace, IsRow, NoRow, range_end}
+use Rattle.font_map.specs.Wanted.{AreSeparate, codes_between, member}
 use Rattle.font_map.specs.declared.ranges.Range.{Range}
 use Rattle.font_map.proofs.OrderLemmas.{Ascends}
 

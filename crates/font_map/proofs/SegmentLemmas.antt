@@ -6,9 +6,9 @@ use Rattle.std.proofs.lemmas.List.{drop_more, drop_all}
 use Rattle.std.proofs.lemmas.List.FromFn.{length-map-range_with_len, get_or-map-range_with_len}
 use Rattle.std.specs.Option.{option_map_or}
 use Rattle.font_map.specs.CharacterMap.{IsUnmapped, clipped}
-use Rattle.font_map.specs.Order.{IsPlace}
+use Rattle.font_map.specs.Inside.{IsPlace, glyph_by_delta, glyph_of_segment, segment_end, segment_nth}
 use Rattle.font_map.specs.Runs.{IsPiece, NoRun}
-use Rattle.font_map.specs.Format4.{HasOrderedSegments, glyph_by, glyph_by_delta, glyph_of_segment, reaches, segment_count, segment_end, segment_glyph, segment_in, segment_nth, segments_of}
+use Rattle.font_map.specs.Format4.{HasOrderedSegments, glyph_by, reaches, segment_count, segment_glyph, segment_in, segments_of}
 use Rattle.font_map.specs.declared.format4.Segment.{Segment}
 use Rattle.font_map.specs.declared.runs.Run.{Run}
 use Rattle.font_map.proofs.PieceLemmas.{clipped_none}

@@ -10,7 +10,7 @@ use Rattle.std.proofs.Math.ListN.{get_or-append}
 use Rattle.std.proofs.Math.Seq.{drop-append-add}
 use Rattle.std.proofs.lemmas.List.Sums.{AllPass-from_list_all, position_or_len_is}
 use Rattle.std.proofs.lemmas.Str.Pattern.{IsSplitOnceResult, split_after, split_parts}
-use Rattle.font_map.specs.Word.{IsWord, OneRangeOfWord, Writes, WritesCodes, is_hexadecimal}
+use Rattle.font_map.specs.Word.{IsWord, OneRangeOfWord, SpellsCode, WritesCodes, is_hexadecimal}
 
 -- the digits before a place are read
 pub record Reads (digits : List ℕ) (i code : ℕ) : Type 0 where
@@ -51,7 +51,7 @@ reads_on ds i code c digit l few e d small h =
     }
 
 -- a digit that is none
-pub reads_fail : (ds : List ℕ) (i code c n : ℕ) → i < length ds → c ≡ get_or ds i 0 → (digit_value c < 16 → ⊥) → Reads ds i code → Writes ds n → ⊥
+pub reads_fail : (ds : List ℕ) (i code c n : ℕ) → i < length ds → c ≡ get_or ds i 0 → (digit_value c < 16 → ⊥) → Reads ds i code → SpellsCode ds n → ⊥
 reads_fail ds i code c n l e none h w =
     let first : drop i ds ≡ c ∷ drop (i + 1) ds = drop_more ds i 0 l ∙ ap (λ (x : ℕ). x ∷ drop (i + 1) ds) (sym e) in
     let no : is_hexadecimal c ≡ false = grind (arith, nat_tests) in
@@ -59,7 +59,7 @@ reads_fail ds i code c n l e none h w =
     cc
 
 -- no hexadecimal digit is a `-`
-no_dash : (ds : List ℕ) (n : ℕ) → Writes ds n → (i : ℕ) → i < length ds → get_or ds i 0 ≢ 45
+no_dash : (ds : List ℕ) (n : ℕ) → SpellsCode ds n → (i : ℕ) → i < length ds → get_or ds i 0 ≢ 45
 no_dash ds n w i l e =
     let yes : is_hexadecimal (get_or ds i 0) ≡ true = AllPass-from_list_all is_hexadecimal ds w.hexadecimal i 0 l in
     let all : false ≡ true = ap is_hexadecimal (sym e) ∙ yes in
@@ -69,13 +69,13 @@ dash_at : (xs ys : List ℕ) → get_or (xs ++ 45 ∷ ys) (length xs) 0 ≡ 45
 dash_at [] ys = refl
 dash_at (x ∷ xs) ys = dash_at xs ys
 
-dash_in : (ds front back : List ℕ) (n : ℕ) → ds ≡ front ++ 45 ∷ back → Writes ds n → ⊥
+dash_in : (ds front back : List ℕ) (n : ℕ) → ds ≡ front ++ 45 ∷ back → SpellsCode ds n → ⊥
 dash_in ds front back n e w =
     no_dash ds n w (length front) (omega (arith, ap length e, length-append front (45 ∷ back))) (ap (λ (t : List ℕ). get_or t (length front) 0) e ∙ dash_at front back)
 
 -- text that is split at a `-` writes its codes by its parts
 abbrev OfParts : Option (Bor (List ℕ) × Bor (List ℕ)) → List ℕ → ℕ → ℕ → Type 0
-OfParts parts text first last = MatchOption parts (Writes text first × (first ≡ last)) (λ p. Writes p.0.now first × Writes p.1.now last)
+OfParts parts text first last = MatchOption parts (SpellsCode text first × (first ≡ last)) (λ p. SpellsCode p.0.now first × SpellsCode p.1.now last)
 
 pub split_codes : (text : List ℕ) (parts : Option (Bor (List ℕ) × Bor (List ℕ))) (first last : ℕ) → IsSplitOnceResult 45 text parts → WritesCodes text first last → OfParts parts text first last
 split_codes text None first last split (inl one) = one
@@ -83,7 +83,7 @@ split_codes text None first last split (inr two) = absurd (split_after 45 text t
 split_codes text (Some p) first last split (inl one) = absurd (dash_in text p.0.now p.1.now first (split_parts 45 text (Some p) split (lit< tt)).0 one.0)
 split_codes text (Some p) first last split (inr two) =
     let k = split_after 45 text two.front two.back (Some p) split (lit< tt) two.parts (no_dash two.front first two.first_is) in
-    (subst (λ (t : List ℕ). Writes t first) (sym k.0) two.first_is, subst (λ (t : List ℕ). Writes t last) (sym k.1) two.last_is)
+    (subst (λ (t : List ℕ). SpellsCode t first) (sym k.0) two.first_is, subst (λ (t : List ℕ). SpellsCode t last) (sym k.1) two.last_is)
 
 -- behind `U+` stands one text
 behind_same : (xs ys : List ℕ) → 85 ∷ 43 ∷ xs ≡ 85 ∷ 43 ∷ ys → xs ≡ ys
@@ -98,10 +98,10 @@ word_behind text behind first last u (inl all) = absurd (not_all text behind all
 word_behind text behind first last u (inr word) = subst (λ (t : List ℕ). WritesCodes t first last) (behind_same word.behind behind (sym word.begins ∙ u)) word.codes_are
 
 -- a word has one range
-digits_same : (ds : List ℕ) (m n : ℕ) → Writes ds m → Writes ds n → m ≡ n
+digits_same : (ds : List ℕ) (m n : ℕ) → SpellsCode ds m → SpellsCode ds n → m ≡ n
 digits_same ds m n a b = sym a.value ∙ b.value
 
-front_is : (text front back : List ℕ) (n : ℕ) → text ≡ front ++ 45 ∷ back → Writes front n → (front ≡ before_first (λ b. eqb b 45) text) × (back ≡ after_first (λ b. eqb b 45) text)
+front_is : (text front back : List ℕ) (n : ℕ) → text ≡ front ++ 45 ∷ back → SpellsCode front n → (front ≡ before_first (λ b. eqb b 45) text) × (back ≡ after_first (λ b. eqb b 45) text)
 front_is text front back n e w =
     let none : (k : ℕ) → k < length front → eqb (get_or front k 0) 45 ≡ false = λ k l. ne_eqb (get_or front k 0) 45 (no_dash front n w k l) in
     let front_all : (k : ℕ) → k < length front → eqb (get_or text k 0) 45 ≡ false = λ k l. ap (λ (t : List ℕ). eqb (get_or t k 0) 45) e ∙ (ap (λ (x : ℕ). eqb x 45) (get_or-append front (45 ∷ back) 0 k l) ∙ none k l) in
@@ -119,7 +119,7 @@ codes_same text a b c d (inr two) (inr other) =
     let there = front_is text other.front other.back c other.parts other.first_is in
     let front : two.front ≡ other.front = here.0 ∙ sym there.0 in
     let back : two.back ≡ other.back = here.1 ∙ sym there.1 in
-    (digits_same other.front a c (subst (λ (t : List ℕ). Writes t a) front two.first_is) other.first_is, digits_same other.back b d (subst (λ (t : List ℕ). Writes t b) back two.last_is) other.last_is)
+    (digits_same other.front a c (subst (λ (t : List ℕ). SpellsCode t a) front two.first_is) other.first_is, digits_same other.back b d (subst (λ (t : List ℕ). SpellsCode t b) back two.last_is) other.last_is)
 
 pub one_range : OneRangeOfWord
 one_range text a b c d (inl all) (inl other) = (all.1 ∙ sym other.1, all.2 ∙ sym other.2)

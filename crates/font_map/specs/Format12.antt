@@ -1,5 +1,5 @@
 -- A subtable of groups, given with all bytes of `cmap` behind it (OpenType 1.9, cmap, Format 12: Segmented coverage).
-use Rattle.std.specs.Prelude.{ℕ, ◌+◌, ◌-◌, ◌*◌, ◌<◌, ◌≤◌, Bool, ◌&&◌, nat_le, List, length, map, find, slice_index_or, if◌then◌else◌, Option, MatchOption}
+use Rattle.std.specs.Prelude.{ℕ, ◌+◌, ◌-◌, ◌*◌, ◌<◌, ◌≤◌, Bool, ◌&&◌, nat_le, List, length, map, find, if◌then◌else◌, Option, MatchOption}
 use Rattle.std.specs.List.{range_with_len}
 use Rattle.std.specs.Option.{option_map_or}
 use Rattle.sfnt_bytes.specs.Number.{u32_at}
@@ -22,14 +22,6 @@ group_in s i = record { first = u32_at s (16 + 12 * i); last = u32_at s (20 + 12
 -- all groups, as they are listed
 unfoldable pub groups_of : List ℕ → List ListedGroup
 groups_of s = map (group_in s) (range_with_len 0 (group_count s))
-
--- the group at a place of a list
-abbrev pub group_nth : List ListedGroup → ℕ → ListedGroup
-group_nth groups i = slice_index_or groups i (record { first = 0; last = 0; glyph = 0 })
-
--- the end of the group at a place
-abbrev pub group_end : List ℕ → ℕ → ℕ
-group_end s i = (group_nth (groups_of s) i).last
 
 -- a group has a code
 abbrev pub holds : ℕ → ListedGroup → Bool

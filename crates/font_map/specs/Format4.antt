@@ -1,5 +1,5 @@
 -- A subtable of segments, given with all bytes of `cmap` behind it (OpenType 1.9, cmap, Format 4: Segment mapping to delta values).
-use Rattle.std.specs.Prelude.{ℕ, ◌+◌, ◌-◌, ◌*◌, ◌/◌, ◌%◌, ◌≤◌, Bool, ◌&&◌, nat_le, nat_lt, nat_eq, List, length, map, find, slice_index_or, if◌then◌else◌}
+use Rattle.std.specs.Prelude.{ℕ, ◌+◌, ◌-◌, ◌*◌, ◌/◌, ◌%◌, ◌≤◌, Bool, nat_le, nat_lt, nat_eq, List, length, map, find, if◌then◌else◌}
 use Rattle.std.specs.List.{range_with_len}
 use Rattle.std.specs.Option.{option_map_or}
 use Rattle.sfnt_bytes.specs.Number.{u16_at}
@@ -29,14 +29,6 @@ segment_in s i = let n = segment_count s in
 unfoldable pub segments_of : List ℕ → List Segment
 segments_of s = map (segment_in s) (range_with_len 0 (segment_count s))
 
--- the segment at a place of a list
-abbrev pub segment_nth : List Segment → ℕ → Segment
-segment_nth segments i = slice_index_or segments i (record { first = 0; last = 0; delta = 0; offset = 0; place = 0 })
-
--- the end of the segment at a place
-abbrev pub segment_end : List ℕ → ℕ → ℕ
-segment_end s i = (segment_nth (segments_of s) i).last
-
 -- a segment ends at a code or above it
 abbrev pub reaches : ℕ → Segment → Bool
 reaches c segment = nat_le c segment.last
@@ -57,14 +49,6 @@ glyph_by s segment c =
 -- the glyph of a code by the first listed segment that ends at the code or above it; 0 where none does, and above 0xFFFF
 unfoldable pub segment_glyph : List ℕ → ℕ → ℕ
 segment_glyph s c = if nat_lt 0xFFFF c then 0 else option_map_or (λ segment. glyph_by s segment c) (find (reaches c) (segments_of s)) 0
-
--- the glyph of a code by one segment alone
-abbrev pub glyph_of_segment : List ℕ → Segment → ℕ → ℕ
-glyph_of_segment s segment c = if reaches c segment then glyph_by s segment c else 0
-
--- the glyph of a code by the delta of one segment alone
-abbrev pub glyph_by_delta : Segment → ℕ → ℕ
-glyph_by_delta segment c = if nat_le segment.first c && nat_le c segment.last then (c + segment.delta) % 65536 else 0
 
 -- the segments lie strictly above one another
 abbrev pub HasOrderedSegments : List ℕ → Type 0

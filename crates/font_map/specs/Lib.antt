@@ -1,7 +1,8 @@
 pub mod CharacterMap
 pub mod Cmap
-pub mod Format4
 pub mod Format12
+pub mod Format4
+pub mod Inside
 pub mod LaidOut
 pub mod Mapping
 pub mod Order

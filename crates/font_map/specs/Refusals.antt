@@ -1,4 +1,4 @@
--- Why a `cmap` is refused: the lines in their order, each with its condition.
+-- Why a `cmap` is refused, this project's own: the lines in their order, each with its condition.
 use Rattle.std.specs.Prelude.{Bool, false, List, [], ◌∷◌, ℕ, is_none, Option}
 use Rattle.std.specs.Option.{option_map_or}
 use Rattle.sfnt_bytes.specs.Lines.{when, first_of_lines}

@@ -1,4 +1,4 @@
--- The texts and numbers of refusals.
+-- The texts and numbers of refusals, this project's own.
 use Rattle.std.specs.Prelude.{ℕ, List, codes}
 use Rattle.font_map.specs.declared.mapping.MapError.{MapError}
 use Rattle.font_map.specs.declared.mapping.MapError.TheVariants.{NoMapping, BadCmap}

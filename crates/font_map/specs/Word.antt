@@ -1,4 +1,4 @@
--- Words: ranges of codes as text.
+-- Words, this project's own: ranges of codes as text.
 use Rattle.std.specs.Prelude.{◌≡◌, ℕ, ◌≤◌, ◌⊎◌, nat_lt, true, Bool, List, ◌++◌, length, codes}
 use Rattle.std.specs.Char.{digit_value}
 use Rattle.std.specs.List.{list_all}
@@ -12,7 +12,7 @@ abbrev pub is_hexadecimal : ℕ → Bool
 is_hexadecimal c = nat_lt (digit_value c) 16
 
 -- 1 to 6 hexadecimal digits write a code
-pub record Writes (digits : List ℕ) (code : ℕ) : Type 0 where
+pub record SpellsCode (digits : List ℕ) (code : ℕ) : Type 0 where
   pub some : 1 ≤ length digits
   pub few : length digits ≤ 6
   pub hexadecimal : list_all is_hexadecimal digits ≡ true
@@ -23,12 +23,12 @@ pub record WritesTwo (text : List ℕ) (first last : ℕ) : Type 0 where
   pub front : List ℕ
   pub back : List ℕ
   pub parts : text ≡ front ++ (codes "-" ++ back)
-  pub first_is : Writes front first
-  pub last_is : Writes back last
+  pub first_is : SpellsCode front first
+  pub last_is : SpellsCode back last
 
 -- one code, or two
 abbrev pub WritesCodes : List ℕ → ℕ → ℕ → Type 0
-WritesCodes text first last = (Writes text first × (first ≡ last)) ⊎ WritesTwo text first last
+WritesCodes text first last = (SpellsCode text first × (first ≡ last)) ⊎ WritesTwo text first last
 
 -- `U+` and codes
 pub record IsCodeWord (text : List ℕ) (first last : ℕ) : Type 0 where

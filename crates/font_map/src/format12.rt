@@ -3,8 +3,8 @@
 //! A subtable `s` is given with all bytes of `cmap` behind it.
 ghost use Rattle.std.specs.Prelude.{◌≡◌, ◌+◌, ◌*◌, ◌<◌, ◌≤◌, ◌^◌, ◌↔◌, IsTrue, IfSome, MatchOption, drop, find, length, [], ◌∷◌};
 ghost use Rattle.font_map.specs.CharacterMap.{IsUnmapped, clipped};
-ghost use Rattle.font_map.specs.Format12.{Decides, HasGroups, HasOrderedGroups, glyph_along, glyph_of_group, group_count, group_end, group_glyph, group_in, group_nth, groups_of, holds};
-ghost use Rattle.font_map.specs.Order.{IsPlace};
+ghost use Rattle.font_map.specs.Format12.{Decides, HasGroups, HasOrderedGroups, glyph_along, glyph_of_group, group_count, group_glyph, group_in, groups_of, holds};
+ghost use Rattle.font_map.specs.Inside.{IsPlace, group_end, group_nth};
 ghost use Rattle.font_map.specs.Runs.{IsNext, IsPiece, NoRun};
 
 use crate::runs::Run;

@@ -1,7 +1,7 @@
 //! Sorted ranges of codes, that neither overlap nor touch.
 ghost use Rattle.std.specs.Prelude.{◌≡◌, ◌+◌, ◌≤◌, ◌++◌, ◌∷◌, length, take, drop, MatchOption, OnErr, OnOk};
-ghost use Rattle.font_map.specs.Order.{IsPlace};
-ghost use Rattle.font_map.specs.Wanted.{AreSeparate, IsRow, NoRow, absorbed, member, range_end, with_range};
+ghost use Rattle.font_map.specs.Inside.{IsPlace, IsRow, NoRow, absorbed, range_end, with_range};
+ghost use Rattle.font_map.specs.Wanted.{AreSeparate, member};
 
 use sfnt_bytes::NoMemory;
 use std::alloc::Allocator;

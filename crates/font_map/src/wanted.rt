@@ -1,7 +1,8 @@
 //! Wanted sets of codes.
 ghost use Rattle.std.specs.Prelude.{◌≡◌, ◌↔◌, Err, IfOk, MatchOption, OnErr, OnOk};
 ghost use Rattle.font_map.specs.Text.{wanted_error_number};
-ghost use Rattle.font_map.specs.Wanted.{IsBadRange, IsRow, NoRow, all_codes, codes_between, either, member, no_codes};
+ghost use Rattle.font_map.specs.Wanted.{IsBadRange, all_codes, codes_between, either, member, no_codes};
+ghost use Rattle.font_map.specs.Inside.{IsRow, NoRow};
 ghost use Rattle.font_map.specs.declared.wanted.WantedError.TheVariants.{BadRange, NoMemory};
 
 use crate::ranges::{Range, add_range, has_code, row_from};

@@ -2,7 +2,7 @@
 ghost use Rattle.std.specs.Prelude.{◌≡◌, ℕ, MatchOption, MatchResult};
 ghost use Rattle.font_map.specs.Text.{word_error_number};
 ghost use Rattle.font_map.specs.Wanted.{IsBadRange};
-ghost use Rattle.font_map.specs.Word.{IsRefused, IsWord, Writes, WritesCodes};
+ghost use Rattle.font_map.specs.Word.{IsRefused, IsWord, SpellsCode, WritesCodes};
 
 use thiserror::Error;
 
@@ -31,7 +31,7 @@ impl WordError {
 
 // The code that 1 to 6 hexadecimal digits write.
 fn read_code(digits: &str) -> Option<u32>
-    ensures { MatchOption result ((code : ℕ) → Writes digits.now code → ⊥) (Writes digits.now) }
+    ensures { MatchOption result ((code : ℕ) → SpellsCode digits.now code → ⊥) (SpellsCode digits.now) }
 {
     let digits = digits.as_bytes();
     if digits.is_empty() || 6 < digits.len() {

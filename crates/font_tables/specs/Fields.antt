@@ -18,8 +18,8 @@ unfoldable pub index_to_loc_format : List ℕ → ℕ
 index_to_loc_format head = u16_at head 50
 
 -- the form of offsets that it says
-abbrev pub form_of : ℕ → LocaForm
-form_of format = if nat_eq format 0 then Short else Long
+abbrev pub form_of_format : ℕ → LocaForm
+form_of_format format = if nat_eq format 0 then Short else Long
 
 -- `maxp`: version
 unfoldable pub maxp_version : List ℕ → ℕ
@@ -38,7 +38,7 @@ unfoldable pub units_per_em_of : List ℕ → ℕ
 units_per_em_of file = units_per_em (head_of file)
 
 unfoldable pub loca_form_of : List ℕ → LocaForm
-loca_form_of file = form_of (index_to_loc_format (head_of file))
+loca_form_of file = form_of_format (index_to_loc_format (head_of file))
 
 unfoldable pub glyph_count_of : List ℕ → ℕ
 glyph_count_of file = num_glyphs (maxp_of file)

@@ -1,4 +1,5 @@
 pub mod Fields
+pub mod Inside
 pub mod Metrics
 pub mod Opened
 pub mod Outlines

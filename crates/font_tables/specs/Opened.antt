@@ -1,8 +1,8 @@
--- What an opened font keeps of its file, what its look-ups need, and what one pass over `loca` shows.
-use Rattle.std.specs.Prelude.{◌≡◌, ◌<◌, ◌≤◌, ℕ, zero, suc, ◌+◌, ◌-◌, ◌*◌, nat_lt, Bool, false, ◌||◌, List, length, None}
+-- What an opened font keeps of its file, this project's own, and what its look-ups need.
+use Rattle.std.specs.Prelude.{◌≡◌, ℕ, zero, suc, ◌+◌, ◌-◌, nat_lt, Bool, false, ◌||◌, List, None}
 use Rattle.sfnt_bytes.specs.Refusals.{directory_fault}
 use Rattle.font_tables.specs.Fields.{glyph_count_of, loca_form_of, metric_count_of, units_per_em_of}
-use Rattle.font_tables.specs.Outlines.{offset_at, offset_size}
+use Rattle.font_tables.specs.Outlines.{offset_at}
 use Rattle.font_tables.specs.Refusals.{table_fault}
 use Rattle.font_tables.specs.Tables.{glyf_of, hmtx_of, loca_of}
 use Rattle.font_tables.specs.declared.loca.LocaForm.{LocaForm}
@@ -18,19 +18,6 @@ pub record IsOpened (file hmtx loca glyf : List ℕ) (glyph_count units_per_em m
   pub form_is : form ≡ loca_form_of file
   pub readable : directory_fault file ≡ None
   pub sound : table_fault file ≡ None
-
--- `hmtx` has h pairs, one at least, and a bearing for each further glyph up to g
-pub record HasMetric (hmtx : List ℕ) (h g : ℕ) : Type 0 where
-  pub some : 0 < h
-  pub pairs : 4 * h ≤ length hmtx
-  pub bearings : h ≤ g → 4 * h + 2 * (g - h) + 2 ≤ length hmtx
-
--- `loca` has the offsets of glyph g and of the next one, and `glyf` the bytes between them
-pub record HasOutline (form : LocaForm) (loca glyf : List ℕ) (g : ℕ) : Type 0 where
-  pub start : offset_size form * (g + 1) ≤ length loca
-  pub end : offset_size form * (g + 1 + 1) ≤ length loca
-  pub ordered : offset_at form loca g ≤ offset_at form loca (g + 1)
-  pub inside : offset_at form loca (g + 1) ≤ length glyf
 
 -- one of the offsets 1 to last is below the one before it
 unfoldable pub falls : LocaForm → List ℕ → ℕ → Bool

@@ -1,4 +1,4 @@
--- Why the tables of a font are refused: the lines in their order, each with its condition.
+-- Why the tables of a font are refused, this project's own: the lines in their order, each with its condition.
 use Rattle.std.specs.Prelude.{ℕ, ◌+◌, ◌-◌, ◌*◌, nat_lt, nat_eq, not, Bool, ◌&&◌, ◌||◌, List, [], ◌∷◌, length, find, Option, is_none}
 use Rattle.std.specs.List.{range_with_len}
 use Rattle.std.specs.Option.{option_map}

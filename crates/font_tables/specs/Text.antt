@@ -1,4 +1,4 @@
--- The texts and numbers of refusals.
+-- The texts and numbers of refusals, this project's own.
 use Rattle.std.specs.Prelude.{ℕ, List, ◌++◌, codes, decimal}
 use Rattle.sfnt_bytes.specs.Text.{tag_text}
 use Rattle.font_tables.specs.declared.tables.TableError.{TableError}

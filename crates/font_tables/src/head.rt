@@ -1,6 +1,6 @@
 //! The font header. OpenType 1.9, `head`.
 ghost use Rattle.std.specs.Prelude.{◌≡◌, ◌≤◌, length};
-ghost use Rattle.font_tables.specs.Fields.{form_of, index_to_loc_format, magic_number, units_per_em};
+ghost use Rattle.font_tables.specs.Fields.{form_of_format, index_to_loc_format, magic_number, units_per_em};
 ghost use Rattle.font_tables.specs.Refusals.{is_bad_head};
 
 use crate::loca::LocaForm;
@@ -39,7 +39,7 @@ fn read_index_to_loc_format(head: &[u8]) -> u16
 /// The form of the offsets in `loca`.
 pub(crate) fn read_loca_form(head: &[u8]) -> LocaForm
     requires { 54 ≤ length head.now }
-    ensures { result ≡ form_of (index_to_loc_format head.now) }
+    ensures { result ≡ form_of_format (index_to_loc_format head.now) }
 {
     if read_index_to_loc_format(head) == 0 {
         LocaForm::Short

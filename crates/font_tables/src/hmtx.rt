@@ -1,7 +1,7 @@
 //! The horizontal metrics. OpenType 1.9, `hmtx`.
 ghost use Rattle.std.specs.Prelude.{◌≡◌, ◌+◌, ◌*◌, ◌≤◌, length};
 ghost use Rattle.font_tables.specs.Metrics.{advance_width, i16_at, left_side_bearing, lsb, metric_in};
-ghost use Rattle.font_tables.specs.Opened.{HasMetric};
+ghost use Rattle.font_tables.specs.Inside.{HasMetric};
 ghost use Rattle.font_tables.specs.Refusals.{is_bad_hmtx};
 
 use sfnt_bytes::be16;

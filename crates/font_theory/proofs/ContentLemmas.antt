@@ -10,7 +10,7 @@ use Rattle.font_map.proofs.MapLemmas.{restricted-restricted, same_cond}
 use Rattle.font_glyph.specs.Reach.{IsComponentOf, Reach}
 use Rattle.font_glyph.specs.Record.{IsRecord}
 use Rattle.font_theory.specs.Bytes.{padded}
-use Rattle.font_theory.specs.Content.{Content, Font, IsClosed, IsFont, content, everything, glyph_count, is_kept, is_seed, seen}
+use Rattle.font_theory.specs.Content.{Content, Font, IsClosedContent, IsFont, content, everything, glyph_count, is_kept, is_seed, seen}
 use Rattle.font_theory.proofs.WantedLemmas.{IsKept, Reach-along, Reach-back, is_kept-decides, is_seed-code, is_seed-more, restricted-below, restricted-past}
 use Rattle.font_theory.proofs.PaddedLemmas.{IsRecord-nil, IsRecord-padded, component-alike, padded-padded}
 
@@ -94,7 +94,7 @@ and_everything : (A : ℕ → Bool) → (λ c. A c && everything c) ≡ A
 and_everything A = fun_ext (λ c. and_comm (A c) true)
 
 -- each content of a font is closed
-pub IsClosed-content : (F : Font) (A : ℕ → Bool) → IsFont F → IsClosed (content F A)
+pub IsClosed-content : (F : Font) (A : ℕ → Bool) → IsFont F → IsClosedContent (content F A)
 IsClosed-content F A ok = record {
   font = IsFont-seen F A ok;
   closed = content-seen F A everything ok ∙ ap (content F) (and_everything A);

@@ -9,7 +9,7 @@ use Rattle.font_map.specs.CharacterMap.{is_mapped, restricted, united}
 use Rattle.sfnt_bytes.specs.Lines.{when}
 use Rattle.font_theory.specs.Bytes.{padded}
 use Rattle.font_map.proofs.MapLemmas.{same_cond}
-use Rattle.font_theory.specs.Content.{Content, IsClosed, content, everything, is_kept, seen}
+use Rattle.font_theory.specs.Content.{Content, IsClosedContent, content, everything, is_kept, seen}
 use Rattle.font_theory.specs.Cut.{CanJoin, Format, IsCurrent, IsCut, IsFormat, Under, Writes, codes_of, cut, either, is_current, is_cut, joined, whole}
 use Rattle.font_theory.specs.Join.{Agree, both}
 use Rattle.font_theory.proofs.ContentLemmas.{IsClosed-content, content-mapped, content-seen}
@@ -59,16 +59,16 @@ module _ (R : Format) (law : IsFormat R) where
   codes_of-accepted X h = ap (λ o c. is_none o && is_mapped (R.font X).map c) h
 
   -- a file that is written of a closed content is in cut form, and has that content
-  pub whole-written : (K : Content) (X : List ℕ) → IsClosed K → Writes R K X → length X ≤ R.most → whole R X ≡ K
+  pub whole-written : (K : Content) (X : List ℕ) → IsClosedContent K → Writes R K X → length X ≤ R.most → whole R X ≡ K
   whole-written K X ok w small = ap (λ F. content F everything) (law.reads_back K X ok w small).1 ∙ ok.closed
 
-  pub IsCut-written : (K : Content) (X : List ℕ) → IsClosed K → Writes R K X → length X ≤ R.most → IsCut R X
+  pub IsCut-written : (K : Content) (X : List ℕ) → IsClosedContent K → Writes R K X → length X ≤ R.most → IsCut R X
   IsCut-written K X ok w small = record {
     accepted = (law.reads_back K X ok w small).0;
     written = subst (λ C. Writes R C X) (sym (whole-written K X ok w small)) w;
   }
 
-  pub IsCurrent-written : (K : Content) (X : List ℕ) → IsClosed K → R.file K ≡ X → length X ≤ R.most → IsCurrent R X
+  pub IsCurrent-written : (K : Content) (X : List ℕ) → IsClosedContent K → R.file K ≡ X → length X ≤ R.most → IsCurrent R X
   IsCurrent-written K X ok w small = record {
     accepted = (law.reads_back K X ok (inl w) small).0;
     written = ap R.file (whole-written K X ok (inl w) small) ∙ w;
@@ -83,7 +83,7 @@ module _ (R : Format) (law : IsFormat R) where
       let e : (whole R X).outline g ≡ Some (padded ((R.font X).outline g)) = ap (λ b. when b (padded ((R.font X).outline g))) kept in
       e ∙ ap Some (sym (ap (λ F. F.outline g) (font-whole X ok) ∙ ap (λ o. unwrap_or o []) e))
 
-  pub IsClosed-whole : (X : List ℕ) → R.fault X ≡ None → IsClosed (whole R X)
+  pub IsClosed-whole : (X : List ℕ) → R.fault X ≡ None → IsClosedContent (whole R X)
   IsClosed-whole X h = IsClosed-content (R.font X) everything (law.is_font X h)
 
   -- whether an accepted file is in cut form is decided
@@ -106,7 +106,7 @@ module _ (R : Format) (law : IsFormat R) where
 
   -- what holds of a file X that is a cut of an accepted font for A
   module _ (F : List ℕ) (h : R.fault F ≡ None) (A : ℕ → Bool) (X : List ℕ) (w : Writes R (content (R.font F) A) X) (small : length X ≤ R.most) where
-    closed : IsClosed (content (R.font F) A)
+    closed : IsClosedContent (content (R.font F) A)
     closed = IsClosed-content (R.font F) A (law.is_font F h)
 
     pub whole-cut : whole R X ≡ content (R.font F) A
@@ -143,13 +143,13 @@ module _ (R : Format) (law : IsFormat R) where
 
   -- a join is above both files
   module _ (X Y : List ℕ) (can : CanJoin R X Y) (small : length (joined R X Y) ≤ R.most) where
-    okX : IsClosed (whole R X)
+    okX : IsClosedContent (whole R X)
     okX = IsClosed-whole X can.first.accepted
 
-    okY : IsClosed (whole R Y)
+    okY : IsClosedContent (whole R Y)
     okY = IsClosed-whole Y can.second.accepted
 
-    okU : IsClosed (both (whole R X) (whole R Y))
+    okU : IsClosedContent (both (whole R X) (whole R Y))
     okU = IsClosed-both _ _ okX okY can.agree
 
     back : (R.fault (joined R X Y) ≡ None) × (R.font (joined R X Y) ≡ seen (both (whole R X) (whole R Y)))

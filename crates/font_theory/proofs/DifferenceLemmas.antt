@@ -7,7 +7,7 @@ use Rattle.std.proofs.lemmas.Bool.{cases_eq, cases_lt, eqb-true, eq-eqb, le-leb,
 use Rattle.std.proofs.lemmas.Slice.Eq.{bytes_eq-Decides}
 use Rattle.sfnt_bytes.specs.Lines.{first_of_lines}
 use Rattle.font_map.proofs.OrderLemmas.{find_none}
-use Rattle.font_theory.specs.Content.{CODES, Content, IsClosed, everything, glyph_count, is_made, seen}
+use Rattle.font_theory.specs.Content.{CODES, Content, IsClosedContent, everything, glyph_count, is_made, seen}
 use Rattle.font_theory.specs.Difference.{are_different, difference, is_different_code, is_different_glyph, is_different_table}
 use Rattle.font_theory.specs.Join.{Agree}
 use Rattle.font_theory.specs.declared.Difference.{Difference}
@@ -138,7 +138,7 @@ glyph_same K L g h = go (K.outline g) (L.outline g) refl refl
 made_past : (slot : ℕ) → 16 ≤ slot → is_made slot ≡ true
 made_past slot past = or_right _ _ (le-leb 16 slot past)
 
-module _ (K L : Content) (okK : IsClosed K) (okL : IsClosed L) where
+module _ (K L : Content) (okK : IsClosedContent K) (okL : IsClosedContent L) where
   both_none : (slot : ℕ) → is_made slot ≡ true → K.copied slot ≡ L.copied slot
   both_none slot made = okK.font.slots slot made ∙ sym (okL.font.slots slot made)
 

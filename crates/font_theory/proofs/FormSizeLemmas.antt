@@ -4,8 +4,8 @@ use Rattle.std.specs.List.{concat}
 use Rattle.std.proofs.lemmas.Bool.{cases_eq}
 use Rattle.std.proofs.lemmas.List.{append-nil}
 use Rattle.font_theory.specs.Bytes.{padded}
-use Rattle.font_theory.specs.Content.{Content, IsClosed, glyph_count}
-use Rattle.font_theory.specs.File.{first_form, form_of, glyf_bytes, groups_of, outlines_of, second_form, size_of, size_with}
+use Rattle.font_theory.specs.Content.{Content, IsClosedContent, glyph_count}
+use Rattle.font_theory.specs.File.{first_form, form_of, glyf_bytes, canonical_groups, outlines_of, second_form, size_of, size_with}
 use Rattle.font_theory.specs.declared.Profile.TheVariants.{First, Second}
 use Rattle.font_theory.proofs.FormLemmas.{length-second_glyf}
 use Rattle.font_theory.proofs.HeldLemmas.{some-padded}
@@ -13,7 +13,7 @@ use Rattle.font_theory.proofs.PaddingLemmas.{length-padded-is}
 use Rattle.font_theory.proofs.SizeLemmas.{length-concat-whole, length-padded-outlines, outlines-padded}
 
 -- the outlines of a closed content are whole words
-outlines_whole : (K : Content) → IsClosed K → (length (concat (outlines_of K)) % 4 ≡ 0) × (length (concat (outlines_of K)) ≡ sum (map length (outlines_of K)))
+outlines_whole : (K : Content) → IsClosedContent K → (length (concat (outlines_of K)) % 4 ≡ 0) × (length (concat (outlines_of K)) ≡ sum (map length (outlines_of K)))
 unfolding outlines_of
 outlines_whole K ok = length-concat-whole (outlines_of K) (outlines-padded K (some-padded K ok) 0 (glyph_count K.copied))
 
@@ -21,13 +21,13 @@ first_glyf : (outlines : List (List ℕ)) → glyf_bytes (form_of First) outline
 unfolding form_of first_form
 first_glyf outlines = append-nil (concat outlines)
 
-pub size-first : (K : Content) → IsClosed K → size_of (form_of First) K ≡ size_with K (28 + 12 * length (groups_of K)) (sum (map length (outlines_of K)))
+pub size-first : (K : Content) → IsClosedContent K → size_of (form_of First) K ≡ size_with K (28 + 12 * length (canonical_groups K)) (sum (map length (outlines_of K)))
 unfolding size_of form_of first_form
 size-first K ok =
-    ap (λ (n : ℕ). size_with K (28 + 12 * length (groups_of K)) n) (ap (λ (b : List ℕ). length (padded b)) (first_glyf (outlines_of K)) ∙ length-padded-outlines K (some-padded K ok))
+    ap (λ (n : ℕ). size_with K (28 + 12 * length (canonical_groups K)) n) (ap (λ (b : List ℕ). length (padded b)) (first_glyf (outlines_of K)) ∙ length-padded-outlines K (some-padded K ok))
 
 -- four zeros stand in `glyf` where there is no other byte
-second_glyf : (K : Content) → IsClosed K → length (padded (glyf_bytes (form_of Second) (outlines_of K))) ≡ max (sum (map length (outlines_of K))) 4
+second_glyf : (K : Content) → IsClosedContent K → length (padded (glyf_bytes (form_of Second) (outlines_of K))) ≡ max (sum (map length (outlines_of K))) 4
 second_glyf K ok =
     let b : List ℕ = glyf_bytes (form_of Second) (outlines_of K) in
     let four = (outlines_whole K ok).0 in
@@ -38,6 +38,6 @@ second_glyf K ok =
       | inr some ↦ let n = (length-second_glyf (outlines_of K)).1 some in omega (arith, four, all, long, n, some)
     ]
 
-pub size-second : (K : Content) → IsClosed K → size_of (form_of Second) K ≡ size_with K (36 + 12 * length (groups_of K)) (max (sum (map length (outlines_of K))) 4)
+pub size-second : (K : Content) → IsClosedContent K → size_of (form_of Second) K ≡ size_with K (36 + 12 * length (canonical_groups K)) (max (sum (map length (outlines_of K))) 4)
 unfolding size_of form_of second_form
-size-second K ok = ap (λ (n : ℕ). size_with K (36 + 12 * length (groups_of K)) n) (second_glyf K ok)
+size-second K ok = ap (λ (n : ℕ). size_with K (36 + 12 * length (canonical_groups K)) n) (second_glyf K ok)

@@ -7,7 +7,7 @@ use Rattle.font_glyph.specs.Reach.{IsComponentOf, Reach}
 use Rattle.font_glyph.specs.Reach.Reach.{seed, part}
 use Rattle.font_glyph.specs.Union.{HoldsComponents}
 use Rattle.font_theory.specs.Bytes.{padded}
-use Rattle.font_theory.specs.Content.{KeepsComponents, Content, IsClosed, everything, is_kept, is_seed, seen}
+use Rattle.font_theory.specs.Content.{KeepsComponents, Content, IsClosedContent, everything, is_kept, is_seed, seen}
 use Rattle.font_theory.proofs.PaddedLemmas.{IsRecord-nil}
 use Rattle.font_theory.proofs.WantedLemmas.{component-below, is_kept-decides, is_seed-code, is_seed-zero}
 
@@ -24,7 +24,7 @@ IsHeld K g = Reach (seen K).outline (is_seed K.map) g
 component-nil : (g : ℕ) → IsComponentOf [] g → ⊥
 component-nil g h = let low = component-below 0 [] g (IsRecord-nil 0) h in absurd (omega (arith, low))
 
-module _ (K : Content) (ok : IsClosed K) where
+module _ (K : Content) (ok : IsClosedContent K) where
   outline_is : (g : ℕ) → when (is_kept (seen K) everything g) (padded (unwrap_or (K.outline g) [])) ≡ K.outline g
   outline_is g = ap (λ C. C.outline g) ok.closed
 
@@ -64,5 +64,5 @@ module _ (K : Content) (ok : IsClosed K) where
       go (inl none) = absurd (component-nil g (subst (λ (b : List ℕ). IsComponentOf b g) (ap (λ o. unwrap_or o []) none) p))
       go (inr some) = some-is g (part (some-held s some.0 some.1) p)
 
-pub KeepsComponents-closed : (K : Content) → IsClosed K → KeepsComponents K
+pub KeepsComponents-closed : (K : Content) → IsClosedContent K → KeepsComponents K
 KeepsComponents-closed K ok = record { notdef = zero-kept K ok; mapped = code-kept K ok; components = components-kept K ok }

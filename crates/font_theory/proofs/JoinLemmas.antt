@@ -11,7 +11,7 @@ use Rattle.font_glyph.specs.Reach.{IsComponentOf}
 use Rattle.font_glyph.specs.Reach.Reach.{seed, part}
 use Rattle.font_glyph.specs.Record.{IsRecord}
 use Rattle.font_theory.specs.Bytes.{padded}
-use Rattle.font_theory.specs.Content.{Content, Font, IsClosed, IsFont, content, everything, glyph_count, is_kept, is_seed, seen}
+use Rattle.font_theory.specs.Content.{Content, Font, IsClosedContent, IsFont, content, everything, glyph_count, is_kept, is_seed, seen}
 use Rattle.font_theory.specs.Cut.{either}
 use Rattle.font_theory.specs.Join.{Agree, both}
 use Rattle.font_theory.proofs.ContentLemmas.{content-path, content-same}
@@ -68,7 +68,7 @@ both-outline K L P g x y = go (K.outline g) x
     go None _ = y
     go (Some b) x' = x'
 
-pub IsFont-both : (K L : Content) → IsClosed K → IsClosed L → Agree K L → IsFont (seen (both K L))
+pub IsFont-both : (K L : Content) → IsClosedContent K → IsClosedContent L → Agree K L → IsFont (seen (both K L))
 IsFont-both K L okK okL agree =
     let n : glyph_count L.copied ≡ glyph_count K.copied = sym (ap glyph_count (fun_ext agree.copied)) in
     record {
@@ -89,7 +89,7 @@ own_code x y = grind (arith, nat_tests)
 restricted-own : (m k : ℕ → ℕ) → restricted (is_mapped m) (united m k) ≡ m
 restricted-own m k = fun_ext (λ c. own_code (m c) (k c))
 
-module _ (K L : Content) (okK : IsClosed K) (okL : IsClosed L) (agree : Agree K L) where
+module _ (K L : Content) (okK : IsClosedContent K) (okL : IsClosedContent L) (agree : Agree K L) where
   seen-left : (g : ℕ) → IsHeld K g → (seen (both K L)).outline g ≡ (seen K).outline g
   seen-left g r =
       let w = held-some K okK g r in
@@ -102,11 +102,11 @@ module _ (K L : Content) (okK : IsClosed K) (okL : IsClosed L) (agree : Agree K 
       (λ g r. ap padded (seen-left g r))
       ∙ okK.closed
 
-pub content-right : (K L : Content) → IsClosed K → IsClosed L → Agree K L → content (seen (both K L)) (is_mapped L.map) ≡ L
+pub content-right : (K L : Content) → IsClosedContent K → IsClosedContent L → Agree K L → content (seen (both K L)) (is_mapped L.map) ≡ L
 content-right K L okK okL agree =
     ap (λ C. content (seen C) (is_mapped L.map)) (both-swapped K L agree) ∙ content-left L K okL okK (Agree-sym K L agree)
 
-IsHeld-left : (K L : Content) → IsClosed K → IsClosed L → Agree K L → (g : ℕ) → IsHeld K g → IsHeld (both K L) g
+IsHeld-left : (K L : Content) → IsClosedContent K → IsClosedContent L → Agree K L → (g : ℕ) → IsHeld K g → IsHeld (both K L) g
 IsHeld-left K L okK okL agree =
     Reach-along _ _ _ _
     (is_seed-more _ _ (IsFont-both K L okK okL agree).mapped_codes (λ c. go c (cases_lt 0 (K.map c))))
@@ -116,12 +116,12 @@ IsHeld-left K L okK okL agree =
     go c (inl some) = inr (sym (united-some K.map L.map c some))
     go c (inr none) = inl (omega arith)
 
-IsHeld-right : (K L : Content) → IsClosed K → IsClosed L → Agree K L → (g : ℕ) → IsHeld L g → IsHeld (both K L) g
+IsHeld-right : (K L : Content) → IsClosedContent K → IsClosedContent L → Agree K L → (g : ℕ) → IsHeld L g → IsHeld (both K L) g
 IsHeld-right K L okK okL agree g r =
     subst (λ C. IsHeld C g) (sym (both-swapped K L agree)) (IsHeld-left L K okL okK (Agree-sym K L agree) g r)
 
 -- what the union's codes reach is reached in one of its parts
-IsHeld-split : (K L : Content) → IsClosed K → IsClosed L → Agree K L → (g : ℕ) → IsHeld (both K L) g → IsHeld K g ⊎ IsHeld L g
+IsHeld-split : (K L : Content) → IsClosedContent K → IsClosedContent L → Agree K L → (g : ℕ) → IsHeld (both K L) g → IsHeld K g ⊎ IsHeld L g
 IsHeld-split K L okK okL agree g (seed h) =
     elim (is_seed-tells _ g h) [
       | inl e ↦ inl (seed (subst (λ (x : ℕ). is_seed K.map x ≡ true) (sym e) (is_seed-zero K.map)))
@@ -142,7 +142,7 @@ IsHeld-split K L okK okL agree g (part {s = s} r p) =
           inr (part h (subst (λ (b : List ℕ). IsComponentOf b g) e p))
     ]
 
-module _ (K L : Content) (okK : IsClosed K) (okL : IsClosed L) (agree : Agree K L) where
+module _ (K L : Content) (okK : IsClosedContent K) (okL : IsClosedContent L) (agree : Agree K L) where
   abbrev union : Content
   union = both K L
 
@@ -168,7 +168,7 @@ module _ (K L : Content) (okK : IsClosed K) (okL : IsClosed L) (agree : Agree K 
       ]
 
   -- the union of closed contents is closed
-  pub IsClosed-both : IsClosed union
+  pub IsClosed-both : IsClosedContent union
   IsClosed-both =
       record {
         font = IsFont-both K L okK okL agree;

@@ -1,4 +1,4 @@
--- What an accepted font means to a cut, what a cut is made of, and what is read back of a cut. A table stands by its slot, the place of its tag in KEPT.
+-- What an accepted font means to a cut, what a cut is made of, and what is read back of a cut, this project's own. A table stands by its slot, the place of its tag in KEPT.
 use Rattle.std.specs.Prelude.{◌≡◌, ℕ, ◌<◌, ◌≤◌, nat_eq, nat_le, nat_lt, Bool, true, false, ◌||◌, List, [], length, if◌then◌else◌, Option, None, IsSome, unwrap_or}
 use Rattle.sfnt_bytes.specs.Directory.{kept_tag, table_of}
 use Rattle.sfnt_bytes.specs.Lines.{when}
@@ -95,7 +95,7 @@ pub record IsFont (F : Font) : Type 0 where
   pub hmtx : is_bad_hmtx (table_in_slot F.copied 8) (metric_count F.copied) (glyph_count F.copied) ≡ false
 
 -- the content of a file in cut form: a font is read of it, of which it is the content for all codes
-pub record IsClosed (K : Content) : Type 0 where
+pub record IsClosedContent (K : Content) : Type 0 where
   pub font : IsFont (seen K)
   pub closed : content (seen K) everything ≡ K
 

@@ -1,4 +1,4 @@
--- Cuts and joins of files, and the order of files, over any reader and writer of files; and those of this program.
+-- Cuts and joins of files, and the order of files, this project's own: over any reader and writer of files, and those of this program.
 use Rattle.std.specs.Prelude.{◌≡◌, ◌≢◌, ℕ, ◌≤◌, Bool, ◌&&◌, ◌||◌, ◌⊎◌, List, length, is_none, Option, None, Some}
 use Rattle.std.specs.Str.{bytes_eq}
 use Rattle.sfnt_bytes.specs.declared.directory.DirError.TheVariants.{FileTooLarge}
@@ -7,9 +7,10 @@ use Rattle.font_map.specs.CharacterMap.{is_mapped}
 use Rattle.font_file.specs.Font.{font_fault}
 use Rattle.font_file.specs.declared.font_error.FontError.{FontError}
 use Rattle.font_file.specs.declared.font_error.FontError.TheVariants.{Directory}
-use Rattle.font_theory.specs.Content.{Content, Font, IsClosed, IsFont, content, everything, font_of, seen}
+use Rattle.font_theory.specs.Content.{Content, Font, IsClosedContent, IsFont, content, everything, font_of, seen}
 use Rattle.font_theory.specs.File.{Form, current_form, file}
 use Rattle.font_theory.specs.Join.{Agree, both}
+pub use Rattle.font_map.specs.Wanted.{either}
 
 -- a reader and a writer of files
 pub record Format : Type 0 where
@@ -28,7 +29,7 @@ pub record IsFormat (R : Format) : Type 0 where
   pub is_font : (X : List ℕ) → R.fault X ≡ None → IsFont (R.font X)
   pub accepted_size : (X : List ℕ) → R.fault X ≡ None → length X ≤ R.most
   pub refused_size : (X : List ℕ) (error : FontError) → R.fault X ≡ Some error → error ≢ Directory FileTooLarge → length X ≤ R.most
-  pub reads_back : (K : Content) (X : List ℕ) → IsClosed K → Writes R K X → length X ≤ R.most → (R.fault X ≡ None) × (R.font X ≡ seen K)
+  pub reads_back : (K : Content) (X : List ℕ) → IsClosedContent K → Writes R K X → length X ≤ R.most → (R.fault X ≡ None) × (R.font X ≡ seen K)
 
 -- the cut of a file for the wanted codes
 abbrev pub cut : Format → List ℕ → (ℕ → Bool) → List ℕ
@@ -74,10 +75,6 @@ pub record CanJoin (R : Format) (X Y : List ℕ) : Type 0 where
   pub first : IsCut R X
   pub second : IsCut R Y
   pub agree : Agree (whole R X) (whole R Y)
-
--- the codes of either set
-abbrev pub either : (ℕ → Bool) → (ℕ → Bool) → ℕ → Bool
-either A B c = A c || B c
 
 -- the reader of this program, a form that is written, and one that is read as a cut too
 abbrev pub format_of : Form → Form → Format

@@ -1,4 +1,4 @@
--- Contents that agree, and their union.
+-- Contents that agree, and their union, this project's own.
 use Rattle.std.specs.Prelude.{◌≡◌, ℕ}
 use Rattle.font_map.specs.CharacterMap.{AreCompatible, united}
 use Rattle.font_glyph.specs.Union.{AreEqualWhereBoth, union_of}

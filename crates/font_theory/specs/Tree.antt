@@ -1,4 +1,4 @@
--- Trees of joins, and what they come to.
+-- Trees of joins, and what they come to, this project's own.
 use Rattle.std.specs.Prelude.{◌≡◌, ℕ, zero, suc, ◌<◌, ◌≤◌, Bool, false, ◌||◌, ◌⊎◌, List, [], length, get_or}
 use Rattle.font_theory.specs.Cut.{CanJoin, Format, IsCut, cut, joined, whole}
 use Rattle.font_theory.specs.Join.{Agree}

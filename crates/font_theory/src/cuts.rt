@@ -10,7 +10,7 @@ ghost use Rattle.font_file.specs.Font.{font_fault, map_of};
 ghost use Rattle.font_file.specs.declared.font_error.FontError.{FontError};
 ghost use Rattle.font_file.specs.declared.font_error.FontError.TheVariants.{Directory};
 ghost use Rattle.font_theory.specs.Bytes.{padded};
-ghost use Rattle.font_theory.specs.Content.{Content, Font, IsClosed, IsFont, IsWritable, KeepsComponents, content, font_of, is_kept, is_seed, seen};
+ghost use Rattle.font_theory.specs.Content.{Content, Font, IsClosedContent, IsFont, IsWritable, KeepsComponents, content, font_of, is_kept, is_seed, seen};
 ghost use Rattle.font_theory.specs.Cut.{Format, IsCurrent, IsCut, IsFormat, Writes, cut, is_current, is_cut, whole};
 
 /// What an accepted file means is a font.
@@ -27,18 +27,18 @@ pub fn size_of_file()
 
 /// A content of a font is closed.
 pub fn content_is_closed()
-    ensures { (F : Font) (wanted : ℕ → Bool) → IsFont F → IsClosed (content F wanted) }
+    ensures { (F : Font) (wanted : ℕ → Bool) → IsFont F → IsClosedContent (content F wanted) }
 {}
 
 /// A closed content is one for which a file is written.
 pub fn closed_is_writable()
-    ensures { (K : Content) → IsClosed K → IsWritable K }
+    ensures { (K : Content) → IsClosedContent K → IsWritable K }
 {}
 
 /// A closed content keeps .notdef, the glyph of each code, and each component of an outline that it
 /// keeps.
 pub fn closed_keeps()
-    ensures { (K : Content) → IsClosed K → KeepsComponents K
+    ensures { (K : Content) → IsClosedContent K → KeepsComponents K
         × ((g : ℕ) (b : List ℕ) → K.outline g ≡ Some b → padded b ≡ b) }
 {}
 

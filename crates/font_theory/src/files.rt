@@ -5,10 +5,10 @@ ghost use Rattle.sfnt_bytes.specs.Findings.{findings_of};
 ghost use Rattle.sfnt_bytes.specs.declared.directory.TheConstants.{MAX_FILE};
 ghost use Rattle.font_file.specs.Font.{font_fault};
 ghost use Rattle.font_theory.specs.Bytes.{padded};
-ghost use Rattle.font_theory.specs.Content.{Content, IsClosed, IsWritable, font_of, seen};
+ghost use Rattle.font_theory.specs.Content.{Content, IsClosedContent, IsWritable, font_of, seen};
 ghost use Rattle.sfnt_bytes.specs.declared.base6.TheConstants.{BASE6};
 ghost use Rattle.font_theory.specs.Cut.{IsFormat, cut, format_of, our_format};
-ghost use Rattle.font_theory.specs.File.{Form, IsForm, file, form_of, glyf_bytes, groups_of, outlines_of, size_of, size_with};
+ghost use Rattle.font_theory.specs.File.{Form, IsForm, file, form_of, glyf_bytes, canonical_groups, outlines_of, size_of, size_with};
 ghost use Rattle.font_theory.specs.declared.Profile.{Profile};
 ghost use Rattle.font_theory.specs.declared.Profile.TheVariants.{First, Second};
 ghost use Rattle.font_theory.specs.WorkedFiles.{aacute_file, nothing_file, nothing_second_file};
@@ -25,34 +25,34 @@ pub fn file_size()
 
 /// The outlines of a closed content take as many bytes in its file as they have.
 pub fn outlines_size()
-    ensures { (K : Content) → IsClosed K → length (padded (concat (outlines_of K))) ≡ sum
+    ensures { (K : Content) → IsClosedContent K → length (padded (concat (outlines_of K))) ≡ sum
         (map length (outlines_of K)) }
 {}
 
 /// How many bytes a file in the first profile has, by how many groups spell its map and how many bytes
 /// its outlines have.
 pub fn size_in_first_profile()
-    ensures { (K : Content) → IsClosed K
-        → size_of (form_of First) K ≡ size_with K (28 + 12 * length (groups_of K))
+    ensures { (K : Content) → IsClosedContent K
+        → size_of (form_of First) K ≡ size_with K (28 + 12 * length (canonical_groups K))
         (sum (map length (outlines_of K))) }
 {}
 
 /// The same in the second profile.
 pub fn size_in_second_profile()
-    ensures { (K : Content) → IsClosed K
-        → size_of (form_of Second) K ≡ size_with K (36 + 12 * length (groups_of K))
+    ensures { (K : Content) → IsClosedContent K
+        → size_of (form_of Second) K ≡ size_with K (36 + 12 * length (canonical_groups K))
         (max (sum (map length (outlines_of K))) 4) }
 {}
 
 /// The file of a closed content is accepted, where it is not too large.
 pub fn file_is_accepted()
-    ensures { (form : Form) → IsForm form → (K : Content) → IsClosed K → length (file form K) ≤ MAX_FILE →
+    ensures { (form : Form) → IsForm form → (K : Content) → IsClosedContent K → length (file form K) ≤ MAX_FILE →
         font_fault (file form K) ≡ None }
 {}
 
 /// Nothing is found in the file of a closed content.
 pub fn file_has_no_finding()
-    ensures { (form : Form) (K : Content) → IsClosed K → length (file form K) ≤ MAX_FILE →
+    ensures { (form : Form) (K : Content) → IsClosedContent K → length (file form K) ≤ MAX_FILE →
         findings_of (file form K) ≡ [] }
 {}
 

@@ -4,7 +4,7 @@ ghost use Rattle.std.specs.Prelude.{◌≡◌, ◌≢◌, ℕ, ◌≤◌, ◌↔
 ghost use Rattle.sfnt_bytes.specs.declared.directory.DirError.TheVariants.{FileTooLarge};
 ghost use Rattle.font_file.specs.declared.font_error.FontError.{FontError};
 ghost use Rattle.font_file.specs.declared.font_error.FontError.TheVariants.{Directory};
-ghost use Rattle.font_theory.specs.Content.{Content, Font, IsClosed, IsFont, content};
+ghost use Rattle.font_theory.specs.Content.{Content, Font, IsClosedContent, IsFont, content};
 ghost use Rattle.font_theory.specs.Cut.{CanJoin, Format, IsCurrent, IsCut, IsFormat, Under, Writes, cut, either, is_cut, joined, whole};
 ghost use Rattle.font_theory.specs.Difference.{difference};
 ghost use Rattle.font_theory.specs.Join.{Agree, both};
@@ -17,12 +17,12 @@ pub fn union_of_cuts()
 
 /// The union of closed contents that agree is closed.
 pub fn union_is_closed()
-    ensures { (K L : Content) → IsClosed K → IsClosed L → Agree K L → IsClosed (both K L) }
+    ensures { (K L : Content) → IsClosedContent K → IsClosedContent L → Agree K L → IsClosedContent (both K L) }
 {}
 
 /// There is no first difference exactly where contents agree.
 pub fn no_difference()
-    ensures { (K L : Content) → IsClosed K → IsClosed L → difference K L ≡ None ↔ Agree K L }
+    ensures { (K L : Content) → IsClosedContent K → IsClosedContent L → difference K L ≡ None ↔ Agree K L }
 {}
 
 /// A join is current, above both files, and below each file that is above both.

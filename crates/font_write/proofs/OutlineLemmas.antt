@@ -8,7 +8,8 @@ use Rattle.font_glyph.specs.Union.{record_in}
 use Rattle.font_theory.specs.Bytes.{bytes32}
 use Rattle.font_theory.specs.Content.{Content}
 use Rattle.font_theory.specs.File.{Form, behind, loca_bytes, offsets_from, outlines_from}
-use Rattle.font_write.specs.Parts.{all_outlines, glyf_in, glyf_to, loca_to}
+use Rattle.font_write.specs.Parts.{glyf_to}
+use Rattle.font_write.specs.Inside.{all_outlines, glyf_in, loca_to}
 use Rattle.font_write.proofs.PartLemmas.{within}
 
 outlines-split : (K : Content) (k n m : ℕ) → outlines_from K k (n + m) ≡ outlines_from K k n ++ outlines_from K (k + n) m

@@ -1,4 +1,4 @@
--- A comparison with a file.
+-- A comparison with a file, this project's own.
 use Rattle.std.specs.Prelude.{◌≡◌, ℕ, Bool, List, [], ◌∷◌, ◌++◌, Option, Some, length, option_to_list}
 use Rattle.font_write.specs.Trace.{IsPrefix, Trace}
 

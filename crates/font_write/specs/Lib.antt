@@ -1,4 +1,5 @@
 pub mod Comparing
+pub mod Inside
 pub mod Parts
 pub mod Plan
 pub mod Trace

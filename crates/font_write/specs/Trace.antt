@@ -1,4 +1,4 @@
--- What a sink has taken, and what a call adds to that.
+-- What a sink has taken, and what a call adds to that, this project's own.
 use Rattle.std.specs.Prelude.{◌≡◌, ℕ, ◌+◌, Bool, true, false, List, ◌++◌, length, Option, Some, None, Result, MatchResult}
 use Rattle.std.specs.Io.KnownBytes.{Appends}
 

@@ -4,7 +4,8 @@ ghost use Rattle.sfnt_bytes.specs.Sums.{checksum_of};
 ghost use Rattle.sfnt_bytes.specs.declared.directory.TheConstants.{MAX_FILE};
 ghost use Rattle.font_theory.specs.Bytes.{bytes32};
 ghost use Rattle.font_theory.specs.Content.{glyph_count};
-ghost use Rattle.font_write.specs.Parts.{all_offsets, all_outlines, glyf_to, loca_to};
+ghost use Rattle.font_write.specs.Parts.{glyf_to};
+ghost use Rattle.font_write.specs.Inside.{all_offsets, all_outlines, loca_to};
 ghost use Rattle.font_write.specs.declared.made_loca.TheConstants.{BLOCK};
 ghost use Rattle.font_write.specs.Trace.{Sends};
 

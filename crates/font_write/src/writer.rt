@@ -4,7 +4,8 @@ ghost use Rattle.std.specs.Prelude.{◌≡◌, ◌+◌, ◌≤◌, ◌<◌, leng
 ghost use Rattle.sfnt_bytes.specs.declared.directory.TheConstants.{MAX_FILE};
 ghost use Rattle.font_theory.specs.Bytes.{padded};
 ghost use Rattle.font_theory.specs.File.{entry_bytes, form_of};
-ghost use Rattle.font_write.specs.Parts.{bodies_to, bytes_at, record_at, records_to, start_of};
+ghost use Rattle.font_write.specs.Parts.{bodies_to, bytes_at, record_at, start_of};
+ghost use Rattle.font_write.specs.Inside.{records_to};
 ghost use Rattle.font_write.specs.Plan.{IsMeasure, IsPlan, planned_file};
 ghost use Rattle.font_write.specs.Trace.{Sends};
 

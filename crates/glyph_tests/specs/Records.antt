@@ -1,4 +1,4 @@
--- Records in a list, by number.
+-- Records in a list, by number, this project's own.
 use Rattle.std.specs.Prelude.{ℕ, ◌<◌, List, [], length, slice_index_or, map, Vec}
 use Rattle.std.specs.declared.alloc.Global.{Global}
 use Rattle.font_glyph.specs.Record.{IsRecord}

@@ -3,7 +3,7 @@ use Rattle.std.proofs.Common.{◌≡◌, ℕ, ◌+◌, ◌-◌, ◌*◌, ◌%◌
 use Rattle.std.proofs.lemmas.Bool.{cases_lt}
 use Rattle.std.proofs.lemmas.List.{drop-drop, drop_all, get_or-set_other, get_or-set_same, length-take, take_all}
 use Rattle.std.proofs.Math.Seq.{take-add}
-use Rattle.sfnt_bytes.specs.Prefixes.{IsFront}
+use Rattle.sfnt_bytes.specs.Prefixes.{IsPrefixSum}
 use Rattle.sfnt_bytes.specs.Sums.{checksum_of, words}
 use Rattle.sfnt_bytes.proofs.WordLemmas.{sum_words-append}
 
@@ -93,14 +93,14 @@ more_sums b sums k s l each is j h =
     ]
 
 -- the sum of a file is that of a front and of what lies behind it
-pub front_and_rest : (b v f : List ℕ) (end s t : ℕ) → IsFront b end s → b ≡ v → f ≡ v → t ≡ checksum_of (take (length f - end) (drop end f)) → (s + t) % 2 ^ 32 ≡ checksum_of v
+pub front_and_rest : (b v f : List ℕ) (end s t : ℕ) → IsPrefixSum b end s → b ≡ v → f ≡ v → t ≡ checksum_of (take (length f - end) (drop end f)) → (s + t) % 2 ^ 32 ≡ checksum_of v
 front_and_rest b v f end s t k is_b is_f is_t =
     let same : f ≡ b = is_f ∙ sym is_b in
     let rest : t ≡ checksum_of (take (length b - end) (drop end b)) = is_t ∙ ap (λ (x : List ℕ). checksum_of (take (length x - end) (drop end x))) same in
     sum_on b end (length b) s t k.aligned k.within k.sum rest ∙ ap checksum_of (take_all (length b) b (omega arith) ∙ is_b)
 
 -- the sum up to a table, up to its end, and up to the multiple of 4 before that
-pub longer_front : (b : List ℕ) (at from to end s g t l : ℕ) → IsFront b at s → at ≤ from → from ≤ to → to ≤ length b → from % 4 ≡ 0 → end ≡ to - to % 4 → g ≡ checksum_of (take (from - at) (drop at b)) → t ≡ checksum_of (take (to - from) (drop from b)) → l ≡ checksum_of (take (to - end) (drop end b)) → IsFront b end (((((s + g) % 2 ^ 32) + t) % 2 ^ 32 + (2 ^ 32 - l)) % 2 ^ 32)
+pub longer_front : (b : List ℕ) (at from to end s g t l : ℕ) → IsPrefixSum b at s → at ≤ from → from ≤ to → to ≤ length b → from % 4 ≡ 0 → end ≡ to - to % 4 → g ≡ checksum_of (take (from - at) (drop at b)) → t ≡ checksum_of (take (to - from) (drop from b)) → l ≡ checksum_of (take (to - end) (drop end b)) → IsPrefixSum b end (((((s + g) % 2 ^ 32) + t) % 2 ^ 32 + (2 ^ 32 - l)) % 2 ^ 32)
 longer_front b at from to end s g t l k low order within aligned e is_g is_t is_l =
     let four : end % 4 ≡ 0 = omega (arith, e) in
     let below : end ≤ to = omega (arith, e) in

@@ -3,7 +3,7 @@ use Rattle.std.specs.Prelude.{ℕ, ◌+◌, ◌*◌, ◌≤◌, nat_le, not, Boo
 use Rattle.std.specs.List.{range_with_len}
 use Rattle.std.specs.Option.{option_map}
 use Rattle.sfnt_bytes.specs.Number.{u16_at, u32_at}
-use Rattle.sfnt_bytes.specs.Tag.{is_kept, same_tag}
+use Rattle.sfnt_bytes.specs.Tag.{is_kept_tag, same_tag}
 use Rattle.sfnt_bytes.specs.declared.records.Entry.{Entry}
 use Rattle.sfnt_bytes.specs.declared.tag.Tag.{Tag}
 use Rattle.sfnt_bytes.specs.declared.tag.TheConstants.{KEPT}
@@ -59,7 +59,7 @@ kept_tag slot = slice_index_or KEPT slot (record { 0 = [] })
 
 -- no cut keeps the record's table
 unfoldable pub is_dropped : Entry → Bool
-is_dropped entry = not (is_kept entry.tag)
+is_dropped entry = not (is_kept_tag entry.tag)
 
 -- the records whose tables no cut keeps
 unfoldable pub dropped_of : List ℕ → List Entry

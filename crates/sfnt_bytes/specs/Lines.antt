@@ -1,4 +1,4 @@
--- Lists of lines, each of which says something or nothing.
+-- Lists of lines, each of which says something or nothing, this project's own.
 use Rattle.std.specs.Prelude.{Bool, List, [], ◌∷◌, if◌then◌else◌, Option, Some, None}
 
 -- a line that says x where its condition holds

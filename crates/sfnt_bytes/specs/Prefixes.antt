@@ -1,4 +1,4 @@
--- Sums of the words of a file up to many places, from which those of any table follow.
+-- Sums of the words of a file up to many places, from which those of any table follow (OpenType 1.9, Calculating Checksums).
 use Rattle.std.specs.Prelude.{◌≡◌, ℕ, ◌*◌, ◌%◌, ◌<◌, ◌≤◌, List, drop, length, slice_index, take}
 use Rattle.sfnt_bytes.specs.Sums.{checksum_of}
 
@@ -14,7 +14,7 @@ pub record ArePlaces (at_0 at_1 at_2 at_3 : List ℕ) : Type 0 where
   pub three : at_3 ≡ drop 3 at_0
 
 -- the sum of the bytes before a place that is a multiple of 4
-pub record IsFront (bytes : List ℕ) (end total : ℕ) : Type 0 where
+pub record IsPrefixSum (bytes : List ℕ) (end total : ℕ) : Type 0 where
   pub aligned : end % 4 ≡ 0
   pub within : end ≤ length bytes
   pub sum : total ≡ checksum_of (take end bytes)

@@ -1,4 +1,4 @@
--- Why a table directory is refused: the lines in their order, each with its condition.
+-- Why a table directory is refused, this project's own: the lines in their order, each with its condition.
 use Rattle.std.specs.Prelude.{ℕ, ◌+◌, ◌*◌, nat_lt, nat_eq, not, Bool, false, ◌&&◌, ◌||◌, List, [], ◌∷◌, length, find, count_by, Option}
 use Rattle.std.specs.Option.{option_map, option_map_or}
 use Rattle.sfnt_bytes.specs.Number.{u32_at}

@@ -15,5 +15,5 @@ abbrev pub tag_number : Tag → ℕ
 tag_number tag = u32_at tag.0 0
 
 -- a cut keeps the tag's table
-unfoldable pub is_kept : Tag → Bool
-is_kept tag = list_any (λ kept. same_tag kept tag) KEPT
+unfoldable pub is_kept_tag : Tag → Bool
+is_kept_tag tag = list_any (λ kept. same_tag kept tag) KEPT

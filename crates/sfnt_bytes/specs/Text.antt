@@ -1,4 +1,4 @@
--- The texts of tags and findings, and the texts and numbers of refusals.
+-- The texts of tags and findings, and the texts and numbers of refusals, this project's own.
 use Rattle.std.specs.Prelude.{ℕ, ◌/◌, ◌%◌, nat_le, Bool, ◌&&◌, List, [], ◌∷◌, ◌++◌, if◌then◌else◌, codes}
 use Rattle.std.specs.List.{flat_map, list_all}
 use Rattle.std.specs.Char.{digit_char}

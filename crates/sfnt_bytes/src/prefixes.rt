@@ -2,7 +2,7 @@
 //! Calculating Checksums.
 ghost use Rattle.std.specs.Prelude.{◌≡◌, ◌%◌, ◌<◌, ◌≤◌, drop, length, slice_range, take};
 ghost use Rattle.sfnt_bytes.specs.Directory.{HasRecords};
-ghost use Rattle.sfnt_bytes.specs.Prefixes.{ArePrefixes, IsFront};
+ghost use Rattle.sfnt_bytes.specs.Prefixes.{ArePrefixes, IsPrefixSum};
 ghost use Rattle.sfnt_bytes.specs.Sums.{checksum_of};
 
 use crate::records::records_in;
@@ -130,11 +130,11 @@ impl Front {
     // What lies between is summed here, so the table is passed over unless it has at least as many
     // bytes: other tables may lie there.
     fn over(self, file: &[u8], from: usize, to: usize, sum: u32) -> Front
-        requires front { IsFront file.now self.end self.sum }
+        requires front { IsPrefixSum file.now self.end self.sum }
         requires order { from ≤ to }
         requires within { to ≤ length file.now }
         requires sum { sum ≡ checksum_of (slice_range file.now from to) }
-        ensures { IsFront file.now result.end result.sum }
+        ensures { IsPrefixSum file.now result.end result.sum }
     {
         if from % 4 != 0 || from < self.end || from - self.end > to - from {
             return self;
@@ -170,13 +170,13 @@ pub(crate) struct TableSums<'a> {
 
 impl<'a> Model for TableSums<'a> {
     ghost use Rattle.std.specs.Prelude.{◌≡◌, ℕ, ◌≤◌, List, drop, length};
-    ghost use Rattle.sfnt_bytes.specs.Prefixes.{ArePlaces, IsFront};
+    ghost use Rattle.sfnt_bytes.specs.Prefixes.{ArePlaces, IsPrefixSum};
 
     ghost Value = { List ℕ };
 
     ghost view = { λ t. t.at_0 };
 
-    ghost invariant = { λ t. ArePlaces t.at_0 t.at_1 t.at_2 t.at_3 × IsFront t.at_0 t.front.end t.front.sum };
+    ghost invariant = { λ t. ArePlaces t.at_0 t.at_1 t.at_2 t.at_3 × IsPrefixSum t.at_0 t.front.end t.front.sum };
 }
 
 impl<'a> TableSums<'a> {

@@ -2,7 +2,7 @@
 ghost use Rattle.std.specs.Prelude.{◌≡◌};
 ghost use Rattle.std.specs.List.{list_any};
 ghost use Rattle.std.specs.Str.{bytes_eq};
-ghost use Rattle.sfnt_bytes.specs.Tag.{is_kept, tag_number};
+ghost use Rattle.sfnt_bytes.specs.Tag.{is_kept_tag, tag_number};
 
 use crate::number::be32;
 
@@ -62,9 +62,9 @@ fn is_among(tags: &[Tag], tag: Tag) -> bool
 
 impl Tag {
     /// Whether a cut keeps the table of this tag.
-    #[tactic(auto, unfolding(crate::specs::Tag::is_kept))]
+    #[tactic(auto, unfolding(crate::specs::Tag::is_kept_tag))]
     pub(crate) fn is_kept(self) -> bool
-        ensures { result ≡ is_kept self }
+        ensures { result ≡ is_kept_tag self }
     {
         is_among(&KEPT, self)
     }

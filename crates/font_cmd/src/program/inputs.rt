@@ -1,6 +1,6 @@
 //! Files that are read.
 ghost use Rattle.std.specs.Prelude.{◌≡◌, IfOk, true};
-ghost use Rattle.font_cmd.specs.Inlet.{fresh_of};
+ghost use Rattle.font_cmd.specs.Inlet.{inlet_fresh_of};
 ghost use Rattle.font_cmd.specs.Join.{AreFresh};
 
 use crate::program::report::Fault;
@@ -15,7 +15,7 @@ use std::rt::Files;
 /// # Errors
 /// `Unread` where it cannot be opened.
 pub(crate) fn opened<'a, F: Files>(files: &F, path: &'a str) -> Result<Inlet<F::File>, Fault<'a>>
-    ensures { IfOk result (λ inlet. fresh_of inlet ≡ true) }
+    ensures { IfOk result (λ inlet. inlet_fresh_of inlet ≡ true) }
 {
     match File::open(files, path) {
         Ok(file) => Ok(Inlet::new(file)),

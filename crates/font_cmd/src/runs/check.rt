@@ -3,8 +3,8 @@ ghost use Rattle.std.specs.Prelude.{◌≡◌, ◌↔◌, None, Some, IfErr, IfO
 ghost use Rattle.std.specs.List.{flat_map};
 ghost use Rattle.font_cut.specs.Fonts.{findings_of, font_fault};
 ghost use Rattle.font_cmd.specs.Check.{check_text, finding_line, read_findings, report_text, shown_findings};
-ghost use Rattle.font_cmd.specs.Inlet.{broken_of as inlet_broken_of, fresh_of as inlet_fresh_of};
-ghost use Rattle.font_cut.specs.Outlet.{Sends, broken_of, fresh_of};
+ghost use Rattle.font_cmd.specs.Inlet.{inlet_broken_of, inlet_fresh_of};
+ghost use Rattle.font_cut.specs.Outlet.{WentOut, broken_of, fresh_of};
 ghost use Rattle.font_cmd.specs.Run.{AnyFile, RefusesNone, RunStops, got};
 
 use crate::runs::inlet::Inlet;
@@ -100,7 +100,7 @@ pub fn run_check<R: Read, W: Write, A: Allocator + Copy>(
     ensures spent { inlet_fresh_of inlet.new ≡ false }
 
     ensures sent { OnOk result (got R.remaining inlet.old
-        (λ file. Sends W.contents outlet.old outlet.new (check_text file))) }
+        (λ file. WentOut W.contents outlet.old outlet.new (check_text file))) }
     ensures answer { IfOk result (λ clean. got R.remaining inlet.old
         (λ file. IsTrue clean ↔ (font_fault file ≡ None) × (findings_of file ≡ []))) }
     ensures whole { OnOk result ((inlet_broken_of inlet.new ≡ false) × (broken_of outlet.new ≡ false)) }

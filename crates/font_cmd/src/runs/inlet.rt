@@ -1,7 +1,7 @@
 //! A reader that is read once, to its end or to one byte more than a file may have.
 ghost use Rattle.std.specs.Prelude.{◌≡◌, ◌+◌, ◌<◌, ◌≤◌, take, false, true, length, vec_len, IfOk, IfErr, OnErr, OnOk, IfSome, Some};
 ghost use Rattle.std.specs.Io.KnownBytes.{Consumes, IsAtEnd, Keeps};
-ghost use Rattle.font_cmd.specs.Inlet.{StopsAs, broken_of, read_error_number, read_error_text, fresh_of, reader_of};
+ghost use Rattle.font_cmd.specs.Inlet.{StopsAs, inlet_broken_of, read_error_number, read_error_text, inlet_fresh_of, reader_of};
 
 use font_cut::MAX_FILE;
 use std::alloc::Allocator;
@@ -80,8 +80,8 @@ fn read_piece<R: Read>(reader: &mut R, piece: &mut [u8], most: usize) -> io::Res
 impl<R: Read> Inlet<R> {
     /// An inlet that was not read.
     pub fn new(reader: R) -> Inlet<R>
-        ensures fresh { fresh_of result ≡ true }
-        ensures whole { broken_of result ≡ false }
+        ensures fresh { inlet_fresh_of result ≡ true }
+        ensures whole { inlet_broken_of result ≡ false }
         ensures reader { reader_of result ≡ reader }
     {
         Inlet {
@@ -92,14 +92,14 @@ impl<R: Read> Inlet<R> {
 
     /// Whether `read_all` was not called.
     pub fn is_fresh(&self) -> bool
-        ensures { result ≡ fresh_of self.now }
+        ensures { result ≡ inlet_fresh_of self.now }
     {
         matches!(self.state, State::Fresh)
     }
 
     /// Whether `read_all` has answered `ReadFault`.
     pub fn is_broken(&self) -> bool
-        ensures { result ≡ broken_of self.now }
+        ensures { result ≡ inlet_broken_of self.now }
     {
         matches!(self.state, State::Broken)
     }
@@ -111,15 +111,15 @@ impl<R: Read> Inlet<R> {
     /// `ReadFault` where a read fails, with the count of the bytes that had come; the inlet is broken.
     /// `NoMemory` where the bytes have no room; the inlet is not broken.
     pub fn read_all<A: Allocator>(&mut self, alloc: A) -> Result<Vec<u8, A>, ReadError>
-        requires { fresh_of self.old ≡ true }
-        ensures spent { fresh_of self.new ≡ false }
+        requires { inlet_fresh_of self.old ≡ true }
+        ensures spent { inlet_fresh_of self.new ≡ false }
 
         ensures limit { IfOk result (λ bytes. vec_len bytes ≤ MAX_FILE + 1) }
         ensures got { IfOk result (λ bytes. IfSome (R.remaining (reader_of self.old))
             (λ xs. bytes.items ≡ take (MAX_FILE + 1) xs)) }
         ensures came { IfOk result (λ bytes. Consumes (R.remaining (reader_of self.old))
             (R.remaining (reader_of self.new)) bytes.items) }
-        ensures whole { OnOk result (broken_of self.new ≡ false) }
+        ensures whole { OnOk result (inlet_broken_of self.new ≡ false) }
 
         // `ReadFault(n)` breaks it after n bytes, and `NoMemory` does not.
         ensures error { IfErr result (StopsAs R.remaining self.old self.new) }

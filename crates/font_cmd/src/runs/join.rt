@@ -2,7 +2,7 @@
 ghost use Rattle.std.specs.Prelude.{◌≡◌, ◌≤◌, ℕ, Bool, List, IfErr, IfOk, MatchResult, OnOk, false, length, map, true};
 ghost use Rattle.font_cut.specs.Cut.{cut_of};
 ghost use Rattle.font_cut.specs.Fonts.{MAX_FILE, union_below};
-ghost use Rattle.font_cut.specs.Outlet.{Sends, broken_of, fresh_of};
+ghost use Rattle.font_cut.specs.Outlet.{WentOut, broken_of, fresh_of};
 ghost use Rattle.font_cmd.specs.Join.{AreFresh, AreGot, AreSpent, GotCuts, JoinStops, OnlySize, ReadStops, SendsJoin};
 
 use crate::runs::inlet::Inlet;
@@ -50,7 +50,7 @@ pub fn run_join<R: Read, W: Write, A: Allocator + Copy>(
     ensures whole { OnOk result (AreSpent inlets.new × (broken_of outlet.new ≡ false)) }
     ensures cuts { (F : List ℕ) (A : ℕ → ℕ → Bool) → GotCuts R.remaining inlets.old F A →
         MatchResult result (λ size. let z = cut_of F (union_below A (length inlets.old)) in
-        (size ≡ length z) × Sends W.contents outlet.old outlet.new z) (OnlySize F A (length inlets.old)) }
+        (size ≡ length z) × WentOut W.contents outlet.old outlet.new z) (OnlySize F A (length inlets.old)) }
 
     ensures error { IfErr result
         (JoinStops R.remaining W.contents inlets.old inlets.new outlet.old outlet.new) }

@@ -1,6 +1,6 @@
 //! What the runs share: their error, and how they send what they have made.
 ghost use Rattle.std.specs.Prelude.{◌≡◌, false, true, take, IfErr, OnErr, OnOk};
-ghost use Rattle.font_cut.specs.Outlet.{Sends, broken_of, fresh_of, written_of};
+ghost use Rattle.font_cut.specs.Outlet.{WentOut, broken_of, fresh_of, written_of};
 ghost use Rattle.font_cmd.specs.Run.{of_cut_error, of_join_error, of_join_into_error, of_read_error, run_error_number};
 ghost use Rattle.font_cmd.specs.declared.runs.run_error.RunError.TheVariants.{Font, Memory, Write};
 
@@ -133,15 +133,15 @@ impl From<JoinAllIntoError> for RunError {
     }
 }
 
-/// Sends all of `bytes`, and flushes.
+/// WentOut all of `bytes`, and flushes.
 pub(crate) fn send<W: io::Write>(outlet: &mut Outlet<W>, bytes: &[u8]) -> Result<(), WriteFault>
     requires { fresh_of outlet.old ≡ true }
-    ensures ok { OnOk result (Sends W.contents outlet.old outlet.new bytes.now) }
+    ensures ok { OnOk result (WentOut W.contents outlet.old outlet.new bytes.now) }
     ensures whole { OnOk result (broken_of outlet.new ≡ false) }
     ensures broken { OnErr result (broken_of outlet.new ≡ true) }
     ensures count { IfErr result (λ fault. fault.written ≡ written_of outlet.new) }
     ensures prefix { IfErr result
-        (λ fault. Sends W.contents outlet.old outlet.new (take fault.written bytes.now)) }
+        (λ fault. WentOut W.contents outlet.old outlet.new (take fault.written bytes.now)) }
 {
     outlet.put(bytes)?;
     outlet.finish()

@@ -1,8 +1,8 @@
 //! `show`: what a person asks of a font, and what a cut of it keeps and drops.
 ghost use Rattle.std.specs.Prelude.{◌≡◌, ◌<◌, None, Some, IfErr, IfOk, OnOk, false, true};
 ghost use Rattle.font_cut.specs.Fonts.{cmap_of, font_fault, glyph_count_of, mapped_codes, mapping_of};
-ghost use Rattle.font_cmd.specs.Inlet.{broken_of as inlet_broken_of, fresh_of as inlet_fresh_of};
-ghost use Rattle.font_cut.specs.Outlet.{Sends, broken_of, fresh_of};
+ghost use Rattle.font_cmd.specs.Inlet.{inlet_broken_of, inlet_fresh_of};
+ghost use Rattle.font_cut.specs.Outlet.{WentOut, broken_of, fresh_of};
 ghost use Rattle.font_cmd.specs.Run.{IsAccepted, RefusesFont, RunStops, got};
 ghost use Rattle.font_cmd.specs.Show.{cut_text, dropped_line, dropped_text, font_text, kept_line, kept_table_line, kept_text, mapped_text, numbers_text, show_text};
 
@@ -205,7 +205,7 @@ pub fn run_show<R: Read, W: Write, A: Allocator + Copy>(
     ensures spent { inlet_fresh_of inlet.new ≡ false }
 
     ensures sent { OnOk result (got R.remaining inlet.old
-        (λ file. (font_fault file ≡ None) × Sends W.contents outlet.old outlet.new (show_text file))) }
+        (λ file. (font_fault file ≡ None) × WentOut W.contents outlet.old outlet.new (show_text file))) }
     ensures whole { OnOk result ((inlet_broken_of inlet.new ≡ false) × (broken_of outlet.new ≡ false)) }
 
     ensures error { IfErr result

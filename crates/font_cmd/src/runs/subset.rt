@@ -2,8 +2,8 @@
 ghost use Rattle.std.specs.Prelude.{◌≡◌, ◌≤◌, None, IfErr, IfOk, OnOk, false, length, true};
 ghost use Rattle.font_cut.specs.Cut.{cut_of};
 ghost use Rattle.font_cut.specs.Fonts.{MAX_FILE, font_fault, member};
-ghost use Rattle.font_cut.specs.Outlet.{Sends, broken_of, fresh_of};
-ghost use Rattle.font_cmd.specs.Inlet.{broken_of as inlet_broken_of, fresh_of as inlet_fresh_of};
+ghost use Rattle.font_cut.specs.Outlet.{WentOut, broken_of, fresh_of};
+ghost use Rattle.font_cmd.specs.Inlet.{inlet_broken_of, inlet_fresh_of};
 ghost use Rattle.font_cmd.specs.Run.{HasCut, RefusesCut, RunStops, got};
 
 use crate::runs::inlet::Inlet;
@@ -30,7 +30,7 @@ pub fn run_subset<R: Read, W: Write, A: Allocator + Copy>(
     ensures spent { inlet_fresh_of inlet.new ≡ false }
 
     ensures sent { OnOk result (got R.remaining inlet.old
-        (λ file. (font_fault file ≡ None) × Sends W.contents outlet.old outlet.new
+        (λ file. (font_fault file ≡ None) × WentOut W.contents outlet.old outlet.new
         (cut_of file (member wanted.now)))) }
     ensures size { IfOk result (λ size. (size ≤ MAX_FILE) × got R.remaining inlet.old
         (λ file. size ≡ length (cut_of file (member wanted.now)))) }

@@ -1,6 +1,7 @@
 use Rattle.std.proofs.Common.{◌≡◌, ℕ, Bool, List, None, option_copied, subst, sym}
 use Rattle.font_file.specs.Font.{font_fault}
-use Rattle.font_cut.specs.Content.{IsKeptSet, IsSeedSet, codes_wanted}
+use Rattle.font_cut.specs.Content.{IsKeptSet, codes_wanted}
+use Rattle.font_cut.specs.Inside.{IsSeedSet}
 use Rattle.font_cut.proofs.SeedLemmas.{kept_marked}
 use Rattle.font_cut.proofs.cut_source.mark_kept.Goals as goal
 

@@ -1,5 +1,5 @@
 use Rattle.std.proofs.Common.{◌≤◌, ◌-◌}
-use Rattle.font_cut.specs.Content.{AreMarked}
+use Rattle.font_cut.specs.Inside.{AreMarked}
 use Rattle.font_cut.proofs.cut_source.mark_run.Given as goal
 
 abbrev pub invariant-loop-g : goal.invariant-loop-g

@@ -3,7 +3,7 @@ use Rattle.font_map.specs.CharacterMap.{restricted}
 use Rattle.font_cut.specs.Content.{codes_wanted}
 use Rattle.font_tables.specs.Fields.{glyph_count_of}
 use Rattle.font_file.specs.Font.{map_of}
-use Rattle.font_cut.specs.Content.{AreSeedsTo}
+use Rattle.font_cut.specs.Inside.{AreSeedsTo}
 use Rattle.font_cut.proofs.cut_source.mark_seeds.Given as goal
 
 abbrev pub invariant-loop-run : goal.invariant-loop-run

@@ -1,7 +1,8 @@
 use Rattle.std.proofs.Common.{◌≡◌, ℕ, List, None, arith, subst, sym, ◌∙◌}
 use Rattle.font_theory.specs.Content.{content, everything, font_of}
 use Rattle.font_theory.specs.Join.{both}
-use Rattle.font_cut.specs.Union.{IsAddRefusal, add_fault, content_in}
+use Rattle.font_cut.specs.Union.{content_in}
+use Rattle.font_cut.specs.Inside.{IsAddRefusal, add_fault}
 use Rattle.font_cut.proofs.AddLemmas.{joined_next, refused_next, too_large_next}
 use Rattle.font_cut.proofs.WholeLemmas.{our_format-fault}
 use Rattle.font_cut.proofs.JoinLemmas.{second_refused}

@@ -1,5 +1,6 @@
 use Rattle.std.proofs.Common.{ℕ, List, map}
-use Rattle.font_cut.specs.JoinList.{HoldsFile, Stands}
+use Rattle.font_cut.specs.JoinList.{Stands}
+use Rattle.font_cut.specs.Inside.{HoldsFile}
 use Rattle.font_cut.proofs.join_list.union_in_turn.Given as goal
 
 -- what stands after so many joins has the content of the union

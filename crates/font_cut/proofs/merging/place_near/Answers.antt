@@ -1,5 +1,5 @@
 use Rattle.std.proofs.Common.{◌≡◌, ℕ, ◌+◌, ◌-◌, arith, subst}
-use Rattle.font_cut.specs.Union.{IsPast}
+use Rattle.font_cut.specs.Inside.{IsPast}
 use Rattle.font_cut.proofs.RunListLemmas.{past_middle}
 use Rattle.font_cut.proofs.merging.place_near.Goals as goal
 

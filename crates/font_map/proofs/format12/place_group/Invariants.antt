@@ -1,5 +1,6 @@
 use Rattle.std.proofs.Common.{◌-◌}
-use Rattle.font_map.specs.Format12.{group_count, group_end}
+use Rattle.font_map.specs.Format12.{group_count}
+use Rattle.font_map.specs.Inside.{group_end}
 use Rattle.font_map.proofs.OrderLemmas.{Halves}
 use Rattle.font_map.proofs.format12.place_group.Given as goal
 

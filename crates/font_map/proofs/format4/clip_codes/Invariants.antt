@@ -1,5 +1,5 @@
 use Rattle.font_map.specs.CharacterMap.{IsUnmapped, clipped}
-use Rattle.font_map.specs.Format4.{glyph_of_segment}
+use Rattle.font_map.specs.Inside.{glyph_of_segment}
 use Rattle.font_map.proofs.format4.clip_codes.Given as goal
 
 abbrev pub invariant-loop-code : goal.invariant-loop-code

@@ -1,5 +1,6 @@
 use Rattle.std.proofs.Common.{◌-◌}
-use Rattle.font_map.specs.Format4.{segment_count, segment_end}
+use Rattle.font_map.specs.Format4.{segment_count}
+use Rattle.font_map.specs.Inside.{segment_end}
 use Rattle.font_map.proofs.OrderLemmas.{Halves}
 use Rattle.font_map.proofs.format4.place_segment.Given as goal
 

@@ -1,5 +1,6 @@
 use Rattle.std.proofs.Common.{◌≡◌, ℕ, ◌<◌}
-use Rattle.font_map.specs.Format4.{segment_count, segment_end}
+use Rattle.font_map.specs.Format4.{segment_count}
+use Rattle.font_map.specs.Inside.{segment_end}
 use Rattle.font_map.proofs.format4.walk_place.Given as goal
 
 abbrev pub invariant-loop-i : goal.invariant-loop-i

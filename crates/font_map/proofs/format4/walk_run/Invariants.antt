@@ -1,6 +1,7 @@
 use Rattle.std.proofs.Common.{ℕ, ◌<◌, ◌≤◌, ◌+◌, ◌-◌}
 use Rattle.font_map.specs.CharacterMap.{clipped}
-use Rattle.font_map.specs.Format4.{segment_count, segment_end, segment_glyph}
+use Rattle.font_map.specs.Format4.{segment_count, segment_glyph}
+use Rattle.font_map.specs.Inside.{segment_end}
 use Rattle.font_map.specs.Runs.{IsPiece}
 use Rattle.font_map.proofs.format4.walk_run.Given as goal
 

@@ -1,5 +1,5 @@
 use Rattle.std.proofs.Common.{◌≡◌, drop}
-use Rattle.font_map.specs.Wanted.{absorbed}
+use Rattle.font_map.specs.Inside.{absorbed}
 use Rattle.font_map.proofs.ranges.absorb.Given as goal
 
 abbrev pub invariant-loop-j : goal.invariant-loop-j

@@ -1,5 +1,5 @@
 use Rattle.std.proofs.Common.{◌-◌, length}
-use Rattle.font_map.specs.Wanted.{range_end}
+use Rattle.font_map.specs.Inside.{range_end}
 use Rattle.font_map.proofs.OrderLemmas.{Halves}
 use Rattle.font_map.proofs.ranges.place_range.Given as goal
 

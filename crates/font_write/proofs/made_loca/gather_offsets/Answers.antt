@@ -2,7 +2,8 @@ use Rattle.std.proofs.Common.{◌≡◌, ℕ, ◌+◌, ◌-◌, ◌*◌, ◌≤�
 use Rattle.font_glyph.specs.Union.{record_in}
 use Rattle.font_theory.specs.Bytes.{bytes32}
 use Rattle.font_theory.specs.Content.{Content, glyph_count}
-use Rattle.font_write.specs.Parts.{glyf_to, loca_to}
+use Rattle.font_write.specs.Parts.{glyf_to}
+use Rattle.font_write.specs.Inside.{loca_to}
 use Rattle.font_write.proofs.OutlineLemmas.{glyf_more, glyf_within, loca_more}
 use Rattle.font_write.proofs.PartLemmas.{part_fits}
 use Rattle.font_write.proofs.made_loca.gather_offsets.Goals as goal

@@ -1,6 +1,7 @@
 use Rattle.std.proofs.Common.{◌≡◌, ◌≤◌, ◌-◌, length}
 use Rattle.font_write.specs.Trace.{SentAll}
-use Rattle.font_write.specs.Parts.{glyf_to, loca_to}
+use Rattle.font_write.specs.Parts.{glyf_to}
+use Rattle.font_write.specs.Inside.{loca_to}
 use Rattle.font_write.proofs.made_loca.send_loca.Given as goal
 
 abbrev pub invariant-loop-from : goal.invariant-loop-from

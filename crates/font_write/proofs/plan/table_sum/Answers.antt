@@ -2,9 +2,10 @@ use Rattle.std.proofs.Common.{ℕ, List, [], refl, sym, ap, ◌∙◌, Option, a
 use Rattle.std.specs.Option.{unwrap_or}
 use Rattle.sfnt_bytes.specs.Sums.{checksum_of}
 use Rattle.font_theory.specs.Content.{Content}
-use Rattle.font_theory.specs.File.{Form, checksum_in_slot, cmap_bytes, form_of, groups_of}
+use Rattle.font_theory.specs.File.{Form, checksum_in_slot, cmap_bytes, form_of, canonical_groups}
 use Rattle.font_theory.proofs.SumLemmas.{checksum_in_slot-other}
-use Rattle.font_write.specs.Parts.{all_offsets, glyf_in, last_head}
+use Rattle.font_write.specs.Parts.{last_head}
+use Rattle.font_write.specs.Inside.{all_offsets, glyf_in}
 use Rattle.font_write.proofs.ChecksumLemmas.{checksum_in_slot-last_head, checksum_in_slot-nil}
 use Rattle.font_write.proofs.MeasureLemmas.{sum_is}
 use Rattle.font_write.proofs.SlotLemmas.{outlines_end, table_cmap, table_copied, table_glyf, table_head, table_loca}
@@ -14,7 +15,7 @@ pub returns-then-slot-eq-CMAP : goal.returns-then-slot-eq-CMAP
 returns-then-slot-eq-CMAP g c =
     let form : Form = form_of c.args.profile in
     let K : Content = g.S.Source.content_of c.args.source.now in
-    sum_is form K c.args.slot 1 (cmap_bytes form (groups_of K)) _ c.if-slot-eq-CMAP.true (table_cmap form K) c.sum_cmap.ensures
+    sum_is form K c.args.slot 1 (cmap_bytes form (canonical_groups K)) _ c.if-slot-eq-CMAP.true (table_cmap form K) c.sum_cmap.ensures
 
 pub returns-then-slot-eq-GLYF : goal.returns-then-slot-eq-GLYF
 returns-then-slot-eq-GLYF g c =

@@ -1,13 +1,13 @@
 use Rattle.std.proofs.Common.{◌≡◌, ◌<◌, true, ◌++◌, ◌∷◌, [], rules, length, map, sym, subst, ◌∙◌, ap}
 use Rattle.std.proofs.lemmas.List.{map-append}
-use Rattle.font_cmd.specs.Inlet.{fresh_of}
+use Rattle.font_cmd.specs.Inlet.{inlet_fresh_of}
 use Rattle.font_cmd.proofs.ReadEachLemmas.{all_got, all_spent, next_is, one_more_read, still_read, stops_reading}
 use Rattle.font_cmd.proofs.runs.join.read_each.Goals as goal
 
 pub read_all-requires : goal.read_all-requires
 read_all-requires g c =
     let next = next_is _ _ _ _ _ c.loop-k.invariant c.index-inlets-k.result in
-    subst (λ inlet. fresh_of inlet ≡ true) (sym next) (c.requires c.loop-k.k c.index-inlets-k.result c.loop-k-test.true)
+    subst (λ inlet. inlet_fresh_of inlet ≡ true) (sym next) (c.requires c.loop-k.k c.index-inlets-k.result c.loop-k-test.true)
 
 pub returns-in_err-file-clause-stops : goal.returns-in_err-file-clause-stops
 returns-in_err-file-clause-stops g c =

@@ -1,5 +1,5 @@
 use Rattle.std.proofs.Common.{rules, ◌≡◌, ◌<◌, None, map, replicate, option_copied, refl, sym, subst, ap, ◌∙◌}
-use Rattle.font_cut.specs.Union.{AreCounted, outline_in}
+use Rattle.font_cut.specs.Union.{AreCounted, listed_outline}
 use Rattle.font_cut.proofs.OutlineListLemmas.{counted_none, outline_none}
 use Rattle.font_cut.proofs.outlines.Outlines.new.Goals as goal
 
@@ -12,4 +12,4 @@ invariant_of-result g c =
 pub returns-clause-none : goal.returns-clause-none
 returns-clause-none g c =
     let is : c.in_ok-outlines.outlines.items ≡ replicate c.args.count None = search rules in
-    λ h. ap (λ xs. outline_in (map (λ x. option_copied x) xs) h) is ∙ outline_none (λ x. option_copied x) None refl c.args.count h
+    λ h. ap (λ xs. listed_outline (map (λ x. option_copied x) xs) h) is ∙ outline_none (λ x. option_copied x) None refl c.args.count h

@@ -7,7 +7,8 @@ use Rattle.font_file.specs.Font.{font_fault}
 use Rattle.font_theory.specs.Content.{content, everything, font_of}
 use Rattle.font_theory.specs.Join.{both}
 use Rattle.font_tables.specs.Fields.{glyph_count_of}
-use Rattle.font_cut.specs.Union.{AgreesEarly, Held, add_fault, content_in, is_other, outline_in}
+use Rattle.font_cut.specs.Union.{Held, content_in, is_other, listed_outline}
+use Rattle.font_cut.specs.Inside.{AgreesEarly, add_fault}
 use Rattle.font_cut.specs.declared.join_error.JoinError.TheVariants.{DifferentGlyph}
 use Rattle.font_cut.proofs.AddLemmas.{content_added, early_form, no_other_glyph, other_glyph, taken_added, union_added}
 use Rattle.font_cut.proofs.union.Union.add.Goals as goal
@@ -23,8 +24,8 @@ returns-in-Some-take g c =
     let y : List ℕ = c.in-Ok.file in
     let agrees : AgreesEarly (content_in u) y = subst (λ (v : Held). AgreesEarly (content_in v) y) (sym c.self.view_is) c.in_default-early_refusal.ensures in
     let count : c.glyph_count-count.result ≡ glyph_count_of u.tables = c.glyph_count-count.ensures.count ∙ ap glyph_count_of c.tables.ensures.tables in
-    let compared : c.take.result ≡ find (is_other (outline_in u.outlines) (content (font_of y) everything).outline) (range_with_len 0 (glyph_count_of u.tables)) =
-    subst (λ (n : ℕ). c.take.result ≡ find (is_other (outline_in u.outlines) (content (font_of y) everything).outline) (range_with_len 0 n)) count c.take.ensures.differs in
+    let compared : c.take.result ≡ find (is_other (listed_outline u.outlines) (content (font_of y) everything).outline) (range_with_len 0 (glyph_count_of u.tables)) =
+    subst (λ (n : ℕ). c.take.result ≡ find (is_other (listed_outline u.outlines) (content (font_of y) everything).outline) (range_with_len 0 n)) count c.take.ensures.differs in
     let other : add_fault (content_in u) y ≡ Some (DifferentGlyph c.in-Some-take.g) = other_glyph u y c.self.invariant agrees c.take.result compared c.in-Some-take.g c.in-Some-take.is in
     subst (λ (v : Held). add_fault (content_in v) c.args.font.now ≡ Some (DifferentGlyph c.in-Some-take.g)) c.self.view_is
     (subst (λ (f : List ℕ). add_fault (content_in u) f ≡ Some (DifferentGlyph c.in-Some-take.g)) c.in-Ok.ensures other)
@@ -35,8 +36,8 @@ invariant_of-result g c =
     let y : List ℕ = c.in-Ok.file in
     let agrees : AgreesEarly (content_in u) y = subst (λ (v : Held). AgreesEarly (content_in v) y) (sym c.self.view_is) c.in_default-early_refusal.ensures in
     let count : c.glyph_count-count.result ≡ glyph_count_of u.tables = c.glyph_count-count.ensures.count ∙ ap glyph_count_of c.tables.ensures.tables in
-    let compared : c.take.result ≡ find (is_other (outline_in u.outlines) (content (font_of y) everything).outline) (range_with_len 0 (glyph_count_of u.tables)) =
-    subst (λ (n : ℕ). c.take.result ≡ find (is_other (outline_in u.outlines) (content (font_of y) everything).outline) (range_with_len 0 n)) count c.take.ensures.differs in
+    let compared : c.take.result ≡ find (is_other (listed_outline u.outlines) (content (font_of y) everything).outline) (range_with_len 0 (glyph_count_of u.tables)) =
+    subst (λ (n : ℕ). c.take.result ≡ find (is_other (listed_outline u.outlines) (content (font_of y) everything).outline) (range_with_len 0 n)) count c.take.ensures.differs in
     let accepted : font_fault y ≡ None = ap font_fault c.in-Ok.ensures ∙ c.accepted.ensures in
     let none : add_fault (content_in u) y ≡ None = no_other_glyph u y c.self.invariant agrees c.take.result compared c.in_default-take.is in
     let runs = c.in-Ok-runs_of_both.runs.items in
@@ -52,8 +53,8 @@ returns g c =
     let y : List ℕ = c.in-Ok.file in
     let agrees : AgreesEarly (content_in u) y = subst (λ (v : Held). AgreesEarly (content_in v) y) (sym c.self.view_is) c.in_default-early_refusal.ensures in
     let count : c.glyph_count-count.result ≡ glyph_count_of u.tables = c.glyph_count-count.ensures.count ∙ ap glyph_count_of c.tables.ensures.tables in
-    let compared : c.take.result ≡ find (is_other (outline_in u.outlines) (content (font_of y) everything).outline) (range_with_len 0 (glyph_count_of u.tables)) =
-    subst (λ (n : ℕ). c.take.result ≡ find (is_other (outline_in u.outlines) (content (font_of y) everything).outline) (range_with_len 0 n)) count c.take.ensures.differs in
+    let compared : c.take.result ≡ find (is_other (listed_outline u.outlines) (content (font_of y) everything).outline) (range_with_len 0 (glyph_count_of u.tables)) =
+    subst (λ (n : ℕ). c.take.result ≡ find (is_other (listed_outline u.outlines) (content (font_of y) everything).outline) (range_with_len 0 n)) count c.take.ensures.differs in
     let accepted : font_fault y ≡ None = ap font_fault c.in-Ok.ensures ∙ c.accepted.ensures in
     let none : add_fault (content_in u) y ≡ None = no_other_glyph u y c.self.invariant agrees c.take.result compared c.in_default-take.is in
     let runs = c.in-Ok-runs_of_both.runs.items in

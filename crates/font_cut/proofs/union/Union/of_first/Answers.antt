@@ -2,7 +2,8 @@ use Rattle.std.proofs.Common.{rules, ◌≡◌, ℕ, List, None, length, sym, su
 use Rattle.font_tables.specs.Fields.{glyph_count_of}
 use Rattle.font_theory.specs.Content.{Content, content, everything, font_of}
 use Rattle.font_theory.specs.Cut.{IsCut, our_format}
-use Rattle.font_cut.specs.Union.{AreRunsOf, AreTaken, IsUnion, content_in, outline_in}
+use Rattle.font_cut.specs.Union.{AreRunsOf, IsUnion, content_in, listed_outline}
+use Rattle.font_cut.specs.Inside.{AreTaken}
 use Rattle.font_cut.proofs.AddLemmas.{content_first, none_other, union_first}
 use Rattle.font_cut.proofs.OutlineListLemmas.{taken_whole, union_of_none}
 use Rattle.font_cut.proofs.SourceLemmas.{glyph_count_is}
@@ -17,9 +18,9 @@ invariant_of-result g c =
     let listed : AreRunsOf w runs = c.into_runs.ensures in
     let none : c.take-other.result ≡ None = c.take-other.ensures.differs ∙ none_other c.in-Ok-new.outlines L.outline c.glyph_count-count.result c.in-Ok-new.ensures.none in
     let are : AreTaken c.in-Ok-new.outlines c.take-other.new.self L.outline c.glyph_count-count.result = c.take-other.ensures.taken none in
-    let taken : (h : ℕ) → outline_in c.take-other.new.self h ≡ L.outline h = λ h.
+    let taken : (h : ℕ) → listed_outline c.take-other.new.self h ≡ L.outline h = λ h.
     taken_whole c.in-Ok-new.outlines c.take-other.new.self w c.glyph_count-count.result form c.glyph_count-count.ensures c.in-Ok-new.ensures.count are h
-    ∙ union_of_none (outline_in c.in-Ok-new.outlines) L.outline h (c.in-Ok-new.ensures.none h) in
+    ∙ union_of_none (listed_outline c.in-Ok-new.outlines) L.outline h (c.in-Ok-new.ensures.none h) in
     let count : length c.take-other.new.self ≡ glyph_count_of w = are.count ∙ c.in-Ok-new.ensures.count ∙ c.glyph_count-count.ensures ∙ sym (glyph_count_is w) in
     subst (λ (f : List ℕ). IsUnion (record { tables = f; runs = runs; outlines = c.take-other.new.self })) c.in-Ok.ensures
     (union_first w form runs c.take-other.new.self listed.spelled_map taken listed.of_map count)
@@ -33,8 +34,8 @@ returns g c =
     let listed : AreRunsOf w runs = c.into_runs.ensures in
     let none : c.take-other.result ≡ None = c.take-other.ensures.differs ∙ none_other c.in-Ok-new.outlines L.outline c.glyph_count-count.result c.in-Ok-new.ensures.none in
     let are : AreTaken c.in-Ok-new.outlines c.take-other.new.self L.outline c.glyph_count-count.result = c.take-other.ensures.taken none in
-    let taken : (h : ℕ) → outline_in c.take-other.new.self h ≡ L.outline h = λ h.
+    let taken : (h : ℕ) → listed_outline c.take-other.new.self h ≡ L.outline h = λ h.
     taken_whole c.in-Ok-new.outlines c.take-other.new.self w c.glyph_count-count.result form c.glyph_count-count.ensures c.in-Ok-new.ensures.count are h
-    ∙ union_of_none (outline_in c.in-Ok-new.outlines) L.outline h (c.in-Ok-new.ensures.none h) in
+    ∙ union_of_none (listed_outline c.in-Ok-new.outlines) L.outline h (c.in-Ok-new.ensures.none h) in
     subst (λ (f : List ℕ). (content_in (record { tables = f; runs = runs; outlines = c.take-other.new.self }) ≡ content (font_of f) everything) × IsCut our_format f) c.in-Ok.ensures
     (content_first w form runs c.take-other.new.self listed.spelled_map taken, form)

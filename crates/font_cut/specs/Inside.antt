@@ -1,0 +1,116 @@
+-- Words of the proofs inside this crate: no public clause names them.
+use Rattle.font_cut.specs.Join.{different}
+use Rattle.font_cut.specs.JoinList.{Stands}
+use Rattle.font_cut.specs.Union.{Held, content_in, listed_outline}
+use Rattle.font_cut.specs.declared.join_error.JoinError.{JoinError}
+use Rattle.font_cut.specs.declared.join_error.JoinError.TheVariants.{NoMemory, NotACut}
+use Rattle.font_cut.specs.declared.join_error.Which.TheVariants.{First, Second}
+use Rattle.font_file.specs.Font.{map_of, font_fault}
+use Rattle.font_glyph.specs.Marks.{has}
+use Rattle.font_glyph.specs.Union.{Records, union_of}
+use Rattle.font_map.specs.CharacterMap.{restricted}
+use Rattle.font_map.specs.declared.runs.Run.{Run}
+use Rattle.font_tables.specs.Fields.{glyph_count_of}
+use Rattle.font_theory.specs.Content.{everything, font_of, is_seed, content, CODES, Content}
+use Rattle.font_theory.specs.Cut.{IsCut, our_format, is_cut}
+use Rattle.font_theory.specs.Difference.{difference, is_different_code, is_different_table}
+use Rattle.font_theory.specs.File.{file, current_form, current_profile}
+use Rattle.font_theory.specs.Tree.{file_at}
+use Rattle.font_theory.specs.declared.Difference.{Difference}
+use Rattle.font_theory.specs.declared.Difference.TheVariants.{AtCode, AtTable}
+use Rattle.font_write.specs.Plan.{IsPlan}
+use Rattle.font_write.specs.declared.plan.Plan.{Plan}
+use Rattle.sfnt_bytes.specs.Lines.{first_of_lines, when}
+use Rattle.sfnt_bytes.specs.declared.directory.TheConstants.{MAX_FILE}
+use Rattle.std.specs.List.{range_with_len}
+use Rattle.std.specs.Option.{option_map}
+use Rattle.std.specs.Prelude.{◌≡◌, ℕ, ◌+◌, ◌<◌, ◌≤◌, ◌⊎◌, ◌↔◌, Bool, true, List, length, Option, None, Some, zero, [], false, not, find, ◌∷◌, get_or}
+
+-- n glyphs from one on are marked, beside those that were
+pub record AreMarked (old new : List Bool) (low n : ℕ) : Type 0 where
+  pub count : length new ≡ length old
+  pub marked : (g : ℕ) → has new g ≡ true ↔ ((low ≤ g) × (g < low + n)) ⊎ (has old g ≡ true)
+
+-- .notdef and the glyphs of the wanted codes are marked
+pub record IsSeedSet (file : List ℕ) (wanted : ℕ → Bool) (marks : List Bool) : Type 0 where
+  pub count : length marks ≡ glyph_count_of file
+  pub seeds : (g : ℕ) → has marks g ≡ is_seed (restricted wanted (map_of file)) g
+
+-- .notdef and the glyphs of the codes below one are marked
+pub record AreSeedsTo (m : ℕ → ℕ) (from : ℕ) (marks : List Bool) : Type 0 where
+  pub zero : has marks 0 ≡ true
+  pub codes : (c : ℕ) → c < from → has marks (m c) ≡ true
+  pub only : (g : ℕ) → has marks g ≡ true → (g ≡ 0) ⊎ ((c : ℕ) × (m c ≡ g))
+
+-- a union has the content of a file in cut form, which is its file
+pub record HoldsFile (u : Held) (x : List ℕ) : Type 0 where
+  pub form : IsCut our_format x
+  pub whole : content_in u ≡ content (font_of x) everything
+  pub written : x ≡ file current_form (content_in u)
+  pub small : length x ≤ MAX_FILE
+
+-- a union stands after all steps, the first of which is that of the first file with itself
+pub record IsUnited (files : List (List ℕ)) (u : Held) : Type 0 where
+  pub some : 0 < length files
+  pub last : List ℕ
+  pub stands : Stands files (length files) last
+  pub holds : HoldsFile u last
+
+-- a file is the first one of a list, and accepted
+pub record IsFirst (files : List (List ℕ)) (x : List ℕ) : Type 0 where
+  pub some : 0 < length files
+  pub is : x ≡ file_at files 0
+  pub accepted : font_fault x ≡ None
+
+-- the run at a place
+abbrev pub run_at : List Run → ℕ → Run
+run_at runs k = get_or runs k (record { first = 0; last = 0; glyph = 0 })
+
+-- the runs before a place end below a code
+pub record IsPast (runs : List Run) (from at : ℕ) : Type 0 where
+  pub within : at ≤ length runs
+  pub before : (k : ℕ) → k < at → (run_at runs k).last < from
+
+-- and the one at that place does not
+pub record IsPlace (runs : List Run) (from at : ℕ) : Type 0 where
+  pub past : IsPast runs from at
+  pub there : at < length runs → from ≤ (run_at runs at).last
+
+-- the outlines of the first n glyphs have been taken, where there were none
+pub record AreTaken (old now : List (Option (List ℕ))) (L : Records) (n : ℕ) : Type 0 where
+  pub count : length now ≡ length old
+  pub below : (g : ℕ) → g < n → listed_outline now g ≡ union_of (listed_outline old) L g
+  pub above : (g : ℕ) → n ≤ g → listed_outline now g ≡ listed_outline old g
+
+-- why a file is no first one: want of memory, or it is no cut
+abbrev pub IsFirstRefusal : List ℕ → JoinError → Type 0
+IsFirstRefusal x NoMemory = Unit {0}
+IsFirstRefusal x error = (is_cut our_format x ≡ false) × (error ≡ NotACut First)
+
+-- the first table or code that tells two contents apart
+unfoldable pub early_difference : Content → Content → Option Difference
+early_difference K L = first_of_lines
+    (option_map AtTable (find (is_different_table K L) (range_with_len 0 16))
+    ∷ option_map AtCode (find (is_different_code K L) (range_with_len 0 CODES))
+    ∷ [])
+
+-- the first refusal of a file that is added to a content, but for the size
+unfoldable pub add_fault : Content → List ℕ → Option JoinError
+add_fault K y = first_of_lines (when (not (is_cut our_format y)) (NotACut Second) ∷ option_map different (difference K (content (font_of y) everything)) ∷ [])
+
+-- a file in cut form agrees with a content in its tables and its map
+pub record AgreesEarly (K : Content) (y : List ℕ) : Type 0 where
+  pub form : is_cut our_format y ≡ true
+  pub early : early_difference K (content (font_of y) everything) ≡ None
+
+-- why a file is not added
+abbrev pub IsAddRefusal : Content → List ℕ → JoinError → Type 0
+IsAddRefusal K y NoMemory = Unit {0}
+IsAddRefusal K y error = add_fault K y ≡ Some error
+
+-- the plan of the file of a content, and its length, which is not too large
+pub record IsMeasured (K : Content) (measured : Plan × ℕ) : Type 0 where
+  pub plan : IsPlan K measured.0
+  pub profile : measured.0.profile ≡ current_profile
+  pub size : measured.1 ≡ length (file current_form K)
+  pub small : length (file current_form K) ≤ MAX_FILE
