@@ -6,7 +6,7 @@ use Rattle.std.proofs.lemmas.List.{append-nil}
 use Rattle.font_map.specs.CharacterMap.{IsCharacterMap, united}
 use Rattle.font_map.specs.Runs.{AreRuns, IsNext, IsRun, NoRun, groups_from, spelled}
 use Rattle.font_map.specs.declared.runs.Run.{Run}
-use Rattle.font_map.proofs.MapLemmas.{united-map}
+use Rattle.font_map.proofs.MapLemmas.{united-map, united-none, united-some}
 use Rattle.font_map.proofs.RunLemmas.{canonical, groups_done, groups_from-runs}
 use Rattle.font_cut.specs.Union.{AreMapRuns}
 use Rattle.font_cut.specs.Inside.{IsPast, IsPlace, run_at}
@@ -128,6 +128,49 @@ groups_spell m runs ok e =
 pub groups_all : (m : ℕ → ℕ) (from : ℕ) (runs : List Run) → IsCharacterMap m → runs ++ groups_from m from ≡ groups_from m 0 → NoRun m from → (spelled runs ≡ m) × AreMapRuns runs
 groups_all m from runs ok done none =
     groups_spell m runs ok (sym (append-nil runs) ∙ ap (λ (rest : List Run). runs ++ rest) (sym (groups_done m from ok none)) ∙ done)
+
+-- below the run at a place no code from one on is mapped
+pub gap_before : (runs : List Run) (from at c : ℕ) → AreMapRuns runs → IsPast runs from at → at < length runs → from ≤ c → c < (run_at runs at).first → spelled runs c ≡ 0
+gap_before runs from at c ok past lt x y =
+    let f = found_at (spelled runs) from 0 runs at ok.are (omega arith) lt past.before in f.2.piece.least c (omega (arith, f.1, x)) y
+
+pub gap_at_end : (runs : List Run) (from at c : ℕ) → AreMapRuns runs → IsPast runs from at → length runs ≤ at → from ≤ c → spelled runs c ≡ 0
+gap_at_end runs from at c ok past le x =
+    none_past (spelled runs) from 0 runs ok.are (omega arith) (λ k low. past.before k (omega (arith, low, le))) c x
+
+-- a run of the first map is one of the union, where the second maps no code up to behind its end
+united_alone : (m k : ℕ → ℕ) (c : ℕ) → k c ≡ 0 → united m k c ≡ m c
+united_alone m k c e = elim (cases_lt 0 (m c)) [
+  | inl x ↦ united-some m k c x
+  | inr x ↦ let z : m c ≡ 0 = omega (arith, x) in united-none m k c z ∙ e ∙ sym z
+]
+
+pub run_alone : (m k : ℕ → ℕ) (from : ℕ) (run : Run) → IsRun m from run → ((c : ℕ) → from ≤ c → c < run.last + 2 → k c ≡ 0) → IsRun (united m k) from run
+run_alone m k from run h none =
+    let same : (c : ℕ) → from ≤ c → c < run.last + 2 → united m k c ≡ m c = λ c x y. united_alone m k c (none c x y) in
+    record {
+      piece = record {
+        from_on = h.piece.from_on;
+        least = λ c x y. same c x (omega (arith, y, h.piece.order)) ∙ h.piece.least c x y;
+        order = h.piece.order;
+        within = h.piece.within;
+        mapped = h.piece.mapped;
+        small = h.piece.small;
+        along = λ c x y. omega (arith, same c (omega (arith, x, h.piece.from_on)) (omega (arith, y)), h.piece.along c x y);
+      };
+      longest = λ q. h.longest (omega (arith, q, same (run.last + 1) (omega (arith, h.piece.from_on, h.piece.order)) (omega arith)));
+    }
+
+-- the run at a place ends at a code point
+pub last_there : (runs : List Run) (from at : ℕ) → AreMapRuns runs → IsPast runs from at → at < length runs → (run_at runs at).last ≤ 0x10FFFF
+last_there runs from at ok past lt = (found_at (spelled runs) from 0 runs at ok.are (omega arith) lt past.before).2.piece.within
+
+-- the run of the first list at a place, where it begins behind the code
+pub alone_there : (a b : List Run) (from at : ℕ) → AreMapRuns a → IsPast a from at → at < length a → from ≤ (run_at a at).first
+    → ((c : ℕ) → from ≤ c → c < (run_at a at).last + 2 → spelled b c ≡ 0) → IsRun (united (spelled a) (spelled b)) from (run_at a at)
+alone_there a b from at ok past lt on none =
+    let f = found_at (spelled a) from 0 a at ok.are (omega arith) lt past.before in
+    run_alone (spelled a) (spelled b) from (run_at a at) (run_whole (spelled a) from f.0 (run_at a at) f.1 f.2 on) none
 
 pub both_map : (a b : List Run) → AreMapRuns a → AreMapRuns b → IsCharacterMap (united (spelled a) (spelled b))
 both_map a b x y = united-map (spelled a) (spelled b) x.map y.map

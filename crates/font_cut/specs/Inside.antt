@@ -9,6 +9,7 @@ use Rattle.font_file.specs.Font.{map_of, font_fault}
 use Rattle.font_glyph.specs.Marks.{has}
 use Rattle.font_glyph.specs.Union.{Records, union_of}
 use Rattle.font_map.specs.CharacterMap.{restricted}
+use Rattle.font_map.specs.Runs.{groups_from}
 use Rattle.font_map.specs.declared.runs.Run.{Run}
 use Rattle.font_tables.specs.Fields.{glyph_count_of}
 use Rattle.font_theory.specs.Content.{everything, font_of, is_seed, content, CODES, Content}
@@ -24,7 +25,7 @@ use Rattle.sfnt_bytes.specs.Lines.{first_of_lines, when}
 use Rattle.sfnt_bytes.specs.declared.directory.TheConstants.{MAX_FILE}
 use Rattle.std.specs.List.{range_with_len}
 use Rattle.std.specs.Option.{option_map}
-use Rattle.std.specs.Prelude.{◌≡◌, ℕ, ◌+◌, ◌<◌, ◌≤◌, ◌⊎◌, ◌↔◌, Bool, true, List, length, Option, None, Some, zero, [], false, not, find, ◌∷◌, get_or}
+use Rattle.std.specs.Prelude.{◌≡◌, ℕ, ◌+◌, ◌<◌, ◌≤◌, ◌⊎◌, ◌↔◌, Bool, true, List, length, Option, None, Some, zero, [], false, not, find, ◌∷◌, ◌++◌, get_or}
 
 -- n glyphs from one on are marked, beside those that were
 pub record AreMarked (old new : List Bool) (low n : ℕ) : Type 0 where
@@ -75,6 +76,10 @@ pub record IsPast (runs : List Run) (from at : ℕ) : Type 0 where
 pub record IsPlace (runs : List Run) (from at : ℕ) : Type 0 where
   pub past : IsPast runs from at
   pub there : at < length runs → from ≤ (run_at runs at).last
+
+-- some runs are the first groups of a map, those below a code
+abbrev pub IsDone : (ℕ → ℕ) → List Run → ℕ → Type 0
+IsDone m runs from = runs ++ groups_from m from ≡ groups_from m 0
 
 -- the outlines of the first n glyphs have been taken, where there were none
 pub record AreTaken (old now : List (Option (List ℕ))) (L : Records) (n : ℕ) : Type 0 where

@@ -1,9 +1,9 @@
 //! The runs of the union of two maps. OpenType 1.9, cmap, Format 12: Segmented coverage.
-ghost use Rattle.std.specs.Prelude.{◌≡◌, ◌+◌, ◌≤◌, ℕ, length, IfOk, MatchOption};
+ghost use Rattle.std.specs.Prelude.{◌≡◌, ◌+◌, ◌<◌, ◌≤◌, ℕ, length, IfOk, MatchOption};
 ghost use Rattle.font_map.specs.CharacterMap.{IsCharacterMap, united};
 ghost use Rattle.font_map.specs.Runs.{IsNext, IsPiece, IsRun, NoRun, spelled};
 ghost use Rattle.font_cut.specs.Union.{AreMapRuns};
-ghost use Rattle.font_cut.specs.Inside.{IsPast, IsPlace};
+ghost use Rattle.font_cut.specs.Inside.{IsDone, IsPast, IsPlace};
 
 use font_map::Run;
 use font_write::Source;
@@ -166,6 +166,52 @@ fn run_of_both(
     (run, ahead, at)
 }
 
+// Returns the first code of the run at a place, and one above all codes where there is none: no code
+// between one that has this place and that code is mapped.
+fn end_of_gap(runs: &[Run], place: usize) -> u32
+    requires { AreMapRuns runs.now }
+    ensures { (from : ℕ) → IsPlace runs.now from place → (c : ℕ) → from ≤ c → c < result →
+        spelled runs.now c ≡ 0 }
+{
+    if place < runs.len() {
+        runs[place].first
+    } else {
+        u32::MAX
+    }
+}
+
+// Adds the runs of `a` from a code on that stand alone: they begin behind it, and `b` maps no code up to
+// behind their ends, so each is a run of the union. Returns the place and the code behind the last one.
+fn push_alone<A: Allocator>(
+    a: &[Run],
+    b: &[Run],
+    places: (usize, usize),
+    from: u32,
+    runs: &mut Vec<Run, A>,
+) -> Result<(usize, u32), NoMemory>
+    requires first { AreMapRuns a.now }
+    requires second { AreMapRuns b.now }
+    requires first_past { IsPast a.now from places.0 }
+    requires second_past { IsPast b.now from places.1 }
+    requires small { from ≤ 0x110000 }
+    requires done { IsDone (united (spelled a.now) (spelled b.now)) runs.old.items from }
+    ensures done { IfOk result (λ next. IsDone (united (spelled a.now) (spelled b.now)) runs.new.items next.1) }
+    ensures past { IfOk result (λ next. IsPast a.now next.1 next.0) }
+    ensures order { IfOk result (λ next. (from ≤ next.1) × (next.1 ≤ 0x110000)) }
+{
+    let stop = end_of_gap(b, place_after(b, places.1, from));
+    let mut at = places.0;
+    let mut code = from;
+    while at < a.len() && code <= a[at].first && a[at].last + 1 < stop {
+        if runs.push(a[at]).is_err() {
+            return Err(NoMemory);
+        }
+        code = a[at].last + 1;
+        at += 1;
+    }
+    Ok((at, code))
+}
+
 /// The runs of the union of two maps.
 pub(crate) fn runs_of_both<A: Allocator>(
     alloc: A,
@@ -184,13 +230,13 @@ pub(crate) fn runs_of_both<A: Allocator>(
     let (mut ahead, mut places) = piece_of_both(a, b, (0, 0), 0);
     let mut from = 0;
     while let Some(piece) = ahead {
-        let (run, next, at) = run_of_both(a, b, places, piece);
+        let (run, _, at) = run_of_both(a, b, places, piece);
         if runs.push(run).is_err() {
             return Err(NoMemory);
         }
-        from = run.last + 1;
-        ahead = next;
-        places = at;
+        let (place, code) = push_alone(a, b, at, run.last + 1, &mut runs)?;
+        from = code;
+        (ahead, places) = piece_of_both(a, b, (place, at.1), code);
     }
     Ok(runs)
 }
