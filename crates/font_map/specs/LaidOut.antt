@@ -1,32 +1,27 @@
 -- A map laid out over all codes, as groups in any order give it (OpenType 1.9, cmap, Format 12: Segmented coverage).
-use Rattle.std.specs.Prelude.{◌≡◌, ℕ, ◌+◌, ◌<◌, ◌≤◌, List, length, find, slice_index}
+use Rattle.std.specs.Prelude.{◌≡◌, ◌≢◌, ℕ, ◌+◌, ◌*◌, ◌<◌, ◌≤◌, List, length, find, slice_index}
 use Rattle.font_map.specs.CharacterMap.{clipped}
 use Rattle.font_map.specs.Format12.{group_glyph, groups_of, holds}
 use Rattle.font_map.specs.declared.format12.ListedGroup.{ListedGroup}
 
--- how many codes may be skipped from each code on: 0 for a free one; all that are skipped are taken
-pub record IsSkip (skip : List ℕ) : Type 0 where
-  pub within : (c : ℕ) → c < length skip → c + slice_index skip c < length skip
-  pub taken : (c k : ℕ) → c ≤ k → k < c + slice_index skip c → 0 < slice_index skip k
+-- no code from one on up to a stop is free: 0xFFFF stands where a code is free
+abbrev pub AreTaken : List ℕ → ℕ → ℕ → Type 0
+AreTaken glyphs from stop = (c : ℕ) → from ≤ c → c < stop → slice_index glyphs c ≢ 0xFFFF
 
--- the same codes are taken
-pub record AreAlike (old new : List ℕ) : Type 0 where
-  pub count : length new ≡ length old
-  pub taken : (c : ℕ) → slice_index old c ≤ slice_index new c
-  pub free : (c : ℕ) → slice_index old c ≡ 0 → slice_index new c ≡ 0
+-- how many blocks of 16 codes from each block on are known to have no free code, 0 where nothing is known
+pub record IsSkip (glyphs skip : List ℕ) : Type 0 where
+  pub codes : length glyphs ≡ 0x110000
+  pub blocks : length skip ≡ 0x11001
+  pub within : (b : ℕ) → b < 0x11001 → b + slice_index skip b < 0x11001
+  pub taken : (b : ℕ) → AreTaken glyphs (16 * b) (16 * (b + slice_index skip b))
 
--- a code is the first free one from another one on
-pub record IsFree (skip : List ℕ) (from at : ℕ) : Type 0 where
+-- no code from one on up to another is free, and the other one is free where it is below a stop
+pub record IsFirstFree (glyphs : List ℕ) (from stop at : ℕ) : Type 0 where
   pub from_on : from ≤ at
-  pub within : at < length skip
-  pub passed : (c : ℕ) → from ≤ c → c < at → 0 < slice_index skip c
-  pub free : slice_index skip at ≡ 0
+  pub passed : AreTaken glyphs from at
+  pub free : at < stop → slice_index glyphs at ≡ 0xFFFF
 
 -- taken codes have their glyphs; free ones have none yet, and the rest of the groups decides them
-pub record IsLaid (s : List ℕ) (n : ℕ) (rest : List ListedGroup) (glyphs skip : List ℕ) : Type 0 where
-  pub codes : length glyphs ≡ 0x110000
-  pub stops : length skip ≡ 0x110001
-  pub skips : IsSkip skip
-  pub taken : (c : ℕ) → 0 < slice_index skip c → slice_index glyphs c ≡ clipped n (group_glyph s) c
-  pub free : (c : ℕ) → slice_index skip c ≡ 0 → slice_index glyphs c ≡ 0
-  pub left : (c : ℕ) → c < 0x110000 → slice_index skip c ≡ 0 → find (holds c) (groups_of s) ≡ find (holds c) rest
+pub record IsLaid (s : List ℕ) (n : ℕ) (rest : List ListedGroup) (glyphs : List ℕ) : Type 0 where
+  pub taken : (c : ℕ) → slice_index glyphs c ≢ 0xFFFF → slice_index glyphs c ≡ clipped n (group_glyph s) c
+  pub left : (c : ℕ) → slice_index glyphs c ≡ 0xFFFF → find (holds c) (groups_of s) ≡ find (holds c) rest

@@ -1,12 +1,12 @@
 //! A mapping laid out as a list of glyphs, one for each code. OpenType 1.9, cmap: Character to Glyph
 //! Index Mapping Table.
-ghost use Rattle.std.specs.Prelude.{◌≡◌, ◌+◌, ◌<◌, ◌≤◌, ℕ, IfOk, MatchOption, drop, length, slice_index};
+ghost use Rattle.std.specs.Prelude.{◌≡◌, ◌≢◌, ◌+◌, ◌<◌, ◌≤◌, ℕ, IfOk, MatchOption, drop, length, slice_index};
 ghost use Rattle.font_map.specs.CharacterMap.{clipped};
 ghost use Rattle.font_map.specs.Format12.{HasGroups, group_count, group_glyph, groups_of};
 ghost use Rattle.font_map.specs.Format4.{HasSegments, segment_glyph};
 ghost use Rattle.font_map.specs.Mapping.{mapping_of};
 ghost use Rattle.font_map.specs.Runs.{IsPiece, NoRun};
-ghost use Rattle.font_map.specs.LaidOut.{AreAlike, IsFree, IsLaid, IsSkip};
+ghost use Rattle.font_map.specs.LaidOut.{AreTaken, IsFirstFree, IsLaid, IsSkip};
 
 use crate::format4::{glyph_at, walk_place};
 use crate::format12::{count_groups, group_at};
@@ -16,22 +16,67 @@ use sfnt_bytes::NoMemory;
 use std::alloc::{Allocator, Global};
 use std::marker::Model;
 
-// Returns the first free code from `from` on. `skip` says for each code how many codes from it on are
-// known to be taken, 0 for a free one; these numbers grow as they are followed, so that a long row of
-// taken codes is passed in a few steps the next time.
-fn free_from(skip: &mut [u32], from: u32) -> u32
-    requires skips { IsSkip skip.old }
-    requires size { length skip.old ≡ 0x110001 }
-    requires within { from < length skip.old }
-    ensures skips { IsSkip skip.new }
-    ensures alike { AreAlike skip.old skip.new }
-    ensures free { IsFree skip.new from result }
+/// Stands for the glyph of a code that is still free while groups are laid out. No code gets it as its
+/// glyph: a glyph is below the number of glyphs, which is at most 0xFFFF.
+const FREE: u16 = 0xFFFF;
+
+/// How many codes a block has.
+const BLOCK: u32 = 16;
+
+// Returns the first free code from `from` on below `stop`, or `stop` where there is none.
+fn free_below(glyphs: &[u16], from: u32, stop: u32) -> u32
+    requires order { from ≤ stop }
+    requires within { stop ≤ length glyphs.now }
+    ensures small { result ≤ stop }
+    ensures first { IsFirstFree glyphs.now from stop result }
+{
+    for code in from..stop {
+        if glyphs[code as usize] == FREE {
+            return code;
+        }
+    }
+    stop
+}
+
+// Returns a code above the taken code `at`, with no free code between them. `skip` says for each block
+// how many blocks from it on are known to have no free code, 0 where nothing is known; these numbers grow
+// as they are followed, so that a long row of taken codes is passed in a few steps the next time. In a
+// block of which nothing is known, only codes below `stop` are looked at.
+fn pass_taken(glyphs: &[u16], skip: &mut [u32], at: u32, stop: u32) -> u32
+    requires skips { IsSkip glyphs.now skip.old }
+    requires below { at < stop }
+    requires within { stop ≤ 0x110000 }
+    requires taken { slice_index glyphs.now at ≢ 0xFFFF }
+    ensures skips { IsSkip glyphs.now skip.new }
+    ensures above { at < result }
+    ensures small { result ≤ 0x110000 }
+    ensures taken { AreTaken glyphs.now at result }
+{
+    let block = at / BLOCK;
+    if skip[block as usize] == 0 {
+        let end = BLOCK * (block + 1);
+        let code = free_below(glyphs, at + 1, end.min(stop));
+        if code < end || at % BLOCK != 0 {
+            return code;
+        }
+        skip[block as usize] = 1;
+    }
+    let next = block + skip[block as usize];
+    skip[block as usize] += skip[next as usize];
+    BLOCK * (block + skip[block as usize])
+}
+
+// Returns the first free code from `from` on below `stop`. Where there is none, the answer is `stop` or
+// a code above it.
+fn free_from(glyphs: &[u16], skip: &mut [u32], from: u32, stop: u32) -> u32
+    requires skips { IsSkip glyphs.now skip.old }
+    requires within { stop ≤ 0x110000 }
+    ensures skips { IsSkip glyphs.now skip.new }
+    ensures first { IsFirstFree glyphs.now from stop result }
 {
     let mut at = from;
-    while skip[at as usize] > 0 {
-        let next = at + skip[at as usize];
-        skip[at as usize] += skip[next as usize];
-        at += skip[at as usize];
+    while at < stop && glyphs[at as usize] != FREE {
+        at = pass_taken(glyphs, skip, at, stop);
     }
     at
 }
@@ -40,19 +85,32 @@ fn free_from(skip: &mut [u32], from: u32) -> u32
 fn lay_group(s: &[u8], i: usize, count: u16, glyphs: &mut [u16], skip: &mut [u32])
     requires room { HasGroups s.now }
     requires there { i < group_count s.now }
-    requires laid { IsLaid s.now count (drop i (groups_of s.now)) glyphs.old skip.old }
-    ensures { IsLaid s.now count (drop (i + 1) (groups_of s.now)) glyphs.new skip.new }
+    requires laid { IsLaid s.now count (drop i (groups_of s.now)) glyphs.old }
+    requires skips { IsSkip glyphs.old skip.old }
+    ensures laid { IsLaid s.now count (drop (i + 1) (groups_of s.now)) glyphs.new }
+    ensures skips { IsSkip glyphs.new skip.new }
 {
     let group = group_at(s, i);
-    let end = group.last.min(0x10FFFF);
-    if end < group.first {
-        return;
-    }
-    let mut code = free_from(skip, group.first);
-    while code <= end {
+    let stop = group.last.min(0x10FFFF) + 1;
+    let mut code = free_from(glyphs, skip, group.first, stop);
+    while code < stop {
         glyphs[code as usize] = clip(group.glyph_along(code), count, code);
-        skip[code as usize] = 1;
-        code = free_from(skip, code + 1);
+        code = free_from(glyphs, skip, code + 1, stop);
+    }
+}
+
+// Takes the codes that are still free, and gives them no glyph.
+fn unmap_free(glyphs: &mut [u16])
+    requires codes { length glyphs.old ≡ 0x110000 }
+    ensures codes { length glyphs.new ≡ 0x110000 }
+    ensures free { (c : ℕ) → slice_index glyphs.old c ≡ 0xFFFF → slice_index glyphs.new c ≡ 0 }
+    ensures taken { (c : ℕ) → slice_index glyphs.old c ≢ 0xFFFF →
+        slice_index glyphs.new c ≡ slice_index glyphs.old c }
+{
+    for code in 0..0x110000usize {
+        if glyphs[code] == FREE {
+            glyphs[code] = 0;
+        }
     }
 }
 
@@ -60,15 +118,16 @@ fn lay_group(s: &[u8], i: usize, count: u16, glyphs: &mut [u16], skip: &mut [u32
 pub(crate) fn lay_groups(s: &[u8], count: u16, glyphs: &mut [u16], skip: &mut [u32])
     requires room { HasGroups s.now }
     requires codes { length glyphs.old ≡ 0x110000 }
-    requires stops { length skip.old ≡ 0x110001 }
-    requires unmapped { (c : ℕ) → slice_index glyphs.old c ≡ 0 }
-    requires free { (c : ℕ) → slice_index skip.old c ≡ 0 }
+    requires blocks { length skip.old ≡ 0x11001 }
+    requires unknown { (b : ℕ) → slice_index skip.old b ≡ 0 }
     ensures codes { length glyphs.new ≡ 0x110000 }
     ensures map { (c : ℕ) → slice_index glyphs.new c ≡ clipped count (group_glyph s.now) c }
 {
+    glyphs.fill(FREE);
     for i in 0..count_groups(s) {
         lay_group(s, i, count, glyphs, skip);
     }
+    unmap_free(glyphs);
 }
 
 // Gives each code its glyph, code by code. The first segment that ends at a code or above it never
@@ -95,10 +154,10 @@ pub(crate) fn unmapped<A: Allocator>(alloc: A, count: usize) -> Result<Vec<u16, 
     vec![in alloc; 0; count].map_err(|_| NoMemory)
 }
 
-// Returns numbers for `count` codes, all of which are free.
-pub(crate) fn free<A: Allocator>(alloc: A, count: usize) -> Result<Vec<u32, A>, NoMemory>
+// Returns numbers for `count` blocks, of none of which anything is known.
+pub(crate) fn no_skips<A: Allocator>(alloc: A, count: usize) -> Result<Vec<u32, A>, NoMemory>
     ensures count { IfOk result (λ skip. length skip.items ≡ count) }
-    ensures free { IfOk result (λ skip. (c : ℕ) → slice_index skip.items c ≡ 0) }
+    ensures unknown { IfOk result (λ skip. (b : ℕ) → slice_index skip.items b ≡ 0) }
 {
     vec![in alloc; 0; count].map_err(|_| NoMemory)
 }

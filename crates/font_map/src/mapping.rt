@@ -11,7 +11,7 @@ ghost use Rattle.font_map.specs.Wanted.{member};
 use crate::cmap::{HEADER, RECORD, SEGMENTS, choose_record, has_fault, subtable};
 use crate::format4::{has_ordered_segments, segment_glyph, stretch_of_segments, walk_run};
 use crate::format12::{group_glyph, has_ordered_groups, piece_near, stretch_of_groups};
-use crate::laid_out::{free, lay_groups, lay_segments};
+use crate::laid_out::{lay_groups, lay_segments, no_skips};
 use crate::runs::{Pieces, Run, clip, mapped_count, next_run};
 use crate::wanted::Wanted;
 use crate::within::Within;
@@ -229,7 +229,7 @@ impl<'a> Mapping<'a> {
             lay_segments(self.subtable, self.glyphs, glyphs);
             return Ok(());
         }
-        let mut skip = free(alloc, 0x110001)?;
+        let mut skip = no_skips(alloc, 0x11001)?;
         lay_groups(self.subtable, self.glyphs, glyphs, &mut skip);
         Ok(())
     }

@@ -1,9 +1,14 @@
-use Rattle.std.proofs.Common.{◌-◌, length}
-use Rattle.font_map.proofs.LaidOutLemmas.{Seeks}
+use Rattle.std.proofs.Common.{◌≤◌, ◌-◌}
+use Rattle.font_map.specs.LaidOut.{AreTaken, IsSkip}
 use Rattle.font_map.proofs.laid_out.free_from.Given as goal
 
-abbrev pub invariant-loop-skip : goal.invariant-loop-skip
-invariant-loop-skip l = Seeks l.fn.skip l.skip l.from l.at
+abbrev pub invariant-loop-at : goal.invariant-loop-at
+invariant-loop-at l =
+    record {
+      skips : IsSkip l.glyphs l.skip;
+      from_on : l.from ≤ l.at;
+      passed : AreTaken l.glyphs l.from l.at;
+    }
 
-abbrev pub decreases-loop-skip : goal.decreases-loop-skip
-decreases-loop-skip l = length l.skip - l.at
+abbrev pub decreases-loop-at : goal.decreases-loop-at
+decreases-loop-at l = l.stop - l.at

@@ -1,0 +1,5 @@
+use Rattle.font_map.specs.LaidOut.{AreTaken}
+use Rattle.font_map.proofs.laid_out.free_below.Given as goal
+
+abbrev pub invariant-loop-code : goal.invariant-loop-code
+invariant-loop-code l = AreTaken l.glyphs l.from l.code
