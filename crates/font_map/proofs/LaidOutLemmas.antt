@@ -6,7 +6,7 @@ use Rattle.std.proofs.lemmas.List.{get_or-set_same, get_or-set_other}
 use Rattle.font_map.specs.CharacterMap.{clipped}
 use Rattle.font_map.specs.Format12.{glyph_along, group_glyph, groups_of, holds}
 use Rattle.font_map.specs.Format4.{segment_glyph}
-use Rattle.font_map.specs.LaidOut.{IsFirstFree, IsLaid}
+use Rattle.font_map.specs.Inside.{IsFirstFree, IsLaid}
 use Rattle.font_map.proofs.GroupLemmas.{glyph_by_find, holds_yes}
 use Rattle.font_map.proofs.PieceLemmas.{clipped_none}
 use Rattle.font_map.proofs.SegmentLemmas.{glyph_above}

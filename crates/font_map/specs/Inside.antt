@@ -1,10 +1,11 @@
 -- Words of the proofs inside this crate: no public clause names them.
-use Rattle.font_map.specs.Format12.{groups_of}
+use Rattle.font_map.specs.CharacterMap.{clipped}
+use Rattle.font_map.specs.Format12.{groups_of, group_glyph, holds}
 use Rattle.font_map.specs.Format4.{segments_of, reaches, glyph_by}
 use Rattle.font_map.specs.declared.format12.ListedGroup.{ListedGroup}
 use Rattle.font_map.specs.declared.format4.Segment.{Segment}
 use Rattle.font_map.specs.declared.ranges.Range.{Range}
-use Rattle.std.specs.Prelude.{ℕ, ◌+◌, ◌-◌, ◌<◌, ◌≤◌, Bool, ◌&&◌, nat_le, List, slice_index_or, if◌then◌else◌, ◌%◌, nat_lt, [], ◌∷◌, ◌≡◌, true, false, min, max}
+use Rattle.std.specs.Prelude.{ℕ, ◌+◌, ◌-◌, ◌<◌, ◌≤◌, Bool, ◌&&◌, nat_le, List, slice_index_or, if◌then◌else◌, ◌%◌, nat_lt, [], ◌∷◌, ◌≡◌, true, false, min, max, ◌≢◌, ◌*◌, length, find, slice_index}
 
 -- the group at a place of a list
 abbrev pub group_nth : List ListedGroup → ℕ → ListedGroup
@@ -64,3 +65,25 @@ pub record IsRow (w : ℕ → Bool) (from : ℕ) (range : Range) : Type 0 where
 -- a set has no code from one on
 abbrev pub NoRow : (ℕ → Bool) → ℕ → Type 0
 NoRow w from = (c : ℕ) → from ≤ c → w c ≡ false
+
+-- no code from one on up to a stop is free: 0xFFFF stands where a code is free
+abbrev pub AreTaken : List ℕ → ℕ → ℕ → Type 0
+AreTaken glyphs from stop = (c : ℕ) → from ≤ c → c < stop → slice_index glyphs c ≢ 0xFFFF
+
+-- how many blocks of 16 codes from each block on are known to have no free code, 0 where nothing is known
+pub record IsSkip (glyphs skip : List ℕ) : Type 0 where
+  pub codes : length glyphs ≡ 0x110000
+  pub blocks : length skip ≡ 0x11001
+  pub within : (b : ℕ) → b < 0x11001 → b + slice_index skip b < 0x11001
+  pub taken : (b : ℕ) → AreTaken glyphs (16 * b) (16 * (b + slice_index skip b))
+
+-- no code from one on up to another is free, and the other one is free where it is below a stop
+pub record IsFirstFree (glyphs : List ℕ) (from stop at : ℕ) : Type 0 where
+  pub from_on : from ≤ at
+  pub passed : AreTaken glyphs from at
+  pub free : at < stop → slice_index glyphs at ≡ 0xFFFF
+
+-- taken codes have their glyphs; free ones have none yet, and the rest of the groups decides them
+pub record IsLaid (s : List ℕ) (n : ℕ) (rest : List ListedGroup) (glyphs : List ℕ) : Type 0 where
+  pub taken : (c : ℕ) → slice_index glyphs c ≢ 0xFFFF → slice_index glyphs c ≡ clipped n (group_glyph s) c
+  pub left : (c : ℕ) → slice_index glyphs c ≡ 0xFFFF → find (holds c) (groups_of s) ≡ find (holds c) rest

@@ -3,7 +3,6 @@ pub mod Cmap
 pub mod Format12
 pub mod Format4
 pub mod Inside
-pub mod LaidOut
 pub mod Mapping
 pub mod Order
 pub mod Refusals

@@ -6,7 +6,7 @@ ghost use Rattle.font_map.specs.Format12.{HasGroups, group_count, group_glyph, g
 ghost use Rattle.font_map.specs.Format4.{HasSegments, segment_glyph};
 ghost use Rattle.font_map.specs.Mapping.{mapping_of};
 ghost use Rattle.font_map.specs.Runs.{IsPiece, NoRun};
-ghost use Rattle.font_map.specs.LaidOut.{AreTaken, IsFirstFree, IsLaid, IsSkip};
+ghost use Rattle.font_map.specs.Inside.{AreTaken, IsFirstFree, IsLaid, IsSkip};
 
 use crate::format4::{glyph_at, walk_place};
 use crate::format12::{count_groups, group_at};
@@ -166,7 +166,8 @@ pub(crate) fn no_skips<A: Allocator>(alloc: A, count: usize) -> Result<Vec<u32, 
 // run would be walked again for each wanted range inside that run.
 fn code_from(glyphs: &[u16], from: u32) -> Option<Run>
     requires { length glyphs.now ≡ 0x110000 }
-    ensures { MatchOption result (NoRun (slice_index glyphs.now) from) (IsPiece (slice_index glyphs.now) from) }
+    ensures { MatchOption result (NoRun (slice_index glyphs.now) from)
+        (IsPiece (slice_index glyphs.now) from) }
 {
     for code in from..0x110000 {
         let glyph = glyphs[code as usize];

@@ -1,4 +1,4 @@
-use Rattle.font_map.specs.LaidOut.{AreTaken}
+use Rattle.font_map.specs.Inside.{AreTaken}
 use Rattle.font_map.proofs.laid_out.free_below.Given as goal
 
 abbrev pub invariant-loop-code : goal.invariant-loop-code

@@ -1,5 +1,5 @@
 use Rattle.std.proofs.Common.{◌≤◌, ◌-◌}
-use Rattle.font_map.specs.LaidOut.{AreTaken, IsSkip}
+use Rattle.font_map.specs.Inside.{AreTaken, IsSkip}
 use Rattle.font_map.proofs.laid_out.free_from.Given as goal
 
 abbrev pub invariant-loop-at : goal.invariant-loop-at
