@@ -5,7 +5,7 @@ use Rattle.std.proofs.lemmas.Bool.{cases_eq}
 use Rattle.std.proofs.lemmas.List.{append-nil}
 use Rattle.font_theory.specs.Bytes.{padded}
 use Rattle.font_theory.specs.Content.{Content, IsClosedContent, glyph_count}
-use Rattle.font_theory.specs.File.{first_form, form_of, glyf_bytes, canonical_groups, outlines_of, second_form, size_of, size_with}
+use Rattle.font_theory.specs.File.{first_form, form_of, glyf_bytes, groups_of_content, outlines_of, second_form, size_of, size_with}
 use Rattle.font_theory.specs.declared.Profile.TheVariants.{First, Second}
 use Rattle.font_theory.proofs.FormLemmas.{length-second_glyf}
 use Rattle.font_theory.proofs.HeldLemmas.{some-padded}
@@ -21,10 +21,10 @@ first_glyf : (outlines : List (List ℕ)) → glyf_bytes (form_of First) outline
 unfolding form_of first_form
 first_glyf outlines = append-nil (concat outlines)
 
-pub size-first : (K : Content) → IsClosedContent K → size_of (form_of First) K ≡ size_with K (28 + 12 * length (canonical_groups K)) (sum (map length (outlines_of K)))
+pub size-first : (K : Content) → IsClosedContent K → size_of (form_of First) K ≡ size_with K (28 + 12 * length (groups_of_content K)) (sum (map length (outlines_of K)))
 unfolding size_of form_of first_form
 size-first K ok =
-    ap (λ (n : ℕ). size_with K (28 + 12 * length (canonical_groups K)) n) (ap (λ (b : List ℕ). length (padded b)) (first_glyf (outlines_of K)) ∙ length-padded-outlines K (some-padded K ok))
+    ap (λ (n : ℕ). size_with K (28 + 12 * length (groups_of_content K)) n) (ap (λ (b : List ℕ). length (padded b)) (first_glyf (outlines_of K)) ∙ length-padded-outlines K (some-padded K ok))
 
 -- four zeros stand in `glyf` where there is no other byte
 second_glyf : (K : Content) → IsClosedContent K → length (padded (glyf_bytes (form_of Second) (outlines_of K))) ≡ max (sum (map length (outlines_of K))) 4
@@ -38,6 +38,6 @@ second_glyf K ok =
       | inr some ↦ let n = (length-second_glyf (outlines_of K)).1 some in omega (arith, four, all, long, n, some)
     ]
 
-pub size-second : (K : Content) → IsClosedContent K → size_of (form_of Second) K ≡ size_with K (36 + 12 * length (canonical_groups K)) (max (sum (map length (outlines_of K))) 4)
+pub size-second : (K : Content) → IsClosedContent K → size_of (form_of Second) K ≡ size_with K (36 + 12 * length (groups_of_content K)) (max (sum (map length (outlines_of K))) 4)
 unfolding size_of form_of second_form
-size-second K ok = ap (λ (n : ℕ). size_with K (36 + 12 * length (canonical_groups K)) n) (second_glyf K ok)
+size-second K ok = ap (λ (n : ℕ). size_with K (36 + 12 * length (groups_of_content K)) n) (second_glyf K ok)

@@ -8,7 +8,7 @@ use Rattle.sfnt_bytes.specs.Findings.{padding_of}
 use Rattle.sfnt_bytes.specs.Lines.{present}
 use Rattle.font_theory.specs.Bytes.{padded}
 use Rattle.font_theory.specs.Content.{Content, IsWritable, glyph_count}
-use Rattle.font_theory.specs.File.{Form, adjustment_in, bodies_of, bytes_in_slot, cmap_bytes, file, glyf_bytes, canonical_groups, loca_bytes, outlines_from, outlines_of, padded_length, size_of, table_in, tables_from}
+use Rattle.font_theory.specs.File.{Form, adjustment_in, bodies_of, bytes_in_slot, cmap_bytes, file, glyf_bytes, groups_of_content, loca_bytes, outlines_from, outlines_of, padded_length, size_of, table_in, tables_from}
 use Rattle.font_theory.proofs.AdjustmentLemmas.{length-with_adjustment}
 use Rattle.font_theory.proofs.CmapLemmas.{length-cmap_bytes}
 use Rattle.font_theory.proofs.MeaningLemmas.{file-is, last_head, last_tables}
@@ -71,7 +71,7 @@ total-extra a b c d = omega arith
 -- a measure of a slot is that of the copied table, or of one of the four
 abbrev IsMeasured : Form → Content → List ℕ → (Option (List ℕ) → ℕ) → ℕ → Type 0
 IsMeasured form K head m slot = m (bytes_in_slot form K head slot)
-    ≡ m (K.copied slot) + extra (m (Some (cmap_bytes form (canonical_groups K)))) (m (Some (glyf_bytes form (outlines_of K)))) (m (Some head)) (m (Some (loca_bytes (outlines_of K)))) slot
+    ≡ m (K.copied slot) + extra (m (Some (cmap_bytes form (groups_of_content K)))) (m (Some (glyf_bytes form (outlines_of K)))) (m (Some head)) (m (Some (loca_bytes (outlines_of K)))) slot
 
 none_copied : (x y : ℕ) → x ≡ 0 → y ≡ x + y
 none_copied x y none = omega arith
@@ -101,9 +101,9 @@ is_measured form K head m slot ok none =
 -- all slots
 total-slots : (form : Form) (K : Content) (head : List ℕ) (m : Option (List ℕ) → ℕ) → IsWritable K → m None ≡ 0
     → total (λ slot. m (bytes_in_slot form K head slot)) 0 16
-    ≡ total (λ slot. m (K.copied slot)) 0 16 + (m (Some (cmap_bytes form (canonical_groups K))) + m (Some (glyf_bytes form (outlines_of K))) + m (Some head) + m (Some (loca_bytes (outlines_of K))))
+    ≡ total (λ slot. m (K.copied slot)) 0 16 + (m (Some (cmap_bytes form (groups_of_content K))) + m (Some (glyf_bytes form (outlines_of K))) + m (Some head) + m (Some (loca_bytes (outlines_of K))))
 total-slots form K head m ok none =
-    let a = m (Some (cmap_bytes form (canonical_groups K))) in
+    let a = m (Some (cmap_bytes form (groups_of_content K))) in
     let b = m (Some (glyf_bytes form (outlines_of K))) in
     let c = m (Some head) in
     let d = m (Some (loca_bytes (outlines_of K))) in
@@ -120,7 +120,7 @@ length-last_tables form K ok =
 
 pub length-last_bodies : (form : Form) (K : Content) → IsWritable K → length (bodies_of (last_tables form K))
     ≡ sum (map (λ slot. padded_length (K.copied slot)) (range_with_len 0 16))
-    + (length (padded (cmap_bytes form (canonical_groups K))) + length (padded (glyf_bytes form (outlines_of K))) + length (padded K.head) + length (padded (loca_bytes (outlines_of K))))
+    + (length (padded (cmap_bytes form (groups_of_content K))) + length (padded (glyf_bytes form (outlines_of K))) + length (padded K.head) + length (padded (loca_bytes (outlines_of K))))
 length-last_bodies form K ok =
     let long = ok.head_size in
     let all = length-bodies form K (last_head form K) 0 16 in
@@ -138,8 +138,8 @@ length-file form K ok =
     let whole = ap (λ (b : List ℕ). length b) (file-is form K) ∙ length-file_of (last_tables form K) (are_tables form K (last_head form K)) in
     let count = length-last_tables form K ok in
     let bodies = length-last_bodies form K ok in
-    let cmap_long = length-cmap_bytes form (canonical_groups K) in
-    let cmap = ap (λ (b : List ℕ). length b) (padded-same (cmap_bytes form (canonical_groups K)) (omega arith)) in
+    let cmap_long = length-cmap_bytes form (groups_of_content K) in
+    let cmap = ap (λ (b : List ℕ). length b) (padded-same (cmap_bytes form (groups_of_content K)) (omega arith)) in
     let loca_long = length-loca_bytes (outlines_of K) in
     let loca = ap (λ (b : List ℕ). length b) (padded-same (loca_bytes (outlines_of K)) (omega arith)) in
     let glyphs = length-outlines_of K in

@@ -6,7 +6,7 @@ use Rattle.font_map.specs.CharacterMap.{clipped}
 use Rattle.font_map.specs.Runs.{groups_among, groups_from, spelled, with_code}
 use Rattle.font_map.specs.declared.runs.Run.{Run}
 use Rattle.font_theory.specs.Content.{CODES, Content, IsWritable, glyph_count}
-use Rattle.font_theory.specs.File.{canonical_groups}
+use Rattle.font_theory.specs.File.{groups_of_content}
 
 -- the first group has a code
 abbrev IsStarted : List Run → Type 0
@@ -86,8 +86,8 @@ clipped-fits : (n : ℕ) (m : ℕ → ℕ) (c : ℕ) → m c < n → (0x110000 �
 clipped-fits n m c fits none = grind (arith, nat_tests)
 
 -- the groups of a content spell its map
-pub spelled-groups_of : (K : Content) → IsWritable K → clipped (glyph_count K.copied) (spelled (canonical_groups K)) ≡ K.map
-unfolding canonical_groups
+pub spelled-groups_of : (K : Content) → IsWritable K → clipped (glyph_count K.copied) (spelled (groups_of_content K)) ≡ K.map
+unfolding groups_of_content
 spelled-groups_of K ok =
     let none : (c : ℕ) → 0x110000 ≤ c → K.map c ≡ 0 = λ c past. ok.mapped_codes c (let e = codes_are in omega arith) in
     let same : spelled (groups_from K.map 0) ≡ K.map = λ i c. spelled-groups_from K.map c none i in

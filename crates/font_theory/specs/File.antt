@@ -21,8 +21,8 @@ use Rattle.font_theory.specs.declared.Profile.{Profile}
 use Rattle.font_theory.specs.declared.Profile.TheVariants.{First, Second}
 
 -- the groups that spell the map of a content
-unfoldable pub canonical_groups : Content → List Run
-canonical_groups K = groups_from K.map 0
+unfoldable pub groups_of_content : Content → List Run
+groups_of_content K = groups_from K.map 0
 
 -- the outlines of n glyphs from one on, [] for one that is not kept
 abbrev pub outlines_from : Content → ℕ → ℕ → List (List ℕ)
@@ -113,7 +113,7 @@ pub record Table : Type 0 where
 -- the bytes of the table in a slot, with this `head`
 unfoldable pub bytes_in_slot : Form → Content → List ℕ → ℕ → Option (List ℕ)
 bytes_in_slot form K head slot =
-    if nat_eq slot CMAP then Some (cmap_bytes form (canonical_groups K))
+    if nat_eq slot CMAP then Some (cmap_bytes form (groups_of_content K))
     else if nat_eq slot GLYF then Some (glyf_bytes form (outlines_of K))
     else if nat_eq slot HEAD then Some head
     else if nat_eq slot LOCA then Some (loca_bytes (outlines_of K))
@@ -185,4 +185,4 @@ size_with K cmap glyf =
 -- that with the `cmap` and the `glyf` of a form
 unfoldable pub size_of : Form → Content → ℕ
 size_of form K =
-    size_with K (4 * length (form.front (length (canonical_groups K))) + 12 * length (canonical_groups K)) (length (padded (glyf_bytes form (outlines_of K))))
+    size_with K (4 * length (form.front (length (groups_of_content K))) + 12 * length (groups_of_content K)) (length (padded (glyf_bytes form (outlines_of K))))

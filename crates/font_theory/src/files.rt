@@ -8,7 +8,7 @@ ghost use Rattle.font_theory.specs.Bytes.{padded};
 ghost use Rattle.font_theory.specs.Content.{Content, IsClosedContent, IsWritable, font_of, seen};
 ghost use Rattle.sfnt_bytes.specs.declared.base6.TheConstants.{BASE6};
 ghost use Rattle.font_theory.specs.Cut.{IsFormat, cut, format_of, our_format};
-ghost use Rattle.font_theory.specs.File.{Form, IsForm, file, form_of, glyf_bytes, canonical_groups, outlines_of, size_of, size_with};
+ghost use Rattle.font_theory.specs.File.{Form, IsForm, file, form_of, glyf_bytes, groups_of_content, outlines_of, size_of, size_with};
 ghost use Rattle.font_theory.specs.declared.Profile.{Profile};
 ghost use Rattle.font_theory.specs.declared.Profile.TheVariants.{First, Second};
 ghost use Rattle.font_theory.specs.WorkedFiles.{aacute_file, nothing_file, nothing_second_file};
@@ -33,14 +33,14 @@ pub fn outlines_size()
 /// its outlines have.
 pub fn size_in_first_profile()
     ensures { (K : Content) → IsClosedContent K
-        → size_of (form_of First) K ≡ size_with K (28 + 12 * length (canonical_groups K))
+        → size_of (form_of First) K ≡ size_with K (28 + 12 * length (groups_of_content K))
         (sum (map length (outlines_of K))) }
 {}
 
 /// The same in the second profile.
 pub fn size_in_second_profile()
     ensures { (K : Content) → IsClosedContent K
-        → size_of (form_of Second) K ≡ size_with K (36 + 12 * length (canonical_groups K))
+        → size_of (form_of Second) K ≡ size_with K (36 + 12 * length (groups_of_content K))
         (max (sum (map length (outlines_of K))) 4) }
 {}
 

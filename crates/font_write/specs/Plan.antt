@@ -1,7 +1,7 @@
 -- What is counted and measured of the tables of a file before they are sent, this project's own.
 use Rattle.std.specs.Prelude.{◌≡◌, ℕ, ◌≤◌, ◌<◌, List, length, slice_index_or, is_some, false}
 use Rattle.font_theory.specs.Content.{Content, glyph_count}
-use Rattle.font_theory.specs.File.{Form, adjustment_in, checksum_in_slot, file, form_of, canonical_groups, size_of}
+use Rattle.font_theory.specs.File.{Form, adjustment_in, checksum_in_slot, file, form_of, groups_of_content, size_of}
 use Rattle.font_write.specs.Parts.{bytes_at, count_to, glyf_to, table_at}
 use Rattle.font_write.specs.declared.plan.Measure.{Measure}
 use Rattle.font_write.specs.declared.plan.Plan.{Plan}
@@ -10,7 +10,7 @@ use Rattle.font_write.specs.declared.size.Size.{Size}
 
 -- the groups of the map and the bytes of the outlines are counted
 pub record AreCounts (K : Content) (c : Counts) : Type 0 where
-  pub groups : c.groups ≡ length (canonical_groups K)
+  pub groups : c.groups ≡ length (groups_of_content K)
   pub outlines : c.outlines ≡ length (glyf_to K (glyph_count K.copied))
   pub small : c.outlines ≤ 0x0001_0000_0000_0000
 

@@ -26,8 +26,8 @@ loop-at-preserved g c =
     let M : ℕ → ℕ = united (spelled c.args.a.now) (spelled c.args.b.now) in
     let here : Run = run_at c.args.a.now c.loop-at.at in
     let run : IsRun M c.loop-at.code here =
-        alone_there c.args.a.now c.args.b.now c.loop-at.code c.loop-at.at c.requires.first c.loop-at.invariant.past c.loop-at-test.true c.if-code-a.true
-            (λ x le lt. c.loop-at.invariant.gap x le (omega (arith, lt, c.if-a-at.true))) in
+    alone_there c.args.a.now c.args.b.now c.loop-at.code c.loop-at.at c.requires.first c.loop-at.invariant.past c.loop-at-test.true c.if-code-a.true
+    (λ x le lt. c.loop-at.invariant.gap x le (omega (arith, lt, c.if-a-at.true))) in
     let pushed : c.push.new.self.items ≡ c.loop-at.runs.items ++ here ∷ [] = search rules in
     record {
       done = ap (λ (runs : List Run). runs ++ groups_from M (here.last + 1)) pushed

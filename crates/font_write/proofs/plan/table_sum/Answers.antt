@@ -2,7 +2,7 @@ use Rattle.std.proofs.Common.{ℕ, List, [], refl, sym, ap, ◌∙◌, Option, a
 use Rattle.std.specs.Option.{unwrap_or}
 use Rattle.sfnt_bytes.specs.Sums.{checksum_of}
 use Rattle.font_theory.specs.Content.{Content}
-use Rattle.font_theory.specs.File.{Form, checksum_in_slot, cmap_bytes, form_of, canonical_groups}
+use Rattle.font_theory.specs.File.{Form, checksum_in_slot, cmap_bytes, form_of, groups_of_content}
 use Rattle.font_theory.proofs.SumLemmas.{checksum_in_slot-other}
 use Rattle.font_write.specs.Parts.{last_head}
 use Rattle.font_write.specs.Inside.{all_offsets, glyf_in}
@@ -15,7 +15,7 @@ pub returns-then-slot-eq-CMAP : goal.returns-then-slot-eq-CMAP
 returns-then-slot-eq-CMAP g c =
     let form : Form = form_of c.args.profile in
     let K : Content = g.S.Source.content_of c.args.source.now in
-    sum_is form K c.args.slot 1 (cmap_bytes form (canonical_groups K)) _ c.if-slot-eq-CMAP.true (table_cmap form K) c.sum_cmap.ensures
+    sum_is form K c.args.slot 1 (cmap_bytes form (groups_of_content K)) _ c.if-slot-eq-CMAP.true (table_cmap form K) c.sum_cmap.ensures
 
 pub returns-then-slot-eq-GLYF : goal.returns-then-slot-eq-GLYF
 returns-then-slot-eq-GLYF g c =
