@@ -25,7 +25,7 @@ use Rattle.sfnt_bytes.specs.Lines.{first_of_lines, when}
 use Rattle.sfnt_bytes.specs.declared.directory.TheConstants.{MAX_FILE}
 use Rattle.std.specs.List.{range_with_len}
 use Rattle.std.specs.Option.{option_map}
-use Rattle.std.specs.Prelude.{◌≡◌, ℕ, ◌+◌, ◌<◌, ◌≤◌, ◌⊎◌, ◌↔◌, Bool, true, List, length, Option, None, Some, zero, [], false, not, find, ◌∷◌, ◌++◌, get_or}
+use Rattle.std.specs.Prelude.{◌≡◌, ℕ, ◌+◌, ◌<◌, ◌≤◌, ◌⊎◌, ◌↔◌, Bool, true, List, length, Option, None, Some, [], false, not, find, ◌∷◌, ◌++◌, get_or}
 
 -- n glyphs from one on are marked, beside those that were
 pub record AreMarked (old new : List Bool) (low n : ℕ) : Type 0 where

@@ -2,7 +2,6 @@
 use Rattle.std.specs.Prelude.{◌≡◌, ℕ, zero, suc, ◌<◌, ◌≤◌, Bool, true, List, [], length, take, Option, None}
 use Rattle.sfnt_bytes.specs.declared.directory.TheConstants.{MAX_FILE}
 use Rattle.font_file.specs.Font.{font_fault}
-use Rattle.font_theory.specs.File.{file}
 use Rattle.font_theory.specs.Tree.{file_at, union_below}
 use Rattle.font_cut.specs.Cut.{cut_of}
 use Rattle.font_cut.specs.Join.{IsForSize, IsJoin, IsJoinRefusal}

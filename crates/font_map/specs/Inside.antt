@@ -5,7 +5,7 @@ use Rattle.font_map.specs.Format4.{segments_of, reaches, glyph_by}
 use Rattle.font_map.specs.declared.format12.ListedGroup.{ListedGroup}
 use Rattle.font_map.specs.declared.format4.Segment.{Segment}
 use Rattle.font_map.specs.declared.ranges.Range.{Range}
-use Rattle.std.specs.Prelude.{ℕ, ◌+◌, ◌-◌, ◌<◌, ◌≤◌, Bool, ◌&&◌, nat_le, List, slice_index_or, if◌then◌else◌, ◌%◌, nat_lt, [], ◌∷◌, ◌≡◌, true, false, min, max, ◌≢◌, ◌*◌, length, find, slice_index}
+use Rattle.std.specs.Prelude.{ℕ, ◌+◌, ◌<◌, ◌≤◌, Bool, ◌&&◌, nat_le, List, slice_index_or, if◌then◌else◌, ◌%◌, nat_lt, [], ◌∷◌, ◌≡◌, true, false, min, max, ◌≢◌, ◌*◌, length, find, slice_index}
 
 -- the group at a place of a list
 abbrev pub group_nth : List ListedGroup → ℕ → ListedGroup

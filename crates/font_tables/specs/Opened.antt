@@ -1,5 +1,5 @@
 -- What an opened font keeps of its file, this project's own, and what its look-ups need.
-use Rattle.std.specs.Prelude.{◌≡◌, ℕ, zero, suc, ◌+◌, ◌-◌, nat_lt, Bool, false, ◌||◌, List, None}
+use Rattle.std.specs.Prelude.{◌≡◌, ℕ, zero, suc, ◌+◌, nat_lt, Bool, false, ◌||◌, List, None}
 use Rattle.sfnt_bytes.specs.Refusals.{directory_fault}
 use Rattle.font_tables.specs.Fields.{glyph_count_of, loca_form_of, metric_count_of, units_per_em_of}
 use Rattle.font_tables.specs.Outlines.{offset_at}

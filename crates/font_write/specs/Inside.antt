@@ -4,7 +4,7 @@ use Rattle.font_theory.specs.Content.{Content, glyph_count}
 use Rattle.font_theory.specs.File.{Form, behind, entries_at, entry_bytes, group_bytes, loca_bytes, outlines_from}
 use Rattle.font_write.specs.Parts.{tables_to, start_of, glyf_to}
 use Rattle.std.specs.List.{flat_map}
-use Rattle.std.specs.Prelude.{ℕ, ◌+◌, ◌++◌, List}
+use Rattle.std.specs.Prelude.{ℕ, ◌++◌, List}
 
 -- the records of the tables in the first n slots
 unfoldable pub records_to : Form → Content → ℕ → List ℕ

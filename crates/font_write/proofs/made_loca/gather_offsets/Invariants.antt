@@ -1,4 +1,4 @@
-use Rattle.std.proofs.Common.{◌≡◌, ◌+◌, ◌-◌, ◌*◌, ◌++◌, length, take}
+use Rattle.std.proofs.Common.{◌≡◌, ◌-◌, ◌*◌, ◌++◌, length, take}
 use Rattle.font_write.specs.Parts.{glyf_to}
 use Rattle.font_write.specs.Inside.{loca_to}
 use Rattle.font_write.proofs.made_loca.gather_offsets.Given as goal

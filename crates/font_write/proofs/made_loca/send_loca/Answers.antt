@@ -1,8 +1,7 @@
-use Rattle.std.proofs.Common.{◌≡◌, ℕ, ◌+◌, ◌-◌, ◌*◌, ◌≤◌, List, ◌++◌, length, take, sym, ap, subst, ◌∙◌, arith, length-append}
+use Rattle.std.proofs.Common.{◌≡◌, ℕ, ◌+◌, ◌-◌, ◌*◌, ◌≤◌, List, ◌++◌, length, take, sym, ap, subst, arith, length-append}
 use Rattle.font_theory.specs.Bytes.{bytes32}
 use Rattle.font_theory.specs.Content.{Content, glyph_count}
 use Rattle.font_write.specs.Trace.{SentAll}
-use Rattle.font_write.specs.Parts.{glyf_to}
 use Rattle.font_write.specs.Inside.{loca_to}
 use Rattle.font_write.proofs.SendingLemmas.{sends_err_at, stops_within}
 use Rattle.font_write.proofs.OutlineLemmas.{glyf_start, length_loca, loca_first, loca_start, loca_within_all}
