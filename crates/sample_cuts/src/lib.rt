@@ -1,6 +1,8 @@
 //! Cuts that tests make of sample fonts, and what stands in them.
 #![tactic(auto)]
 
+pub mod refusals;
+
 use font_cut::{Font, FontError, Wanted, WantedError, cut};
 use font_write::Source;
 use sample_fonts::bytes::words_of;
