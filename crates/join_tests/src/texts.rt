@@ -6,23 +6,33 @@ use sfnt_bytes::Tag;
 use std::test::Fail;
 
 #[test]
-fn texts_of_refusals(rt: HostRuntime) -> Result<(), Fail> {
+fn texts_of_faults(rt: HostRuntime) -> Result<(), Fail> {
     let maxp = FontError::Directory(DirError::TableOutOfFile(Tag(*b"maxp")));
     let loca = FontError::Tables(TableError::BadLoca(3));
     let cmap = FontError::Mapping(MapError::BadCmap);
-    let glyph = FontError::BadGlyph(3);
+    for (which, fault, number, text) in [
+        (Which::First, maxp, 6, "table out of file maxp"),
+        (Which::Second, loca, 12, "bad loca at 3"),
+        (Which::First, cmap, 14, "bad cmap"),
+        (Which::Second, FontError::BadGlyph(3), 17, "bad glyph 3"),
+    ] {
+        let error = JoinError::Font(which, fault);
+        assert_eq!(rt; error.number(), number, "{text}");
+        assert_eq!(rt; error.to_string(rt.alloc())?.as_str(), text);
+    }
+    Ok(())
+}
+
+// The refusal for a code.
+fn mapping(code: u32) -> JoinError {
+    JoinError::DifferentMapping(code)
+}
+
+#[test]
+fn texts_of_refusals(rt: HostRuntime) -> Result<(), Fail> {
     let cvt = JoinError::DifferentTable(Tag(*b"cvt "));
     let odd = JoinError::DifferentTable(Tag([0, 1, 0x7F, 0xFF]));
-    let mapping = JoinError::DifferentMapping;
     for (error, number, text) in [
-        (
-            JoinError::Font(Which::First, maxp),
-            6,
-            "table out of file maxp",
-        ),
-        (JoinError::Font(Which::Second, loca), 12, "bad loca at 3"),
-        (JoinError::Font(Which::First, cmap), 14, "bad cmap"),
-        (JoinError::Font(Which::Second, glyph), 17, "bad glyph 3"),
         (JoinError::NotACut(Which::First), 20, "not a cut: first"),
         (JoinError::NotACut(Which::Second), 20, "not a cut: second"),
         (cvt, 21, "different table cvt "),
@@ -45,7 +55,6 @@ fn at(step: usize, error: JoinError) -> JoinAllError {
     JoinAllError::At { step, error }
 }
 
-// A refusal has one text, whether the join is held or sent.
 #[test]
 fn texts_of_refusals_of_many(rt: HostRuntime) -> Result<(), Fail> {
     let truncated = FontError::Directory(DirError::Truncated);
@@ -60,16 +69,16 @@ fn texts_of_refusals_of_many(rt: HostRuntime) -> Result<(), Fail> {
         ),
         (at(2, JoinError::NoMemory), 16, "no memory"),
     ] {
-        let sent = JoinAllIntoError::NotJoined(error);
-        assert_eq!(rt; (error.number(), sent.number()), (number, number), "{text}");
+        assert_eq!(rt; error.number(), number, "{text}");
         assert_eq!(rt; error.to_string(rt.alloc())?.as_str(), text);
-        assert_eq!(rt; sent.to_string(rt.alloc())?.as_str(), text);
     }
-    let fault = JoinAllIntoError::WriteFault(7);
-    assert_eq!(rt; fault.number(), 19);
-    assert_eq!(rt;
-        fault.to_string(rt.alloc())?.as_str(),
-        "write fault after 7"
-    );
+    let nothing = JoinAllIntoError::NotJoined(JoinAllError::NothingToJoin);
+    for (error, number, text) in [
+        (nothing, 24, "nothing to join"),
+        (JoinAllIntoError::WriteFault(7), 19, "write fault after 7"),
+    ] {
+        assert_eq!(rt; error.number(), number, "{text}");
+        assert_eq!(rt; error.to_string(rt.alloc())?.as_str(), text);
+    }
     Ok(())
 }
