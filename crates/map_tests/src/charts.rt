@@ -1,4 +1,6 @@
 //! Charts of mappings: the memory that they ask for, and that they stay right where it is refused.
+ghost use Rattle.std.specs.Prelude.{◌<◌};
+
 use crate::cmaps::{Segment, cmap_of, format4, format12};
 use fakes::Refusing;
 use font_map::{Chart, Mapping, Run};
@@ -72,18 +74,26 @@ fn refused_charts(rt: HostRuntime) -> Result<(), Fail> {
     Ok(())
 }
 
-// Many groups, nested in each other, the inner ones first and the outer ones first, and in no order.
+// A group of forty: the next ones are within it, around it, or in no order.
+fn group(order: u8, i: u32) -> [u32; 3]
+    requires { i < 40 }
+{
+    let first = 0x1000 + 37 * i % 40 * 4;
+    match order {
+        0 => [0x1000 + i, 0x1100 - i, 1 + 7 * i],
+        1 => [0x1080 - i, 0x1080 + i, 1 + 7 * i],
+        _ => [first, first + i % 9, 1 + i],
+    }
+}
+
 #[test]
 fn nested_groups(rt: HostRuntime) -> Result<(), Fail> {
     let alloc = rt.alloc();
-    let (mut inward, mut outward, mut mixed) = (Vec::new(alloc), Vec::new(alloc), Vec::new(alloc));
-    for i in 0..40u32 {
-        inward.push([0x1000 + i, 0x1100 - i, 1 + 7 * i])?;
-        outward.push([0x1080 - i, 0x1080 + i, 1 + 7 * i])?;
-        let first = 0x1000 + 37 * i % 40 * 4;
-        mixed.push([first, first + i % 9, 1 + i])?;
-    }
-    for listed in [inward, outward, mixed] {
+    for order in [0, 1, 2] {
+        let mut listed = Vec::new(alloc);
+        for i in 0..40u32 {
+            listed.push(group(order, i))?;
+        }
         let table = format12(alloc, &listed)?;
         let cmap = cmap_of(alloc, &[(3, 10, &table)])?;
         let mapping = Mapping::choose(&cmap, 1000)?;

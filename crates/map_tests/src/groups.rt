@@ -1,8 +1,11 @@
 //! Format 12: groups, in order and not.
 use crate::cmaps::{chance, cmap_of, format12};
-use crate::plain::{has_map, is_as_plain, is_next_run};
+use crate::plain::{has_codes, has_map, is_as_plain, is_next_run};
 use std::alloc::{AllocError, Global};
 use std::test::Fail;
+
+// What is chosen in these tests.
+const CHOSEN: (u16, u16, u16) = (3, 10, 12);
 
 fn cmap12(alloc: Global, groups: &[[u32; 3]]) -> Result<Vec<u8>, AllocError> {
     let table = format12(alloc, groups)?;
@@ -32,70 +35,43 @@ fn runs_of_mapping(rt: HostRuntime) -> Result<(), Fail> {
 
 #[test]
 fn maps_of_groups(rt: HostRuntime) -> Result<(), Fail> {
-    for (groups, glyphs, count, codes) in [
-        ([].as_slice(), 6, 0, [(0x41, 0)].as_slice()),
+    for (groups, glyphs, count) in [
+        ([].as_slice(), 6, 0),
         // 2^32 - 1 and the numbers behind it are no glyphs
-        (&[[0x41, 0x44, 0xFFFF_FFFF]], 6, 0, &[(0x42, 0)]),
-        (&[[0x41, 0x44, 0xFFFF_FFFF]], 65_535, 0, &[(0x42, 0)]),
+        (&[[0x41, 0x44, 0xFFFF_FFFF]], 6, 0),
+        (&[[0x41, 0x44, 0xFFFF_FFFF]], 65_535, 0),
         // all codes, and more
-        (
-            &[[0, 0xFFFF_FFFF, 0]],
-            65_535,
-            65_534,
-            &[(65_534, 65_534), (65_535, 0)],
-        ),
-        (&[[0, 0xFFFF_FFFF, 0]], 1, 0, &[(1, 0)]),
-        // the first listed group that holds a code decides, though it gives no glyph
-        (
-            &[[0x43, 0x44, 90], [0x41, 0x46, 1]],
-            40,
-            4,
-            &[
-                (0x41, 1),
-                (0x42, 2),
-                (0x43, 0),
-                (0x44, 0),
-                (0x45, 5),
-                (0x46, 6),
-            ],
-        ),
+        (&[[0, 0xFFFF_FFFF, 0]], 65_535, 65_534),
+        (&[[0, 0xFFFF_FFFF, 0]], 1, 0),
         // one within another, listed behind it
-        (&[[0x41, 0x50, 1], [0x45, 0x47, 30]], 40, 16, &[(0x45, 5)]),
+        (&[[0x41, 0x50, 1], [0x45, 0x47, 30]], 40, 16),
         // a group that ends below its start
-        (&[[0x50, 0x41, 1], [0x41, 0x50, 1]], 40, 16, &[(0x41, 1)]),
+        (&[[0x50, 0x41, 1], [0x41, 0x50, 1]], 40, 16),
         // falling
-        (
-            &[[0x60, 0x61, 5], [0x50, 0x51, 3], [0x40, 0x41, 1]],
-            40,
-            6,
-            &[(0x41, 2)],
-        ),
+        (&[[0x60, 0x61, 5], [0x50, 0x51, 3], [0x40, 0x41, 1]], 40, 6),
         // neighbours out of order, which make one run
-        (
-            &[[0x43, 0x44, 3], [0x45, 0x46, 5], [0x41, 0x42, 1]],
-            40,
-            6,
-            &[(0x46, 6)],
-        ),
+        (&[[0x43, 0x44, 3], [0x45, 0x46, 5], [0x41, 0x42, 1]], 40, 6),
         // past the last code, out of order
         (
             &[[0x11_0000, 0x11_0001, 1], [0x10_FFFF, 0x11_0000, 2]],
             40,
             1,
-            &[(0x10_FFFF, 2)],
         ),
         // the same group twice, and an empty last one
-        (
-            &[[0x41, 0x41, 1], [0x41, 0x41, 2], [5, 4, 3]],
-            40,
-            1,
-            &[(0x41, 1)],
-        ),
+        (&[[0x41, 0x41, 1], [0x41, 0x41, 2], [5, 4, 3]], 40, 1),
     ] {
         let cmap = cmap12(rt.alloc(), groups)?;
-        let is_stated = has_map(rt.alloc(), &cmap, glyphs, (3, 10, 12), count, codes);
+        let is_stated = has_map(rt.alloc(), &cmap, glyphs, CHOSEN, count, &[]);
         assert!(rt; is_stated, "{groups:?}");
     }
+    // the first listed group that holds a code decides, though it gives no glyph
+    let cmap = cmap12(rt.alloc(), &[[0x43, 0x44, 90], [0x41, 0x46, 1]])?;
+    let (low, high) = (
+        [(0x41, 1), (0x42, 2), (0x43, 0)],
+        [(0x44, 0), (0x45, 5), (0x46, 6)],
+    );
+    assert!(rt; has_map(rt.alloc(), &cmap, 40, CHOSEN, 4, &low));
+    assert!(rt; has_codes(&cmap, 40, CHOSEN, 4, &high));
     Ok(())
 }
 
