@@ -56,8 +56,8 @@ pub fn groups_of(alloc: Global, file: &[u8]) -> Result<Vec<u32>, Fail> {
     Ok(copy)
 }
 
-/// The offsets of a cut.
-pub fn loca_of(alloc: Global, file: &[u8]) -> Result<Vec<u32>, Fail> {
+// The offsets of a cut.
+fn loca_of(alloc: Global, file: &[u8]) -> Result<Vec<u32>, Fail> {
     let table = Directory::read(file)?.table(LOCA).ok_or("no loca")?;
     let words = words_of(alloc, table)?;
     Ok(words)
