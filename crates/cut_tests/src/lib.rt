@@ -5,8 +5,6 @@
 #[cfg(test)]
 mod cuts;
 #[cfg(test)]
-mod kept;
-#[cfg(test)]
 mod limits;
 #[cfg(test)]
 mod plain;
@@ -14,7 +12,3 @@ mod plain;
 mod refused;
 #[cfg(test)]
 mod sending;
-#[cfg(test)]
-mod sources;
-#[cfg(test)]
-mod sums;

@@ -2,51 +2,70 @@
 use crate::plain::plain_cut;
 use fakes::devices::{Counting, Matching};
 use font_cut::{CutError, CutIntoError, Font, MAX_FILE, Outlet, cut, cut_into};
-use sample_cuts::{cut_of, wanted_of};
+use sample_cuts::wanted_of;
 use sample_fonts::fonts::{REGION, wide};
+use std::alloc::Global;
 use std::test::Fail;
 
 // The size that a cut for 0x41 and 0x42 would have.
 const TOO_LARGE: u64 = 134_217_752;
 
+// What the cut for the codes of a range answers over a writer that counts.
+#[derive(Clone, Copy, Debug, PartialEq, Eq)]
+struct Counted {
+    answer: Result<u64, CutIntoError>,
+    is_broken: bool,
+    written: u64,
+    // How many bytes came to the writer.
+    count: u64,
+}
+
+fn count_of(alloc: Global, font: &Font<'_>, range: (u32, u32)) -> Option<Counted> {
+    let wanted = wanted_of(alloc, &[range]).ok()?;
+    let mut outlet = Outlet::new(Counting::new());
+    let answer = cut_into(alloc, font, &wanted, &mut outlet);
+    Some(Counted {
+        answer,
+        is_broken: outlet.is_broken(),
+        written: outlet.written(),
+        count: outlet.into_inner().count(),
+    })
+}
+
+// The size of the cut for the codes of a range, or its refusal.
+fn size_of(alloc: Global, font: &Font<'_>, range: (u32, u32)) -> Option<Result<u64, CutError>> {
+    let wanted = wanted_of(alloc, &[range]).ok()?;
+    match cut(alloc, font, &wanted) {
+        Ok(made) => Some(Ok(made.len() as u64)),
+        Err(error) => Some(Err(error)),
+    }
+}
+
+// An outlet stays fresh where a cut is too large.
 #[test]
 fn size_limits(rt: HostRuntime) -> Result<(), Fail> {
-    let file = wide(rt.alloc())?;
+    let alloc = rt.alloc();
+    let file = wide(alloc)?;
     assert_eq!(rt; file.len(), 572 + REGION as usize);
     assert_eq!(rt; MAX_FILE, 134_217_728);
     let font = Font::open(&file)?;
-    for (code, size) in [(0x41, 134_217_728), (0x42, 134_217_724)] {
-        let wanted = wanted_of(rt.alloc(), &[(code, code)])?;
-        let mut outlet = Outlet::new(Counting::new());
-        let answer = cut_into(rt.alloc(), &font, &wanted, &mut outlet);
-        assert_eq!(rt; answer, Ok(size), "U+{code:04X}");
-        assert_eq!(rt; outlet.written(), size, "U+{code:04X}");
-        assert!(rt; !outlet.is_broken(), "U+{code:04X}");
-        assert_eq!(rt; outlet.into_inner().count(), size, "U+{code:04X}");
+    for (range, answer, size) in [
+        ((0x41, 0x41), Ok(134_217_728), 134_217_728),
+        ((0x42, 0x42), Ok(134_217_724), 134_217_724),
+        ((0x41, 0x42), Err(CutIntoError::TooLarge(TOO_LARGE)), 0),
+    ] {
+        let stated = Counted {
+            answer,
+            is_broken: false,
+            written: size,
+            count: size,
+        };
+        assert_eq!(rt; count_of(alloc, &font, range), Some(stated), "{range:?}");
     }
-    Ok(())
-}
-
-#[test]
-fn largest_cut(rt: HostRuntime) -> Result<(), Fail> {
-    let file = wide(rt.alloc())?;
-    let made = cut_of(rt.alloc(), &file, &[(0x41, 0x41)])?;
-    assert_eq!(rt; made.len() as u64, MAX_FILE);
-    Ok(())
-}
-
-#[test]
-fn too_large(rt: HostRuntime) -> Result<(), Fail> {
-    let file = wide(rt.alloc())?;
-    let font = Font::open(&file)?;
-    let wanted = wanted_of(rt.alloc(), &[(0x41, 0x42)])?;
-    let answer = cut(rt.alloc(), &font, &wanted);
-    assert_eq!(rt; answer.err(), Some(CutError::TooLarge(TOO_LARGE)));
-    let mut outlet = Outlet::new(Counting::new());
-    let answer = cut_into(rt.alloc(), &font, &wanted, &mut outlet);
-    assert_eq!(rt; answer, Err(CutIntoError::TooLarge(TOO_LARGE)));
-    assert!(rt; outlet.is_fresh());
-    assert_eq!(rt; outlet.into_inner().count(), 0);
+    let largest = size_of(alloc, &font, (0x41, 0x41));
+    assert_eq!(rt; largest, Some(Ok(MAX_FILE)));
+    let larger = size_of(alloc, &font, (0x41, 0x42));
+    assert_eq!(rt; larger, Some(Err(CutError::TooLarge(TOO_LARGE))));
     Ok(())
 }
 

@@ -1,5 +1,5 @@
 //! Cuts that are sent to writers which take little, fail, or have no room.
-use fakes::devices::{Counting, Failure, Narrow};
+use fakes::devices::{Failure, Narrow};
 use font_cut::{CutError, CutIntoError, Font, Outlet, cut_into};
 use sample_cuts::wanted_of;
 use sample_fonts::fonts::wide;
@@ -11,20 +11,64 @@ use std::test::Fail;
 
 const SIZE: u64 = 412;
 
-type Sent = (Result<u64, CutIntoError>, Outlet<Narrow>);
+// What a cut answered, and what its outlet and its writer say then.
+#[derive(Clone, Copy, Debug, PartialEq, Eq)]
+struct Sent {
+    answer: Result<u64, CutIntoError>,
+    // Whether the call that was to fail came.
+    has_failed: bool,
+    is_broken: bool,
+    written: u64,
+    // How many bytes of the cut for 0xC1 the writer holds, and none where it holds others.
+    held: Option<u64>,
+}
 
-// What the cut of Base6 for 0xC1 answers over a writer, and its outlet then.
-fn send_aacute(alloc: Global, piece: usize, failure: Failure) -> Result<Sent, Fail> {
-    let font = Font::open(&BASE6)?;
-    let wanted = wanted_of(alloc, &[(0xC1, 0xC1)])?;
+// Sends the cut of Base6 for 0xC1, at most `piece` bytes a write. It is none where memory is refused.
+fn send_aacute(alloc: Global, piece: usize, failure: Failure) -> Option<Sent> {
+    let font = Font::open(&BASE6).ok()?;
+    let wanted = wanted_of(alloc, &[(0xC1, 0xC1)]).ok()?;
     let mut outlet = Outlet::new(Narrow::new(alloc, piece, failure));
     let answer = cut_into(alloc, &font, &wanted, &mut outlet);
-    Ok((answer, outlet))
+    let (written, is_broken) = (outlet.written(), outlet.is_broken());
+    let writer = outlet.into_inner();
+    let held = writer.held();
+    let is_front = AACUTE.starts_with(held);
+    Some(Sent {
+        answer,
+        has_failed: writer.has_failed(),
+        is_broken,
+        written,
+        held: if is_front {
+            Some(held.len() as u64)
+        } else {
+            None
+        },
+    })
+}
+
+// What is stated of a writer that takes so many bytes of the cut and then fails, or all of them.
+fn taken(written: u64) -> Sent {
+    let is_broken = written < SIZE;
+    Sent {
+        answer: if is_broken {
+            Err(CutIntoError::WriteFault(written))
+        } else {
+            Ok(SIZE)
+        },
+        has_failed: is_broken,
+        is_broken,
+        written,
+        held: Some(written),
+    }
+}
+
+/// Returns whether the cut of Base6 for 0xC1 is sent to a writer that takes one byte a write.
+pub fn is_sent_by_bytes(alloc: Global) -> bool {
+    send_aacute(alloc, 1, Failure::Nowhere) == Some(taken(SIZE))
 }
 
 #[test]
 fn sends_the_cut(rt: HostRuntime) -> Result<(), Fail> {
-    let aacute = AACUTE.to_vec(rt.alloc())?;
     let font = Font::open(&BASE6)?;
     let wanted = wanted_of(rt.alloc(), &[(0xC1, 0xC1)])?;
     let mut outlet = Outlet::new(Vec::new(rt.alloc()));
@@ -33,107 +77,40 @@ fn sends_the_cut(rt: HostRuntime) -> Result<(), Fail> {
     assert_eq!(rt; outlet.written(), SIZE);
     assert!(rt; !outlet.is_fresh() && !outlet.is_broken());
     assert_eq!(rt; outlet.finish(), Ok(()));
-    assert_eq!(rt; outlet.into_inner().as_slice(), aacute.as_slice());
+    assert_eq!(rt; outlet.into_inner().as_slice(), AACUTE.as_slice());
     Ok(())
 }
 
 #[test]
-fn short_writer(rt: HostRuntime) -> Result<(), Fail> {
-    let aacute = AACUTE.to_vec(rt.alloc())?;
+fn short_writer(rt: HostRuntime) {
     for room in 0..414usize {
-        let (answer, outlet) = send_aacute(rt.alloc(), 4096, Failure::Full(room))?;
-        let written = (room as u64).min(SIZE);
-        let stated = if room < 412 {
-            Err(CutIntoError::WriteFault(written))
-        } else {
-            Ok(SIZE)
-        };
-        assert_eq!(rt; answer, stated, "room for {room}");
-        assert_eq!(rt; outlet.written(), written, "room for {room}");
-        assert_eq!(rt; outlet.is_broken(), room < 412, "room for {room}");
-        let writer = outlet.into_inner();
-        assert_eq!(rt;
-            Some(writer.held()),
-            aacute.get(..writer.held().len()),
-            "room for {room}"
-        );
-        assert_eq!(rt; writer.held().len() as u64, written, "room for {room}");
+        let sent = send_aacute(rt.alloc(), 4096, Failure::Full(room));
+        let stated = taken((room as u64).min(SIZE));
+        assert_eq!(rt; sent, Some(stated), "room for {room}");
     }
-    Ok(())
 }
 
+// An outlet breaks where a write failed, and nowhere else; then a front of the cut is out. The first
+// write is one, and with one byte a write, the write of a number comes after one byte less.
 #[test]
-fn one_byte_writer(rt: HostRuntime) -> Result<(), Fail> {
-    let aacute = AACUTE.to_vec(rt.alloc())?;
-    let (answer, outlet) = send_aacute(rt.alloc(), 1, Failure::Nowhere)?;
-    assert_eq!(rt; answer, Ok(SIZE));
-    assert_eq!(rt; outlet.written(), SIZE);
-    assert!(rt; !outlet.is_broken());
-    assert_eq!(rt; outlet.into_inner().held(), aacute.as_slice());
-    Ok(())
-}
-
-// With one byte a write, the write of a number comes after one byte less.
-#[test]
-fn failing_writes_of_one_byte(rt: HostRuntime) -> Result<(), Fail> {
-    let aacute = AACUTE.to_vec(rt.alloc())?;
-    for k in 1..413u64 {
-        for failure in [
-            Failure::AtWrite(k, ErrorKind::Interrupted),
-            Failure::TakesNoneAt(k),
-        ] {
-            let (answer, outlet) = send_aacute(rt.alloc(), 1, failure)?;
-            let written = k - 1;
-            let fault = CutIntoError::WriteFault(written);
-            assert_eq!(rt; answer, Err(fault), "{failure:?}");
-            assert_eq!(rt; outlet.written(), written, "{failure:?}");
-            assert!(rt; outlet.is_broken(), "{failure:?}");
-            let writer = outlet.into_inner();
-            assert_eq!(rt;
-                Some(writer.held()),
-                aacute.get(..written as usize),
-                "{failure:?}"
-            );
-        }
-    }
-    Ok(())
-}
-
-// An outlet breaks where a write failed, and nowhere else; then a front of the cut is out.
-#[test]
-fn breaks_without_failure(rt: HostRuntime) -> Result<(), Fail> {
-    let aacute = AACUTE.to_vec(rt.alloc())?;
+fn failing_writes(rt: HostRuntime) {
     for piece in [1, 3, 7, 100, 4096] {
         for k in 1..414u64 {
             for failure in [
                 Failure::AtWrite(k, ErrorKind::Interrupted),
                 Failure::TakesNoneAt(k),
             ] {
-                let (answer, outlet) = send_aacute(rt.alloc(), piece, failure)?;
-                let (written, is_broken) = (outlet.written(), outlet.is_broken());
-                let writer = outlet.into_inner();
-                let held = writer.held();
-                assert_eq!(rt; is_broken, writer.has_failed(), "{piece}, {failure:?}");
-                assert_eq!(rt; held.len() as u64, written, "{piece}, {failure:?}");
-                let stated = if is_broken {
-                    Err(CutIntoError::WriteFault(written))
-                } else {
-                    Ok(SIZE)
+                let sent = send_aacute(rt.alloc(), piece, failure);
+                let written = match sent {
+                    Some(sent) => sent.written,
+                    None => 0,
                 };
-                assert_eq!(rt; answer, stated, "{piece}, {failure:?}");
-                assert!(rt; aacute.starts_with(held), "{piece}, {failure:?}");
-                assert_eq!(rt; is_broken, held.len() < 412, "{piece}, {failure:?}");
+                assert_eq!(rt; sent, Some(taken(written)), "{piece}, {failure:?}");
+                assert!(rt; k > 1 || written == 0, "{piece}, {failure:?}");
+                assert!(rt; piece > 1 || written == k - 1, "{piece}, {failure:?}");
             }
         }
-        // the first write is one
-        let (_, outlet) = send_aacute(
-            rt.alloc(),
-            piece,
-            Failure::AtWrite(1, ErrorKind::Interrupted),
-        )?;
-        assert!(rt; outlet.is_broken(), "{piece}");
     }
-    Ok(())
 }
 
 #[test]

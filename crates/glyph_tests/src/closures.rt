@@ -1,10 +1,11 @@
 //! What components reach.
 ghost use Rattle.std.specs.Prelude.{◌≡◌, ◌<◌, length, IfOk};
 
-use crate::glyphs::{base6_records, composite, part};
+use crate::glyphs::{composite, part};
 use crate::records::Records;
 use fakes::Refusing;
 use font_glyph::{Marks, Outlines, close};
+use sample_fonts::fonts::base6_records;
 use sfnt_bytes::NoMemory;
 use std::alloc::{AllocError, Allocator, Global};
 use std::test::Fail;
@@ -55,47 +56,42 @@ fn reached_from(alloc: Global, records: Vec<Vec<u8>>, seed: u16) -> Result<Vec<u
     Ok(glyphs)
 }
 
-#[test]
-fn composite_of_composite(rt: HostRuntime) -> Result<(), Fail> {
-    let mut records = base6_records(rt.alloc())?;
-    *records.get_mut(5).ok_or("no glyph 5")? = composite(rt.alloc(), &[part(0x0002, 3)], &[])?;
-    let glyphs = reached_from(rt.alloc(), records, 5)?;
-    assert_eq!(rt; glyphs.as_slice(), [1, 2, 3, 5].as_slice());
-    Ok(())
-}
-
-// Base6 whose glyph 3 has this as its first component.
-fn with_first_component(alloc: Global, glyph: u8) -> Result<Vec<Vec<u8>>, Fail> {
+// Base6 whose glyph 3 has this as its first component. Glyph 5 has glyph 3 alone as a component where
+// it is a composite.
+fn changed(alloc: Global, first: u8, is_composite: bool) -> Result<Vec<Vec<u8>>, Fail> {
     let mut records = base6_records(alloc)?;
     let record = records.get_mut(3).ok_or("no glyph 3")?;
-    *record.get_mut(13).ok_or("no first component")? = glyph;
+    *record.get_mut(13).ok_or("no first component")? = first;
+    if is_composite {
+        *records.get_mut(5).ok_or("no glyph 5")? = composite(alloc, &[part(0x0002, 3)], &[])?;
+    }
     Ok(records)
 }
 
 #[test]
-fn glyph_of_itself(rt: HostRuntime) -> Result<(), Fail> {
-    let records = with_first_component(rt.alloc(), 3)?;
-    let glyphs = reached_from(rt.alloc(), records, 3)?;
-    assert_eq!(rt; glyphs.as_slice(), [2, 3].as_slice());
+fn composite_of_composite(rt: HostRuntime) -> Result<(), Fail> {
+    let glyphs = reached_from(rt.alloc(), changed(rt.alloc(), 1, true)?, 5)?;
+    assert_eq!(rt; glyphs.as_slice(), [1, 2, 3, 5].as_slice());
     Ok(())
 }
 
 #[test]
-fn ring_of_two(rt: HostRuntime) -> Result<(), Fail> {
-    for seed in [3, 5] {
-        let mut records = with_first_component(rt.alloc(), 5)?;
-        *records.get_mut(5).ok_or("no glyph 5")? = composite(rt.alloc(), &[part(0x0002, 3)], &[])?;
+fn rings_and_seeds_alone(rt: HostRuntime) -> Result<(), Fail> {
+    for (first, is_composite, seed, stated) in [
+        // a glyph of itself
+        (3, false, 3, [2, 3].as_slice()),
+        // two glyphs that have each other
+        (5, true, 3, &[2, 3, 5]),
+        (5, true, 5, &[2, 3, 5]),
+        (1, false, 0, &[0]),
+        (1, false, 1, &[1]),
+        (1, false, 2, &[2]),
+        (1, false, 4, &[4]),
+        (1, false, 5, &[5]),
+    ] {
+        let records = changed(rt.alloc(), first, is_composite)?;
         let glyphs = reached_from(rt.alloc(), records, seed)?;
-        assert_eq!(rt; glyphs.as_slice(), [2, 3, 5].as_slice(), "from {seed}");
-    }
-    Ok(())
-}
-
-#[test]
-fn seeds_alone(rt: HostRuntime) -> Result<(), Fail> {
-    for seed in [0, 1, 2, 4, 5] {
-        let glyphs = reached_from(rt.alloc(), base6_records(rt.alloc())?, seed)?;
-        assert_eq!(rt; glyphs.as_slice(), [seed].as_slice());
+        assert_eq!(rt; glyphs.as_slice(), stated, "{first}, from {seed}");
     }
     Ok(())
 }
@@ -132,7 +128,7 @@ fn refused_memory(rt: HostRuntime) -> Result<(), Fail> {
 // After a refusal the same seeds close once there is memory.
 #[test]
 fn seeds_after_a_refusal(rt: HostRuntime) -> Result<(), Fail> {
-    let outlines = outlines_with(with_first_component(rt.alloc(), 3)?, 3)?;
+    let outlines = outlines_with(changed(rt.alloc(), 3, false)?, 3)?;
     let count = outlines.count();
     for k in [2, 3] {
         let memory = Refusing::new(rt.alloc(), k);

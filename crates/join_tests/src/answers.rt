@@ -1,21 +1,29 @@
 //! What joins answer.
 use font_cut::{Font, JoinAllError, JoinError, is_cut, join, join_all};
 use std::alloc::{AllocError, Allocator, Global};
-use std::test::Fail;
 
-/// The refusal of a join.
+/// Returns the refusal of a join.
 pub fn refusal_of(alloc: Global, x: &[u8], y: &[u8]) -> Option<JoinError> {
     join(alloc, x, y).err()
 }
 
-/// Whether a file is accepted, and is a cut.
-pub fn is_cut_form(alloc: Global, file: &[u8]) -> Result<bool, Fail> {
-    let font = Font::open(file)?;
-    let answer = is_cut(alloc, &font)?;
-    Ok(answer)
+/// Returns whether the join of two files is the stated file.
+pub fn is_join(alloc: Global, x: &[u8], y: &[u8], stated: &[u8]) -> bool {
+    match join(alloc, x, y) {
+        Ok(file) => file.as_slice() == stated,
+        Err(_) => false,
+    }
 }
 
-/// Copies of files in the memory of an allocator. Each has one request of its own.
+/// Returns whether a file is a cut, and none where it is not accepted.
+pub fn cut_form_of(alloc: Global, file: &[u8]) -> Option<bool> {
+    match Font::open(file) {
+        Ok(font) => is_cut(alloc, &font).ok(),
+        Err(_) => None,
+    }
+}
+
+/// Copies files into the memory of an allocator. Each has one request of its own.
 pub fn copies<A: Allocator + Copy>(
     alloc: Global,
     memory: A,
@@ -28,8 +36,21 @@ pub fn copies<A: Allocator + Copy>(
     Ok(copied)
 }
 
-/// The join of all of these files, or its refusal.
-pub fn join_of(alloc: Global, files: &[&[u8]]) -> Result<Result<Vec<u8>, JoinAllError>, Fail> {
-    let copied = copies(alloc, alloc, files)?;
-    Ok(join_all(alloc, &copied))
+/// Returns whether the join of all of these files is the stated file.
+pub fn is_join_of(alloc: Global, files: &[&[u8]], stated: &[u8]) -> bool {
+    match copies(alloc, alloc, files) {
+        Ok(copied) => match join_all(alloc, &copied) {
+            Ok(file) => file.as_slice() == stated,
+            Err(_) => false,
+        },
+        Err(_) => false,
+    }
+}
+
+/// Returns the refusal of the join of all of these files.
+pub fn refusal_of_all(alloc: Global, files: &[&[u8]]) -> Option<JoinAllError> {
+    match copies(alloc, alloc, files) {
+        Ok(copied) => join_all(alloc, &copied).err(),
+        Err(_) => None,
+    }
 }

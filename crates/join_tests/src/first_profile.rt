@@ -1,5 +1,5 @@
 //! Cuts of the first profile, which are fonts as any other.
-use crate::answers::{is_cut_form, refusal_of};
+use crate::answers::{cut_form_of, refusal_of};
 use font_cut::{JoinError, Which};
 use sample_cuts::{cut_of, is_clean};
 use sample_fonts::first_profile;
@@ -14,14 +14,14 @@ fn cuts_of_the_first_profile(rt: HostRuntime) -> Result<(), Fail> {
         (&first_profile::AACUTE, &AACUTE),
         (&first_profile::A_B_AACUTE, &A_B_AACUTE),
     ] {
-        let (first, current) = (first.to_vec(alloc)?, current.to_vec(alloc)?);
-        assert!(rt; is_clean(&first) && !is_cut_form(alloc, &first)?);
-        let made = cut_of(alloc, &first, &[(0, 0x10_FFFF)])?;
-        assert_eq!(rt; made.as_slice(), current.as_slice());
+        assert!(rt; is_clean(first));
+        assert_eq!(rt; cut_form_of(alloc, first), Some(false));
+        let made = cut_of(alloc, first, &[(0, 0x10_FFFF)])?;
+        assert_eq!(rt; made.as_slice(), current);
         for (x, y, which) in [
-            (&first, &current, Which::First),
-            (&current, &first, Which::Second),
-            (&first, &first, Which::First),
+            (first, current, Which::First),
+            (current, first, Which::Second),
+            (first, first, Which::First),
         ] {
             assert_eq!(rt; refusal_of(alloc, x, y), Some(JoinError::NotACut(which)));
         }

@@ -1,6 +1,6 @@
 //! The most bytes that a join may have.
-use crate::answers::{is_cut_form, refusal_of};
-use font_cut::{JoinError, join};
+use crate::answers::{cut_form_of, is_join, refusal_of};
+use font_cut::JoinError;
 use sample_cuts::cut_of;
 use sample_fonts::fonts::wide;
 use std::test::Fail;
@@ -14,9 +14,8 @@ fn size_limits(rt: HostRuntime) -> Result<(), Fail> {
     let stated = Some(JoinError::TooLarge(134_217_752));
     for (made, other, size) in [(&x, &y, 134_217_728), (&y, &x, 134_217_724)] {
         assert_eq!(rt; made.len(), size);
-        assert!(rt; is_cut_form(alloc, made)?, "{size}");
-        let itself = join(alloc, made, made)?;
-        assert!(rt; itself.as_slice() == made.as_slice(), "{size}");
+        assert_eq!(rt; cut_form_of(alloc, made), Some(true), "{size}");
+        assert!(rt; is_join(alloc, made, made, made), "{size}");
         assert_eq!(rt; refusal_of(alloc, made, other), stated, "{size}");
     }
     Ok(())

@@ -1,12 +1,9 @@
 //! Numbers and texts of the refusals of joins.
-use font_cut::{DirError, FontError, JoinAllError, JoinError, MapError, TableError, Which};
+use font_cut::{
+    DirError, FontError, JoinAllError, JoinAllIntoError, JoinError, MapError, TableError, Which,
+};
 use sfnt_bytes::Tag;
 use std::test::Fail;
-
-// The refusal for a code.
-fn mapping(code: u32) -> JoinError {
-    JoinError::DifferentMapping(code)
-}
 
 #[test]
 fn texts_of_faults(rt: HostRuntime) -> Result<(), Fail> {
@@ -24,6 +21,11 @@ fn texts_of_faults(rt: HostRuntime) -> Result<(), Fail> {
         assert_eq!(rt; error.to_string(rt.alloc())?.as_str(), text);
     }
     Ok(())
+}
+
+// The refusal for a code.
+fn mapping(code: u32) -> JoinError {
+    JoinError::DifferentMapping(code)
 }
 
 #[test]
@@ -48,38 +50,32 @@ fn texts_of_refusals(rt: HostRuntime) -> Result<(), Fail> {
     Ok(())
 }
 
+// The refusal of a step.
+fn at(step: usize, error: JoinError) -> JoinAllError {
+    JoinAllError::At { step, error }
+}
+
 #[test]
 fn texts_of_refusals_of_many(rt: HostRuntime) -> Result<(), Fail> {
     let truncated = FontError::Directory(DirError::Truncated);
     let fault = JoinError::Font(Which::First, truncated);
-    let no_cut = JoinError::NotACut(Which::Second);
-    let no_memory = JoinError::NoMemory;
     for (error, number, text) in [
         (JoinAllError::NothingToJoin, 24, "nothing to join"),
+        (at(0, fault), 2, "truncated"),
         (
-            JoinAllError::At {
-                step: 0,
-                error: fault,
-            },
-            2,
-            "truncated",
-        ),
-        (
-            JoinAllError::At {
-                step: 1,
-                error: no_cut,
-            },
+            at(1, JoinError::NotACut(Which::Second)),
             20,
             "not a cut: second",
         ),
-        (
-            JoinAllError::At {
-                step: 2,
-                error: no_memory,
-            },
-            16,
-            "no memory",
-        ),
+        (at(2, JoinError::NoMemory), 16, "no memory"),
+    ] {
+        assert_eq!(rt; error.number(), number, "{text}");
+        assert_eq!(rt; error.to_string(rt.alloc())?.as_str(), text);
+    }
+    let nothing = JoinAllIntoError::NotJoined(JoinAllError::NothingToJoin);
+    for (error, number, text) in [
+        (nothing, 24, "nothing to join"),
+        (JoinAllIntoError::WriteFault(7), 19, "write fault after 7"),
     ] {
         assert_eq!(rt; error.number(), number, "{text}");
         assert_eq!(rt; error.to_string(rt.alloc())?.as_str(), text);

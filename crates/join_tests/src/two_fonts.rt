@@ -6,6 +6,7 @@ use sample_fonts::fonts;
 use sample_fonts::fonts::{Change, base6_changed};
 use sample_fonts::known_cuts::AACUTE;
 use sfnt_bytes::{BASE6, Tag};
+use std::alloc::Global;
 use std::test::Fail;
 
 #[test]
@@ -59,10 +60,21 @@ fn table(tag: [u8; 4]) -> JoinError {
     JoinError::DifferentTable(Tag(tag))
 }
 
-// What cuts of Base6 and of a font with these changes answer, for the codes from 0x41 to the last.
+// The refusals of the joins of the cuts of Base6 and of a font with these changes, for the codes from
+// 0x41 to the last: in this order, in the other, and of Base6 itself with the second cut.
+fn refusals(alloc: Global, changes: &[Change], last: u32) -> Result<[Option<JoinError>; 3], Fail> {
+    let x = cut_of(alloc, &BASE6, &[(0x41, last)])?;
+    let y = cut_of(alloc, &base6_changed(alloc, changes)?, &[(0x41, last)])?;
+    Ok([
+        refusal_of(alloc, &x, &y),
+        refusal_of(alloc, &y, &x),
+        refusal_of(alloc, &BASE6, &y),
+    ])
+}
+
 #[test]
 fn differences(rt: HostRuntime) -> Result<(), Fail> {
-    let alloc = rt.alloc();
+    let no_cut = JoinError::NotACut(Which::First);
     for (changes, last, stated) in [
         ([GLYPH_1].as_slice(), 0x41, JoinError::DifferentGlyph(1)),
         (&[BEARING], 0x41, table(*b"hmtx")),
@@ -89,12 +101,9 @@ fn differences(rt: HostRuntime) -> Result<(), Fail> {
         (&[NOTDEF, B_ON_4], 0x42, JoinError::DifferentMapping(0x42)),
         (&[GLYPH_1, A_ON_2], 0x41, JoinError::DifferentMapping(0x41)),
     ] {
-        let x = cut_of(alloc, &BASE6, &[(0x41, last)])?;
-        let y = cut_of(alloc, &base6_changed(alloc, changes)?, &[(0x41, last)])?;
-        assert_eq!(rt; refusal_of(alloc, &x, &y), Some(stated), "{changes:?}");
-        assert_eq!(rt; refusal_of(alloc, &y, &x), Some(stated), "{changes:?}");
-        let no_cut = Some(JoinError::NotACut(Which::First));
-        assert_eq!(rt; refusal_of(alloc, &BASE6, &y), no_cut, "{changes:?}");
+        let found = refusals(rt.alloc(), changes, last)?;
+        let stated = [Some(stated), Some(stated), Some(no_cut)];
+        assert_eq!(rt; found, stated, "{changes:?}");
     }
     Ok(())
 }
@@ -107,25 +116,22 @@ fn fault(which: Which, error: DirError) -> JoinError {
 #[test]
 fn join_refusals(rt: HostRuntime) -> Result<(), Fail> {
     let alloc = rt.alloc();
-    let cut = AACUTE.to_vec(alloc)?;
-    let front = cut.get(..411).ok_or("a short cut")?;
+    let (cut, front) = (AACUTE.as_slice(), &AACUTE[..411]);
     let other = cut_of(alloc, &base6_changed(alloc, &[BEARING])?, &[(0x41, 0x41)])?;
+    let (first, second) = (Which::First, Which::Second);
+    let truncated = DirError::Truncated;
     let maxp = DirError::TableOutOfFile(Tag(*b"maxp"));
     for (x, y, stated) in [
-        (
-            [].as_slice(),
-            cut.as_slice(),
-            fault(Which::First, DirError::Truncated),
-        ),
-        (&[], &[], fault(Which::First, DirError::Truncated)),
-        (front, &[], fault(Which::First, maxp)),
-        (&cut, front, fault(Which::Second, maxp)),
-        (&BASE6, &[], fault(Which::Second, DirError::Truncated)),
-        (&BASE6, &BASE6, JoinError::NotACut(Which::First)),
-        (&BASE6, &cut, JoinError::NotACut(Which::First)),
-        (&cut, &BASE6, JoinError::NotACut(Which::Second)),
-        (&other, &BASE6, JoinError::NotACut(Which::Second)),
-        (&other, &cut, table(*b"hmtx")),
+        ([].as_slice(), cut, fault(first, truncated)),
+        (&[], &[], fault(first, truncated)),
+        (front, &[], fault(first, maxp)),
+        (cut, front, fault(second, maxp)),
+        (&BASE6, &[], fault(second, truncated)),
+        (&BASE6, &BASE6, JoinError::NotACut(first)),
+        (&BASE6, cut, JoinError::NotACut(first)),
+        (cut, &BASE6, JoinError::NotACut(second)),
+        (&other, &BASE6, JoinError::NotACut(second)),
+        (&other, cut, table(*b"hmtx")),
     ] {
         assert_eq!(rt; refusal_of(alloc, x, y), Some(stated));
     }

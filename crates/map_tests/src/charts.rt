@@ -1,4 +1,6 @@
 //! Charts of mappings: the memory that they ask for, and that they stay right where it is refused.
+ghost use Rattle.std.specs.Prelude.{◌<◌};
+
 use crate::cmaps::{Segment, cmap_of, format4, format12};
 use fakes::Refusing;
 use font_map::{Chart, Mapping, Run};
@@ -33,59 +35,65 @@ fn groups(alloc: Global, in_order: bool) -> Result<Vec<u8>, AllocError> {
     cmap_of(alloc, &[(3, 10, &table)])
 }
 
+// Whether the chart of a mapping makes so many requests, is refused where one of them is, and is there
+// once there is memory. It has this glyph for 0x42, and a run from 0x50 on.
+fn has_requests(alloc: Global, cmap: &[u8], requests: u64, glyph: u16) -> Result<bool, Fail> {
+    let mapping = Mapping::choose(cmap, 6)?;
+    for k in 1..=requests {
+        let memory = Refusing::new(alloc, k);
+        let refused = Chart::of(&memory, &mapping).err();
+        let is_last = memory.requests() == k;
+        if refused != Some(NoMemory) || !is_last || Chart::of(&memory, &mapping).is_err() {
+            return Ok(false);
+        }
+    }
+    let memory = Refusing::new(alloc, 0);
+    let chart = Chart::of(&memory, &mapping)?;
+    let run = Run {
+        first: 0x50,
+        last: 0x51,
+        glyph: 3,
+    };
+    let glyphs = (chart.glyph(0x42), chart.glyph(0x50));
+    let is_stated = glyphs == (glyph, 3) && chart.next_run(0x43) == Some(run);
+    Ok(is_stated && memory.requests() == requests)
+}
+
 // A chart of a mapping whose subtable stands in order asks for no memory; of one out of order it asks
 // for the glyphs of all codes, and for groups while they are laid out also for what is taken.
 #[test]
 fn refused_charts(rt: HostRuntime) -> Result<(), Fail> {
     let alloc = rt.alloc();
-    // the first listed segment that ends at 0x42 or above it begins above it
-    for (case, cmap, requests, glyph) in [
-        ("segments in order", segments(alloc, true)?, 0, 2),
-        ("groups in order", groups(alloc, true)?, 0, 2),
-        ("segments out of order", segments(alloc, false)?, 1, 0),
-        ("groups out of order", groups(alloc, false)?, 2, 2),
-    ] {
-        let mapping = Mapping::choose(&cmap, 6)?;
-        for k in 1..=requests {
-            let memory = Refusing::new(alloc, k);
-            let refused = Chart::of(&memory, &mapping).err();
-            assert_eq!(rt; refused, Some(NoMemory), "{case}, request {k}");
-            assert_eq!(rt; memory.requests(), k, "{case}, request {k}");
-            assert!(rt;
-                Chart::of(&memory, &mapping).is_ok(),
-                "{case}, after request {k}"
-            );
-        }
-        let memory = Refusing::new(alloc, 0);
-        let chart = Chart::of(&memory, &mapping)?;
-        assert_eq!(rt; memory.requests(), requests, "{case}");
-        assert_eq!(rt;
-            (chart.glyph(0x42), chart.glyph(0x50)),
-            (glyph, 3),
-            "{case}"
-        );
-        let run = Run {
-            first: 0x50,
-            last: 0x51,
-            glyph: 3,
-        };
-        assert_eq!(rt; chart.next_run(0x43), Some(run), "{case}");
+    for in_order in [true, false] {
+        // the first listed segment that ends at 0x42 or above it begins above it
+        let (requests, glyph) = if in_order { (0, 2) } else { (1, 0) };
+        assert!(rt; has_requests(alloc, &segments(alloc, in_order)?, requests, glyph)?);
+        let requests = if in_order { 0 } else { 2 };
+        assert!(rt; has_requests(alloc, &groups(alloc, in_order)?, requests, 2)?);
     }
     Ok(())
 }
 
-// Many groups, nested in each other, the inner ones first and the outer ones first, and in no order.
+// A group of forty: the next ones are within it, around it, or in no order.
+fn group(order: u8, i: u32) -> [u32; 3]
+    requires { i < 40 }
+{
+    let first = 0x1000 + 37 * i % 40 * 4;
+    match order {
+        0 => [0x1000 + i, 0x1100 - i, 1 + 7 * i],
+        1 => [0x1080 - i, 0x1080 + i, 1 + 7 * i],
+        _ => [first, first + i % 9, 1 + i],
+    }
+}
+
 #[test]
 fn nested_groups(rt: HostRuntime) -> Result<(), Fail> {
     let alloc = rt.alloc();
-    let (mut inward, mut outward, mut mixed) = (Vec::new(alloc), Vec::new(alloc), Vec::new(alloc));
-    for i in 0..40u32 {
-        inward.push([0x1000 + i, 0x1100 - i, 1 + 7 * i])?;
-        outward.push([0x1080 - i, 0x1080 + i, 1 + 7 * i])?;
-        let first = 0x1000 + 37 * i % 40 * 4;
-        mixed.push([first, first + i % 9, 1 + i])?;
-    }
-    for listed in [inward, outward, mixed] {
+    for order in [0, 1, 2] {
+        let mut listed = Vec::new(alloc);
+        for i in 0..40u32 {
+            listed.push(group(order, i))?;
+        }
         let table = format12(alloc, &listed)?;
         let cmap = cmap_of(alloc, &[(3, 10, &table)])?;
         let mapping = Mapping::choose(&cmap, 1000)?;

@@ -1,4 +1,5 @@
 //! `cmap` tables for the tests, spelled field by field.
+use sample_fonts::bytes::{put_u16, put_u32};
 use sfnt_bytes::BASE6;
 use std::alloc::{AllocError, Global};
 
@@ -12,20 +13,6 @@ pub fn base6_cmap() -> [u8; 68] {
 /// The subtable of Base6, without the header and the record of its `cmap`.
 pub fn base6_subtable() -> &'static [u8] {
     &BASE6[136..192]
-}
-
-fn put_u16(bytes: &mut Vec<u8>, fields: &[u16]) -> Result<(), AllocError> {
-    for field in fields {
-        bytes.extend_from_slice(&field.to_be_bytes())?;
-    }
-    Ok(())
-}
-
-fn put_u32(bytes: &mut Vec<u8>, fields: &[u32]) -> Result<(), AllocError> {
-    for field in fields {
-        bytes.extend_from_slice(&field.to_be_bytes())?;
-    }
-    Ok(())
 }
 
 /// A segment of format 4.
@@ -92,13 +79,6 @@ pub fn cmap_of(alloc: Global, tables: &[(u16, u16, &[u8])]) -> Result<Vec<u8>, A
         cmap.extend_from_slice(table)?;
     }
     Ok(cmap)
-}
-
-/// Puts other bytes from a place on, as far as there are bytes.
-pub fn put_at(bytes: &mut Vec<u8>, at: usize, others: &[u8]) {
-    for (byte, other) in bytes.iter_mut().skip(at).zip(others) {
-        *byte = *other;
-    }
 }
 
 /// A number below 65,536 that is not easily told from the one before it.

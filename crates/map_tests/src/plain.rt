@@ -227,3 +227,39 @@ pub fn is_next_run(cmap: &[u8], glyphs: u16, from: u32, run: Option<(u32, u32, u
         Err(_) => false,
     }
 }
+
+/// Whether a `cmap` has this choice, so many mapped codes and these glyphs of codes.
+pub fn has_codes(
+    cmap: &[u8],
+    glyphs: u16,
+    chosen: (u16, u16, u16),
+    count: u32,
+    codes: &[(u32, u16)],
+) -> bool {
+    let Ok(mapping) = Mapping::choose(cmap, glyphs) else {
+        return false;
+    };
+    for (code, glyph) in codes {
+        if mapping.glyph(*code) != *glyph {
+            return false;
+        }
+    }
+    mapping.chosen() == chosen && mapping.mapped_count() == count
+}
+
+/// Whether a `cmap` has them, and all else as the plain program says.
+pub fn has_map(
+    alloc: Global,
+    cmap: &[u8],
+    glyphs: u16,
+    chosen: (u16, u16, u16),
+    count: u32,
+    codes: &[(u32, u16)],
+) -> bool {
+    has_codes(cmap, glyphs, chosen, count, codes) && is_as_plain(alloc, cmap, glyphs)
+}
+
+/// Whether a `cmap` is refused so, by the plain program too.
+pub fn is_refused(alloc: Global, cmap: &[u8], refusal: MapError) -> bool {
+    Mapping::choose(cmap, 6).err() == Some(refusal) && is_as_plain(alloc, cmap, 6)
+}

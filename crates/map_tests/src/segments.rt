@@ -1,9 +1,12 @@
 //! Format 4: segments, deltas and the array of glyphs.
 use crate::cmaps::{Segment, base6_cmap, chance, cmap_of, format4};
-use crate::plain::{is_as_plain, is_next_run};
-use font_map::Mapping;
+use crate::plain::{has_map, is_as_plain, is_next_run};
+use sample_fonts::bytes::bytes_of;
 use std::alloc::{AllocError, Global};
 use std::test::Fail;
+
+// What is chosen in most of these tests.
+const CHOSEN: (u16, u16, u16) = (3, 1, 4);
 
 // Two segments: 0x41..0x42 with idDelta 5 and glyphIdArray 0, 0xFFFE; 0xFFFF with idDelta 1 and
 // idRangeOffset 0xFFFF.
@@ -14,30 +17,19 @@ const LOOKUPS: [u32; 12] = [
     0x00050001, 0x0004FFFF, 0x0000FFFE,
 ];
 
+// An entry of 0 gets no idDelta, 0xFFFE + 5 is 3 modulo 65536, and the last entry is past the table.
 #[test]
 fn format4_lookups(rt: HostRuntime) -> Result<(), Fail> {
-    let mut cmap = Vec::new(rt.alloc());
-    for word in LOOKUPS {
-        cmap.extend_from_slice(&word.to_be_bytes())?;
-    }
+    let cmap = bytes_of(rt.alloc(), &LOOKUPS)?;
     assert_eq!(rt; cmap.len(), 48);
-    let mapping = Mapping::choose(&cmap, 6)?;
-    assert_eq!(rt; mapping.chosen(), (3, 1, 4));
-    assert_eq!(rt; mapping.glyph(0x41), 0, "an entry of 0 gets no idDelta");
-    assert_eq!(rt; mapping.glyph(0x42), 3, "0xFFFE + 5 modulo 65536");
-    assert_eq!(rt; mapping.glyph(0xFFFF), 0, "an entry past the table");
-    assert_eq!(rt; mapping.mapped_count(), 1);
-    assert!(rt; is_as_plain(rt.alloc(), &cmap, 6));
+    let codes = [(0x41, 0), (0x42, 3), (0xFFFF, 0)];
+    assert!(rt; has_map(rt.alloc(), &cmap, 6, CHOSEN, 1, &codes));
     Ok(())
 }
 
 #[test]
-fn map_of_base6(rt: HostRuntime) -> Result<(), Fail> {
-    let cmap = base6_cmap();
-    let mapping = Mapping::choose(&cmap, 6)?;
-    assert_eq!(rt; mapping.chosen(), (3, 1, 4));
-    assert_eq!(rt; mapping.mapped_count(), 4);
-    for (code, glyph) in [
+fn map_of_base6(rt: HostRuntime) {
+    let codes = [
         (0x1F, 0),
         (0x20, 4),
         (0x41, 1),
@@ -48,11 +40,8 @@ fn map_of_base6(rt: HostRuntime) -> Result<(), Fail> {
         (0x1_0041, 0),
         (0x10_0041, 0),
         (0xFFFF_0041, 0),
-    ] {
-        assert_eq!(rt; mapping.glyph(code), glyph, "{code}");
-    }
-    assert!(rt; is_as_plain(rt.alloc(), &cmap, 6));
-    Ok(())
+    ];
+    assert!(rt; has_map(rt.alloc(), &base6_cmap(), 6, CHOSEN, 4, &codes));
 }
 
 #[test]
@@ -84,144 +73,144 @@ fn segment(start: u16, end: u16, glyph: u16) -> Segment {
     }
 }
 
+// A `cmap` of such segments, of which startCode, endCode and the first glyph are listed.
+fn by_deltas(alloc: Global, listed: &[(u16, u16, u16)]) -> Result<Vec<u8>, AllocError> {
+    let mut segments = Vec::new(alloc);
+    for (start, end, glyph) in listed {
+        segments.push(segment(*start, *end, *glyph))?;
+    }
+    cmap4(alloc, &segments, &[])
+}
+
 // 0xFFFC has glyph 1, 0xFFFB glyph 0, and the code 0 glyph 5, the last.
 #[test]
 fn deltas_that_wrap(rt: HostRuntime) -> Result<(), Fail> {
-    let cmap = cmap4(rt.alloc(), &[segment(0, 0xFFFF, 5)], &[])?;
-    assert_eq!(rt; Mapping::choose(&cmap, 6)?.mapped_count(), 5);
-    assert!(rt; is_next_run(&cmap, 6, 0, Some((0, 0, 5))));
-    assert!(rt; is_next_run(&cmap, 6, 1, Some((0xFFFC, 0xFFFF, 1))));
-    assert!(rt; is_next_run(&cmap, 6, 0xFFFE, Some((0xFFFE, 0xFFFF, 3))));
-    assert!(rt; is_as_plain(rt.alloc(), &cmap, 6));
-    assert!(rt; is_as_plain(rt.alloc(), &cmap, 65_535));
-    assert!(rt; is_as_plain(rt.alloc(), &cmap, 0));
+    let cmap = by_deltas(rt.alloc(), &[(0, 0xFFFF, 5)])?;
+    let codes = [(0, 5), (1, 0), (0xFFFB, 0), (0xFFFC, 1), (0xFFFF, 4)];
+    assert!(rt; has_map(rt.alloc(), &cmap, 6, CHOSEN, 5, &codes));
+    for (from, run) in [
+        (0, (0, 0, 5)),
+        (1, (0xFFFC, 0xFFFF, 1)),
+        (0xFFFE, (0xFFFE, 0xFFFF, 3)),
+    ] {
+        assert!(rt; is_next_run(&cmap, 6, from, Some(run)), "from {from}");
+    }
+    assert!(rt; is_as_plain(rt.alloc(), &cmap, 65_535) && is_as_plain(rt.alloc(), &cmap, 0));
     Ok(())
 }
 
-// One code, 0x41, whose entry is looked for `offset` bytes behind its idRangeOffset, at 22.
-fn one_entry(alloc: Global, offset: u16, array: &[u16]) -> Result<Vec<u8>, AllocError> {
+// Whether 0x41 has this glyph, which is looked for `offset` bytes behind its idRangeOffset, at 22, in
+// so many bytes of the `cmap`.
+fn has_entry(
+    alloc: Global,
+    offset: u16,
+    array: &[u16],
+    length: usize,
+    glyph: u16,
+) -> Result<bool, AllocError> {
     let one = Segment {
         start: 0x41,
         end: 0x41,
         delta: 0,
         offset,
     };
-    cmap4(alloc, &[one], array)
+    let mut cmap = cmap4(alloc, &[one], array)?;
+    cmap.truncate(length);
+    let count = if glyph == 0 { 0 } else { 1 };
+    Ok(has_map(alloc, &cmap, 6, CHOSEN, count, &[(0x41, glyph)]))
 }
 
 #[test]
-fn odd_range_offset(rt: HostRuntime) -> Result<(), Fail> {
-    // the bytes 0xAA, 0x00, 0x03, 0xBB from 24 on, of which 0x0003 stands at 25
-    let cmap = one_entry(rt.alloc(), 3, &[0xAA00, 0x03BB])?;
-    assert_eq!(rt; Mapping::choose(&cmap, 6)?.glyph(0x41), 3);
-    assert!(rt; is_as_plain(rt.alloc(), &cmap, 6));
+fn entries_anywhere(rt: HostRuntime) -> Result<(), Fail> {
+    for (offset, array, length, glyph) in [
+        // the bytes 0xAA, 0x00, 0x03, 0xBB from 24 on, of which 0x0003 stands at 25
+        (3, [0xAA00, 0x03BB].as_slice(), 40, 3),
+        (2, &[0x0003], 38, 3),
+        // one byte of the entry
+        (2, &[0x0003], 37, 0),
+    ] {
+        let is_found = has_entry(rt.alloc(), offset, array, length, glyph)?;
+        assert!(rt; is_found, "{length} bytes");
+    }
     Ok(())
 }
 
+// The last two bytes of another subtable are an entry, and the next one is past the table.
 #[test]
 fn entry_in_another_subtable(rt: HostRuntime) -> Result<(), Fail> {
-    let alloc = rt.alloc();
     let both = Segment {
         start: 0x41,
         end: 0x42,
         delta: 0,
         offset: 6,
     };
-    let segments = format4(alloc, &[both], &[])?;
+    let segments = format4(rt.alloc(), &[both], &[])?;
     assert_eq!(rt; segments.len(), 24);
-    let cmap = cmap_of(alloc, &[(3, 1, &segments), (1, 0, &[0, 0, 1, 6, 0, 2])])?;
-    let mapping = Mapping::choose(&cmap, 6)?;
-    assert_eq!(rt; mapping.glyph(0x41), 2, "its last two bytes");
-    assert_eq!(rt; mapping.glyph(0x42), 0, "past the table");
-    assert!(rt; is_as_plain(rt.alloc(), &cmap, 6));
+    let tables = [(3, 1, segments.as_slice()), (1, 0, &[0, 0, 1, 6, 0, 2])];
+    let cmap = cmap_of(rt.alloc(), &tables)?;
+    assert!(rt; has_map(rt.alloc(), &cmap, 6, CHOSEN, 1, &[(0x41, 2), (0x42, 0)]));
     Ok(())
 }
 
 #[test]
-fn entry_half_past_the_end(rt: HostRuntime) -> Result<(), Fail> {
-    let mut cmap = one_entry(rt.alloc(), 2, &[0x0003])?;
-    assert_eq!(rt; Mapping::choose(&cmap, 6)?.glyph(0x41), 3);
-    assert!(rt; is_as_plain(rt.alloc(), &cmap, 6));
-    cmap.truncate(37);
-    assert_eq!(rt; Mapping::choose(&cmap, 6)?.glyph(0x41), 0, "one byte of it");
-    assert!(rt; is_as_plain(rt.alloc(), &cmap, 6));
-    Ok(())
-}
-
-#[test]
-fn overlapping_segments(rt: HostRuntime) -> Result<(), Fail> {
-    let cmap = cmap4(
-        rt.alloc(),
-        &[segment(0x41, 0x45, 1), segment(0x43, 0x48, 10)],
-        &[],
-    )?;
-    let mapping = Mapping::choose(&cmap, 40)?;
-    // the first that ends at the code or above it decides
-    for (code, glyph) in [
-        (0x41, 1),
-        (0x43, 3),
-        (0x45, 5),
-        (0x46, 13),
-        (0x48, 15),
-        (0x49, 0),
+fn overlapping_and_unordered_segments(rt: HostRuntime) -> Result<(), Fail> {
+    for (listed, count, codes) in [
+        // the first that ends at the code or above it decides
+        (
+            [(0x41, 0x45, 1), (0x43, 0x48, 10)].as_slice(),
+            8,
+            [
+                (0x41, 1),
+                (0x43, 3),
+                (0x45, 5),
+                (0x46, 13),
+                (0x48, 15),
+                (0x49, 0),
+            ]
+            .as_slice(),
+        ),
+        // the first segment ends above 0x41
+        (
+            &[(0x50, 0x60, 1), (0x41, 0x42, 1)],
+            17,
+            &[(0x41, 0), (0x50, 1)],
+        ),
+        // a segment that ends below its start hides the code of its end from the one behind it
+        (
+            &[(0x45, 0x41, 1), (0x41, 0x42, 1)],
+            1,
+            &[(0x41, 0), (0x42, 2)],
+        ),
+        (&[], 0, &[(0x41, 0)]),
     ] {
-        assert_eq!(rt; mapping.glyph(code), glyph, "{code}");
+        let cmap = by_deltas(rt.alloc(), listed)?;
+        assert!(rt;
+            has_map(rt.alloc(), &cmap, 40, CHOSEN, count, codes),
+            "{listed:?}"
+        );
     }
-    assert!(rt; is_as_plain(rt.alloc(), &cmap, 40));
+    let cmap = by_deltas(rt.alloc(), &[(0x50, 0x60, 1), (0x41, 0x42, 1)])?;
+    assert!(rt; is_next_run(&cmap, 40, 0, Some((0x50, 0x60, 1))));
     Ok(())
 }
 
+// Two segments that end alike, and an array among segments out of order.
 #[test]
-fn unordered_segments(rt: HostRuntime) -> Result<(), Fail> {
-    let alloc = rt.alloc();
-    let cmap = cmap4(
-        alloc,
-        &[segment(0x50, 0x60, 1), segment(0x41, 0x42, 1)],
-        &[],
-    )?;
-    let mapping = Mapping::choose(&cmap, 40)?;
-    assert_eq!(rt; mapping.glyph(0x41), 0, "the first segment ends above it");
-    assert_eq!(rt; mapping.mapped_count(), 17);
-    assert!(rt; is_next_run(&cmap, 40, 0, Some((0x50, 0x60, 1))));
-    assert!(rt; is_as_plain(rt.alloc(), &cmap, 40));
-    // a segment that ends below its start hides the code of its end from the one behind it
-    let cmap = cmap4(
-        alloc,
-        &[segment(0x45, 0x41, 1), segment(0x41, 0x42, 1)],
-        &[],
-    )?;
-    let mapping = Mapping::choose(&cmap, 40)?;
-    assert_eq!(rt; mapping.glyph(0x41), 0);
-    assert_eq!(rt; mapping.glyph(0x42), 2);
-    assert!(rt; is_as_plain(rt.alloc(), &cmap, 40));
-    // two segments that end alike, and an array among segments out of order
+fn array_among_unordered_segments(rt: HostRuntime) -> Result<(), Fail> {
     let array = Segment {
         start: 0x70,
         end: 0x72,
         delta: 1,
         offset: 4,
     };
-    let cmap = cmap4(
-        alloc,
-        &[
-            segment(0x41, 0x60, 1),
-            segment(0x30, 0x60, 1),
-            array,
-            segment(0x61, 0x71, 20),
-        ],
-        &[9, 0, 8, 7],
-    )?;
+    let segments = [
+        segment(0x41, 0x60, 1),
+        segment(0x30, 0x60, 1),
+        array,
+        segment(0x61, 0x71, 20),
+    ];
+    let cmap = cmap4(rt.alloc(), &segments, &[9, 0, 8, 7])?;
     assert!(rt; is_as_plain(rt.alloc(), &cmap, 40));
-    Ok(())
-}
-
-#[test]
-fn no_segments(rt: HostRuntime) -> Result<(), Fail> {
-    let cmap = cmap4(rt.alloc(), &[], &[])?;
-    let mapping = Mapping::choose(&cmap, 6)?;
-    assert_eq!(rt; mapping.mapped_count(), 0);
-    assert_eq!(rt; mapping.next_run(0), None);
-    assert!(rt; is_as_plain(rt.alloc(), &cmap, 6));
     Ok(())
 }
 
@@ -230,7 +219,7 @@ fn no_segments(rt: HostRuntime) -> Result<(), Fail> {
 fn segments_by_chance(rt: HostRuntime) -> Result<(), Fail> {
     let array = [0, 3, 4, 5, 0, 7, 6, 1, 2, 3, 0xFFFF, 0];
     let mut seed = 1;
-    for turn in 0..40 {
+    for turn in 0..10 {
         let mut segments = Vec::new(rt.alloc());
         for _ in 0..chance(&mut seed) % 6 {
             let start = 1 + chance(&mut seed) % 30;

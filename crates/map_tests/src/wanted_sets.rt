@@ -312,12 +312,6 @@ fn are_groups_of_sets(alloc: Global, cmap: &[u8], glyphs: u16) -> Result<bool, F
 }
 
 #[test]
-fn groups_of_base6(rt: HostRuntime) -> Result<(), Fail> {
-    assert!(rt; are_groups_of_sets(rt.alloc(), &base6_cmap(), 6)?);
-    Ok(())
-}
-
-#[test]
 fn groups_of_listed_groups(rt: HostRuntime) -> Result<(), Fail> {
     let alloc = rt.alloc();
     for listed in [
@@ -332,10 +326,11 @@ fn groups_of_listed_groups(rt: HostRuntime) -> Result<(), Fail> {
     Ok(())
 }
 
-// An array on scattered glyphs between deltas, listed in order and the other way round.
+// Base6; and an array on scattered glyphs between deltas, listed in order and the other way round.
 #[test]
 fn groups_of_segments(rt: HostRuntime) -> Result<(), Fail> {
     let alloc = rt.alloc();
+    assert!(rt; are_groups_of_sets(alloc, &base6_cmap(), 6)?);
     let low = Segment {
         start: 0x20,
         end: 0x2F,

@@ -1,6 +1,8 @@
 //! Cuts that tests make of sample fonts, and what stands in them.
 #![tactic(auto)]
 
+pub mod refusals;
+
 use font_cut::{Font, FontError, Wanted, WantedError, cut};
 use font_write::Source;
 use sample_fonts::bytes::words_of;
@@ -45,8 +47,8 @@ pub fn groups_of(alloc: Global, file: &[u8]) -> Result<Vec<u32>, Fail> {
     Ok(copy)
 }
 
-/// The offsets of a cut.
-pub fn loca_of(alloc: Global, file: &[u8]) -> Result<Vec<u32>, Fail> {
+// The offsets of a cut.
+fn loca_of(alloc: Global, file: &[u8]) -> Result<Vec<u32>, Fail> {
     let table = Directory::read(file)?.table(LOCA).ok_or("no loca")?;
     let words = words_of(alloc, table)?;
     Ok(words)
