@@ -45,8 +45,13 @@ const WORDS: [u32; 107] = [
 #[test]
 fn base6_as_stated(rt: HostRuntime) {
     assert_eq!(rt; BASE6.len(), 428);
-    for (place, (bytes, word)) in BASE6.chunks_exact(4).zip(WORDS).enumerate() {
-        assert_eq!(rt; bytes, word.to_be_bytes().as_slice(), "word {place}");
+    for place in 0..107 {
+        let word = WORDS[place].to_be_bytes();
+        assert_eq!(rt;
+            &BASE6[4 * place..4 * place + 4],
+            word.as_slice(),
+            "word {place}"
+        );
     }
 }
 
@@ -54,14 +59,14 @@ fn base6_as_stated(rt: HostRuntime) {
 fn numbers_and_sums(rt: HostRuntime) {
     assert_eq!(rt; be16(&[0x12, 0x34, 0x56], 1), 0x3456);
     assert_eq!(rt; be32(&[0x12, 0x89, 0xAB, 0xCD, 0xEF], 1), 0x89AB_CDEF);
-    assert_eq!(rt; word_sum(&[]), 0);
-    assert_eq!(rt; word_sum(&[1]), 0x0100_0000, "filled with zeros");
-    assert_eq!(rt;
-        word_sum(&[0xFF, 0xFF, 0xFF, 0xFF, 0, 0, 1]),
-        0xFF,
-        "modulo 2^32"
-    );
-    assert_eq!(rt; word_sum(&BASE6), 0xB1B0_AFBA);
+    for (bytes, sum) in [
+        ([].as_slice(), 0),
+        (&[1], 0x0100_0000), // filled with zeros
+        (&[0xFF, 0xFF, 0xFF, 0xFF, 0, 0, 1], 0xFF), // modulo 2^32
+        (&BASE6, 0xB1B0_AFBA),
+    ] {
+        assert_eq!(rt; word_sum(bytes), sum);
+    }
     for (count, fields) in [
         (0, None),
         (1, Some((16, 0, 0))),
@@ -78,9 +83,28 @@ fn numbers_and_sums(rt: HostRuntime) {
 #[test]
 fn kept_tags(rt: HostRuntime) {
     let stated = b"OS/2cmapcvt fpgmgaspglyfheadhheahmtxlocamaxpnamepostprepvheavmtx";
-    assert_eq!(rt; stated.len(), 64);
-    for (slot, (tag, name)) in KEPT.iter().zip(stated.chunks_exact(4)).enumerate() {
-        assert_eq!(rt; tag.0.as_slice(), name, "slot {slot}");
+    assert_eq!(rt; (stated.len(), KEPT.len()), (64, 16));
+    for slot in 0..16 {
+        let tag = KEPT[slot].0;
+        assert_eq!(rt;
+            tag.as_slice(),
+            &stated[4 * slot..4 * slot + 4],
+            "slot {slot}"
+        );
+    }
+}
+
+// The table of a slot in Base6.
+fn table_of(slot: usize) -> Option<&'static [u8]> {
+    match slot {
+        1 => Some(&BASE6[124..192]),
+        5 => Some(&BASE6[192..262]),
+        6 => Some(&BASE6[264..318]),
+        7 => Some(&BASE6[320..356]),
+        8 => Some(&BASE6[356..380]),
+        9 => Some(&BASE6[380..394]),
+        10 => Some(&BASE6[396..428]),
+        _ => None,
     }
 }
 
@@ -90,6 +114,9 @@ fn check_of_base6(rt: HostRuntime) -> Result<(), Fail> {
     assert_eq!(rt; directory.file(), BASE6.as_slice());
     assert_eq!(rt; directory.findings().next(), None);
     assert_eq!(rt; directory.dropped().next(), None);
+    for slot in 0..16 {
+        assert_eq!(rt; directory.table(slot), table_of(slot), "slot {slot}");
+    }
     let records: Vec<Entry> = directory.records().collect(rt.alloc())?;
     assert_eq!(rt;
         records.as_slice(),
@@ -104,16 +131,5 @@ fn check_of_base6(rt: HostRuntime) -> Result<(), Fail> {
         ]
         .as_slice()
     );
-    let mut tables = [None; 16];
-    tables[1] = Some(&BASE6[124..192]);
-    tables[5] = Some(&BASE6[192..262]);
-    tables[6] = Some(&BASE6[264..318]);
-    tables[7] = Some(&BASE6[320..356]);
-    tables[8] = Some(&BASE6[356..380]);
-    tables[9] = Some(&BASE6[380..394]);
-    tables[10] = Some(&BASE6[396..428]);
-    for slot in 0..16 {
-        assert_eq!(rt; directory.table(slot), tables[slot], "slot {slot}");
-    }
     Ok(())
 }

@@ -168,18 +168,14 @@ fn many_records(rt: HostRuntime) -> Result<(), Fail> {
     let file = fonts::many_records(rt.alloc())?;
     assert_eq!(rt; file.len(), 1_048_876);
     // checksumAdjustment
-    assert_eq!(rt;
-        file.get(1_048_720..1_048_724),
-        Some([0x11, 0x81, 0xF7, 0xB6].as_slice())
-    );
+    let adjustment = file.get(1_048_720..1_048_724);
+    assert_eq!(rt; adjustment, Some([0x11, 0x81, 0xF7, 0xB6].as_slice()));
     assert!(rt; has_findings(&file, &[Unsorted, SearchFields]));
     let directory = Directory::read(&file)?;
     assert_eq!(rt; directory.records().count(), 65_535);
     assert_eq!(rt; directory.dropped().count(), 65_528);
-    let zzzz = entry(b"zzzz", 0, 0, 0);
-    assert!(rt;
-        directory.dropped().all(|record| record == zzzz),
-        "another entry than `zzzz` was dropped"
-    );
+    for record in directory.dropped() {
+        assert!(rt; record == entry(b"zzzz", 0, 0, 0), "{record:?}");
+    }
     Ok(())
 }
