@@ -1,14 +1,6 @@
-//! Numbers, sums, the records of a directory and its refusals.
-use crate::fonts::{findings_of, refusal_of};
-use font_file::FontError;
-use font_tables::TableError;
-use sample_fonts::files::{RECORD, RECORDS, entry, file_as_stated};
-use sample_fonts::fonts::base6_with;
-use sfnt_bytes::{
-    BASE6, DirError, Directory, Entry, Finding, KEPT, NoMemory, Tag, be16, be32, search_fields,
-    word_sum,
-};
-use std::alloc::{AllocError, Global};
+//! Numbers, sums, and the records of a directory.
+use sample_fonts::files::entry;
+use sfnt_bytes::{BASE6, Directory, Entry, KEPT, be16, be32, search_fields, word_sum};
 use std::test::Fail;
 
 // The words of Base6, table by table.
@@ -53,8 +45,13 @@ const WORDS: [u32; 107] = [
 #[test]
 fn base6_as_stated(rt: HostRuntime) {
     assert_eq!(rt; BASE6.len(), 428);
-    for (place, (bytes, word)) in BASE6.chunks_exact(4).zip(WORDS).enumerate() {
-        assert_eq!(rt; bytes, word.to_be_bytes().as_slice(), "word {place}");
+    for place in 0..107 {
+        let word = WORDS[place].to_be_bytes();
+        assert_eq!(rt;
+            &BASE6[4 * place..4 * place + 4],
+            word.as_slice(),
+            "word {place}"
+        );
     }
 }
 
@@ -62,14 +59,14 @@ fn base6_as_stated(rt: HostRuntime) {
 fn numbers_and_sums(rt: HostRuntime) {
     assert_eq!(rt; be16(&[0x12, 0x34, 0x56], 1), 0x3456);
     assert_eq!(rt; be32(&[0x12, 0x89, 0xAB, 0xCD, 0xEF], 1), 0x89AB_CDEF);
-    assert_eq!(rt; word_sum(&[]), 0);
-    assert_eq!(rt; word_sum(&[1]), 0x0100_0000, "filled with zeros");
-    assert_eq!(rt;
-        word_sum(&[0xFF, 0xFF, 0xFF, 0xFF, 0, 0, 1]),
-        0xFF,
-        "modulo 2^32"
-    );
-    assert_eq!(rt; word_sum(&BASE6), 0xB1B0_AFBA);
+    for (bytes, sum) in [
+        ([].as_slice(), 0),
+        (&[1], 0x0100_0000), // filled with zeros
+        (&[0xFF, 0xFF, 0xFF, 0xFF, 0, 0, 1], 0xFF), // modulo 2^32
+        (&BASE6, 0xB1B0_AFBA),
+    ] {
+        assert_eq!(rt; word_sum(bytes), sum);
+    }
     for (count, fields) in [
         (0, None),
         (1, Some((16, 0, 0))),
@@ -86,44 +83,29 @@ fn numbers_and_sums(rt: HostRuntime) {
 #[test]
 fn kept_tags(rt: HostRuntime) {
     let stated = b"OS/2cmapcvt fpgmgaspglyfheadhheahmtxlocamaxpnamepostprepvheavmtx";
-    assert_eq!(rt; stated.len(), 64);
-    for (slot, (tag, name)) in KEPT.iter().zip(stated.chunks_exact(4)).enumerate() {
-        assert_eq!(rt; tag.0.as_slice(), name, "slot {slot}");
+    assert_eq!(rt; (stated.len(), KEPT.len()), (64, 16));
+    for slot in 0..16 {
+        let tag = KEPT[slot].0;
+        assert_eq!(rt;
+            tag.as_slice(),
+            &stated[4 * slot..4 * slot + 4],
+            "slot {slot}"
+        );
     }
 }
 
-#[test]
-fn texts_of_refusals(rt: HostRuntime) -> Result<(), Fail> {
-    for (error, number, text) in [
-        (DirError::FileTooLarge, 1, "file too large"),
-        (DirError::Truncated, 2, "truncated"),
-        (DirError::Collection, 3, "collection"),
-        (DirError::NotTrueType, 4, "not TrueType"),
-        (
-            DirError::DuplicateTable(Tag(*b"cvt ")),
-            5,
-            "duplicate table cvt ",
-        ),
-        (
-            DirError::TableOutOfFile(Tag(*b"OS/2")),
-            6,
-            "table out of file OS/2",
-        ),
-    ] {
-        assert_eq!(rt; error.number(), number, "{text}");
-        assert_eq!(rt; error.to_string(rt.alloc())?.as_str(), text);
+// The table of a slot in Base6.
+fn table_of(slot: usize) -> Option<&'static [u8]> {
+    match slot {
+        1 => Some(&BASE6[124..192]),
+        5 => Some(&BASE6[192..262]),
+        6 => Some(&BASE6[264..318]),
+        7 => Some(&BASE6[320..356]),
+        8 => Some(&BASE6[356..380]),
+        9 => Some(&BASE6[380..394]),
+        10 => Some(&BASE6[396..428]),
+        _ => None,
     }
-    assert_eq!(rt; NoMemory.number(), 16);
-    assert_eq!(rt; NoMemory.to_string(rt.alloc())?.as_str(), "no memory");
-    for (tag, text) in [
-        ([0x20, 0x7E, 0x41, 0x20], " ~A "),
-        ([0x1F, 0x41, 0x41, 0x41], "0x1f414141"),
-        ([0x41, 0x41, 0x41, 0x7F], "0x4141417f"),
-        ([0x00, 0xAB, 0xCD, 0xEF], "0x00abcdef"),
-    ] {
-        assert_eq!(rt; Tag(tag).to_string(rt.alloc())?.as_str(), text);
-    }
-    Ok(())
 }
 
 #[test]
@@ -132,6 +114,9 @@ fn check_of_base6(rt: HostRuntime) -> Result<(), Fail> {
     assert_eq!(rt; directory.file(), BASE6.as_slice());
     assert_eq!(rt; directory.findings().next(), None);
     assert_eq!(rt; directory.dropped().next(), None);
+    for slot in 0..16 {
+        assert_eq!(rt; directory.table(slot), table_of(slot), "slot {slot}");
+    }
     let records: Vec<Entry> = directory.records().collect(rt.alloc())?;
     assert_eq!(rt;
         records.as_slice(),
@@ -146,138 +131,5 @@ fn check_of_base6(rt: HostRuntime) -> Result<(), Fail> {
         ]
         .as_slice()
     );
-    let mut tables = [None; 16];
-    tables[1] = Some(&BASE6[124..192]);
-    tables[5] = Some(&BASE6[192..262]);
-    tables[6] = Some(&BASE6[264..318]);
-    tables[7] = Some(&BASE6[320..356]);
-    tables[8] = Some(&BASE6[356..380]);
-    tables[9] = Some(&BASE6[380..394]);
-    tables[10] = Some(&BASE6[396..428]);
-    for slot in 0..16 {
-        assert_eq!(rt; directory.table(slot), tables[slot], "slot {slot}");
-    }
-    Ok(())
-}
-
-// What a file without records is refused for, where its directory is not.
-const NO_CMAP: FontError = FontError::Tables(TableError::MissingTable(Tag(*b"cmap")));
-
-#[test]
-fn prefixes_and_versions(rt: HostRuntime) -> Result<(), Fail> {
-    for (length, error) in [
-        (0, DirError::Truncated),
-        (11, DirError::Truncated),
-        (123, DirError::Truncated),
-        (124, DirError::TableOutOfFile(Tag(*b"cmap"))),
-    ] {
-        let prefix = BASE6.get(..length).ok_or("no such prefix")?;
-        assert_eq!(rt;
-            Directory::read(prefix).err(),
-            Some(error),
-            "{length} bytes"
-        );
-        let opened = Some(FontError::Directory(error));
-        assert_eq!(rt; refusal_of(prefix), opened, "{length} bytes");
-    }
-    for (version, error) in [
-        (*b"ttcf", Some(DirError::Collection)),
-        (*b"OTTO", Some(DirError::NotTrueType)),
-        ([0, 1, 0, 1], Some(DirError::NotTrueType)),
-        ([0, 1, 0, 0], None),
-        (*b"true", None),
-    ] {
-        let mut file = [0; 12];
-        file[..4].copy_from_slice(&version);
-        assert_eq!(rt; Directory::read(&file).err(), error, "version {version:?}");
-        let opened = Some(error.map_or(NO_CMAP, FontError::Directory));
-        assert_eq!(rt; refusal_of(&file), opened, "version {version:?}");
-        if error.is_none() {
-            let found = findings_of(rt.alloc(), &file)?;
-            assert_eq!(rt; found.as_slice(), [Finding::SearchFields].as_slice());
-        }
-    }
-    Ok(())
-}
-
-fn zeros(alloc: Global, length: usize) -> Result<Vec<u8>, AllocError> {
-    vec![in alloc; 0; length]
-}
-
-#[test]
-fn largest_file(rt: HostRuntime) -> Result<(), Fail> {
-    for (length, error) in [
-        (134_217_728, DirError::NotTrueType),
-        (134_217_729, DirError::FileTooLarge),
-    ] {
-        let file = zeros(rt.alloc(), length)?;
-        assert_eq!(rt; Directory::read(&file).err(), Some(error), "{length} bytes");
-        let opened = Some(FontError::Directory(error));
-        assert_eq!(rt; refusal_of(&file), opened, "{length} bytes");
-    }
-    Ok(())
-}
-
-// The last table ends with the file.
-#[test]
-fn size_limits(rt: HostRuntime) {
-    assert_eq!(rt;
-        Directory::read(&BASE6[..427]).err(),
-        Some(DirError::TableOutOfFile(Tag(*b"maxp")))
-    );
-}
-
-#[test]
-fn one_field_changed(rt: HostRuntime) {
-    // the sixth record's tag, `loca`
-    let file = base6_with(RECORDS + 5 * RECORD, b"hmtx");
-    assert_eq!(rt;
-        Directory::read(&file).err(),
-        Some(DirError::DuplicateTable(Tag(*b"hmtx")))
-    );
-    let opened = Some(FontError::Directory(DirError::DuplicateTable(Tag(*b"hmtx"))));
-    assert_eq!(rt; refusal_of(&file), opened);
-}
-
-// The refusal of a file of these records and nothing behind them.
-fn refusal(alloc: Global, records: &[Entry]) -> Result<Option<DirError>, Fail> {
-    let file = file_as_stated(alloc, records, &[])?;
-    Ok(Directory::read(&file).err())
-}
-
-#[test]
-fn order_of_refusals(rt: HostRuntime) -> Result<(), Fail> {
-    let duplicate_first = [
-        entry(b"OS/2", 0, 0, 1000),
-        entry(b"vmtx", 0, 0, 0),
-        entry(b"vmtx", 0, 0, 0),
-        entry(b"cvt ", 0, 0, 0),
-        entry(b"cvt ", 0, 0, 0),
-    ];
-    assert_eq!(rt;
-        refusal(rt.alloc(), &duplicate_first)?,
-        Some(DirError::DuplicateTable(Tag(*b"cvt ")))
-    );
-    let least_tag = [
-        entry(b"vhea", 0, 0, 1000),
-        entry(b"cvt ", 0, 0, 1000),
-        entry(b"prep", 0, 0, 1000),
-    ];
-    assert_eq!(rt;
-        refusal(rt.alloc(), &least_tag)?,
-        Some(DirError::TableOutOfFile(Tag(*b"cvt ")))
-    );
-    let past_2_32 = [entry(b"prep", 0, 0xFFFF_FFFF, 2)];
-    assert_eq!(rt;
-        refusal(rt.alloc(), &past_2_32)?,
-        Some(DirError::TableOutOfFile(Tag(*b"prep")))
-    );
-    let one_past_the_end = [entry(b"prep", 0, 29, 0)];
-    assert_eq!(rt;
-        refusal(rt.alloc(), &one_past_the_end)?,
-        Some(DirError::TableOutOfFile(Tag(*b"prep")))
-    );
-    let dropped_tags = [entry(b"GSUB", 0, 0, 1000), entry(b"GSUB", 0, 0, 1000)];
-    assert_eq!(rt; refusal(rt.alloc(), &dropped_tags)?, None);
     Ok(())
 }

@@ -1,4 +1,4 @@
-//! Font files for the tests: Base6 with bytes changed, and files of given records.
+//! Base6 with other tables, and what becomes of a file that is opened.
 use font_file::{Font, FontError};
 use sample_fonts::files::{RECORD, RECORDS};
 use sfnt_bytes::{Directory, Finding, Tag};
@@ -48,13 +48,27 @@ pub fn with_table(
     Ok(changed)
 }
 
-/// The findings of a file. One that the directory refuses is an error.
-pub fn findings_of(alloc: Global, file: &[u8]) -> Result<Vec<Finding>, Fail> {
-    let found: Vec<Finding> = Directory::read(file)?.findings().collect(alloc)?;
-    Ok(found)
+/// Whether this is the first refusal that applies to a file, if any, and what the directory alone is
+/// refused for.
+pub fn is_refused(file: &[u8], error: Option<FontError>) -> bool {
+    let of_directory = match error {
+        Some(FontError::Directory(error)) => Some(error),
+        _ => None,
+    };
+    Font::open(file).err() == error && Directory::read(file).err() == of_directory
 }
 
-/// The first refusal that applies to a file.
-pub fn refusal_of(file: &[u8]) -> Option<FontError> {
-    Font::open(file).err()
+/// Whether these are the findings of a file, in this order.
+pub fn has_findings(file: &[u8], stated: &[Finding]) -> bool {
+    let Ok(directory) = Directory::read(file) else {
+        return false;
+    };
+    let mut rest = stated;
+    for finding in directory.findings() {
+        match rest.split_first() {
+            Some((first, others)) if *first == finding => rest = others,
+            _ => return false,
+        }
+    }
+    rest.is_empty()
 }

@@ -6,12 +6,12 @@ mod directory;
 #[cfg(test)]
 mod findings;
 #[cfg(test)]
-mod font;
-#[cfg(test)]
 mod fonts;
 #[cfg(test)]
-mod hostile;
+mod glyphs;
 #[cfg(test)]
 mod overlaps;
 #[cfg(test)]
-mod tables;
+mod refusals;
+#[cfg(test)]
+mod texts;

@@ -1,21 +1,26 @@
 //! Tables that lie over each other, and files whose tables lie in any order: their sums.
-use crate::fonts::findings_of;
+use sample_fonts::bytes::{checksum, put_at};
 use sample_fonts::files::{entry, file_as_stated};
-use sfnt_bytes::{Entry, Finding, Tag};
+use sfnt_bytes::{Directory, Entry, Finding, Tag};
 use std::alloc::Global;
 use std::test::Fail;
 
-// The sum of the words of bytes, word by word.
-fn plain_sum(bytes: &[u8]) -> u32 {
-    let mut sum = 0u32;
-    for word in bytes.chunks(4) {
-        let mut field = [0u8; 4];
-        for (byte, other) in field.iter_mut().zip(word) {
-            *byte = *other;
+// How many tables of a file have a wrong checksum, and whether the sum of the file is wrong.
+fn wrong_sums(file: &[u8]) -> Option<(usize, bool)> {
+    let (mut tables, mut is_file_wrong) = (0, false);
+    for finding in Directory::read(file).ok()?.findings() {
+        match finding {
+            Finding::Checksum(_) => tables = usize::saturating_add(tables, 1),
+            Finding::FileSum => is_file_wrong = true,
+            _ => {}
         }
-        sum = sum.wrapping_add(u32::from_be_bytes(field));
     }
-    sum
+    Some((tables, is_file_wrong))
+}
+
+// Whether the sum of a file is wrong, and none where the file is refused.
+fn is_sum_wrong(file: &[u8]) -> Option<bool> {
+    Some(wrong_sums(file)?.1)
 }
 
 // A number below 65,536 that is not easily told from the one before it.
@@ -53,7 +58,7 @@ fn overlapping(alloc: Global, body: &[u8], wrong: u32) -> Result<Vec<u8>, Fail> 
             .get(start as usize..end as usize)
             .ok_or("no such table")?;
         let tag = (0x7A00_0000 + k).to_be_bytes();
-        let sum = plain_sum(table).wrapping_add(wrong);
+        let sum = checksum(table).wrapping_add(wrong);
         records.push(entry(&tag, sum, BODY + start, end.saturating_sub(start)))?;
     }
     file_as_stated(alloc, &records, body)
@@ -64,24 +69,23 @@ fn overlapping_tables(rt: HostRuntime) -> Result<(), Fail> {
     let alloc = rt.alloc();
     for length in [400u32, 70_000, 140_000] {
         let body = noise(alloc, length)?;
-        let found = findings_of(alloc, &overlapping(alloc, &body, 0)?)?;
-        assert!(rt;
-            found
-                .iter()
-                .all(|finding| !matches!(finding, Finding::Checksum(_))),
-            "{length} bytes"
-        );
-        let found = findings_of(alloc, &overlapping(alloc, &body, 1)?)?;
-        let wrong = found
-            .iter()
-            .filter(|finding| matches!(finding, Finding::Checksum(_)));
-        assert_eq!(rt; wrong.count(), 32, "{length} bytes");
+        for (wrong, tables) in [(0, 0), (1, 32)] {
+            let found = wrong_sums(&overlapping(alloc, &body, wrong)?).ok_or("refused")?;
+            assert_eq!(rt; found.0, tables, "{length} bytes");
+        }
     }
     Ok(())
 }
 
+// Makes the sum of a file right, whose checksumAdjustment stands at this place.
+fn make_sum_right(file: &mut Vec<u8>, place: usize) {
+    put_at(file, place, &[0; 4]);
+    let adjustment = 0xB1B0_AFBAu32.wrapping_sub(checksum(file));
+    put_at(file, place, &adjustment.to_be_bytes());
+}
+
 // A file of a `head` and some tables wherever chance puts them; its sum is right.
-fn scattered(alloc: Global, seed: &mut u32) -> Result<(Vec<u8>, usize), Fail> {
+fn scattered(alloc: Global, seed: &mut u32) -> Result<Vec<u8>, Fail> {
     let body = noise(alloc, 600)?;
     let mut records: Vec<Entry> = Vec::new(alloc);
     for k in 0..8u32 {
@@ -93,32 +97,19 @@ fn scattered(alloc: Global, seed: &mut u32) -> Result<(Vec<u8>, usize), Fail> {
     let head = 156 + chance(seed) % 540;
     records.push(entry(b"head", 0, head, 54))?;
     let mut file = file_as_stated(alloc, &records, &body)?;
-    let place = head as usize + 8;
-    put(&mut file, place, 0);
-    let sum = plain_sum(&file);
-    put(&mut file, place, 0xB1B0_AFBAu32.wrapping_sub(sum));
-    Ok((file, place))
-}
-
-// Puts a word in the place of four bytes.
-fn put(file: &mut Vec<u8>, place: usize, word: u32) {
-    for (byte, other) in file.iter_mut().skip(place).zip(word.to_be_bytes()) {
-        *byte = other;
-    }
+    make_sum_right(&mut file, head as usize + 8);
+    Ok(file)
 }
 
 #[test]
 fn file_sum_over_tables_in_any_order(rt: HostRuntime) -> Result<(), Fail> {
-    let alloc = rt.alloc();
     let mut seed = 5;
     for turn in 0..60u32 {
-        let (mut file, place) = scattered(alloc, &mut seed)?;
-        let found = findings_of(alloc, &file)?;
-        assert!(rt; !found.contains(&Finding::FileSum), "turn {turn}");
+        let mut file = scattered(rt.alloc(), &mut seed)?;
+        assert_eq!(rt; is_sum_wrong(&file), Some(false), "turn {turn}");
         let last = file.last_mut().ok_or("an empty file")?;
         *last = last.wrapping_add(1);
-        let found = findings_of(alloc, &file)?;
-        assert!(rt; found.contains(&Finding::FileSum), "turn {turn}, {place}");
+        assert_eq!(rt; is_sum_wrong(&file), Some(true), "turn {turn}");
     }
     Ok(())
 }
@@ -135,24 +126,15 @@ fn file_sum_over_tables_in_order(rt: HostRuntime) -> Result<(), Fail> {
         entry(b"zzzz", 0, 285, 100),
     ];
     let mut file = file_as_stated(alloc, &records, &noise(alloc, 300)?)?;
-    put(&mut file, 212, 0);
-    let sum = plain_sum(&file);
-    put(&mut file, 212, 0xB1B0_AFBAu32.wrapping_sub(sum));
-    let found = findings_of(alloc, &file)?;
-    assert!(rt; !found.contains(&Finding::FileSum));
+    make_sum_right(&mut file, 212);
+    assert_eq!(rt; is_sum_wrong(&file), Some(false));
+    let mut found = Directory::read(&file)?.findings();
+    assert!(rt; found.any(|finding| finding == Finding::Unaligned(Tag(*b"zzzz"))));
     for at in [93, 123, 125, 200, 204, 230, 262, 264, 284, 285, 390] {
         let was = *file.get(at).ok_or("too short")?;
-        put_byte(&mut file, at, was.wrapping_add(1));
-        let found = findings_of(alloc, &file)?;
-        assert!(rt; found.contains(&Finding::FileSum), "byte {at}");
-        put_byte(&mut file, at, was);
+        put_at(&mut file, at, &[was.wrapping_add(1)]);
+        assert_eq!(rt; is_sum_wrong(&file), Some(true), "byte {at}");
+        put_at(&mut file, at, &[was]);
     }
-    assert!(rt; found.contains(&Finding::Unaligned(Tag(*b"zzzz"))));
     Ok(())
-}
-
-fn put_byte(file: &mut Vec<u8>, at: usize, byte: u8) {
-    if let Some(place) = file.get_mut(at) {
-        *place = byte;
-    }
 }

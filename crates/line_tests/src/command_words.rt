@@ -1,7 +1,8 @@
+//! The words of each line, what `demo`, `check`, `show` and help print, and outputs that are full.
+use crate::lines::{answers, line_of, run};
 use font_cmd::run_words;
 use font_cut::Outlet;
 use sfnt_bytes::BASE6;
-use std::alloc::{AllocError, Global};
 use std::fs;
 use std::test::Fail;
 
@@ -37,141 +38,88 @@ kept maxp 32
 cut no
 ";
 
-/// What a line answers and prints.
-#[derive(Debug, Drop)]
-pub struct Answered {
-    pub status: u8,
-    pub out: Vec<u8>,
-    pub err: Vec<u8>,
+#[test]
+fn demo_prints_the_font_it_carries(rt: HostRuntime) {
+    assert!(rt; answers(&rt, &["demo"], 0, DEMO, b""));
 }
 
-pub fn line_of(alloc: Global, words: &[&str]) -> Result<Vec<String>, AllocError> {
-    let mut line: Vec<String> = Vec::new(alloc);
-    for word in words {
-        line.push(String::from_str(alloc, word)?)?;
+// Lines whose words are at fault.
+const FAULTS: [&[&str]; 14] = [
+    &[],
+    &["check"],
+    &["show"],
+    &["subset"],
+    &["subset", "a.ttf"],
+    &["subset", "a.ttf", "b.ttf", "--text"],
+    &["subset", "a.ttf", "b.ttf", "--words", "U+41"],
+    &["join"],
+    &["join", "a.ttf"],
+    &["join", "a.ttf", "b.ttf", "--text", "A"],
+    &["cut"],
+    &["--font"],
+    &["demo", "demo"],
+    &["check", "a.ttf", "b.ttf"],
+];
+
+const HELP: [&[&str]; 5] = [
+    &["--help"],
+    &["help"],
+    &["check", "--help"],
+    &["subset", "--help"],
+    &["join", "--help"],
+];
+
+// Whether a line has this status, and prints where that says: help on standard output, and what is at
+// fault on standard error.
+fn is_told(rt: &HostRuntime, words: &[&str], status: u8) -> bool {
+    match run(rt, rt.alloc(), words) {
+        Ok(line) => {
+            line.status == status
+                && line.out.is_empty() == (status != 0)
+                && line.err.is_empty() == (status == 0)
+        }
+        Err(_) => false,
     }
-    Ok(line)
-}
-
-pub fn run(rt: &HostRuntime, alloc: Global, words: &[&str]) -> Result<Answered, AllocError> {
-    let line = line_of(alloc, words)?;
-    let mut out = Outlet::new(Vec::new(alloc));
-    let mut err = Outlet::new(Vec::new(alloc));
-    let status = run_words(rt, alloc, line.as_slice(), &mut out, &mut err);
-    Ok(Answered {
-        status,
-        out: out.into_inner(),
-        err: err.into_inner(),
-    })
 }
 
 #[test]
-fn demo_prints_the_font_it_carries(rt: HostRuntime) -> Result<(), Fail> {
-    let demo = run(&rt, rt.alloc(), &["demo"])?;
-    assert_eq!(rt; demo.status, 0);
-    assert_eq!(rt; demo.out.as_slice(), DEMO);
-    assert!(rt; demo.err.is_empty());
-    Ok(())
-}
-
-#[test]
-fn faults_of_the_words(rt: HostRuntime) -> Result<(), Fail> {
-    let lines: [&[&str]; 14] = [
-        &[],
-        &["check"],
-        &["show"],
-        &["subset"],
-        &["subset", "a.ttf"],
-        &["subset", "a.ttf", "b.ttf", "--text"],
-        &["subset", "a.ttf", "b.ttf", "--words", "U+41"],
-        &["join"],
-        &["join", "a.ttf"],
-        &["join", "a.ttf", "b.ttf", "--text", "A"],
-        &["cut"],
-        &["--font"],
-        &["demo", "demo"],
-        &["check", "a.ttf", "b.ttf"],
-    ];
-    for line in lines {
-        let answer = run(&rt, rt.alloc(), line)?;
-        assert_eq!(rt; answer.status, 2, "{line:?}");
-        assert!(rt; answer.out.is_empty() && !answer.err.is_empty(), "{line:?}");
+fn faults_of_the_words_and_help(rt: HostRuntime) {
+    for words in FAULTS {
+        assert!(rt; is_told(&rt, words, 2), "{words:?}");
     }
-    Ok(())
-}
-
-#[test]
-fn help_goes_to_standard_output(rt: HostRuntime) -> Result<(), Fail> {
-    let lines: [&[&str]; 5] = [
-        &["--help"],
-        &["help"],
-        &["check", "--help"],
-        &["subset", "--help"],
-        &["join", "--help"],
-    ];
-    for line in lines {
-        let answer = run(&rt, rt.alloc(), line)?;
-        assert_eq!(rt; answer.status, 0, "{line:?}");
-        assert!(rt; answer.err.is_empty() && !answer.out.is_empty(), "{line:?}");
+    for words in HELP {
+        assert!(rt; is_told(&rt, words, 0), "{words:?}");
     }
-    Ok(())
 }
 
 #[test]
-fn files_that_cannot_be_read(rt: HostRuntime) -> Result<(), Fail> {
-    let absent = run(&rt, rt.alloc(), &["check", "absent.ttf"])?;
-    assert_eq!(rt; absent.status, 3);
-    assert_eq!(rt;
-        absent.err.as_slice(),
-        b"fontcut: cannot read absent.ttf\n".as_slice()
-    );
-    let folder = run(&rt, rt.alloc(), &["check", "."])?;
-    assert_eq!(rt; folder.status, 3);
-    assert_eq!(rt;
-        folder.err.as_slice(),
-        b"fontcut: cannot read .\n".as_slice()
-    );
-    assert!(rt; absent.out.is_empty() && folder.out.is_empty());
-    Ok(())
+fn files_that_cannot_be_read(rt: HostRuntime) {
+    let text = b"fontcut: cannot read absent.ttf\n";
+    assert!(rt; answers(&rt, &["check", "absent.ttf"], 3, b"", text));
+    assert!(rt; answers(&rt, &["check", "."], 3, b"", b"fontcut: cannot read .\n"));
 }
 
 #[test]
-fn check_of_files(rt: HostRuntime) -> Result<(), Fail> {
-    let files: [(&str, &[u8], u8, &[u8]); 3] = [
-        ("six_glyphs.ttf", &BASE6, 0, b"findings 0\naccepted\n"),
-        ("empty.ttf", b"", 1, b"refused 2 truncated\n"),
+fn check_and_show_of_files(rt: HostRuntime) -> Result<(), Fail> {
+    let files: [(&str, &[u8], u8, &[u8], &[u8]); 5] = [
+        ("check", &BASE6, 0, b"findings 0\naccepted\n", b""),
+        ("check", b"", 1, b"refused 2 truncated\n", b""),
         (
-            "cut_off.ttf",
+            "check",
             &BASE6[..427],
             1,
             b"refused 6 table out of file maxp\n",
+            b"",
         ),
+        ("show", &BASE6, 0, SHOWN, b""),
+        ("show", b"", 1, b"", b"fontcut: refused 2 truncated\n"),
     ];
-    for (path, bytes, status, text) in files {
-        fs::write(&rt, path, bytes)?;
-        let answer = run(&rt, rt.alloc(), &["check", path])?;
-        fs::remove_file(&rt, path)?;
-        assert_eq!(rt; answer.status, status, "{path}");
-        assert_eq!(rt; answer.out.as_slice(), text, "{path}");
-        assert!(rt; answer.err.is_empty(), "{path}");
+    for (word, bytes, status, out, err) in files {
+        fs::write(&rt, "file.ttf", bytes)?;
+        let is_stated = answers(&rt, &[word, "file.ttf"], status, out, err);
+        assert!(rt; is_stated, "{word}, status {status}");
     }
-    Ok(())
-}
-
-#[test]
-fn show_of_files(rt: HostRuntime) -> Result<(), Fail> {
-    let files: [(&str, &[u8], u8, &[u8], &[u8]); 2] = [
-        ("shown.ttf", &BASE6, 0, SHOWN, b""),
-        ("none.ttf", b"", 1, b"", b"fontcut: refused 2 truncated\n"),
-    ];
-    for (path, bytes, status, out, err) in files {
-        fs::write(&rt, path, bytes)?;
-        let answer = run(&rt, rt.alloc(), &["show", path])?;
-        fs::remove_file(&rt, path)?;
-        assert_eq!(rt; answer.status, status, "{path}");
-        assert_eq!(rt; answer.out.as_slice(), out, "{path}");
-        assert_eq!(rt; answer.err.as_slice(), err, "{path}");
-    }
+    fs::remove_file(&rt, "file.ttf")?;
     Ok(())
 }
 

@@ -6,8 +6,8 @@ mod command_words;
 #[cfg(test)]
 mod join_words;
 #[cfg(test)]
+mod lines;
+#[cfg(test)]
 mod short_files;
 #[cfg(test)]
 mod subset_words;
-#[cfg(test)]
-mod wide_characters;

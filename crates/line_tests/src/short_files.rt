@@ -1,10 +1,8 @@
 //! Files that take few bytes a write, and that are full at some size.
-use crate::command_words::line_of;
-use font_cmd::run_words;
-use font_cut::Outlet;
+use crate::lines::{remove_files, run};
 use sample_fonts::known_cuts::A_AND_B;
 use sfnt_bytes::BASE6;
-use std::alloc::{Allocator, Global};
+use std::alloc::Allocator;
 use std::fs::{Metadata, OpenFile, OpenOptions};
 use std::io::{ErrorKind, Read, Seek, SeekFrom, Write};
 use std::rt::Files;
@@ -123,15 +121,6 @@ impl<F: Files> Files for ShortFiles<'_, F> {
     }
 }
 
-// The status of a line over short files, and what it says on standard error.
-fn run_short<F: Files>(files: &F, alloc: Global, words: &[&str]) -> Result<(u8, Vec<u8>), Fail> {
-    let line = line_of(alloc, words)?;
-    let mut out = Outlet::new(Vec::new(alloc));
-    let mut err = Outlet::new(Vec::new(alloc));
-    let status = run_words(files, alloc, line.as_slice(), &mut out, &mut err);
-    Ok((status, err.into_inner()))
-}
-
 // Whether a line over files that take so many bytes a write, and that have so much room, writes all of
 // the cut, or says that OUT cannot be written and leaves a front of it.
 fn is_told(rt: &HostRuntime, words: &[&str], most: usize, room: usize) -> Result<bool, Fail> {
@@ -140,17 +129,15 @@ fn is_told(rt: &HostRuntime, words: &[&str], most: usize, room: usize) -> Result
         most,
         room,
     };
-    let (status, said) = run_short(&files, rt.alloc(), words)?;
+    let line = run(&files, rt.alloc(), words)?;
     let made = fs::read(rt, "short.ttf")?;
-    if room < 400 {
-        let is_front = A_AND_B.starts_with(&made) && made.len() == room;
-        return Ok(
-            is_front
-                && status == 3
-                && said.as_slice() == b"fontcut: cannot write short.ttf\n".as_slice(),
-        );
-    }
-    Ok(made.as_slice() == A_AND_B.as_slice() && status == 0 && said.is_empty())
+    let is_front = A_AND_B.starts_with(&made) && made.len() == room.min(400);
+    let (status, said): (u8, &[u8]) = if room < 400 {
+        (3, b"fontcut: cannot write short.ttf\n")
+    } else {
+        (0, b"")
+    };
+    Ok(is_front && line.status == status && line.err.as_slice() == said)
 }
 
 // How many bytes a write takes, and how much room there is.
@@ -173,8 +160,5 @@ fn short_writes_of_out(rt: HostRuntime) -> Result<(), Fail> {
         let join = ["join", "short.ttf", "known.ttf", "known.ttf"];
         assert!(rt; is_told(&rt, &join, most, room)?, "{most}, {room}");
     }
-    for path in ["plain.ttf", "known.ttf", "short.ttf"] {
-        fs::remove_file(&rt, path)?;
-    }
-    Ok(())
+    remove_files(&rt, &["plain.ttf", "known.ttf", "short.ttf"])
 }

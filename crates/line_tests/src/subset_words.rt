@@ -1,130 +1,93 @@
 //! `subset` over real files: the wanted words, fonts that are refused, and what becomes of OUT.
-use crate::command_words::{Answered, run};
-use sample_fonts::known_cuts::A_AND_B;
+use crate::lines::{first_unlike, makes_a_and_b, remove_files, run};
+use sample_cuts::is_as_stated;
+use sample_fonts::bytes::{put_u16, put_u32};
+use sample_fonts::fonts::base6_with_cmap;
 use sfnt_bytes::BASE6;
-use std::alloc::AllocError;
+use std::alloc::Global;
 use std::fs;
 use std::test::Fail;
 
-fn subset(rt: &HostRuntime, font: &str, out: &str, more: &[&str]) -> Result<Answered, AllocError> {
-    let mut words = Vec::from_slice(rt.alloc(), &["subset", font, out])?;
-    words.extend_from_slice(more)?;
-    run(rt, rt.alloc(), words.as_slice())
-}
+// The words are looked at before FONT, which is not there, and the first bad one is named. Then fonts
+// that cannot be read or are refused, also where OUT is the font itself, and OUTs that cannot be made.
+const REFUSED: [&str; 15] = [
+    "subset absent.ttf none.ttf U+110000 => 2 bad word U+110000",
+    "subset absent.ttf none.ttf U+42-41 => 2 bad word U+42-41",
+    "subset absent.ttf none.ttf U+41 U+ ALL => 2 bad word U+",
+    "subset absent.ttf none.ttf --text AB u+41 => 2 bad word u+41",
+    "subset absent.ttf none.ttf all ALL --text A => 2 bad word ALL",
+    "subset absent.ttf none.ttf U+0000041 => 2 bad word U+0000041",
+    "subset absent.ttf none.ttf U+41-U+42 => 2 bad word U+41-U+42",
+    // an empty word
+    "subset absent.ttf none.ttf  => 2 bad word ",
+    "subset absent.ttf none.ttf all => 3 cannot read absent.ttf",
+    "subset . none.ttf all => 3 cannot read .",
+    "subset short.ttf kept.ttf --text AB => 1 refused 6 table out of file maxp",
+    "subset short.ttf short.ttf --text AB => 1 refused 6 table out of file maxp",
+    "subset short.ttf none.ttf --text AB => 1 refused 6 table out of file maxp",
+    "subset font.ttf gone/out.ttf => 3 cannot write gone/out.ttf",
+    "subset font.ttf . => 3 cannot write .",
+];
 
-// The words are looked at before FONT, which is not there, and the first bad one is named.
 #[test]
-fn bad_words(rt: HostRuntime) -> Result<(), Fail> {
-    let lines: [(&[&str], &[u8]); 8] = [
-        (&["U+110000"], b"fontcut: bad word U+110000\n"),
-        (&["U+42-41"], b"fontcut: bad word U+42-41\n"),
-        (&["U+41", "U+", "ALL"], b"fontcut: bad word U+\n"),
-        (&["--text", "AB", "u+41"], b"fontcut: bad word u+41\n"),
-        (&["all", "ALL", "--text", "A"], b"fontcut: bad word ALL\n"),
-        (&["U+0000041"], b"fontcut: bad word U+0000041\n"),
-        (&["U+41-U+42"], b"fontcut: bad word U+41-U+42\n"),
-        (&[""], b"fontcut: bad word \n"),
-    ];
-    for (more, text) in lines {
-        let answer = subset(&rt, "absent.ttf", "never.ttf", more)?;
-        assert_eq!(rt; answer.status, 2, "{more:?}");
-        assert_eq!(rt; answer.err.as_slice(), text, "{more:?}");
-        assert!(rt; answer.out.is_empty(), "{more:?}");
-        assert!(rt; fs::read(&rt, "never.ttf").is_err(), "{more:?}");
-    }
+fn subset_refusals(rt: HostRuntime) -> Result<(), Fail> {
+    assert_eq!(rt; first_unlike(&rt, &REFUSED)?, None);
     Ok(())
 }
 
-#[test]
-fn fonts_that_cannot_be_read(rt: HostRuntime) -> Result<(), Fail> {
-    let fonts: [(&str, &[u8]); 2] = [
-        ("absent.ttf", b"fontcut: cannot read absent.ttf\n"),
-        (".", b"fontcut: cannot read .\n"),
-    ];
-    for (font, text) in fonts {
-        let answer = subset(&rt, font, "unread.ttf", &["all"])?;
-        assert_eq!(rt; answer.status, 3, "{font}");
-        assert_eq!(rt; answer.err.as_slice(), text, "{font}");
-        assert!(rt; answer.out.is_empty(), "{font}");
-        assert!(rt; fs::read(&rt, "unread.ttf").is_err(), "{font}");
-    }
-    Ok(())
-}
-
-// A font that is refused leaves OUT as it was, also where OUT is the font itself or is not there.
-#[test]
-fn refused_fonts(rt: HostRuntime) -> Result<(), Fail> {
-    let font = &BASE6[..427];
-    let text = b"fontcut: refused 6 table out of file maxp\n".as_slice();
-    fs::write(&rt, "refused.ttf", font)?;
-    fs::write(&rt, "before.ttf", b"as it was")?;
-    for out in ["before.ttf", "refused.ttf", "none.ttf"] {
-        let answer = subset(&rt, "refused.ttf", out, &["--text", "AB"])?;
-        assert_eq!(rt; answer.status, 1, "{out}");
-        assert_eq!(rt; answer.err.as_slice(), text, "{out}");
-        assert!(rt; answer.out.is_empty(), "{out}");
-    }
-    assert_eq!(rt; fs::read(&rt, "refused.ttf")?.as_slice(), font);
-    assert_eq!(rt;
-        fs::read(&rt, "before.ttf")?.as_slice(),
-        b"as it was".as_slice()
-    );
-    assert!(rt; fs::read(&rt, "none.ttf").is_err());
-    fs::remove_file(&rt, "refused.ttf")?;
-    fs::remove_file(&rt, "before.ttf")?;
-    Ok(())
-}
-
-// A longer OUT is emptied first.
+// A longer OUT is emptied first. The font is read before OUT is made, so OUT may be the font.
 #[test]
 fn subset_of_a_and_b(rt: HostRuntime) -> Result<(), Fail> {
     let lines: [&[&str]; 5] = [
-        &["--text", "AB"],
-        &["U+41-42"],
-        &["U+42", "U+41", "U+42"],
-        &["U+41", "--text", "B", "U+5A"],
-        &["--text=BA", "U+10FFFF"],
+        &["subset", "font.ttf", "cut.ttf", "--text", "AB"],
+        &["subset", "font.ttf", "cut.ttf", "U+41-42"],
+        &["subset", "font.ttf", "cut.ttf", "U+42", "U+41", "U+42"],
+        &[
+            "subset", "font.ttf", "cut.ttf", "U+41", "--text", "B", "U+5A",
+        ],
+        &["subset", "font.ttf", "cut.ttf", "--text=BA", "U+10FFFF"],
     ];
     fs::write(&rt, "font.ttf", &BASE6)?;
-    for more in lines {
+    for words in lines {
         fs::write(&rt, "cut.ttf", &[7u8; 1000])?;
-        let answer = subset(&rt, "font.ttf", "cut.ttf", more)?;
-        assert_eq!(rt; answer.status, 0, "{more:?}");
-        assert!(rt; answer.out.is_empty() && answer.err.is_empty(), "{more:?}");
-        let made = fs::read(&rt, "cut.ttf")?;
-        assert_eq!(rt; made.as_slice(), A_AND_B.as_slice(), "{more:?}");
-        fs::remove_file(&rt, "cut.ttf")?;
+        assert!(rt; makes_a_and_b(&rt, words, "cut.ttf"), "{words:?}");
     }
-    fs::remove_file(&rt, "font.ttf")?;
-    Ok(())
+    let words = ["subset", "font.ttf", "font.ttf", "--text", "AB"];
+    assert!(rt; makes_a_and_b(&rt, &words, "font.ttf"));
+    remove_files(&rt, &["font.ttf", "cut.ttf"])
 }
 
-// The font is read before OUT is made, so OUT may be the font.
-#[test]
-fn cut_in_place(rt: HostRuntime) -> Result<(), Fail> {
-    fs::write(&rt, "same.ttf", &BASE6)?;
-    let answer = subset(&rt, "same.ttf", "same.ttf", &["--text", "AB"])?;
-    assert_eq!(rt; answer.status, 0);
-    assert!(rt; answer.out.is_empty() && answer.err.is_empty());
-    let made = fs::read(&rt, "same.ttf")?;
-    assert_eq!(rt; made.as_slice(), A_AND_B.as_slice());
-    fs::remove_file(&rt, "same.ttf")?;
-    Ok(())
+// Base6 with U+0041 on glyph 1 and U+1F600 on glyph 5 alone.
+fn with_face(alloc: Global) -> Result<Vec<u8>, Fail> {
+    let mut cmap = Vec::new(alloc);
+    put_u16(&mut cmap, &[0, 1, 3, 10, 0, 12])?; // version, numTables, the record
+    put_u16(&mut cmap, &[12, 0])?; // format, reserved
+    put_u32(&mut cmap, &[40, 0, 2])?; // length, language, numGroups
+    put_u32(&mut cmap, &[0x41, 0x41, 1, 0x1_F600, 0x1_F600, 5])?;
+    base6_with_cmap(alloc, cmap)
 }
 
+// Whether a line makes the cut for both.
+fn makes_face(rt: &HostRuntime, words: &[&str]) -> Result<bool, Fail> {
+    let status = run(rt, rt.alloc(), words)?.status;
+    let made = fs::read(rt, "some.ttf")?;
+    let groups = [0x41, 0x41, 1, 0x1_F600, 0x1_F600, 5];
+    let loca = [0, 12, 28, 28, 28, 28, 40];
+    fs::remove_file(rt, "some.ttf")?;
+    Ok(status == 0 && is_as_stated(rt.alloc(), &made, 400, &groups, &loca)?)
+}
+
+// U+F600 and U+DE00, what is left of the character in 16 bits, are not mapped.
 #[test]
-fn out_that_cannot_be_made(rt: HostRuntime) -> Result<(), Fail> {
-    let paths: [(&str, &[u8]); 2] = [
-        ("absent/cut.ttf", b"fontcut: cannot write absent/cut.ttf\n"),
-        (".", b"fontcut: cannot write .\n"),
+fn characters_above_16_bits(rt: HostRuntime) -> Result<(), Fail> {
+    fs::write(&rt, "face.ttf", &with_face(rt.alloc())?)?;
+    let lines: [&[&str]; 3] = [
+        &["subset", "face.ttf", "some.ttf", "--text", "😀A"],
+        &["subset", "face.ttf", "some.ttf", "U+1F600", "--text", "A"],
+        &["subset", "face.ttf", "some.ttf", "all"],
     ];
-    fs::write(&rt, "whole.ttf", &BASE6)?;
-    for (out, text) in paths {
-        let answer = subset(&rt, "whole.ttf", out, &[])?;
-        assert_eq!(rt; answer.status, 3, "{out}");
-        assert_eq!(rt; answer.err.as_slice(), text, "{out}");
-        assert!(rt; answer.out.is_empty(), "{out}");
+    for words in lines {
+        assert!(rt; makes_face(&rt, words)?, "{words:?}");
     }
-    fs::remove_file(&rt, "whole.ttf")?;
-    Ok(())
+    remove_files(&rt, &["face.ttf"])
 }

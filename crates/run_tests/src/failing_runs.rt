@@ -1,46 +1,21 @@
 //! Each read, write and flush of each run fails in turn, with each kind of error.
-use crate::runs::{Outcome, RUNS, Run, made};
-use fakes::devices::{Failure, Narrow, Pieces};
-use font_cmd::RunError;
+use crate::runs::{Outcome, RUNS, Run, failing, is_done};
+use fakes::devices::Failure::{self, AtFlush, AtRead, AtWrite, TakesNoneAt};
+use font_cmd::RunError::{self, Read, Write};
 use std::alloc::Global;
-use std::io::ErrorKind;
-use std::test::Fail;
+use std::io::ErrorKind::{self, Interrupted, Other, WriteZero};
 
 const PIECES: [usize; 3] = [1, 7, 4096];
 
-const KINDS: [ErrorKind; 3] = [
-    ErrorKind::Interrupted,
-    ErrorKind::Other,
-    ErrorKind::WriteZero,
-];
+const KINDS: [ErrorKind; 3] = [Interrupted, Other, WriteZero];
 
 // More reads and writes than any run makes.
 const MANY: u64 = 500;
 
-// A run over a reader that fails.
-fn read_with(alloc: Global, run: Run, piece: usize, failure: Failure) -> Result<Outcome, Fail> {
-    let writer = Narrow::new(alloc, 4096, Failure::Nowhere);
-    made(alloc, run, Pieces::new(run.file(), piece, failure), writer)
-}
-
-// A run over a writer that fails.
-fn write_with(alloc: Global, run: Run, piece: usize, failure: Failure) -> Result<Outcome, Fail> {
-    let reader = Pieces::new(run.file(), 4096, Failure::Nowhere);
-    made(alloc, run, reader, Narrow::new(alloc, piece, failure))
-}
-
-// Whether a run has sent all.
-fn is_done(run: Run, ended: &Outcome) -> bool {
-    ended.error.is_none()
-        && !ended.is_broken
-        && ended.writer.held() == run.text()
-        && ended.written == run.text().len() as u64
-}
-
 // Whether a run ended with a failed read after so many bytes, and sent nothing.
-fn is_unread(ended: &Outcome, came: u64) -> bool {
-    ended.error == Some(RunError::Read(came))
-        && ended.is_inlet_broken
+fn is_unread(run: Run, ended: &Outcome, came: u64) -> bool {
+    ended.answer == Err(Read(came))
+        && ended.inlets == run.stopped()
         && ended.is_fresh
         && ended.writer.held().is_empty()
 }
@@ -48,10 +23,50 @@ fn is_unread(ended: &Outcome, came: u64) -> bool {
 // Whether a run ended with a failed write, and says how many bytes went out, which are a front.
 fn is_unwritten(run: Run, ended: &Outcome) -> bool {
     let held = ended.writer.held();
-    ended.error == Some(RunError::Write(held.len() as u64))
+    ended.answer == Err(Write(held.len() as u64))
+        && ended.inlets == run.read()
         && ended.is_broken
         && ended.written == held.len() as u64
         && run.text().starts_with(held)
+}
+
+// The rows that are worked by hand: how many bytes a call, which call fails, and the error.
+const WORKED: [(Run, usize, Failure, RunError); 19] = [
+    (Run::Subset, 1, AtWrite(101, Interrupted), Write(100)),
+    (Run::Subset, 1, AtWrite(412, Interrupted), Write(411)),
+    (Run::Subset, 1, TakesNoneAt(1), Write(0)),
+    (Run::Subset, 4096, AtWrite(1, Interrupted), Write(0)),
+    (Run::Subset, 4096, AtFlush(Other), Write(412)),
+    (Run::Subset, 4096, AtRead(1, Interrupted), Read(0)),
+    (Run::Subset, 100, AtRead(3, Interrupted), Read(200)),
+    (Run::Subset, 428, AtRead(2, Interrupted), Read(428)),
+    (Run::JoinSecond, 4096, AtRead(1, Interrupted), Read(0)),
+    (Run::JoinSecond, 100, AtRead(2, Interrupted), Read(100)),
+    (Run::JoinSecond, 412, AtRead(2, Interrupted), Read(412)),
+    (Run::JoinSecond, 1, AtWrite(101, Interrupted), Write(100)),
+    (Run::JoinSecond, 1, TakesNoneAt(448), Write(447)),
+    (Run::JoinSecond, 4096, AtWrite(1, Interrupted), Write(0)),
+    (Run::JoinSecond, 4096, AtFlush(Other), Write(448)),
+    (Run::Show, 100, AtRead(3, Interrupted), Read(200)),
+    (Run::Show, 7, AtWrite(4, Interrupted), Write(21)),
+    (Run::Show, 7, AtFlush(Other), Write(169)),
+    (Run::Check, 4096, AtFlush(Other), Write(20)),
+];
+
+// Whether a run ended with this error, and left inlets, outlet and writer as that says.
+fn has_stopped(run: Run, ended: &Outcome, error: RunError) -> bool {
+    match error {
+        Read(came) => is_unread(run, ended, came),
+        _ => ended.answer == Err(error) && is_unwritten(run, ended),
+    }
+}
+
+#[test]
+fn failing_devices(rt: HostRuntime) {
+    for (run, piece, failure, error) in WORKED {
+        let ended = failing(rt.alloc(), run, piece, failure);
+        assert!(rt; has_stopped(run, &ended, error), "{run:?}, {failure:?}");
+    }
 }
 
 // How many bytes come before the read of this number, and none where no read has that number.
@@ -67,85 +82,69 @@ fn came_before(run: Run, piece: usize, k: u64) -> Option<u64> {
 }
 
 // Whether the run with each read failing in turn is as it should be, up to one that meets no failure.
-fn fails_at_each_read(
-    alloc: Global,
-    run: Run,
-    piece: usize,
-    kind: ErrorKind,
-) -> Result<bool, Fail> {
+fn fails_at_each_read(alloc: Global, run: Run, piece: usize, kind: ErrorKind) -> bool {
     for k in 1..MANY {
-        let ended = read_with(alloc, run, piece, Failure::AtRead(k, kind))?;
+        let ended = failing(alloc, run, piece, AtRead(k, kind));
         match came_before(run, piece, k) {
-            Some(came) if is_unread(&ended, came) => {}
-            Some(_) => return Ok(false),
-            None => return Ok(k > 1 && is_done(run, &ended)),
+            Some(came) if is_unread(run, &ended, came) => {}
+            Some(_) => return false,
+            None => return k > 1 && is_done(run, &ended),
         }
     }
-    Ok(false)
+    false
 }
 
-#[test]
-fn failing_reads(rt: HostRuntime) -> Result<(), Fail> {
-    for run in RUNS {
-        for piece in PIECES {
-            for kind in KINDS {
-                let is_stated = fails_at_each_read(rt.alloc(), run, piece, kind)?;
-                assert!(rt; is_stated, "{run:?}, {piece}, {kind:?}");
-            }
-        }
-    }
-    Ok(())
+// Whether so many bytes go out before the write of this number. A report is sent by one call; of a
+// cut it is known where each write takes one byte.
+fn is_count(run: Run, piece: usize, k: u64, written: u64) -> bool {
+    let is_report = matches!(run, Run::Check | Run::Show);
+    let count = (piece as u64).saturating_mul(k.saturating_sub(1));
+    written == count || !(is_report || piece == 1)
 }
 
 // Whether the run with each write failing in turn is as it should be, up to one that meets no failure.
-fn fails_at_each_write(
-    alloc: Global,
-    run: Run,
-    piece: usize,
-    kind: ErrorKind,
-) -> Result<bool, Fail> {
+// Where there is no kind of error, the write takes nothing.
+fn fails_at_each_write(alloc: Global, run: Run, piece: usize, kind: Option<ErrorKind>) -> bool {
     for k in 1..MANY {
-        let ended = write_with(alloc, run, piece, Failure::AtWrite(k, kind))?;
+        let failure = match kind {
+            Some(kind) => AtWrite(k, kind),
+            None => TakesNoneAt(k),
+        };
+        let ended = failing(alloc, run, piece, failure);
         if !ended.writer.has_failed() {
-            return Ok(k > 1 && is_done(run, &ended));
+            return k > 1 && is_done(run, &ended);
         }
-        // with one byte a write, so many went out before the write of this number
-        if !is_unwritten(run, &ended) || (piece == 1 && ended.written != k - 1) {
-            return Ok(false);
+        if !is_unwritten(run, &ended) || !is_count(run, piece, k, ended.written) {
+            return false;
         }
     }
-    Ok(false)
+    false
 }
 
 #[test]
-fn failing_writes(rt: HostRuntime) -> Result<(), Fail> {
+fn failing_reads_and_writes(rt: HostRuntime) {
     for run in RUNS {
         for piece in PIECES {
             for kind in KINDS {
-                let is_stated = fails_at_each_write(rt.alloc(), run, piece, kind)?;
+                let is_stated = fails_at_each_read(rt.alloc(), run, piece, kind)
+                    && fails_at_each_write(rt.alloc(), run, piece, Some(kind));
                 assert!(rt; is_stated, "{run:?}, {piece}, {kind:?}");
             }
-            let last = run.text().len() as u64;
-            for k in [1, 2, last] {
-                let ended = write_with(rt.alloc(), run, piece, Failure::TakesNoneAt(k))?;
-                let is_stated = is_unwritten(run, &ended) || !ended.writer.has_failed();
-                assert!(rt; is_stated, "{run:?}, {piece}, {k}");
-            }
+            let is_stated = fails_at_each_write(rt.alloc(), run, piece, None);
+            assert!(rt; is_stated, "{run:?}, {piece}, a write that takes nothing");
         }
     }
-    Ok(())
 }
 
 // All went out, but nobody knows whether it arrived.
 #[test]
-fn failing_flushes(rt: HostRuntime) -> Result<(), Fail> {
+fn failing_flushes(rt: HostRuntime) {
     for run in RUNS {
         for kind in KINDS {
-            let ended = write_with(rt.alloc(), run, 4096, Failure::AtFlush(kind))?;
+            let ended = failing(rt.alloc(), run, 4096, AtFlush(kind));
             assert!(rt; ended.writer.has_failed(), "{run:?}, {kind:?}");
             assert!(rt; is_unwritten(run, &ended), "{run:?}, {kind:?}");
             assert_eq!(rt; ended.writer.held(), run.text(), "{kind:?}");
         }
     }
-    Ok(())
 }

@@ -3,16 +3,12 @@
 #![tactic(auto)]
 
 #[cfg(test)]
-mod failing_devices;
-#[cfg(test)]
 mod failing_runs;
 #[cfg(test)]
-mod join_runs;
+mod inlets_and_outlets;
 #[cfg(test)]
 mod refused_memory;
 #[cfg(test)]
 mod runs;
 #[cfg(test)]
-mod show_lines;
-#[cfg(test)]
-mod subset_runs;
+mod sent_files;

@@ -1,10 +1,10 @@
 //! The four runs, each over one reader and one writer of the test's, and what they are to send.
+use fakes::Refusing;
 use fakes::devices::{Failure, Narrow, Pieces};
 use font_cmd::{Inlet, RunError, run_check, run_join, run_show, run_subset};
 use font_cut::{BASE6, Outlet, Wanted};
 use sample_fonts::known_cuts::{A_AND_B, A_B_AACUTE, AACUTE};
 use std::alloc::Global;
-use std::test::Fail;
 
 const CHECKED: &[u8] = b"findings 0\naccepted\n";
 
@@ -24,7 +24,7 @@ kept maxp 32
 cut no
 ";
 
-/// A run, and of a join which of its two inlets has the reader of the test's.
+/// A run, and of a join which of its three inlets has the reader of the test's.
 #[derive(Clone, Copy, Debug, PartialEq, Eq)]
 pub enum Run {
     Check,
@@ -42,6 +42,14 @@ pub const RUNS: [Run; 5] = [
     Run::JoinFirst,
     Run::JoinSecond,
 ];
+
+/// How an inlet is after a run.
+#[derive(Clone, Copy, Debug, PartialEq, Eq)]
+pub enum State {
+    Fresh,
+    Read,
+    Broken,
+}
 
 impl Run {
     /// What the test's reader gives.
@@ -61,24 +69,65 @@ impl Run {
             Run::JoinFirst | Run::JoinSecond => &A_B_AACUTE,
         }
     }
+
+    /// What is to be answered: of `check` 1 for an accepted font, and of `show` nothing.
+    pub fn answer(self) -> u64 {
+        match self {
+            Run::Check => 1,
+            Run::Show => 0,
+            Run::Subset => 412,
+            Run::JoinFirst | Run::JoinSecond => 448,
+        }
+    }
+
+    /// How the inlets are once all were read.
+    pub fn read(self) -> [State; 3] {
+        match self {
+            Run::Check | Run::Show | Run::Subset => [State::Read, State::Fresh, State::Fresh],
+            Run::JoinFirst | Run::JoinSecond => [State::Read; 3],
+        }
+    }
+
+    /// How the inlets are where the test's reader fails: those behind it are not read.
+    pub fn stopped(self) -> [State; 3] {
+        match self {
+            Run::JoinSecond => [State::Read, State::Broken, State::Fresh],
+            _ => [State::Broken, State::Fresh, State::Fresh],
+        }
+    }
 }
 
 /// How a run ended.
 #[derive(Drop)]
 pub struct Outcome {
-    pub error: Option<RunError>,
-    /// Whether the inlet of the test's reader is broken, and no other.
-    pub is_inlet_broken: bool,
+    /// What was answered, in numbers as of `Run::answer`.
+    pub answer: Result<u64, RunError>,
+    /// How the inlets are. Where there is one, the others count as fresh.
+    pub inlets: [State; 3],
     pub is_fresh: bool,
     pub is_broken: bool,
     pub written: u64,
     pub writer: Narrow,
 }
 
-fn outcome_of(error: Option<RunError>, is_inlet_broken: bool, outlet: Outlet<Narrow>) -> Outcome {
+fn state_of(inlet: &Inlet<Pieces<'_>>) -> State {
+    if inlet.is_broken() {
+        State::Broken
+    } else if inlet.is_fresh() {
+        State::Fresh
+    } else {
+        State::Read
+    }
+}
+
+fn outcome_of(
+    answer: Result<u64, RunError>,
+    inlets: [State; 3],
+    outlet: Outlet<Narrow>,
+) -> Outcome {
     Outcome {
-        error,
-        is_inlet_broken,
+        answer,
+        inlets,
         is_fresh: outlet.is_fresh(),
         is_broken: outlet.is_broken(),
         written: outlet.written(),
@@ -86,48 +135,88 @@ fn outcome_of(error: Option<RunError>, is_inlet_broken: bool, outlet: Outlet<Nar
     }
 }
 
-// A run over one inlet.
-fn run_alone(alloc: Global, run: Run, reader: Pieces<'_>, writer: Narrow) -> Result<Outcome, Fail> {
+// A run over one inlet. Where the set of wanted codes gets no memory, that is the answer.
+fn run_alone(memory: &Refusing<Global>, run: Run, reader: Pieces<'_>, writer: Narrow) -> Outcome {
     let mut inlet = Inlet::new(reader);
     let mut outlet = Outlet::new(writer);
-    let error = match run {
-        Run::Check => run_check(alloc, &mut inlet, &mut outlet).err(),
-        Run::Show => run_show(alloc, &mut inlet, &mut outlet).err(),
+    let answer = match run {
+        Run::Check => run_check(memory, &mut inlet, &mut outlet).map(u64::from),
+        Run::Show => run_show(memory, &mut inlet, &mut outlet).map(|_| 0),
         _ => {
-            let mut wanted = Wanted::new(alloc);
-            wanted.add(0xC1, 0xC1)?;
-            run_subset(alloc, &mut inlet, &wanted, &mut outlet).err()
+            let mut wanted = Wanted::new(memory);
+            match wanted.add(0xC1, 0xC1) {
+                Ok(()) => run_subset(memory, &mut inlet, &wanted, &mut outlet),
+                Err(_) => Err(RunError::Memory),
+            }
         }
     };
-    Ok(outcome_of(error, inlet.is_broken(), outlet))
+    let inlets = [state_of(&inlet), State::Fresh, State::Fresh];
+    outcome_of(answer, inlets, outlet)
 }
 
-// A join, of whose two inlets the second one is the test's where `is_second`.
+// A join, of whose three inlets the second one is the test's where `is_second`, and else the first.
 fn run_joined(
-    alloc: Global,
+    memory: &Refusing<Global>,
     is_second: bool,
     reader: Pieces<'_>,
-    other: Pieces<'_>,
     writer: Narrow,
 ) -> Outcome {
+    let other = Pieces::new(&A_AND_B, 4096, Failure::Nowhere);
+    let last = Inlet::new(Pieces::new(&A_AND_B, 4096, Failure::Nowhere));
     let mut outlet = Outlet::new(writer);
     let mut inlets = if is_second {
-        [Inlet::new(other), Inlet::new(reader)]
+        [Inlet::new(other), Inlet::new(reader), last]
     } else {
-        [Inlet::new(reader), Inlet::new(other)]
+        [Inlet::new(reader), Inlet::new(other), last]
     };
-    let error = run_join(alloc, &mut inlets, &mut outlet).err();
-    let (first, second) = (inlets[0].is_broken(), inlets[1].is_broken());
-    let is_inlet_broken = first != second && second == is_second;
-    outcome_of(error, is_inlet_broken, outlet)
+    let answer = run_join(memory, &mut inlets, &mut outlet);
+    let states = [
+        state_of(&inlets[0]),
+        state_of(&inlets[1]),
+        state_of(&inlets[2]),
+    ];
+    outcome_of(answer, states, outlet)
 }
 
-/// Makes a run. The other reader of a join gives its file at once.
-pub fn made(alloc: Global, run: Run, reader: Pieces<'_>, writer: Narrow) -> Result<Outcome, Fail> {
-    let other = Pieces::new(&A_AND_B, 4096, Failure::Nowhere);
+/// Makes a run. The other readers of a join give their files at once.
+pub fn made(memory: &Refusing<Global>, run: Run, reader: Pieces<'_>, writer: Narrow) -> Outcome {
     match run {
-        Run::JoinFirst => Ok(run_joined(alloc, false, reader, other, writer)),
-        Run::JoinSecond => Ok(run_joined(alloc, true, reader, other, writer)),
-        _ => run_alone(alloc, run, reader, writer),
+        Run::JoinFirst => run_joined(memory, false, reader, writer),
+        Run::JoinSecond => run_joined(memory, true, reader, writer),
+        _ => run_alone(memory, run, reader, writer),
     }
+}
+
+/// Makes a run whose reader gives and whose writer takes at most `piece` bytes a call; one of the two
+/// may fail.
+pub fn failing(alloc: Global, run: Run, piece: usize, failure: Failure) -> Outcome {
+    let memory = Refusing::new(alloc, 0);
+    let reader = Pieces::new(run.file(), piece, failure);
+    made(&memory, run, reader, Narrow::new(alloc, piece, failure))
+}
+
+/// Makes a run over another file, where nothing fails.
+pub fn over(alloc: Global, run: Run, file: &[u8]) -> Outcome {
+    let memory = Refusing::new(alloc, 0);
+    let reader = Pieces::new(file, 4096, Failure::Nowhere);
+    made(
+        &memory,
+        run,
+        reader,
+        Narrow::new(alloc, 4096, Failure::Nowhere),
+    )
+}
+
+/// Whether a run answered this and sent this text, and read all inlets.
+pub fn has_sent(run: Run, ended: &Outcome, answer: u64, text: &[u8]) -> bool {
+    ended.answer == Ok(answer)
+        && ended.inlets == run.read()
+        && !ended.is_broken
+        && ended.writer.held() == text
+        && ended.written == text.len() as u64
+}
+
+/// Whether a run has sent all that it is to send.
+pub fn is_done(run: Run, ended: &Outcome) -> bool {
+    has_sent(run, ended, run.answer(), run.text())
 }
