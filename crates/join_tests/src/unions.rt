@@ -1,7 +1,7 @@
 //! Joins of two cuts of one font.
 use crate::answers::{cut_form_of, is_join, is_join_of};
 use font_cut::{Font, Joined};
-use sample_cuts::{cut_of, groups_of, is_as_stated, kept_of};
+use sample_cuts::{cut_of, groups_of, head_of, is_as_stated, kept_of};
 use sample_fonts::fonts;
 use sample_fonts::known_cuts::{A_AND_B, A_B_AACUTE, AACUTE};
 use std::alloc::Global;
@@ -15,6 +15,17 @@ fn kept_of_union(alloc: Global, x: &[u8], y: &[u8]) -> Result<Vec<u16>, Fail> {
     Ok(kept)
 }
 
+// Whether two files have a `head` of 54 bytes each, which differ in `checksumAdjustment` alone: in the
+// bytes 8 to 11.
+fn have_other_adjustments(x: &[u8], y: &[u8]) -> Result<bool, Fail> {
+    let (a, b) = (head_of(x)?, head_of(y)?);
+    let mut is_stated = a.len() == 54 && b.len() == 54;
+    for place in 0..54 {
+        is_stated &= (a.get(place) == b.get(place)) != (8 <= place && place < 12);
+    }
+    Ok(is_stated)
+}
+
 #[test]
 fn join_of_two_cuts(rt: HostRuntime) -> Result<(), Fail> {
     let alloc = rt.alloc();
@@ -26,6 +37,7 @@ fn join_of_two_cuts(rt: HostRuntime) -> Result<(), Fail> {
     assert_eq!(rt; cut_form_of(alloc, stated), Some(true));
     let kept = kept_of_union(alloc, x, y)?;
     assert_eq!(rt; kept.as_slice(), [0, 1, 2, 3, 5].as_slice());
+    assert!(rt; have_other_adjustments(x, y)?);
     Ok(())
 }
 
