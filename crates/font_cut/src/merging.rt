@@ -212,9 +212,9 @@ fn push_alone<A: Allocator>(
     Ok((at, code))
 }
 
-/// The runs of the union of two maps.
+/// Lists the runs of the union of two maps in the memory of `room`, whose own runs go.
 pub(crate) fn runs_of_both<A: Allocator>(
-    alloc: A,
+    room: Vec<Run, A>,
     a: &[Run],
     b: &[Run],
 ) -> Result<Vec<Run, A>, NoMemory>
@@ -223,10 +223,12 @@ pub(crate) fn runs_of_both<A: Allocator>(
     ensures spelled { IfOk result (λ v. spelled v.items ≡ united (spelled a.now) (spelled b.now)) }
     ensures runs { IfOk result (λ v. AreMapRuns v.items) }
 {
+    let mut runs = room;
+    runs.clear();
     // As many as there can be where the maps agree: without them the list is copied as it grows.
-    let Ok(mut runs) = Vec::with_capacity(alloc, a.len().saturating_add(b.len())) else {
+    if runs.reserve(a.len().saturating_add(b.len())).is_err() {
         return Err(NoMemory);
-    };
+    }
     let (mut ahead, mut places) = piece_of_both(a, b, (0, 0), 0);
     let mut from = 0;
     while let Some(piece) = ahead {

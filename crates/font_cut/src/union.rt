@@ -31,6 +31,8 @@ use std::marker::Model;
 pub(crate) struct Union<'f, 'a, A: Allocator> {
     first: &'f Font<'a>,
     runs: Vec<Run, A>,
+    // The list of runs before the last file, whose memory the next list takes.
+    spare: Vec<Run, A>,
     // Where the run that was read last stands.
     hint: Cell<usize>,
     outlines: Outlines<'a, A>,
@@ -162,6 +164,7 @@ impl<'f, 'a, A: Allocator + Copy> Union<'f, 'a, A> {
         Ok(Union {
             first: font,
             runs: file.into_runs(),
+            spare: Vec::new(alloc),
             hint: Cell::new(0),
             outlines,
         })
@@ -184,7 +187,7 @@ impl<'f, 'a, A: Allocator + Copy> Union<'f, 'a, A> {
         if let Some(error) = early_refusal(&self, &file) {
             return Err(error);
         }
-        let Ok(runs) = runs_of_both(alloc, &self.runs, file.runs()) else {
+        let Ok(runs) = runs_of_both(self.spare, &self.runs, file.runs()) else {
             return Err(JoinError::NoMemory);
         };
         let count = self.first.tables().glyph_count();
@@ -195,6 +198,7 @@ impl<'f, 'a, A: Allocator + Copy> Union<'f, 'a, A> {
         Ok(Union {
             first: self.first,
             runs,
+            spare: self.runs,
             hint: Cell::new(0),
             outlines,
         })
