@@ -1,6 +1,6 @@
 //! Numbers, sums, and the records of a directory.
 use sample_fonts::files::entry;
-use sfnt_bytes::{BASE6, Directory, Entry, KEPT, be16, be32, search_fields, word_sum};
+use sfnt_bytes::{BASE6, Directory, Entry, KEPT, adjustment, be16, be32, search_fields, word_sum};
 use std::test::Fail;
 
 // The words of Base6, table by table.
@@ -66,6 +66,9 @@ fn numbers_and_sums(rt: HostRuntime) {
         (&BASE6, 0xB1B0_AFBA),
     ] {
         assert_eq!(rt; word_sum(bytes), sum);
+    }
+    for (sum, stated) in [(0, 0xB1B0_AFBA), (0xB1B0_AFBB, 0xFFFF_FFFF)] {
+        assert_eq!(rt; adjustment(sum), stated);
     }
     for (count, fields) in [
         (0, None),
