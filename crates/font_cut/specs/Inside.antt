@@ -1,4 +1,4 @@
--- Words of the proofs inside this crate: no public clause names them.
+-- Words of private contracts and of proofs: no public clause names them.
 use Rattle.font_cut.specs.Join.{different}
 use Rattle.font_cut.specs.JoinList.{Stands}
 use Rattle.font_cut.specs.Union.{Held, content_in, listed_outline}
@@ -72,7 +72,7 @@ pub record IsPast (runs : List Run) (from at : ℕ) : Type 0 where
   pub within : at ≤ length runs
   pub before : (k : ℕ) → k < at → (run_at runs k).last < from
 
--- and the one at that place does not
+-- the runs before a place end below a code, and the one at that place does not
 pub record IsPlace (runs : List Run) (from at : ℕ) : Type 0 where
   pub past : IsPast runs from at
   pub there : at < length runs → from ≤ (run_at runs at).last

@@ -119,7 +119,7 @@ pub fn cut<A: Allocator + Copy>(
     cut_exactly(alloc, font, wanted)
 }
 
-// WentOut the cut, or answers the refusal that applies.
+// Sends the cut, or answers the refusal that applies.
 #[tactic(auto, using(crate::proofs::CutLemmas::cut_of_is))]
 fn cut_into_exactly<W: Write, A: Allocator + Copy>(
     alloc: A,
@@ -138,7 +138,7 @@ fn cut_into_exactly<W: Write, A: Allocator + Copy>(
     send_whole(&source, out)
 }
 
-/// WentOut the cut of a font for the wanted codes, and answers how many bytes it has. All memory is
+/// Sends the cut of a font for the wanted codes, and answers how many bytes it has. All memory is
 /// asked for before the first write: that for the glyphs that it keeps, and none for the cut itself.
 /// The cut is sent in short pieces, so a writer that costs something at each call should gather them.
 ///

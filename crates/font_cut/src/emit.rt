@@ -50,7 +50,7 @@ pub(crate) fn file_in_memory<S: Source, A: Allocator + Copy>(
     }
 }
 
-/// WentOut the file of a content, and answers its length. It asks for no memory.
+/// Sends the file of a content, and answers its length. It asks for no memory.
 pub(crate) fn send_whole<S: Source, W: Write>(
     source: &S,
     out: &mut Outlet<W>,

@@ -77,7 +77,7 @@ impl<W: Write> Outlet<W> {
         self.written == 0 && !self.broken
     }
 
-    /// WentOut all of `bytes`. An interrupted write is a failed one, and is not tried again.
+    /// Sends all of `bytes`. An interrupted write is a failed one, and is not tried again.
     ///
     /// # Errors
     /// `WriteFault` where a write fails, or takes none of the bytes that are left. What went out is a

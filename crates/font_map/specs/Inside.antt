@@ -1,4 +1,4 @@
--- Words of the proofs inside this crate: no public clause names them.
+-- Words of private contracts and of proofs: no public clause names them.
 use Rattle.font_map.specs.CharacterMap.{clipped}
 use Rattle.font_map.specs.Format12.{groups_of, group_glyph, holds}
 use Rattle.font_map.specs.Format4.{segments_of, reaches, glyph_by}

@@ -1,4 +1,4 @@
--- Words of the proofs inside this crate: no public clause names them.
+-- Words of private contracts and of proofs: no public clause names them.
 use Rattle.font_tables.specs.Outlines.{offset_at, offset_size}
 use Rattle.font_tables.specs.declared.loca.LocaForm.{LocaForm}
 use Rattle.std.specs.Prelude.{◌<◌, ◌≤◌, ℕ, ◌+◌, ◌-◌, ◌*◌, List, length}

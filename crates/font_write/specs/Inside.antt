@@ -1,4 +1,4 @@
--- Words of the proofs inside this crate: no public clause names them.
+-- Words of private contracts and of proofs: no public clause names them.
 use Rattle.font_map.specs.declared.runs.Run.{Run}
 use Rattle.font_theory.specs.Content.{Content, glyph_count}
 use Rattle.font_theory.specs.File.{Form, behind, entries_at, entry_bytes, group_bytes, loca_bytes, outlines_from}
@@ -10,7 +10,7 @@ use Rattle.std.specs.Prelude.{ℕ, ◌++◌, List}
 unfoldable pub records_to : Form → Content → ℕ → List ℕ
 records_to form K n = flat_map entry_bytes (entries_at (start_of form K) (tables_to form K n))
 
--- their offsets, with that of their end
+-- the offsets of the outlines of the first n glyphs, with that of their end
 unfoldable pub loca_to : Content → ℕ → List ℕ
 loca_to K n = loca_bytes (outlines_from K 0 n)
 

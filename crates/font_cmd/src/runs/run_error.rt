@@ -133,7 +133,7 @@ impl From<JoinAllIntoError> for RunError {
     }
 }
 
-/// WentOut all of `bytes`, and flushes.
+/// Sends all of `bytes`, and flushes.
 pub(crate) fn send<W: io::Write>(outlet: &mut Outlet<W>, bytes: &[u8]) -> Result<(), WriteFault>
     requires { fresh_of outlet.old ≡ true }
     ensures ok { OnOk result (WentOut W.contents outlet.old outlet.new bytes.now) }
