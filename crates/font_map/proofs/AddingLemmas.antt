@@ -3,7 +3,7 @@ use Rattle.std.proofs.Common.{◌≡◌, ℕ, zero, suc, ◌+◌, ◌-◌, ◌<�
 use Rattle.std.proofs.lemmas.List.{drop_more, take_more, drop_all}
 use Rattle.std.proofs.lemmas.Bool.{cases_lt}
 use Rattle.std.proofs.lemmas.Bool.Decides.{nat_tests}
-use Rattle.font_map.specs.Inside.{IsPlace, absorbed, hull, range_end, with_range}
+use Rattle.font_map.specs.Inside.{IsFirstReaching, absorbed, hull, range_end, with_range}
 use Rattle.font_map.specs.Wanted.{AreSeparate, codes_between, either, member}
 use Rattle.font_map.specs.declared.ranges.Range.{Range}
 use Rattle.font_map.proofs.RangeLemmas.{range_nth}
@@ -120,7 +120,7 @@ in_front r rs (suc i) l f =
     ∙ ap (λ (k : ℕ). take k rs ++ with_range r (drop k rs)) e)))
 
 -- and the first that does not is where one more range goes in
-pub with_range_at : (r : Range) (rs : List Range) (i : ℕ) → IsPlace (range_end rs) (length rs) (r.first - 1) i → with_range r rs ≡ take i rs ++ absorbed r (drop i rs)
+pub with_range_at : (r : Range) (rs : List Range) (i : ℕ) → IsFirstReaching (range_end rs) (length rs) (r.first - 1) i → with_range r rs ≡ take i rs ++ absorbed r (drop i rs)
 with_range_at r rs i p =
     in_front r rs i p.within (λ k h. omega (arith, p.before k h)) ∙ ap (λ (t : List Range). take i rs ++ t)
     (elim (cases_lt i (length rs)) [

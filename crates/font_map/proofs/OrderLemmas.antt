@@ -1,6 +1,7 @@
 -- Members in order of their codes, searches by halves, and what a search for a member finds.
 use Rattle.std.proofs.Common.{◌≡◌, ℕ, zero, suc, ◌+◌, ◌<◌, ◌≤◌, Bool, true, false, List, [], ◌∷◌, length, get_or, find, Some, None, refl, ap, subst, ◌∙◌, arith, inl, inr}
 use Rattle.std.proofs.lemmas.Bool.{cases_lt, cond_both}
+use Rattle.font_map.specs.Inside.{Ascends}
 use Rattle.font_map.specs.Order.{AreInOrder}
 
 -- each member has a code, and is not below the bound
@@ -17,10 +18,7 @@ in_order_pair first last d low (x ∷ xs) o i zero h l = absurd (omega (arith, h
 in_order_pair first last d low (x ∷ xs) o zero (suc j) h l = (in_order_above first last d (suc (last x)) xs o.2 j (omega (arith, l))).0
 in_order_pair first last d low (x ∷ xs) o (suc i) (suc j) h l = in_order_pair first last d (suc (last x)) xs o.2 i j (omega (arith, h)) (omega (arith, l))
 
--- the ends of the first n members ascend
-abbrev pub Ascends : (ℕ → ℕ) → ℕ → Type 0
-Ascends end n = (i j : ℕ) → i < j → j < n → end i < end j
-
+-- the ends of members in order ascend
 pub in_order_ascends : {X : Type 0} (first last : X → ℕ) (d : X) (xs : List X) (n : ℕ) → length xs ≡ n → AreInOrder first last 0 xs → Ascends (λ i. last (get_or xs i d)) n
 in_order_ascends first last d xs n e o i j h l =
     let there : j < length xs = omega arith in

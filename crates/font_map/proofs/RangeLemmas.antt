@@ -2,10 +2,9 @@
 use Rattle.std.proofs.Common.{◌≡◌, ℕ, zero, suc, ◌+◌, ◌<◌, ◌≤◌, ◌⊎◌, ◌||◌, Bool, true, false, List, [], ◌∷◌, length, get_or, max, ap, subst, ◌∙◌, refl, arith, inl, inr}
 use Rattle.std.proofs.lemmas.Bool.{cases_lt}
 use Rattle.std.proofs.lemmas.Bool.Decides.{nat_tests}
-use Rattle.font_map.specs.Inside.{IsPlace, IsRow, NoRow, range_end}
+use Rattle.font_map.specs.Inside.{Ascends, IsFirstReaching, IsRow, NoRow, range_end}
 use Rattle.font_map.specs.Wanted.{AreSeparate, codes_between, member}
 use Rattle.font_map.specs.declared.ranges.Range.{Range}
-use Rattle.font_map.proofs.OrderLemmas.{Ascends}
 
 abbrev pub range_nth : List Range → ℕ → Range
 range_nth ranges i = get_or ranges i (record { first = 0; last = 0 })
@@ -51,7 +50,7 @@ member_at (r ∷ rs) c zero l h k = ap (λ (b : Bool). b || member rs c) (betwee
 member_at (r ∷ rs) c (suc i) l h k = ap (λ (b : Bool). codes_between r.first r.last c || b) (member_at rs c i (omega (arith, l)) h k) ∙ or_true (codes_between r.first r.last c)
 
 -- a code behind all ranges before a place, and before the range there
-pub member_between : (rs : List Range) (from c i : ℕ) → AreSeparate 0 rs → IsPlace (range_end rs) (length rs) from i → from ≤ c → (i < length rs → c < (range_nth rs i).first) → member rs c ≡ false
+pub member_between : (rs : List Range) (from c i : ℕ) → AreSeparate 0 rs → IsFirstReaching (range_end rs) (length rs) from i → from ≤ c → (i < length rs → c < (range_nth rs i).first) → member rs c ≡ false
 member_between rs from c i o p h f =
     member_none rs c (λ k y. elim (cases_lt k i) [
       | inl z ↦ between_above (range_nth rs k) c (omega (arith, p.before k z, h))
@@ -63,10 +62,10 @@ member_between rs from c i o p h f =
           ]
     ])
 
-pub row_none : (rs : List Range) (from i : ℕ) → AreSeparate 0 rs → IsPlace (range_end rs) (length rs) from i → length rs ≤ i → NoRow (member rs) from
+pub row_none : (rs : List Range) (from i : ℕ) → AreSeparate 0 rs → IsFirstReaching (range_end rs) (length rs) from i → length rs ≤ i → NoRow (member rs) from
 row_none rs from i o p h c k = member_between rs from c i o p k (λ l. absurd (omega (arith, l, h)))
 
-pub row_some : (rs : List Range) (from i first : ℕ) → AreSeparate 0 rs → IsPlace (range_end rs) (length rs) from i → i < length rs → first ≡ max from (range_nth rs i).first → IsRow (member rs) from (record { first = first; last = (range_nth rs i).last })
+pub row_some : (rs : List Range) (from i first : ℕ) → AreSeparate 0 rs → IsFirstReaching (range_end rs) (length rs) from i → i < length rs → first ≡ max from (range_nth rs i).first → IsRow (member rs) from (record { first = first; last = (range_nth rs i).last })
 row_some rs from i first o p l e =
     let low : from ≤ first = grind arith in
     let high : (range_nth rs i).first ≤ first = grind arith in

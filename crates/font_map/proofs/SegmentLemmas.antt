@@ -6,13 +6,13 @@ use Rattle.std.proofs.lemmas.List.{drop_more, drop_all}
 use Rattle.std.proofs.lemmas.List.FromFn.{length-map-range_with_len, get_or-map-range_with_len}
 use Rattle.std.specs.Option.{option_map_or}
 use Rattle.font_map.specs.CharacterMap.{IsUnmapped, clipped}
-use Rattle.font_map.specs.Inside.{IsPlace, glyph_by_delta, glyph_of_segment, segment_end, segment_nth}
+use Rattle.font_map.specs.Inside.{Ascends, IsFirstReaching, glyph_by_delta, glyph_of_segment, segment_end, segment_nth}
 use Rattle.font_map.specs.Runs.{IsPiece, NoRun}
 use Rattle.font_map.specs.Format4.{HasOrderedSegments, glyph_by, reaches, segment_count, segment_glyph, segment_in, segments_of}
 use Rattle.font_map.specs.declared.format4.Segment.{Segment}
 use Rattle.font_map.specs.declared.runs.Run.{Run}
 use Rattle.font_map.proofs.PieceLemmas.{clipped_none}
-use Rattle.font_map.proofs.OrderLemmas.{Ascends, Halves, find_at, find_narrower, find_narrower_none, find_none, halves_down, halves_up, in_order_ascends}
+use Rattle.font_map.proofs.OrderLemmas.{find_at, find_narrower, find_narrower_none, find_none, in_order_ascends}
 
 abbrev none : Segment
 none = record { first = 0; last = 0; delta = 0; offset = 0; place = 0 }
@@ -32,17 +32,9 @@ segments_step s i h = drop_more (segments_of s) i none (omega (arith, h, length-
 pub segments_end : (s : List ℕ) (i : ℕ) → segment_count s ≤ i → drop i (segments_of s) ≡ []
 segments_end s i h = drop_all i (segments_of s) (omega (arith, h, length-segments_of s))
 
--- a step of the search by halves
-segment_ascends : (s : List ℕ) → HasOrderedSegments s → Ascends (segment_end s) (segment_count s)
+-- the ends of members in order ascend
+pub segment_ascends : (s : List ℕ) → HasOrderedSegments s → Ascends (segment_end s) (segment_count s)
 segment_ascends s o = in_order_ascends (λ g. g.first) (λ g. g.last) none (segments_of s) (segment_count s) (length-segments_of s) o
-
-pub segment_up : (s : List ℕ) (c low high m e : ℕ) → HasOrderedSegments s → Halves (segment_end s) (segment_count s) c low high → low ≤ m → m < high → e ≡ segment_end s m → e < c → Halves (segment_end s) (segment_count s) c (m + 1) high
-segment_up s c low high m e o h a b is l =
-    halves_up (segment_end s) (segment_count s) c low high m (segment_ascends s o) h a b (omega (arith, is, l))
-
-pub segment_down : (s : List ℕ) (c low high m e : ℕ) → HasOrderedSegments s → Halves (segment_end s) (segment_count s) c low high → low ≤ m → m < high → e ≡ segment_end s m → c ≤ e → Halves (segment_end s) (segment_count s) c low m
-segment_down s c low high m e o h a b is l =
-    halves_down (segment_end s) (segment_count s) c low high m (segment_ascends s o) h a b (omega (arith, is, l))
 
 -- tests
 reaches_yes : (g : Segment) (c : ℕ) → c ≤ g.last → reaches c g ≡ true
@@ -55,11 +47,11 @@ reaches_further : (from c : ℕ) → from ≤ c → (g : Segment) → reaches fr
 reaches_further from c l g h = grind (arith, nat_tests)
 
 -- the segment at the place of a code
-pub none_past : (s : List ℕ) (c i : ℕ) → IsPlace (segment_end s) (segment_count s) c i → segment_count s ≤ i → None ≡ find (reaches c) (segments_of s)
+pub none_past : (s : List ℕ) (c i : ℕ) → IsFirstReaching (segment_end s) (segment_count s) c i → segment_count s ≤ i → None ≡ find (reaches c) (segments_of s)
 none_past s c i p h =
     sym (find_none (reaches c) none (segments_of s) (λ k x. reaches_no (get_or (segments_of s) k none) c (p.before k (omega (arith, h, x, length-segments_of s)))))
 
-pub some_at : (s : List ℕ) (c i : ℕ) (g : Segment) → IsPlace (segment_end s) (segment_count s) c i → i < segment_count s → g ≡ segment_nth (segments_of s) i → Some g ≡ find (reaches c) (segments_of s)
+pub some_at : (s : List ℕ) (c i : ℕ) (g : Segment) → IsFirstReaching (segment_end s) (segment_count s) c i → i < segment_count s → g ≡ segment_nth (segments_of s) i → Some g ≡ find (reaches c) (segments_of s)
 some_at s c i g p h e =
     ap (λ (x : Segment). Some x) e
     ∙ sym (find_at (reaches c) none (segments_of s) i (omega (arith, h, length-segments_of s)) (reaches_yes (segment_nth (segments_of s) i) c (p.here h))

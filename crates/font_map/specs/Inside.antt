@@ -1,11 +1,16 @@
 -- Words of private contracts and of proofs: no public clause names them.
 use Rattle.font_map.specs.CharacterMap.{clipped}
+use Rattle.font_map.specs.Cmap.{chosen_record, subtable_at}
 use Rattle.font_map.specs.Format12.{groups_of, group_glyph, holds}
-use Rattle.font_map.specs.Format4.{segments_of, reaches, glyph_by}
+use Rattle.font_map.specs.Format4.{segments_of, segment_glyph, reaches, glyph_by}
+use Rattle.font_map.specs.Mapping.{listed_glyph}
+use Rattle.font_map.specs.Refusals.{map_fault}
+use Rattle.font_map.specs.declared.subtable.Subtable.{Subtable}
+use Rattle.font_map.specs.declared.subtable.Subtable.TheVariants.{Segments, Groups}
 use Rattle.font_map.specs.declared.format12.ListedGroup.{ListedGroup}
 use Rattle.font_map.specs.declared.format4.Segment.{Segment}
 use Rattle.font_map.specs.declared.ranges.Range.{Range}
-use Rattle.std.specs.Prelude.{ℕ, ◌+◌, ◌<◌, ◌≤◌, Bool, ◌&&◌, nat_le, List, slice_index_or, if◌then◌else◌, ◌%◌, nat_lt, [], ◌∷◌, ◌≡◌, true, false, min, max, ◌≢◌, ◌*◌, length, find, slice_index}
+use Rattle.std.specs.Prelude.{ℕ, ◌+◌, ◌<◌, ◌≤◌, Bool, ◌&&◌, nat_le, List, slice_index_or, if◌then◌else◌, ◌%◌, nat_lt, [], ◌∷◌, ◌≡◌, true, false, min, max, ◌≢◌, ◌*◌, length, find, slice_index, Some, None}
 
 -- the group at a place of a list
 abbrev pub group_nth : List ListedGroup → ℕ → ListedGroup
@@ -31,8 +36,12 @@ glyph_of_segment s segment c = if reaches c segment then glyph_by s segment c el
 abbrev pub glyph_by_delta : Segment → ℕ → ℕ
 glyph_by_delta segment c = if nat_le segment.first c && nat_le c segment.last then (c + segment.delta) % 65536 else 0
 
+-- the ends of the first n members ascend
+abbrev pub Ascends : (ℕ → ℕ) → ℕ → Type 0
+Ascends end n = (i j : ℕ) → i < j → j < n → end i < end j
+
 -- the first index below n whose end is not below a code, and n where there is none
-pub record IsPlace (end : ℕ → ℕ) (n c i : ℕ) : Type 0 where
+pub record IsFirstReaching (end : ℕ → ℕ) (n c i : ℕ) : Type 0 where
   pub within : i ≤ n
   pub before : (k : ℕ) → k < i → end k < c
   pub here : i < n → c ≤ end i
@@ -67,23 +76,37 @@ abbrev pub NoRow : (ℕ → Bool) → ℕ → Type 0
 NoRow w from = (c : ℕ) → from ≤ c → w c ≡ false
 
 -- no code from one on up to a stop is free: 0xFFFF stands where a code is free
-abbrev pub AreTaken : List ℕ → ℕ → ℕ → Type 0
-AreTaken glyphs from stop = (c : ℕ) → from ≤ c → c < stop → slice_index glyphs c ≢ 0xFFFF
+abbrev pub NoneFree : List ℕ → ℕ → ℕ → Type 0
+NoneFree glyphs from stop = (c : ℕ) → from ≤ c → c < stop → slice_index glyphs c ≢ 0xFFFF
 
 -- how many blocks of 16 codes from each block on are known to have no free code, 0 where nothing is known
 pub record IsSkip (glyphs skip : List ℕ) : Type 0 where
   pub codes : length glyphs ≡ 0x110000
   pub blocks : length skip ≡ 0x11001
   pub within : (b : ℕ) → b < 0x11001 → b + slice_index skip b < 0x11001
-  pub taken : (b : ℕ) → AreTaken glyphs (16 * b) (16 * (b + slice_index skip b))
+  pub taken : (b : ℕ) → NoneFree glyphs (16 * b) (16 * (b + slice_index skip b))
 
 -- no code from one on up to another is free, and the other one is free where it is below a stop
 pub record IsFirstFree (glyphs : List ℕ) (from stop at : ℕ) : Type 0 where
   pub from_on : from ≤ at
-  pub passed : AreTaken glyphs from at
+  pub passed : NoneFree glyphs from at
   pub free : at < stop → slice_index glyphs at ≡ 0xFFFF
 
 -- taken codes have their glyphs; free ones have none yet, and the rest of the groups decides them
 pub record IsLaid (s : List ℕ) (n : ℕ) (rest : List ListedGroup) (glyphs : List ℕ) : Type 0 where
   pub taken : (c : ℕ) → slice_index glyphs c ≢ 0xFFFF → slice_index glyphs c ≡ clipped n (group_glyph s) c
   pub left : (c : ℕ) → slice_index glyphs c ≡ 0xFFFF → find (holds c) (groups_of s) ≡ find (holds c) rest
+
+-- the glyph of a code by the segments or groups of a subtable
+abbrev pub subtable_glyph : Subtable → ℕ → ℕ
+subtable_glyph (Segments s) = segment_glyph s
+subtable_glyph (Groups s) = group_glyph s
+
+-- what a mapping to n glyphs keeps: nothing is refused; the chosen record, which is within `cmap`, and its subtable
+pub record IsChosen (cmap : List ℕ) (n k : ℕ) (subtable : Subtable) : Type 0 where
+  pub glyphs : n < 65536
+  pub accepted : map_fault cmap ≡ None
+  pub record_is : chosen_record cmap ≡ Some k
+  pub record_in : 12 + 8 * k ≤ length cmap
+  pub header : 16 ≤ length (subtable_at cmap k)
+  pub map : subtable_glyph subtable ≡ listed_glyph (subtable_at cmap k)

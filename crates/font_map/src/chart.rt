@@ -1,6 +1,6 @@
 //! A mapping that is quick to walk, in whatever order its subtable stands.
 ghost use Rattle.std.specs.Prelude.{◌≡◌, IfOk, MatchOption};
-ghost use Rattle.font_map.specs.CharacterMap.{mapped_codes, restricted};
+ghost use Rattle.font_map.specs.CharacterMap.{IsCharacterMap, mapped_codes, restricted};
 ghost use Rattle.font_map.specs.Mapping.{mapping_of};
 ghost use Rattle.font_map.specs.Runs.{IsRun, NoRun};
 ghost use Rattle.font_map.specs.Wanted.{member};
@@ -9,7 +9,7 @@ use crate::laid_out::LaidOut;
 use crate::mapping::Mapping;
 use crate::runs::{Pieces, Run, mapped_count, next_run};
 use crate::wanted::Wanted;
-use crate::within::Within;
+use crate::within::wanted_run;
 use sfnt_bytes::NoMemory;
 use std::alloc::{Allocator, Global};
 use std::cell::Cell;
@@ -82,10 +82,14 @@ impl<'a, A: Allocator> Chart<'a, A> {
     /// Returns the run that begins at the least mapped code not below `from`: as long as neighbouring
     /// codes lie on neighbouring glyphs.
     pub fn next_run(&self, from: u32) -> Option<Run>
-        ensures { MatchOption result
+        ensures run { MatchOption result
             (NoRun (mapping_of self.now.0 self.now.1) from)
             (IsRun (mapping_of self.now.0 self.now.1) from) }
+
+        // What choosing the mapping has shown.
+        ensures map { IsCharacterMap (mapping_of self.now.0 self.now.1) }
     {
+        let _chosen = self.mapping.chosen();
         next_run(self, from)
     }
 
@@ -95,11 +99,7 @@ impl<'a, A: Allocator> Chart<'a, A> {
             (NoRun (restricted (member wanted.now) (mapping_of self.now.0 self.now.1)) from)
             (IsRun (restricted (member wanted.now) (mapping_of self.now.0 self.now.1)) from) }
     {
-        let within = Within {
-            pieces: self,
-            wanted,
-        };
-        next_run(&within, from)
+        wanted_run(self, wanted, from)
     }
 }
 

@@ -1,11 +1,8 @@
 //! The encoding records of `cmap`, and the choice of a subtable. OpenType 1.9, cmap, Encoding records
 //! and encodings.
-ghost use Rattle.std.specs.Prelude.{◌≡◌, ◌+◌, ◌*◌, ◌<◌, ◌≤◌, ◌⊎◌, IsTrue, IfSome, length};
-ghost use Rattle.font_map.specs.Cmap.{candidate_of, chosen_record, encoding_count, is_candidate, is_malformed, subtable_at};
-ghost use Rattle.font_map.specs.Mapping.{IsWhole};
+ghost use Rattle.std.specs.Prelude.{◌≡◌, ◌+◌, ◌*◌, ◌<◌, ◌≤◌, IsTrue, IfSome, length};
+ghost use Rattle.font_map.specs.Cmap.{candidate_of, chosen_record, encoding_count, is_candidate, subtable_at};
 
-use crate::format4::count_segments;
-use crate::format12::count_groups;
 use sfnt_bytes::{be16, be32};
 
 /// How many bytes stand before the encoding records.
@@ -34,7 +31,7 @@ fn count_encodings(cmap: &[u8]) -> usize
 
 /// The bytes from the subtable of a record on.
 #[tactic(auto, using(crate::proofs::ByteLemmas::drop_past, crate::proofs::ByteLemmas::drop_range), unfolding(crate::specs::Cmap::subtable_at))]
-pub(crate) fn subtable(cmap: &[u8], k: usize) -> &[u8]
+pub(crate) fn subtable_at(cmap: &[u8], k: usize) -> &[u8]
     requires { 12 + 8 * k ≤ length cmap.now }
     ensures { result.now ≡ subtable_at cmap.now k }
 {
@@ -58,7 +55,7 @@ fn has_candidate(cmap: &[u8], platform: u16, encoding: u16, k: usize) -> bool
     if be16(cmap, at) != platform || be16(cmap, at + 2) != encoding {
         return false;
     }
-    let s = subtable(cmap, k);
+    let s = subtable_at(cmap, k);
     2 <= s.len() && (be16(s, 0) == SEGMENTS || be16(s, 0) == GROUPS)
 }
 
@@ -92,19 +89,4 @@ pub(crate) fn choose_record(cmap: &[u8]) -> Option<usize>
         return Some(k);
     }
     find_candidate(cmap, 0, 3)
-}
-
-/// Whether the segments or groups of a subtable are not all whole within `cmap`.
-#[tactic(auto, unfolding(crate::specs::Cmap::is_malformed))]
-pub(crate) fn has_fault(s: &[u8]) -> bool
-    ensures value { result ≡ is_malformed s.now }
-    ensures whole { IsTrue result ⊎ IsWhole s.now }
-{
-    if s.len() < 16 {
-        return true;
-    }
-    if be16(s, 0) == SEGMENTS {
-        return be16(s, 6) % 2 == 1 || s.len() < 16 + 8 * count_segments(s);
-    }
-    s.len() < 16 + 12 * count_groups(s)
 }

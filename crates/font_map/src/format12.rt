@@ -4,11 +4,13 @@
 ghost use Rattle.std.specs.Prelude.{◌≡◌, ◌+◌, ◌*◌, ◌<◌, ◌≤◌, ◌^◌, ◌↔◌, IsTrue, IfSome, MatchOption, drop, find, length, [], ◌∷◌};
 ghost use Rattle.font_map.specs.CharacterMap.{IsUnmapped, clipped};
 ghost use Rattle.font_map.specs.Format12.{Decides, HasGroups, HasOrderedGroups, glyph_along, glyph_of_group, group_count, group_glyph, group_in, groups_of, holds};
-ghost use Rattle.font_map.specs.Inside.{IsPlace, group_end, group_nth};
+ghost use Rattle.font_map.specs.Inside.{IsFirstReaching, group_end, group_nth};
 ghost use Rattle.font_map.specs.Runs.{IsNext, IsPiece, NoRun};
 
 use crate::runs::Run;
+use crate::search::{ANYWHERE, Ends, first_reaching};
 use sfnt_bytes::be32;
+use std::marker::Model;
 
 /// How many bytes stand before the groups.
 const HEADER: usize = 16;
@@ -71,8 +73,8 @@ pub(crate) fn group_at(s: &[u8], i: usize) -> ListedGroup
     read_group(s, i)
 }
 
-/// Whether each group has a code, and lies strictly above the one before it.
-pub(crate) fn has_ordered_groups(s: &[u8]) -> bool
+// Whether each group has a code, and lies strictly above the one before it.
+fn has_ordered_groups(s: &[u8]) -> bool
     requires { HasGroups s.now }
     ensures { IsTrue result ↔ HasOrderedGroups s.now }
 {
@@ -88,56 +90,15 @@ pub(crate) fn has_ordered_groups(s: &[u8]) -> bool
     true
 }
 
-// No hint where a group may stand.
-const ANYWHERE: usize = usize::MAX;
-
-// Returns the place of the first group that ends at the code or above it, by halves. Where that is the
-// place that the hint names or the one behind it, two groups are read.
-fn place_group(s: &[u8], hint: usize, code: u32) -> usize
+// Returns the first listed group that has the code. It stands at the place `i`, where groups stand in
+// order.
+fn group_of(s: &[u8], i: usize, code: u32) -> Option<ListedGroup>
     requires room { HasGroups s.now }
     requires order { HasOrderedGroups s.now }
-    ensures { IsPlace (group_end s.now) (group_count s.now) code result }
-{
-    let mut low = 0;
-    let mut high = count_groups(s);
-    let mut guess = hint;
-    let mut tries = if hint < high { 2u8 } else { 0 };
-    while low < high {
-        let middle = middle_of(low, high, guess, tries);
-        tries = tries.saturating_sub(1);
-        let group = group_at(s, middle);
-        if group.last < code {
-            low = middle + 1;
-            guess = low;
-        } else {
-            high = middle;
-            guess = high.saturating_sub(1);
-        }
-    }
-    low
-}
-
-// Returns the guess, as long as there are tries for it, and else the middle.
-fn middle_of(low: usize, high: usize, guess: usize, tries: u8) -> usize
-    requires { low < high }
-    ensures from { low ≤ result }
-    ensures to { result < high }
-{
-    if tries > 0 && low <= guess && guess < high {
-        guess
-    } else {
-        low + (high - low) / 2
-    }
-}
-
-// The first listed group that has the code, by halves.
-fn halve_groups(s: &[u8], code: u32) -> Option<ListedGroup>
-    requires room { HasGroups s.now }
-    requires order { HasOrderedGroups s.now }
+    requires place { IsFirstReaching (group_end s.now) (group_count s.now) code i }
     ensures value { result ≡ find (holds code) (groups_of s.now) }
     ensures begins { IfSome result (λ group. group.first ≤ code) }
 {
-    let i = place_group(s, ANYWHERE, code);
     if i >= count_groups(s) {
         return None;
     }
@@ -162,31 +123,6 @@ fn walk_groups(s: &[u8], code: u32) -> Option<ListedGroup>
         }
     }
     None
-}
-
-fn find_group(s: &[u8], ordered: bool, code: u32) -> Option<ListedGroup>
-    requires room { HasGroups s.now }
-    requires order { IsTrue ordered → HasOrderedGroups s.now }
-    ensures value { result ≡ find (holds code) (groups_of s.now) }
-    ensures begins { IfSome result (λ group. group.first ≤ code) }
-{
-    if ordered {
-        return halve_groups(s, code);
-    }
-    walk_groups(s, code)
-}
-
-/// The glyph of a code by the first listed group that has it, and 0 where none has it.
-#[tactic(auto, unfolding(crate::specs::Format12::group_glyph))]
-pub(crate) fn group_glyph(s: &[u8], ordered: bool, code: u32) -> u64
-    requires room { HasGroups s.now }
-    requires order { IsTrue ordered → HasOrderedGroups s.now }
-    ensures { result ≡ group_glyph s.now code }
-{
-    match find_group(s, ordered, code) {
-        Some(group) => group.glyph_along(code),
-        None => 0,
-    }
 }
 
 // The codes from one on that a group alone maps to one of the glyphs.
@@ -225,7 +161,7 @@ fn clip_group(group: ListedGroup, from: u32, glyphs: u16) -> Option<Run>
 fn reach_at(s: &[u8], i: usize, from: u32) -> (Option<ListedGroup>, u32)
     requires room { HasGroups s.now }
     requires order { HasOrderedGroups s.now }
-    requires place { IsPlace (group_end s.now) (group_count s.now) from i }
+    requires place { IsFirstReaching (group_end s.now) (group_count s.now) from i }
     requires low { from < 0x110000 }
     ensures order { from < result.1 }
     ensures small { result.1 ≤ 0x110000 }
@@ -263,20 +199,6 @@ fn walk_reach(s: &[u8], from: u32) -> (Option<ListedGroup>, u32)
     (None, stop)
 }
 
-fn reach(s: &[u8], ordered: bool, from: u32) -> (Option<ListedGroup>, u32)
-    requires room { HasGroups s.now }
-    requires order { IsTrue ordered → HasOrderedGroups s.now }
-    requires low { from < 0x110000 }
-    ensures order { from < result.1 }
-    ensures small { result.1 ≤ 0x110000 }
-    ensures found { Decides s.now from result.0 result.1 }
-{
-    if ordered {
-        return reach_at(s, place_group(s, ANYWHERE, from), from);
-    }
-    walk_reach(s, from)
-}
-
 // Returns what the group that decides the codes up to a stop maps of them, as a piece of the map.
 fn stretch_by_group(
     s: &[u8],
@@ -296,18 +218,157 @@ fn stretch_by_group(
     }
 }
 
-/// Returns the first piece of the map from a code on, where groups stand in order, and the place of the
-/// group that has it. Where that is the place that the hint names or one soon behind it, no group is
-/// searched for.
-pub(crate) fn piece_near(s: &[u8], glyphs: u16, hint: usize, from: u32) -> (Option<Run>, usize)
-    requires room { HasGroups s.now }
-    requires order { HasOrderedGroups s.now }
-    ensures { IsNext (clipped glyphs (group_glyph s.now)) from result.0 }
+/// All groups of a subtable.
+///
+/// They may stand in any order and overlap: they are searched by halves where they stand in order, and
+/// one by one elsewhere.
+#[derive(Drop)]
+pub(crate) struct ListedGroups<'a> {
+    bytes: &'a [u8],
+    ordered: bool,
+}
+
+// Its value is the bytes of the subtable.
+impl<'a> Model for ListedGroups<'a> {
+    ghost use Rattle.std.specs.Prelude.{ℕ, List, IsTrue};
+    ghost use Rattle.font_map.specs.Format12.{HasGroups, HasOrderedGroups};
+
+    ghost Value = { List ℕ };
+
+    ghost view = { λ g. g.bytes.now };
+
+    ghost invariant = { λ g. HasGroups g.bytes.now × (IsTrue g.ordered → HasOrderedGroups g.bytes.now) };
+}
+
+impl<'a> ListedGroups<'a> {
+    /// Returns the groups of a subtable, and finds out whether they stand in order.
+    pub(crate) fn of(s: &'a [u8]) -> ListedGroups<'a>
+        requires { HasGroups s.now }
+        ensures { result ≡ s.now }
+    {
+        let ordered = has_ordered_groups(s);
+        ListedGroups { bytes: s, ordered }
+    }
+
+    /// Returns the bytes of the subtable.
+    pub(crate) fn bytes(&self) -> &[u8]
+        ensures value { result.now ≡ self.now }
+        ensures sound { HasGroups self.now }
+    {
+        self.bytes
+    }
+
+    /// Returns whether the groups stand in order.
+    pub(crate) fn is_ordered(&self) -> bool {
+        self.ordered
+    }
+
+    // Returns the first listed group that has the code.
+    #[tactic(auto, using(crate::proofs::GroupLemmas::group_ascends))]
+    fn find(&self, code: u32) -> Option<ListedGroup>
+        ensures value { result ≡ find (holds code) (groups_of self.now) }
+        ensures begins { IfSome result (λ group. group.first ≤ code) }
+    {
+        if self.ordered {
+            return group_of(self.bytes, first_reaching(self, ANYWHERE, code), code);
+        }
+        walk_groups(self.bytes, code)
+    }
+
+    /// Returns the glyph of a code by the first listed group that has it, and 0 where none has it.
+    #[tactic(auto, unfolding(crate::specs::Format12::group_glyph))]
+    pub(crate) fn glyph(&self, code: u32) -> u64
+        ensures { result ≡ group_glyph self.now code }
+    {
+        match self.find(code) {
+            Some(group) => group.glyph_along(code),
+            None => 0,
+        }
+    }
+
+    // Returns the group that alone decides the codes from `from` on up to a stop, cut off there; and the
+    // stop.
+    #[tactic(auto, using(crate::proofs::GroupLemmas::group_ascends))]
+    fn reach(&self, from: u32) -> (Option<ListedGroup>, u32)
+        requires low { from < 0x110000 }
+        ensures order { from < result.1 }
+        ensures small { result.1 ≤ 0x110000 }
+        ensures found { Decides self.now from result.0 result.1 }
+    {
+        if self.ordered {
+            return reach_at(self.bytes, first_reaching(self, ANYWHERE, from), from);
+        }
+        walk_reach(self.bytes, from)
+    }
+
+    /// Returns a piece of the map from a code on, or none up to a stop; and the stop.
+    pub(crate) fn stretch(&self, glyphs: u16, from: u32) -> (Option<Run>, u32)
+        requires low { from < 0x110000 }
+        ensures order { from < result.1 }
+        ensures small { result.1 ≤ 0x110000 }
+        ensures found { MatchOption result.0
+            (IsUnmapped (clipped glyphs (group_glyph self.now)) from result.1)
+            (IsPiece (clipped glyphs (group_glyph self.now)) from) }
+    {
+        let (found, stop) = self.reach(from);
+        (
+            stretch_by_group(self.bytes, found, stop, glyphs, from),
+            stop,
+        )
+    }
+
+    /// Returns the first piece of the map from a code on and a hint where the next one may be, or `None`
+    /// where the groups stand out of order.
+    pub(crate) fn piece_by_hint(
+        &self,
+        glyphs: u16,
+        hint: usize,
+        from: u32,
+    ) -> Option<(Option<Run>, usize)>
+        ensures { IfSome result (λ found. IsNext (clipped glyphs (group_glyph self.now)) from found.0) }
+    {
+        if self.ordered {
+            return Some(piece_near(self, glyphs, hint, from));
+        }
+        None
+    }
+}
+
+impl<'a> Ends for ListedGroups<'a> {
+    ghost use Rattle.font_map.specs.Format12.{group_count};
+    ghost use Rattle.font_map.specs.Inside.{group_end};
+
+    ghost count_of = { group_count };
+
+    ghost end_of = { group_end };
+
+    fn count(&self) -> usize {
+        count_groups(self.bytes)
+    }
+
+    fn end_at(&self, i: usize) -> u32 {
+        group_at(self.bytes, i).last
+    }
+}
+
+// Returns the first piece of the map from a code on, where groups stand in order, and the place of the
+// group that has it. Where that is the place that the hint names or one soon behind it, no group is
+// searched for.
+#[tactic(auto, using(crate::proofs::GroupLemmas::group_ascends))]
+fn piece_near(
+    groups: &ListedGroups<'_>,
+    glyphs: u16,
+    hint: usize,
+    from: u32,
+) -> (Option<Run>, usize)
+    requires { HasOrderedGroups groups.now }
+    ensures { IsNext (clipped glyphs (group_glyph groups.now)) from result.0 }
 {
+    let s = groups.bytes();
     let mut at = from;
     let mut place = hint;
     while at < 0x110000 {
-        place = place_group(s, place, at);
+        place = first_reaching(groups, place, at);
         let (found, stop) = reach_at(s, place, at);
         if let Some(run) = stretch_by_group(s, found, stop, glyphs, at) {
             return (Some(run), place);
@@ -315,23 +376,4 @@ pub(crate) fn piece_near(s: &[u8], glyphs: u16, hint: usize, from: u32) -> (Opti
         at = stop;
     }
     (None, place)
-}
-
-/// A piece of the map from a code on, or none up to a stop; and the stop.
-pub(crate) fn stretch_of_groups(
-    s: &[u8],
-    ordered: bool,
-    glyphs: u16,
-    from: u32,
-) -> (Option<Run>, u32)
-    requires room { HasGroups s.now }
-    requires order { IsTrue ordered → HasOrderedGroups s.now }
-    requires low { from < 0x110000 }
-    ensures order { from < result.1 }
-    ensures small { result.1 ≤ 0x110000 }
-    ensures found { MatchOption result.0 (IsUnmapped (clipped glyphs (group_glyph s.now)) from result.1)
-        (IsPiece (clipped glyphs (group_glyph s.now)) from) }
-{
-    let (found, stop) = reach(s, ordered, from);
-    (stretch_by_group(s, found, stop, glyphs, from), stop)
 }

@@ -6,7 +6,7 @@ ghost use Rattle.font_map.specs.Format12.{HasGroups, group_count, group_glyph, g
 ghost use Rattle.font_map.specs.Format4.{HasSegments, segment_glyph};
 ghost use Rattle.font_map.specs.Mapping.{mapping_of};
 ghost use Rattle.font_map.specs.Runs.{IsPiece, NoRun};
-ghost use Rattle.font_map.specs.Inside.{AreTaken, IsFirstFree, IsLaid, IsSkip};
+ghost use Rattle.font_map.specs.Inside.{NoneFree, IsFirstFree, IsLaid, IsSkip};
 
 use crate::format4::{glyph_at, walk_place};
 use crate::format12::{count_groups, group_at};
@@ -50,7 +50,7 @@ fn pass_taken(glyphs: &[u16], skip: &mut [u32], at: u32, stop: u32) -> u32
     ensures skips { IsSkip glyphs.now skip.new }
     ensures above { at < result }
     ensures small { result ≤ 0x110000 }
-    ensures taken { AreTaken glyphs.now at result }
+    ensures taken { NoneFree glyphs.now at result }
 {
     let block = at / BLOCK;
     if skip[block as usize] == 0 {
@@ -172,11 +172,7 @@ fn code_from(glyphs: &[u16], from: u32) -> Option<Run>
     for code in from..0x110000 {
         let glyph = glyphs[code as usize];
         if glyph != 0 {
-            return Some(Run {
-                first: code,
-                last: code,
-                glyph,
-            });
+            return Some(Run::of_code(code, glyph));
         }
     }
     None

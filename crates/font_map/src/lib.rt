@@ -12,6 +12,8 @@ mod laws;
 mod mapping;
 mod ranges;
 mod runs;
+mod search;
+mod subtable;
 mod text;
 mod wanted;
 mod within;

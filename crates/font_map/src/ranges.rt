@@ -1,8 +1,9 @@
 //! Sorted ranges of codes, that neither overlap nor touch.
 ghost use Rattle.std.specs.Prelude.{◌≡◌, ◌+◌, ◌≤◌, ◌++◌, ◌∷◌, length, take, drop, MatchOption, OnErr, OnOk};
-ghost use Rattle.font_map.specs.Inside.{IsPlace, IsRow, NoRow, absorbed, range_end, with_range};
+ghost use Rattle.font_map.specs.Inside.{IsFirstReaching, IsRow, NoRow, absorbed, range_end, with_range};
 ghost use Rattle.font_map.specs.Wanted.{AreSeparate, member};
 
+use crate::search::{ANYWHERE, Ends, first_reaching};
 use sfnt_bytes::NoMemory;
 use std::alloc::Allocator;
 
@@ -15,22 +16,36 @@ pub struct Range {
     pub last: u32,
 }
 
-// The first range that ends at the code or above it, by halves.
+/// The ends of ranges.
+#[derive(Drop)]
+struct RangeEnds<'a> {
+    ranges: &'a [Range],
+}
+
+impl<'a> Ends for RangeEnds<'a> {
+    ghost use Rattle.std.specs.Prelude.{length};
+    ghost use Rattle.font_map.specs.Inside.{range_end};
+
+    ghost count_of = { λ e. length e.ranges.now };
+
+    ghost end_of = { λ e. range_end e.ranges.now };
+
+    fn count(&self) -> usize {
+        self.ranges.len()
+    }
+
+    fn end_at(&self, i: usize) -> u32 {
+        self.ranges[i].last
+    }
+}
+
+// Returns the place of the first range that ends at the code or above it.
+#[tactic(auto, using(crate::proofs::RangeLemmas::ranges_ascend))]
 fn place_range(ranges: &[Range], code: u32) -> usize
     requires { AreSeparate 0 ranges.now }
-    ensures { IsPlace (range_end ranges.now) (length ranges.now) code result }
+    ensures { IsFirstReaching (range_end ranges.now) (length ranges.now) code result }
 {
-    let mut low = 0;
-    let mut high = ranges.len();
-    while low < high {
-        let middle = low + (high - low) / 2;
-        if ranges[middle].last < code {
-            low = middle + 1;
-        } else {
-            high = middle;
-        }
-    }
-    low
+    first_reaching(&RangeEnds { ranges }, ANYWHERE, code)
 }
 
 /// Whether a code is in one of the ranges.

@@ -15,6 +15,19 @@ pub struct Run {
     pub glyph: u16,
 }
 
+impl Run {
+    /// Returns the run of one code.
+    pub(crate) fn of_code(code: u32, glyph: u16) -> Run
+        ensures { result ≡ record { first = code; last = code; glyph = glyph } }
+    {
+        Run {
+            first: code,
+            last: code,
+            glyph,
+        }
+    }
+}
+
 /// A character map that is walked by pieces of its runs.
 pub trait Pieces {
     /// The map: 0 is "not mapped".

@@ -64,7 +64,12 @@ fn maps_of_groups(rt: HostRuntime) -> Result<(), Fail> {
         let is_stated = has_map(rt.alloc(), &cmap, glyphs, CHOSEN, count, &[]);
         assert!(rt; is_stated, "{groups:?}");
     }
-    // the first listed group that holds a code decides, though it gives no glyph
+    Ok(())
+}
+
+// The first listed group that holds a code decides, though it gives no glyph.
+#[test]
+fn first_listed_group_decides(rt: HostRuntime) -> Result<(), Fail> {
     let cmap = cmap12(rt.alloc(), &[[0x43, 0x44, 90], [0x41, 0x46, 1]])?;
     let (low, high) = (
         [(0x41, 1), (0x42, 2), (0x43, 0)],

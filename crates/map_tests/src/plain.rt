@@ -137,10 +137,22 @@ impl Plain<'_> {
     }
 }
 
-// Whether a glyph is the one behind the last of a run.
-fn goes_on(run: Run, code: u32, glyph: u16) -> bool {
+/// Whether a glyph is the one behind the last of a run.
+pub fn goes_on(run: Run, code: u32, glyph: u16) -> bool {
     let along = code.wrapping_sub(run.first);
     glyph != 0 && u32::from(glyph) == u32::from(run.glyph).wrapping_add(along)
+}
+
+/// Returns the run of one code, or `None` where the code has no glyph.
+pub fn run_of_code(code: u32, glyph: u16) -> Option<Run> {
+    if glyph == 0 {
+        return None;
+    }
+    Some(Run {
+        first: code,
+        last: code,
+        glyph,
+    })
 }
 
 // Whether the first run from a code on is this one, by the mapping and by its chart.
@@ -162,15 +174,7 @@ fn has_same_map(mapping: &Mapping<'_>, chart: &Chart<'_>, plain: &Plain<'_>, gly
         if glyph != 0 {
             count = count.wrapping_add(1);
         }
-        let mut next = if glyph == 0 {
-            None
-        } else {
-            Some(Run {
-                first: code,
-                last: code,
-                glyph,
-            })
-        };
+        let mut next = run_of_code(code, glyph);
         if let Some(run) = last {
             if goes_on(run, code, glyph) {
                 next = Some(Run { last: code, ..run });

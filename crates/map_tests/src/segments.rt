@@ -189,6 +189,11 @@ fn overlapping_and_unordered_segments(rt: HostRuntime) -> Result<(), Fail> {
             "{listed:?}"
         );
     }
+    Ok(())
+}
+
+#[test]
+fn run_of_unordered_segments(rt: HostRuntime) -> Result<(), Fail> {
     let cmap = by_deltas(rt.alloc(), &[(0x50, 0x60, 1), (0x41, 0x42, 1)])?;
     assert!(rt; is_next_run(&cmap, 40, 0, Some((0x50, 0x60, 1))));
     Ok(())

@@ -1,5 +1,6 @@
 //! Wanted sets, and the groups that spell a mapping on one.
 use crate::cmaps::{Segment, base6_cmap, chance, cmap_of, format4, format12};
+use crate::plain::{goes_on, run_of_code};
 use fakes::Refusing;
 use font_map::{Chart, Group, Groups, Mapping, Run, Wanted, WantedError, WordError, read_word};
 use sfnt_bytes::NoMemory;
@@ -29,7 +30,7 @@ fn put_codes(codes: &mut [bool], first: u32, last: u32) {
 }
 
 #[test]
-fn ranges_and_words(rt: HostRuntime) -> Result<(), Fail> {
+fn bad_ranges_leave_the_set(rt: HostRuntime) -> Result<(), Fail> {
     let mut wanted = Wanted::new(rt.alloc());
     assert_eq!(rt; wanted.add(0x42, 0x41), Err(WantedError::BadRange));
     assert_eq!(rt; wanted.add(0, 0x11_0000), Err(WantedError::BadRange));
@@ -46,7 +47,11 @@ fn ranges_and_words(rt: HostRuntime) -> Result<(), Fail> {
     let all = Wanted::all(rt.alloc())?;
     assert!(rt; all.contains(0) && all.contains(0xFFFF) && all.contains(0x10_FFFF));
     assert!(rt; !all.contains(0x11_0000) && !all.contains(u32::MAX));
+    Ok(())
+}
 
+#[test]
+fn words_of_ranges(rt: HostRuntime) {
     for (word, range) in [
         ("all", (0, 0x10_FFFF)),
         ("U+0-10FFFF", (0, 0x10_FFFF)),
@@ -69,7 +74,6 @@ fn ranges_and_words(rt: HostRuntime) -> Result<(), Fail> {
     ] {
         assert_eq!(rt; read_word(word), Err(WordError::BadRange), "{word}");
     }
-    Ok(())
 }
 
 #[test]
@@ -94,6 +98,16 @@ fn no_words(rt: HostRuntime) {
         "U+41-U+42",
         "U+41-42-43",
         "U+41--42",
+        "U+41-all",
+        "all-41",
+    ] {
+        assert_eq!(rt; read_word(word), Err(WordError::BadWord), "{word}");
+    }
+}
+
+#[test]
+fn no_digits(rt: HostRuntime) {
+    for word in [
         "U+0000041",
         "U+41-0000042",
         "U+0000041-42",
@@ -109,8 +123,6 @@ fn no_words(rt: HostRuntime) {
         "U+٤١",
         "U+41\u{2212}42",
         "U+é",
-        "U+41-all",
-        "all-41",
     ] {
         assert_eq!(rt; read_word(word), Err(WordError::BadWord), "{word}");
     }
@@ -257,8 +269,7 @@ fn are_plain_groups<A: Allocator>(
             0
         };
         if let Some(group) = last {
-            let along = code.wrapping_sub(group.first);
-            if glyph != 0 && u32::from(glyph) == u32::from(group.glyph).wrapping_add(along) {
+            if goes_on(group, code, glyph) {
                 last = Some(Group {
                     last: code,
                     ..group
@@ -271,15 +282,8 @@ fn are_plain_groups<A: Allocator>(
                 return false;
             }
             from = code;
-            last = None;
         }
-        if glyph != 0 {
-            last = Some(Group {
-                first: code,
-                last: code,
-                glyph,
-            });
-        }
+        last = run_of_code(code, glyph);
     }
     mapping.wanted_run(wanted, from) == last
         && chart.wanted_run(wanted, from) == last

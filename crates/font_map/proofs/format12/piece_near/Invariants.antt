@@ -7,7 +7,7 @@ abbrev pub invariant-loop-at : goal.invariant-loop-at
 invariant-loop-at l =
     record {
       on : l.from ≤ l.at;
-      none : IsUnmapped (clipped l.glyphs (group_glyph l.s)) l.from l.at;
+      none : IsUnmapped (clipped l.glyphs (group_glyph l.groups)) l.from l.at;
     }
 
 abbrev pub decreases-loop-at : goal.decreases-loop-at

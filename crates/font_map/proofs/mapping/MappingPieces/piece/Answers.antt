@@ -2,4 +2,4 @@ use Rattle.font_map.proofs.MappingLemmas.{piece_of_chosen}
 use Rattle.font_map.proofs.mapping.MappingPieces.piece.Goals as goal
 
 pub returns : goal.returns
-returns c = piece_of_chosen _ _ _ _ _ _ _ c.self.invariant.record_is c.self.invariant.subtable c.self.view_is c.piece_in.ensures
+returns c = piece_of_chosen _ _ _ _ _ _ _ c.self.invariant c.self.view_is c.piece.ensures
