@@ -1,5 +1,5 @@
 -- A file that is added to a union of files in cut form.
-use Rattle.std.proofs.Common.{◌≡◌, ℕ, zero, suc, ◌+◌, ◌-◌, ◌≤◌, ◌<◌, Bool, true, false, not, List, [], ◌∷◌, find, length, MatchOption, Option, None, Some, refl, sym, ap, ◌∙◌, subst, inl, inr, arith}
+use Rattle.std.proofs.Common.{◌≡◌, ℕ, zero, suc, ◌+◌, ◌-◌, ◌≤◌, ◌<◌, Bool, true, false, not, List, [], ◌∷◌, find, length, MatchOption, Option, None, Some, refl, sym, ap, ◌∙◌, subst, inl, arith}
 use Rattle.std.specs.List.{range_with_len}
 use Rattle.std.specs.Option.{option_map}
 use Rattle.std.proofs.Math.Path.{fun_ext}
@@ -12,26 +12,26 @@ use Rattle.font_map.specs.declared.runs.Run.{Run}
 use Rattle.font_glyph.specs.Union.{Records, union_of}
 use Rattle.font_file.specs.Font.{font_fault}
 use Rattle.font_theory.specs.Content.{Content, IsClosedContent, content, everything, font_of, glyph_count}
-use Rattle.font_theory.specs.Cut.{CanJoin, IsCut, is_cut, joined, our_format}
+use Rattle.font_theory.specs.Cut.{CanJoin, IsCurrent, IsCut, is_cut, joined, our_format}
 use Rattle.font_theory.specs.Difference.{are_different, difference, is_different_glyph}
 use Rattle.font_theory.specs.File.{file, current_form}
 use Rattle.font_theory.specs.Join.{Agree, both}
 use Rattle.font_theory.specs.declared.Difference.{Difference}
 use Rattle.font_theory.specs.declared.Difference.TheVariants.{AtGlyph}
-use Rattle.font_theory.proofs.CutLemmas.{CanJoin-self, IsClosed-whole, IsCut-joined, is_cut-of, is_cut-tells, whole-joined}
+use Rattle.font_theory.proofs.CutLemmas.{CanJoin-self, IsClosed-whole, IsCurrent-joined, IsCurrent-written, IsCut-current, is_cut-of, is_cut-tells, whole-joined, whole-written}
 use Rattle.font_theory.proofs.DifferenceLemmas.{Agree-from_none}
-use Rattle.font_theory.proofs.FontLemmas.{glyph_count-file, size-accepted}
+use Rattle.font_theory.proofs.FontLemmas.{glyph_count-file}
 use Rattle.font_theory.proofs.FormatLemmas.{our_format-most}
 use Rattle.font_theory.proofs.JoinLemmas.{IsClosed-both, both-self}
 use Rattle.font_theory.proofs.OurFormatLemmas.{our_format-is}
 use Rattle.font_cut.specs.Cut.{IsWritten}
 use Rattle.font_cut.specs.JoinList.{IsAllJoined, IsRefusedAt, Stands}
-use Rattle.font_cut.specs.Inside.{AgreesEarly, AreTaken, HoldsFile, IsAddRefusal, IsFirstRefusal, IsUnited, add_fault, early_difference}
+use Rattle.font_cut.specs.Inside.{AgreesEarly, AreTaken, HoldsFile, IsAddRefusal, IsFirstRefusal, IsTooLargeUnion, IsUnited, add_fault, early_difference}
 use Rattle.font_theory.specs.Tree.{file_at}
 use Rattle.font_cut.proofs.JoinListLemmas.{stands_more}
 use Rattle.font_theory.proofs.RefusalLemmas.{tested-CanJoin}
 use Rattle.font_cut.specs.Join.{IsJoin, IsJoinRefusal, IsUnionRefusal, different, union_fault}
-use Rattle.font_cut.specs.Union.{AreMapRuns, AreRunsOf, Held, IsUnion, content_in, is_other, listed_outline}
+use Rattle.font_cut.specs.Union.{AreRunsOf, Held, IsUnion, TwoLists, content_in, is_other, listed_outline, map_in}
 use Rattle.font_cut.proofs.FirstLemmas.{first_none}
 use Rattle.font_cut.proofs.OutlineListLemmas.{taken_whole}
 use Rattle.font_cut.specs.declared.join_error.JoinError.{JoinError}
@@ -128,7 +128,7 @@ module _ (u : Held) (y : List ℕ) (ok : IsUnion u) (accepted : font_fault y ≡
   pub form_added : IsCut our_format y
   form_added = is_cut-tells our_format our_format-is y (our_format-fault y ∙ accepted) (unrefused (content_in u) y none).0
 
-  agree_added : Agree (content_in u) (content (font_of y) everything)
+  pub agree_added : Agree (content_in u) (content (font_of y) everything)
   agree_added = Agree-from_none (content_in u) (content (font_of y) everything) ok.closed (closed_cut y form_added) (unrefused (content_in u) y none).1
 
   count_added : glyph_count_of u.tables ≡ glyph_count (font_of y).copied
@@ -138,45 +138,45 @@ module _ (u : Held) (y : List ℕ) (ok : IsUnion u) (accepted : font_fault y ≡
       → (g : ℕ) → listed_outline outlines g ≡ union_of (listed_outline u.outlines) (content (font_of y) everything).outline g
   taken_added outlines n e are = taken_whole u.outlines outlines y n form_added (e ∙ count_added) (ok.count ∙ sym e) are
 
-  module _ (runs : List Run) (outlines : List (Option (List ℕ))) (spells : spelled runs ≡ united (spelled u.runs) (content (font_of y) everything).map)
+  module _ (runs : TwoLists) (outlines : List (Option (List ℕ))) (spells : map_in runs ≡ united (map_in u.runs) (content (font_of y) everything).map)
       (taken : (g : ℕ) → listed_outline outlines g ≡ union_of (listed_outline u.outlines) (content (font_of y) everything).outline g) where
     pub content_added : content_in (record { tables = u.tables; runs = runs; outlines = outlines }) ≡ both (content_in u) (content (font_of y) everything)
     content_added = λ i. record { copied = (font_of u.tables).copied; head = (font_of u.tables).head; map = spells i; outline = fun_ext taken i }
 
-    pub union_added : AreMapRuns runs → length outlines ≡ length u.outlines → IsUnion (record { tables = u.tables; runs = runs; outlines = outlines })
-    union_added are count =
+    pub union_added : length outlines ≡ length u.outlines → IsUnion (record { tables = u.tables; runs = runs; outlines = outlines })
+    union_added count =
         record {
           accepted = ok.accepted;
           count = count ∙ ok.count;
           closed = subst IsClosedContent (sym content_added) (IsClosed-both _ _ ok.closed (closed_cut y form_added) agree_added);
-          runs = are;
         }
 
 -- a first file
-module _ (x : List ℕ) (form : IsCut our_format x) (runs : List Run) (outlines : List (Option (List ℕ))) (spells : spelled runs ≡ (content (font_of x) everything).map)
+module _ (x : List ℕ) (form : IsCut our_format x) (runs : TwoLists) (outlines : List (Option (List ℕ))) (spells : map_in runs ≡ (content (font_of x) everything).map)
     (taken : (g : ℕ) → listed_outline outlines g ≡ (content (font_of x) everything).outline g) where
   pub content_first : content_in (record { tables = x; runs = runs; outlines = outlines }) ≡ content (font_of x) everything
   content_first = λ i. record { copied = (font_of x).copied; head = (font_of x).head; map = spells i; outline = fun_ext taken i }
 
-  pub union_first : AreMapRuns runs → length outlines ≡ glyph_count_of x → IsUnion (record { tables = x; runs = runs; outlines = outlines })
-  union_first are count =
+  pub union_first : length outlines ≡ glyph_count_of x → IsUnion (record { tables = x; runs = runs; outlines = outlines })
+  union_first count =
       record {
         accepted = sym (our_format-fault x) ∙ form.accepted;
         count = count;
         closed = subst IsClosedContent (sym content_first) (closed_cut x form);
-        runs = are;
       }
 
--- the file in cut form whose content a union has
-pub holds_first : (u : Held) (x : List ℕ) → content_in u ≡ content (font_of x) everything → IsCut our_format x → HoldsFile u x
-unfolding our_format
-holds_first u x e form =
+-- unions of one content hold the same files
+pub holds_same : (u v : Held) (x : List ℕ) → content_in v ≡ content_in u → HoldsFile u x → HoldsFile v x
+holds_same u v x e h =
     record {
-      form = form;
-      whole = e;
-      written = elim form.written [ inl h ↦ sym h ∙ ap (file current_form) (sym e) | inr h ↦ sym h ∙ ap (file current_form) (sym e) ];
-      small = size-accepted x form.accepted;
+      form = h.form;
+      whole = e ∙ h.whole;
+      written = h.written ∙ ap (file current_form) (sym e);
+      small = h.small;
     }
+
+pub united_same : (files : List (List ℕ)) (u v : Held) → content_in v ≡ content_in u → IsUnited files u → IsUnited files v
+united_same files u v e h = record { some = h.some; last = h.last; stands = h.stands; holds = holds_same u v h.last e h.holds }
 
 pub refused_first : (x : List ℕ) (error : JoinError) → font_fault x ≡ None → IsFirstRefusal x error → IsJoinRefusal x x error
 refused_first x NoMemory a r = (a, a)
@@ -220,7 +220,7 @@ module _ (u : Held) (x y : List ℕ) (holds : HoldsFile u x) (accepted : font_fa
 
   -- the refusals are those of the two files
   same_fault : union_fault x y ≡ add_fault (content_in u) y
-  same_fault = fault_of_two (content_in u) x y holds.whole holds.form
+  same_fault = fault_of_two (content_in u) x y holds.whole (IsCut-current our_format x holds.form)
 
   pub refused_next : (error : JoinError) → IsAddRefusal (content_in u) y error → IsJoinRefusal x y error
   refused_next error r = union_refused x y first_accepted accepted error (refused_two (content_in u) x y error same_fault r)
@@ -232,8 +232,10 @@ module _ (u : Held) (x y : List ℕ) (holds : HoldsFile u x) (accepted : font_fa
     same_file : file current_form (content_in v) ≡ file current_form (both (content (font_of x) everything) (content (font_of y) everything))
     same_file = ap (file current_form) is ∙ ap (λ (K : Content). file current_form (both K (content (font_of y) everything))) holds.whole
 
-    pub too_large_next : (s : ℕ) → s ≡ length (file current_form (content_in v)) → MAX_FILE < s → IsJoinRefusal x y (TooLarge s)
-    too_large_next s e big = is_too_large x y first_accepted accepted no_fault s (e ∙ ap length same_file, big)
+    pub too_large_next : (error : JoinError) → IsTooLargeUnion v error → IsJoinRefusal x y error
+    too_large_next error large =
+        subst (IsJoinRefusal x y) (sym large.0)
+        (is_too_large x y first_accepted accepted no_fault (length (file current_form (content_in v))) (ap length same_file, large.1))
 
     whole_next : (can : CanJoin our_format x y) → length (joined our_format x y) ≤ our_format.most → content (font_of (joined our_format x y)) everything ≡ both (content (font_of x) everything) (content (font_of y) everything)
     unfolding our_format
@@ -248,7 +250,7 @@ module _ (u : Held) (x y : List ℕ) (holds : HoldsFile u x) (accepted : font_fa
           z,
           join,
           record {
-            form = subst (IsCut our_format) (sym join.is) (IsCut-joined our_format our_format-is x y can few);
+            form = subst (IsCurrent our_format) (sym join.is) (IsCurrent-joined our_format our_format-is x y can few);
             whole =
                 is ∙ ap (λ (K : Content). both K (content (font_of y) everything)) holds.whole ∙ sym (whole_next can few)
                 ∙ ap (λ (b : List ℕ). content (font_of b) everything) (sym join.is);
@@ -257,24 +259,48 @@ module _ (u : Held) (x y : List ℕ) (holds : HoldsFile u x) (accepted : font_fa
           },
         )
 
--- a file joined with itself is itself
+-- nothing but its size refuses a file in cut form that is joined with itself
 unfault_self : (x : List ℕ) → IsCut our_format x → union_fault x x ≡ None
 unfolding union_fault
 unfault_self x form =
     let w = tested-CanJoin our_format our_format-is x x form.accepted form.accepted (CanJoin-self our_format x form) in
     λ i. first_of_lines (when (not (w.0 i)) (NotACut First) ∷ when (not (w.1 i)) (NotACut Second) ∷ option_map different (w.2 i) ∷ [])
 
-pub join_self : (u : Held) (x : List ℕ) → HoldsFile u x → IsJoin x x x
-join_self u x holds =
-    let accepted : font_fault x ≡ None = sym (our_format-fault x) ∙ holds.form.accepted in
-    let K : Content = content (font_of x) everything in
-    is_join x x accepted accepted (unfault_self x holds.form) x
-    (record { is = holds.written ∙ ap (file current_form) (holds.whole ∙ sym (both-self K)); small = holds.small })
+-- a union that is no larger than a file may be holds its file
+holds_file : (u : Held) → IsClosedContent (content_in u) → length (file current_form (content_in u)) ≤ MAX_FILE → HoldsFile u (file current_form (content_in u))
+unfolding our_format
+holds_file u closed small =
+    record {
+      form = IsCurrent-written our_format our_format-is (content_in u) (file current_form (content_in u)) closed refl small;
+      whole = sym (whole-written our_format our_format-is (content_in u) (file current_form (content_in u)) closed (inl refl) small);
+      written = refl;
+      small = small;
+    }
+
+-- a union that has the content of a first file in cut form holds that file written anew, where that is not too large
+module _ (u : Held) (x : List ℕ) (is : content_in u ≡ content (font_of x) everything) (form : IsCut our_format x) where
+  self_accepted : font_fault x ≡ None
+  self_accepted = sym (our_format-fault x) ∙ form.accepted
+
+  self_file : file current_form (content_in u) ≡ file current_form (both (content (font_of x) everything) (content (font_of x) everything))
+  self_file = ap (file current_form) (is ∙ sym (both-self (content (font_of x) everything)))
+
+  pub too_large_first : (error : JoinError) → IsTooLargeUnion u error → IsJoinRefusal x x error
+  too_large_first error large =
+      subst (IsJoinRefusal x x) (sym large.0)
+      (is_too_large x x self_accepted self_accepted (unfault_self x form) (length (file current_form (content_in u))) (ap length self_file, large.1))
+
+  pub joined_first : length (file current_form (content_in u)) ≤ MAX_FILE → (z : List ℕ) × IsJoin x x z × HoldsFile u z
+  joined_first small =
+      let z = file current_form (content_in u) in
+      let join = is_join x x self_accepted self_accepted (unfault_self x form) z (record { is = self_file; small = small }) in
+      let closed : IsClosedContent (content_in u) = subst IsClosedContent (sym is) (closed_cut x form) in
+      (z, join, holds_file u closed small)
 
 module _ (files : List (List ℕ)) where
-  -- the first file stands
-  pub stands_first : (u : Held) (x : List ℕ) → x ≡ file_at files 0 → HoldsFile u x → (v : List ℕ) × Stands files 1 v × HoldsFile u v
-  stands_first u x e holds = (x, (x, e, subst (λ (y : List ℕ). IsJoin x y x) e (join_self u x holds)), holds)
+  -- the first file stands, joined with itself
+  pub stands_first : (u : Held) (x : List ℕ) → x ≡ file_at files 0 → ((z : List ℕ) × IsJoin x x z × HoldsFile u z) → (v : List ℕ) × Stands files 1 v × HoldsFile u v
+  stands_first u x e j = (j.0, (x, e, subst (λ (y : List ℕ). IsJoin x y j.0) e j.1), j.2)
 
   pub refused_at_first : (x : List ℕ) (error : JoinError) → 0 < length files → x ≡ file_at files 0 → IsJoinRefusal x x error → IsRefusedAt files 0 error
   refused_at_first x error some e r = record { before = x; stands = e; below = some; refused = subst (λ (y : List ℕ). IsJoinRefusal x y error) e r }

@@ -87,22 +87,41 @@ module _ (K L : Content) where
           let y = pb.along c (omega arith) (omega arith) in
           mapped_alike c (omega arith))
 
+  -- a run is the first one from its own first code on, and what is before it is not mapped by both
+  pub at_run : (from : ℕ) (b : Run) → IsRun L.map from b → left from → left b.first × IsRun L.map b.first b
+  at_run from b rb s = (
+    let x = rb.piece.order in let y = rb.piece.within in let e = codes_are in
+        s ∙ first_skip (is_different_code K L) CODES from b.first rb.piece.from_on (omega (arith, e, x, y)) (λ c h low. unmapped_right c (rb.piece.least c h low)),
+    record {
+      piece = record {
+        from_on = omega arith;
+        least = λ c x y. absurd (omega (arith, x, y));
+        order = rb.piece.order;
+        within = rb.piece.within;
+        mapped = rb.piece.mapped;
+        small = rb.piece.small;
+        along = rb.piece.along;
+      };
+      longest = rb.longest;
+    },
+  )
+
   -- the same, as the loop has it
-  module _ (from : ℕ) (a b : Run) (ra : IsRun K.map from a) (rb : IsRun L.map from b) (j k : ℕ) (em : j ≡ max a.first b.first) (en : k ≡ min a.last b.last) where
+  module _ (from : ℕ) (a b : Run) (pa : IsPiece K.map from a) (rb : IsRun L.map from b) (j k : ℕ) (em : j ≡ max a.first b.first) (en : k ≡ min a.last b.last) where
     begins : (j ≡ a.first) ⊎ (j ≡ b.first)
     begins = elim (cases_lt a.first b.first) [ inl low ↦ inr (omega (arith, em, low)) | inr high ↦ inl (omega (arith, em, high)) ]
 
     pub run_found : j ≤ k → a.glyph + (j - a.first) ≢ b.glyph + (j - b.first) → left from → Some j ≡ find (is_different_code K L) (range_with_len 0 CODES)
-    run_found h n s = sym (s ∙ found from a b ra.piece rb.piece j (omega (arith, em)) (omega (arith, em)) begins (omega (arith, h, en)) (omega (arith, h, en)) n)
+    run_found h n s = sym (s ∙ found from a b pa rb.piece j (omega (arith, em)) (omega (arith, em)) begins (omega (arith, h, en)) (omega (arith, h, en)) n)
 
     pub run_apart : left from → (j ≤ 1114112) × left j
     run_apart s = (
-      let x = ra.piece.within in let y = rb.piece.within in let u = ra.piece.order in let v = rb.piece.order in omega (arith, em),
-      s ∙ to_both from a b ra.piece rb.piece j (omega (arith, em)) (omega (arith, em)) begins,
+      let x = pa.within in let y = rb.piece.within in let u = pa.order in let v = rb.piece.order in omega (arith, em),
+      s ∙ to_both from a b pa rb.piece j (omega (arith, em)) (omega (arith, em)) begins,
     )
 
     pub run_along : j ≤ k → a.glyph + (j - a.first) ≡ b.glyph + (j - b.first) → left from → (k + 1 ≤ 1114112) × left (k + 1)
     run_along h e s = (
-      let x = ra.piece.within in omega (arith, en),
-      s ∙ along_both from a b ra.piece rb.piece j (omega (arith, em)) (omega (arith, em)) begins (omega (arith, h, en)) (omega (arith, h, en)) k h (omega (arith, en)) (omega (arith, en)) e,
+      let x = pa.within in omega (arith, en),
+      s ∙ along_both from a b pa rb.piece j (omega (arith, em)) (omega (arith, em)) begins (omega (arith, h, en)) (omega (arith, h, en)) k h (omega (arith, en)) (omega (arith, en)) e,
     )

@@ -7,7 +7,7 @@ use Rattle.sfnt_bytes.specs.declared.directory.TheConstants.{MAX_FILE}
 use Rattle.font_file.specs.Font.{font_fault}
 use Rattle.font_file.specs.declared.font_error.FontError.{FontError}
 use Rattle.font_theory.specs.Content.{content, everything, font_of}
-use Rattle.font_theory.specs.Cut.{CanJoin, Under, either, is_cut, joined, our_format, whole}
+use Rattle.font_theory.specs.Cut.{CanJoin, IsCut, Under, either, is_cut, joined, our_format, renewed, whole}
 use Rattle.font_theory.specs.Difference.{difference}
 use Rattle.font_theory.specs.File.{file, current_form}
 use Rattle.font_theory.specs.Join.{both}
@@ -216,7 +216,15 @@ module _ (F : List ℕ) (A B : ℕ → Bool) (x y : List ℕ) (accepted : font_f
   pub cuts_refused : (error : JoinError) → IsJoinRefusal x y error → IsForSize (length (cut_of F (either A B))) error
   cuts_refused error r = subst (λ (b : List ℕ). IsForSize (length b) error) is_union (only_size x y can_join_cuts error r)
 
--- a file and itself
+-- a file in cut form and itself, which is written anew
+module _ (x : List ℕ) (form : IsCut our_format x) where
+  pub renewed_joined : (z : List ℕ) → IsJoin x x z → z ≡ renewed our_format x
+  renewed_joined z ok = ok.is ∙ joined-self our_format x
+
+  pub renewed_refused : (error : JoinError) → IsJoinRefusal x x error → IsForSize (length (renewed our_format x)) error
+  renewed_refused error r = subst (λ (b : List ℕ). IsForSize (length b) error) (joined-self our_format x) (only_size x x (CanJoin-self our_format x form) error r)
+
+-- a current file and itself
 module _ (x : List ℕ) (accepted : font_fault x ≡ None) (form : cut_of x everything ≡ x) where
   same_join : joined our_format x x ≡ x
   same_join = joined-self our_format x ∙ form

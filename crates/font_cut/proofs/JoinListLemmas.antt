@@ -3,10 +3,10 @@ use Rattle.std.proofs.Common.{◌≡◌, ℕ, zero, suc, ◌+◌, ◌<◌, ◌�
 use Rattle.std.proofs.lemmas.List.{get_or-map}
 use Rattle.sfnt_bytes.specs.declared.directory.TheConstants.{MAX_FILE}
 use Rattle.font_file.specs.Font.{font_fault}
-use Rattle.font_theory.specs.Cut.{IsCut, our_format, whole}
+use Rattle.font_theory.specs.Cut.{IsCurrent, IsCut, our_format, renewed}
 use Rattle.font_theory.specs.Tree.{Differs, IsOver, IsSmall, JoinTree, Value, cuts, file_at, grown, union_below}
 use Rattle.font_theory.proofs.FontLemmas.{size-accepted}
-use Rattle.font_theory.proofs.FormatLemmas.{our_format-most, our_format-old}
+use Rattle.font_theory.proofs.FormatLemmas.{our_format-most}
 use Rattle.font_theory.proofs.GrownLemmas.{Differs-grown, Value-grown, Value-grown_cuts, Value-grown_same, grown-cuts, grown-joins}
 use Rattle.font_theory.proofs.OurFormatLemmas.{our_format-is}
 use Rattle.font_theory.proofs.CutLemmas.{IsCut-current}
@@ -68,14 +68,15 @@ module _ (files : List (List ℕ)) where
 
   -- each tree over the files that meets no size has a value whose file is the answer
   pub value_of_tree : (z : List ℕ) → IsAllJoined files z → (t : JoinTree (List ℕ)) → IsOver files t → IsSmall our_format t
-      → (v : List ℕ) × Value our_format t v × (our_format.file (whole our_format v) ≡ z)
+      → (v : List ℕ) × Value our_format t v × (renewed our_format v ≡ z)
   value_of_tree z all t over few =
       let q = Value-grown our_format our_format-is files all.some z (Value-stands (length files) z all.stands) (to_most z (small_joined z all)) t over few in
       (q.0, q.1, q.3)
 
-  pub same_of_tree : (z : List ℕ) → IsAllJoined files z → (t : JoinTree (List ℕ)) → IsOver files t → IsSmall our_format t → Value our_format t z
-  same_of_tree z all t over few =
-      Value-grown_same our_format our_format-is files all.some z (Value-stands (length files) z all.stands) (to_most z (small_joined z all)) our_format-old t over few
+  -- over current files it is the answer itself
+  pub same_of_tree : (z : List ℕ) → IsAllJoined files z → ((k : ℕ) → k < length files → IsCurrent our_format (file_at files k)) → (t : JoinTree (List ℕ)) → IsOver files t → IsSmall our_format t → Value our_format t z
+  same_of_tree z all forms t over few =
+      Value-grown_same our_format our_format-is files all.some z (Value-stands (length files) z all.stands) (to_most z (small_joined z all)) forms t over few
 
   pub value_of_cuts : (z : List ℕ) → IsAllJoined files z → (F : List ℕ) → font_fault F ≡ None → (t : JoinTree (ℕ → Bool)) → IsOver files (cuts our_format F t) → IsSmall our_format (cuts our_format F t)
       → Value our_format (cuts our_format F t) z

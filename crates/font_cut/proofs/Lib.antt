@@ -8,10 +8,13 @@ pub mod OutletLemmas
 pub mod SeedLemmas
 pub mod SinkLemmas
 pub mod SourceLemmas
+pub mod StretchLemmas
 pub mod TableDifferenceLemmas
 pub mod UnionLemmas
+pub mod UnionMapLemmas
 pub mod UnionSizeLemmas
 pub mod WholeLemmas
 pub mod RunListLemmas
 pub mod OutlineListLemmas
 pub mod AddLemmas
+pub mod UnderLemmas

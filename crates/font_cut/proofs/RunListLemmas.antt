@@ -1,5 +1,5 @@
 -- Lists of the runs of a map: places in them, and the runs of the union of two.
-use Rattle.std.proofs.Common.{◌≡◌, ℕ, zero, suc, ◌+◌, ◌-◌, ◌<◌, ◌≤◌, List, [], ◌∷◌, ◌++◌, length, Option, None, Some, MatchOption, sym, ap, ◌∙◌, subst, arith, inl, inr}
+use Rattle.std.proofs.Common.{◌≡◌, ◌≢◌, ℕ, zero, suc, ◌+◌, ◌-◌, ◌<◌, ◌≤◌, List, [], ◌∷◌, ◌++◌, length, Option, None, Some, MatchOption, sym, ap, ◌∙◌, subst, arith, inl, inr}
 use Rattle.std.proofs.Math.Path.{fun_ext}
 use Rattle.std.proofs.lemmas.Bool.{cases_lt}
 use Rattle.std.proofs.lemmas.List.{append-nil}
@@ -7,9 +7,9 @@ use Rattle.font_map.specs.CharacterMap.{IsCharacterMap, united}
 use Rattle.font_map.specs.Runs.{AreRuns, IsNext, IsRun, NoRun, groups_from, spelled}
 use Rattle.font_map.specs.declared.runs.Run.{Run}
 use Rattle.font_map.proofs.MapLemmas.{united-map, united-none, united-some}
-use Rattle.font_map.proofs.RunLemmas.{canonical, groups_done, groups_from-runs}
+use Rattle.font_map.proofs.RunLemmas.{canonical, groups_done, groups_few, groups_from-runs}
 use Rattle.font_cut.specs.Union.{AreMapRuns}
-use Rattle.font_cut.specs.Inside.{IsPast, IsPlace, run_at}
+use Rattle.font_cut.specs.Inside.{IsBetween, IsPast, IsPlace, LeavesAlone, run_at}
 
 -- the ends of runs ascend
 ends_above : (m : ℕ → ℕ) (low : ℕ) (runs : List Run) → AreRuns m low runs → (k : ℕ) → k < length runs → low ≤ (run_at runs k).last
@@ -18,7 +18,7 @@ ends_above m low (r ∷ rs) h zero lt = omega (arith, h.0.piece.from_on, h.0.pie
 ends_above m low (r ∷ rs) h (suc k) lt =
     let x = ends_above m (r.last + 1) rs h.1 k (omega (arith, lt)) in omega (arith, x, h.0.piece.from_on, h.0.piece.order)
 
-ends_ascend : (m : ℕ → ℕ) (low : ℕ) (runs : List Run) → AreRuns m low runs → (j k : ℕ) → j ≤ k → k < length runs → (run_at runs j).last ≤ (run_at runs k).last
+pub ends_ascend : (m : ℕ → ℕ) (low : ℕ) (runs : List Run) → AreRuns m low runs → (j k : ℕ) → j ≤ k → k < length runs → (run_at runs j).last ≤ (run_at runs k).last
 ends_ascend m low [] h j k le lt = absurd (omega (arith, lt))
 ends_ascend m low (r ∷ rs) h zero zero le lt = omega arith
 ends_ascend m low (r ∷ rs) h zero (suc k) le lt = let x = ends_above m (r.last + 1) rs h.1 k (omega (arith, lt)) in omega (arith, x)
@@ -32,6 +32,15 @@ past_middle runs from middle ok lt h =
       within = omega (arith, lt);
       before = λ k low. let x = ends_ascend (spelled runs) 0 runs ok.are k middle (omega (arith, low)) lt in omega (arith, x, h);
     }
+
+-- halving goes on behind the middle, or up to it
+pub middle_past : (runs : List Run) (from low high middle : ℕ) → AreMapRuns runs → IsBetween runs from low high → low ≤ middle → middle < high → (run_at runs middle).last < from → IsBetween runs from (middle + 1) high
+middle_past runs from low high middle ok h le lt less =
+    record { past = past_middle runs from middle ok (omega (arith, lt, h.within)) less; order = omega (arith, lt); within = h.within; there = h.there }
+
+pub middle_there : (runs : List Run) (from low high middle : ℕ) → IsBetween runs from low high → low ≤ middle → middle < high → from ≤ (run_at runs middle).last → IsBetween runs from low middle
+middle_there runs from low high middle h le lt on =
+    record { past = h.past; order = le; within = omega (arith, lt, h.within); there = λ low'. on }
 
 -- one more
 pub past_more : (runs : List Run) (from at : ℕ) → IsPast runs from at → at < length runs → (run_at runs at).last < from → IsPast runs from (at + 1)
@@ -56,14 +65,14 @@ module _ (m : ℕ → ℕ) (from : ℕ) where
   none_past low [] h le all = λ c x. h c (omega (arith, le, x))
   none_past low (r ∷ rs) h le all = none_past (r.last + 1) rs h.1 (omega (arith, all 0 (omega arith))) (λ k lt. all (suc k) (omega (arith, lt)))
 
-  found_at : (low : ℕ) (runs : List Run) (at : ℕ) → AreRuns m low runs → low ≤ from → at < length runs → ((k : ℕ) → k < at → (run_at runs k).last < from)
+  pub found_at : (low : ℕ) (runs : List Run) (at : ℕ) → AreRuns m low runs → low ≤ from → at < length runs → ((k : ℕ) → k < at → (run_at runs k).last < from)
       → (j : ℕ) × (j ≤ from) × IsRun m j (run_at runs at)
   found_at low [] at h le lt before = absurd (omega (arith, lt))
   found_at low (r ∷ rs) zero h le lt before = (low, le, h.0)
   found_at low (r ∷ rs) (suc at) h le lt before =
       found_at (r.last + 1) rs at h.1 (omega (arith, before 0 (omega arith))) (omega (arith, lt)) (λ k low'. before (suc k) (omega (arith, low')))
 
-  run_whole : (low : ℕ) (run : Run) → low ≤ from → IsRun m low run → from ≤ run.first → IsRun m from run
+  pub run_whole : (low : ℕ) (run : Run) → low ≤ from → IsRun m low run → from ≤ run.first → IsRun m from run
   run_whole low run le h on =
       record {
         piece = record {
@@ -138,16 +147,13 @@ pub gap_at_end : (runs : List Run) (from at c : ℕ) → AreMapRuns runs → IsP
 gap_at_end runs from at c ok past le x =
     none_past (spelled runs) from 0 runs ok.are (omega arith) (λ k low. past.before k (omega (arith, low, le))) c x
 
--- a run of the first map is one of the union, where the second maps no code up to behind its end
-united_alone : (m k : ℕ → ℕ) (c : ℕ) → k c ≡ 0 → united m k c ≡ m c
-united_alone m k c e = elim (cases_lt 0 (m c)) [
-  | inl x ↦ united-some m k c x
-  | inr x ↦ let z : m c ≡ 0 = omega (arith, x) in united-none m k c z ∙ e ∙ sym z
-]
-
-pub run_alone : (m k : ℕ → ℕ) (from : ℕ) (run : Run) → IsRun m from run → ((c : ℕ) → from ≤ c → c < run.last + 2 → k c ≡ 0) → IsRun (united m k) from run
-run_alone m k from run h none =
-    let same : (c : ℕ) → from ≤ c → c < run.last + 2 → united m k c ≡ m c = λ c x y. united_alone m k c (none c x y) in
+-- a run of one map is one of the union, where the other map leaves it alone
+pub first_alone : (m k : ℕ → ℕ) (from : ℕ) (run : Run) → IsRun m from run → LeavesAlone k from run → IsRun (united m k) from run
+first_alone m k from run h alone =
+    let same : (c : ℕ) → from ≤ c → c ≤ run.last → united m k c ≡ m c = λ c x y. elim (cases_lt 0 (m c)) [
+      | inl some ↦ united-some m k c some
+      | inr low ↦ let z : m c ≡ 0 = omega (arith, low) in united-none m k c z ∙ alone.none c x y ∙ sym z
+    ] in
     record {
       piece = record {
         from_on = h.piece.from_on;
@@ -156,21 +162,72 @@ run_alone m k from run h none =
         within = h.piece.within;
         mapped = h.piece.mapped;
         small = h.piece.small;
-        along = λ c x y. omega (arith, same c (omega (arith, x, h.piece.from_on)) (omega (arith, y)), h.piece.along c x y);
+        along = λ c x y. omega (arith, same c (omega (arith, x, h.piece.from_on)) y, h.piece.along c x y);
       };
-      longest = λ q. h.longest (omega (arith, q, same (run.last + 1) (omega (arith, h.piece.from_on, h.piece.order)) (omega arith)));
+      longest = λ q. elim (cases_lt 0 (m (run.last + 1))) [
+        | inl some ↦ h.longest (omega (arith, q, united-some m k (run.last + 1) some))
+        | inr low ↦ let z : m (run.last + 1) ≡ 0 = omega (arith, low) in alone.behind (omega (arith, q, united-none m k (run.last + 1) z))
+      ];
     }
 
--- the run at a place ends at a code point
-pub last_there : (runs : List Run) (from at : ℕ) → AreMapRuns runs → IsPast runs from at → at < length runs → (run_at runs at).last ≤ 0x10FFFF
-last_there runs from at ok past lt = (found_at (spelled runs) from 0 runs at ok.are (omega arith) lt past.before).2.piece.within
+pub second_alone : (m k : ℕ → ℕ) (from : ℕ) (run : Run) → IsRun k from run → LeavesAlone m from run → IsRun (united m k) from run
+second_alone m k from run h alone =
+    let same : (c : ℕ) → from ≤ c → c ≤ run.last → united m k c ≡ k c = λ c x y. united-none m k c (alone.none c x y) in
+    record {
+      piece = record {
+        from_on = h.piece.from_on;
+        least = λ c x y. same c x (omega (arith, y, h.piece.order)) ∙ h.piece.least c x y;
+        order = h.piece.order;
+        within = h.piece.within;
+        mapped = h.piece.mapped;
+        small = h.piece.small;
+        along = λ c x y. omega (arith, same c (omega (arith, x, h.piece.from_on)) y, h.piece.along c x y);
+      };
+      longest = λ q. elim (cases_lt 0 (m (run.last + 1))) [
+        | inl some ↦ alone.behind (omega (arith, q, united-some m k (run.last + 1) some))
+        | inr low ↦ let z : m (run.last + 1) ≡ 0 = omega (arith, low) in h.longest (omega (arith, q, united-none m k (run.last + 1) z))
+      ];
+    }
 
--- the run of the first list at a place, where it begins behind the code
-pub alone_there : (a b : List Run) (from at : ℕ) → AreMapRuns a → IsPast a from at → at < length a → from ≤ (run_at a at).first
-    → ((c : ℕ) → from ≤ c → c < (run_at a at).last + 2 → spelled b c ≡ 0) → IsRun (united (spelled a) (spelled b)) from (run_at a at)
-alone_there a b from at ok past lt on none =
-    let f = found_at (spelled a) from 0 a at ok.are (omega arith) lt past.before in
-    run_alone (spelled a) (spelled b) from (run_at a at) (run_whole (spelled a) from f.0 (run_at a at) f.1 f.2 on) none
+-- the end of a list leaves any run alone
+pub end_leaves_alone : (runs : List Run) (from at : ℕ) (run : Run) → AreMapRuns runs → IsPast runs from at → length runs ≤ at → from ≤ run.last + 1 → run.first ≤ run.last → 0 < run.glyph
+    → LeavesAlone (spelled runs) from run
+end_leaves_alone runs from at run ok past le on order some =
+    record {
+      none = λ c x y. gap_at_end runs from at c ok past le x;
+      behind = λ q. let z = gap_at_end runs from at (run.last + 1) ok past le on in absurd (omega (arith, q, z, order, some));
+    }
+
+-- and so does a run that begins behind it and does not go on with it
+pub next_leaves_alone : (runs : List Run) (from at : ℕ) (run : Run) → AreMapRuns runs → IsPast runs from at → at < length runs → run.last < (run_at runs at).first → from ≤ run.last + 1 → run.first ≤ run.last → 0 < run.glyph
+    → ((run_at runs at).first ≡ run.last + 1 → (run_at runs at).glyph ≢ run.glyph + (run.last - run.first) + 1) → LeavesAlone (spelled runs) from run
+next_leaves_alone runs from at run ok past lt behind on order some apart =
+    let f = found_at (spelled runs) from 0 runs at ok.are (omega arith) lt past.before in
+    record {
+      none = λ c x y. gap_before runs from at c ok past lt x (omega (arith, y, behind));
+      behind = λ q. elim (cases_lt (run.last + 1) (run_at runs at).first) [
+        | inl far ↦ let z = gap_before runs from at (run.last + 1) ok past lt on far in absurd (omega (arith, q, z, order, some))
+        | inr near ↦
+            let e : (run_at runs at).first ≡ run.last + 1 = omega (arith, near, behind) in
+            let first = f.2.piece.along (run_at runs at).first (omega arith) f.2.piece.order in
+            let here : spelled runs (run.last + 1) ≡ (run_at runs at).glyph = subst (λ (c : ℕ). spelled runs c ≡ (run_at runs at).glyph) e (omega (arith, first)) in
+            apart e (omega (arith, q, here, order))
+      ];
+    }
+
+-- the run at a place has an order and a glyph
+pub run_sound : (runs : List Run) (from at : ℕ) → AreMapRuns runs → IsPast runs from at → at < length runs → ((run_at runs at).first ≤ (run_at runs at).last) × (0 < (run_at runs at).glyph) × ((run_at runs at).last ≤ 0x10FFFF)
+    × ((run_at runs at).glyph + ((run_at runs at).last - (run_at runs at).first) < 65536)
+run_sound runs from at ok past lt =
+    let f = found_at (spelled runs) from 0 runs at ok.are (omega arith) lt past.before in
+    (f.2.piece.order, f.2.piece.mapped, f.2.piece.within, f.2.piece.small)
 
 pub both_map : (a b : List Run) → AreMapRuns a → AreMapRuns b → IsCharacterMap (united (spelled a) (spelled b))
 both_map a b x y = united-map (spelled a) (spelled b) x.map y.map
+
+-- runs are the groups of the map that they spell
+pub runs_are : (runs : List Run) → AreMapRuns runs → runs ≡ groups_from (spelled runs) 0
+runs_are runs ok = (canonical (spelled runs) ok.map).one 0 runs ok.are
+
+pub runs_few : (runs : List Run) → AreMapRuns runs → length runs ≤ 0x110000
+runs_few runs ok = omega (arith, ap length (runs_are runs ok), groups_few (spelled runs) 0)

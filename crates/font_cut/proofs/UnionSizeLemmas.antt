@@ -1,32 +1,61 @@
--- How many groups and how many bytes of outlines a union has.
-use Rattle.std.proofs.Common.{◌≡◌, ℕ, ◌*◌, ◌≤◌, List, length, refl, sym, ap, ◌∙◌, arith}
+-- How many bytes a union has, and how many of them are its groups.
+use Rattle.std.proofs.Common.{◌≡◌, ℕ, ◌+◌, ◌*◌, ◌≤◌, length, refl, sym, ap, ◌∙◌, arith}
 use Rattle.sfnt_bytes.specs.declared.directory.TheConstants.{MAX_FILE}
-use Rattle.font_map.specs.Runs.{groups_from, spelled}
-use Rattle.font_map.specs.declared.runs.Run.{Run}
-use Rattle.font_map.proofs.RunLemmas.{canonical, groups_few}
-use Rattle.font_theory.specs.Content.{Content, glyph_count}
+use Rattle.font_map.specs.Runs.{groups_from}
+use Rattle.font_map.proofs.RunLemmas.{groups_done}
+use Rattle.font_theory.specs.Content.{Content, IsWritable, KeepsComponents, glyph_count}
+use Rattle.font_theory.specs.File.{current_form, file, form_of, groups_of_content, outlines_of, second_form, size_of}
 use Rattle.font_theory.proofs.FontLemmas.{glyph_count-file}
+use Rattle.font_theory.proofs.SizeLemmas.{length-file}
 use Rattle.font_write.specs.Parts.{glyf_to}
 use Rattle.font_write.specs.Plan.{AreCounts}
-use Rattle.font_write.proofs.GroupLemmas.{groups_of-is}
 use Rattle.font_write.specs.declared.size.Counts.{Counts}
-use Rattle.font_cut.specs.Union.{AreCounted, AreMapRuns, Held, IsUnion, content_in, outlines_length}
+use Rattle.font_cut.specs.Union.{AreCounted, Held, IsUnion, content_in, outlines_length}
+use Rattle.font_cut.specs.Inside.{without_codes}
 use Rattle.font_cut.proofs.OutlineListLemmas.{length-glyf_to, outlines_length-most}
+use Rattle.font_cut.proofs.UnionMapLemmas.{no_codes}
 
--- runs are the groups of the map that they spell
-runs_are : (runs : List Run) → AreMapRuns runs → runs ≡ groups_from (spelled runs) 0
-runs_are runs ok = (canonical (spelled runs) ok.map).one 0 runs ok.are
+-- the outlines of a union are counted
+module _ (u : Held) (bytes : ℕ) (ok : IsUnion u) (counted : AreCounted u.outlines bytes) where
+  pub outlines_counted : bytes ≡ length (glyf_to (content_in u) (glyph_count (content_in u).copied))
+  outlines_counted =
+      let all : length u.outlines ≡ glyph_count (content_in u).copied = ok.count ∙ sym (glyph_count-file u.tables) in
+      counted.counted ∙ sym (length-glyf_to (content_in u) u.outlines refl) ∙ ap (λ (n : ℕ). length (glyf_to (content_in u) n)) all
 
-pub runs_few : (runs : List Run) → AreMapRuns runs → length runs ≤ 0x110000
-runs_few runs ok = omega (arith, ap length (runs_are runs ok), groups_few (spelled runs) 0)
+  pub outlines_few : bytes ≤ 0x0001_0000_0000_0000
+  outlines_few =
+      let small : outlines_length u.outlines ≤ MAX_FILE * length u.outlines = outlines_length-most u.outlines counted.small in
+      omega (arith, counted.counted, small, counted.few)
 
-pub are_counts : (u : Held) (bytes : ℕ) (counts : Counts) → IsUnion u → AreCounted u.outlines bytes → counts.groups ≡ length u.runs → counts.outlines ≡ bytes → AreCounts (content_in u) counts
-are_counts u bytes counts ok counted groups outlines =
-    let K : Content = content_in u in
-    let all : length u.outlines ≡ glyph_count K.copied = ok.count ∙ sym (glyph_count-file u.tables) in
-    let small : outlines_length u.outlines ≤ MAX_FILE * length u.outlines = outlines_length-most u.outlines counted.small in
-    record {
-      groups = groups ∙ ap length (runs_are u.runs ok.runs ∙ groups_of-is K);
-      outlines = outlines ∙ counted.counted ∙ sym (length-glyf_to K u.outlines refl) ∙ ap (λ (n : ℕ). length (glyf_to K n)) all;
-      small = omega (arith, outlines, counted.counted, small, counted.few);
-    }
+-- a content without its codes
+module _ (K : Content) where
+  pub writable_without : IsWritable K → IsWritable (without_codes K)
+  writable_without ok =
+      record {
+        mapped_below = λ c. let some = ok.mapped_below c in omega (arith, some);
+        mapped_codes = λ c x. refl;
+        slots = ok.slots;
+        head_form = ok.head_form;
+        head_size = ok.head_size;
+        past = ok.past;
+      }
+
+  pub components_without : KeepsComponents K → KeepsComponents (without_codes K)
+  components_without h = record { notdef = h.notdef; mapped = λ c. h.notdef; components = h.components }
+
+  no_groups : length (groups_from (without_codes K).map 0) ≡ 0
+  no_groups = ap length (groups_done (without_codes K).map 0 no_codes (λ c x. refl))
+
+  pub counts_without : (counts : Counts) → counts.groups ≡ 0 → counts.outlines ≡ length (glyf_to K (glyph_count K.copied)) → counts.outlines ≤ 0x0001_0000_0000_0000 → AreCounts (without_codes K) counts
+  unfolding groups_of_content glyf_to
+  counts_without counts groups outlines small = record { groups = groups ∙ sym no_groups; outlines = outlines; small = small }
+
+  size_apart : size_of current_form K ≡ size_of current_form (without_codes K) + 12 * length (groups_from K.map 0)
+  unfolding size_of form_of second_form groups_of_content outlines_of
+  size_apart = omega (arith, no_groups)
+
+  pub size_without : IsWritable K → length (file current_form K) ≡ length (file current_form (without_codes K)) + 12 * length (groups_from K.map 0)
+  size_without ok =
+      let whole = length-file current_form K ok in
+      let rest = length-file current_form (without_codes K) (writable_without ok) in
+      omega (arith, whole, rest, size_apart)

@@ -17,5 +17,4 @@ pub use Rattle.font_map.specs.Wanted.{member}
 pub use Rattle.font_file.specs.Font.{cmap_of, font_fault}
 pub use Rattle.font_file.specs.Text.{error_number, error_text}
 pub use Rattle.font_file.specs.declared.font_error.FontError.{FontError}
-pub use Rattle.font_theory.specs.Cut.{is_current, our_format}
 pub use Rattle.font_theory.specs.Tree.{file_at, union_below}

@@ -1,9 +1,10 @@
 -- What the joins of a list of files in turn answer, this project's own.
-use Rattle.std.specs.Prelude.{◌≡◌, ℕ, zero, suc, ◌<◌, ◌≤◌, Bool, true, List, [], length, take, Option, None}
+use Rattle.std.specs.Prelude.{◌≡◌, ℕ, zero, suc, ◌<◌, ◌≤◌, Bool, true, List, [], length, take, Option, None, Result, IfOk, MatchResult}
 use Rattle.sfnt_bytes.specs.declared.directory.TheConstants.{MAX_FILE}
 use Rattle.font_file.specs.Font.{font_fault}
-use Rattle.font_theory.specs.Tree.{file_at, union_below}
-use Rattle.font_cut.specs.Cut.{cut_of}
+use Rattle.font_theory.specs.Cut.{IsCurrent, IsCut, our_format, renewed}
+use Rattle.font_theory.specs.Tree.{Differs, IsOver, IsSmall, JoinTree, Value, cuts, file_at, union_below}
+use Rattle.font_cut.specs.Cut.{IsCutOf, cut_of}
 use Rattle.font_cut.specs.Join.{IsForSize, IsJoin, IsJoinRefusal}
 use Rattle.font_cut.specs.Outlet.{WentOut, broken_of, written_of}
 use Rattle.font_cut.specs.declared.outlet.Outlet.{Outlet}
@@ -36,10 +37,10 @@ pub record IsAllJoined (files : List (List ℕ)) (z : List ℕ) : Type 0 where
   pub some : 0 < length files
   pub stands : Stands files (length files) z
 
--- the files are cuts of F for some sets, none of them too large
+-- the files are cuts of F for some sets, in any forms, and none of them is too large
 pub record AreCuts (F : List ℕ) (A : ℕ → ℕ → Bool) (files : List (List ℕ)) : Type 0 where
   pub accepted : font_fault F ≡ None
-  pub cuts : (k : ℕ) → k < length files → file_at files k ≡ cut_of F (A k)
+  pub cuts : (k : ℕ) → k < length files → IsCutOf F (A k) (file_at files k)
   pub small : (k : ℕ) → k < length files → length (file_at files k) ≤ MAX_FILE
 
 -- refused for want of memory, or for the size of the cut for the first sets
@@ -80,3 +81,34 @@ StopsJoin contents old new files (WriteFault written) = (z : List ℕ) × IsAllJ
 abbrev pub IsForSizeInto : List ℕ → (ℕ → ℕ → Bool) → List (List ℕ) → JoinAllIntoError → Type 0
 IsForSizeInto F A files (NotJoined error) = IsForSizeOf F A files error
 IsForSizeInto F A files (WriteFault written) = Unit {0}
+
+-- the laws of joins of many files, over what `gives` says of an answer: that it is, or that it sent, some file
+
+-- cuts of one file give its cut for all their codes
+abbrev pub GivesCutOfUnion : {T E : Type 0} → List (List ℕ) → Result T E → (List ℕ → T → Type 0) → (List ℕ → (ℕ → ℕ → Bool) → List (List ℕ) → E → Type 0) → Type 0
+GivesCutOfUnion files result gives is_for_size =
+    (F : List ℕ) (A : ℕ → ℕ → Bool) → AreCuts F A files → MatchResult result (gives (cut_of F (union_below A (length files)))) (is_for_size F A files)
+
+-- the value of a tree of joins is given
+abbrev pub GivesValue : {T E : Type 0} → Result T E → (List ℕ → T → Type 0) → JoinTree (List ℕ) → Type 0
+GivesValue result gives t = IfOk result (λ answer. (z : List ℕ) × gives z answer × Value our_format t z)
+
+-- that of each tree over the files where these are cuts of one file, and no value in the tree is too large
+abbrev pub AgreesWithTreesOfCuts : {T E : Type 0} → List (List ℕ) → Result T E → (List ℕ → T → Type 0) → Type 0
+AgreesWithTreesOfCuts files result gives =
+    (F : List ℕ) (t : JoinTree (ℕ → Bool)) → font_fault F ≡ None → IsOver files (cuts our_format F t) → IsSmall our_format (cuts our_format F t) → GivesValue result gives (cuts our_format F t)
+
+-- that of each tree over the files where these are current
+abbrev pub AgreesWithTreesOfCurrentFiles : {T E : Type 0} → List (List ℕ) → Result T E → (List ℕ → T → Type 0) → Type 0
+AgreesWithTreesOfCurrentFiles files result gives =
+    ((k : ℕ) → k < length files → IsCurrent our_format (file_at files k)) → (t : JoinTree (List ℕ)) → IsOver files t → IsSmall our_format t → GivesValue result gives t
+
+-- each tree over the files has a value, and that written anew is given
+abbrev pub AgreesWithEveryTree : {T E : Type 0} → List (List ℕ) → Result T E → (List ℕ → T → Type 0) → Type 0
+AgreesWithEveryTree files result gives =
+    (t : JoinTree (List ℕ)) → IsOver files t → IsSmall our_format t → IfOk result (λ answer. (v : List ℕ) × Value our_format t v × gives (renewed our_format v) answer)
+
+-- a refusal for a difference: each tree over the files meets one, where all are in cut form
+abbrev pub EveryTreeDiffers : List (List ℕ) → JoinAllError → Type 0
+EveryTreeDiffers files error =
+    ((k : ℕ) → k < length files → IsCut our_format (file_at files k)) → (t : JoinTree (List ℕ)) → IsOver files t → IsSmall our_format t → IsForDifference error → Differs our_format t

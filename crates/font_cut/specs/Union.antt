@@ -4,7 +4,7 @@ use Rattle.std.specs.Option.{unwrap_or}
 use Rattle.sfnt_bytes.specs.declared.directory.TheConstants.{MAX_FILE}
 use Rattle.font_tables.specs.Fields.{glyph_count_of}
 use Rattle.font_glyph.specs.Union.{Records}
-use Rattle.font_map.specs.CharacterMap.{IsCharacterMap}
+use Rattle.font_map.specs.CharacterMap.{AreCompatible, IsCharacterMap, united}
 use Rattle.font_map.specs.Runs.{AreRuns, spelled}
 use Rattle.font_map.specs.declared.runs.Run.{Run}
 use Rattle.font_file.specs.Font.{font_fault}
@@ -15,6 +15,21 @@ use Rattle.font_theory.specs.Difference.{are_different}
 pub record AreMapRuns (runs : List Run) : Type 0 where
   pub map : IsCharacterMap (spelled runs)
   pub are : AreRuns (spelled runs) 0 runs
+
+-- the map of a union, spelled by two lists of runs
+pub record TwoLists : Type 0 where
+  pub settled : List Run
+  pub recent : List Run
+
+-- that map: the first list decides where it has a code
+abbrev pub map_in : TwoLists → ℕ → ℕ
+map_in lists = united (spelled lists.settled) (spelled lists.recent)
+
+-- both lists are the runs of maps that give no code two glyphs
+pub record AreTwoLists (lists : TwoLists) : Type 0 where
+  pub settled : AreMapRuns lists.settled
+  pub recent : AreMapRuns lists.recent
+  pub agree : AreCompatible (spelled lists.settled) (spelled lists.recent)
 
 -- the runs of the map of a file for all codes
 pub record AreRunsOf (file : List ℕ) (runs : List Run) : Type 0 where
@@ -28,7 +43,7 @@ listed_outline outlines g = get_or outlines g None
 -- the file whose tables a union has, its runs and its outlines
 pub record Held : Type 0 where
   pub tables : List ℕ
-  pub runs : List Run
+  pub runs : TwoLists
   pub outlines : List (Option (List ℕ))
 
 -- its content
@@ -36,7 +51,7 @@ abbrev pub content_in : Held → Content
 content_in u = record {
   copied = (font_of u.tables).copied;
   head = (font_of u.tables).head;
-  map = spelled u.runs;
+  map = map_in u.runs;
   outline = listed_outline u.outlines;
 }
 
@@ -64,4 +79,3 @@ pub record IsUnion (u : Held) : Type 0 where
   pub accepted : font_fault u.tables ≡ None
   pub count : length u.outlines ≡ glyph_count_of u.tables
   pub closed : IsClosedContent (content_in u)
-  pub runs : AreMapRuns u.runs

@@ -1,21 +1,25 @@
 //! What a cut is made of: a font, the codes that are wanted of it, and the glyphs that these keep, which
 //! are .notdef, their own, and all that chains of components lead to from there. OpenType 1.9, cmap;
 //! glyf, Composite Glyph Description.
-ghost use Rattle.std.specs.Prelude.{◌≡◌, ◌+◌, ◌-◌, ◌<◌, ◌≤◌, [], length, None, Some, option_copied, unwrap_or, IfOk, MatchOption};
+ghost use Rattle.std.specs.Prelude.{◌≡◌, ◌+◌, ◌-◌, ◌<◌, ◌≤◌, ℕ, Bool, [], length, None, Some, option_copied, unwrap_or, IfOk, MatchOption};
 ghost use Rattle.sfnt_bytes.specs.Directory.{kept_tag, table_of};
 ghost use Rattle.sfnt_bytes.specs.declared.directory.TheConstants.{MAX_FILE};
 ghost use Rattle.sfnt_bytes.specs.declared.tag.TheConstants.{HEAD};
 ghost use Rattle.font_tables.specs.Fields.{glyph_count_of};
 ghost use Rattle.font_tables.specs.Outlines.{outline_of};
 ghost use Rattle.font_tables.specs.Tables.{head_of};
+ghost use Rattle.font_map.specs.CharacterMap.{IsCharacterMap};
 ghost use Rattle.font_map.specs.Runs.{IsRun, NoRun};
 ghost use Rattle.font_file.specs.Font.{font_fault};
 ghost use Rattle.font_theory.specs.Content.{content, everything, font_of};
-ghost use Rattle.font_theory.specs.Cut.{IsCut, is_current, our_format};
+ghost use Rattle.font_theory.specs.Cut.{IsCut, our_format};
 ghost use Rattle.font_cut.specs.Content.{IsKeptSet, codes_wanted, wanted_map};
+ghost use Rattle.font_cut.specs.Cut.{cut_form_of};
 ghost use Rattle.font_cut.specs.Inside.{AreMarked, IsSeedSet};
+ghost use Rattle.font_cut.specs.Union.{AreRunsOf};
 
-use crate::emit::is_whole;
+use crate::cut_forms::CutForm;
+use crate::emit::form_among;
 use font_file::Font;
 use font_glyph::{Marks, close};
 use font_map::{Chart, Run, Wanted};
@@ -72,6 +76,30 @@ impl<'f, 'a, A: Allocator + Copy> Charted<'f, 'a, A> {
         let chart = Chart::of(alloc, font.mapping())?;
         Ok(Charted { font, chart })
     }
+
+    // Recalls for the prover what opening the font has shown of its map. Does nothing at run time.
+    #[tactic(auto, using(crate::proofs::SeedLemmas::whole_map))]
+    fn known_map(&self)
+        ensures { IsCharacterMap (wanted_map self.now None) }
+    {
+        let _count = self.font().tables().glyph_count();
+    }
+
+    // Lists the runs of the whole map.
+    fn runs(&self, alloc: A) -> Result<Vec<Run, A>, NoMemory>
+        ensures { IfOk result (λ runs. AreRunsOf self.now runs.items) }
+    {
+        self.known_map();
+        let mut runs = Vec::new(alloc);
+        let mut from = 0;
+        while let Some(run) = self.chart.next_run(from) {
+            if runs.push(run).is_err() {
+                return Err(NoMemory);
+            }
+            from = run.last + 1;
+        }
+        Ok(runs)
+    }
 }
 
 impl<'f, 'a, A: Allocator> Charted<'f, 'a, A> {
@@ -116,6 +144,37 @@ fn mark_seeds<A: Allocator + Copy>(
     Ok(seeds)
 }
 
+// Marks .notdef, and the glyphs of all runs of a font.
+fn mark_runs<A: Allocator + Copy>(
+    alloc: A,
+    font: &Charted<'_, '_, A>,
+    runs: &[Run],
+) -> Result<Marks<A>, NoMemory>
+    requires { AreRunsOf font.now runs.now }
+    ensures { IfOk result (IsSeedSet font.now everything) }
+{
+    let mut marks = Marks::new(alloc, font.font().tables().glyph_count())?;
+    marks.set(0);
+    for at in 0..runs.len() {
+        mark_run(&mut marks, runs[at]);
+    }
+    Ok(marks)
+}
+
+// Marks the glyphs that a cut keeps: those of its codes, and what they are made of.
+fn mark_reached<A: Allocator + Copy>(
+    alloc: A,
+    font: &Charted<'_, '_, A>,
+    seeds: &Marks<A>,
+) -> Result<Marks<A>, NoMemory>
+    requires { length seeds.now ≡ glyph_count_of font.now }
+    ensures { IfOk result (λ kept. (wanted : ℕ → Bool) → IsSeedSet font.now wanted seeds.now →
+        IsKeptSet font.now wanted kept) }
+{
+    let kept = close(alloc, font.font(), seeds)?;
+    Ok(kept)
+}
+
 // The glyphs that a cut keeps.
 fn mark_kept<A: Allocator + Copy>(
     alloc: A,
@@ -125,7 +184,7 @@ fn mark_kept<A: Allocator + Copy>(
     ensures { IfOk result (IsKeptSet font.now (codes_wanted (option_copied wanted.entry))) }
 {
     let seeds = mark_seeds(alloc, font, wanted)?;
-    let kept = close(alloc, font.font(), &seeds)?;
+    let kept = mark_reached(alloc, font, &seeds)?;
     Ok(kept)
 }
 
@@ -215,6 +274,26 @@ impl<'f, 'a, A: Allocator + Copy> CutOf<'f, 'a, A> {
         })
     }
 
+    /// The content of the cut of a font for all codes, and the runs of its map, which is read once for both.
+    pub(crate) fn with_runs(
+        alloc: A,
+        font: &'f Font<'a>,
+    ) -> Result<(CutOf<'f, 'a, A>, Vec<Run, A>), NoMemory>
+        ensures source { IfOk result (λ both. both.0 ≡ (font.entry.now, None)) }
+        ensures runs { IfOk result (λ both. AreRunsOf font.entry.now both.1.items) }
+    {
+        let charted = Charted::of(alloc, font)?;
+        let runs = charted.runs(alloc)?;
+        let seeds = mark_runs(alloc, &charted, &runs)?;
+        let kept = mark_reached(alloc, &charted, &seeds)?;
+        let source = CutOf {
+            charted,
+            wanted: None,
+            kept,
+        };
+        Ok((source, runs))
+    }
+
     /// The content of the cut of a font for all codes.
     pub(crate) fn for_all_codes(alloc: A, font: &'f Font<'a>) -> Result<CutOf<'f, 'a, A>, NoMemory>
         ensures { IfOk result (λ source. source ≡ (font.entry.now, None)) }
@@ -296,11 +375,11 @@ impl<'f, 'a, A: Allocator> CutOf<'f, 'a, A> {
         self.charted.font().tables().directory().file()
     }
 
-    /// Whether the font's file is the file of this content, which is that for all codes.
-    pub(crate) fn is_current(&self) -> bool
+    /// The form in which the font's file is the file of this content, which is that for all codes.
+    pub(crate) fn form(&self) -> CutForm
         requires { self.now.1 ≡ None }
-        ensures { result ≡ is_current our_format self.now.0 }
+        ensures { result ≡ cut_form_of self.now.0 }
     {
-        is_whole(self, self.file())
+        form_among(self, self.file())
     }
 }

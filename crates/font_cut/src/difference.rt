@@ -4,13 +4,14 @@ ghost use Rattle.std.specs.Prelude.{◌≡◌, ◌<◌, ◌≤◌, ℕ, length, 
 ghost use Rattle.std.specs.List.{range_with_len};
 ghost use Rattle.std.specs.Str.{bytes_eq};
 ghost use Rattle.font_theory.specs.Bytes.{cut_head};
-ghost use Rattle.font_theory.specs.Content.{CODES};
+ghost use Rattle.font_theory.specs.Content.{CODES, Content};
 ghost use Rattle.font_theory.specs.Difference.{is_different_code, is_different_table};
 ghost use Rattle.sfnt_bytes.specs.Directory.{kept_tag};
 ghost use Rattle.font_cut.specs.Join.{different};
 ghost use Rattle.font_cut.specs.Inside.{early_difference};
 
 use crate::join_error::JoinError;
+use font_map::Pieces;
 use font_theory::Difference;
 use font_write::Source;
 use sfnt_bytes::{HEAD, KEPT, Tag};
@@ -64,36 +65,43 @@ fn different_table<K: Source, L: Source>(k: &K, l: &L) -> Option<u8>
     None
 }
 
-// The first code that both map, to two glyphs.
-#[tactic(auto, using(crate::proofs::CodeDifferenceLemmas::end_left, crate::proofs::CodeDifferenceLemmas::end_right))]
-fn different_code<K: Source, L: Source>(k: &K, l: &L) -> Option<u32>
-    ensures { result ≡ find (is_different_code (K.content_of k.now) (L.content_of l.now))
-        (range_with_len 0 CODES) }
+// The first code that both map, to two glyphs. The first content is known by its map: a piece of that will
+// do, for a run of it may go on over many pieces.
+fn different_code<P: Pieces, L: Source>(map: &P, l: &L) -> Option<u32>
+    ensures { (K : Content) → K.map ≡ P.map_of map.now → result ≡ find
+        (is_different_code K (L.content_of l.now)) (range_with_len 0 CODES) }
 {
     let mut from = 0;
-    while let (Some(a), Some(b)) = (k.next_run(from), l.next_run(from)) {
-        let first = a.first.max(b.first);
-        let last = a.last.min(b.last);
-        if last < first {
-            from = first;
-        } else if u32::from(a.glyph) + (first - a.first) != u32::from(b.glyph) + (first - b.first) {
-            return Some(first);
+    while let Some(b) = l.next_run(from) {
+        // No code before that run is mapped by both.
+        let Some(a) = map.piece(b.first) else {
+            return None;
+        };
+        if b.last < a.first {
+            from = a.first;
+        } else if u32::from(a.glyph) != u32::from(b.glyph) + (a.first - b.first) {
+            return Some(a.first);
         } else {
-            from = last + 1;
+            from = a.last.min(b.last) + 1;
         }
     }
     None
 }
 
-/// The first table or code that tells two contents apart.
+/// The first table or code that tells two contents apart, the first of which has this map.
 #[tactic(auto, unfolding(crate::specs::Inside::early_difference))]
-pub(crate) fn early_difference<K: Source, L: Source>(k: &K, l: &L) -> Option<Difference>
+pub(crate) fn early_difference<K: Source, P: Pieces, L: Source>(
+    k: &K,
+    map: &P,
+    l: &L,
+) -> Option<Difference>
+    requires { (K.content_of k.now).map ≡ P.map_of map.now }
     ensures { result ≡ early_difference (K.content_of k.now) (L.content_of l.now) }
 {
     if let Some(slot) = different_table(k, l) {
         return Some(Difference::AtTable(slot));
     }
-    if let Some(code) = different_code(k, l) {
+    if let Some(code) = different_code(map, l) {
         return Some(Difference::AtCode(code));
     }
     None

@@ -2,22 +2,29 @@
 //! Font.
 ghost use Rattle.std.specs.Prelude.{◌≡◌, ◌≢◌, ◌≤◌, length, false, true, IfErr, IfOk, MatchResult, OnOk, IsTrue, ◌↔◌};
 ghost use Rattle.sfnt_bytes.specs.declared.directory.TheConstants.{MAX_FILE};
-ghost use Rattle.font_theory.specs.File.{file, current_form};
+ghost use Rattle.font_theory.specs.File.{file, form_of, current_form};
+ghost use Rattle.font_write.specs.Plan.{IsSize};
 ghost use Rattle.font_cut.specs.Cut.{IsCutRefusal, IsTooLarge, IsWritten, StopsCut};
-ghost use Rattle.font_cut.specs.Inside.{IsMeasured};
+ghost use Rattle.font_cut.specs.Inside.{IsFileIn, IsMeasured};
 ghost use Rattle.font_cut.specs.declared.cut_font.CutError.TheVariants.{NoMemory as CutNoMemory};
 ghost use Rattle.font_cut.specs.declared.cut_font.CutIntoError.TheVariants.{NoMemory as IntoNoMemory};
 ghost use Rattle.font_cut.specs.Outlet.{WentOut, broken_of, fresh_of};
 
 use crate::cut_font::{CutError, CutIntoError};
+use crate::cut_forms::CutForm;
 use crate::outlet::Outlet;
-use font_write::{Plan, Profile, Source, file_size, is_file_of, plan_of, send_file, write_file};
+use font_write::{
+    Plan, Profile, Size, Source, counted_size, file_size, is_file_of, plan_of, send_file,
+    write_file,
+};
 use sfnt_bytes::MAX_FILE;
 use std::alloc::Allocator;
 use std::io::Write;
 
-// The profile that is written.
+// The profile that is written, and the one that was written before.
 pub(crate) const CURRENT: Profile = Profile::Second;
+
+const OLD: Profile = Profile::First;
 
 // Measures a content. Refused with the length of its file, where that is too large.
 fn measure<S: Source>(source: &S) -> Result<(Plan, u64), u64>
@@ -75,15 +82,33 @@ pub(crate) fn send_whole<S: Source, W: Write>(
     Ok(size)
 }
 
-/// Whether a file is that of a content. It asks for no memory.
-pub(crate) fn is_whole<S: Source>(source: &S, bytes: &[u8]) -> bool
-    requires { length bytes.now ≤ MAX_FILE }
-    ensures { IsTrue result ↔ bytes.now ≡ file current_form (S.content_of source.now) }
+// Whether a file is that of a content in a profile, in which that has so many bytes. A file of another
+// length is not compared.
+fn is_whole<S: Source>(source: &S, profile: Profile, size: Size, bytes: &[u8]) -> bool
+    requires size { IsSize (form_of profile) (S.content_of source.now) size }
+    requires small { length bytes.now ≤ MAX_FILE }
+    ensures { IsTrue result ↔ bytes.now ≡ file (form_of profile) (S.content_of source.now) }
 {
-    let size = file_size(source, CURRENT);
     if size.bytes != bytes.len() as u64 {
         return false;
     }
-    let plan = plan_of(source, CURRENT, size);
+    let plan = plan_of(source, profile, size);
     is_file_of(source, &plan, bytes)
+}
+
+/// In which form a file is that of a content, if in any. The content is counted once, and its files differ
+/// in size, so the file is compared with one of them at most. It asks for no memory.
+pub(crate) fn form_among<S: Source>(source: &S, bytes: &[u8]) -> CutForm
+    requires { length bytes.now ≤ MAX_FILE }
+    ensures { IsFileIn (S.content_of source.now) bytes.now result }
+{
+    let size = file_size(source, CURRENT);
+    if is_whole(source, CURRENT, size, bytes) {
+        return CutForm::Current;
+    }
+    let old = counted_size(source, OLD, size.counts);
+    if is_whole(source, OLD, old, bytes) {
+        return CutForm::Old;
+    }
+    CutForm::Not
 }

@@ -34,7 +34,7 @@ pub enum JoinError {
     /// One file is no font that is accepted.
     #[error("{1}")]
     Font(Which, FontError),
-    /// One file is no cut.
+    /// One file is no cut in any form.
     #[error("not a cut: {0}")]
     NotACut(Which),
     /// One file lacks this table, the least such one, or its bytes are others.

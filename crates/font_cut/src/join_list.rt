@@ -1,14 +1,13 @@
 //! Joins of a list of files, one after the other. They are this project's own, and in no standard.
-ghost use Rattle.std.specs.Prelude.{◌≡◌, ◌<◌, ◌≤◌, ℕ, Bool, List, length, map, false, true, None, Err, IfErr, IfOk, IsSome, MatchResult, OnOk};
+ghost use Rattle.std.specs.Prelude.{◌≡◌, ◌<◌, ◌≤◌, ℕ, List, length, map, false, true, None, Err, IfErr, IfOk, IsSome, MatchResult, OnOk};
 ghost use Rattle.sfnt_bytes.specs.declared.directory.TheConstants.{MAX_FILE};
-ghost use Rattle.font_file.specs.Font.{font_fault};
-ghost use Rattle.font_theory.specs.Cut.{IsCut, our_format, whole};
-ghost use Rattle.font_theory.specs.Tree.{Differs, IsOver, IsSmall, JoinTree, Value, cuts, file_at, grown, union_below};
-ghost use Rattle.font_cut.specs.Cut.{cut_of};
+ghost use Rattle.font_theory.specs.File.{current_form, file};
+ghost use Rattle.font_theory.specs.Tree.{Differs, Value, cuts, grown};
 ghost use Rattle.font_cut.specs.Outlet.{HasSent, broken_of, fresh_of, writer_of};
 ghost use Rattle.font_cut.specs.Join.{IsJoin, IsJoinRefusal};
-ghost use Rattle.font_cut.specs.JoinList.{AreCuts, IsAllJoined, IsAllRefusal, IsForDifference, IsForSizeInto, IsForSizeOf, IsSentAs, SendsAll, StopsJoin};
-ghost use Rattle.font_cut.specs.Inside.{HoldsFile, IsFirst, IsUnited};
+ghost use Rattle.font_cut.specs.JoinList.{AgreesWithEveryTree, AgreesWithTreesOfCurrentFiles, AgreesWithTreesOfCuts, EveryTreeDiffers, GivesCutOfUnion, GivesValue, IsAllJoined, IsAllRefusal, IsForSizeInto, IsForSizeOf, IsSentAs, SendsAll, StopsJoin};
+ghost use Rattle.font_cut.specs.Inside.{HoldsFile, IsFirst, IsTooLargeUnion, IsUnited};
+ghost use Rattle.font_cut.specs.Union.{content_in};
 ghost use Rattle.font_cut.specs.declared.join_error.JoinAllIntoError.TheVariants.{NotJoined};
 
 use crate::cut_source::accepted;
@@ -17,7 +16,6 @@ use crate::join_error::{JoinAllError, JoinAllIntoError, JoinError, Which};
 use crate::outlet::Outlet;
 use crate::union::Union;
 use font_file::Font;
-use sfnt_bytes::MAX_FILE;
 use std::alloc::Allocator;
 use std::io::Write;
 
@@ -38,16 +36,33 @@ fn open_first<A: Allocator>(files: &[Vec<u8, A>]) -> Result<Font<'_>, JoinAllErr
     }
 }
 
-// The first file joined with itself.
+// The union, or its size where that is too large.
+fn sized<'f, 'a, A: Allocator + Copy>(
+    union: Union<'f, 'a, A>,
+) -> Result<Union<'f, 'a, A>, JoinError>
+    ensures { MatchResult result (λ sized. (sized ≡ union.entry)
+        × (length (file current_form (content_in union.entry)) ≤ MAX_FILE))
+        (IsTooLargeUnion union.entry) }
+{
+    match union.too_large() {
+        Some(size) => Err(JoinError::TooLarge(size)),
+        None => Ok(union),
+    }
+}
+
+// The first file joined with itself, which writes it anew.
 fn first_of<'f, 'a, A: Allocator + Copy>(
     alloc: A,
     font: &'f Font<'a>,
 ) -> Result<Union<'f, 'a, A>, JoinError>
-    ensures { MatchResult result (λ union. HoldsFile union font.entry.now)
-        (IsJoinRefusal font.entry.now font.entry.now) }
+    ensures { MatchResult result (λ union. (z : List ℕ) × IsJoin font.entry.now font.entry.now z
+        × HoldsFile union z) (IsJoinRefusal font.entry.now font.entry.now) }
 {
     accepted(font);
-    Union::of_first(alloc, font)
+    match Union::of_first(alloc, font) {
+        Ok(union) => sized(union),
+        Err(error) => Err(error),
+    }
 }
 
 // What stands, joined with the next file.
@@ -63,15 +78,10 @@ fn joined_with<'f, 'a, A: Allocator + Copy>(
         Ok(next) => next,
         Err(error) => return Err(JoinError::Font(Which::Second, error)),
     };
-    let union = match all.add(alloc, &next) {
-        Ok(union) => union,
-        Err(error) => return Err(error),
-    };
-    let size = union.size();
-    if size > MAX_FILE {
-        return Err(JoinError::TooLarge(size));
+    match all.add(alloc, &next) {
+        Ok(union) => sized(union),
+        Err(error) => Err(error),
     }
-    Ok(union)
 }
 
 // The union of all files, of which the first is open, or the first refusal.
@@ -97,6 +107,29 @@ fn union_in_turn<'f, 'a, A: Allocator + Copy>(
     Ok(all)
 }
 
+// The same, in a form that is quick to write.
+fn union_of_all<'f, 'a, A: Allocator + Copy>(
+    alloc: A,
+    first: &'f Font<'a>,
+    files: &'a [Vec<u8, A>],
+) -> Result<Union<'f, 'a, A>, JoinAllError>
+    requires { IsFirst (map (λ v. v.items) files.now) first.now }
+    ensures { let bytes = map (λ v. v.items) files.now in
+        MatchResult result (λ union. IsUnited bytes union) (IsAllRefusal bytes) }
+{
+    let all = match union_in_turn(alloc, first, files) {
+        Ok(all) => all,
+        Err(error) => return Err(error),
+    };
+    match all.settle(alloc) {
+        Ok(all) => Ok(all),
+        Err(_) => Err(JoinAllError::At {
+            step: files.len() - 1,
+            error: JoinError::NoMemory,
+        }),
+    }
+}
+
 // The join of all files, or the first refusal.
 fn join_in_turn<A: Allocator + Copy>(
     alloc: A,
@@ -109,7 +142,7 @@ fn join_in_turn<A: Allocator + Copy>(
         Ok(first) => first,
         Err(error) => return Err(error),
     };
-    let all = match union_in_turn(alloc, &first, files) {
+    let all = match union_of_all(alloc, &first, files) {
         Ok(all) => all,
         Err(error) => return Err(error),
     };
@@ -123,8 +156,9 @@ fn join_in_turn<A: Allocator + Copy>(
 }
 
 /// The first file joined with itself, and then what stands with each next file in turn. Cuts of one
-/// font give its cut for the codes of all of them, in whatever order they come, and each tree of
-/// joins over the same files gives the same file.
+/// font give its cut for the codes of all of them, in whatever order and in whichever forms they come,
+/// and each tree of joins over the same files gives the same file. The first step writes an old file
+/// anew, so it is refused where that is too large.
 ///
 /// # Errors
 ///
@@ -137,22 +171,16 @@ pub fn join_all<A: Allocator + Copy>(
         MatchResult result (λ z. IsAllJoined bytes z.items) (IsAllRefusal bytes) }
     ensures small { IfOk result (λ z. length z.items ≤ MAX_FILE) }
     ensures grown { let bytes = map (λ v. v.items) files.now in
-        IfOk result (λ z. Value our_format (grown bytes (length bytes)) z.items) }
-    ensures cuts { let bytes = map (λ v. v.items) files.now in (F : List ℕ) (A : ℕ → ℕ → Bool) →
-        AreCuts F A bytes → MatchResult result (λ z. z.items ≡ cut_of F (union_below A (length bytes)))
-        (IsForSizeOf F A bytes) }
-    ensures grouping { let bytes = map (λ v. v.items) files.now in (F : List ℕ) (t : JoinTree (ℕ → Bool)) →
-        font_fault F ≡ None → IsOver bytes (cuts our_format F t) → IsSmall our_format (cuts our_format F t) →
-        IfOk result (λ z. Value our_format (cuts our_format F t) z.items) }
-    ensures trees { let bytes = map (λ v. v.items) files.now in (t : JoinTree (List ℕ)) → IsOver bytes t →
-        IsSmall our_format t → IfOk result (λ z. (v : List ℕ) × Value our_format t v
-        × (our_format.file (whole our_format v) ≡ z.items)) }
-    ensures one_form { let bytes = map (λ v. v.items) files.now in (t : JoinTree (List ℕ)) → IsOver bytes t →
-        IsSmall our_format t → IfOk result (λ z. Value our_format t z.items) }
-    ensures clash { let bytes = map (λ v. v.items) files.now in
-        ((k : ℕ) → k < length bytes → IsCut our_format (file_at bytes k)) → (t : JoinTree (List ℕ)) →
-        IsOver bytes t → IsSmall our_format t → IfErr result (λ error. IsForDifference error →
-        Differs our_format t) }
+        GivesValue result (λ z v. v.items ≡ z) (grown bytes (length bytes)) }
+    ensures cuts { let bytes = map (λ v. v.items) files.now in
+        GivesCutOfUnion bytes result (λ z v. v.items ≡ z) IsForSizeOf }
+    ensures grouping { let bytes = map (λ v. v.items) files.now in
+        AgreesWithTreesOfCuts bytes result (λ z v. v.items ≡ z) }
+    ensures trees { let bytes = map (λ v. v.items) files.now in
+        AgreesWithEveryTree bytes result (λ z v. v.items ≡ z) }
+    ensures one_form { let bytes = map (λ v. v.items) files.now in
+        AgreesWithTreesOfCurrentFiles bytes result (λ z v. v.items ≡ z) }
+    ensures clash { let bytes = map (λ v. v.items) files.now in IfErr result (EveryTreeDiffers bytes) }
 {
     join_in_turn(alloc, files)
 }
@@ -174,7 +202,7 @@ fn send_in_turn<A: Allocator + Copy, W: Write>(
         Ok(first) => first,
         Err(error) => return Err(JoinAllIntoError::NotJoined(error)),
     };
-    let all = match union_in_turn(alloc, &first, files) {
+    let all = match union_of_all(alloc, &first, files) {
         Ok(all) => all,
         Err(error) => return Err(JoinAllIntoError::NotJoined(error)),
     };
@@ -211,26 +239,17 @@ pub fn join_all_into<A: Allocator + Copy, W: Write>(
 
     // The laws of `join_all`, of the bytes that went out.
     ensures grown { let bytes = map (λ v. v.items) files.now in
-        IfOk result (λ size. (z : List ℕ) × IsSentAs W.contents out.old out.new z size
-        × Value our_format (grown bytes (length bytes)) z) }
-    ensures cuts { let bytes = map (λ v. v.items) files.now in (F : List ℕ) (A : ℕ → ℕ → Bool) →
-        AreCuts F A bytes → MatchResult result
-        (IsSentAs W.contents out.old out.new (cut_of F (union_below A (length bytes))))
-        (IsForSizeInto F A bytes) }
-    ensures grouping { let bytes = map (λ v. v.items) files.now in (F : List ℕ) (t : JoinTree (ℕ → Bool)) →
-        font_fault F ≡ None → IsOver bytes (cuts our_format F t) → IsSmall our_format (cuts our_format F t) →
-        IfOk result (λ size. (z : List ℕ) × IsSentAs W.contents out.old out.new z size
-        × Value our_format (cuts our_format F t) z) }
-    ensures trees { let bytes = map (λ v. v.items) files.now in (t : JoinTree (List ℕ)) →
-        IsOver bytes t → IsSmall our_format t → IfOk result (λ size. (v : List ℕ) × Value our_format t v
-        × IsSentAs W.contents out.old out.new (our_format.file (whole our_format v)) size) }
-    ensures one_form { let bytes = map (λ v. v.items) files.now in (t : JoinTree (List ℕ)) →
-        IsOver bytes t → IsSmall our_format t → IfOk result (λ size. (z : List ℕ)
-        × IsSentAs W.contents out.old out.new z size × Value our_format t z) }
+        GivesValue result (IsSentAs W.contents out.old out.new) (grown bytes (length bytes)) }
+    ensures cuts { let bytes = map (λ v. v.items) files.now in
+        GivesCutOfUnion bytes result (IsSentAs W.contents out.old out.new) IsForSizeInto }
+    ensures grouping { let bytes = map (λ v. v.items) files.now in
+        AgreesWithTreesOfCuts bytes result (IsSentAs W.contents out.old out.new) }
+    ensures trees { let bytes = map (λ v. v.items) files.now in
+        AgreesWithEveryTree bytes result (IsSentAs W.contents out.old out.new) }
+    ensures one_form { let bytes = map (λ v. v.items) files.now in
+        AgreesWithTreesOfCurrentFiles bytes result (IsSentAs W.contents out.old out.new) }
     ensures clash { let bytes = map (λ v. v.items) files.now in
-        ((k : ℕ) → k < length bytes → IsCut our_format (file_at bytes k)) → (t : JoinTree (List ℕ)) →
-        IsOver bytes t → IsSmall our_format t → (error : JoinAllError) → result ≡ Err (NotJoined error) →
-        IsForDifference error → Differs our_format t }
+        (error : JoinAllError) → result ≡ Err (NotJoined error) → EveryTreeDiffers bytes error }
 {
     send_in_turn(alloc, files, out)
 }

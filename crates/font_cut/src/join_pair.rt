@@ -3,7 +3,7 @@ ghost use Rattle.std.specs.Prelude.{◌≡◌, ℕ, Bool, List, ◌≤◌, lengt
 ghost use Rattle.sfnt_bytes.specs.declared.directory.TheConstants.{MAX_FILE};
 ghost use Rattle.font_file.specs.Font.{font_fault};
 ghost use Rattle.font_theory.specs.Content.{everything};
-ghost use Rattle.font_theory.specs.Cut.{either};
+ghost use Rattle.font_theory.specs.Cut.{IsCut, either, our_format, renewed};
 ghost use Rattle.font_cut.specs.Cut.{IsCutOf, cut_of};
 ghost use Rattle.font_cut.specs.Join.{IsForSize, IsJoin, IsJoinRefusal, IsLeastUpper, IsTrueRefusal};
 
@@ -38,8 +38,9 @@ fn join_exactly<A: Allocator + Copy>(alloc: A, x: &[u8], y: &[u8]) -> Result<Vec
     }
 }
 
-/// The join of two files in cut form: the file that has the tables of both, and the codes and the
-/// outlines of each. Cuts of one font give its cut for the codes of both.
+/// The join of two files in cut form, each as it is written now or as the first profile had it: the file
+/// that has the tables of both, and the codes and the outlines of each, as it is written now. Cuts of one
+/// font give its cut for the codes of both. An old file joined with itself is that file written anew.
 ///
 /// # Errors
 ///
@@ -52,6 +53,9 @@ pub fn join<A: Allocator + Copy>(alloc: A, x: &[u8], y: &[u8]) -> Result<Vec<u8,
         (IsForSize (length (cut_of F (either A B)))) }
     ensures itself { font_fault x.now ≡ None → cut_of x.now everything ≡ x.now → y.now ≡ x.now →
         MatchResult result (λ z. z.items ≡ x.now) (λ error. error ≡ JoinError.NoMemory) }
+    ensures renewal { IsCut our_format x.now → y.now ≡ x.now →
+        MatchResult result (λ z. z.items ≡ renewed our_format x.now)
+        (IsForSize (length (renewed our_format x.now))) }
     ensures upper { IfOk result (λ z. IsLeastUpper x.now y.now z.items) }
     ensures small { IfOk result (λ z. length z.items ≤ MAX_FILE) }
     ensures refused { IfErr result (IsTrueRefusal x.now y.now) }

@@ -36,8 +36,8 @@ impl<'a, A: Allocator> Model for Joined<'a, A> {
 }
 
 impl<'a, A: Allocator + Copy> Joined<'a, A> {
-    /// The union of two fonts in cut form. All memory that a join needs before its file is made is
-    /// asked for here.
+    /// The union of two fonts in cut form, each current or old. All memory that a join needs before its
+    /// file is made is asked for here.
     ///
     /// # Errors
     ///
@@ -53,13 +53,17 @@ impl<'a, A: Allocator + Copy> Joined<'a, A> {
             Ok(one) => one,
             Err(error) => return Err(error),
         };
-        match one.add(alloc, y) {
+        let both = match one.add(alloc, y) {
+            Ok(both) => both,
+            Err(error) => return Err(error),
+        };
+        match both.settle(alloc) {
             Ok(union) => Ok(Joined {
                 first: x,
                 second: y,
                 union,
             }),
-            Err(error) => Err(error),
+            Err(_) => Err(JoinError::NoMemory),
         }
     }
 }

@@ -2,7 +2,7 @@
 #![tactic(auto)]
 
 mod cut_font;
-mod cut_form;
+mod cut_forms;
 mod cut_source;
 mod difference;
 mod emit;
@@ -14,10 +14,13 @@ mod listed;
 mod merging;
 mod outlet;
 mod outlines;
+mod run_list;
 mod union;
+mod union_map;
+mod without_codes;
 
 pub use crate::cut_font::{CutError, CutIntoError, cut, cut_into};
-pub use crate::cut_form::is_cut;
+pub use crate::cut_forms::{CutForm, cut_form, is_cut, is_cut_of};
 pub use crate::cut_source::CutOf;
 pub use crate::join_error::{JoinAllError, JoinAllIntoError, JoinError, Which};
 pub use crate::join_list::{join_all, join_all_into};

@@ -7,9 +7,10 @@ ghost use Rattle.font_theory.specs.Content.{content, everything, font_of};
 ghost use Rattle.font_theory.specs.Cut.{IsCut, is_cut, our_format};
 ghost use Rattle.font_cut.specs.Union.{AreRunsOf};
 
+use crate::cut_forms::CutForm;
 use crate::cut_source::CutOf;
-use crate::emit::is_whole;
-use crate::merging::{run_among, runs_of};
+use crate::emit::form_among;
+use crate::run_list::{Hint, run_among};
 use font_file::Font;
 use font_map::Run;
 use font_write::Source;
@@ -24,7 +25,7 @@ pub(crate) struct Listed<'f, 'a, A: Allocator> {
     font: CutOf<'f, 'a, A>,
     runs: Vec<Run, A>,
     // Where the run that was read last stands.
-    hint: Cell<usize>,
+    hint: Cell<Hint>,
 }
 
 // Its value is the file of the font.
@@ -49,12 +50,11 @@ impl<'f, 'a, A: Allocator + Copy> Listed<'f, 'a, A> {
     pub(crate) fn new(alloc: A, font: &'f Font<'a>) -> Result<Listed<'f, 'a, A>, NoMemory>
         ensures { IfOk result (λ listed. listed ≡ font.entry.now) }
     {
-        let font = CutOf::for_all_codes(alloc, font)?;
-        let runs = runs_of(alloc, &font)?;
+        let (font, runs) = CutOf::with_runs(alloc, font)?;
         Ok(Listed {
             font,
             runs,
-            hint: Cell::new(0),
+            hint: Cell::new(Hint::START),
         })
     }
 }
@@ -95,13 +95,6 @@ impl<'f, 'a, A: Allocator> Source for Listed<'f, 'a, A> {
 }
 
 impl<'f, 'a, A: Allocator> Listed<'f, 'a, A> {
-    /// The runs.
-    pub(crate) fn runs(&self) -> &[Run]
-        ensures { AreRunsOf self.now result.now }
-    {
-        &self.runs
-    }
-
     /// The list of runs, where nothing else of this is needed any more.
     pub(crate) fn into_runs(self) -> Vec<Run, A>
         ensures { AreRunsOf self.entry result.items }
@@ -119,11 +112,11 @@ impl<'f, 'a, A: Allocator> Listed<'f, 'a, A> {
         self.font.written_outline(g)
     }
 
-    /// Whether the font's file is the file of this content.
+    /// Whether the font's file is the file of this content, in any form.
     pub(crate) fn is_cut(&self) -> bool
         ensures exact { result ≡ is_cut our_format self.now }
         ensures form { IsTrue result → IsCut our_format self.now }
     {
-        is_whole(self, self.font.file())
+        !matches!(form_among(self, self.font.file()), CutForm::Not)
     }
 }

@@ -1,36 +1,18 @@
 //! The runs of the union of two maps. OpenType 1.9, cmap, Format 12: Segmented coverage.
-ghost use Rattle.std.specs.Prelude.{◌≡◌, ◌+◌, ◌<◌, ◌≤◌, ℕ, length, IfOk, MatchOption};
+ghost use Rattle.std.specs.Prelude.{◌≡◌, ◌+◌, ◌<◌, ◌≤◌, ◌++◌, ℕ, List, [], length, IfOk, IsTrue, MatchOption};
 ghost use Rattle.font_map.specs.CharacterMap.{IsCharacterMap, united};
-ghost use Rattle.font_map.specs.Runs.{IsNext, IsPiece, IsRun, NoRun, spelled};
+ghost use Rattle.font_map.specs.Runs.{IsNext, IsPiece, IsRun, spelled};
+ghost use Rattle.font_map.specs.declared.runs.Run.{Run};
 ghost use Rattle.font_cut.specs.Union.{AreMapRuns};
-ghost use Rattle.font_cut.specs.Inside.{IsDone, IsPast, IsPlace};
+ghost use Rattle.font_cut.specs.Inside.{IsDone, IsGapBelow, IsPast, IsPlace, LeavesAlone};
 
+use crate::run_list::{place_from, run_from};
 use font_map::Run;
-use font_write::Source;
 use sfnt_bytes::NoMemory;
 use std::alloc::Allocator;
-use std::cell::Cell;
 
-// The place of the first run that ends at a code or above it, by halving.
-#[tactic(auto, using(crate::proofs::RunListLemmas::past_middle, crate::proofs::RunListLemmas::past_none))]
-fn place_of(runs: &[Run], from: u32) -> usize
-    requires { AreMapRuns runs.now }
-    ensures { IsPlace runs.now from result }
-{
-    let mut low = 0;
-    let mut high = runs.len();
-    while low < high {
-        let middle = low + (high - low) / 2;
-        if runs[middle].last < from {
-            low = middle + 1;
-        } else {
-            high = middle;
-        }
-    }
-    low
-}
-
-// The same, where the runs before a place are known to end below the code.
+// Returns the place of the first run that ends at a code or above it, where the runs before a place are
+// known to end below the code.
 #[tactic(auto, using(crate::proofs::RunListLemmas::past_more))]
 fn place_after(runs: &[Run], place: usize, from: u32) -> usize
     requires { IsPast runs.now from place }
@@ -43,52 +25,9 @@ fn place_after(runs: &[Run], place: usize, from: u32) -> usize
     at
 }
 
-// The run at a place, from a code on.
-#[tactic(auto, using(crate::proofs::RunListLemmas::none_there, crate::proofs::RunListLemmas::run_there, crate::proofs::RunListLemmas::run_from_there, crate::proofs::RunListLemmas::glyph_there))]
-fn run_from(runs: &[Run], place: usize, from: u32) -> Option<Run>
-    requires runs { AreMapRuns runs.now }
-    requires place { IsPlace runs.now from place }
-    ensures { MatchOption result (NoRun (spelled runs.now) from) (IsRun (spelled runs.now) from) }
-{
-    if place == runs.len() {
-        return None;
-    }
-    let run = runs[place];
-    if from <= run.first {
-        return Some(run);
-    }
-    Some(Run {
-        first: from,
-        last: run.last,
-        glyph: run.glyph + (from - run.first) as u16,
-    })
-}
-
-// The same: on from `hint`, where the run before it ends below the code; else by halving.
-fn place_near(runs: &[Run], hint: usize, from: u32) -> usize
-    requires { AreMapRuns runs.now }
-    ensures { IsPlace runs.now from result }
-{
-    if 0 < hint && hint <= runs.len() && runs[hint - 1].last < from {
-        return place_after(runs, hint, from);
-    }
-    place_of(runs, from)
-}
-
-/// The run that begins at the least mapped code not below `from`. `hint` keeps the place of the run that
-/// was found last: a walk over the runs goes on from there.
-pub(crate) fn run_among(runs: &[Run], hint: &Cell<usize>, from: u32) -> Option<Run>
-    requires { AreMapRuns runs.now }
-    ensures { MatchOption result (NoRun (spelled runs.now) from) (IsRun (spelled runs.now) from) }
-{
-    let place = place_near(runs, hint.get(), from);
-    hint.set(place);
-    run_from(runs, place, from)
-}
-
-// The first piece of the union of two maps, where the first pieces of both are known: one of them, up
-// to where the first map goes on.
-fn first_piece(a: Option<Run>, b: Option<Run>) -> Option<Run>
+/// The first piece of the union of two maps, where the first pieces of both are known: one of them, up
+/// to where the first map goes on.
+pub(crate) fn first_piece(a: Option<Run>, b: Option<Run>) -> Option<Run>
     ensures { (m k : ℕ → ℕ) (from : ℕ) → IsNext m from a → IsNext k from b → IsNext (united m k) from result }
 {
     let Some(a) = a else {
@@ -166,29 +105,90 @@ fn run_of_both(
     (run, ahead, at)
 }
 
-// Returns the first code of the run at a place, and one above all codes where there is none: no code
-// between one that has this place and that code is mapped.
-fn end_of_gap(runs: &[Run], place: usize) -> u32
-    requires { AreMapRuns runs.now }
-    ensures { (from : ℕ) → IsPlace runs.now from place → (c : ℕ) → from ≤ c → c < result →
-        spelled runs.now c ≡ 0 }
+// Whether the run at a place leaves a run alone, which begins at a code or above it: it begins behind that
+// run and does not go on with it. So does the end of the list.
+fn leaves_alone(runs: &[Run], place: usize, run: Run) -> bool
+    requires runs { AreMapRuns runs.now }
+    requires order { run.first ≤ run.last }
+    requires small { run.last ≤ 0x10FFFF }
+    requires some { 0 < run.glyph }
+    ensures { (from : ℕ) → IsPast runs.now from place → from ≤ run.first → IsTrue result →
+        LeavesAlone (spelled runs.now) from run }
 {
-    if place < runs.len() {
-        runs[place].first
-    } else {
-        u32::MAX
+    if place >= runs.len() {
+        return true;
     }
+    let next = runs[place];
+    if next.first <= run.last {
+        return false;
+    }
+    let goes_on = u32::from(run.glyph) + (run.last - run.first) + 1;
+    if next.first == run.last + 1 && u32::from(next.glyph) == goes_on {
+        return false;
+    }
+    true
 }
 
-// Adds the runs of `a` from a code on that stand alone: they begin behind it, and `b` maps no code up to
-// behind their ends, so each is a run of the union. Returns the place and the code behind the last one.
-fn push_alone<A: Allocator>(
+// Returns the place behind the runs of `a` from place `i` on that end below the code before the next run of
+// `b`, which is at place `j`; the run at place `i` is one of them in any case.
+fn end_of_stretch(a: &[Run], i: usize, b: &[Run], j: usize) -> usize
+    requires first { AreMapRuns a.now }
+    requires second { AreMapRuns b.now }
+    requires there { i < length a.now }
+    ensures order { i < result }
+    ensures within { result ≤ length a.now }
+    ensures gap { (from : ℕ) → IsPast b.now from j → IsGapBelow a.now i result (spelled b.now) from }
+{
+    if j >= b.len() {
+        return a.len();
+    }
+    let next = b[j].first;
+    if next <= a[i].last || next - a[i].last == 1 {
+        return i + 1;
+    }
+    place_from(a, i + 1, next - 1)
+}
+
+// The runs of one of both from a code on that begin there and are left alone by the other list, the places
+// behind them, and the code behind them.
+fn next_apart<'r>(
+    a: &'r [Run],
+    b: &'r [Run],
+    places: (usize, usize),
+    from: u32,
+) -> Option<(&'r [Run], (usize, usize), u32)>
+    requires first { AreMapRuns a.now }
+    requires second { AreMapRuns b.now }
+    requires first_past { IsPast a.now from places.0 }
+    requires second_past { IsPast b.now from places.1 }
+    ensures done { MatchOption result Unit (λ found. (runs : List Run) →
+        IsDone (united (spelled a.now) (spelled b.now)) runs from →
+        IsDone (united (spelled a.now) (spelled b.now)) (runs ++ found.0.now) found.2) }
+    ensures first_past { MatchOption result Unit (λ found. IsPast a.now found.2 found.1.0) }
+    ensures second_past { MatchOption result Unit (λ found. IsPast b.now found.2 found.1.1) }
+    ensures order { MatchOption result Unit (λ found. (from < found.2) × (found.2 ≤ 0x110000)) }
+{
+    let (i, j) = places;
+    if i < a.len() && from <= a[i].first && leaves_alone(b, j, a[i]) {
+        let end = end_of_stretch(a, i, b, j);
+        return Some((&a[i..end], (end, j), a[end - 1].last + 1));
+    }
+    if j < b.len() && from <= b[j].first && leaves_alone(a, i, b[j]) {
+        let end = end_of_stretch(b, j, a, i);
+        return Some((&b[j..end], (i, end), b[end - 1].last + 1));
+    }
+    None
+}
+
+// Adds the runs of both from a code on that are left alone by the other list, up to one that is not. Returns
+// the places and the code behind the last one.
+fn push_apart<A: Allocator>(
     a: &[Run],
     b: &[Run],
     places: (usize, usize),
     from: u32,
     runs: &mut Vec<Run, A>,
-) -> Result<(usize, u32), NoMemory>
+) -> Result<((usize, usize), u32), NoMemory>
     requires first { AreMapRuns a.now }
     requires second { AreMapRuns b.now }
     requires first_past { IsPast a.now from places.0 }
@@ -196,24 +196,45 @@ fn push_alone<A: Allocator>(
     requires small { from ≤ 0x110000 }
     requires done { IsDone (united (spelled a.now) (spelled b.now)) runs.old.items from }
     ensures done { IfOk result (λ next. IsDone (united (spelled a.now) (spelled b.now)) runs.new.items next.1) }
-    ensures past { IfOk result (λ next. IsPast a.now next.1 next.0) }
+    ensures first_past { IfOk result (λ next. IsPast a.now next.1 next.0.0) }
+    ensures second_past { IfOk result (λ next. IsPast b.now next.1 next.0.1) }
     ensures order { IfOk result (λ next. (from ≤ next.1) × (next.1 ≤ 0x110000)) }
 {
-    let stop = end_of_gap(b, place_after(b, places.1, from));
-    let mut at = places.0;
+    let mut at = places;
     let mut code = from;
-    while at < a.len() && code <= a[at].first && a[at].last + 1 < stop {
-        if runs.push(a[at]).is_err() {
+    while let Some((stretch, places_behind, behind)) = next_apart(a, b, at, code) {
+        if runs.extend_from_slice(stretch).is_err() {
             return Err(NoMemory);
         }
-        code = a[at].last + 1;
-        at += 1;
+        at = places_behind;
+        code = behind;
     }
     Ok((at, code))
 }
 
-/// Lists the runs of the union of two maps in the memory of `room`, whose own runs go.
-pub(crate) fn runs_of_both<A: Allocator>(
+// Returns an empty list with room for so many runs: that of a list whose runs go, where it has enough. It is
+// not made to grow, for that would copy runs that nobody needs.
+fn empty_list<A: Allocator + Copy>(
+    alloc: A,
+    room: Vec<Run, A>,
+    count: usize,
+) -> Result<Vec<Run, A>, NoMemory>
+    ensures { IfOk result (λ runs. runs.items ≡ []) }
+{
+    let mut runs = room;
+    runs.clear();
+    if runs.capacity() < count {
+        runs = Vec::new(alloc);
+    }
+    if runs.reserve(count).is_err() {
+        return Err(NoMemory);
+    }
+    Ok(runs)
+}
+
+/// Lists the runs of the union of two maps, in the memory of `room` if that is enough. The runs of `room` go.
+pub(crate) fn runs_of_both<A: Allocator + Copy>(
+    alloc: A,
     room: Vec<Run, A>,
     a: &[Run],
     b: &[Run],
@@ -223,12 +244,8 @@ pub(crate) fn runs_of_both<A: Allocator>(
     ensures spelled { IfOk result (λ v. spelled v.items ≡ united (spelled a.now) (spelled b.now)) }
     ensures runs { IfOk result (λ v. AreMapRuns v.items) }
 {
-    let mut runs = room;
-    runs.clear();
     // As many as there can be where the maps agree: without them the list is copied as it grows.
-    if runs.reserve(a.len().saturating_add(b.len())).is_err() {
-        return Err(NoMemory);
-    }
+    let mut runs = empty_list(alloc, room, a.len().saturating_add(b.len()))?;
     let (mut ahead, mut places) = piece_of_both(a, b, (0, 0), 0);
     let mut from = 0;
     while let Some(piece) = ahead {
@@ -236,38 +253,9 @@ pub(crate) fn runs_of_both<A: Allocator>(
         if runs.push(run).is_err() {
             return Err(NoMemory);
         }
-        let (place, code) = push_alone(a, b, at, run.last + 1, &mut runs)?;
+        let (behind, code) = push_apart(a, b, at, run.last + 1, &mut runs)?;
         from = code;
-        (ahead, places) = piece_of_both(a, b, (place, at.1), code);
-    }
-    Ok(runs)
-}
-
-// What is known of the map of a source.
-#[tactic(auto, using(font_write::proofs::MapLemmas::is_map))]
-fn known_map<S: Source>(source: &S)
-    ensures { IsCharacterMap (S.content_of source.now).map }
-{
-    source.known();
-    let _count = source.glyph_count();
-}
-
-/// The runs of the map of a source.
-pub(crate) fn runs_of<S: Source, A: Allocator>(
-    alloc: A,
-    source: &S,
-) -> Result<Vec<Run, A>, NoMemory>
-    ensures spelled { IfOk result (λ v. spelled v.items ≡ (S.content_of source.now).map) }
-    ensures runs { IfOk result (λ v. AreMapRuns v.items) }
-{
-    known_map(source);
-    let mut runs = Vec::new(alloc);
-    let mut from = 0;
-    while let Some(run) = source.next_run(from) {
-        if runs.push(run).is_err() {
-            return Err(NoMemory);
-        }
-        from = run.last + 1;
+        (ahead, places) = piece_of_both(a, b, behind, code);
     }
     Ok(runs)
 }

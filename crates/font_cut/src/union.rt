@@ -1,13 +1,14 @@
 //! The union of many files in cut form, added one after the other: the bytes of each are read once.
 //! This is this project's own, but for the groups of the mapping. OpenType 1.9, cmap, Format 12:
 //! Segmented coverage.
-ghost use Rattle.std.specs.Prelude.{◌≡◌, ◌≤◌, length, None, Some, MatchOption, MatchResult};
+ghost use Rattle.std.specs.Prelude.{◌≡◌, ◌≤◌, length, None, Some, IfOk, MatchOption, MatchResult};
 ghost use Rattle.sfnt_bytes.specs.declared.directory.TheConstants.{MAX_FILE};
 ghost use Rattle.font_theory.specs.Bytes.{padded};
 ghost use Rattle.font_theory.specs.Content.{content, everything, font_of};
 ghost use Rattle.font_theory.specs.Cut.{IsCut, our_format};
 ghost use Rattle.font_theory.specs.File.{current_form, file};
 ghost use Rattle.font_theory.specs.Join.{both};
+ghost use Rattle.font_cut.specs.Cut.{IsTooLarge};
 ghost use Rattle.font_cut.specs.Union.{IsUnion, content_in};
 ghost use Rattle.font_cut.specs.Inside.{AgreesEarly, IsAddRefusal, IsFirstRefusal, add_fault};
 
@@ -16,25 +17,22 @@ use crate::difference::{early_difference, refusal_of};
 use crate::emit::CURRENT;
 use crate::join_error::{JoinError, Which};
 use crate::listed::Listed;
-use crate::merging::{run_among, runs_of_both};
 use crate::outlines::Outlines;
+use crate::union_map::UnionMap;
+use crate::without_codes::size_without_codes;
 use font_file::Font;
 use font_map::Run;
-use font_write::{Counts, Source, counted_size};
+use font_write::{Source, file_size};
+use sfnt_bytes::{MAX_FILE, NoMemory};
 use std::alloc::Allocator;
-use std::cell::Cell;
 use std::marker::Model;
 
-/// The union of files in cut form: the tables of the first of them, the merged runs of all maps, and
-/// for each glyph the slice of the first file that keeps it.
+/// The union of files in cut form: the tables of the first of them, the maps of all in one, and for each
+/// glyph the slice of the first file that keeps it.
 #[derive(Drop)]
 pub(crate) struct Union<'f, 'a, A: Allocator> {
     first: &'f Font<'a>,
-    runs: Vec<Run, A>,
-    // The list of runs before the last file, whose memory the next list takes.
-    spare: Vec<Run, A>,
-    // Where the run that was read last stands.
-    hint: Cell<usize>,
+    map: UnionMap<A>,
     outlines: Outlines<'a, A>,
 }
 
@@ -44,11 +42,11 @@ impl<'f, 'a, A: Allocator> Model for Union<'f, 'a, A> {
 
     ghost Value = { Held };
 
-    ghost view = { λ u. record { tables = u.first.now; runs = u.runs.items; outlines = u.outlines } };
+    ghost view = { λ u. record { tables = u.first.now; runs = u.map; outlines = u.outlines } };
 
     ghost invariant = { λ u. IsUnion (record {
       tables = u.first.now;
-      runs = u.runs.items;
+      runs = u.map;
       outlines = u.outlines;
     }) };
 }
@@ -76,7 +74,7 @@ impl<'f, 'a, A: Allocator> Source for Union<'f, 'a, A> {
     }
 
     fn next_run(&self, from: u32) -> Option<Run> {
-        run_among(&self.runs, &self.hint, from)
+        self.map.next_run(from)
     }
 
     fn keeps(&self, g: u16) -> bool {
@@ -107,16 +105,20 @@ impl<'f, 'a, A: Allocator> Union<'f, 'a, A> {
 }
 
 impl<'f, 'a, A: Allocator> Union<'f, 'a, A> {
-    /// How many bytes the file of the union has. Its runs and its outlines are counted as they are added,
-    /// so that no step goes over all of them.
-    pub(crate) fn size(&self) -> u64
-        ensures { result ≡ length (file current_form (content_in self.now)) }
+    /// How many bytes the file of the union has, where these are too many. Its outlines are counted as they
+    /// are added and its groups are at most those of both lists, so that a step goes over neither but where
+    /// the size is close to the limit.
+    pub(crate) fn too_large(&self) -> Option<u64>
+        ensures { MatchOption result
+            (length (file current_form (content_in self.now)) ≤ MAX_FILE)
+            (IsTooLarge (file current_form (content_in self.now))) }
     {
-        let counts = Counts {
-            groups: self.runs.len() as u32,
-            outlines: self.outlines.bytes() as usize,
-        };
-        counted_size(self, CURRENT, counts).bytes
+        let beside = size_without_codes(self, self.outlines.bytes() as usize);
+        if beside.saturating_add(12 * u64::from(self.map.most_groups())) <= MAX_FILE {
+            return None;
+        }
+        let size = file_size(self, CURRENT).bytes;
+        if size > MAX_FILE { Some(size) } else { None }
     }
 }
 
@@ -131,7 +133,7 @@ fn early_refusal<A: Allocator, B: Allocator>(
     if !l.is_cut() {
         return Some(JoinError::NotACut(Which::Second));
     }
-    match early_difference(k, l) {
+    match early_difference(k, &k.map, l) {
         Some(difference) => Some(refusal_of(difference)),
         None => None,
     }
@@ -163,9 +165,7 @@ impl<'f, 'a, A: Allocator + Copy> Union<'f, 'a, A> {
         let _other = outlines.take(&file, count);
         Ok(Union {
             first: font,
-            runs: file.into_runs(),
-            spare: Vec::new(alloc),
-            hint: Cell::new(0),
+            map: UnionMap::of_runs(alloc, file.into_runs()),
             outlines,
         })
     }
@@ -187,20 +187,33 @@ impl<'f, 'a, A: Allocator + Copy> Union<'f, 'a, A> {
         if let Some(error) = early_refusal(&self, &file) {
             return Err(error);
         }
-        let Ok(runs) = runs_of_both(self.spare, &self.runs, file.runs()) else {
-            return Err(JoinError::NoMemory);
-        };
         let count = self.first.tables().glyph_count();
         let mut outlines = self.outlines;
         if let Some(g) = outlines.take(&file, count) {
             return Err(JoinError::DifferentGlyph(g));
         }
+        let Ok(map) = self.map.with(alloc, file.into_runs()) else {
+            return Err(JoinError::NoMemory);
+        };
         Ok(Union {
             first: self.first,
-            runs,
-            spare: self.runs,
-            hint: Cell::new(0),
+            map,
             outlines,
+        })
+    }
+
+    /// The same union, whose file is quick to write.
+    ///
+    /// # Errors
+    ///
+    /// `NoMemory` where memory is refused.
+    pub(crate) fn settle(self, alloc: A) -> Result<Union<'f, 'a, A>, NoMemory>
+        ensures { IfOk result (λ union. content_in union ≡ content_in self.entry) }
+    {
+        Ok(Union {
+            first: self.first,
+            map: self.map.settle(alloc)?,
+            outlines: self.outlines,
         })
     }
 }

@@ -11,6 +11,8 @@ use Rattle.sfnt_bytes.proofs.RangeLemmas.{range_with_len-step}
 use Rattle.sfnt_bytes.proofs.LineLemmas.{find-none_at, first_of_lines-append, first_of_lines-map, option_map-none}
 use Rattle.font_tables.specs.Refusals.{table_fault, table_lines}
 use Rattle.font_tables.specs.Fields.{glyph_count_of}
+use Rattle.font_tables.specs.declared.tables.TableError.{TableError}
+use Rattle.font_tables.proofs.TableLemmas.{is_measured}
 use Rattle.font_tables.specs.Outlines.{outline_of}
 use Rattle.font_glyph.specs.Record.{IsRecord}
 use Rattle.font_file.proofs.RecordLemmas.{is_record-tells}
@@ -61,6 +63,19 @@ no_directory (Some error) rest h = cc
 
 pub directory_fault-accepted : (file : List ℕ) → font_fault file ≡ None → directory_fault file ≡ None
 directory_fault-accepted file accepted = no_directory (directory_fault file) _ (sym (font_fault_is file) ∙ accepted)
+
+-- nor are its tables
+no_table : (directory : Option FontError) (tables : Option TableError) (rest : Option FontError) → option_or directory (option_or (option_map Tables tables) rest) ≡ None → tables ≡ None
+no_table None None rest h = refl
+no_table None (Some error) rest h = cc
+no_table (Some error) tables rest h = cc
+
+pub table_fault-accepted : (file : List ℕ) → font_fault file ≡ None → table_fault file ≡ None
+table_fault-accepted file accepted = no_table (option_map Directory (directory_fault file)) (table_fault file) _ (sym (font_fault_is file) ∙ accepted)
+
+-- an accepted font has a glyph
+pub has_glyph : (file value : List ℕ) → file ≡ value → font_fault file ≡ None → 0 < glyph_count_of value
+has_glyph file value same accepted = subst (λ (b : List ℕ). 0 < glyph_count_of b) same (is_measured file (table_fault-accepted file accepted)).glyphs
 
 -- each glyph of an accepted font has a record
 pub is_record-accepted : (file : List ℕ) (g : ℕ) → font_fault file ≡ None → g < glyph_count_of file → IsRecord (glyph_count_of file) (outline_of file g)

@@ -104,12 +104,11 @@ impl<'a> Font<'a> {
     }
 
     /// The glyph of a code, 0 where it is not mapped.
+    #[tactic(auto, using(crate::proofs::FontLemmas::has_glyph))]
     pub fn glyph(&self, code: u32) -> u16
         ensures glyph { result ≡ map_of self.now code }
         ensures small { result < glyph_count_of self.now }
     {
-        // There is a glyph at least, so that 0 is one.
-        let _count = self.tables.glyph_count();
         self.mapping.glyph(code)
     }
 

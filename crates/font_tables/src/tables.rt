@@ -139,7 +139,7 @@ impl<'a> Tables<'a> {
         if let Some(index) = first_bad_offset(form, loca, glyf.len(), glyph_count) {
             return Err(TableError::BadLoca(index));
         }
-        // What reading the directory has shown stays known.
+        // Recalls for the prover that the directory is readable.
         let _file = directory.file();
         Ok(Tables {
             directory,

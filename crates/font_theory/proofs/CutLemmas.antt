@@ -1,5 +1,5 @@
 -- Cuts and joins of files, and the order of files.
-use Rattle.std.proofs.Common.{◌≡◌, ◌≢◌, ℕ, ◌≤◌, Bool, true, false, cond, nat_eq, nat_lt, ◌&&◌, ◌||◌, inl, inr, List, length, refl, sym, ◌∙◌, ap, subst, arith, is_none, unwrap_or, [], Option, Some, None}
+use Rattle.std.proofs.Common.{◌≡◌, ◌≢◌, ℕ, ◌≤◌, Bool, true, false, cond, nat_eq, nat_lt, ◌&&◌, ◌||◌, ◌⊎◌, inl, inr, List, length, refl, sym, ◌∙◌, ap, subst, arith, is_none, unwrap_or, [], Option, Some, None}
 use Rattle.std.proofs.Math.Path.{fun_ext}
 use Rattle.std.specs.Str.{bytes_eq}
 use Rattle.std.proofs.lemmas.Bool.{and_from, and_parts, lt-ltb, ltb-true, or_cases, or_left, or_right}
@@ -10,7 +10,7 @@ use Rattle.sfnt_bytes.specs.Lines.{when}
 use Rattle.font_theory.specs.Bytes.{padded}
 use Rattle.font_map.proofs.MapLemmas.{same_cond}
 use Rattle.font_theory.specs.Content.{Content, IsClosedContent, content, everything, is_kept, seen}
-use Rattle.font_theory.specs.Cut.{CanJoin, Format, IsCurrent, IsCut, IsFormat, Under, Writes, codes_of, cut, either, is_current, is_cut, joined, whole}
+use Rattle.font_theory.specs.Cut.{CanJoin, Format, IsCurrent, IsCut, IsFormat, IsOld, Under, Writes, codes_of, cut, either, is_current, is_cut, is_old, joined, old_cut, renewed, whole}
 use Rattle.font_theory.specs.Join.{Agree, both}
 use Rattle.font_theory.proofs.ContentLemmas.{IsClosed-content, content-mapped, content-seen}
 use Rattle.font_theory.proofs.JoinLemmas.{Agree-content, Agree-self, IsClosed-both, both-content, both-self, content-left, content-right}
@@ -38,12 +38,32 @@ both_is p q = λ i. both (p i) (q i)
 pub CanJoin-self : (R : Format) (X : List ℕ) → IsCut R X → CanJoin R X X
 CanJoin-self R X ok = record { first = ok; second = ok; agree = Agree-self (whole R X) }
 
-pub joined-self : (R : Format) (X : List ℕ) → joined R X X ≡ R.file (whole R X)
+pub joined-self : (R : Format) (X : List ℕ) → joined R X X ≡ renewed R X
 joined-self R X = ap R.file (both-self (whole R X))
 
 -- a current file is in cut form
 pub IsCut-current : (R : Format) (X : List ℕ) → IsCurrent R X → IsCut R X
 IsCut-current R X ok = record { accepted = ok.accepted; written = inl ok.written }
+
+-- so is an old one
+pub IsCut-old : (R : Format) (X : List ℕ) → IsOld R X → IsCut R X
+IsCut-old R X ok = record { accepted = ok.accepted; written = inr ok.written }
+
+-- and there is no third form
+pub IsCut-cases : (R : Format) (X : List ℕ) → IsCut R X → IsCurrent R X ⊎ IsOld R X
+IsCut-cases R X ok = elim ok.written [
+  | inl e ↦ inl (record { accepted = ok.accepted; written = e })
+  | inr e ↦ inr (record { accepted = ok.accepted; written = e })
+]
+
+-- whether an accepted file is an old cut is decided
+pub is_old-tells : (R : Format) (X : List ℕ) → R.fault X ≡ None → is_old R X ≡ true → IsOld R X
+unfolding is_old
+is_old-tells R X h t = record { accepted = h; written = (bytes_eq-Decides (R.old (whole R X)) X).0 t }
+
+pub is_old-of : (R : Format) (X : List ℕ) → IsOld R X → is_old R X ≡ true
+unfolding is_old
+is_old-of R X ok = (bytes_eq-Decides (R.old (whole R X)) X).1 ok.written
 
 -- whether an accepted file is current is decided
 pub is_current-tells : (R : Format) (X : List ℕ) → R.fault X ≡ None → is_current R X ≡ true → IsCurrent R X
@@ -72,6 +92,12 @@ module _ (R : Format) (law : IsFormat R) where
   IsCurrent-written K X ok w small = record {
     accepted = (law.reads_back K X ok (inl w) small).0;
     written = ap R.file (whole-written K X ok (inl w) small) ∙ w;
+  }
+
+  pub IsOld-written : (K : Content) (X : List ℕ) → IsClosedContent K → R.old K ≡ X → length X ≤ R.most → IsOld R X
+  IsOld-written K X ok w small = record {
+    accepted = (law.reads_back K X ok (inr w) small).0;
+    written = ap R.old (whole-written K X ok (inr w) small) ∙ w;
   }
 
   pub font-whole : (X : List ℕ) → IsCut R X → R.font X ≡ seen (whole R X)
@@ -127,6 +153,13 @@ module _ (R : Format) (law : IsFormat R) where
   -- and as it is written it is current
   pub IsCurrent-cut : (F : List ℕ) → R.fault F ≡ None → (A : ℕ → Bool) (X : List ℕ) → X ≡ cut R F A → length X ≤ R.most → IsCurrent R X
   IsCurrent-cut F h A X is small = IsCurrent-written (content (R.font F) A) X (IsClosed-content (R.font F) A (law.is_font F h)) (sym is) small
+
+  -- as it was written before it is an old one, of the same content
+  pub IsOld-cut : (F : List ℕ) → R.fault F ≡ None → (A : ℕ → Bool) (X : List ℕ) → X ≡ old_cut R F A → length X ≤ R.most → IsOld R X
+  IsOld-cut F h A X is small = IsOld-written (content (R.font F) A) X (IsClosed-content (R.font F) A (law.is_font F h)) (sym is) small
+
+  pub whole-old_cut : (F : List ℕ) → R.fault F ≡ None → (A : ℕ → Bool) → length (old_cut R F A) ≤ R.most → whole R (old_cut R F A) ≡ content (R.font F) A
+  whole-old_cut F h A small = whole-cut F h A (old_cut R F A) (inr refl) small
 
   -- joining two cuts of a font, in any forms
   module _ (F : List ℕ) (h : R.fault F ≡ None) (A B : ℕ → Bool) (X Y : List ℕ)
@@ -273,13 +306,6 @@ module _ (R : Format) (law : IsFormat R) where
       go false true h k = k refl
       go false false h k = refl
 
-  -- where one file alone is written of a content, they are the same file
-  pub same-mutual : R.old ≡ R.file → (X Z : List ℕ) → Under R X Z → Under R Z X → X ≡ Z
-  same-mutual one X Z u v =
-      sym (file_of_whole X (IsCut-under X Z u (law.accepted_size X v.accepted)).written)
-      ∙ ap R.file (whole-mutual X Z u v)
-      ∙ file_of_whole Z (IsCut-under Z X v (law.accepted_size Z u.accepted)).written
-    where
-      file_of_whole : (V : List ℕ) → Writes R (whole R V) V → R.file (whole R V) ≡ V
-      file_of_whole V (inl e) = e
-      file_of_whole V (inr e) = sym (ap (λ f. f (whole R V)) one) ∙ e
+  -- so two that are current are the same file
+  pub same-mutual : (X Z : List ℕ) → IsCurrent R X → IsCurrent R Z → Under R X Z → Under R Z X → X ≡ Z
+  same-mutual X Z old new u v = sym old.written ∙ ap R.file (whole-mutual X Z u v) ∙ new.written

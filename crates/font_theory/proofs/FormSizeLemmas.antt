@@ -1,5 +1,5 @@
 -- The length of a file in each form, by its groups and its outlines.
-use Rattle.std.proofs.Common.{◌≡◌, ℕ, ◌+◌, ◌*◌, ◌%◌, List, length, map, max, sum, ap, ◌∙◌, arith, inl, inr}
+use Rattle.std.proofs.Common.{◌≡◌, ℕ, ◌+◌, ◌*◌, ◌%◌, List, length, map, max, sum, ap, ◌∙◌, arith, inl, inr, refl}
 use Rattle.std.specs.List.{concat}
 use Rattle.std.proofs.lemmas.Bool.{cases_eq}
 use Rattle.std.proofs.lemmas.List.{append-nil}
@@ -21,10 +21,31 @@ first_glyf : (outlines : List (List ℕ)) → glyf_bytes (form_of First) outline
 unfolding form_of first_form
 first_glyf outlines = append-nil (concat outlines)
 
+first_front : (n : ℕ) → length ((form_of First).front n) ≡ 7
+unfolding form_of first_form
+first_front n = refl
+
+second_front : (n : ℕ) → length ((form_of Second).front n) ≡ 9
+unfolding form_of second_form
+second_front n = refl
+
 pub size-first : (K : Content) → IsClosedContent K → size_of (form_of First) K ≡ size_with K (28 + 12 * length (groups_of_content K)) (sum (map length (outlines_of K)))
 unfolding size_of form_of first_form
 size-first K ok =
     ap (λ (n : ℕ). size_with K (28 + 12 * length (groups_of_content K)) n) (ap (λ (b : List ℕ). length (padded b)) (first_glyf (outlines_of K)) ∙ length-padded-outlines K (some-padded K ok))
+
+-- the second one is the larger
+pub sizes-apart : (K : Content) → size_of (form_of First) K ≡ size_of (form_of Second) K → ⊥
+unfolding size_of form_of
+sizes-apart K e =
+    let outlines : List (List ℕ) = outlines_of K in
+    let first : length (glyf_bytes (form_of First) outlines) ≡ length (concat outlines) = ap length (first_glyf outlines) in
+    let a = length-padded-is (glyf_bytes (form_of First) outlines) in
+    let b = length-padded-is (glyf_bytes (form_of Second) outlines) in
+    elim (cases_eq (length (concat outlines)) 0) [
+      | inl none ↦ let n = (length-second_glyf outlines).0 none in absurd (omega (arith, e, first_front (length (groups_of_content K)), second_front (length (groups_of_content K)), first, a, b, n, none))
+      | inr some ↦ let n = (length-second_glyf outlines).1 some in absurd (omega (arith, e, first_front (length (groups_of_content K)), second_front (length (groups_of_content K)), first, a, b, n, some))
+    ]
 
 -- four zeros stand in `glyf` where there is no other byte
 second_glyf : (K : Content) → IsClosedContent K → length (padded (glyf_bytes (form_of Second) (outlines_of K))) ≡ max (sum (map length (outlines_of K))) 4

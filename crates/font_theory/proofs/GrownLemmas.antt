@@ -3,12 +3,13 @@ use Rattle.std.proofs.Common.{◌≡◌, ℕ, zero, suc, ◌<◌, ◌≤◌, Boo
 use Rattle.std.proofs.Math.Bool.{or_self}
 use Rattle.std.proofs.Math.Path.{fun_ext}
 use Rattle.std.proofs.lemmas.Bool.{cases_eq}
-use Rattle.font_theory.specs.Cut.{CanJoin, Format, IsCut, IsFormat, Writes, cut, either, joined, whole}
+use Rattle.font_theory.specs.Content.{content}
+use Rattle.font_theory.specs.Cut.{CanJoin, Format, IsCurrent, IsCut, IsFormat, Writes, cut, either, joined, whole}
 use Rattle.font_theory.specs.Join.{Agree}
 use Rattle.font_theory.specs.Tree.{Differs, IsOver, IsSmall, JoinTree, Takes, Value, cuts, file_at, grown, union_below, union_in}
 use Rattle.font_theory.specs.Tree.JoinTree.{leaf}
 use Rattle.font_theory.proofs.CutLemmas.{CanJoin-cuts, joined-cuts, whole-cut}
-use Rattle.font_theory.proofs.TreeLemmas.{Differs-clash, Value-cut, Value-cuts, Value-file, Value-one, Value-same, Value-small}
+use Rattle.font_theory.proofs.TreeLemmas.{Differs-clash, Value-current, Value-cut, Value-cuts, Value-file, Value-one, Value-same, Value-small}
 
 -- what one joins with itself stays one set
 pub either-once : (A : ℕ → ℕ → Bool) → either (A 0) (A 0) ≡ union_below A 1
@@ -72,16 +73,13 @@ module _ (R : Format) (law : IsFormat R) (files : List (List ℕ)) where
         let q = Value-over (grown files (length files)) t z (IsOver-grown some) over (grown-cut (length files) z p) (grown-small (length files) z p small) few p in
         (q.0, q.1, q.2, ap R.file q.2 ∙ value-of_content (length files) refl p)
 
-    -- where one file alone is written of a content, that value is the same file
-    pub Value-grown_same : R.old ≡ R.file → (t : JoinTree (List ℕ)) → IsOver files t → IsSmall R t → Value R t z
-    Value-grown_same one t over few =
+    -- over current files that value is the same file
+    pub Value-grown_same : ((k : ℕ) → k < length files → IsCurrent R (file_at files k)) → (t : JoinTree (List ℕ)) → IsOver files t → IsSmall R t → Value R t z
+    Value-grown_same forms t over few =
         let q = Value-grown t over few in
-        let form = Value-cut R law t q.0 few (cut-over t over (grown-cut (length files) z p)) q.1 in
-        subst (Value R t) (sym (today q.0 form.written) ∙ q.3) q.1
-      where
-        today : (v : List ℕ) → Writes R (whole R v) v → R.file (whole R v) ≡ v
-        today v (inl e) = e
-        today v (inr e) = sym (ap (λ f. f (whole R v)) one) ∙ e
+        let each : (x : List ℕ) → Takes t x → IsCurrent R x = λ x h. let w = over.only x h in subst (IsCurrent R) (sym w.2) (forms w.0 w.1) in
+        let form = Value-current R law t q.0 few each q.1 in
+        subst (Value R t) (sym form.written ∙ q.3) q.1
 
     -- a tree over cuts of one font has that same value
     pub Value-grown_cuts : (F : List ℕ) → R.fault F ≡ None → (t : JoinTree (ℕ → Bool)) → IsOver files (cuts R F t) → IsSmall R (cuts R F t) → Value R (cuts R F t) z
@@ -105,28 +103,28 @@ module _ (R : Format) (law : IsFormat R) (files : List (List ℕ)) where
       let form = Value-cut R law (grown files k) x ss (λ y h. cut-over t over forms y (to y h)) p in
       Differs-clash R law (grown files k) t ss few (cut-over t over forms) to x (file_at files k) p (over.each k low) (form, forms k low, apart)
 
-  -- cuts of one font grow to its cut for all their sets
+  -- cuts of one font, in any forms, grow to its cut for all their sets
   module _ (F : List ℕ) (h : R.fault F ≡ None) (A : ℕ → ℕ → Bool)
-      (are : (k : ℕ) → k < length files → file_at files k ≡ cut R F (A k)) (few : (k : ℕ) → k < length files → length (file_at files k) ≤ R.most) where
-    step : (B : ℕ → Bool) (k : ℕ) → k < length files → (x : List ℕ) → x ≡ cut R F B → length x ≤ R.most
+      (are : (k : ℕ) → k < length files → Writes R (content (R.font F) (A k)) (file_at files k)) (few : (k : ℕ) → k < length files → length (file_at files k) ≤ R.most) where
+    step : (B : ℕ → Bool) (k : ℕ) → k < length files → (x : List ℕ) → Writes R (content (R.font F) B) x → length x ≤ R.most
         → CanJoin R x (file_at files k) × (joined R x (file_at files k) ≡ cut R F (either B (A k)))
-    step B k low x e small = (
-      CanJoin-cuts R law F h B (A k) x (file_at files k) (inl (sym e)) (inl (sym (are k low))) small (few k low),
-      joined-cuts R law F h B (A k) x (file_at files k) (inl (sym e)) (inl (sym (are k low))) small (few k low),
+    step B k low x w small = (
+      CanJoin-cuts R law F h B (A k) x (file_at files k) w (are k low) small (few k low),
+      joined-cuts R law F h B (A k) x (file_at files k) w (are k low) small (few k low),
     )
 
     first_step : 0 < length files → (x : List ℕ) → x ≡ file_at files 0 → length x ≤ R.most
         → CanJoin R x (file_at files 0) × (joined R x (file_at files 0) ≡ cut R F (union_below A 1))
-    first_step some x p small = let w = step (A 0) 0 some x (p ∙ are 0 some) small in (w.0, w.1 ∙ ap (cut R F) (either-once A))
+    first_step some x p small = let w = step (A 0) 0 some x (subst (Writes R (content (R.font F) (A 0))) (sym p) (are 0 some)) small in (w.0, w.1 ∙ ap (cut R F) (either-once A))
 
     pub grown-cuts : (k : ℕ) → k < length files → (v : List ℕ) → Value R (grown files (suc k)) v → v ≡ cut R F (union_below A (suc k))
     grown-cuts zero low v p = p.5 ∙ ap (joined R p.0) p.3 ∙ (first_step low p.0 p.2 (law.accepted_size p.0 p.4.first.accepted)).1
     grown-cuts (suc k) low v p =
         p.5 ∙ ap (joined R p.0) p.3
-        ∙ (step (union_below A (suc k)) (suc k) low p.0 (grown-cuts k (omega arith) p.0 p.2) (law.accepted_size p.0 p.4.first.accepted)).1
+        ∙ (step (union_below A (suc k)) (suc k) low p.0 (inl (sym (grown-cuts k (omega arith) p.0 p.2))) (law.accepted_size p.0 p.4.first.accepted)).1
 
     -- and at each step the two can be joined
     pub grown-joins : (k : ℕ) → k < length files → (x : List ℕ) → Value R (grown files k) x → length x ≤ R.most
         → CanJoin R x (file_at files k) × (joined R x (file_at files k) ≡ cut R F (union_below A (suc k)))
     grown-joins zero low x p small = first_step low x p small
-    grown-joins (suc k) low x p small = step (union_below A (suc k)) (suc k) low x (grown-cuts k (omega arith) x p) small
+    grown-joins (suc k) low x p small = step (union_below A (suc k)) (suc k) low x (inl (sym (grown-cuts k (omega arith) x p))) small

@@ -2,11 +2,11 @@
 use Rattle.std.proofs.Common.{◌≡◌, ℕ, ◌≤◌, Bool, true, false, ◌⊎◌, inl, inr, List, length, None, refl, sym, ◌∙◌, ap, subst}
 use Rattle.std.proofs.Math.Path.{fun_ext}
 use Rattle.std.proofs.lemmas.Bool.{or_cases, or_left, or_right}
-use Rattle.font_theory.specs.Cut.{Format, IsCut, IsFormat, Under, cut, joined, whole}
+use Rattle.font_theory.specs.Cut.{Format, IsCurrent, IsCut, IsFormat, Under, cut, joined, whole}
 use Rattle.font_theory.specs.Join.{Agree}
 use Rattle.font_theory.specs.Tree.{Clash, Differs, IsSmall, JoinTree, Takes, Value, cuts, union_in}
 use Rattle.font_theory.specs.Tree.JoinTree.{leaf, node}
-use Rattle.font_theory.proofs.CutLemmas.{Agree-under, CanJoin-cuts, CanJoin-under, IsClosed-whole, IsCut-joined, Under-joined_left, Under-joined_right, Under-least, Under-self, Under-through, joined-cuts, whole-joined, whole-mutual}
+use Rattle.font_theory.proofs.CutLemmas.{Agree-under, CanJoin-cuts, CanJoin-under, IsClosed-whole, IsCurrent-joined, IsCut-joined, Under-joined_left, Under-joined_right, Under-least, Under-self, Under-through, joined-cuts, whole-joined, whole-mutual}
 use Rattle.font_theory.proofs.DifferenceLemmas.{Agree-decided}
 
 module _ (R : Format) (law : IsFormat R) where
@@ -70,6 +70,11 @@ module _ (R : Format) (law : IsFormat R) where
   pub Value-file : (s t : JoinTree (List ℕ)) (v : List ℕ) → IsSmall R (node s t) → Value R (node s t) v → R.file (whole R v) ≡ v
   Value-file s t v small p =
       ap (λ (y : List ℕ). R.file (whole R y)) p.5 ∙ ap R.file (whole-joined R law p.0 p.1 p.4 (joined-small s t v small p)) ∙ sym p.5
+
+  -- that of a tree over current files is current
+  pub Value-current : (t : JoinTree (List ℕ)) (v : List ℕ) → IsSmall R t → ((x : List ℕ) → Takes t x → IsCurrent R x) → Value R t v → IsCurrent R v
+  Value-current (leaf x) v small each p = each v p
+  Value-current (node s t) v small each p = subst (IsCurrent R) (sym p.5) (IsCurrent-joined R law p.0 p.1 p.4 (joined-small s t v small p))
 
   -- a tree of cuts of one font has as its value the cut for the union
   pub Value-cuts : (F : List ℕ) → R.fault F ≡ None → (t : JoinTree (ℕ → Bool)) → IsSmall R (cuts R F t) → Value R (cuts R F t) (cut R F (union_in t))

@@ -8,8 +8,9 @@ use Rattle.font_file.specs.Font.{font_fault}
 use Rattle.font_file.specs.declared.font_error.FontError.{FontError}
 use Rattle.font_file.specs.declared.font_error.FontError.TheVariants.{Directory}
 use Rattle.font_theory.specs.Content.{Content, Font, IsClosedContent, IsFont, content, everything, font_of, seen}
-use Rattle.font_theory.specs.File.{Form, current_form, file}
+use Rattle.font_theory.specs.File.{Form, current_form, file, form_of}
 use Rattle.font_theory.specs.Join.{Agree, both}
+use Rattle.font_theory.specs.declared.Profile.TheVariants.{First}
 pub use Rattle.font_map.specs.Wanted.{either}
 
 -- a reader and a writer of files
@@ -17,7 +18,7 @@ pub record Format : Type 0 where
   pub fault : List ℕ → Option FontError  -- why a file is refused; None: it is accepted
   pub font : List ℕ → Font  -- what an accepted file means
   pub file : Content → List ℕ  -- what is written
-  pub old : Content → List ℕ  -- what was written before and is read as a cut, too; at first `file` once more
+  pub old : Content → List ℕ  -- what was written before, and is still read as a cut
   pub most : ℕ  -- the most bytes of a file
 
 -- X is a file of K
@@ -35,11 +36,19 @@ pub record IsFormat (R : Format) : Type 0 where
 abbrev pub cut : Format → List ℕ → (ℕ → Bool) → List ℕ
 cut R F wanted = R.file (content (R.font F) wanted)
 
+-- the same as it was written before
+abbrev pub old_cut : Format → List ℕ → (ℕ → Bool) → List ℕ
+old_cut R F wanted = R.old (content (R.font F) wanted)
+
 -- the content of a file for all codes
 abbrev pub whole : Format → List ℕ → Content
 whole R X = content (R.font X) everything
 
--- X is in cut form: accepted, and a file of its own content
+-- X written anew: its cut for all codes
+abbrev pub renewed : Format → List ℕ → List ℕ
+renewed R X = R.file (whole R X)
+
+-- X is in cut form, be it the current one or the old one: accepted, and a file of its own content
 pub record IsCut (R : Format) (X : List ℕ) : Type 0 where
   pub accepted : R.fault X ≡ None
   pub written : Writes R (whole R X) X
@@ -57,11 +66,20 @@ pub record IsCurrent (R : Format) (X : List ℕ) : Type 0 where
 unfoldable pub is_current : Format → List ℕ → Bool
 is_current R X = bytes_eq (R.file (whole R X)) X
 
+-- X is an old cut: accepted, and its own file as it was written before
+pub record IsOld (R : Format) (X : List ℕ) : Type 0 where
+  pub accepted : R.fault X ≡ None
+  pub written : R.old (whole R X) ≡ X
+
+-- an accepted file is an old cut
+unfoldable pub is_old : Format → List ℕ → Bool
+is_old R X = bytes_eq (R.old (whole R X)) X
+
 -- the codes that a file maps, none where it is refused
 abbrev pub codes_of : Format → List ℕ → ℕ → Bool
 codes_of R X c = is_none (R.fault X) && is_mapped (R.font X).map c
 
--- X is a cut of Z, for the codes of X
+-- X is a cut of Z in some form, for the codes of X
 pub record Under (R : Format) (X Z : List ℕ) : Type 0 where
   pub accepted : R.fault Z ≡ None
   pub written : Writes R (content (R.font Z) (codes_of R X)) X
@@ -80,6 +98,6 @@ pub record CanJoin (R : Format) (X Y : List ℕ) : Type 0 where
 abbrev pub format_of : Form → Form → Format
 format_of form old = record { fault = font_fault; font = font_of; file = file form; old = file old; most = MAX_FILE }
 
--- the reader and the writer of this program
+-- the reader and the writer of this program, which reads cuts of the first profile too
 unfoldable pub our_format : Format
-our_format = format_of current_form current_form
+our_format = format_of current_form (form_of First)

@@ -1,5 +1,5 @@
 //! The laws of fonts, contents and cuts: the contract of each function is the law.
-ghost use Rattle.std.specs.Prelude.{◌≡◌, ◌≢◌, ℕ, ◌≤◌, ◌↔◌, nat_eq, Bool, true, ◌&&◌, List, length, None, Some};
+ghost use Rattle.std.specs.Prelude.{◌≡◌, ◌≢◌, ℕ, ◌≤◌, ◌↔◌, ◌⊎◌, nat_eq, Bool, true, ◌&&◌, List, length, None, Some};
 ghost use Rattle.sfnt_bytes.specs.declared.directory.DirError.TheVariants.{FileTooLarge};
 ghost use Rattle.sfnt_bytes.specs.declared.directory.TheConstants.{MAX_FILE};
 ghost use Rattle.font_tables.specs.Metrics.{metric_of};
@@ -11,7 +11,7 @@ ghost use Rattle.font_file.specs.declared.font_error.FontError.{FontError};
 ghost use Rattle.font_file.specs.declared.font_error.FontError.TheVariants.{Directory};
 ghost use Rattle.font_theory.specs.Bytes.{padded};
 ghost use Rattle.font_theory.specs.Content.{Content, Font, IsClosedContent, IsFont, IsWritable, KeepsComponents, content, font_of, is_kept, is_seed, seen};
-ghost use Rattle.font_theory.specs.Cut.{Format, IsCurrent, IsCut, IsFormat, Writes, cut, is_current, is_cut, whole};
+ghost use Rattle.font_theory.specs.Cut.{Format, IsCurrent, IsCut, IsFormat, IsOld, Writes, cut, is_current, is_cut, is_old, old_cut, whole};
 
 /// What an accepted file means is a font.
 pub fn meaning_is_font()
@@ -102,6 +102,24 @@ pub fn cut_form_is_decided()
 pub fn cut_is_current()
     ensures { (R : Format) → IsFormat R → (F : List ℕ) → R.fault F ≡ None → (A : ℕ → Bool) →
         length (cut R F A) ≤ R.most → IsCurrent R (cut R F A) }
+{}
+
+/// A cut as it was written before is an old one, where it is not too large, and its content for all codes
+/// is that of the font for the wanted ones.
+pub fn old_cut_is_old()
+    ensures { (R : Format) → IsFormat R → (F : List ℕ) → R.fault F ≡ None → (A : ℕ → Bool) →
+        length (old_cut R F A) ≤ R.most → IsOld R (old_cut R F A)
+        × (whole R (old_cut R F A) ≡ content (R.font F) A) }
+{}
+
+/// A file in cut form is current, or an old cut.
+pub fn cut_is_in_a_form()
+    ensures { (R : Format) (X : List ℕ) → IsCut R X ↔ IsCurrent R X ⊎ IsOld R X }
+{}
+
+/// Whether an accepted file is an old cut is decided.
+pub fn old_is_decided()
+    ensures { (R : Format) (X : List ℕ) → R.fault X ≡ None → is_old R X ≡ true ↔ IsOld R X }
 {}
 
 /// A current file is in cut form.

@@ -7,7 +7,7 @@ ghost use Rattle.font_file.specs.Font.{font_fault};
 ghost use Rattle.font_theory.specs.Bytes.{padded};
 ghost use Rattle.font_theory.specs.Content.{Content, IsClosedContent, IsWritable, font_of, seen};
 ghost use Rattle.sfnt_bytes.specs.declared.base6.TheConstants.{BASE6};
-ghost use Rattle.font_theory.specs.Cut.{IsFormat, cut, format_of, our_format};
+ghost use Rattle.font_theory.specs.Cut.{IsCurrent, IsFormat, IsOld, cut, format_of, our_format};
 ghost use Rattle.font_theory.specs.File.{Form, IsForm, file, form_of, glyf_bytes, groups_of_content, outlines_of, size_of, size_with};
 ghost use Rattle.font_theory.specs.declared.Profile.{Profile};
 ghost use Rattle.font_theory.specs.declared.Profile.TheVariants.{First, Second};
@@ -61,9 +61,19 @@ pub fn profiles_are_forms()
     ensures { (profile : Profile) → IsForm (form_of profile) }
 {}
 
-/// No file is in both forms.
+/// No file is written in both forms.
 pub fn forms_are_apart()
     ensures { (K L : Content) → file (form_of First) K ≢ file (form_of Second) L }
+{}
+
+/// No file is both current and an old cut.
+pub fn no_cut_is_both()
+    ensures { (X : List ℕ) → IsCurrent our_format X → IsOld our_format X → ⊥ }
+{}
+
+/// The two files of a content differ in size.
+pub fn form_sizes_are_apart()
+    ensures { (K : Content) → size_of (form_of First) K ≢ size_of (form_of Second) K }
 {}
 
 /// In the second form `glyf` has four bytes or the outlines alone.
@@ -80,9 +90,11 @@ pub fn forms_are_formats()
     ensures { (form old : Form) → IsForm form → IsForm old → IsFormat (format_of form old) }
 {}
 
-/// The reader and the writer of this program go together.
+/// The reader and the writer of this program go together: it writes the second profile, and reads cuts of
+/// the first one too.
 pub fn our_format_is()
-    ensures { IsFormat our_format × (our_format.old ≡ our_format.file) × (our_format.most ≡ MAX_FILE) }
+    ensures { IsFormat our_format × (our_format.file ≡ file (form_of Second))
+        × (our_format.old ≡ file (form_of First)) × (our_format.most ≡ MAX_FILE) }
 {}
 
 /// The cut of a small font for no code in the first profile, byte by byte.

@@ -5,7 +5,7 @@ ghost use Rattle.sfnt_bytes.specs.declared.directory.DirError.TheVariants.{FileT
 ghost use Rattle.font_file.specs.declared.font_error.FontError.{FontError};
 ghost use Rattle.font_file.specs.declared.font_error.FontError.TheVariants.{Directory};
 ghost use Rattle.font_theory.specs.Content.{Content, Font, IsClosedContent, IsFont, content};
-ghost use Rattle.font_theory.specs.Cut.{CanJoin, Format, IsCurrent, IsCut, IsFormat, Under, Writes, cut, either, is_cut, joined, whole};
+ghost use Rattle.font_theory.specs.Cut.{CanJoin, Format, IsCurrent, IsCut, IsFormat, Under, Writes, cut, either, is_cut, joined, renewed, whole};
 ghost use Rattle.font_theory.specs.Difference.{difference};
 ghost use Rattle.font_theory.specs.Join.{Agree, both};
 
@@ -39,11 +39,13 @@ pub fn under_one_file()
         Agree (whole R X) (whole R Y)) }
 {}
 
-/// Being a cut of a file orders the files in cut form.
+/// Being a cut of a file orders the files in cut form: two under each other have one content, and are one
+/// file where both are current.
 pub fn under_is_order()
     ensures { (R : Format) → IsFormat R → ((X : List ℕ) → IsCut R X → Under R X X)
         × ((X Y Z : List ℕ) → Under R X Y → Under R Y Z → Under R X Z)
-        × ((X Z : List ℕ) → Under R X Z → Under R Z X → (whole R X ≡ whole R Z) × (R.old ≡ R.file → X ≡ Z)) }
+        × ((X Z : List ℕ) → Under R X Z → Under R Z X → (whole R X ≡ whole R Z)
+        × (IsCurrent R X → IsCurrent R Z → X ≡ Z)) }
 {}
 
 /// Two cuts of a font can be joined, and give its cut for the codes of either set.
@@ -54,9 +56,11 @@ pub fn join_of_cuts()
         → CanJoin R X Y × (joined R X Y ≡ cut R F (either A B)) }
 {}
 
-/// A file in cut form can be joined with itself, which gives the file of its content.
+/// A file in cut form can be joined with itself, which gives the file written anew: a current one
+/// itself.
 pub fn join_of_one()
-    ensures { (R : Format) (X : List ℕ) → IsCut R X → CanJoin R X X × (joined R X X ≡ R.file (whole R X)) }
+    ensures { (R : Format) (X : List ℕ) → IsCut R X → CanJoin R X X × (joined R X X ≡ renewed R X)
+        × (IsCurrent R X → joined R X X ≡ X) }
 {}
 
 /// Two accepted files can be joined exactly where both tests of cut form pass and no difference is

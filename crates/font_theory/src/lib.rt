@@ -8,13 +8,15 @@ mod trees;
 
 pub use crate::cuts::{
     closed_is_writable, closed_keeps, content_is_closed, current_is_cut, current_is_decided,
-    cut_form_is_decided, cut_is_current, cut_is_cut, cut_of_cut, kept_is_reached, meaning_is_font,
-    metrics_are_kept, size_of_file, wanted_is_in_file, wanted_is_kept,
+    cut_form_is_decided, cut_is_current, cut_is_cut, cut_is_in_a_form, cut_of_cut, kept_is_reached,
+    meaning_is_font, metrics_are_kept, old_cut_is_old, old_is_decided, size_of_file,
+    wanted_is_in_file, wanted_is_kept,
 };
 pub use crate::files::{
     cut_of_aacute, cut_of_nothing, cut_of_nothing_second, file_has_no_finding, file_is_accepted,
-    file_means, file_size, forms_are_apart, forms_are_formats, our_format_is, outlines_size,
-    profiles_are_forms, second_glyf_has_bytes, size_in_first_profile, size_in_second_profile,
+    file_means, file_size, form_sizes_are_apart, forms_are_apart, forms_are_formats,
+    no_cut_is_both, our_format_is, outlines_size, profiles_are_forms, second_glyf_has_bytes,
+    size_in_first_profile, size_in_second_profile,
 };
 pub use crate::joins::{
     can_join_is_decided, join_of_cuts, join_of_one, least_upper_bound, no_difference,

@@ -1,6 +1,7 @@
 //! The laws of trees of joins: the contract of each function is the law.
 ghost use Rattle.std.specs.Prelude.{◌≡◌, ℕ, suc, ◌<◌, ◌≤◌, Bool, List, length, None};
-ghost use Rattle.font_theory.specs.Cut.{CanJoin, Format, IsCut, IsFormat, cut, joined, whole};
+ghost use Rattle.font_theory.specs.Content.{content};
+ghost use Rattle.font_theory.specs.Cut.{CanJoin, Format, IsCurrent, IsCut, IsFormat, Writes, cut, joined, renewed, whole};
 ghost use Rattle.font_theory.specs.Join.{Agree};
 ghost use Rattle.font_theory.specs.Tree.{Differs, IsOver, IsSmall, JoinTree, Takes, Value, cuts, file_at, grown, union_below, union_in};
 
@@ -16,12 +17,12 @@ pub fn same_union()
         ((A : ℕ → Bool) → Takes t A → Takes s A) → union_in s ≡ union_in t }
 {}
 
-/// The tree that grows over cuts of one font comes to the cut for all their sets, and at each step
-/// the two can be joined.
+/// The tree that grows over cuts of one font, in any forms, comes to the cut for all their sets, and at
+/// each step the two can be joined.
 pub fn grown_cuts()
     ensures { (R : Format) → IsFormat R → (files : List (List ℕ)) (F : List ℕ) → R.fault F ≡ None →
         (A : ℕ → ℕ → Bool)
-        → ((k : ℕ) → k < length files → file_at files k ≡ cut R F (A k)) →
+        → ((k : ℕ) → k < length files → Writes R (content (R.font F) (A k)) (file_at files k)) →
         ((k : ℕ) → k < length files → length (file_at files k) ≤ R.most)
         → (k : ℕ) → k < length files
         → ((v : List ℕ) → Value R (grown files (suc k)) v → v ≡ cut R F (union_below A (suc k)))
@@ -38,13 +39,13 @@ pub fn same_content()
 {}
 
 /// Where the tree that grows has a value, each tree over all files that meets no size has a value of
-/// the same content, whose file is that value.
+/// the same content, whose file is that value; over current files it is the same value.
 pub fn same_value()
     ensures { (R : Format) → IsFormat R → (files : List (List ℕ)) → 0 < length files → (z : List ℕ) →
         Value R (grown files (length files)) z → length z ≤ R.most
         → (t : JoinTree (List ℕ)) → IsOver files t → IsSmall R t
-        → ((v : List ℕ) × Value R t v × (whole R v ≡ whole R z) × (R.file (whole R v) ≡ z))
-        × (R.old ≡ R.file → Value R t z) }
+        → ((v : List ℕ) × Value R t v × (whole R v ≡ whole R z) × (renewed R v ≡ z))
+        × (((k : ℕ) → k < length files → IsCurrent R (file_at files k)) → Value R t z) }
 {}
 
 /// Each tree over cuts of one font that meets no size has the value of the tree that grows.

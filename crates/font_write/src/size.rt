@@ -26,7 +26,7 @@ pub struct Counts {
 /// What is counted of a source, and how many bytes its file has.
 #[derive(Clone, Copy, Debug, PartialEq, Eq)]
 pub struct Size {
-    pub(crate) counts: Counts,
+    pub counts: Counts,
     pub bytes: u64,
 }
 

@@ -1,5 +1,5 @@
 //! What joins answer.
-use font_cut::{Font, JoinAllError, JoinError, is_cut, join, join_all};
+use font_cut::{CutForm, Font, JoinAllError, JoinError, cut_form, is_cut, join, join_all};
 use std::alloc::{AllocError, Allocator, Global};
 
 /// Returns the refusal of a join.
@@ -15,10 +15,18 @@ pub fn is_join(alloc: Global, x: &[u8], y: &[u8], stated: &[u8]) -> bool {
     }
 }
 
-/// Returns whether a file is a cut, and none where it is not accepted.
+/// Returns whether a file is a cut as it is written, and none where it is not accepted.
 pub fn cut_form_of(alloc: Global, file: &[u8]) -> Option<bool> {
     match Font::open(file) {
         Ok(font) => is_cut(alloc, &font).ok(),
+        Err(_) => None,
+    }
+}
+
+/// Returns the form in which a file is a cut, and none where it is not accepted.
+pub fn form_of(alloc: Global, file: &[u8]) -> Option<CutForm> {
+    match Font::open(file) {
+        Ok(font) => cut_form(alloc, &font).ok(),
         Err(_) => None,
     }
 }

@@ -4,15 +4,17 @@
 #[cfg(test)]
 mod answers;
 #[cfg(test)]
+mod belongs;
+#[cfg(test)]
 mod cut_form;
 #[cfg(test)]
 mod empty_glyf;
 #[cfg(test)]
-mod first_profile;
-#[cfg(test)]
 mod limits;
 #[cfg(test)]
 mod many;
+#[cfg(test)]
+mod old_cuts;
 #[cfg(test)]
 mod refused;
 #[cfg(test)]

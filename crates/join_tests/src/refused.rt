@@ -2,12 +2,13 @@
 use crate::answers::copies;
 use fakes::Refusing;
 use font_cut::{
-    DirError, Font, FontError, JoinAllError, JoinError, Joined, Which, is_cut, join, join_all,
+    CutForm, DirError, Font, FontError, JoinAllError, JoinError, Joined, Which, cut_form, is_cut,
+    join, join_all,
 };
 use sample_cuts::cut_of;
 use sample_cuts::refusals::{Answer, answered, refused_in_turn};
-use sample_fonts::fonts;
 use sample_fonts::known_cuts::{A_AND_B, A_B_AACUTE, AACUTE, NOTHING};
+use sample_fonts::{first_profile, fonts};
 use sfnt_bytes::BASE6;
 use std::alloc::Global;
 use std::test::Fail;
@@ -21,6 +22,33 @@ fn cut_form_without(alloc: Global, k: u64, file: &[u8], stated: bool) -> Answer 
         Ok(is_cut) => answered(memory.has_refused(), None, is_cut == stated),
         Err(_) => answered(memory.has_refused(), Some(0), false),
     }
+}
+
+fn form_without(alloc: Global, k: u64, file: &[u8], stated: CutForm) -> Answer {
+    let Ok(font) = Font::open(file) else {
+        return Answer::Other;
+    };
+    let memory = Refusing::new(alloc, k);
+    match cut_form(&memory, &font) {
+        Ok(form) => answered(memory.has_refused(), None, form == stated),
+        Err(_) => answered(memory.has_refused(), Some(0), false),
+    }
+}
+
+#[test]
+fn refused_memory_in_cut_form(rt: HostRuntime) -> Result<(), Fail> {
+    let alloc = rt.alloc();
+    let ring = fonts::ring_of_two(alloc)?;
+    for (file, stated) in [
+        (AACUTE.as_slice(), CutForm::Current),
+        (&first_profile::AACUTE, CutForm::Old),
+        (&BASE6, CutForm::Not),
+        (&ring, CutForm::Not),
+    ] {
+        let found = refused_in_turn(1, |k| form_without(alloc, k, file, stated));
+        assert!(rt; matches!(found, Some((_, 0))), "{} bytes", file.len());
+    }
+    Ok(())
 }
 
 #[test]
@@ -87,6 +115,7 @@ fn refused_memory_in_joins_of_two(rt: HostRuntime) -> Result<(), Fail> {
             A_AND_B.as_slice(),
             Ok(A_B_AACUTE.as_slice()),
         ),
+        (&first_profile::AACUTE, &A_AND_B, Ok(&A_B_AACUTE)),
         (&ends, &middle, Ok(row.as_slice())),
         (&AACUTE, &BASE6, Err(JoinError::NotACut(Which::Second))),
         (&empty, &more, Err(JoinError::DifferentGlyph(2))),
@@ -137,7 +166,12 @@ fn join_all_without(
 #[test]
 fn refused_memory_in_join_all(rt: HostRuntime) {
     let alloc = rt.alloc();
-    let files = [AACUTE.as_slice(), &A_AND_B, &AACUTE, &NOTHING];
+    let files = [
+        first_profile::AACUTE.as_slice(),
+        &A_AND_B,
+        &AACUTE,
+        &NOTHING,
+    ];
     let found = refused_in_turn(5, |k| join_all_without(alloc, k, &files, Ok(&A_B_AACUTE)));
     assert!(rt; matches!(found, Some((_, 3))), "{found:?}");
     let no_cut = Err(JoinAllError::At {

@@ -5,7 +5,6 @@ pub mod refusals;
 
 use font_cut::{Font, FontError, Wanted, WantedError, cut};
 use font_write::Source;
-use sample_fonts::bytes::words_of;
 use sfnt_bytes::{CMAP, Directory, GLYF, HEAD, LOCA};
 use std::alloc::{AllocError, Allocator, Global};
 use std::test::Fail;
@@ -36,6 +35,22 @@ pub fn cut_of(alloc: Global, file: &[u8], ranges: &[(u32, u32)]) -> Result<Vec<u
 /// The first refusal that applies to a file.
 pub fn refusal_of(file: &[u8]) -> Option<FontError> {
     Font::open(file).err()
+}
+
+// Returns the big-endian words of bytes. A number of bytes that is no multiple of four is an error.
+fn words_of(alloc: Global, bytes: &[u8]) -> Result<Vec<u32>, Fail> {
+    if bytes.len() % 4 != 0 {
+        return Err(Fail::from("no whole number of words"));
+    }
+    let mut words = Vec::new(alloc);
+    let mut word = 0u32;
+    for (place, byte) in bytes.iter().enumerate() {
+        word = (word << 8) | u32::from(*byte);
+        if place % 4 == 3 {
+            words.push(word)?;
+        }
+    }
+    Ok(words)
 }
 
 /// The groups of a cut, three words each.

@@ -1,6 +1,5 @@
 //! Lists of bytes, their fields and their sums.
 use std::alloc::{AllocError, Global};
-use std::test::Fail;
 
 /// Adds big-endian `u16` fields.
 pub fn put_u16(bytes: &mut Vec<u8>, fields: &[u16]) -> Result<(), AllocError> {
@@ -57,22 +56,6 @@ pub fn bytes_of(alloc: Global, words: &[u32]) -> Result<Vec<u8>, AllocError> {
     let mut bytes = Vec::new(alloc);
     put_u32(&mut bytes, words)?;
     Ok(bytes)
-}
-
-/// Returns the big-endian words of bytes. A number of bytes that is no multiple of four is an error.
-pub fn words_of(alloc: Global, bytes: &[u8]) -> Result<Vec<u32>, Fail> {
-    if bytes.len() % 4 != 0 {
-        return Err(Fail::from("no whole number of words"));
-    }
-    let mut words = Vec::new(alloc);
-    let mut word = 0u32;
-    for (place, byte) in bytes.iter().enumerate() {
-        word = (word << 8) | u32::from(*byte);
-        if place % 4 == 3 {
-            words.push(word)?;
-        }
-    }
-    Ok(words)
 }
 
 /// Zeros.

@@ -32,7 +32,7 @@ pub fn entry(tag: &[u8; 4], checksum: u32, offset: u32, length: u32) -> Entry {
 
 /// A directory with these records, as they stand. Its search fields are right where there are right
 /// ones, and else zero. More than 65,535 records are refused.
-pub fn directory_of(alloc: Global, entries: &[Entry]) -> Result<Vec<u8>, Fail> {
+pub(crate) fn directory_of(alloc: Global, entries: &[Entry]) -> Result<Vec<u8>, Fail> {
     let count = u16::try_from(entries.len()).map_err(|_| "too many records")?;
     let (range, selector, shift) = search_fields(count).unwrap_or((0, 0, 0));
     let mut directory = Vec::new(alloc);
@@ -57,7 +57,7 @@ pub fn file_as_stated(alloc: Global, entries: &[Entry], rest: &[u8]) -> Result<V
 
 /// The bytes of a table in what stands behind a directory of so many bytes. A table of no byte may
 /// stand anywhere.
-pub fn table_in<'a>(start: usize, rest: &'a [u8], entry: &Entry) -> Option<&'a [u8]> {
+pub(crate) fn table_in<'a>(start: usize, rest: &'a [u8], entry: &Entry) -> Option<&'a [u8]> {
     if entry.length == 0 {
         return Some(&[]);
     }
@@ -87,7 +87,7 @@ fn adjustment_place(entries: &[Entry]) -> Option<usize> {
 
 /// A file with these records and with `rest` behind them, in which `checksumAdjustment` is 0: all
 /// sums and the search fields are made right.
-pub fn file_of(alloc: Global, entries: &[Entry], rest: &[u8]) -> Result<Vec<u8>, Fail> {
+pub(crate) fn file_of(alloc: Global, entries: &[Entry], rest: &[u8]) -> Result<Vec<u8>, Fail> {
     let all = summed(alloc, entries, rest)?;
     let mut file = directory_of(alloc, &all)?;
     file.extend_from_slice(rest)?;
@@ -127,8 +127,28 @@ pub fn file_of_tables(alloc: Global, tables: &[Table]) -> Result<Vec<u8>, Fail> 
     file_of(alloc, &entries, &rest)
 }
 
+/// The tables of a file, in the order of its records, with `checksumAdjustment` 0.
+pub fn tables_of(alloc: Global, file: &[u8]) -> Result<Vec<Table>, Fail> {
+    let mut tables = Vec::new(alloc);
+    for entry in Directory::read(file)?.records() {
+        let table = table_in(0, file, &entry).ok_or("a table past the end")?;
+        let mut bytes = table.to_vec(alloc)?;
+        if entry.tag == Tag(*b"head") {
+            put_at(&mut bytes, 8, &[0; 4]);
+        }
+        tables.push(Table {
+            tag: entry.tag,
+            bytes,
+        })?;
+    }
+    Ok(tables)
+}
+
 /// The bytes of the table of this name.
-pub fn table_named<'a>(tables: &'a mut Vec<Table>, tag: &[u8; 4]) -> Option<&'a mut Vec<u8>> {
+pub(crate) fn table_named<'a>(
+    tables: &'a mut Vec<Table>,
+    tag: &[u8; 4],
+) -> Option<&'a mut Vec<u8>> {
     let place = tables.iter().position(|table| table.tag == Tag(*tag))?;
     Some(&mut tables.get_mut(place)?.bytes)
 }

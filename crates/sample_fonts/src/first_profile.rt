@@ -1,4 +1,50 @@
-//! Cuts of Base6 that are known byte for byte, in the first profile.
+//! Cuts in the first profile: those of Base6 that are known byte for byte, and those that are made of cuts
+//! in the second one.
+use crate::bytes::{put_u32, zeros};
+use crate::files::{Table, file_of_tables, replace, table_named, tables_of};
+use crate::fonts::REGION;
+use sfnt_bytes::{KEPT, Tag};
+use std::alloc::Global;
+use std::test::Fail;
+
+// The tables of a cut in the first profile: `cmap` has one record, of the subtable that stands behind two in
+// the second profile, and `glyf` has no bytes of its own, which are there where all offsets are 0.
+fn tables_in_first(alloc: Global, cut: &[u8]) -> Result<Vec<Table>, Fail> {
+    let mut tables = tables_of(alloc, cut)?;
+    let mut cmap = Vec::new(alloc);
+    put_u32(&mut cmap, &[1, 0x0003_000A, 12])?; // version and numTables, the record
+    let second = table_named(&mut tables, b"cmap").ok_or("no cmap")?;
+    cmap.extend_from_slice(second.get(20..).ok_or("a short cmap")?)?;
+    replace(&mut tables, b"cmap", cmap)?;
+    let loca = table_named(&mut tables, b"loca").ok_or("no loca")?;
+    if loca.iter().all(|byte| *byte == 0) {
+        replace(&mut tables, b"glyf", Vec::new(alloc))?;
+    }
+    Ok(tables)
+}
+
+/// A cut of the second profile in the first one.
+pub fn in_first_profile(alloc: Global, cut: &[u8]) -> Result<Vec<u8>, Fail> {
+    file_of_tables(alloc, &tables_in_first(alloc, cut)?)
+}
+
+// How many bytes of its zeros `vmtx` leaves out in the largest files.
+const LEFT_OUT: usize = 48;
+
+/// A cut of the second profile in the first one, with nine tables of zeros besides: all that it may keep.
+pub fn wide_in_first_profile(alloc: Global, cut: &[u8]) -> Result<Vec<u8>, Fail> {
+    let mut own = tables_in_first(alloc, cut)?;
+    let mut tables = Vec::new(alloc);
+    for tag in KEPT {
+        let bytes = match table_named(&mut own, &tag.0) {
+            Some(bytes) => bytes.to_vec(alloc)?,
+            None if tag == Tag(*b"vmtx") => zeros(alloc, REGION as usize - LEFT_OUT)?,
+            None => zeros(alloc, REGION as usize)?,
+        };
+        tables.push(Table { tag, bytes })?;
+    }
+    file_of_tables(alloc, &tables)
+}
 
 /// The cut of Base6 for no code.
 pub const NOTHING: [u8; 340] = [

@@ -2,10 +2,27 @@
 ghost use Rattle.std.specs.Prelude.{◌+◌, ◌≤◌, length};
 
 use crate::bytes::{bytes_of, put_at, put_u16, put_u32, zeros};
-use crate::files::{Table, directory_of, file_of, file_of_tables, replace, table_in, table_named};
+use crate::files::{Table, directory_of, file_of, file_of_tables, replace, table_named, tables_of};
 use sfnt_bytes::{BASE6, Directory, Entry, KEPT, Tag};
 use std::alloc::{AllocError, Global};
 use std::test::Fail;
+
+/// What `show` prints of Base6.
+pub const BASE6_SHOWN: &[u8] = b"glyphs 6
+units 1000
+loca short
+metrics 6
+mapping 3/1 format 4
+mapped 4
+kept cmap 68
+kept glyf 70
+kept head 54
+kept hhea 36
+kept hmtx 24
+kept loca 14
+kept maxp 32
+cut no
+";
 
 /// Returns a file as long as Base6 with these bytes from the place `at` on.
 pub fn with_bytes(file: [u8; 428], at: usize, bytes: &[u8]) -> [u8; 428]
@@ -25,19 +42,7 @@ pub fn base6_with(at: usize, bytes: &[u8]) -> [u8; 428]
 
 /// The tables of Base6, with `checksumAdjustment` 0.
 pub fn base6_tables(alloc: Global) -> Result<Vec<Table>, Fail> {
-    let mut tables = Vec::new(alloc);
-    for entry in Directory::read(&BASE6)?.records() {
-        let table = table_in(0, &BASE6, &entry).ok_or("a table past the end")?;
-        let mut bytes = table.to_vec(alloc)?;
-        if entry.tag == Tag(*b"head") {
-            put_at(&mut bytes, 8, &[0; 4]);
-        }
-        tables.push(Table {
-            tag: entry.tag,
-            bytes,
-        })?;
-    }
-    Ok(tables)
+    tables_of(alloc, &BASE6)
 }
 
 /// How a font differs from Base6.

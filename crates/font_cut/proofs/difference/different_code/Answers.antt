@@ -1,20 +1,41 @@
-use Rattle.std.proofs.Common.{arith}
-use Rattle.font_cut.proofs.CodeDifferenceLemmas.{run_along, run_apart, run_found}
+use Rattle.std.proofs.Common.{ℕ, min, refl, arith, subst, sym}
+use Rattle.font_map.specs.Runs.{IsPiece, NoRun}
+use Rattle.font_cut.proofs.CodeDifferenceLemmas.{at_run, end_left, end_right, run_along, run_apart, run_found}
 use Rattle.font_cut.proofs.difference.different_code.Goals as goal
 
-pub returns-then-from-first : goal.returns-then-from-first
-returns-then-from-first g c =
-    run_found (g.K.Source.content_of c.args.k.now) (g.L.Source.content_of c.args.l.now) c.loop-a.from c.in-Some-Some.a c.in-Some-Some.b
-    c.in-Some-Some.ensures c.in-Some-Some.ensures' c.max-first.result c.min-last.result c.max-first.ensures c.min-last.ensures
-    c.if-last-first.false (λ e. c.if-from-first.true (omega (arith, e, c.from.ensures, c.from-else-last-first.ensures))) c.loop-a.invariant.1
+pub returns-in_default-piece : goal.returns-in_default-piece
+returns-in_default-piece g c = λ K e.
+    let there = at_run K (g.L.Source.content_of c.args.l.now) c.loop-b.from c.in-Some.b c.in-Some.ensures (c.loop-b.invariant.1 K e) in
+    end_left K (g.L.Source.content_of c.args.l.now) c.in-Some.b.first (subst (λ (m : ℕ → ℕ). NoRun m c.in-Some.b.first) (sym e) c.in_default-piece.ensures) there.0
 
-pub loop-a-preserved-then-last-first : goal.loop-a-preserved-then-last-first
-loop-a-preserved-then-last-first g c =
-    run_apart (g.K.Source.content_of c.args.k.now) (g.L.Source.content_of c.args.l.now) c.loop-a.from c.in-Some-Some.a c.in-Some-Some.b
-    c.in-Some-Some.ensures c.in-Some-Some.ensures' c.max-first.result c.min-last.result c.max-first.ensures c.min-last.ensures c.loop-a.invariant.1
+pub loop-b-preserved-then-b-a : goal.loop-b-preserved-then-b-a
+loop-b-preserved-then-b-a g c = (
+  omega (arith, c.in-Some-piece.ensures.order, c.in-Some-piece.ensures.within),
+  λ K e.
+      let there = at_run K (g.L.Source.content_of c.args.l.now) c.loop-b.from c.in-Some.b c.in-Some.ensures (c.loop-b.invariant.1 K e) in
+      let piece : IsPiece K.map c.in-Some.b.first c.in-Some-piece.a = subst (λ (m : ℕ → ℕ). IsPiece m c.in-Some.b.first c.in-Some-piece.a) (sym e) c.in-Some-piece.ensures in
+      (run_apart K (g.L.Source.content_of c.args.l.now) c.in-Some.b.first c.in-Some-piece.a c.in-Some.b
+      piece there.1 c.in-Some-piece.a.first (min c.in-Some-piece.a.last c.in-Some.b.last) (omega (arith, piece.from_on)) refl there.0).1,
+)
 
-pub loop-a-preserved : goal.loop-a-preserved
-loop-a-preserved g c =
-    run_along (g.K.Source.content_of c.args.k.now) (g.L.Source.content_of c.args.l.now) c.loop-a.from c.in-Some-Some.a c.in-Some-Some.b
-    c.in-Some-Some.ensures c.in-Some-Some.ensures' c.max-first.result c.min-last.result c.max-first.ensures c.min-last.ensures
-    c.if-last-first.false (omega (arith, c.if-from-first.false, c.from.ensures, c.from-else-last-first.ensures)) c.loop-a.invariant.1
+pub returns-then-from-a : goal.returns-then-from-a
+returns-then-from-a g c = λ K e.
+    let there = at_run K (g.L.Source.content_of c.args.l.now) c.loop-b.from c.in-Some.b c.in-Some.ensures (c.loop-b.invariant.1 K e) in
+    let piece : IsPiece K.map c.in-Some.b.first c.in-Some-piece.a = subst (λ (m : ℕ → ℕ). IsPiece m c.in-Some.b.first c.in-Some-piece.a) (sym e) c.in-Some-piece.ensures in
+    run_found K (g.L.Source.content_of c.args.l.now) c.in-Some.b.first c.in-Some-piece.a c.in-Some.b
+    piece there.1 c.in-Some-piece.a.first (min c.in-Some-piece.a.last c.in-Some.b.last) (omega (arith, piece.from_on)) refl
+    (omega (arith, piece.order, c.if-b-a.false)) (λ q. c.if-from-a.true (omega (arith, q, c.from.ensures, c.from-else-b-a.ensures))) there.0
+
+pub loop-b-preserved : goal.loop-b-preserved
+loop-b-preserved g c = (
+  omega (arith, c.min-from.ensures, c.in-Some-piece.ensures.within),
+  λ K e.
+      let there = at_run K (g.L.Source.content_of c.args.l.now) c.loop-b.from c.in-Some.b c.in-Some.ensures (c.loop-b.invariant.1 K e) in
+      let piece : IsPiece K.map c.in-Some.b.first c.in-Some-piece.a = subst (λ (m : ℕ → ℕ). IsPiece m c.in-Some.b.first c.in-Some-piece.a) (sym e) c.in-Some-piece.ensures in
+      (run_along K (g.L.Source.content_of c.args.l.now) c.in-Some.b.first c.in-Some-piece.a c.in-Some.b
+      piece there.1 c.in-Some-piece.a.first c.min-from.result (omega (arith, piece.from_on)) c.min-from.ensures
+      (omega (arith, piece.order, c.if-b-a.false, c.min-from.ensures)) (omega (arith, c.if-from-a.false, c.from.ensures, c.from-else-b-a.ensures)) there.0).1,
+)
+
+pub returns : goal.returns
+returns g c = λ K e. end_right K (g.L.Source.content_of c.args.l.now) c.loop-b.from c.in_default.ensures (c.loop-b.invariant.1 K e)

@@ -38,12 +38,12 @@ returns-clause-trees g c = λ t over few.
     (λ e r. tt)
 
 pub returns-clause-one_form : goal.returns-clause-one_form
-returns-clause-one_form g c = λ t over few.
+returns-clause-one_form g c = λ forms t over few.
     let bytes = map (λ v. v.items) c.args.files.now in
-    MatchResult-weaker c.send_in_turn.result c.send_in_turn.ensures.sends (λ size s. (s.file, s.sent, same_of_tree bytes s.file s.joined t over few)) (λ e r. tt)
+    MatchResult-weaker c.send_in_turn.result c.send_in_turn.ensures.sends (λ size s. (s.file, s.sent, same_of_tree bytes s.file s.joined forms t over few)) (λ e r. tt)
 
 pub returns-clause-clash : goal.returns-clause-clash
-returns-clause-clash g c = λ forms t over few error e d.
+returns-clause-clash g c = λ error e forms t over few d.
     let bytes = map (λ v. v.items) c.args.files.now in
     let stops = subst (λ (r : Result ℕ JoinAllIntoError). IfErr r (StopsJoin g.W.Write.contents c.args.out.now c.send_in_turn.new.out bytes)) e c.send_in_turn.ensures.stops in
     clash_differs bytes error stops.1 d forms t over few

@@ -8,4 +8,4 @@ use Rattle.font_cut.proofs.join_list.join_in_turn.Goals as goal
 pub returns : goal.returns
 returns g c =
     let bytes = map (λ v. v.items) c.args.files.now in
-    subst (λ (n : ℕ). IsRefusedAt bytes (n - 1) NoMemory) (length-map c.args.files.now (λ v. v.items)) (united_memory bytes c.in-Ok-union_in_turn.all c.in-Ok-union_in_turn.ensures)
+    subst (λ (n : ℕ). IsRefusedAt bytes (n - 1) NoMemory) (length-map c.args.files.now (λ v. v.items)) (united_memory bytes c.in-Ok-union_of_all.all c.in-Ok-union_of_all.ensures)

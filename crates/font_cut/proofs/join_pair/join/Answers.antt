@@ -1,7 +1,7 @@
 use Rattle.std.proofs.Common.{ℕ, List, subst}
 use Rattle.std.proofs.lemmas.Result.{MatchResult-weaker}
 use Rattle.font_cut.specs.Join.{IsJoin, IsJoinRefusal}
-use Rattle.font_cut.proofs.JoinLemmas.{cuts_joined, cuts_refused, least_upper, self_joined, self_refused, small_join, true_refusal}
+use Rattle.font_cut.proofs.JoinLemmas.{cuts_joined, cuts_refused, least_upper, renewed_joined, renewed_refused, self_joined, self_refused, small_join, true_refusal}
 use Rattle.font_cut.proofs.join_pair.join.Goals as goal
 
 pub returns-clause-cuts : goal.returns-clause-cuts
@@ -15,6 +15,12 @@ returns-clause-itself g c = λ accepted form same.
     MatchResult-weaker c.join_exactly.result c.join_exactly.ensures
     (λ z ok. self_joined c.args.x.now accepted form z.items (subst (λ (y : List ℕ). IsJoin c.args.x.now y z.items) same ok))
     (λ e r. self_refused c.args.x.now accepted form e (subst (λ (y : List ℕ). IsJoinRefusal c.args.x.now y e) same r))
+
+pub returns-clause-renewal : goal.returns-clause-renewal
+returns-clause-renewal g c = λ form same.
+    MatchResult-weaker c.join_exactly.result c.join_exactly.ensures
+    (λ z ok. renewed_joined c.args.x.now form z.items (subst (λ (y : List ℕ). IsJoin c.args.x.now y z.items) same ok))
+    (λ e r. renewed_refused c.args.x.now form e (subst (λ (y : List ℕ). IsJoinRefusal c.args.x.now y e) same r))
 
 pub returns-clause-upper : goal.returns-clause-upper
 returns-clause-upper g c =

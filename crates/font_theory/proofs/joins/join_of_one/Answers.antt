@@ -1,5 +1,6 @@
+use Rattle.std.proofs.Common.{◌∙◌}
 use Rattle.font_theory.proofs.CutLemmas.{CanJoin-self, joined-self}
 use Rattle.font_theory.proofs.joins.join_of_one.Goals as goal
 
 pub returns : goal.returns
-returns c = λ R X ok. (CanJoin-self R X ok, joined-self R X)
+returns c = λ R X ok. (CanJoin-self R X ok, joined-self R X, λ current. joined-self R X ∙ current.written)

@@ -2,7 +2,7 @@ use Rattle.std.proofs.Common.{rules, ◌≡◌, ℕ, List, None, length, sym, su
 use Rattle.font_tables.specs.Fields.{glyph_count_of}
 use Rattle.font_theory.specs.Content.{Content, content, everything, font_of}
 use Rattle.font_theory.specs.Cut.{IsCut, our_format}
-use Rattle.font_cut.specs.Union.{AreRunsOf, IsUnion, content_in, listed_outline}
+use Rattle.font_cut.specs.Union.{AreRunsOf, IsUnion, TwoLists, content_in, listed_outline, map_in}
 use Rattle.font_cut.specs.Inside.{AreTaken}
 use Rattle.font_cut.proofs.AddLemmas.{content_first, none_other, union_first}
 use Rattle.font_cut.proofs.OutlineListLemmas.{taken_whole, union_of_none}
@@ -14,8 +14,9 @@ invariant_of-result g c =
     let w : List ℕ = c.in-Ok.file in
     let L : Content = content (font_of w) everything in
     let form : IsCut our_format w = search rules in
-    let runs = c.into_runs.result.items in
-    let listed : AreRunsOf w runs = c.into_runs.ensures in
+    let runs : TwoLists = c.of_runs.result in
+    let listed : AreRunsOf w c.into_runs.result.items = c.into_runs.ensures in
+    let spells : map_in runs ≡ L.map = c.of_runs.ensures ∙ listed.spelled_map in
     let none : c.take-other.result ≡ None = c.take-other.ensures.differs ∙ none_other c.in-Ok-new.outlines L.outline c.glyph_count-count.result c.in-Ok-new.ensures.none in
     let are : AreTaken c.in-Ok-new.outlines c.take-other.new.self L.outline c.glyph_count-count.result = c.take-other.ensures.taken none in
     let taken : (h : ℕ) → listed_outline c.take-other.new.self h ≡ L.outline h = λ h.
@@ -23,19 +24,20 @@ invariant_of-result g c =
     ∙ union_of_none (listed_outline c.in-Ok-new.outlines) L.outline h (c.in-Ok-new.ensures.none h) in
     let count : length c.take-other.new.self ≡ glyph_count_of w = are.count ∙ c.in-Ok-new.ensures.count ∙ c.glyph_count-count.ensures ∙ sym (glyph_count_is w) in
     subst (λ (f : List ℕ). IsUnion (record { tables = f; runs = runs; outlines = c.take-other.new.self })) c.in-Ok.ensures
-    (union_first w form runs c.take-other.new.self listed.spelled_map taken listed.of_map count)
+    (union_first w form runs c.take-other.new.self spells taken count)
 
 pub returns : goal.returns
 returns g c =
     let w : List ℕ = c.in-Ok.file in
     let L : Content = content (font_of w) everything in
     let form : IsCut our_format w = search rules in
-    let runs = c.into_runs.result.items in
-    let listed : AreRunsOf w runs = c.into_runs.ensures in
+    let runs : TwoLists = c.of_runs.result in
+    let listed : AreRunsOf w c.into_runs.result.items = c.into_runs.ensures in
+    let spells : map_in runs ≡ L.map = c.of_runs.ensures ∙ listed.spelled_map in
     let none : c.take-other.result ≡ None = c.take-other.ensures.differs ∙ none_other c.in-Ok-new.outlines L.outline c.glyph_count-count.result c.in-Ok-new.ensures.none in
     let are : AreTaken c.in-Ok-new.outlines c.take-other.new.self L.outline c.glyph_count-count.result = c.take-other.ensures.taken none in
     let taken : (h : ℕ) → listed_outline c.take-other.new.self h ≡ L.outline h = λ h.
     taken_whole c.in-Ok-new.outlines c.take-other.new.self w c.glyph_count-count.result form c.glyph_count-count.ensures c.in-Ok-new.ensures.count are h
     ∙ union_of_none (listed_outline c.in-Ok-new.outlines) L.outline h (c.in-Ok-new.ensures.none h) in
     subst (λ (f : List ℕ). (content_in (record { tables = f; runs = runs; outlines = c.take-other.new.self }) ≡ content (font_of f) everything) × IsCut our_format f) c.in-Ok.ensures
-    (content_first w form runs c.take-other.new.self listed.spelled_map taken, form)
+    (content_first w form runs c.take-other.new.self spells taken, form)
