@@ -1,9 +1,26 @@
 //! The command line of `fontcut`, read by `clap`: this crate alone names `clap`, and gives plain things.
 #![tactic(auto)]
 
+mod texts;
+
 use clap::error::ErrorKind;
 use clap::{Arg, ArgAction, ArgMatches, Command, Error};
 use std::alloc::{AllocError, Global};
+
+/// The version of the program. This is the one place of the number.
+pub const VERSION: &str = "0.9.0";
+
+/// The word that stands for standard input where a file is read, and for standard output as OUT.
+pub const STANDARD: &str = "-";
+
+/// A command line.
+#[derive(Debug, Drop)]
+pub struct Line<'a> {
+    /// What it asks for.
+    pub task: Task<'a>,
+    /// Whether the system's reason is told where a file cannot be read or written.
+    pub is_verbose: bool,
+}
 
 /// What a command line asks for.
 #[derive(Debug, Drop)]
@@ -12,6 +29,10 @@ pub enum Task<'a> {
     Check { font: &'a str },
     /// Print the numbers and tables of the font at the path `font`.
     Show { font: &'a str },
+    /// Print the mapped codes of the font at the path `font`.
+    Codes { font: &'a str },
+    /// Print whether the file at the path `cut` is a cut of the font at the path `font`.
+    Belongs { cut: &'a str, font: &'a str },
     /// Write the cut of a font to a file.
     Subset(Subset<'a>),
     /// Write the join of cuts to a file.
@@ -27,10 +48,18 @@ pub struct Subset<'a> {
     pub font: &'a str,
     /// The path that the cut is written to.
     pub out: &'a str,
-    /// The characters that are kept.
-    pub text: &'a str,
+    /// Texts whose characters are kept.
+    pub texts: Vec<&'a str>,
+    /// The paths of files whose characters are kept.
+    pub text_files: Vec<&'a str>,
+    /// The paths of files of words that name ranges of codes that are kept.
+    pub code_files: Vec<&'a str>,
     /// The words that name ranges of codes that are kept.
     pub words: Vec<&'a str>,
+    /// Whether it is told which codes were wanted and are not mapped, and what was dropped.
+    pub reports: bool,
+    /// Whether nothing is written where a wanted code is not mapped.
+    pub is_strict: bool,
 }
 
 /// What `join` asks for.
@@ -47,10 +76,12 @@ pub struct Join<'a> {
 pub enum LineError {
     /// Memory was refused.
     NoMemory,
-    /// It asks for help, which is this text.
+    /// It asks for help or the version, which is this text.
     Help(String),
     /// Its words are at fault, as this text says.
     Words(String),
+    /// Standard input is named more than once.
+    InputTwice,
 }
 
 // A subcommand over one font.
@@ -60,21 +91,44 @@ fn over_font<'a>(alloc: Global, name: &'a str, about: &'a str) -> Result<Command
         .arg(Arg::new(alloc, "FONT").required(true))
 }
 
+// An option that takes one value and is used as often as wanted.
+fn repeated<'a>(alloc: Global, long: &'a str, value: &'a str, help: &'a str) -> Arg<'a> {
+    Arg::new(alloc, long)
+        .long(long)
+        .value_name(value)
+        .action(ArgAction::Append)
+        .help(help)
+}
+
+// An option that takes no value.
+fn flag<'a>(alloc: Global, long: &'a str, help: &'a str) -> Arg<'a> {
+    Arg::new(alloc, long)
+        .long(long)
+        .action(ArgAction::SetTrue)
+        .help(help)
+}
+
+fn belongs_command<'a>(alloc: Global) -> Result<Command<'a>, AllocError> {
+    Command::new(alloc, "belongs")
+        .about(texts::BELONGS)
+        .arg(Arg::new(alloc, "CUT").required(true))?
+        .arg(Arg::new(alloc, "FONT").required(true))
+}
+
 fn subset_command<'a>(alloc: Global) -> Result<Command<'a>, AllocError> {
-    let about = "Writes to OUT the cut of FONT for the codes that TEXT and WORDS name";
     // A text may begin with a hyphen.
-    let text = Arg::new(alloc, "TEXT")
-        .long("text")
-        .value_name("TEXT")
-        .allow_hyphen_values(true)
-        .help("Keeps the characters of TEXT");
+    let text = repeated(alloc, "text", "TEXT", texts::TEXT).allow_hyphen_values(true);
     let words = Arg::new(alloc, "WORDS")
         .num_args(0..)
         .action(ArgAction::Append)
-        .help("Ranges of codes to keep: all, U+41, U+41-5A");
-    over_font(alloc, "subset", about)?
+        .help(texts::WORDS);
+    over_font(alloc, "subset", texts::SUBSET)?
         .arg(Arg::new(alloc, "OUT").required(true))?
         .arg(text)?
+        .arg(repeated(alloc, "text-file", "FILE", texts::TEXT_FILE))?
+        .arg(repeated(alloc, "codes-file", "FILE", texts::CODES_FILE))?
+        .arg(flag(alloc, "report", texts::REPORT))?
+        .arg(flag(alloc, "strict", texts::STRICT))?
         .arg(words)
 }
 
@@ -83,31 +137,36 @@ fn join_command<'a>(alloc: Global) -> Result<Command<'a>, AllocError> {
         .num_args(1..)
         .action(ArgAction::Append)
         .required(true)
-        .help("Cuts of one font, in any order");
+        .help(texts::FILES);
     Command::new(alloc, "join")
-        .about("Writes to OUT the one cut that FILES, cuts of one font, are together")
+        .about(texts::JOIN)
         .arg(Arg::new(alloc, "OUT").required(true))?
         .arg(files)
 }
 
 fn command<'a>(alloc: Global) -> Result<Command<'a>, AllocError> {
-    let check = "Prints what is not as the standard asks, and whether FONT is accepted";
-    let show =
-        "Prints the numbers of FONT, which of its tables a cut keeps, and whether it is a cut";
-    let demo = "Prints what is found in a font of six glyphs, and the sizes of some of its cuts";
+    let check = over_font(alloc, "check", texts::CHECK)?.after_help(texts::AFTER_CHECK);
+    let show = over_font(alloc, "show", texts::SHOW)?.after_help(texts::AFTER_SHOW);
+    let codes = over_font(alloc, "codes", texts::CODES)?.after_help(texts::AFTER_CODES);
+    let demo = Command::new(alloc, "demo").about(texts::DEMO);
     Command::new(alloc, "fontcut")
         .bin_name("fontcut")?
-        .about("Looks into OpenType fonts with TrueType outlines, cuts them, and joins cuts")
+        .version(VERSION)
+        .about(texts::PROGRAM)
+        .after_help(texts::AFTER_PROGRAM)
         .no_binary_name(true)
         .subcommand_required(true)
-        .subcommand(over_font(alloc, "check", check)?)?
-        .subcommand(over_font(alloc, "show", show)?)?
-        .subcommand(subset_command(alloc)?)?
-        .subcommand(join_command(alloc)?)?
-        .subcommand(Command::new(alloc, "demo").about(demo))
+        .arg(flag(alloc, "verbose", texts::VERBOSE).global(true))?
+        .subcommand(check)?
+        .subcommand(show)?
+        .subcommand(codes)?
+        .subcommand(belongs_command(alloc)?.after_help(texts::AFTER_BELONGS))?
+        .subcommand(subset_command(alloc)?.after_help(texts::AFTER_SUBSET))?
+        .subcommand(join_command(alloc)?.after_help(texts::AFTER_JOIN))?
+        .subcommand(demo.after_help(texts::AFTER_DEMO))
 }
 
-// The text of a fault of the words, which `clap` also makes of a call for help.
+// The text of a fault of the words, which `clap` also makes of a call for help or the version.
 fn explained(alloc: Global, fault: &Error) -> LineError {
     if fault.kind() == ErrorKind::OutOfMemory {
         return LineError::NoMemory;
@@ -117,6 +176,15 @@ fn explained(alloc: Global, fault: &Error) -> LineError {
         Ok(text) => LineError::Help(text),
         Err(_) => LineError::NoMemory,
     }
+}
+
+// The values of an argument, in the order of the line.
+fn values_of<'a>(
+    alloc: Global,
+    matches: &ArgMatches<'a>,
+    id: &str,
+) -> Result<Vec<&'a str>, AllocError> {
+    Vec::from_slice(alloc, matches.get_strs(id).unwrap_or(&[]))
 }
 
 fn subset_task<'a>(
@@ -129,40 +197,88 @@ fn subset_task<'a>(
     Ok(Some(Task::Subset(Subset {
         font,
         out,
-        text: matches.get_str("TEXT").unwrap_or(""),
-        words: Vec::from_slice(alloc, matches.get_strs("WORDS").unwrap_or(&[]))?,
+        texts: values_of(alloc, matches, "text")?,
+        text_files: values_of(alloc, matches, "text-file")?,
+        code_files: values_of(alloc, matches, "codes-file")?,
+        words: values_of(alloc, matches, "WORDS")?,
+        reports: matches.get_flag("report"),
+        is_strict: matches.get_flag("strict"),
     })))
 }
 
+fn belongs_task<'a>(matches: &ArgMatches<'a>) -> Option<Task<'a>> {
+    let (Some(cut), Some(font)) = (matches.get_str("CUT"), matches.get_str("FONT")) else {
+        return None;
+    };
+    Some(Task::Belongs { cut, font })
+}
+
 fn join_task<'a>(alloc: Global, matches: &ArgMatches<'a>) -> Result<Option<Task<'a>>, AllocError> {
-    let (Some(out), Some(files)) = (matches.get_str("OUT"), matches.get_strs("FILES")) else {
+    let (Some(out), Some(_)) = (matches.get_str("OUT"), matches.get_strs("FILES")) else {
         return Ok(None);
     };
     Ok(Some(Task::Join(Join {
         out,
-        files: Vec::from_slice(alloc, files)?,
+        files: values_of(alloc, matches, "FILES")?,
     })))
 }
 
-fn parse_task<'a>(alloc: Global, words: &'a [String]) -> Result<Option<Task<'a>>, Error> {
-    let matches = command(alloc)?.try_get_matches_from(words)?;
-    Ok(match matches.subcommand() {
-        Some(("check", inner)) => inner.get_str("FONT").map(|font| Task::Check { font }),
-        Some(("show", inner)) => inner.get_str("FONT").map(|font| Task::Show { font }),
-        Some(("subset", inner)) => subset_task(alloc, inner)?,
-        Some(("join", inner)) => join_task(alloc, inner)?,
-        Some(("demo", _)) => Some(Task::Demo),
+fn task_of<'a>(
+    alloc: Global,
+    name: &str,
+    matches: &ArgMatches<'a>,
+) -> Result<Option<Task<'a>>, AllocError> {
+    Ok(match name {
+        "check" => matches.get_str("FONT").map(|font| Task::Check { font }),
+        "show" => matches.get_str("FONT").map(|font| Task::Show { font }),
+        "codes" => matches.get_str("FONT").map(|font| Task::Codes { font }),
+        "belongs" => belongs_task(matches),
+        "subset" => subset_task(alloc, matches)?,
+        "join" => join_task(alloc, matches)?,
+        "demo" => Some(Task::Demo),
         _ => None,
     })
+}
+
+fn parse_line<'a>(alloc: Global, words: &'a [String]) -> Result<Option<Line<'a>>, Error> {
+    let matches = command(alloc)?.try_get_matches_from(words)?;
+    let Some((name, inner)) = matches.subcommand() else {
+        return Ok(None);
+    };
+    let is_verbose = matches.get_flag("verbose") || inner.get_flag("verbose");
+    match task_of(alloc, name, inner)? {
+        Some(task) => Ok(Some(Line { task, is_verbose })),
+        None => Ok(None),
+    }
+}
+
+// How many of some paths stand for standard input.
+fn standard_count(paths: &[&str]) -> usize {
+    paths.iter().filter(|path| **path == STANDARD).count()
+}
+
+// Whether a task reads standard input more than once.
+fn reads_input_twice(task: &Task<'_>) -> bool {
+    let count = match task {
+        Task::Subset(line) => standard_count(&[line.font])
+            .saturating_add(standard_count(&line.text_files))
+            .saturating_add(standard_count(&line.code_files)),
+        Task::Join(line) => standard_count(&line.files),
+        Task::Belongs { cut, font } => standard_count(&[*cut, *font]),
+        _ => 0,
+    };
+    1 < count
 }
 
 /// Reads the words of a line, the program's own name not among them.
 ///
 /// # Errors
-/// `Help` and `Words` with the text of `clap`; `NoMemory` where memory was refused.
-pub fn parse<'a>(alloc: Global, words: &'a [String]) -> Result<Task<'a>, LineError> {
-    match parse_task(alloc, words) {
-        Ok(Some(task)) => Ok(task),
+/// `Help` and `Words` with the text of `clap`; `InputTwice` where standard input is named more than once
+/// among the inputs; `NoMemory` where memory was refused.
+pub fn parse<'a>(alloc: Global, words: &'a [String]) -> Result<Line<'a>, LineError> {
+    match parse_line(alloc, words) {
+        Ok(Some(line)) if reads_input_twice(&line.task) => Err(LineError::InputTwice),
+        Ok(Some(line)) => Ok(line),
         Ok(None) => Err(LineError::Words(String::new(alloc))),
         Err(fault) => Err(explained(alloc, &fault)),
     }

@@ -1,4 +1,5 @@
 pub mod CheckLemmas
+pub mod CodesLemmas
 pub mod JoinRunLemmas
 pub mod LineLemmas
 pub mod ReadEachLemmas

@@ -12,7 +12,7 @@ use Rattle.font_cmd.specs.Inlet as inlets
 use Rattle.font_cmd.specs.Run.{got, of_join_error}
 use Rattle.font_cmd.specs.declared.runs.inlet.Inlet.{Inlet}
 use Rattle.font_cmd.specs.declared.runs.run_error.RunError.{RunError}
-use Rattle.font_cmd.specs.declared.runs.run_error.RunError.TheVariants.{Font, Join, Memory, Read, TooLarge, Write}
+use Rattle.font_cmd.specs.declared.runs.run_error.RunError.TheVariants.{Font, Join, Memory, OneOf, Read, TooLarge, Write}
 
 -- no inlet was read
 abbrev pub AreFresh : {R : Type 0} → List (Inlet R) → Type 0
@@ -73,6 +73,7 @@ JoinStops remaining contents i j o p (Write count) =
     × OfGot remaining i (λ files. (z : List ℕ) × IsAllJoined files z × outlets.WentOut contents o p (take count z))
 -- such a refusal is one of the join
 JoinStops remaining contents i j o p (Font error) = ⊥
+JoinStops remaining contents i j o p (OneOf which error) = ⊥
 JoinStops remaining contents i j o p (TooLarge size) = ⊥
 
 -- the join of what came from the readers went out, and has so many bytes

@@ -1,4 +1,6 @@
+pub mod Belongs
 pub mod Check
+pub mod Codes
 pub mod Inlet
 pub mod Join
 pub mod Run

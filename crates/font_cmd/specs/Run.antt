@@ -1,5 +1,5 @@
 -- What a run is given, and how it leaves its inlet and its outlet, this project's own.
-use Rattle.std.specs.Prelude.{◌≡◌, ℕ, ◌+◌, ◌≤◌, Bool, false, true, length, List, None, Option, IfSome, Some, take}
+use Rattle.std.specs.Prelude.{◌≡◌, ℕ, ◌+◌, ◌≤◌, Bool, false, true, length, List, None, Option, IfErr, IfSome, OnOk, Result, Some, take}
 use Rattle.font_cut.specs.Cut.{IsTooLarge, cut_of}
 use Rattle.font_cut.specs.Fonts.{MAX_FILE, error_number, font_fault, no_memory_number}
 use Rattle.font_cut.specs.declared.cut_font.CutIntoError.{CutIntoError}
@@ -15,7 +15,7 @@ use Rattle.font_cmd.specs.declared.runs.inlet.ReadError.{ReadError}
 use Rattle.font_cmd.specs.declared.runs.inlet.ReadError.TheVariants.{NoMemory, ReadFault}
 use Rattle.font_cut.specs.declared.outlet.Outlet.{Outlet}
 use Rattle.font_cmd.specs.declared.runs.run_error.RunError.{RunError}
-use Rattle.font_cmd.specs.declared.runs.run_error.RunError.TheVariants.{Font, Join, Memory, Read, TooLarge, Write}
+use Rattle.font_cmd.specs.declared.runs.run_error.RunError.TheVariants.{Font, Join, Memory, OneOf, Read, TooLarge, Write}
 use Rattle.font_cmd.specs.Inlet as inlets
 use Rattle.font_cut.specs.Outlet as outlets
 
@@ -31,12 +31,20 @@ RunStops remaining contents serves text refuses i j o p (Read count) = (inlets.i
 RunStops remaining contents serves text refuses i j o p Memory = (inlets.inlet_broken_of j ≡ false) × (p ≡ o)
 -- the file is refused, and nothing was sent
 RunStops remaining contents serves text refuses i j o p (Font error) = (inlets.inlet_broken_of j ≡ false) × (p ≡ o) × refuses (Font error)
+RunStops remaining contents serves text refuses i j o p (OneOf which error) = (inlets.inlet_broken_of j ≡ false) × (p ≡ o) × refuses (OneOf which error)
 RunStops remaining contents serves text refuses i j o p (TooLarge size) = (inlets.inlet_broken_of j ≡ false) × (p ≡ o) × refuses (TooLarge size)
 RunStops remaining contents serves text refuses i j o p (Join error) = (inlets.inlet_broken_of j ≡ false) × (p ≡ o) × refuses (Join error)
 -- the file is one that is served, the outlet is broken, and so many bytes of the text went out
 RunStops remaining contents serves text refuses i j o p (Write count) =
     (inlets.inlet_broken_of j ≡ false) × (outlets.broken_of p ≡ true) × (outlets.written_of p ≡ count)
     × got remaining i (λ file. serves file × outlets.WentOut contents o p (take count (text file)))
+
+-- how a run that reads a file and sends a text of it leaves its inlet, from i to j, and its outlet, from o to p; `serves`, `text` and `refuses` are those of `RunStops`
+pub record SendsText {R W T : Type 0} (remaining : R → Option (List ℕ)) (contents : W → Option (List ℕ)) (serves : List ℕ → Type 0) (text : List ℕ → List ℕ) (refuses : RunError → Type 0) (i j : Inlet R) (o p : Outlet W) (result : Result T RunError) : Type 0 where
+  pub spent : inlets.inlet_fresh_of j ≡ false
+  pub sent : OnOk result (got remaining i (λ file. serves file × outlets.WentOut contents o p (text file)))
+  pub unbroken : OnOk result ((inlets.inlet_broken_of j ≡ false) × (outlets.broken_of p ≡ false))
+  pub error : IfErr result (RunStops remaining contents serves text refuses i j o p)
 
 -- each file is served
 abbrev pub AnyFile : List ℕ → Type 0
@@ -57,6 +65,7 @@ RefusesNone error = ⊥
 -- a file is refused as a font, by the first refusal that applies
 abbrev pub RefusesFont : {R : Type 0} → (R → Option (List ℕ)) → Inlet R → RunError → Type 0
 RefusesFont remaining inlet (Font error) = got remaining inlet (λ file. font_fault file ≡ Some error)
+RefusesFont remaining inlet (OneOf which error) = ⊥
 RefusesFont remaining inlet (TooLarge size) = ⊥
 RefusesFont remaining inlet (Join error) = ⊥
 RefusesFont remaining inlet (Read count) = ⊥
@@ -67,6 +76,7 @@ RefusesFont remaining inlet (Write count) = ⊥
 abbrev pub RefusesCut : {R : Type 0} → (R → Option (List ℕ)) → Inlet R → (ℕ → Bool) → RunError → Type 0
 RefusesCut remaining inlet wanted (Font error) = got remaining inlet (λ file. font_fault file ≡ Some error)
 RefusesCut remaining inlet wanted (TooLarge size) = got remaining inlet (λ file. (font_fault file ≡ None) × IsTooLarge (cut_of file wanted) size)
+RefusesCut remaining inlet wanted (OneOf which error) = ⊥
 RefusesCut remaining inlet wanted (Join error) = ⊥
 RefusesCut remaining inlet wanted (Read count) = ⊥
 RefusesCut remaining inlet wanted Memory = ⊥
@@ -99,5 +109,6 @@ run_error_number (Read count) = 25
 run_error_number Memory = no_memory_number
 run_error_number (Write count) = 19
 run_error_number (Font error) = error_number error
+run_error_number (OneOf which error) = error_number error
 run_error_number (TooLarge size) = 18
 run_error_number (Join error) = join_all_error_number error

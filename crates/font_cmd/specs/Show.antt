@@ -1,8 +1,11 @@
 -- What `show` prints of a font, this project's own.
-use Rattle.std.specs.Prelude.{ℕ, Bool, if◌then◌else◌, List, [], ◌∷◌, ◌++◌, codes, decimal, length, Option}
+use Rattle.std.specs.Prelude.{ℕ, List, [], ◌∷◌, ◌++◌, codes, decimal, length, Option}
 use Rattle.std.specs.List.{flat_map, range_with_len}
 use Rattle.std.specs.Option.{option_copied, option_map_or}
-use Rattle.font_cut.specs.Fonts.{Entry, LocaForm, Long, Short, Tag, chosen_of, cmap_of, dropped_of, glyph_count_of, is_current, kept_tag, loca_form_of, mapped_codes, mapping_of, metric_count_of, our_format, table_of, tag_text, units_per_em_of}
+use Rattle.font_cut.specs.Cut.{cut_form_of}
+use Rattle.font_cut.specs.Fonts.{Entry, LocaForm, Long, Short, Tag, chosen_of, cmap_of, dropped_of, glyph_count_of, kept_tag, loca_form_of, mapped_codes, mapping_of, metric_count_of, table_of, tag_text, units_per_em_of}
+use Rattle.font_cut.specs.declared.cut_forms.CutForm.{CutForm}
+use Rattle.font_cut.specs.declared.cut_forms.CutForm.TheVariants.{Current, Not, Old}
 use Rattle.font_cmd.specs.Check.{line}
 use Rattle.font_cmd.specs.declared.runs.show.KeptLine.{KeptLine}
 
@@ -51,14 +54,19 @@ chosen_text chosen = line (codes "mapping " ++ decimal chosen.0 ++ 47 ∷ decima
 abbrev pub mapped_text : List ℕ → ℕ → List ℕ
 mapped_text cmap count = chosen_text (chosen_of cmap) ++ line (codes "mapped " ++ decimal count)
 
--- whether the font is a cut
-abbrev pub cut_text : Bool → List ℕ
-cut_text is_one = line (codes "cut " ++ (if is_one then codes "yes" else codes "no"))
+-- whether the font is a cut: as it is written, as it was written before, or not
+abbrev pub cut_answer : CutForm → List ℕ
+cut_answer Current = codes "yes"
+cut_answer Old = codes "old"
+cut_answer Not = codes "no"
+
+abbrev pub cut_text : CutForm → List ℕ
+cut_text form = line (codes "cut " ++ cut_answer form)
 
 -- all lines of a font that maps so many codes, the last line saying whether it is a cut
-unfoldable pub font_text : List ℕ → ℕ → Bool → List ℕ
-font_text file count is_one = numbers_text file ++ mapped_text (cmap_of file) count ++ kept_text file ++ dropped_text file ++ cut_text is_one
+unfoldable pub font_text : List ℕ → ℕ → CutForm → List ℕ
+font_text file count form = numbers_text file ++ mapped_text (cmap_of file) count ++ kept_text file ++ dropped_text file ++ cut_text form
 
 -- all that `show` prints of a font that is accepted
 unfoldable pub show_text : List ℕ → List ℕ
-show_text file = font_text file (mapped_codes (mapping_of (cmap_of file) (glyph_count_of file))) (is_current our_format file)
+show_text file = font_text file (mapped_codes (mapping_of (cmap_of file) (glyph_count_of file))) (cut_form_of file)

@@ -5,7 +5,10 @@ mod program;
 mod runs;
 
 pub use crate::program::dispatch::run_words;
+pub use crate::program::system::{Heard, Reason, System};
+pub use crate::runs::belongs::run_belongs;
 pub use crate::runs::check::run_check;
+pub use crate::runs::codes::{codes_laws, run_codes};
 pub use crate::runs::inlet::{Inlet, ReadError};
 pub use crate::runs::join::run_join;
 pub use crate::runs::run_error::RunError;

@@ -1,5 +1,7 @@
-//! The four runs over readers and writers: each has a contract that says what is sent and when it stops.
+//! The runs over readers and writers: each has a contract that says what is sent and when it stops.
+pub(crate) mod belongs;
 pub(crate) mod check;
+pub(crate) mod codes;
 pub(crate) mod inlet;
 pub(crate) mod join;
 pub(crate) mod run_error;

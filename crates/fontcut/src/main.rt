@@ -1,13 +1,22 @@
 //! The program: its words, its standard output and its standard error.
 #![tactic(auto)]
 
-use font_cmd::run_words;
+ghost use Rattle.std.specs.Prelude.{◌≡◌, true};
+ghost use Rattle.font_cut.specs.Outlet.{fresh_of};
+
+use font_cmd::{Heard, Reason, System, run_words};
 use font_cut::Outlet;
 use std::alloc::{AllocError, Global};
-use std::io::ErrorKind;
+use std::io::{ErrorKind, Write};
 use std::process::ExitCode;
 use std::rt::Env;
 use std::{env, io};
+
+// What is said where an argument is not UTF-8.
+const UNREADABLE: &str = "fontcut: a word of the line is not UTF-8\n";
+
+// Linux passes no longer argument on.
+const LONGEST: usize = 128 * 1024;
 
 // The words after the program's own name, or `demo` where there is none.
 fn words_after_name(alloc: Global, all: Vec<String>) -> Result<Vec<String>, AllocError> {
@@ -23,18 +32,65 @@ fn words_of_line(rt: &(impl Env + AllocGlobal), alloc: Global) -> io::Result<Vec
     Ok(words_after_name(alloc, all)?)
 }
 
+// Returns the number of the first argument that is not UTF-8, counted from 1 behind the program's name,
+// where `--verbose` stands before it.
+fn unreadable_argument(rt: &impl Env) -> Option<usize> {
+    let mut bytes = [0u8; LONGEST];
+    let mut is_verbose = false;
+    for i in 1..usize::MAX {
+        let Ok(length) = rt.arg(i, &mut bytes) else {
+            return None;
+        };
+        match str::from_utf8(&bytes[..length]) {
+            Ok(word) => is_verbose = is_verbose || word == "--verbose",
+            Err(_) if is_verbose => return Some(i),
+            Err(_) => return None,
+        }
+    }
+    None
+}
+
+// The lines that say that an argument is not UTF-8, and which one it is.
+fn unreadable_text(alloc: Global, number: usize) -> Result<String, AllocError> {
+    let first = UNREADABLE;
+    format!(in alloc; "{first}fontcut: argument {number} is not UTF-8\n")
+}
+
+// Says that an argument is not UTF-8, and which one it is where that is wanted.
+fn say_unreadable<W: Write>(alloc: Global, err: &mut Outlet<W>, argument: Option<usize>)
+    requires { fresh_of err.old ≡ true }
+{
+    let text = match argument {
+        Some(number) => unreadable_text(alloc, number).ok(),
+        None => None,
+    };
+    let said = match &text {
+        Some(text) => text.as_str(),
+        None => UNREADABLE,
+    };
+    let _ = err.put(said.as_bytes());
+}
+
 fn main(rt: HostRuntime) -> ExitCode {
     let alloc = rt.alloc();
-    let mut out = Outlet::new(rt.stdout());
+    let reason = Reason::new();
+    let mut out = Outlet::new(Heard::new(rt.stdout(), &reason));
     let mut err = Outlet::new(rt.stderr());
+    let system = System {
+        files: &rt,
+        alloc,
+        input: rt.stdin(),
+        output: rt.stdout(),
+        reason: &reason,
+    };
     match words_of_line(&rt, alloc) {
-        Ok(words) => ExitCode::from(run_words(&rt, alloc, words.as_slice(), &mut out, &mut err)),
+        Ok(words) => ExitCode::from(run_words(&system, words.as_slice(), &mut out, &mut err)),
         Err(fault) if fault.kind() == ErrorKind::OutOfMemory => {
             let _ = err.put(b"fontcut: refused 16 no memory\n");
             ExitCode::from(1)
         }
         Err(_) => {
-            let _ = err.put(b"fontcut: a word of the line is not UTF-8\n");
+            say_unreadable(alloc, &mut err, unreadable_argument(&rt));
             ExitCode::from(2)
         }
     }

@@ -1,7 +1,9 @@
-//! The words of each line, what `demo`, `check`, `show` and help print, and outputs that are full.
-use crate::lines::{answers, line_of, run};
-use font_cmd::run_words;
+//! The words of each line, what `demo`, `check`, `show`, `codes`, `belongs` and help print, and outputs that are full.
+use crate::lines::{answers, line_of, run, system_of};
+use font_cmd::{Reason, run_words};
 use font_cut::Outlet;
+use sample_fonts::fonts::BASE6_SHOWN;
+use sample_fonts::known_cuts::A_AND_B;
 use sfnt_bytes::BASE6;
 use std::fs;
 use std::test::Fail;
@@ -22,32 +24,20 @@ cut U+41-42 400
 join 448
 ";
 
-const SHOWN: &[u8] = b"glyphs 6
-units 1000
-loca short
-metrics 6
-mapping 3/1 format 4
-mapped 4
-kept cmap 68
-kept glyf 70
-kept head 54
-kept hhea 36
-kept hmtx 24
-kept loca 14
-kept maxp 32
-cut no
-";
-
 #[test]
 fn demo_prints_the_font_it_carries(rt: HostRuntime) {
     assert!(rt; answers(&rt, &["demo"], 0, DEMO, b""));
 }
 
 // Lines whose words are at fault.
-const FAULTS: [&[&str]; 14] = [
+const FAULTS: [&[&str]; 18] = [
     &[],
     &["check"],
     &["show"],
+    &["codes"],
+    &["belongs"],
+    &["belongs", "a.ttf"],
+    &["belongs", "a.ttf", "b.ttf", "c.ttf"],
     &["subset"],
     &["subset", "a.ttf"],
     &["subset", "a.ttf", "b.ttf", "--text"],
@@ -61,10 +51,12 @@ const FAULTS: [&[&str]; 14] = [
     &["check", "a.ttf", "b.ttf"],
 ];
 
-const HELP: [&[&str]; 5] = [
+const HELP: [&[&str]; 7] = [
     &["--help"],
     &["help"],
     &["check", "--help"],
+    &["codes", "--help"],
+    &["belongs", "--help"],
     &["subset", "--help"],
     &["join", "--help"],
 ];
@@ -100,8 +92,8 @@ fn files_that_cannot_be_read(rt: HostRuntime) {
 }
 
 #[test]
-fn check_and_show_of_files(rt: HostRuntime) -> Result<(), Fail> {
-    let files: [(&str, &[u8], u8, &[u8], &[u8]); 5] = [
+fn check_show_and_codes_of_files(rt: HostRuntime) -> Result<(), Fail> {
+    let files: [(&str, &[u8], u8, &[u8], &[u8]); 7] = [
         ("check", &BASE6, 0, b"findings 0\naccepted\n", b""),
         ("check", b"", 1, b"refused 2 truncated\n", b""),
         (
@@ -111,8 +103,10 @@ fn check_and_show_of_files(rt: HostRuntime) -> Result<(), Fail> {
             b"refused 6 table out of file maxp\n",
             b"",
         ),
-        ("show", &BASE6, 0, SHOWN, b""),
+        ("show", &BASE6, 0, BASE6_SHOWN, b""),
         ("show", b"", 1, b"", b"fontcut: refused 2 truncated\n"),
+        ("codes", &BASE6, 0, b"U+20\nU+41-42\nU+C1\n", b""),
+        ("codes", b"", 1, b"", b"fontcut: refused 2 truncated\n"),
     ];
     for (word, bytes, status, out, err) in files {
         fs::write(&rt, "file.ttf", bytes)?;
@@ -120,6 +114,54 @@ fn check_and_show_of_files(rt: HostRuntime) -> Result<(), Fail> {
         assert!(rt; is_stated, "{word}, status {status}");
     }
     fs::remove_file(&rt, "file.ttf")?;
+    Ok(())
+}
+
+#[test]
+fn belongs_of_files(rt: HostRuntime) -> Result<(), Fail> {
+    fs::write(&rt, "cut.ttf", &A_AND_B)?;
+    fs::write(&rt, "font.ttf", &BASE6)?;
+    fs::write(&rt, "short.ttf", b"")?;
+    let lines: [(&str, &str, u8, &[u8], &[u8]); 7] = [
+        ("cut.ttf", "font.ttf", 0, b"yes\n", b""),
+        ("font.ttf", "cut.ttf", 1, b"no\n", b""),
+        (
+            "short.ttf",
+            "font.ttf",
+            1,
+            b"",
+            b"fontcut: file 1: refused 2 truncated\n",
+        ),
+        (
+            "cut.ttf",
+            "short.ttf",
+            1,
+            b"",
+            b"fontcut: file 2: refused 2 truncated\n",
+        ),
+        (
+            "absent.ttf",
+            "none.ttf",
+            3,
+            b"",
+            b"fontcut: cannot read absent.ttf\n",
+        ),
+        ("cut.ttf", ".", 3, b"", b"fontcut: cannot read .\n"),
+        (
+            "-",
+            "-",
+            2,
+            b"",
+            b"fontcut: standard input is named more than once\n",
+        ),
+    ];
+    for (cut, font, status, out, err) in lines {
+        let is_stated = answers(&rt, &["belongs", cut, font], status, out, err);
+        assert!(rt; is_stated, "{cut}, {font}");
+    }
+    for path in ["cut.ttf", "font.ttf", "short.ttf"] {
+        fs::remove_file(&rt, path)?;
+    }
     Ok(())
 }
 
@@ -131,7 +173,9 @@ fn standard_output_that_is_full(rt: HostRuntime) -> Result<(), Fail> {
         let mut room = [0u8; 10];
         let mut out = Outlet::new(room.as_mut_slice());
         let mut err = Outlet::new(Vec::new(rt.alloc()));
-        let status = run_words(&rt, rt.alloc(), line.as_slice(), &mut out, &mut err);
+        let reason = Reason::new();
+        let system = system_of(&rt, rt.alloc(), &reason);
+        let status = run_words(&system, line.as_slice(), &mut out, &mut err);
         assert_eq!(rt; status, 3, "{word}");
         assert_eq!(rt;
             err.into_inner().as_slice(),
@@ -151,7 +195,9 @@ fn standard_error_that_is_full(rt: HostRuntime) -> Result<(), Fail> {
         let mut room = [0u8; 3];
         let mut out = Outlet::new(Vec::new(rt.alloc()));
         let mut err = Outlet::new(room.as_mut_slice());
-        let status = run_words(&rt, rt.alloc(), line.as_slice(), &mut out, &mut err);
+        let reason = Reason::new();
+        let system = system_of(&rt, rt.alloc(), &reason);
+        let status = run_words(&system, line.as_slice(), &mut out, &mut err);
         assert_eq!(rt; status, wanted, "{words:?}");
     }
     Ok(())

@@ -1,13 +1,17 @@
 //! What the tests share: lines of words, what they answer and print, and the files that they are over.
-use font_cmd::run_words;
+use font_cmd::{Reason, System, run_words};
 use font_cut::Outlet;
 use sample_fonts::fonts::base6_with;
 use sample_fonts::known_cuts::A_AND_B;
 use sfnt_bytes::BASE6;
 use std::alloc::{AllocError, Global};
-use std::fs;
+use std::io::Write;
 use std::rt::Files;
 use std::test::Fail;
+use std::{fs, io};
+
+/// What comes from standard input.
+pub const INPUT: &[u8] = b"AB";
 
 /// What a line answers and prints.
 #[derive(Drop)]
@@ -25,11 +29,42 @@ pub fn line_of(alloc: Global, words: &[&str]) -> Result<Vec<String>, AllocError>
     Ok(line)
 }
 
+/// A writer that takes no byte, in the place of a standard output that a cut goes to.
+#[derive(Clone, Copy)]
+pub struct Shut;
+
+impl Write for Shut {
+    fn write(&mut self, _bytes: &[u8]) -> io::Result<usize> {
+        Ok(0)
+    }
+
+    fn flush(&mut self) -> io::Result<()> {
+        Ok(())
+    }
+}
+
+/// What a line is run with.
+pub fn system_of<'a, F>(
+    files: &'a F,
+    alloc: Global,
+    reason: &'a Reason,
+) -> System<'a, F, &'static [u8], Shut> {
+    System {
+        files,
+        alloc,
+        input: INPUT,
+        output: Shut,
+        reason,
+    }
+}
+
 pub fn run<F: Files>(files: &F, alloc: Global, words: &[&str]) -> Result<Answered, AllocError> {
     let line = line_of(alloc, words)?;
     let mut out = Outlet::new(Vec::new(alloc));
     let mut err = Outlet::new(Vec::new(alloc));
-    let status = run_words(files, alloc, line.as_slice(), &mut out, &mut err);
+    let reason = Reason::new();
+    let system = system_of(files, alloc, &reason);
+    let status = run_words(&system, line.as_slice(), &mut out, &mut err);
     Ok(Answered {
         status,
         out: out.into_inner(),

@@ -1,9 +1,9 @@
 //! Files that take few bytes a write, and that are full at some size.
-use crate::lines::{remove_files, run};
+use crate::lines::{holds, remove_files, run};
 use sample_fonts::known_cuts::A_AND_B;
 use sfnt_bytes::BASE6;
 use std::alloc::Allocator;
-use std::fs::{Metadata, OpenFile, OpenOptions};
+use std::fs::{Metadata, OpenFile, OpenOptions, Permissions};
 use std::io::{ErrorKind, Read, Seek, SeekFrom, Write};
 use std::rt::Files;
 use std::test::Fail;
@@ -116,28 +116,37 @@ impl<F: Files> Files for ShortFiles<'_, F> {
         self.files.remove_dir(path)
     }
 
+    fn set_permissions(&self, path: &str, perm: Permissions) -> io::Result<()> {
+        self.files.set_permissions(path, perm)
+    }
+
     fn remove_dir_all<B: Allocator>(&self, alloc: B, path: &str) -> io::Result<()> {
         self.files.remove_dir_all(alloc, path)
     }
 }
 
 // Whether a line over files that take so many bytes a write, and that have so much room, writes all of
-// the cut, or says that OUT cannot be written and leaves a front of it.
+// the cut, or says that OUT cannot be written, leaves OUT as it was and no file beside it.
 fn is_told(rt: &HostRuntime, words: &[&str], most: usize, room: usize) -> Result<bool, Fail> {
     let files = ShortFiles {
         files: rt,
         most,
         room,
     };
+    fs::write(rt, "short.ttf", b"as it was")?;
     let line = run(&files, rt.alloc(), words)?;
-    let made = fs::read(rt, "short.ttf")?;
-    let is_front = A_AND_B.starts_with(&made) && made.len() == room.min(400);
-    let (status, said): (u8, &[u8]) = if room < 400 {
-        (3, b"fontcut: cannot write short.ttf\n")
+    let (status, said, held): (u8, &[u8], &[u8]) = if room < 400 {
+        (3, b"fontcut: cannot write short.ttf\n", b"as it was")
     } else {
-        (0, b"")
+        (0, b"", &A_AND_B)
     };
-    Ok(is_front && line.status == status && line.err.as_slice() == said)
+    let is_alone = fs::read(rt, ".fontcut-0").is_err();
+    Ok(
+        is_alone
+            && holds(rt, "short.ttf", held)
+            && line.status == status
+            && line.err.as_slice() == said,
+    )
 }
 
 // How many bytes a write takes, and how much room there is.

@@ -31,7 +31,7 @@ fn is_unwritten(run: Run, ended: &Outcome) -> bool {
 }
 
 // The rows that are worked by hand: how many bytes a call, which call fails, and the error.
-const WORKED: [(Run, usize, Failure, RunError); 19] = [
+const WORKED: [(Run, usize, Failure, RunError); 23] = [
     (Run::Subset, 1, AtWrite(101, Interrupted), Write(100)),
     (Run::Subset, 1, AtWrite(412, Interrupted), Write(411)),
     (Run::Subset, 1, TakesNoneAt(1), Write(0)),
@@ -51,6 +51,10 @@ const WORKED: [(Run, usize, Failure, RunError); 19] = [
     (Run::Show, 7, AtWrite(4, Interrupted), Write(21)),
     (Run::Show, 7, AtFlush(Other), Write(169)),
     (Run::Check, 4096, AtFlush(Other), Write(20)),
+    (Run::BelongsFirst, 100, AtRead(2, Interrupted), Read(100)),
+    (Run::BelongsSecond, 100, AtRead(3, Interrupted), Read(200)),
+    (Run::BelongsFirst, 1, AtWrite(3, Interrupted), Write(2)),
+    (Run::BelongsSecond, 4096, AtFlush(Other), Write(4)),
 ];
 
 // Whether a run ended with this error, and left inlets, outlet and writer as that says.
@@ -97,7 +101,7 @@ fn fails_at_each_read(alloc: Global, run: Run, piece: usize, kind: ErrorKind) ->
 // Whether so many bytes go out before the write of this number. A report is sent by one call; of a
 // cut it is known where each write takes one byte.
 fn is_count(run: Run, piece: usize, k: u64, written: u64) -> bool {
-    let is_report = matches!(run, Run::Check | Run::Show);
+    let is_report = !matches!(run, Run::Subset | Run::JoinFirst | Run::JoinSecond);
     let count = (piece as u64).saturating_mul(k.saturating_sub(1));
     written == count || !(is_report || piece == 1)
 }

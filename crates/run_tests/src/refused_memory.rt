@@ -10,7 +10,7 @@ use std::test::Fail;
 // Whether a run that was refused its request of this number says so, and has sent nothing. A subset
 // and a join ask for memory once before they read.
 fn is_refused(run: Run, ended: &Outcome, k: u64) -> bool {
-    let asks_first = !matches!(run, Run::Check | Run::Show);
+    let asks_first = matches!(run, Run::Subset | Run::JoinFirst | Run::JoinSecond);
     let may_be_unread = k == 1 && asks_first;
     ended.answer == Err(RunError::Memory)
         && ended.is_fresh

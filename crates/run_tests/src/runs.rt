@@ -1,44 +1,39 @@
-//! The four runs, each over one reader and one writer of the test's, and what they are to send.
+//! The runs, each over one reader and one writer of the test's, and what they are to send.
 use fakes::Refusing;
 use fakes::devices::{Failure, Narrow, Pieces};
-use font_cmd::{Inlet, RunError, run_check, run_join, run_show, run_subset};
+use font_cmd::{
+    Inlet, RunError, run_belongs, run_check, run_codes, run_join, run_show, run_subset,
+};
 use font_cut::{BASE6, Outlet, Wanted};
+use sample_fonts::fonts::BASE6_SHOWN;
 use sample_fonts::known_cuts::{A_AND_B, A_B_AACUTE, AACUTE};
 use std::alloc::Global;
 
 const CHECKED: &[u8] = b"findings 0\naccepted\n";
 
-const SHOWN: &[u8] = b"glyphs 6
-units 1000
-loca short
-metrics 6
-mapping 3/1 format 4
-mapped 4
-kept cmap 68
-kept glyf 70
-kept head 54
-kept hhea 36
-kept hmtx 24
-kept loca 14
-kept maxp 32
-cut no
-";
+const CODES: &[u8] = b"U+20\nU+41-42\nU+C1\n";
 
-/// A run, and of a join which of its three inlets has the reader of the test's.
+/// A run, and of one over more inlets than one which of them has the reader of the test's.
 #[derive(Clone, Copy, Debug, PartialEq, Eq)]
 pub enum Run {
     Check,
     Show,
+    Codes,
     Subset,
+    BelongsFirst,
+    BelongsSecond,
     JoinFirst,
     JoinSecond,
 }
 
 /// All runs.
-pub const RUNS: [Run; 5] = [
+pub const RUNS: [Run; 8] = [
     Run::Check,
     Run::Show,
+    Run::Codes,
     Run::Subset,
+    Run::BelongsFirst,
+    Run::BelongsSecond,
     Run::JoinFirst,
     Run::JoinSecond,
 ];
@@ -55,8 +50,8 @@ impl Run {
     /// What the test's reader gives.
     pub fn file(self) -> &'static [u8] {
         match self {
-            Run::Check | Run::Show | Run::Subset => &BASE6,
-            Run::JoinFirst | Run::JoinSecond => &AACUTE,
+            Run::Check | Run::Show | Run::Codes | Run::Subset | Run::BelongsSecond => &BASE6,
+            Run::BelongsFirst | Run::JoinFirst | Run::JoinSecond => &AACUTE,
         }
     }
 
@@ -64,17 +59,20 @@ impl Run {
     pub fn text(self) -> &'static [u8] {
         match self {
             Run::Check => CHECKED,
-            Run::Show => SHOWN,
+            Run::Show => BASE6_SHOWN,
+            Run::Codes => CODES,
             Run::Subset => &AACUTE,
+            Run::BelongsFirst | Run::BelongsSecond => b"yes\n",
             Run::JoinFirst | Run::JoinSecond => &A_B_AACUTE,
         }
     }
 
-    /// What is to be answered: of `check` 1 for an accepted font, and of `show` nothing.
+    /// What is to be answered: of `check` 1 for an accepted font, of `belongs` 1 for a cut of the font, and
+    /// of `show` and `codes` nothing.
     pub fn answer(self) -> u64 {
         match self {
-            Run::Check => 1,
-            Run::Show => 0,
+            Run::Check | Run::BelongsFirst | Run::BelongsSecond => 1,
+            Run::Show | Run::Codes => 0,
             Run::Subset => 412,
             Run::JoinFirst | Run::JoinSecond => 448,
         }
@@ -83,7 +81,12 @@ impl Run {
     /// How the inlets are once all were read.
     pub fn read(self) -> [State; 3] {
         match self {
-            Run::Check | Run::Show | Run::Subset => [State::Read, State::Fresh, State::Fresh],
+            Run::Check | Run::Show | Run::Codes | Run::Subset => [
+                State::Read,
+                State::Fresh,
+                State::Fresh,
+            ],
+            Run::BelongsFirst | Run::BelongsSecond => [State::Read, State::Read, State::Fresh],
             Run::JoinFirst | Run::JoinSecond => [State::Read; 3],
         }
     }
@@ -91,7 +94,7 @@ impl Run {
     /// How the inlets are where the test's reader fails: those behind it are not read.
     pub fn stopped(self) -> [State; 3] {
         match self {
-            Run::JoinSecond => [State::Read, State::Broken, State::Fresh],
+            Run::BelongsSecond | Run::JoinSecond => [State::Read, State::Broken, State::Fresh],
             _ => [State::Broken, State::Fresh, State::Fresh],
         }
     }
@@ -142,6 +145,7 @@ fn run_alone(memory: &Refusing<Global>, run: Run, reader: Pieces<'_>, writer: Na
     let answer = match run {
         Run::Check => run_check(memory, &mut inlet, &mut outlet).map(u64::from),
         Run::Show => run_show(memory, &mut inlet, &mut outlet).map(|_| 0),
+        Run::Codes => run_codes(memory, &mut inlet, &mut outlet).map(|_| 0),
         _ => {
             let mut wanted = Wanted::new(memory);
             match wanted.add(0xC1, 0xC1) {
@@ -178,9 +182,34 @@ fn run_joined(
     outcome_of(answer, states, outlet)
 }
 
-/// Makes a run. The other readers of a join give their files at once.
+// A run of `belongs`, of whose two inlets the second one is the test's where `is_second`, and else the first.
+fn run_compared(
+    memory: &Refusing<Global>,
+    is_second: bool,
+    reader: Pieces<'_>,
+    writer: Narrow,
+) -> Outcome {
+    let mut outlet = Outlet::new(writer);
+    let (mut cut, mut font) = if is_second {
+        let other = Pieces::new(&AACUTE, 4096, Failure::Nowhere);
+        (Inlet::new(other), Inlet::new(reader))
+    } else {
+        let other = Pieces::new(&BASE6, 4096, Failure::Nowhere);
+        (Inlet::new(reader), Inlet::new(other))
+    };
+    let answer = run_belongs(memory, &mut cut, &mut font, &mut outlet).map(u64::from);
+    outcome_of(
+        answer,
+        [state_of(&cut), state_of(&font), State::Fresh],
+        outlet,
+    )
+}
+
+/// Makes a run. The other readers of a join and of `belongs` give their files at once.
 pub fn made(memory: &Refusing<Global>, run: Run, reader: Pieces<'_>, writer: Narrow) -> Outcome {
     match run {
+        Run::BelongsFirst => run_compared(memory, false, reader, writer),
+        Run::BelongsSecond => run_compared(memory, true, reader, writer),
         Run::JoinFirst => run_joined(memory, false, reader, writer),
         Run::JoinSecond => run_joined(memory, true, reader, writer),
         _ => run_alone(memory, run, reader, writer),

@@ -1,12 +1,15 @@
 //! What each run sends of fonts, of cuts and of files that are refused.
 use crate::runs::{Run, has_sent, over};
 use fakes::devices::Endless;
-use font_cmd::{Inlet, ReadError, RunError, run_check, run_join, run_show, run_subset};
+use font_cmd::{
+    Inlet, ReadError, RunError, run_belongs, run_check, run_join, run_show, run_subset,
+};
 use font_cut::{
     BASE6, DirError, FontError, JoinAllError, JoinError, Outlet, Wanted, Which, WriteFault,
 };
 use font_tables::TableError;
 use sample_fonts::files::{RECORD, RECORDS, entry, file_as_stated};
+use sample_fonts::first_profile;
 use sample_fonts::fonts::base6_with;
 use sample_fonts::known_cuts::{A_AND_B, A_B_AACUTE, AACUTE};
 use sfnt_bytes::{Directory, Entry, Tag};
@@ -30,6 +33,23 @@ kept maxp 32
 cut yes
 ";
 
+// The same of that cut in the first profile.
+const OLD_CUT_SHOWN: &[u8] = b"glyphs 6
+units 1000
+loca long
+metrics 6
+mapping 3/10 format 12
+mapped 1
+kept cmap 40
+kept glyf 64
+kept head 54
+kept hhea 36
+kept hmtx 24
+kept loca 28
+kept maxp 32
+cut old
+";
+
 #[test]
 fn check_of_base6(rt: HostRuntime) -> Result<(), Fail> {
     let mut inlet = Inlet::new(BASE6.as_slice());
@@ -44,11 +64,21 @@ fn check_of_base6(rt: HostRuntime) -> Result<(), Fail> {
 }
 
 #[test]
+fn codes_of_base6(rt: HostRuntime) {
+    let sent = over(rt.alloc(), Run::Codes, &BASE6);
+    assert!(rt; has_sent(Run::Codes, &sent, 0, b"U+20\nU+41-42\nU+C1\n"));
+    let sent = over(rt.alloc(), Run::Codes, &AACUTE);
+    assert!(rt; has_sent(Run::Codes, &sent, 0, b"U+C1\n"));
+}
+
+#[test]
 fn show_lines(rt: HostRuntime) -> Result<(), Fail> {
     let shown = over(rt.alloc(), Run::Show, &BASE6);
     assert!(rt; has_sent(Run::Show, &shown, 0, Run::Show.text()));
     let shown = over(rt.alloc(), Run::Show, &AACUTE);
     assert!(rt; has_sent(Run::Show, &shown, 0, CUT_SHOWN));
+    let shown = over(rt.alloc(), Run::Show, &first_profile::AACUTE);
+    assert!(rt; has_sent(Run::Show, &shown, 0, OLD_CUT_SHOWN));
     let shown = over(rt.alloc(), Run::Show, &with_dropped_tables(rt.alloc())?);
     let kept = Run::Show
         .text()
@@ -104,6 +134,13 @@ fn subset_and_join_runs(rt: HostRuntime) {
         ("y, x", y, x),
         ("z, x", z, x),
         ("z, z", z, z),
+        ("old x, y", &first_profile::AACUTE, y),
+        ("y, old x", y, &first_profile::AACUTE),
+        (
+            "old z, old x",
+            &first_profile::A_B_AACUTE,
+            &first_profile::AACUTE,
+        ),
     ] {
         assert!(rt; joins(alloc, first, second, Ok(448), z), "{pair}");
     }
@@ -169,6 +206,48 @@ fn refused_files_of_a_join(rt: HostRuntime) {
     }
 }
 
+// Whether `belongs` of two files answers and sends this.
+fn tells(
+    alloc: Global,
+    cut: &[u8],
+    font: &[u8],
+    answer: Result<bool, RunError>,
+    text: &[u8],
+) -> bool {
+    let (mut cut, mut font) = (Inlet::new(cut), Inlet::new(font));
+    let mut outlet = Outlet::new(Vec::new(alloc));
+    let found = run_belongs(alloc, &mut cut, &mut font, &mut outlet);
+    found == answer && outlet.into_inner().as_slice() == text
+}
+
+#[test]
+fn belongs_runs(rt: HostRuntime) {
+    let (x, font) = (AACUTE.as_slice(), BASE6.as_slice());
+    let truncated = FontError::from(DirError::Truncated);
+    let (first, second) = (
+        RunError::OneOf(Which::First, truncated),
+        RunError::OneOf(Which::Second, truncated),
+    );
+    for (name, cut, font, answer, text) in [
+        ("a cut", x, font, Ok(true), b"yes\n".as_slice()),
+        ("a join", &A_B_AACUTE, font, Ok(true), b"yes\n"),
+        (
+            "an old cut",
+            &first_profile::AACUTE,
+            font,
+            Ok(true),
+            b"yes\n",
+        ),
+        ("the font itself", font, font, Ok(false), b"no\n"),
+        ("a cut of less", &A_B_AACUTE, x, Ok(false), b"no\n"),
+        ("a short cut", &x[..100], font, Err(first), &[]),
+        ("a short font", x, &font[..100], Err(second), &[]),
+        ("both short", &x[..100], &font[..100], Err(first), &[]),
+    ] {
+        assert!(rt; tells(rt.alloc(), cut, font, answer, text), "{name}");
+    }
+}
+
 #[test]
 fn endless_readers(rt: HostRuntime) -> Result<(), Fail> {
     let error = RunError::Font(FontError::from(DirError::FileTooLarge));
@@ -206,6 +285,11 @@ fn texts_of_errors(rt: HostRuntime) -> Result<(), Fail> {
         (RunError::Memory, 16, "no memory"),
         (RunError::Write(100), 19, "write fault after 100"),
         (RunError::Font(font), 6, "table out of file maxp"),
+        (
+            RunError::OneOf(Which::Second, font),
+            6,
+            "table out of file maxp",
+        ),
         (RunError::TooLarge(134_217_752), 18, "too large 134217752"),
         (RunError::Join(step), 20, "not a cut: second"),
     ] {

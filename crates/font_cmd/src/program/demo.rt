@@ -1,5 +1,5 @@
 //! `demo`: what is found in the font that the program carries, and what its cuts come to.
-use crate::program::wanted::wanted_of;
+use crate::program::wanted::{codes_of, wanted_of};
 use crate::runs::inlet::Inlet;
 use crate::runs::join::run_join;
 use crate::runs::run_error::RunError;
@@ -32,7 +32,10 @@ fn in_memory(error: RunError) -> RunError {
 // Adds the line of the cut for the codes of some words, and answers the cut.
 fn add_cut(alloc: Global, text: &mut String, words: &[&str]) -> Result<Vec<u8>, RunError> {
     // The words name ranges, so only memory can be wanting.
-    let Ok(wanted) = wanted_of(alloc, "", words) else {
+    let Ok(codes) = codes_of(alloc, &[], words) else {
+        return Err(RunError::Memory);
+    };
+    let Ok(wanted) = wanted_of(alloc, &codes) else {
         return Err(RunError::Memory);
     };
     let mut outlet = Outlet::new(Vec::new(alloc));

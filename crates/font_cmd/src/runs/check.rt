@@ -1,11 +1,11 @@
 //! `check`: the findings of a file, and whether it is accepted.
-ghost use Rattle.std.specs.Prelude.{◌≡◌, ◌↔◌, None, Some, IfErr, IfOk, IsTrue, OnOk, [], false, true};
+ghost use Rattle.std.specs.Prelude.{◌≡◌, ◌↔◌, None, Some, IfOk, IsTrue, [], false, true};
 ghost use Rattle.std.specs.List.{flat_map};
 ghost use Rattle.font_cut.specs.Fonts.{findings_of, font_fault};
 ghost use Rattle.font_cmd.specs.Check.{check_text, finding_line, read_findings, report_text, shown_findings};
-ghost use Rattle.font_cmd.specs.Inlet.{inlet_broken_of, inlet_fresh_of};
-ghost use Rattle.font_cut.specs.Outlet.{WentOut, broken_of, fresh_of};
-ghost use Rattle.font_cmd.specs.Run.{AnyFile, RefusesNone, RunStops, got};
+ghost use Rattle.font_cmd.specs.Inlet.{inlet_fresh_of};
+ghost use Rattle.font_cut.specs.Outlet.{fresh_of};
+ghost use Rattle.font_cmd.specs.Run.{AnyFile, RefusesNone, SendsText, got};
 
 use crate::runs::inlet::Inlet;
 use crate::runs::run_error::{RunError, send};
@@ -97,18 +97,11 @@ pub fn run_check<R: Read, W: Write, A: Allocator + Copy>(
 ) -> Result<bool, RunError>
     requires inlet { inlet_fresh_of inlet.old ≡ true }
     requires outlet { fresh_of outlet.old ≡ true }
-    ensures spent { inlet_fresh_of inlet.new ≡ false }
-
-    ensures sent { OnOk result (got R.remaining inlet.old
-        (λ file. WentOut W.contents outlet.old outlet.new (check_text file))) }
+    // A file is never refused: that is what is sent of it.
+    ensures sent { SendsText R.remaining W.contents AnyFile check_text RefusesNone
+        inlet.old inlet.new outlet.old outlet.new result }
     ensures answer { IfOk result (λ clean. got R.remaining inlet.old
         (λ file. IsTrue clean ↔ (font_fault file ≡ None) × (findings_of file ≡ []))) }
-    ensures whole { OnOk result ((inlet_broken_of inlet.new ≡ false) × (broken_of outlet.new ≡ false)) }
-
-    // A file is never refused: that is what is sent of it.
-    ensures error { IfErr result
-        (RunStops R.remaining W.contents AnyFile check_text RefusesNone inlet.old inlet.new outlet.old
-        outlet.new) }
 {
     let file = inlet.read_all(alloc)?;
     let report = Report::of(alloc, &file)?;

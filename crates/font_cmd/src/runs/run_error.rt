@@ -6,7 +6,7 @@ ghost use Rattle.font_cmd.specs.declared.runs.run_error.RunError.TheVariants.{Fo
 
 use crate::runs::inlet::ReadError;
 use font_cut::{
-    CutIntoError, FontError, JoinAllError, JoinAllIntoError, JoinError, NoMemory, Outlet,
+    CutIntoError, FontError, JoinAllError, JoinAllIntoError, JoinError, NoMemory, Outlet, Which,
     WriteFault,
 };
 use std::alloc::AllocError;
@@ -28,6 +28,9 @@ pub enum RunError {
     /// The font is refused.
     #[error(transparent)]
     Font(FontError),
+    /// One of two files, by its place, is refused as a font.
+    #[error("{1}")]
+    OneOf(Which, FontError),
     /// The file to be written would have so many bytes, more than a file may have.
     #[error("too large {0}")]
     TooLarge(u64),
@@ -46,6 +49,7 @@ impl RunError {
             RunError::Memory => 16,
             RunError::Write(_) => 19,
             RunError::Font(error) => error.number(),
+            RunError::OneOf(_, error) => error.number(),
             RunError::TooLarge(_) => 18,
             RunError::Join(error) => error.number(),
         }

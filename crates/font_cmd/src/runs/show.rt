@@ -1,15 +1,16 @@
 //! `show`: what a person asks of a font, and what a cut of it keeps and drops.
-ghost use Rattle.std.specs.Prelude.{◌≡◌, ◌<◌, None, Some, IfErr, IfOk, OnOk, false, true};
-ghost use Rattle.font_cut.specs.Fonts.{cmap_of, font_fault, glyph_count_of, mapped_codes, mapping_of};
-ghost use Rattle.font_cmd.specs.Inlet.{inlet_broken_of, inlet_fresh_of};
-ghost use Rattle.font_cut.specs.Outlet.{WentOut, broken_of, fresh_of};
-ghost use Rattle.font_cmd.specs.Run.{IsAccepted, RefusesFont, RunStops, got};
+ghost use Rattle.std.specs.Prelude.{◌≡◌, ◌<◌, None, Some, IfOk, true};
+ghost use Rattle.font_cut.specs.Fonts.{cmap_of, glyph_count_of, mapped_codes, mapping_of};
+ghost use Rattle.font_cmd.specs.Inlet.{inlet_fresh_of};
+ghost use Rattle.font_cut.specs.Outlet.{fresh_of};
+ghost use Rattle.font_cmd.specs.Run.{IsAccepted, RefusesFont, SendsText};
 ghost use Rattle.font_cmd.specs.Show.{cut_text, dropped_line, dropped_text, font_text, kept_line, kept_table_line, kept_text, mapped_text, numbers_text, show_text};
 
 use crate::runs::inlet::Inlet;
 use crate::runs::run_error::{RunError, send};
 use font_cut::{
-    Chart, Directory, Entry, Font, KEPT, LocaForm, Mapping, NoMemory, Outlet, Tables, Tag, is_cut,
+    Chart, CutForm, Directory, Entry, Font, KEPT, LocaForm, Mapping, NoMemory, Outlet, Tables, Tag,
+    cut_form,
 };
 use std::alloc::Allocator;
 use std::fmt;
@@ -138,17 +139,18 @@ impl<'a> fmt::Display for Mapped<'a> {
 
 // The line that says whether a font is a cut.
 #[derive(Clone, Copy)]
-struct CutLine(bool);
+struct CutLine(CutForm);
 
 impl fmt::Display for CutLine {
     ghost output = { λ line. Some (cut_text line.0) };
 
     fn fmt<W: fmt::Write>(&self, f: &mut fmt::Formatter<W>) -> fmt::Result {
-        if self.0 {
-            write!(f, "cut yes\n")
-        } else {
-            write!(f, "cut no\n")
-        }
+        let answer = match self.0 {
+            CutForm::Current => "yes",
+            CutForm::Old => "old",
+            CutForm::Not => "no",
+        };
+        write!(f, "cut {answer}\n")
     }
 }
 
@@ -161,16 +163,16 @@ fn count_mapped<A: Allocator + Copy>(alloc: A, font: &Font<'_>) -> Result<u32, N
     Ok(chart.mapped_count())
 }
 
-// The lines of a font, of which it is known how many codes it maps and whether it is a cut.
+// The lines of a font, of which it is known how many codes it maps and in which form it is a cut.
 #[derive(Clone, Copy)]
 struct Shown<'a> {
     font: &'a Font<'a>,
     mapped: u32,
-    is_cut: bool,
+    form: CutForm,
 }
 
 impl<'a> fmt::Display for Shown<'a> {
-    ghost output = { λ shown. Some (font_text shown.font.now shown.mapped shown.is_cut) };
+    ghost output = { λ shown. Some (font_text shown.font.now shown.mapped shown.form) };
 
     #[tactic(auto, unfolding(crate::specs::Show::font_text))]
     fn fmt<W: fmt::Write>(&self, f: &mut fmt::Formatter<W>) -> fmt::Result {
@@ -182,14 +184,15 @@ impl<'a> fmt::Display for Shown<'a> {
         };
         let directory = tables.directory();
         let (kept, dropped) = (Kept(directory), Dropped(directory));
-        let last = CutLine(self.is_cut);
+        let last = CutLine(self.form);
         write!(f, "{numbers}{mapped}{kept}{dropped}{last}")
     }
 }
 
 /// Reads a font to its end, and sends its numbers of glyphs, units and metrics, the form of its
 /// `loca`, which subtable its mapping is read from and how many codes that maps, a line for each table
-/// that a cut keeps or drops, and whether the font is a cut itself.
+/// that a cut keeps or drops, and whether the font is a cut itself: as it is written now (`yes`), as it was
+/// written before (`old`), or not (`no`).
 ///
 /// # Errors
 /// `Read` where the reader fails, `Memory` where memory is refused, `Font` where the font is: then
@@ -202,22 +205,15 @@ pub fn run_show<R: Read, W: Write, A: Allocator + Copy>(
 ) -> Result<(), RunError>
     requires inlet { inlet_fresh_of inlet.old ≡ true }
     requires outlet { fresh_of outlet.old ≡ true }
-    ensures spent { inlet_fresh_of inlet.new ≡ false }
-
-    ensures sent { OnOk result (got R.remaining inlet.old
-        (λ file. (font_fault file ≡ None) × WentOut W.contents outlet.old outlet.new (show_text file))) }
-    ensures whole { OnOk result ((inlet_broken_of inlet.new ≡ false) × (broken_of outlet.new ≡ false)) }
-
-    ensures error { IfErr result
-        (RunStops R.remaining W.contents IsAccepted show_text (RefusesFont R.remaining inlet.old)
-        inlet.old inlet.new outlet.old outlet.new) }
+    ensures { SendsText R.remaining W.contents IsAccepted show_text (RefusesFont R.remaining inlet.old)
+        inlet.old inlet.new outlet.old outlet.new result }
 {
     let file = inlet.read_all(alloc)?;
     let font = Font::open(&file)?;
     let shown = Shown {
         font: &font,
         mapped: count_mapped(alloc, &font)?,
-        is_cut: is_cut(alloc, &font)?,
+        form: cut_form(alloc, &font)?,
     };
     let text = shown.to_string(alloc)?;
     Ok(send(outlet, text.as_bytes())?)

@@ -1,10 +1,10 @@
 //! `subset`: the cut of a font for the codes that are wanted.
-ghost use Rattle.std.specs.Prelude.{◌≡◌, ◌≤◌, None, IfErr, IfOk, OnOk, false, length, true};
+ghost use Rattle.std.specs.Prelude.{◌≡◌, ◌≤◌, IfOk, length, true};
 ghost use Rattle.font_cut.specs.Cut.{cut_of};
-ghost use Rattle.font_cut.specs.Fonts.{MAX_FILE, font_fault, member};
-ghost use Rattle.font_cut.specs.Outlet.{WentOut, broken_of, fresh_of};
-ghost use Rattle.font_cmd.specs.Inlet.{inlet_broken_of, inlet_fresh_of};
-ghost use Rattle.font_cmd.specs.Run.{HasCut, RefusesCut, RunStops, got};
+ghost use Rattle.font_cut.specs.Fonts.{MAX_FILE, member};
+ghost use Rattle.font_cut.specs.Outlet.{fresh_of};
+ghost use Rattle.font_cmd.specs.Inlet.{inlet_fresh_of};
+ghost use Rattle.font_cmd.specs.Run.{HasCut, RefusesCut, SendsText, got};
 
 use crate::runs::inlet::Inlet;
 use crate::runs::run_error::RunError;
@@ -27,20 +27,12 @@ pub fn run_subset<R: Read, W: Write, A: Allocator + Copy>(
 ) -> Result<u64, RunError>
     requires inlet { inlet_fresh_of inlet.old ≡ true }
     requires outlet { fresh_of outlet.old ≡ true }
-    ensures spent { inlet_fresh_of inlet.new ≡ false }
-
-    ensures sent { OnOk result (got R.remaining inlet.old
-        (λ file. (font_fault file ≡ None) × WentOut W.contents outlet.old outlet.new
-        (cut_of file (member wanted.now)))) }
-    ensures size { IfOk result (λ size. (size ≤ MAX_FILE) × got R.remaining inlet.old
-        (λ file. size ≡ length (cut_of file (member wanted.now)))) }
-    ensures whole { OnOk result ((inlet_broken_of inlet.new ≡ false) × (broken_of outlet.new ≡ false)) }
-
-    ensures error { IfErr result
-        (RunStops R.remaining W.contents (HasCut (member wanted.now))
+    ensures sent { SendsText R.remaining W.contents (HasCut (member wanted.now))
         (λ file. cut_of file (member wanted.now))
         (RefusesCut R.remaining inlet.old (member wanted.now))
-        inlet.old inlet.new outlet.old outlet.new) }
+        inlet.old inlet.new outlet.old outlet.new result }
+    ensures size { IfOk result (λ size. (size ≤ MAX_FILE) × got R.remaining inlet.old
+        (λ file. size ≡ length (cut_of file (member wanted.now)))) }
 {
     let file = inlet.read_all(alloc)?;
     let font = Font::open(&file)?;

@@ -1,0 +1,111 @@
+//! The texts of the help.
+
+pub(crate) const PROGRAM: &str =
+    "Cuts OpenType fonts with TrueType outlines down to wanted characters, and joins such cuts";
+
+pub(crate) const AFTER_PROGRAM: &str = "\
+CUT or FONT, OUT and one of FILES may be -, which is standard input or standard output; ./- is the file.
+OUT is overwritten when all of it is written, and never left half done.
+
+Statuses: 0 done; 1 a font is refused, check finds something, belongs says no, or memory is refused;
+2 the words of the line are at fault; 3 a file cannot be read or written";
+
+pub(crate) const VERBOSE: &str = "Tells the system's reason where a file cannot be read or written";
+
+pub(crate) const CHECK: &str = "Checks FONT: prints each finding, then whether it is accepted";
+
+pub(crate) const AFTER_CHECK: &str = "\
+Examples:
+  fontcut check font.ttf
+  fontcut check - <font.ttf
+
+Statuses: 0 accepted, and nothing is found; 1 a finding, or refused; 2 words; 3 files";
+
+pub(crate) const SHOW: &str =
+    "Shows the numbers of FONT, which of its tables a cut keeps or drops, and whether it is a cut";
+
+pub(crate) const AFTER_SHOW: &str = "\
+Examples:
+  fontcut show font.ttf
+  fontcut show font.ttf | grep dropped
+
+Statuses: 0 shown; 1 the font is refused; 2 words; 3 files";
+
+pub(crate) const CODES: &str =
+    "Prints the codes that FONT maps, ascending: a range word a line, as subset --codes-file reads them";
+
+pub(crate) const AFTER_CODES: &str = "\
+A range is as long as it can be: U+41 for one code, U+41-5A for those from U+41 to U+5A.
+
+Examples:
+  fontcut codes font.ttf
+  fontcut codes small.ttf | fontcut subset large.ttf cut.ttf --codes-file -
+
+Statuses: 0 printed; 1 the font is refused; 2 words; 3 files";
+
+pub(crate) const BELONGS: &str =
+    "Tells whether CUT is a cut of FONT for some characters: prints yes or no";
+
+pub(crate) const AFTER_BELONGS: &str = "\
+CUT may be a join of cuts, or a cut of an earlier version of this program. Of another font, or of another
+version of the font, it is no cut.
+
+Examples:
+  fontcut belongs cut.ttf font.ttf
+  fontcut belongs cut.ttf font.ttf >/dev/null || fontcut subset font.ttf cut.ttf U+20-7E
+
+Statuses: 0 yes; 1 no, or a file is refused; 2 words; 3 files";
+
+pub(crate) const SUBSET: &str =
+    "Cuts FONT down to the characters that are wanted, and writes the cut to OUT, which is overwritten";
+
+pub(crate) const TEXT: &str = "Keeps the characters of TEXT; may be used again";
+
+pub(crate) const TEXT_FILE: &str =
+    "Keeps the characters of a file in UTF-8, but for line ends; may be used again";
+
+pub(crate) const CODES_FILE: &str =
+    "Keeps the range words of a file, parted by blanks, line ends or commas; # starts a comment";
+
+pub(crate) const REPORT: &str =
+    "Tells on standard error which wanted codes FONT lacks, and what the cut drops";
+
+pub(crate) const STRICT: &str =
+    "Writes nothing and reports, with status 1, where FONT lacks a wanted code";
+
+pub(crate) const WORDS: &str = "Ranges of codes to keep: all, U+41, U+41-5A";
+
+pub(crate) const AFTER_SUBSET: &str = "\
+A cut keeps the numbers of the glyphs. It drops the tables of layout (GSUB, GPOS, GDEF, kern), of
+variations (fvar, gvar ..), of colours and bitmaps, and signatures; fontcut show lists them.
+
+Examples:
+  fontcut subset font.ttf cut.ttf --text 'Hello, world'
+  fontcut subset font.ttf cut.ttf U+20-7E --text-file page.txt --report
+
+Statuses: 0 done; 1 the font is refused, or --strict and a code is not mapped; 2 words; 3 files";
+
+pub(crate) const JOIN: &str =
+    "Joins FILES, cuts of one font, into OUT: the cut for all their characters. OUT comes first and \
+     is overwritten";
+
+pub(crate) const FILES: &str = "Cuts of one font, in any order";
+
+pub(crate) const AFTER_JOIN: &str = "\
+A join keeps what its cuts kept, and drops nothing. It is the cut of the font for all their characters.
+
+Examples:
+  fontcut join all.ttf latin.ttf greek.ttf
+  fontcut join all.ttf all.ttf more.ttf
+
+Statuses: 0 done; 1 a file is refused, or they are no cuts of one font; 2 words; 3 files";
+
+pub(crate) const DEMO: &str =
+    "Shows what is found in a font of six glyphs, and the sizes of some of its cuts";
+
+pub(crate) const AFTER_DEMO: &str = "\
+Examples:
+  fontcut demo
+  fontcut
+
+Statuses: 0 done; 2 words; 3 standard output cannot be written";

@@ -1,0 +1,64 @@
+-- What `belongs` prints of two files, and how it leaves its inlets and its outlet, this project's own.
+use Rattle.std.specs.Prelude.{◌≡◌, ℕ, ◌⊎◌, ◌↔◌, Bool, false, true, IsTrue, List, None, Option, Some, codes, take}
+use Rattle.font_cut.specs.Cut.{IsCutForSome}
+use Rattle.font_cut.specs.Fonts.{FontError, font_fault}
+use Rattle.font_cut.specs.Outlet as outlets
+use Rattle.font_cut.specs.declared.join_error.Which.{Which}
+use Rattle.font_cut.specs.declared.join_error.Which.TheVariants.{First, Second}
+use Rattle.font_cut.specs.declared.outlet.Outlet.{Outlet}
+use Rattle.font_cmd.specs.Check.{line}
+use Rattle.font_cmd.specs.Inlet as inlets
+use Rattle.font_cmd.specs.Join.{IsSpent}
+use Rattle.font_cmd.specs.Run.{got}
+use Rattle.font_cmd.specs.declared.runs.inlet.Inlet.{Inlet}
+use Rattle.font_cmd.specs.declared.runs.run_error.RunError.{RunError}
+use Rattle.font_cmd.specs.declared.runs.run_error.RunError.TheVariants.{Font, Join, Memory, OneOf, Read, TooLarge, Write}
+
+-- all that `belongs` prints
+abbrev pub answer_text : Bool → List ℕ
+answer_text true = line (codes "yes")
+answer_text false = line (codes "no")
+
+-- both files are accepted, and the answer says whether the first one is a cut of the second one for some codes, in some form
+pub record Answers (cut font : List ℕ) (answer : Bool) : Type 0 where
+  pub cut_accepted : font_fault cut ≡ None
+  pub font_accepted : font_fault font ≡ None
+  pub is : IsTrue answer ↔ IsCutForSome font cut
+
+-- the first file is refused as a font, or it is accepted and the second one is refused, by the first refusal that applies
+abbrev pub RefusesOneOf : List ℕ → List ℕ → Which → FontError → Type 0
+RefusesOneOf cut font First error = font_fault cut ≡ Some error
+RefusesOneOf cut font Second error = (font_fault cut ≡ None) × (font_fault font ≡ Some error)
+
+-- why there is no answer of two files: want of memory, or one of them is refused
+abbrev pub IsUnanswered : List ℕ → List ℕ → RunError → Type 0
+IsUnanswered cut font Memory = Unit {0}
+IsUnanswered cut font (OneOf which error) = RefusesOneOf cut font which error
+IsUnanswered cut font _ = ⊥
+
+-- P holds of what came from both readers, where these tell their bytes
+abbrev pub got_both : {R : Type 0} → (R → Option (List ℕ)) → Inlet R → Inlet R → (List ℕ → List ℕ → Type 0) → Type 0
+got_both remaining cut font P = got remaining cut (λ x. got remaining font (λ y. P x y))
+
+-- a read failed after so many bytes
+abbrev pub BrokeAfter : {R : Type 0} → (R → Option (List ℕ)) → Inlet R → Inlet R → ℕ → Type 0
+BrokeAfter remaining i j count = (inlets.inlet_broken_of j ≡ true) × inlets.Gives remaining i j count
+
+-- how a run that is not done leaves the inlet of CUT, from c to d, that of FONT, from i to j, and its outlet, from o to p
+abbrev pub BelongsStops : {R W : Type 0} (remaining : R → Option (List ℕ)) (contents : W → Option (List ℕ)) (c d i j : Inlet R) (o p : Outlet W) → RunError → Type 0
+-- nothing was sent: CUT broke, and FONT was not read, or FONT did
+BelongsStops remaining contents c d i j o p (Read count) =
+    (p ≡ o) × ((BrokeAfter remaining c d count × (j ≡ i)) ⊎ (IsSpent d × BrokeAfter remaining i j count))
+-- nothing was sent, and FONT was read or not
+BelongsStops remaining contents c d i j o p Memory = (p ≡ o) × IsSpent d × ((j ≡ i) ⊎ IsSpent j)
+-- one of both is refused, and nothing was sent
+BelongsStops remaining contents c d i j o p (OneOf which error) =
+    (p ≡ o) × IsSpent d × IsSpent j × got_both remaining c i (λ x y. RefusesOneOf x y which error)
+-- the outlet is broken, and so many bytes of the answer went out
+BelongsStops remaining contents c d i j o p (Write count) =
+    IsSpent d × IsSpent j × (outlets.broken_of p ≡ true) × (outlets.written_of p ≡ count)
+    × ((answer : Bool) × got_both remaining c i (λ x y. Answers x y answer) × outlets.WentOut contents o p (take count (answer_text answer)))
+-- nothing else stops it
+BelongsStops remaining contents c d i j o p (Font error) = ⊥
+BelongsStops remaining contents c d i j o p (TooLarge size) = ⊥
+BelongsStops remaining contents c d i j o p (Join error) = ⊥
