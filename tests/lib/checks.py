@@ -43,9 +43,9 @@ def shown(path):
     table = subtable_of(font)
     codes = sum(font.getGlyphID(name) != 0 for name in table.cmap.values())
     tables = [[tag, entry.length] for tag, entry in sorted(font.reader.tables.items())]
-    pairs = [(it.platformID, it.platEncID) for it in font["cmap"].tables]
+    is_cut = [(it.platformID, it.platEncID) for it in font["cmap"].tables] == [(0, 4), (3, 10)]
     return [font["maxp"].numGlyphs, font["head"].unitsPerEm, form, font["hhea"].numberOfHMetrics,
-            [table.platformID, table.platEncID, table.format], codes, tables, pairs == [(0, 4), (3, 10)]]
+            [table.platformID, table.platEncID, table.format], codes, tables, "yes" if is_cut else "no"]
 print(json.dumps([shown(path) for path in sys.argv[1:]]))
 """
 

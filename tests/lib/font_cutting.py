@@ -141,6 +141,21 @@ def cut(file, wanted):
     return assembled(cut_tables(file, wanted))
 
 
-def is_cut(file):
-    """Whether a file that is accepted is in cut form: whether it is its own cut for all codes."""
-    return cut(file, ALL) == file
+def in_first_profile(tables):
+    """The tables of a cut as they were before: `cmap` has one record, 3/10, and `glyf` the outlines alone."""
+    cmap = struct.pack(">HHHHI", 0, 1, 3, 10, 12) + tables[b"cmap"][20:]
+    glyf = tables[b"glyf"] if any(tables[b"loca"]) else b""
+    return {**tables, b"cmap": cmap, b"glyf": glyf}
+
+
+def old_cut(file, wanted):
+    """The cut of a font that is accepted, for wanted ranges of codes, in the first profile."""
+    return assembled(in_first_profile(cut_tables(file, wanted)))
+
+
+def cut_form(file):
+    """What `show` says of a file that is accepted: whether it is its own cut for all codes, in which profile."""
+    tables = cut_tables(file, ALL)
+    if assembled(tables) == file:
+        return "yes"
+    return "old" if assembled(in_first_profile(tables)) == file else "no"

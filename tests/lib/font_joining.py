@@ -3,7 +3,7 @@
 It follows docs/FORMAT.md, which says what a cut keeps, and compares what two cuts keep: the tables that are
 copied, the glyphs of codes, and the outlines of glyphs.
 """
-from font_cutting import (assembled, cmap_table, cut_size, glyf_and_loca, groups_of, is_cut, kept_glyphs, outlines,
+from font_cutting import (assembled, cmap_table, cut_form, cut_size, glyf_and_loca, groups_of, kept_glyphs, outlines,
                           whole_map)
 from font_reading import KEPT, MAX_FILE, directory_refusal, font_refusal, tables_of, tag_text
 
@@ -68,7 +68,7 @@ def join_refusal(first, second):
     if refused:
         return refused
     for name, file in ("first", first), ("second", second):
-        if not is_cut(file):
+        if cut_form(file) == "no":
             return 20, f"not a cut: {name}"
     refused = difference_refusal(first, second)
     if refused:
@@ -78,7 +78,7 @@ def join_refusal(first, second):
 
 
 def join(first, second):
-    """The join of two cuts that is not refused."""
+    """The join of two cuts that is not refused: in the second profile, whichever they are in."""
     return assembled(joined_tables(first, second))
 
 

@@ -306,12 +306,13 @@ def shown(file):
     return glyphs, u16(head, 18), form, u16(hhea, 34), (platform, encoding, u16(cmap, place)), codes, tables
 
 
-def show_text(glyphs, units, form, metrics, subtable, codes, tables, is_cut):
-    """What `fontcut show` has to print of these numbers, of these tables in the order of the file, and of a cut."""
+def show_text(glyphs, units, form, metrics, subtable, codes, tables, cut_form):
+    """What `fontcut show` has to print of these numbers, of these tables in the order of the file, and of a cut: yes,
+    old or no."""
     kept = [tag.decode() for tag in KEPT]
     lines = [f"glyphs {glyphs}", f"units {units}", f"loca {form}", f"metrics {metrics}"]
     lines += ["mapping {}/{} format {}".format(*subtable), f"mapped {codes}"]
     lines += [f"kept {tag} {length}" for name in kept for tag, length in tables if tag == name]
     lines += [f"dropped {tag} {length}" for tag, length in tables if tag not in kept]
-    lines.append("cut yes" if is_cut else "cut no")
+    lines.append(f"cut {cut_form}")
     return "".join(line + "\n" for line in lines)

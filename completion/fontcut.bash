@@ -1,0 +1,79 @@
+# Completion of the command line of fontcut for bash. It needs no other file.
+# shellcheck shell=bash
+
+# Prints the options of a command; those of every command where it has no other.
+_fontcut_options() {
+    case $1 in
+    '') echo '--verbose --version --help' ;;
+    subset) echo '--text --text-file --codes-file --report --strict --verbose --help' ;;
+    *) echo '--verbose --help' ;;
+    esac
+}
+
+# Sets COMPREPLY to the words of a list that begin as $2 does.
+_fontcut_words() {
+    mapfile -t COMPREPLY < <(compgen -W "$1" -- "$2")
+}
+
+# Sets COMPREPLY to the files and folders whose paths begin as $1 does.
+_fontcut_files() {
+    mapfile -t COMPREPLY < <(compgen -f -- "$1")
+    # This fails outside a completion.
+    compopt -o filenames 2>/dev/null
+}
+
+# Completes the operand that has this number behind a command, counted from 1.
+_fontcut_operand() {
+    local command=$1 number=$2 word=$3
+    case $command in
+    join) _fontcut_files "$word" ;;
+    belongs) if [ "$number" -le 2 ]; then _fontcut_files "$word"; fi ;;
+    subset) if [ "$number" -le 2 ]; then _fontcut_files "$word"; else _fontcut_words all "$word"; fi ;;
+    check | show | codes) if [ "$number" = 1 ]; then _fontcut_files "$word"; fi ;;
+    help) if [ "$number" = 1 ]; then _fontcut_words "$commands" "$word"; fi ;;
+    esac
+}
+
+_fontcut() {
+    local commands='check show codes belongs subset join demo help'
+    local word='' option='' command='' number=1 ended=false at
+    COMPREPLY=()
+    # The words before the one that is completed: the command, how many operands follow it, and the option
+    # whose value comes next. Bash makes a word of its own of the sign in --text-file=FILE.
+    for ((at = 1; at < COMP_CWORD; at++)); do
+        word=${COMP_WORDS[at]}
+        case $word in
+        =) ;;
+        *) if [ -n "$option" ]; then
+            option=''
+        elif ! $ended && [ "$word" = -- ]; then
+            ended=true
+        elif ! $ended && [[ $word == --text || $word == --text-file || $word == --codes-file ]]; then
+            option=$word
+        elif ! $ended && [[ $word == -?* ]]; then
+            :
+        elif [ -z "$command" ]; then
+            command=$word
+        else
+            number=$((number + 1))
+        fi ;;
+        esac
+    done
+    word=${COMP_WORDS[COMP_CWORD]}
+    [ "$word" != = ] || word=''
+    case $option in
+    --text) ;;
+    --text-file | --codes-file) _fontcut_files "$word" ;;
+    *)
+        if [[ $word == -* ]] && ! $ended; then
+            _fontcut_words "$(_fontcut_options "$command")" "$word"
+        elif [ -z "$command" ]; then
+            _fontcut_words "$commands" "$word"
+        else
+            _fontcut_operand "$command" "$number" "$word"
+        fi
+        ;;
+    esac
+}
+
+complete -F _fontcut fontcut
