@@ -10,7 +10,7 @@ use Rattle.font_cut.specs.declared.join_error.JoinError.TheVariants.{DifferentGl
 use Rattle.font_cut.specs.declared.outlet.Outlet.{Outlet}
 use Rattle.font_cmd.specs.Join.{AreGot, AreSpent, JoinStops, OnlySize}
 use Rattle.font_cmd.specs.Run.{of_join_error, of_join_into_error}
-use Rattle.font_cmd.specs.declared.runs.inlet.Inlet.{Inlet}
+use Rattle.font_cmd.specs.declared.inlet.Inlet.{Inlet}
 use Rattle.font_cmd.proofs.ReadEachLemmas.{all_read_to}
 
 pub only_size_of : (F : List ℕ) (A : ℕ → ℕ → Bool) (files : List (List ℕ)) (count : ℕ) → length files ≡ count → (error : JoinAllError) → IsForSizeOf F A files error → OnlySize F A count (of_join_error error)

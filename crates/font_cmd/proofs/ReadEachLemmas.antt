@@ -8,9 +8,9 @@ use Rattle.font_cut.specs.Fonts.{file_at}
 use Rattle.font_cmd.specs.Inlet.{Gives, StopsAs, inlet_broken_of, inlet_fresh_of}
 use Rattle.font_cmd.specs.Join.{AreGot, AreSpent, AreReadTo, BreaksAfter, IsSpent, ReadStops}
 use Rattle.font_cmd.specs.Run.{got, of_read_error}
-use Rattle.font_cmd.specs.declared.runs.inlet.Inlet.{Inlet}
-use Rattle.font_cmd.specs.declared.runs.inlet.ReadError.{ReadError}
-use Rattle.font_cmd.specs.declared.runs.inlet.ReadError.TheVariants.{NoMemory, ReadFault}
+use Rattle.font_cmd.specs.declared.inlet.Inlet.{Inlet}
+use Rattle.font_cmd.specs.declared.inlet.ReadError.{ReadError}
+use Rattle.font_cmd.specs.declared.inlet.ReadError.TheVariants.{NoMemory, ReadFault}
 
 -- the first k inlets were read, which gave the files; those behind them are as they were
 pub record AreRead {R : Type 0} (remaining : R → Option (List ℕ)) (old now : List (Inlet R)) (files : List (List ℕ)) (k : ℕ) : Type 0 where

@@ -10,9 +10,9 @@ use Rattle.font_cmd.specs.Check.{line}
 use Rattle.font_cmd.specs.Inlet as inlets
 use Rattle.font_cmd.specs.Join.{IsSpent}
 use Rattle.font_cmd.specs.Run.{got}
-use Rattle.font_cmd.specs.declared.runs.inlet.Inlet.{Inlet}
-use Rattle.font_cmd.specs.declared.runs.run_error.RunError.{RunError}
-use Rattle.font_cmd.specs.declared.runs.run_error.RunError.TheVariants.{Font, Join, Memory, OneOf, Read, TooLarge, Write}
+use Rattle.font_cmd.specs.declared.inlet.Inlet.{Inlet}
+use Rattle.font_cmd.specs.declared.run_error.RunError.{RunError}
+use Rattle.font_cmd.specs.declared.run_error.RunError.TheVariants.{Font, Join, Memory, OneOf, Read, TooLarge, Write}
 
 -- all that `belongs` prints
 abbrev pub answer_text : Bool → List ℕ

@@ -3,7 +3,7 @@ use Rattle.std.specs.Prelude.{ℕ, List, [], ◌∷◌, ◌++◌, if◌then◌el
 use Rattle.std.specs.List.{flat_map}
 use Rattle.std.specs.Option.{option_map, option_map_or}
 use Rattle.font_cut.specs.Fonts.{Finding, FontError, directory_fault, error_number, error_text, finding_text, findings_of, font_fault}
-use Rattle.font_cmd.specs.declared.runs.check.Report.{Report}
+use Rattle.font_cmd.specs.declared.check.Report.{Report}
 
 -- a text and a line break
 abbrev pub line : List ℕ → List ℕ

@@ -10,7 +10,7 @@ use Rattle.font_map.specs.declared.ranges.Range.{Range}
 use Rattle.font_map.specs.declared.runs.Run.{Run}
 use Rattle.font_cut.specs.Fonts.{cmap_of, glyph_count_of, mapping_of}
 use Rattle.font_cmd.specs.Check.{line}
-use Rattle.font_cmd.specs.declared.runs.codes.RangeLine.{RangeLine}
+use Rattle.font_cmd.specs.declared.codes.RangeLine.{RangeLine}
 
 -- `U+` and a code in upper-case hexadecimal digits
 abbrev pub code_word : ℕ → List ℕ

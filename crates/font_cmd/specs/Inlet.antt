@@ -2,10 +2,10 @@
 use Rattle.std.specs.Prelude.{◌≡◌, ℕ, Bool, true, false, List, ◌++◌, length, Option, codes, decimal}
 use Rattle.std.specs.Io.KnownBytes.{Consumes}
 use Rattle.font_cut.specs.Fonts.{no_memory_number, no_memory_text}
-use Rattle.font_cmd.specs.declared.runs.inlet.Inlet.{Inlet}
-use Rattle.font_cmd.specs.declared.runs.inlet.ReadError.{ReadError}
-use Rattle.font_cmd.specs.declared.runs.inlet.ReadError.TheVariants.{ReadFault, NoMemory}
-use Rattle.font_cmd.specs.declared.runs.inlet.State.TheVariants.{Fresh, Spent, Broken}
+use Rattle.font_cmd.specs.declared.inlet.Inlet.{Inlet}
+use Rattle.font_cmd.specs.declared.inlet.ReadError.{ReadError}
+use Rattle.font_cmd.specs.declared.inlet.ReadError.TheVariants.{ReadFault, NoMemory}
+use Rattle.font_cmd.specs.declared.inlet.State.TheVariants.{Fresh, Spent, Broken}
 
 -- `inlet.is_fresh()`
 abbrev pub inlet_fresh_of : {R : Type 0} → Inlet R → Bool

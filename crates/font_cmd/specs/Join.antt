@@ -10,9 +10,9 @@ use Rattle.font_cut.specs.declared.join_error.JoinAllError.TheVariants.{At, Noth
 use Rattle.font_cut.specs.declared.outlet.Outlet.{Outlet}
 use Rattle.font_cmd.specs.Inlet as inlets
 use Rattle.font_cmd.specs.Run.{got, of_join_error}
-use Rattle.font_cmd.specs.declared.runs.inlet.Inlet.{Inlet}
-use Rattle.font_cmd.specs.declared.runs.run_error.RunError.{RunError}
-use Rattle.font_cmd.specs.declared.runs.run_error.RunError.TheVariants.{Font, Join, Memory, OneOf, Read, TooLarge, Write}
+use Rattle.font_cmd.specs.declared.inlet.Inlet.{Inlet}
+use Rattle.font_cmd.specs.declared.run_error.RunError.{RunError}
+use Rattle.font_cmd.specs.declared.run_error.RunError.TheVariants.{Font, Join, Memory, OneOf, Read, TooLarge, Write}
 
 -- no inlet was read
 abbrev pub AreFresh : {R : Type 0} → List (Inlet R) → Type 0

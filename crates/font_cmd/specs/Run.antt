@@ -10,12 +10,12 @@ use Rattle.font_cut.specs.declared.join_error.JoinAllIntoError.TheVariants as jo
 use Rattle.font_cut.specs.declared.join_error.JoinAllError.{JoinAllError}
 use Rattle.font_cut.specs.declared.join_error.JoinAllError.TheVariants.{At}
 use Rattle.font_cut.specs.declared.join_error.JoinError.TheVariants as join_errors
-use Rattle.font_cmd.specs.declared.runs.inlet.Inlet.{Inlet}
-use Rattle.font_cmd.specs.declared.runs.inlet.ReadError.{ReadError}
-use Rattle.font_cmd.specs.declared.runs.inlet.ReadError.TheVariants.{NoMemory, ReadFault}
+use Rattle.font_cmd.specs.declared.inlet.Inlet.{Inlet}
+use Rattle.font_cmd.specs.declared.inlet.ReadError.{ReadError}
+use Rattle.font_cmd.specs.declared.inlet.ReadError.TheVariants.{NoMemory, ReadFault}
 use Rattle.font_cut.specs.declared.outlet.Outlet.{Outlet}
-use Rattle.font_cmd.specs.declared.runs.run_error.RunError.{RunError}
-use Rattle.font_cmd.specs.declared.runs.run_error.RunError.TheVariants.{Font, Join, Memory, OneOf, Read, TooLarge, Write}
+use Rattle.font_cmd.specs.declared.run_error.RunError.{RunError}
+use Rattle.font_cmd.specs.declared.run_error.RunError.TheVariants.{Font, Join, Memory, OneOf, Read, TooLarge, Write}
 use Rattle.font_cmd.specs.Inlet as inlets
 use Rattle.font_cut.specs.Outlet as outlets
 

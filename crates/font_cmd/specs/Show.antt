@@ -7,7 +7,7 @@ use Rattle.font_cut.specs.Fonts.{Entry, LocaForm, Long, Short, Tag, chosen_of, c
 use Rattle.font_cut.specs.declared.cut_forms.CutForm.{CutForm}
 use Rattle.font_cut.specs.declared.cut_forms.CutForm.TheVariants.{Current, Not, Old}
 use Rattle.font_cmd.specs.Check.{line}
-use Rattle.font_cmd.specs.declared.runs.show.KeptLine.{KeptLine}
+use Rattle.font_cmd.specs.declared.show.KeptLine.{KeptLine}
 
 -- the name of a form of `loca`
 abbrev pub form_text : LocaForm → List ℕ

@@ -1,16 +1,20 @@
-//! The runs of `fontcut` over readers and writers, and its command line.
+//! The runs of `fontcut` over readers and writers: each has a contract that says what is sent and when it stops.
 #![tactic(auto)]
 
-mod program;
-mod runs;
+mod belongs;
+mod check;
+mod codes;
+mod inlet;
+mod join;
+mod run_error;
+mod show;
+mod subset;
 
-pub use crate::program::dispatch::run_words;
-pub use crate::program::system::{Heard, Reason, System};
-pub use crate::runs::belongs::run_belongs;
-pub use crate::runs::check::run_check;
-pub use crate::runs::codes::{codes_laws, run_codes};
-pub use crate::runs::inlet::{Inlet, ReadError};
-pub use crate::runs::join::run_join;
-pub use crate::runs::run_error::RunError;
-pub use crate::runs::show::run_show;
-pub use crate::runs::subset::run_subset;
+pub use crate::belongs::run_belongs;
+pub use crate::check::run_check;
+pub use crate::codes::{codes_laws, run_codes};
+pub use crate::inlet::{Inlet, ReadError};
+pub use crate::join::run_join;
+pub use crate::run_error::RunError;
+pub use crate::show::run_show;
+pub use crate::subset::run_subset;

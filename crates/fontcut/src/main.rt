@@ -4,8 +4,8 @@
 ghost use Rattle.std.specs.Prelude.{◌≡◌, true};
 ghost use Rattle.font_cut.specs.Outlet.{fresh_of};
 
-use font_cmd::{Heard, Reason, System, run_words};
 use font_cut::Outlet;
+use program::{Heard, Reason, System, run_words};
 use std::alloc::{AllocError, Global};
 use std::io::{ErrorKind, Write};
 use std::process::ExitCode;

@@ -1,7 +1,7 @@
 //! The words of each line, what `demo`, `check`, `show`, `codes`, `belongs` and help print, and outputs that are full.
 use crate::lines::{answers, line_of, run, system_of};
-use font_cmd::{Reason, run_words};
 use font_cut::Outlet;
+use program::{Reason, run_words};
 use sample_fonts::fonts::BASE6_SHOWN;
 use sample_fonts::known_cuts::A_AND_B;
 use sfnt_bytes::BASE6;

@@ -1,6 +1,6 @@
 //! What the tests share: lines of words, what they answer and print, and the files that they are over.
-use font_cmd::{Reason, System, run_words};
 use font_cut::Outlet;
+use program::{Reason, System, run_words};
 use sample_fonts::fonts::base6_with;
 use sample_fonts::known_cuts::A_AND_B;
 use sfnt_bytes::BASE6;

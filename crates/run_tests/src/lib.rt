@@ -1,4 +1,4 @@
-//! Tests of the five runs over readers and writers that fail at each call in turn, with each kind of
+//! Tests of the runs over readers and writers that fail at each call in turn, with each kind of
 //! error, and over memory that is refused.
 #![tactic(auto)]
 

@@ -1,0 +1,103 @@
+//! What `--report` tells of a font: the wanted codes that it lacks, and the tables that a cut of it drops.
+use crate::code_set::CodeSet;
+use font_cut::{Chart, Font};
+use std::alloc::{AllocError, Global};
+
+// How many ranges of codes are listed.
+const LISTED: usize = 100;
+
+// Room for the last line, which is written after the cut is.
+const LAST_LINE: &str = "cut 134217728 bytes\n";
+
+// More than the runs of any map.
+const RUNS: u32 = 0x11_0000;
+
+/// What is told of a font and of the codes that are wanted of it.
+#[derive(Drop)]
+pub(crate) struct Coverage {
+    text: String,
+    is_full: bool,
+}
+
+// Returns the codes that a font maps.
+fn mapped_codes(alloc: Global, font: &Font<'_>) -> Result<CodeSet, AllocError> {
+    let mut codes = CodeSet::new(alloc)?;
+    let Ok(chart) = Chart::of(alloc, font.mapping()) else {
+        return Err(AllocError);
+    };
+    let mut from: u32 = 0;
+    for _ in 0..RUNS {
+        let Some(run) = chart.next_run(from) else {
+            break;
+        };
+        codes.add_range(run.first, run.last);
+        from = run.last.saturating_add(1);
+    }
+    Ok(codes)
+}
+
+// Adds a line for each range of codes, up to some number, and one that says how many more there are.
+fn add_unmapped(text: &mut String, ranges: &[(u32, u32)]) -> Result<(), AllocError> {
+    for &(first, last) in ranges.iter().take(LISTED) {
+        if first == last {
+            write!(text, "unmapped U+{first:X}\n")?;
+        } else {
+            write!(text, "unmapped U+{first:X}-{last:X}\n")?;
+        }
+    }
+    let more = ranges.len().saturating_sub(LISTED);
+    if more > 0 {
+        write!(text, "unmapped {more} more ranges\n")?;
+    }
+    Ok(())
+}
+
+// Adds a line for each table that is dropped, and one for the bytes of the file.
+fn add_font(text: &mut String, font: &Font<'_>) -> Result<(), AllocError> {
+    let directory = font.tables().directory();
+    for entry in directory.dropped() {
+        let (tag, length) = (entry.tag, entry.length);
+        write!(text, "dropped {tag} {length}\n")?;
+    }
+    let size = directory.file().len();
+    write!(text, "font {size} bytes\n")?;
+    Ok(())
+}
+
+impl Coverage {
+    /// What is told of a font and of the codes that are wanted. All memory that it needs is asked for here.
+    pub(crate) fn of(
+        alloc: Global,
+        font: &Font<'_>,
+        wanted: &CodeSet,
+    ) -> Result<Coverage, AllocError> {
+        let unmapped = wanted.without(alloc, &mapped_codes(alloc, font)?)?;
+        let (count, lacking) = (wanted.count(), unmapped.count());
+        let mapped = count.saturating_sub(lacking);
+        let mut text = String::new(alloc);
+        write!(text, "wanted {count}\nmapped {mapped}\n")?;
+        add_unmapped(&mut text, &unmapped.ranges(alloc)?)?;
+        add_font(&mut text, font)?;
+        text.reserve(LAST_LINE.len())?;
+        Ok(Coverage {
+            text,
+            is_full: lacking == 0,
+        })
+    }
+
+    /// Whether the font maps each code that is wanted.
+    pub(crate) fn is_full(&self) -> bool {
+        self.is_full
+    }
+
+    /// Returns the lines.
+    pub(crate) fn into_text(self) -> String {
+        self.text
+    }
+
+    /// Returns the lines, and one for the bytes of the cut.
+    pub(crate) fn with_cut(mut self, size: u64) -> Result<String, AllocError> {
+        write!(self.text, "cut {size} bytes\n")?;
+        Ok(self.text)
+    }
+}

@@ -1,0 +1,107 @@
+//! Why the program does not do what a line asks for.
+use crate::inputs::input_name;
+use crate::out_file::output_name;
+use font_cmd::RunError;
+use font_cut::{JoinAllError, Which};
+use std::fmt;
+
+/// Why what a line asks for is not done.
+#[derive(Debug, Drop)]
+pub(crate) enum Fault<'a> {
+    /// Standard input is named more than once.
+    InputTwice,
+    /// This word names no range of codes.
+    BadWord(&'a str),
+    /// What stands in a line of the file at this path is not UTF-8, or is this word, which names no range.
+    BadLine {
+        path: &'a str,
+        line: u64,
+        word: Option<String>,
+    },
+    /// The file at this path cannot be read.
+    Unread(&'a str),
+    /// What stands at this path cannot be written.
+    Unwritten(&'a str),
+    /// A file is refused, or memory was.
+    Refused(RunError),
+}
+
+impl<'a> Fault<'a> {
+    /// The fault of a run that reads the file at `font` and writes what stands at `out`.
+    pub(crate) fn of_run(font: &'a str, out: &'a str, error: RunError) -> Fault<'a> {
+        match error {
+            RunError::Read(_) => Fault::Unread(font),
+            RunError::Write(_) => Fault::Unwritten(out),
+            error => Fault::Refused(error),
+        }
+    }
+
+    /// The status of the program: 1 where a file is refused or memory was, 2 where a word is at fault, 3
+    /// where a file cannot be read or written.
+    pub(crate) fn status(&self) -> u8 {
+        match self {
+            Fault::Refused(_) => 1,
+            Fault::InputTwice | Fault::BadWord(_) | Fault::BadLine { .. } => 2,
+            Fault::Unread(_) | Fault::Unwritten(_) => 3,
+        }
+    }
+}
+
+/// The fault that memory is refused.
+pub(crate) fn no_memory() -> Fault<'static> {
+    Fault::Refused(RunError::Memory)
+}
+
+// The place of one of two files, counted from one.
+fn place_of(which: Which) -> u8 {
+    match which {
+        Which::First => 1,
+        Which::Second => 2,
+    }
+}
+
+impl fmt::Display for Fault<'_> {
+    fn fmt<W: fmt::Write>(&self, f: &mut fmt::Formatter<W>) -> fmt::Result {
+        match self {
+            Fault::InputTwice => f.write_str("standard input is named more than once"),
+            Fault::BadWord(word) => write!(f, "bad word {word}"),
+            Fault::BadLine {
+                path,
+                line,
+                word: Some(word),
+            } => {
+                let name = input_name(path);
+                write!(f, "{name}: line {line}: bad word {word}")
+            }
+            Fault::BadLine {
+                path,
+                line,
+                word: None,
+            } => {
+                let name = input_name(path);
+                write!(f, "{name}: line {line}: not UTF-8")
+            }
+            Fault::Unread(path) => {
+                let name = input_name(path);
+                write!(f, "cannot read {name}")
+            }
+            Fault::Unwritten(path) => {
+                let name = output_name(path);
+                write!(f, "cannot write {name}")
+            }
+            Fault::Refused(RunError::OneOf(which, error)) => {
+                let (file, number) = (place_of(*which), error.number());
+                write!(f, "file {file}: refused {number} {error}")
+            }
+            Fault::Refused(RunError::Join(JoinAllError::At { step, error })) => {
+                // Files are counted from one.
+                let (file, number) = (step.saturating_add(1), error.number());
+                write!(f, "file {file}: refused {number} {error}")
+            }
+            Fault::Refused(error) => {
+                let number = error.number();
+                write!(f, "refused {number} {error}")
+            }
+        }
+    }
+}

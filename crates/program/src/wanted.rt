@@ -1,0 +1,89 @@
+//! The wanted set of a command line: the ranges of its words and files, and the characters of its texts.
+use crate::code_set::CodeSet;
+use crate::report::{Fault, no_memory};
+use crate::wanted_files::{Listed, Stopped, add_listed};
+use font_cut::{Wanted, read_word};
+use std::alloc::Global;
+use std::io::Read;
+
+// Adds the ranges of words, up to the first one that is no word.
+fn add_words<'a>(codes: &mut CodeSet, words: &[&'a str]) -> Result<(), Fault<'a>> {
+    for &word in words {
+        match read_word(word) {
+            Ok((first, last)) => codes.add_range(first, last),
+            Err(_) => return Err(Fault::BadWord(word)),
+        }
+    }
+    Ok(())
+}
+
+fn add_text(codes: &mut CodeSet, text: &str) {
+    for letter in text.chars() {
+        codes.add(letter as u32);
+    }
+}
+
+/// Returns the codes of words and of the characters of texts.
+///
+/// # Errors
+/// `BadWord` with the first word that names no range, `Refused` where memory is.
+pub(crate) fn codes_of<'a>(
+    alloc: Global,
+    texts: &[&str],
+    words: &[&'a str],
+) -> Result<CodeSet, Fault<'a>> {
+    let Ok(mut codes) = CodeSet::new(alloc) else {
+        return Err(no_memory());
+    };
+    add_words(&mut codes, words)?;
+    for &text in texts {
+        add_text(&mut codes, text);
+    }
+    Ok(codes)
+}
+
+/// Adds the codes that files list, whose paths these are.
+///
+/// # Errors
+/// `Unread` with the first path whose file cannot be read, `BadLine` with the first line that is not as
+/// it should be, `Refused` where memory is.
+pub(crate) fn add_files<'a, R: Read + Drop>(
+    alloc: Global,
+    files: Vec<R>,
+    paths: &[&'a str],
+    listed: Listed,
+    codes: &mut CodeSet,
+) -> Result<(), Fault<'a>> {
+    for (mut file, &path) in files.into_iter().zip(paths) {
+        match add_listed(alloc, &mut file, listed, codes) {
+            Ok(()) => {}
+            Err(Stopped::Unread) => return Err(Fault::Unread(path)),
+            Err(Stopped::BadLine { line, word }) => {
+                return Err(Fault::BadLine { path, line, word });
+            }
+            Err(Stopped::NoMemory) => return Err(no_memory()),
+        }
+    }
+    Ok(())
+}
+
+/// Returns a set of codes as a wanted set.
+///
+/// The ranges are added in rising order, so that each goes behind those that are there: of a hundred
+/// thousand ranges in falling order each one would move all others.
+///
+/// # Errors
+/// `Refused` where memory is.
+pub(crate) fn wanted_of(alloc: Global, codes: &CodeSet) -> Result<Wanted, Fault<'static>> {
+    let Ok(ranges) = codes.ranges(alloc) else {
+        return Err(no_memory());
+    };
+    let mut wanted = Wanted::new(alloc);
+    for (first, last) in ranges {
+        // These are good ranges, so only memory can be refused.
+        if wanted.add(first, last).is_err() {
+            return Err(no_memory());
+        }
+    }
+    Ok(wanted)
+}

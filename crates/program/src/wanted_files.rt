@@ -1,0 +1,189 @@
+//! Files of wanted characters, and of words that name ranges of wanted codes. They are read in pieces.
+use crate::code_set::CodeSet;
+use crate::utf8::Utf8;
+use font_cut::read_word;
+use std::alloc::{AllocError, Global};
+use std::io::Read;
+
+// The most bytes of one read.
+const PIECE: usize = 64 * 1024;
+
+// The longest word that is held. A range word has at most 15 letters.
+const LONGEST: usize = 64;
+
+// A byte order mark, which is no character where a file begins with it.
+const MARK: char = '\u{FEFF}';
+
+/// What a file lists.
+#[derive(Clone, Copy, Debug, PartialEq, Eq)]
+pub(crate) enum Listed {
+    /// Characters. Line ends are none of them.
+    Characters,
+    /// Range words, parted by blanks, line ends or commas. What follows `#` in a line is a comment.
+    Words,
+}
+
+/// Why a file is not read to its end.
+#[derive(Debug, Drop)]
+pub(crate) enum Stopped {
+    /// A read failed.
+    Unread,
+    /// What stands in a line is no UTF-8, or is this word, which names no range.
+    BadLine { line: u64, word: Option<String> },
+    /// Memory was refused.
+    NoMemory,
+}
+
+// What is known of a file between two bytes.
+#[derive(Drop)]
+struct Reading<'a> {
+    alloc: Global,
+    listed: Listed,
+    codes: &'a mut CodeSet,
+    utf8: Utf8,
+    line: u64,
+    // Whether no character has come.
+    is_new: bool,
+    is_comment: bool,
+    // The word so far. It has room for the longest one.
+    word: String,
+}
+
+impl<'a> Reading<'a> {
+    fn new(
+        alloc: Global,
+        listed: Listed,
+        codes: &'a mut CodeSet,
+    ) -> Result<Reading<'a>, AllocError> {
+        Ok(Reading {
+            alloc,
+            listed,
+            codes,
+            utf8: Utf8::new(),
+            line: 1,
+            is_new: true,
+            is_comment: false,
+            word: String::with_capacity(alloc, LONGEST)?,
+        })
+    }
+
+    // A fault in the line that is read.
+    fn bad_line(&self, word: Option<String>) -> Stopped {
+        Stopped::BadLine {
+            line: self.line,
+            word,
+        }
+    }
+
+    // The fault of the word that was read.
+    fn bad_word(&self) -> Stopped {
+        match String::from_str(self.alloc, self.word.as_str()) {
+            Ok(word) => self.bad_line(Some(word)),
+            Err(_) => Stopped::NoMemory,
+        }
+    }
+
+    // Adds the range of the word that has ended, if there is one.
+    fn end_word(&mut self) -> Result<(), Stopped> {
+        if self.word.is_empty() {
+            return Ok(());
+        }
+        match read_word(self.word.as_str()) {
+            Ok((first, last)) => {
+                self.codes.add_range(first, last);
+                self.word.clear();
+                Ok(())
+            }
+            Err(_) => Err(self.bad_word()),
+        }
+    }
+
+    fn add_letter(&mut self, letter: char) -> Result<(), Stopped> {
+        if self.is_comment {
+            return Ok(());
+        }
+        if LONGEST < self.word.len().saturating_add(4) {
+            return Err(self.bad_word());
+        }
+        match self.word.push(letter) {
+            Ok(()) => Ok(()),
+            Err(_) => Err(Stopped::NoMemory),
+        }
+    }
+
+    fn take_of_words(&mut self, letter: char) -> Result<(), Stopped> {
+        match letter {
+            '\n' => {
+                self.end_word()?;
+                self.is_comment = false;
+                Ok(())
+            }
+            ' ' | '\t' | '\r' | ',' => self.end_word(),
+            '#' => {
+                self.end_word()?;
+                self.is_comment = true;
+                Ok(())
+            }
+            letter => self.add_letter(letter),
+        }
+    }
+
+    fn take_letter(&mut self, letter: char) -> Result<(), Stopped> {
+        let is_mark = self.is_new && letter == MARK;
+        self.is_new = false;
+        match self.listed {
+            _ if is_mark => {}
+            Listed::Words => self.take_of_words(letter)?,
+            Listed::Characters if letter == '\n' || letter == '\r' => {}
+            Listed::Characters => self.codes.add(letter as u32),
+        }
+        if letter == '\n' {
+            self.line = self.line.saturating_add(1);
+        }
+        Ok(())
+    }
+
+    fn take(&mut self, bytes: &[u8]) -> Result<(), Stopped> {
+        for &byte in bytes {
+            match self.utf8.take(byte) {
+                Ok(Some(letter)) => self.take_letter(letter)?,
+                Ok(None) => {}
+                Err(_) => return Err(self.bad_line(None)),
+            }
+        }
+        Ok(())
+    }
+
+    // Takes the end of the file.
+    fn end(&mut self) -> Result<(), Stopped> {
+        if self.utf8.is_inside() {
+            return Err(self.bad_line(None));
+        }
+        self.end_word()
+    }
+}
+
+/// Adds the codes that a file lists.
+///
+/// # Errors
+/// `Unread` where a read fails, `BadLine` with the first line that is not as it should be, `NoMemory`
+/// where memory is refused.
+pub(crate) fn add_listed<R: Read>(
+    alloc: Global,
+    file: &mut R,
+    listed: Listed,
+    codes: &mut CodeSet,
+) -> Result<(), Stopped> {
+    let Ok(mut reading) = Reading::new(alloc, listed, codes) else {
+        return Err(Stopped::NoMemory);
+    };
+    let mut piece = [0u8; PIECE];
+    for _ in 0..u64::MAX {
+        match file.read(&mut piece) {
+            Ok(0) => return reading.end(),
+            Ok(count) => reading.take(&piece[..count])?,
+            Err(_) => return Err(Stopped::Unread),
+        }
+    }
+    Ok(())
+}
