@@ -14,11 +14,13 @@ use std::alloc::{Allocator, Global};
 use std::fmt;
 use std::io::{Read, Write};
 
-// The line of a range of codes.
+/// A range of codes, which is printed as its line.
 #[derive(Clone, Copy)]
-struct RangeLine {
-    first: u32,
-    last: u32,
+pub struct RangeLine {
+    /// The first code.
+    pub first: u32,
+    /// The last code.
+    pub last: u32,
 }
 
 impl fmt::Display for RangeLine {
@@ -39,29 +41,27 @@ impl fmt::Display for RangeLine {
 #[derive(Drop)]
 struct Codes<'a, A: Allocator = Global>(Chart<'a, A>);
 
-impl<'a, A: Allocator> Codes<'a, A> {
-    // Returns the range of mapped codes that begins at the least one not below `from`, and ends where the
-    // next code is not mapped.
-    fn next_range(&self, from: u32) -> Option<RangeLine>
-        ensures range { MatchOption result
-            (code_ranges (mapping_of self.now.0.0 self.now.0.1) from ≡ [])
-            (λ line. code_ranges (mapping_of self.now.0.0 self.now.0.1) from
-            ≡ range_of_line line ∷ code_ranges (mapping_of self.now.0.0 self.now.0.1) (line.last + 1)) }
-        ensures on { MatchOption result (Unit {0}) (λ line. (from ≤ line.last) × (line.last ≤ 0x10FFFF)) }
-    {
-        let run = self.0.next_run(from)?;
-        let mut line = RangeLine {
-            first: run.first,
-            last: run.last,
-        };
-        while let Some(next) = self.0.next_run(line.last + 1) {
-            if next.first != line.last + 1 {
-                break;
-            }
-            line.last = next.last;
+/// Returns the range of mapped codes that begins at the least one not below `from`, and ends where the next
+/// code is not mapped.
+pub fn next_range<A: Allocator>(chart: &Chart<'_, A>, from: u32) -> Option<RangeLine>
+    ensures range { MatchOption result
+        (code_ranges (mapping_of chart.now.0 chart.now.1) from ≡ [])
+        (λ line. code_ranges (mapping_of chart.now.0 chart.now.1) from
+        ≡ range_of_line line ∷ code_ranges (mapping_of chart.now.0 chart.now.1) (line.last + 1)) }
+    ensures on { MatchOption result (Unit {0}) (λ line. (from ≤ line.last) × (line.last ≤ 0x10FFFF)) }
+{
+    let run = chart.next_run(from)?;
+    let mut line = RangeLine {
+        first: run.first,
+        last: run.last,
+    };
+    while let Some(next) = chart.next_run(line.last + 1) {
+        if next.first != line.last + 1 {
+            break;
         }
-        Some(line)
+        line.last = next.last;
     }
+    Some(line)
 }
 
 // A line for each range.
@@ -71,7 +71,7 @@ impl<'a, A: Allocator> fmt::Display for Codes<'a, A> {
     #[tactic(auto, unfolding(crate::specs::Codes::code_lines))]
     fn fmt<W: fmt::Write>(&self, f: &mut fmt::Formatter<W>) -> fmt::Result {
         let mut from = 0;
-        while let Some(line) = self.next_range(from) {
+        while let Some(line) = next_range(&self.0, from) {
             write!(f, "{line}")?;
             from = line.last + 1;
         }

@@ -12,7 +12,7 @@ mod subset;
 
 pub use crate::belongs::run_belongs;
 pub use crate::check::run_check;
-pub use crate::codes::{codes_laws, run_codes};
+pub use crate::codes::{RangeLine, codes_laws, next_range, run_codes};
 pub use crate::inlet::{Inlet, ReadError};
 pub use crate::join::run_join;
 pub use crate::run_error::RunError;

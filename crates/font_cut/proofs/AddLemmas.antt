@@ -175,6 +175,12 @@ holds_same u v x e h =
       small = h.small;
     }
 
+pub union_joined : (files : List (List ℕ)) (u : Held) → IsUnited files u → IsAllJoined files (file current_form (content_in u))
+union_joined files u h = record { some = h.some; stands = subst (Stands files (length files)) h.holds.written h.stands }
+
+pub union_small : (files : List (List ℕ)) (u : Held) → IsUnited files u → length (file current_form (content_in u)) ≤ MAX_FILE
+union_small files u h = subst (λ (z : List ℕ). length z ≤ MAX_FILE) h.holds.written h.holds.small
+
 pub united_same : (files : List (List ℕ)) (u v : Held) → content_in v ≡ content_in u → IsUnited files u → IsUnited files v
 united_same files u v e h = record { some = h.some; last = h.last; stands = h.stands; holds = holds_same u v h.last e h.holds }
 

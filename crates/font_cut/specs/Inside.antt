@@ -7,7 +7,7 @@ use Rattle.font_cut.specs.declared.cut_forms.CutForm.TheVariants.{Current, Not, 
 use Rattle.font_cut.specs.declared.join_error.JoinError.{JoinError}
 use Rattle.font_cut.specs.declared.join_error.JoinError.TheVariants.{NoMemory, NotACut, TooLarge}
 use Rattle.font_cut.specs.declared.join_error.Which.TheVariants.{First, Second}
-use Rattle.font_file.specs.Font.{map_of, font_fault}
+use Rattle.font_file.specs.Font.{map_of}
 use Rattle.font_glyph.specs.Marks.{has}
 use Rattle.font_glyph.specs.Union.{Records, union_of}
 use Rattle.font_map.specs.CharacterMap.{is_mapped, restricted}
@@ -18,7 +18,6 @@ use Rattle.font_theory.specs.Content.{everything, font_of, is_seed, content, COD
 use Rattle.font_theory.specs.Cut.{IsCurrent, our_format, is_cut}
 use Rattle.font_theory.specs.Difference.{difference, is_different_code, is_different_table}
 use Rattle.font_theory.specs.File.{file, form_of, current_form, current_profile}
-use Rattle.font_theory.specs.Tree.{file_at}
 use Rattle.font_theory.specs.declared.Difference.{Difference}
 use Rattle.font_theory.specs.declared.Difference.TheVariants.{AtCode, AtTable}
 use Rattle.font_theory.specs.declared.Profile.TheVariants as profiles
@@ -67,12 +66,6 @@ pub record IsUnited (files : List (List ℕ)) (u : Held) : Type 0 where
   pub last : List ℕ
   pub stands : Stands files (length files) last
   pub holds : HoldsFile u last
-
--- a file is the first one of a list, and accepted
-pub record IsFirst (files : List (List ℕ)) (x : List ℕ) : Type 0 where
-  pub some : 0 < length files
-  pub is : x ≡ file_at files 0
-  pub accepted : font_fault x ≡ None
 
 -- the run at a place
 abbrev pub run_at : List Run → ℕ → Run

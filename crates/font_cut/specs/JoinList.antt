@@ -37,6 +37,12 @@ pub record IsAllJoined (files : List (List ℕ)) (z : List ℕ) : Type 0 where
   pub some : 0 < length files
   pub stands : Stands files (length files) z
 
+-- a file is the first one of a list, and accepted
+pub record IsFirst (files : List (List ℕ)) (x : List ℕ) : Type 0 where
+  pub some : 0 < length files
+  pub is : x ≡ file_at files 0
+  pub accepted : font_fault x ≡ None
+
 -- the files are cuts of F for some sets, in any forms, and none of them is too large
 pub record AreCuts (F : List ℕ) (A : ℕ → ℕ → Bool) (files : List (List ℕ)) : Type 0 where
   pub accepted : font_fault F ≡ None

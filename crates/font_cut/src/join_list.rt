@@ -5,8 +5,8 @@ ghost use Rattle.font_theory.specs.File.{current_form, file};
 ghost use Rattle.font_theory.specs.Tree.{Differs, Value, cuts, grown};
 ghost use Rattle.font_cut.specs.Outlet.{HasSent, broken_of, fresh_of, writer_of};
 ghost use Rattle.font_cut.specs.Join.{IsJoin, IsJoinRefusal};
-ghost use Rattle.font_cut.specs.JoinList.{AgreesWithEveryTree, AgreesWithTreesOfCurrentFiles, AgreesWithTreesOfCuts, EveryTreeDiffers, GivesCutOfUnion, GivesValue, IsAllJoined, IsAllRefusal, IsForSizeInto, IsForSizeOf, IsSentAs, SendsAll, StopsJoin};
-ghost use Rattle.font_cut.specs.Inside.{HoldsFile, IsFirst, IsTooLargeUnion, IsUnited};
+ghost use Rattle.font_cut.specs.JoinList.{AgreesWithEveryTree, AgreesWithTreesOfCurrentFiles, AgreesWithTreesOfCuts, EveryTreeDiffers, GivesCutOfUnion, GivesValue, IsAllJoined, IsAllRefusal, IsFirst, IsForSizeInto, IsForSizeOf, IsSentAs, SendsAll, StopsJoin};
+ghost use Rattle.font_cut.specs.Inside.{HoldsFile, IsTooLargeUnion, IsUnited};
 ghost use Rattle.font_cut.specs.Union.{content_in};
 ghost use Rattle.font_cut.specs.declared.join_error.JoinAllIntoError.TheVariants.{NotJoined};
 
@@ -19,15 +19,41 @@ use font_file::Font;
 use std::alloc::Allocator;
 use std::io::Write;
 
+// A file of a list: a vector, or bytes of the caller.
+trait InMemory {
+    ghost use Rattle.std.specs.Prelude.{ℕ, List};
+
+    ghost bytes_of: { Self → List ℕ };
+
+    fn bytes(&self) -> &[u8]
+        ensures { result.now ≡ bytes_of self.now };
+}
+
+impl<A: Allocator> InMemory for Vec<u8, A> {
+    ghost bytes_of = { λ v. v.items };
+
+    fn bytes(&self) -> &[u8] {
+        self.as_slice()
+    }
+}
+
+impl<'a> InMemory for &'a [u8] {
+    ghost bytes_of = { λ f. f.now };
+
+    fn bytes(&self) -> &[u8] {
+        *self
+    }
+}
+
 // Opens the first file.
-fn open_first<A: Allocator>(files: &[Vec<u8, A>]) -> Result<Font<'_>, JoinAllError>
-    ensures { let bytes = map (λ v. v.items) files.now in
+fn open_first<F: InMemory>(files: &[F]) -> Result<Font<'_>, JoinAllError>
+    ensures { let bytes = map F.bytes_of files.now in
         MatchResult result (IsFirst bytes) (IsAllRefusal bytes) }
 {
     if files.is_empty() {
         return Err(JoinAllError::NothingToJoin);
     }
-    match Font::open(files[0].as_slice()) {
+    match Font::open(files[0].bytes()) {
         Ok(font) => Ok(font),
         Err(error) => Err(JoinAllError::At {
             step: 0,
@@ -85,13 +111,13 @@ fn joined_with<'f, 'a, A: Allocator + Copy>(
 }
 
 // The union of all files, of which the first is open, or the first refusal.
-fn union_in_turn<'f, 'a, A: Allocator + Copy>(
+fn union_in_turn<'f, 'a, A: Allocator + Copy, F: InMemory>(
     alloc: A,
     first: &'f Font<'a>,
-    files: &'a [Vec<u8, A>],
+    files: &'a [F],
 ) -> Result<Union<'f, 'a, A>, JoinAllError>
-    requires { IsFirst (map (λ v. v.items) files.now) first.now }
-    ensures { let bytes = map (λ v. v.items) files.now in
+    requires { IsFirst (map F.bytes_of files.now) first.now }
+    ensures { let bytes = map F.bytes_of files.now in
         MatchResult result (λ union. IsUnited bytes union) (IsAllRefusal bytes) }
 {
     let mut all = match first_of(alloc, first) {
@@ -99,7 +125,7 @@ fn union_in_turn<'f, 'a, A: Allocator + Copy>(
         Err(error) => return Err(JoinAllError::At { step: 0, error }),
     };
     for step in 1..files.len() {
-        all = match joined_with(alloc, all, files[step].as_slice()) {
+        all = match joined_with(alloc, all, files[step].bytes()) {
             Ok(next) => next,
             Err(error) => return Err(JoinAllError::At { step, error }),
         };
@@ -108,13 +134,13 @@ fn union_in_turn<'f, 'a, A: Allocator + Copy>(
 }
 
 // The same, in a form that is quick to write.
-fn union_of_all<'f, 'a, A: Allocator + Copy>(
+fn union_of_all<'f, 'a, A: Allocator + Copy, F: InMemory>(
     alloc: A,
     first: &'f Font<'a>,
-    files: &'a [Vec<u8, A>],
+    files: &'a [F],
 ) -> Result<Union<'f, 'a, A>, JoinAllError>
-    requires { IsFirst (map (λ v. v.items) files.now) first.now }
-    ensures { let bytes = map (λ v. v.items) files.now in
+    requires { IsFirst (map F.bytes_of files.now) first.now }
+    ensures { let bytes = map F.bytes_of files.now in
         MatchResult result (λ union. IsUnited bytes union) (IsAllRefusal bytes) }
 {
     let all = match union_in_turn(alloc, first, files) {
@@ -183,6 +209,37 @@ pub fn join_all<A: Allocator + Copy>(
     ensures clash { let bytes = map (λ v. v.items) files.now in IfErr result (EveryTreeDiffers bytes) }
 {
     join_in_turn(alloc, files)
+}
+
+/// Opens the first of a list of files, with which [`union_of_files`] begins.
+///
+/// # Errors
+///
+/// `NothingToJoin` for an empty list, and step 0 where the first file is no font that is accepted.
+pub fn open_first_file<'a>(files: &'a [&'a [u8]]) -> Result<Font<'a>, JoinAllError>
+    ensures { let bytes = map (λ f. f.now) files.now in
+        MatchResult result (IsFirst bytes) (IsAllRefusal bytes) }
+{
+    open_first(files)
+}
+
+/// The union of a list of files, of which the first is open: what [`join_all`] makes its file of, so that the
+/// join can be measured, and then sent to any sink. All memory that the join needs is asked for here.
+///
+/// # Errors
+///
+/// The first step that is refused, as [`join_all`] answers it.
+pub fn union_of_files<'f, 'a, A: Allocator + Copy>(
+    alloc: A,
+    first: &'f Font<'a>,
+    files: &'a [&'a [u8]],
+) -> Result<Union<'f, 'a, A>, JoinAllError>
+    requires { IsFirst (map (λ f. f.now) files.now) first.now }
+    ensures exact { let bytes = map (λ f. f.now) files.now in
+        MatchResult result (λ union. IsAllJoined bytes (file current_form (content_in union))) (IsAllRefusal bytes) }
+    ensures small { IfOk result (λ union. length (file current_form (content_in union)) ≤ MAX_FILE) }
+{
+    union_of_all(alloc, first, files)
 }
 
 // Sends the join of all files, or answers the first refusal.

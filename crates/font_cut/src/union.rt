@@ -30,7 +30,7 @@ use std::marker::Model;
 /// The union of files in cut form: the tables of the first of them, the maps of all in one, and for each
 /// glyph the slice of the first file that keeps it.
 #[derive(Drop)]
-pub(crate) struct Union<'f, 'a, A: Allocator> {
+pub struct Union<'f, 'a, A: Allocator> {
     first: &'f Font<'a>,
     map: UnionMap<A>,
     outlines: Outlines<'a, A>,

@@ -5,4 +5,4 @@ use Rattle.font_cut.proofs.join_list.union_in_turn.Given as goal
 
 -- what stands after so many joins has the content of the union
 abbrev pub invariant-loop-step : goal.invariant-loop-step
-invariant-loop-step g l = (v : List ℕ) × Stands (map (λ v. v.items) l.files) l.step v × HoldsFile l.all v
+invariant-loop-step g l = (v : List ℕ) × Stands (map g.F.InMemory.bytes_of l.files) l.step v × HoldsFile l.all v

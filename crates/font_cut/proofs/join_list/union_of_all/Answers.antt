@@ -7,8 +7,8 @@ use Rattle.font_cut.proofs.join_list.union_of_all.Goals as goal
 
 pub returns-in-Err-settle : goal.returns-in-Err-settle
 returns-in-Err-settle g c =
-    let bytes = map (λ v. v.items) c.args.files.now in
-    subst (λ (n : ℕ). IsRefusedAt bytes (n - 1) NoMemory) (length-map c.args.files.now (λ v. v.items)) (united_memory bytes c.in-Ok.all c.in-Ok.ensures)
+    let bytes = map g.F.InMemory.bytes_of c.args.files.now in
+    subst (λ (n : ℕ). IsRefusedAt bytes (n - 1) NoMemory) (length-map c.args.files.now g.F.InMemory.bytes_of) (united_memory bytes c.in-Ok.all c.in-Ok.ensures)
 
 pub returns-in-Ok-settle : goal.returns-in-Ok-settle
-returns-in-Ok-settle g c = united_same (map (λ v. v.items) c.args.files.now) c.in-Ok.all c.in-Ok-settle.all c.in-Ok-settle.ensures c.in-Ok.ensures
+returns-in-Ok-settle g c = united_same (map g.F.InMemory.bytes_of c.args.files.now) c.in-Ok.all c.in-Ok-settle.all c.in-Ok-settle.ensures c.in-Ok.ensures

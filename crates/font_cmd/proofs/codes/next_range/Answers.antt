@@ -2,11 +2,11 @@ use Rattle.std.proofs.Common.{rules, arith, ◌≡◌, []}
 use Rattle.font_cut.specs.Fonts.{mapping_of}
 use Rattle.font_cmd.specs.Codes.{code_ranges}
 use Rattle.font_cmd.proofs.CodesLemmas.{none_left, walk_apart, walk_end, walk_on, walk_start}
-use Rattle.font_cmd.proofs.codes.Codes.next_range.Goals as goal
+use Rattle.font_cmd.proofs.codes.next_range.Goals as goal
 
 pub returns-in_err-run-clause-range : goal.returns-in_err-run-clause-range
 returns-in_err-run-clause-range g c =
-    let chart = c.args.self.now.0 in
+    let chart = c.args.chart.now in
     let none : code_ranges (mapping_of chart.0 chart.1) c.args.from ≡ [] =
     none_left _ c.args.from c.in_err-run.ensures.map c.in_err-run.ensures.run in
     search (rules, none)

@@ -1,0 +1,65 @@
+-- The file of what a cut is made of is the cut, and what was answered of that file is answered of the cut.
+use Rattle.std.proofs.Common.{◌≡◌, ◌≤◌, ℕ, List, Bool, ◌++◌, length, drop, ap, sym, ◌∙◌, Option, Some, Result, MatchResult}
+use Rattle.std.proofs.lemmas.Result.{MatchResult-weaker}
+use Rattle.sfnt_bytes.specs.declared.directory.TheConstants.{MAX_FILE}
+use Rattle.font_map.specs.Wanted.{member}
+use Rattle.font_map.specs.declared.ranges.Range.{Range}
+use Rattle.font_theory.specs.Content.{content, font_of}
+use Rattle.font_theory.specs.File.{current_form, file}
+use Rattle.font_cut.specs.Content.{codes_wanted}
+use Rattle.font_cut.specs.Cut.{cut_of}
+use Rattle.font_cut.proofs.CutLemmas.{cut_of_is}
+use Rattle.fontcut_c.specs.Cutting.{IsAccepted, IsCutInRoom, IsCutSize, RefusesCut, RefusesSize, wanted_by}
+use Rattle.fontcut_c.specs.Inside.{IsFileInRoom, IsFileLength, RefusesFile, RefusesFileSize}
+use Rattle.fontcut_c.specs.declared.ranges.CodeRange.{CodeRange}
+use Rattle.fontcut_c.specs.declared.refusal.Refusal.{Refusal}
+use Rattle.fontcut_c.specs.declared.refusal.Refusal.TheVariants.{BadRange, Font, NoMemory, SmallRoom, TooLarge}
+
+pub file_of_source : (bytes font : List ℕ) (wanted : List Range) (codes : ℕ → Bool) (source : List ℕ × Option (List Range))
+    → source ≡ (font, Some wanted) → font ≡ bytes → member wanted ≡ codes → file current_form (content (font_of source.0) (codes_wanted source.1)) ≡ cut_of bytes codes
+file_of_source bytes font wanted codes source is same by =
+    ap (λ (s : List ℕ × Option (List Range)). file current_form (content (font_of s.0) (codes_wanted s.1))) is
+    ∙ (ap (λ (f : List ℕ). file current_form (content (font_of f) (member wanted))) same
+    ∙ (ap (λ (w : ℕ → Bool). file current_form (content (font_of bytes) w)) by
+    ∙ sym (cut_of_is bytes codes)))
+
+module _ (font : List ℕ) (ranges : List CodeRange) (made : List ℕ) (accepted : IsAccepted font ranges) (is : made ≡ cut_of font (wanted_by ranges)) where
+  size_of_cut : (size : ℕ) → size ≡ length made → IsCutSize font ranges size
+  size_of_cut size e = record { accepted = accepted; size_is = e ∙ ap (λ (b : List ℕ). length b) is }
+
+  not_measured : (refusal : Refusal) → RefusesFileSize made refusal → RefusesSize font ranges refusal
+  not_measured (TooLarge size) h = (size_of_cut size h.0, h.1)
+  not_measured NoMemory h = absurd h
+  not_measured (SmallRoom size) h = absurd h
+  not_measured (Font error) h = absurd h
+  not_measured (BadRange k) h = absurd h
+
+  not_written : (room : ℕ) (refusal : Refusal) → RefusesFile made room refusal → RefusesCut font ranges room refusal
+  not_written room (TooLarge size) h = (size_of_cut size h.0, h.1)
+  not_written room NoMemory h = absurd h
+  not_written room (SmallRoom size) h = (size_of_cut size h.0, h.1, h.2)
+  not_written room (Font error) h = absurd h
+  not_written room (BadRange k) h = absurd h
+
+  pub size_answered : (result : Result ℕ Refusal) → MatchResult result (IsFileLength made) (RefusesFileSize made)
+      → MatchResult result (λ size. IsCutSize font ranges size × (size ≤ MAX_FILE)) (RefusesSize font ranges)
+  size_answered result h = MatchResult-weaker result h (λ n s. (size_of_cut n s.0, s.1)) not_measured
+
+  pub cut_answered : (old new : List ℕ) (result : Result ℕ Refusal)
+      → MatchResult result (IsFileInRoom made old new) (λ refusal. (new ≡ old) × RefusesFile made (length old) refusal)
+      → MatchResult result (IsCutInRoom font ranges old new) (λ refusal. (new ≡ old) × RefusesCut font ranges (length old) refusal)
+  cut_answered old new result h =
+      MatchResult-weaker result h
+      (λ n s.
+      let w = s.written in
+      record {
+        accepted = accepted;
+        small = s.small;
+        written =
+            record {
+              length_is = w.length_is ∙ ap (λ (b : List ℕ). length b) is;
+              fits = w.fits;
+              at_front = w.at_front ∙ ap (λ (b : List ℕ). b ++ drop n old) is;
+            };
+      })
+      (λ refusal p. (p.0, not_written (length old) refusal p.1))

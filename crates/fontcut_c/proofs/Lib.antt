@@ -1,0 +1,4 @@
+mod CutLemmas
+mod FilledLemmas
+mod MappedLemmas
+mod TextLemmas

@@ -1,0 +1,136 @@
+-- The answers of calls, this project's own: what is answered where a call is done, and what at each refusal.
+use Rattle.std.specs.Prelude.{◌≡◌, ℕ, nat_lt, Bool, true, false, List, length, drop, ◌++◌, ◌≤◌, Option, None, Some, Result, Ok, Err, if◌then◌else◌}
+use Rattle.sfnt_bytes.specs.Tag.{tag_number}
+use Rattle.sfnt_bytes.specs.declared.directory.DirError.TheVariants.{DuplicateTable, TableOutOfFile}
+use Rattle.font_tables.specs.declared.tables.TableError.TheVariants.{BadLoca, MissingTable}
+use Rattle.font_file.specs.Text.{error_number}
+use Rattle.font_file.specs.declared.font_error.FontError.{FontError}
+use Rattle.font_file.specs.declared.font_error.FontError.TheVariants.{BadGlyph, Directory, Mapping, Tables}
+use Rattle.font_cut.specs.declared.cut_forms.CutForm.{CutForm}
+use Rattle.font_cut.specs.declared.cut_forms.CutForm.TheVariants.{Current, Not, Old}
+use Rattle.font_cut.specs.declared.join_error.JoinAllError.{JoinAllError}
+use Rattle.font_cut.specs.declared.join_error.JoinAllError.TheVariants.{At, NothingToJoin}
+use Rattle.font_cut.specs.declared.join_error.JoinError.{JoinError}
+use Rattle.font_cut.specs.declared.join_error.JoinError.TheVariants as joins
+use Rattle.fontcut_c.specs.declared.answer.Answer.{Answer}
+use Rattle.fontcut_c.specs.declared.refusal.JoinRefusal.{JoinRefusal}
+use Rattle.fontcut_c.specs.declared.refusal.JoinRefusal.TheVariants as of_join
+use Rattle.fontcut_c.specs.declared.refusal.PairRefusal.{PairRefusal}
+use Rattle.fontcut_c.specs.declared.refusal.PairRefusal.TheVariants as of_pair
+use Rattle.fontcut_c.specs.declared.refusal.Refusal.{Refusal}
+use Rattle.fontcut_c.specs.declared.refusal.Refusal.TheVariants.{BadRange, Font, NoMemory, SmallRoom, TooLarge}
+
+-- a call is done, and wrote so many bytes, or ranges
+abbrev pub done : ℕ → Answer
+done size = record { status = 0; detail = 0; size = size; step = 0 }
+
+-- a question is answered
+abbrev pub told : ℕ → Answer
+told detail = record { status = 0; detail = detail; size = 0; step = 0 }
+
+-- the refusal of this number, with its argument
+abbrev pub refused : ℕ → ℕ → Answer
+refused number argument = record { status = number; detail = argument; size = 0; step = 0 }
+
+-- a status that tells a size
+abbrev pub sized : ℕ → ℕ → Answer
+sized status size = record { status = status; detail = 0; size = size; step = 0 }
+
+-- the same, of a file of a list
+abbrev pub at_step : ℕ → Answer → Answer
+at_step step answer = record { status = answer.status; detail = answer.detail; size = answer.size; step = step }
+
+-- what the refusal of a font names: a tag as a number, an index or a glyph, and else 0
+abbrev pub font_argument : FontError → ℕ
+font_argument (Directory (DuplicateTable tag)) = tag_number tag
+font_argument (Directory (TableOutOfFile tag)) = tag_number tag
+font_argument (Directory _) = 0
+font_argument (Tables (MissingTable tag)) = tag_number tag
+font_argument (Tables (BadLoca index)) = index
+font_argument (Tables _) = 0
+font_argument (Mapping _) = 0
+font_argument (BadGlyph glyph) = glyph
+
+-- a font is refused
+abbrev pub font_answer : FontError → Answer
+font_answer error = refused (error_number error) (font_argument error)
+
+-- an index, or the largest number of 32 bits where it is larger
+abbrev pub as_detail : ℕ → ℕ
+as_detail index = if nat_lt index 0x1_0000_0000 then index else 0xFFFF_FFFF
+
+-- the answer at a refusal
+abbrev pub refusal_answer : Refusal → Answer
+refusal_answer (Font error) = font_answer error
+refusal_answer (BadRange index) = refused 15 (as_detail index)
+refusal_answer NoMemory = refused 16 0
+refusal_answer (TooLarge size) = sized 18 size
+refusal_answer (SmallRoom size) = sized 100 size
+
+-- the answer at a refusal of the first or the second of two files
+abbrev pub pair_refusal_answer : PairRefusal → Answer
+pair_refusal_answer (of_pair.Cut error) = font_answer error
+pair_refusal_answer (of_pair.Font error) = at_step 1 (font_answer error)
+pair_refusal_answer of_pair.NoMemory = refused 16 0
+
+-- the answer where two files are not joined
+abbrev pub join_error_answer : JoinError → Answer
+join_error_answer (joins.Font which error) = font_answer error
+join_error_answer (joins.NotACut which) = refused 20 0
+join_error_answer (joins.DifferentTable tag) = refused 21 (tag_number tag)
+join_error_answer (joins.DifferentMapping code) = refused 22 code
+join_error_answer (joins.DifferentGlyph glyph) = refused 23 glyph
+join_error_answer (joins.TooLarge size) = sized 18 size
+join_error_answer joins.NoMemory = refused 16 0
+
+-- the answer where a list of files is not joined
+abbrev pub join_all_error_answer : JoinAllError → Answer
+join_all_error_answer NothingToJoin = refused 24 0
+join_all_error_answer (At step error) = at_step step (join_error_answer error)
+
+-- the answer where their join is not written
+abbrev pub join_refusal_answer : JoinRefusal → Answer
+join_refusal_answer (of_join.Join error) = join_all_error_answer error
+join_refusal_answer (of_join.SmallRoom size) = sized 100 size
+
+-- the answer of a check
+abbrev pub check_answer : Option FontError → Answer
+check_answer None = done 0
+check_answer (Some error) = font_answer error
+
+-- the number of a form
+abbrev pub form_number : CutForm → ℕ
+form_number Not = 0
+form_number Current = 1
+form_number Old = 2
+
+-- the number of a truth
+abbrev pub bool_number : Bool → ℕ
+bool_number true = 1
+bool_number false = 0
+
+-- the answer of a call that writes so many bytes, or is refused
+abbrev pub size_answer : Result ℕ Refusal → Answer
+size_answer (Ok size) = done size
+size_answer (Err refusal) = refusal_answer refusal
+
+-- the same of a join
+abbrev pub join_answer : Result ℕ JoinRefusal → Answer
+join_answer (Ok size) = done size
+join_answer (Err refusal) = join_refusal_answer refusal
+
+-- the answer to what form a file has
+abbrev pub form_answer : Result CutForm Refusal → Answer
+form_answer (Ok form) = told (form_number form)
+form_answer (Err refusal) = refusal_answer refusal
+
+-- the answer to whether a file is a cut of another
+abbrev pub belongs_answer : Result Bool PairRefusal → Answer
+belongs_answer (Ok answer) = told (bool_number answer)
+belongs_answer (Err refusal) = pair_refusal_answer refusal
+
+-- bytes are at the front of room, and what was behind them is as it was
+pub record IsInRoom {X : Type 0} (items old new : List X) (size : ℕ) : Type 0 where
+  pub length_is : size ≡ length items
+  pub fits : size ≤ length old
+  pub at_front : new ≡ items ++ drop size old

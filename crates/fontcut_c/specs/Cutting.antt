@@ -1,0 +1,86 @@
+-- What a call for a cut answers, this project's own: the first refusal, or the cut in the caller's room.
+use Rattle.std.specs.Prelude.{◌≡◌, ℕ, ◌<◌, ◌≤◌, Bool, List, [], ◌∷◌, length, None, Some, Result, MatchResult, slice_index_or}
+use Rattle.sfnt_bytes.specs.declared.directory.TheConstants.{MAX_FILE}
+use Rattle.font_map.specs.Wanted.{IsBadRange, codes_between, either, no_codes}
+use Rattle.font_file.specs.Font.{font_fault}
+use Rattle.font_cut.specs.Cut.{cut_of}
+use Rattle.fontcut_c.specs.Answers.{IsInRoom, size_answer}
+use Rattle.fontcut_c.specs.declared.answer.Answer.{Answer}
+use Rattle.fontcut_c.specs.declared.ranges.CodeRange.{CodeRange}
+use Rattle.fontcut_c.specs.declared.refusal.Refusal.{Refusal}
+use Rattle.fontcut_c.specs.declared.refusal.Refusal.TheVariants.{BadRange, Font, NoMemory, SmallRoom, TooLarge}
+
+-- the codes of a set, and of ranges more
+abbrev pub with_ranges : (ℕ → Bool) → List CodeRange → ℕ → Bool
+with_ranges wanted [] = wanted
+with_ranges wanted (range ∷ ranges) = with_ranges (either (codes_between range.first range.last) wanted) ranges
+
+-- the codes of ranges
+abbrev pub wanted_by : List CodeRange → ℕ → Bool
+wanted_by ranges = with_ranges no_codes ranges
+
+-- the range at an index
+abbrev pub range_at : List CodeRange → ℕ → CodeRange
+range_at ranges k = slice_index_or ranges k (record { first = 0; last = 0 })
+
+-- the range at an index ends before it begins, or behind the last code point
+abbrev pub IsBadAt : List CodeRange → ℕ → Type 0
+IsBadAt ranges k = IsBadRange (range_at ranges k).first (range_at ranges k).last
+
+-- no range below an index is bad
+abbrev pub AreGoodTo : List CodeRange → ℕ → Type 0
+AreGoodTo ranges n = (k : ℕ) → k < n → IsBadAt ranges k → ⊥
+
+-- no range is bad
+abbrev pub AreGood : List CodeRange → Type 0
+AreGood ranges = AreGoodTo ranges (length ranges)
+
+-- the first bad range
+pub record IsFirstBad (ranges : List CodeRange) (k : ℕ) : Type 0 where
+  pub below : k < length ranges
+  pub bad : IsBadAt ranges k
+  pub before : AreGoodTo ranges k
+
+-- the font is accepted, and no range is bad
+pub record IsAccepted (font : List ℕ) (ranges : List CodeRange) : Type 0 where
+  pub unrefused : font_fault font ≡ None
+  pub good : AreGood ranges
+
+-- so many bytes has the cut
+pub record IsCutSize (font : List ℕ) (ranges : List CodeRange) (size : ℕ) : Type 0 where
+  pub accepted : IsAccepted font ranges
+  pub size_is : size ≡ length (cut_of font (wanted_by ranges))
+
+-- why the cut is not measured: the font, then the ranges in turn, and then memory or size
+abbrev pub RefusesSize : List ℕ → List CodeRange → Refusal → Type 0
+RefusesSize font ranges (Font error) = font_fault font ≡ Some error
+RefusesSize font ranges (BadRange k) = (font_fault font ≡ None) × IsFirstBad ranges k
+RefusesSize font ranges NoMemory = IsAccepted font ranges
+RefusesSize font ranges (TooLarge size) = IsCutSize font ranges size × (MAX_FILE < size)
+RefusesSize font ranges (SmallRoom size) = ⊥
+
+-- why the cut is not written: as before, and then for the room
+abbrev pub RefusesCut : List ℕ → List CodeRange → ℕ → Refusal → Type 0
+RefusesCut font ranges room (Font error) = RefusesSize font ranges (Font error)
+RefusesCut font ranges room (BadRange k) = RefusesSize font ranges (BadRange k)
+RefusesCut font ranges room NoMemory = RefusesSize font ranges NoMemory
+RefusesCut font ranges room (TooLarge size) = RefusesSize font ranges (TooLarge size)
+RefusesCut font ranges room (SmallRoom size) = IsCutSize font ranges size × (size ≤ MAX_FILE) × (room < size)
+
+-- the cut is in the room
+pub record IsCutInRoom (font : List ℕ) (ranges : List CodeRange) (old new : List ℕ) (size : ℕ) : Type 0 where
+  pub accepted : IsAccepted font ranges
+  pub small : size ≤ MAX_FILE
+  pub written : IsInRoom (cut_of font (wanted_by ranges)) old new size
+
+-- what `fontcut_cut_size` answers
+pub record AnswersCutSize (font : List ℕ) (ranges : List CodeRange) (answer : Answer) : Type 0 where
+  pub outcome : Result ℕ Refusal
+  pub told : answer ≡ size_answer outcome
+  pub holds : MatchResult outcome (λ size. IsCutSize font ranges size × (size ≤ MAX_FILE)) (RefusesSize font ranges)
+
+-- what `fontcut_cut` answers: a refusal leaves the room as it was
+pub record AnswersCut (font : List ℕ) (ranges : List CodeRange) (old new : List ℕ) (answer : Answer) : Type 0 where
+  pub outcome : Result ℕ Refusal
+  pub told : answer ≡ size_answer outcome
+  pub holds : MatchResult outcome (IsCutInRoom font ranges old new) (λ refusal. (new ≡ old) × RefusesCut font ranges (length old) refusal)

@@ -1,0 +1,41 @@
+-- What the calls for the form of a cut answer, this project's own.
+use Rattle.std.specs.Prelude.{◌≡◌, ℕ, ◌↔◌, IsTrue, Bool, List, None, Some, Result, MatchResult}
+use Rattle.font_file.specs.Font.{font_fault}
+use Rattle.font_cut.specs.Cut.{IsCutForSome, cut_form_of}
+use Rattle.font_cut.specs.declared.cut_forms.CutForm.{CutForm}
+use Rattle.fontcut_c.specs.Answers.{belongs_answer, form_answer}
+use Rattle.fontcut_c.specs.declared.answer.Answer.{Answer}
+use Rattle.fontcut_c.specs.declared.refusal.PairRefusal.{PairRefusal}
+use Rattle.fontcut_c.specs.declared.refusal.PairRefusal.TheVariants as of_pair
+use Rattle.fontcut_c.specs.declared.refusal.Refusal.{Refusal}
+use Rattle.fontcut_c.specs.declared.refusal.Refusal.TheVariants.{Font, NoMemory}
+
+-- why one font is not looked into: it is refused, or else memory is
+abbrev pub RefusesFont : List ℕ → Refusal → Type 0
+RefusesFont font (Font error) = font_fault font ≡ Some error
+RefusesFont font NoMemory = font_fault font ≡ None
+RefusesFont font _ = ⊥
+
+-- why two fonts are not compared: the cut is refused, or else the font, or else memory
+abbrev pub RefusesPair : List ℕ → List ℕ → PairRefusal → Type 0
+RefusesPair cut font (of_pair.Cut error) = font_fault cut ≡ Some error
+RefusesPair cut font (of_pair.Font error) = (font_fault cut ≡ None) × (font_fault font ≡ Some error)
+RefusesPair cut font of_pair.NoMemory = (font_fault cut ≡ None) × (font_fault font ≡ None)
+
+-- whether a file is a cut of a font, both being accepted
+pub record IsBelonging (cut font : List ℕ) (is : Bool) : Type 0 where
+  pub cut_accepted : font_fault cut ≡ None
+  pub font_accepted : font_fault font ≡ None
+  pub exact : IsTrue is ↔ IsCutForSome font cut
+
+-- what `fontcut_is_cut` answers
+pub record AnswersForm (font : List ℕ) (answer : Answer) : Type 0 where
+  pub outcome : Result CutForm Refusal
+  pub told : answer ≡ form_answer outcome
+  pub holds : MatchResult outcome (λ form. (font_fault font ≡ None) × (form ≡ cut_form_of font)) (RefusesFont font)
+
+-- what `fontcut_is_cut_of` answers
+pub record AnswersBelonging (cut font : List ℕ) (answer : Answer) : Type 0 where
+  pub outcome : Result Bool PairRefusal
+  pub told : answer ≡ belongs_answer outcome
+  pub holds : MatchResult outcome (IsBelonging cut font) (RefusesPair cut font)

@@ -1,0 +1,45 @@
+-- What a call for the mapped codes of a font answers, this project's own: the ranges that `codes` prints, in the caller's room.
+use Rattle.std.specs.Prelude.{◌≡◌, ℕ, ◌<◌, List, length, map, None, Some, Result, MatchResult}
+use Rattle.font_file.specs.Font.{font_fault}
+use Rattle.font_map.specs.declared.ranges.Range.{Range}
+use Rattle.font_cut.specs.Fonts.{cmap_of, glyph_count_of, mapping_of}
+use Rattle.font_cmd.specs.Codes.{code_ranges}
+use Rattle.fontcut_c.specs.Answers.{IsInRoom, size_answer}
+use Rattle.fontcut_c.specs.declared.answer.Answer.{Answer}
+use Rattle.fontcut_c.specs.declared.ranges.CodeRange.{CodeRange}
+use Rattle.fontcut_c.specs.declared.refusal.Refusal.{Refusal}
+use Rattle.fontcut_c.specs.declared.refusal.Refusal.TheVariants.{Font, NoMemory, SmallRoom}
+
+-- a range, as it is written
+abbrev pub as_written : Range → CodeRange
+as_written range = record { first = range.first; last = range.last }
+
+-- the ranges of the mapped codes of a map not below one
+abbrev pub listed_from : (ℕ → ℕ) → ℕ → List CodeRange
+listed_from m from = map as_written (code_ranges m from)
+
+-- the ranges of all its mapped codes
+abbrev pub listed : (ℕ → ℕ) → List CodeRange
+listed m = listed_from m 0
+
+-- those of a file
+abbrev pub listed_of : List ℕ → List CodeRange
+listed_of file = listed (mapping_of (cmap_of file) (glyph_count_of file))
+
+-- the ranges are in the room
+pub record IsListInRoom (font : List ℕ) (old new : List CodeRange) (size : ℕ) : Type 0 where
+  pub accepted : font_fault font ≡ None
+  pub written : IsInRoom (listed_of font) old new size
+
+-- why the ranges are not written: the font, and then memory or the room
+abbrev pub RefusesList : List ℕ → ℕ → Refusal → Type 0
+RefusesList font room (Font error) = font_fault font ≡ Some error
+RefusesList font room NoMemory = font_fault font ≡ None
+RefusesList font room (SmallRoom size) = (font_fault font ≡ None) × (size ≡ length (listed_of font)) × (room < size)
+RefusesList font room _ = ⊥
+
+-- what `fontcut_codes` answers: a refusal leaves the room as it was
+pub record AnswersCodes (font : List ℕ) (old new : List CodeRange) (answer : Answer) : Type 0 where
+  pub outcome : Result ℕ Refusal
+  pub told : answer ≡ size_answer outcome
+  pub holds : MatchResult outcome (IsListInRoom font old new) (λ refusal. (new ≡ old) × RefusesList font (length old) refusal)

@@ -1,0 +1,80 @@
+//! What each call answers.
+ghost use Rattle.std.specs.Prelude.{◌≡◌};
+ghost use Rattle.fontcut_c.specs.Answers.{at_step, done as done_with, refused as refused_with, sized as sized_with, told as told_with};
+
+/// What a call answers. A field that has nothing to tell is 0.
+#[repr(C)]
+#[derive(Clone, Copy, Debug, PartialEq, Eq)]
+pub struct Answer {
+    /// 0 where the call is done, 100 where the room is too small, and else the number of the refusal.
+    pub status: u32,
+    /// What a refusal names: a tag as a big-endian number, an index, a glyph or a code; and the answer to a
+    /// question.
+    pub detail: u32,
+    /// How many bytes, or ranges, were written; and where the status is 100 or 18, how many there are.
+    pub size: u64,
+    /// Which of several files is refused, counted from 0.
+    pub step: u64,
+}
+
+impl Answer {
+    /// A call is done, and wrote so much.
+    pub(crate) fn done(size: u64) -> Answer
+        ensures { result ≡ done_with size }
+    {
+        Answer {
+            status: 0,
+            detail: 0,
+            size,
+            step: 0,
+        }
+    }
+
+    /// A question is answered.
+    pub(crate) fn told(detail: u32) -> Answer
+        ensures { result ≡ told_with detail }
+    {
+        Answer {
+            status: 0,
+            detail,
+            size: 0,
+            step: 0,
+        }
+    }
+
+    /// The refusal of a number, with what it names.
+    pub(crate) fn refused(number: u8, argument: u32) -> Answer
+        ensures { result ≡ refused_with number argument }
+    {
+        Answer {
+            status: u32::from(number),
+            detail: argument,
+            size: 0,
+            step: 0,
+        }
+    }
+
+    /// A status that tells a size.
+    pub(crate) fn sized(status: u32, size: u64) -> Answer
+        ensures { result ≡ sized_with status size }
+    {
+        Answer {
+            status,
+            detail: 0,
+            size,
+            step: 0,
+        }
+    }
+
+    /// The same, of a file of several.
+    pub(crate) fn at(self, step: u64) -> Answer
+        ensures { result ≡ at_step step self }
+    {
+        Answer {
+            status: self.status,
+            detail: self.detail,
+            size: self.size,
+            step,
+        }
+    }
+}

@@ -1,0 +1,62 @@
+//! The ranges of the codes that a font maps, counted, and written to the caller's room.
+ghost use Rattle.std.specs.Prelude.{◌≡◌, ◌≤◌, ◌++◌, MatchResult, drop, length};
+ghost use Rattle.font_cut.specs.Fonts.{mapping_of};
+ghost use Rattle.fontcut_c.specs.Mapped.{IsListInRoom, RefusesList, listed};
+
+use crate::ranges::CodeRange;
+use crate::refusal::Refusal;
+use font_cmd::next_range;
+use font_cut::{Chart, Font};
+use std::alloc::Global;
+
+// Counts the ranges.
+#[tactic(auto, using(crate::proofs::MappedLemmas::counted_more, crate::proofs::MappedLemmas::counted_all))]
+fn count_ranges(chart: &Chart<'_>) -> usize
+    ensures { result ≡ length (listed (mapping_of chart.now.0 chart.now.1)) }
+{
+    let (mut count, mut from) = (0, 0);
+    while let Some(range) = next_range(chart, from) {
+        count += 1;
+        from = range.last + 1;
+    }
+    count
+}
+
+// Writes the ranges to the front of room that has one place for each at least.
+#[tactic(auto, using(crate::proofs::MappedLemmas::put_more, crate::proofs::MappedLemmas::put_all, crate::proofs::MappedLemmas::below_count))]
+fn put_ranges(chart: &Chart<'_>, out: &mut [CodeRange])
+    requires { length (listed (mapping_of chart.now.0 chart.now.1)) ≤ length out.old }
+    ensures { out.new ≡ listed (mapping_of chart.now.0 chart.now.1)
+        ++ drop (length (listed (mapping_of chart.now.0 chart.now.1))) out.old }
+{
+    let (mut at, mut from) = (0, 0);
+    while let Some(range) = next_range(chart, from) {
+        out[at] = CodeRange {
+            first: range.first,
+            last: range.last,
+        };
+        at += 1;
+        from = range.last + 1;
+    }
+}
+
+/// Writes the ranges of the codes that a font maps to the front of room, and answers how many.
+pub(crate) fn codes_to(alloc: Global, file: &[u8], out: &mut [CodeRange]) -> Result<u64, Refusal>
+    ensures { MatchResult result (IsListInRoom file.now out.old out.new)
+        (λ refusal. (out.new ≡ out.old) × RefusesList file.now (length out.old) refusal) }
+{
+    let font = match Font::open(file) {
+        Ok(font) => font,
+        Err(error) => return Err(Refusal::Font(error)),
+    };
+    let chart = match Chart::of(alloc, font.mapping()) {
+        Ok(chart) => chart,
+        Err(_) => return Err(Refusal::NoMemory),
+    };
+    let count = count_ranges(&chart);
+    if out.len() < count {
+        return Err(Refusal::SmallRoom(count as u64));
+    }
+    put_ranges(&chart, out);
+    Ok(count as u64)
+}

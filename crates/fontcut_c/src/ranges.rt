@@ -1,0 +1,44 @@
+//! Ranges of codes, and the set that they want.
+ghost use Rattle.std.specs.Prelude.{◌≡◌, ◌<◌, ℕ, MatchOption, IfOk};
+ghost use Rattle.font_map.specs.Wanted.{member};
+ghost use Rattle.fontcut_c.specs.Cutting.{AreGood, IsFirstBad, wanted_by};
+
+use font_cut::{NoMemory, Wanted};
+use std::alloc::Global;
+
+/// The codes from the first to the last.
+#[repr(C)]
+#[derive(Clone, Copy, Debug, PartialEq, Eq)]
+pub struct CodeRange {
+    /// The first code.
+    pub first: u32,
+    /// The last code.
+    pub last: u32,
+}
+
+/// Finds the first range that ends before it begins, or past the last code point.
+pub(crate) fn first_bad(ranges: &[CodeRange]) -> Option<usize>
+    ensures { MatchOption result (AreGood ranges.now) (IsFirstBad ranges.now) }
+{
+    for index in 0..ranges.len() {
+        let range = ranges[index];
+        if range.last < range.first || 0x10FFFF < range.last {
+            return Some(index);
+        }
+    }
+    None
+}
+
+/// The codes of ranges of which none is bad.
+pub(crate) fn wanted_of(alloc: Global, ranges: &[CodeRange]) -> Result<Wanted, NoMemory>
+    ensures { IfOk result (λ wanted. member wanted ≡ wanted_by ranges.now) }
+{
+    let mut wanted = Wanted::new(alloc);
+    for range in ranges {
+        // No range is bad, so it is memory that is refused.
+        if wanted.add(range.first, range.last).is_err() {
+            return Err(NoMemory);
+        }
+    }
+    Ok(wanted)
+}

@@ -1,0 +1,152 @@
+//! Why a call is not done, and what it answers then.
+ghost use Rattle.std.specs.Prelude.{◌≡◌};
+ghost use Rattle.sfnt_bytes.specs.Tag.{tag_number};
+ghost use Rattle.fontcut_c.specs.Answers.{as_detail, font_answer, font_argument, join_all_error_answer, join_error_answer, join_refusal_answer, pair_refusal_answer, refusal_answer};
+
+use crate::answer::Answer;
+use font_cut::{DirError, FontError, JoinAllError, JoinError, TableError};
+use sfnt_bytes::{Tag, be32};
+
+/// The status of a room that is too small.
+const SMALL_ROOM: u32 = 100;
+
+/// Why a call on one font is not done.
+#[derive(Clone, Copy, Debug, PartialEq, Eq)]
+pub enum Refusal {
+    /// The font is refused.
+    Font(FontError),
+    /// The range at this index ends before it begins, or past the last code point.
+    BadRange(usize),
+    /// Memory is refused.
+    NoMemory,
+    /// The cut would have so many bytes, more than a file may have.
+    TooLarge(u64),
+    /// There are so many bytes, or ranges, more than there is room for.
+    SmallRoom(u64),
+}
+
+/// Why a call on a cut and a font is not done.
+#[derive(Clone, Copy, Debug, PartialEq, Eq)]
+pub enum PairRefusal {
+    /// The cut is refused.
+    Cut(FontError),
+    /// The font is refused.
+    Font(FontError),
+    /// Memory is refused.
+    NoMemory,
+}
+
+/// Why a join is not written.
+#[derive(Clone, Copy, Debug, PartialEq, Eq)]
+pub enum JoinRefusal {
+    /// The join is refused.
+    Join(JoinAllError),
+    /// The join has so many bytes, more than there is room for.
+    SmallRoom(u64),
+}
+
+// A tag as a number.
+fn number_of(tag: Tag) -> u32
+    ensures { result ≡ tag_number tag }
+{
+    be32(&tag.0, 0)
+}
+
+// What the refusal of a font names.
+fn argument_of(error: FontError) -> u32
+    ensures { result ≡ font_argument error }
+{
+    match error {
+        FontError::Directory(DirError::DuplicateTable(tag)) => number_of(tag),
+        FontError::Directory(DirError::TableOutOfFile(tag)) => number_of(tag),
+        FontError::Directory(_) => 0,
+        FontError::Tables(TableError::MissingTable(tag)) => number_of(tag),
+        FontError::Tables(TableError::BadLoca(index)) => index,
+        FontError::Tables(_) => 0,
+        FontError::Mapping(_) => 0,
+        FontError::BadGlyph(glyph) => u32::from(glyph),
+    }
+}
+
+// The answer where a font is refused.
+fn refused_font(error: FontError) -> Answer
+    ensures { result ≡ font_answer error }
+{
+    Answer::refused(error.number(), argument_of(error))
+}
+
+// An index as far as 32 bits hold it.
+fn detail_of(index: usize) -> u32
+    ensures { result ≡ as_detail index }
+{
+    if index < 0x1_0000_0000 {
+        index as u32
+    } else {
+        0xFFFF_FFFF
+    }
+}
+
+impl Refusal {
+    /// What is answered.
+    pub(crate) fn answer(self) -> Answer
+        ensures { result ≡ refusal_answer self }
+    {
+        match self {
+            Refusal::Font(error) => refused_font(error),
+            Refusal::BadRange(index) => Answer::refused(15, detail_of(index)),
+            Refusal::NoMemory => Answer::refused(16, 0),
+            Refusal::TooLarge(size) => Answer::sized(18, size),
+            Refusal::SmallRoom(size) => Answer::sized(SMALL_ROOM, size),
+        }
+    }
+}
+
+impl PairRefusal {
+    /// What is answered.
+    pub(crate) fn answer(self) -> Answer
+        ensures { result ≡ pair_refusal_answer self }
+    {
+        match self {
+            PairRefusal::Cut(error) => refused_font(error),
+            PairRefusal::Font(error) => refused_font(error).at(1),
+            PairRefusal::NoMemory => Answer::refused(16, 0),
+        }
+    }
+}
+
+// The answer where two files are not joined.
+fn refused_join(error: JoinError) -> Answer
+    ensures { result ≡ join_error_answer error }
+{
+    match error {
+        JoinError::Font(_, error) => refused_font(error),
+        JoinError::NotACut(_) => Answer::refused(20, 0),
+        JoinError::DifferentTable(tag) => Answer::refused(21, number_of(tag)),
+        JoinError::DifferentMapping(code) => Answer::refused(22, code),
+        JoinError::DifferentGlyph(glyph) => Answer::refused(23, u32::from(glyph)),
+        JoinError::TooLarge(size) => Answer::sized(18, size),
+        JoinError::NoMemory => Answer::refused(16, 0),
+    }
+}
+
+// The answer where files are not joined.
+fn refused_list(error: JoinAllError) -> Answer
+    ensures { result ≡ join_all_error_answer error }
+{
+    match error {
+        JoinAllError::NothingToJoin => Answer::refused(24, 0),
+        JoinAllError::At { step, error } => refused_join(error).at(step as u64),
+    }
+}
+
+impl JoinRefusal {
+    /// What is answered.
+    pub(crate) fn answer(self) -> Answer
+        ensures { result ≡ join_refusal_answer self }
+    {
+        match self {
+            JoinRefusal::Join(error) => refused_list(error),
+            JoinRefusal::SmallRoom(size) => Answer::sized(SMALL_ROOM, size),
+        }
+    }
+}
