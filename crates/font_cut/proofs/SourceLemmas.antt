@@ -13,7 +13,9 @@ use Rattle.font_tables.specs.Outlines.{offset_at, outline_of}
 use Rattle.font_tables.specs.Tables.{glyf_of, glyf_tag, head_of, head_tag, loca_of, table_or_empty}
 use Rattle.font_file.specs.Font.{font_fault}
 use Rattle.font_theory.specs.Bytes.{padded}
-use Rattle.font_glyph.specs.Marks.{has}
+use Rattle.font_glyph.specs.Marks.{NoMark, has}
+use Rattle.font_write.specs.Parts.{IsNextKept}
+use Rattle.font_write.proofs.MeasureLemmas.{none_if}
 use Rattle.font_theory.specs.Content.{IsWritable, KeepsComponents, content, font_of, glyph_count, is_kept}
 use Rattle.font_theory.proofs.ContentLemmas.{IsClosed-content}
 use Rattle.font_theory.proofs.FileWantedLemmas.{outline-file}
@@ -101,6 +103,16 @@ module _ (file : List ℕ) (wanted : ℕ → Bool) (marks : List Bool) (kept : I
   kept_outline g some =
       let is = when-some (is_kept (font_of file) wanted g) (padded ((font_of file).outline g)) some in
       rw is (ap (λ (b : List ℕ). Some (padded b)) (outline-file file g (kept_below g some)))
+
+  pub next_is : (from g : ℕ) → from ≤ g → g ≤ length marks → NoMark marks from g → (g < length marks → has marks g ≡ true) → IsNextKept (content (font_of file) wanted) from g
+  next_is from g on within none here =
+      let count : length marks ≡ glyph_count (font_of file).copied = kept.count ∙ glyph_count_is file in
+      record {
+        from_on = on;
+        within = omega (arith, within, count);
+        passed = λ h a b. none_if ((content (font_of file) wanted).outline h) (sym (kept_is h) ∙ none h a b);
+        kept = λ low. sym (kept_is g) ∙ here (omega (arith, low, count));
+      }
 
 -- a table that was looked up is as small as the table
 pub looked_up : {X : Type 0} (bytes : X → List ℕ) (o : Option X) (t : Option (List ℕ)) (most : ℕ) → option_map bytes o ≡ t → length (unwrap_or t []) ≤ most → MatchOption o (Unit {0}) (λ x. length (bytes x) ≤ most)

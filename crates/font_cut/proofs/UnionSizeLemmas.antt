@@ -1,14 +1,18 @@
 -- How many bytes a union has, and how many of them are its groups.
-use Rattle.std.proofs.Common.{◌≡◌, ℕ, ◌+◌, ◌*◌, ◌≤◌, length, refl, sym, ap, ◌∙◌, arith}
+use Rattle.std.proofs.Common.{◌≡◌, ℕ, ◌+◌, ◌*◌, ◌≤◌, List, length, refl, sym, ap, ◌∙◌, arith}
 use Rattle.sfnt_bytes.specs.declared.directory.TheConstants.{MAX_FILE}
+use Rattle.sfnt_bytes.specs.Sums.{checksum_of}
 use Rattle.font_map.specs.Runs.{groups_from}
+use Rattle.font_map.specs.declared.runs.Run.{Run}
 use Rattle.font_map.proofs.RunLemmas.{groups_done}
 use Rattle.font_theory.specs.Content.{Content, IsWritable, KeepsComponents, glyph_count}
 use Rattle.font_theory.specs.File.{current_form, file, form_of, groups_of_content, outlines_of, second_form, size_of}
 use Rattle.font_theory.proofs.FontLemmas.{glyph_count-file}
 use Rattle.font_theory.proofs.SizeLemmas.{length-file}
-use Rattle.font_write.specs.Parts.{glyf_to}
+use Rattle.font_write.specs.Parts.{glyf_to, groups_bytes}
 use Rattle.font_write.specs.Plan.{AreCounts}
+use Rattle.font_write.proofs.ChecksumLemmas.{checksum_of-nil}
+use Rattle.font_write.proofs.GroupLemmas.{groups_bytes-nil}
 use Rattle.font_write.specs.declared.size.Counts.{Counts}
 use Rattle.font_cut.specs.Union.{AreCounted, Held, IsUnion, content_in, outlines_length}
 use Rattle.font_cut.specs.Inside.{without_codes}
@@ -46,9 +50,12 @@ module _ (K : Content) where
   no_groups : length (groups_from (without_codes K).map 0) ≡ 0
   no_groups = ap length (groups_done (without_codes K).map 0 no_codes (λ c x. refl))
 
-  pub counts_without : (counts : Counts) → counts.groups ≡ 0 → counts.outlines ≡ length (glyf_to K (glyph_count K.copied)) → counts.outlines ≤ 0x0001_0000_0000_0000 → AreCounts (without_codes K) counts
+  no_sum : checksum_of (groups_bytes (groups_from (without_codes K).map 0)) ≡ 0
+  no_sum = ap (λ (runs : List Run). checksum_of (groups_bytes runs)) (groups_done (without_codes K).map 0 no_codes (λ c x. refl)) ∙ ap checksum_of groups_bytes-nil ∙ checksum_of-nil
+
+  pub counts_without : (counts : Counts) → counts.groups ≡ 0 → counts.group_sum ≡ 0 → counts.outlines ≡ length (glyf_to K (glyph_count K.copied)) → counts.outlines ≤ 0x0001_0000_0000_0000 → AreCounts (without_codes K) counts
   unfolding groups_of_content glyf_to
-  counts_without counts groups outlines small = record { groups = groups ∙ sym no_groups; outlines = outlines; small = small }
+  counts_without counts groups group_sum outlines small = record { groups = groups ∙ sym no_groups; group_sum = group_sum ∙ sym no_sum; outlines = outlines; small = small }
 
   size_apart : size_of current_form K ≡ size_of current_form (without_codes K) + 12 * length (groups_from K.map 0)
   unfolding size_of form_of second_form groups_of_content outlines_of

@@ -340,6 +340,12 @@ impl<'f, 'a, A: Allocator> Source for CutOf<'f, 'a, A> {
         g < self.charted.font().tables().glyph_count() && self.kept.has(g)
     }
 
+    #[tactic(auto, using(crate::proofs::SourceLemmas::next_is))]
+    fn next_kept(&self, from: u16) -> u16 {
+        let _count = self.glyph_count();
+        self.kept.next_from(from as usize) as u16
+    }
+
     #[tactic(auto, using(crate::proofs::SourceLemmas::kept_below, crate::proofs::SourceLemmas::kept_outline))]
     fn outline_of(&self, g: u16) -> &[u8] {
         if g < self.charted.font().tables().glyph_count() {

@@ -89,6 +89,10 @@ impl<'f, 'a, A: Allocator> Source for Listed<'f, 'a, A> {
         self.font.keeps(g)
     }
 
+    fn next_kept(&self, from: u16) -> u16 {
+        self.font.next_kept(from)
+    }
+
     fn outline_of(&self, g: u16) -> &[u8] {
         self.font.outline_of(g)
     }

@@ -62,6 +62,7 @@ pub(crate) fn size_without_codes<S: Source>(source: &S, outlines: usize) -> u64
     source.known();
     let counts = Counts {
         groups: 0,
+        group_sum: 0,
         outlines,
     };
     counted_size(&WithoutCodes { source }, CURRENT, counts).bytes

@@ -1,10 +1,65 @@
 //! Sets of glyphs.
-ghost use Rattle.std.specs.Prelude.{◌≡◌, ◌<◌, ◌||◌, ℕ, nat_eq, false, true, length, slice_set, IfOk};
-ghost use Rattle.font_glyph.specs.Marks.{has};
+ghost use Rattle.std.specs.Prelude.{◌≡◌, ◌+◌, ◌<◌, ◌≤◌, ◌||◌, ℕ, nat_eq, false, true, length, slice_set, IfOk, IsTrue};
+ghost use Rattle.font_glyph.specs.Marks.{NoMark, has};
 
 use sfnt_bytes::NoMemory;
 use std::alloc::{Allocator, Global};
 use std::marker::Model;
+
+/// So many marks are looked at in one step.
+const BLOCK: usize = 64;
+
+// Whether so many marks stand behind a place and none of them is set. It looks at all of them, so that the
+// compiler may take many at a time.
+#[tactic(auto, unfolding(crate::specs::Marks::has))]
+fn is_clear(marks: &[bool], at: usize) -> bool
+    requires { at ≤ length marks.now }
+    ensures room { IsTrue result → at + 64 ≤ length marks.now }
+    ensures clear { IsTrue result → NoMark marks.now at (at + 64) }
+{
+    if marks.len() - at < BLOCK {
+        return false;
+    }
+    let mut any = false;
+    for g in at..at + BLOCK {
+        any |= marks[g];
+    }
+    !any
+}
+
+// Passes over blocks in which no mark is set.
+fn pass_blocks(marks: &[bool], from: usize) -> usize
+    requires { from ≤ length marks.now }
+    ensures order { from ≤ result }
+    ensures within { result ≤ length marks.now }
+    ensures passed { NoMark marks.now from result }
+{
+    let mut at = from;
+    while is_clear(marks, at) {
+        at += BLOCK;
+    }
+    at
+}
+
+// Returns the first mark from a place on that is set, or the end where there is none.
+#[tactic(auto, unfolding(crate::specs::Marks::has))]
+fn first_marked(marks: &[bool], from: usize) -> usize
+    requires { from ≤ length marks.now }
+    ensures order { from ≤ result }
+    ensures within { result ≤ length marks.now }
+    ensures passed { NoMark marks.now from result }
+    ensures marked { result < length marks.now → has marks.now result ≡ true }
+{
+    if from < marks.len() && marks[from] {
+        return from;
+    }
+    for g in pass_blocks(marks, from)..marks.len() {
+        if marks[g] {
+            return g;
+        }
+    }
+    marks.len()
+}
 
 /// A set of glyphs below a count, in a byte a glyph.
 #[derive(Drop)]
@@ -47,6 +102,17 @@ impl<A: Allocator> Marks<A> {
         ensures { result ≡ has self.now g }
     {
         self.marks[g as usize]
+    }
+
+    /// Returns the least marked glyph not below `from`, or the count where there is none.
+    pub fn next_from(&self, from: usize) -> usize
+        requires { from ≤ length self.now }
+        ensures order { from ≤ result }
+        ensures within { result ≤ length self.now }
+        ensures passed { NoMark self.now from result }
+        ensures marked { result < length self.now → has self.now result ≡ true }
+    {
+        first_marked(&self.marks, from)
     }
 
     /// Marks a glyph.

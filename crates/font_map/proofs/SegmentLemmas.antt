@@ -83,6 +83,24 @@ segments_none s from e c a =
       | inr h ↦ glyph_by_find s c None (omega arith) (find_narrower_none (reaches from) (reaches c) (segments_of s) e (reaches_further from c a))
     ]
 
+-- up to its end it gives what it alone gives
+pub segment_gives : (s : List ℕ) (g : Segment) (n c x : ℕ) → c ≤ g.last → x ≡ clipped n (λ _. glyph_by s g c) c → x ≡ clipped n (glyph_of_segment s g) c
+segment_gives s g n c x h e =
+    e ∙ ap (λ (y : ℕ). clipped n (λ _. y) c) (sym (ap (λ (b : Bool). cond b (glyph_by s g c) 0) (reaches_yes g c h)))
+
+-- a code in front of others is a piece
+pub piece_of_code : (m : ℕ → ℕ) (from code glyph : ℕ) → from ≤ code → IsUnmapped m from code → code ≤ 0x10FFFF → 0 < glyph → glyph < 65536 → glyph ≡ m code → IsPiece m from (record { first = code; last = code; glyph = glyph })
+piece_of_code m from code glyph on none within mapped small is =
+    record {
+      from_on = on;
+      least = none;
+      order = omega arith;
+      within = within;
+      mapped = mapped;
+      small = omega arith;
+      along = λ c x y. let same : c ≡ code = omega arith in omega (arith, ap m same, is, same);
+    }
+
 -- past its end a segment alone maps nothing
 pub segment_ends : (s : List ℕ) (g : Segment) (stop c : ℕ) → g.last < stop → stop ≤ c → glyph_of_segment s g c ≡ 0
 segment_ends s g stop c end h = ap (λ (b : Bool). cond b (glyph_by s g c) 0) (reaches_no g c (omega arith))

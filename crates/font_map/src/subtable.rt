@@ -95,15 +95,17 @@ impl<'a> Subtable<'a> {
     }
 
     /// Returns the first piece of the map from a code on, and a hint where the next one may be. Where
-    /// groups stand in order and the hint is good, no group is searched for.
+    /// segments or groups stand in order and the hint is good, none is searched for.
     pub(crate) fn piece_by_hint(&self, glyphs: u16, hint: usize, from: u32) -> (Option<Run>, usize)
         ensures { IsNext (clipped glyphs (subtable_glyph self.now)) from result.0 }
     {
-        if let Subtable::Groups(groups) = self
-            && let Some(found) = groups.piece_by_hint(glyphs, hint, from)
-        {
-            return found;
+        let near = match self {
+            Subtable::Segments(segments) => segments.piece_by_hint(glyphs, hint, from),
+            Subtable::Groups(groups) => groups.piece_by_hint(glyphs, hint, from),
+        };
+        match near {
+            Some(found) => found,
+            None => (self.piece(glyphs, from), hint),
         }
-        (self.piece(glyphs, from), hint)
     }
 }

@@ -1,6 +1,7 @@
 -- How outlines and their offsets grow, glyph by glyph.
-use Rattle.std.proofs.Common.{◌≡◌, ℕ, zero, suc, ◌+◌, ◌-◌, ◌*◌, ◌<◌, ◌≤◌, List, [], ◌∷◌, ◌++◌, length, sym, ap, ◌∙◌, refl, arith, length-append, append_assoc, flat_map}
+use Rattle.std.proofs.Common.{◌≡◌, ℕ, zero, suc, ◌+◌, ◌-◌, ◌*◌, ◌%◌, ◌^◌, ◌<◌, ◌≤◌, List, [], ◌∷◌, ◌++◌, length, Option, None, sym, ap, ◌∙◌, refl, arith, length-append, append_assoc, flat_map}
 use Rattle.std.specs.List.{concat}
+use Rattle.std.specs.Option.{unwrap_or}
 use Rattle.std.proofs.lemmas.List.{append-nil, length-replicate}
 use Rattle.std.proofs.lemmas.List.Folds.{concat-append}
 use Rattle.std.proofs.lemmas.Grind.{flat_map-append}
@@ -8,8 +9,12 @@ use Rattle.font_glyph.specs.Union.{record_in}
 use Rattle.font_theory.specs.Bytes.{bytes32}
 use Rattle.font_theory.specs.Content.{Content}
 use Rattle.font_theory.specs.File.{Form, behind, loca_bytes, offsets_from, outlines_from}
-use Rattle.font_write.specs.Parts.{glyf_to}
-use Rattle.font_write.specs.Inside.{all_outlines, glyf_in, loca_to}
+use Rattle.sfnt_bytes.specs.Sums.{checksum_of}
+use Rattle.font_theory.proofs.SumLemmas.{checksum_of-append}
+use Rattle.font_write.specs.Parts.{IsNextKept, glyf_to}
+use Rattle.font_write.specs.Inside.{IsWalk, all_outlines, glyf_in, loca_to}
+use Rattle.font_write.specs.declared.made_loca.Walk.{Walk}
+use Rattle.font_write.proofs.ChecksumLemmas.{checksum_of-bytes32, checksum_of-small}
 use Rattle.font_write.proofs.PartLemmas.{within}
 
 outlines-split : (K : Content) (k n m : ℕ) → outlines_from K k (n + m) ≡ outlines_from K k n ++ outlines_from K (k + n) m
@@ -97,3 +102,73 @@ loca_first K n =
 
 pub length-glyf_in : (form : Form) (K : Content) → length (glyf_in form K) ≡ length (all_outlines K) + form.zeros (length (all_outlines K))
 length-glyf_in form K = omega (arith, length-append (all_outlines K) (behind form (all_outlines K)), length-replicate {A = ℕ} (form.zeros (length (all_outlines K))) 0)
+
+-- glyphs that are not kept have no outlines
+glyf_pass : (K : Content) (a n : ℕ) → ((h : ℕ) → a ≤ h → h < a + n → K.outline h ≡ None) → glyf_to K (a + n) ≡ glyf_to K a
+glyf_pass K a zero none = let e : a + 0 ≡ a = omega arith in ap (glyf_to K) e
+glyf_pass K a (suc n) none =
+    let e : a + suc n ≡ a + n + 1 = omega arith in
+    let last : record_in K.outline (a + n) ≡ [] = ap (λ (o : Option (List ℕ)). unwrap_or o []) (none (a + n) (omega arith) (omega arith)) in
+    ap (glyf_to K) e ∙ glyf_more K (a + n) ∙ ap (λ (b : List ℕ). glyf_to K (a + n) ++ b) last ∙ append-nil (glyf_to K (a + n))
+    ∙ glyf_pass K a n (λ h from to. none h from (omega arith))
+
+pub glyf_next : (K : Content) (from g : ℕ) → IsNextKept K from g → glyf_to K g ≡ glyf_to K from
+glyf_next K from g next =
+    let e : from + (g - from) ≡ g = omega (arith, next.from_on) in
+    ap (glyf_to K) (sym e) ∙ glyf_pass K from (g - from) (λ h a b. next.passed h a (omega (arith, b, next.from_on)))
+
+-- one offset stands for a kept glyph and for all up to the next one
+loca_sum_pass : (K : Content) (a n x : ℕ) → x ≡ length (glyf_to K a) → ((h : ℕ) → a ≤ h → h < a + n → K.outline h ≡ None)
+    → checksum_of (loca_to K (a + n)) ≡ (checksum_of (loca_to K a) + n * x) % 2 ^ 32
+loca_sum_pass K a zero x e none =
+    let z : a + 0 ≡ a = omega arith in
+    omega (arith, ap (λ (k : ℕ). checksum_of (loca_to K k)) z, checksum_of-small (loca_to K a))
+loca_sum_pass K a (suc n) x e none =
+    let z : a + suc n ≡ a + n + 1 = omega arith in
+    let less : (h : ℕ) → a ≤ h → h < a + n → K.outline h ≡ None = λ h from to. none h from (omega arith) in
+    let before = loca_sum_pass K a n x e less in
+    let same : length (glyf_to K (a + suc n)) ≡ x = ap length (glyf_pass K a (suc n) none) ∙ sym e in
+    let word = length (glyf_to K (a + n + 1)) in
+    let is : word ≡ x = ap (λ (k : ℕ). length (glyf_to K k)) (sym z) ∙ same in
+    let more = ap checksum_of (loca_more K (a + n)) ∙ checksum_of-append (loca_to K (a + n)) (bytes32 word) (omega (arith, length_loca K (a + n))) in
+    let whole : checksum_of (loca_to K (a + suc n)) ≡ checksum_of (loca_to K (a + n + 1)) = ap (λ (k : ℕ). checksum_of (loca_to K k)) z in
+    let product : suc n * x ≡ n * x + x = omega arith in
+    omega (arith, whole, more, before, checksum_of-bytes32 word, is, product)
+
+pub loca_sum_next : (K : Content) (g next x : ℕ) → x ≡ length (glyf_to K (g + 1)) → IsNextKept K (g + 1) next
+    → checksum_of (loca_to K next) ≡ (checksum_of (loca_to K g) + (next - g) * x) % 2 ^ 32
+loca_sum_next K g next x e is =
+    let n = next - (g + 1) in
+    let z : g + 1 + n ≡ next = omega (arith, is.from_on) in
+    let pass = loca_sum_pass K (g + 1) n x e (λ h a b. is.passed h a (omega (arith, b, is.from_on))) in
+    let whole : checksum_of (loca_to K (g + 1 + n)) ≡ checksum_of (loca_to K next) = ap (λ (k : ℕ). checksum_of (loca_to K k)) z in
+    let word = length (glyf_to K (g + 1)) in
+    let more = ap checksum_of (loca_more K g) ∙ checksum_of-append (loca_to K g) (bytes32 word) (omega (arith, length_loca K g)) in
+    let count : next - g ≡ suc n = omega (arith, is.from_on) in
+    let one : suc n * x ≡ n * x + x = omega arith in
+    let product : (next - g) * x ≡ n * x + x = ap (λ (k : ℕ). k * x) count ∙ one in
+    omega (arith, pass, whole, more, e, checksum_of-bytes32 word, product)
+
+-- 0 stands for all glyphs up to the first kept one
+pub loca_sum_first : (K : Content) (next : ℕ) → IsNextKept K 0 next → checksum_of (loca_to K next) ≡ 0
+loca_sum_first K next is =
+    let z : 0 + next ≡ next = omega arith in
+    let pass = loca_sum_pass K 0 next 0 (sym (ap length (glyf_start K))) (λ h a b. is.passed h a (omega (arith, b))) in
+    let whole : checksum_of (loca_to K (0 + next)) ≡ checksum_of (loca_to K next) = ap (λ (k : ℕ). checksum_of (loca_to K k)) z in
+    let none : next * 0 ≡ 0 = omega arith in
+    omega (arith, pass, whole, none, ap checksum_of (loca_start K), checksum_of-bytes32 0)
+
+-- where a walk begins
+pub walk_start : (K : Content) (next : ℕ) → IsNextKept K 0 next → IsWalk K 0 (record { offset = 0; next = next })
+walk_start K next is = record { offset = sym (ap length (glyf_start K)); next = is }
+
+-- a glyph that is not kept is passed
+pub walk_passes : (K : Content) (g : ℕ) (walk : Walk) → g < walk.next → IsWalk K g walk → IsWalk K (g + 1) walk
+walk_passes K g walk low is =
+    let none : K.outline g ≡ None = is.next.passed g (omega arith) low in
+    let last : record_in K.outline g ≡ [] = ap (λ (o : Option (List ℕ)). unwrap_or o []) none in
+    let same : glyf_to K (g + 1) ≡ glyf_to K g = glyf_more K g ∙ ap (λ (b : List ℕ). glyf_to K g ++ b) last ∙ append-nil (glyf_to K g) in
+    record {
+      offset = is.offset ∙ sym (ap length same);
+      next = record { from_on = omega (arith, low); within = is.next.within; passed = λ h a b. is.next.passed h (omega (arith, a)) b; kept = is.next.kept };
+    }

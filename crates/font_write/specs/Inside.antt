@@ -1,10 +1,10 @@
 -- Words of private contracts and of proofs: no public clause names them.
-use Rattle.font_map.specs.declared.runs.Run.{Run}
 use Rattle.font_theory.specs.Content.{Content, glyph_count}
-use Rattle.font_theory.specs.File.{Form, behind, entries_at, entry_bytes, group_bytes, loca_bytes, outlines_from}
-use Rattle.font_write.specs.Parts.{tables_to, start_of, glyf_to}
+use Rattle.font_theory.specs.File.{Form, behind, entries_at, entry_bytes, loca_bytes, outlines_from}
+use Rattle.font_write.specs.Parts.{IsNextKept, tables_to, start_of, glyf_to}
+use Rattle.font_write.specs.declared.made_loca.Walk.{Walk}
 use Rattle.std.specs.List.{flat_map}
-use Rattle.std.specs.Prelude.{ℕ, ◌++◌, List}
+use Rattle.std.specs.Prelude.{◌≡◌, ℕ, ◌++◌, List, length}
 
 -- the records of the tables in the first n slots
 unfoldable pub records_to : Form → Content → ℕ → List ℕ
@@ -13,10 +13,6 @@ records_to form K n = flat_map entry_bytes (entries_at (start_of form K) (tables
 -- the offsets of the outlines of the first n glyphs, with that of their end
 unfoldable pub loca_to : Content → ℕ → List ℕ
 loca_to K n = loca_bytes (outlines_from K 0 n)
-
--- the bytes of groups
-unfoldable pub groups_bytes : List Run → List ℕ
-groups_bytes runs = flat_map group_bytes runs
 
 -- `glyf` in a form, and its outlines alone
 abbrev pub all_outlines : Content → List ℕ
@@ -28,3 +24,8 @@ glyf_in form K = all_outlines K ++ behind form (all_outlines K)
 -- all offsets
 abbrev pub all_offsets : Content → List ℕ
 all_offsets K = loca_to K (glyph_count K.copied)
+
+-- how far a walk over the glyphs is: the length of the outlines below a glyph, and the next kept one
+pub record IsWalk (K : Content) (g : ℕ) (walk : Walk) : Type 0 where
+  pub offset : walk.offset ≡ length (glyf_to K g)
+  pub next : IsNextKept K g walk.next

@@ -1,16 +1,18 @@
 -- What is counted and measured of the tables of a file before they are sent, this project's own.
 use Rattle.std.specs.Prelude.{◌≡◌, ℕ, ◌≤◌, ◌<◌, List, length, slice_index_or, is_some, false}
+use Rattle.sfnt_bytes.specs.Sums.{checksum_of}
 use Rattle.font_theory.specs.Content.{Content, glyph_count}
 use Rattle.font_theory.specs.File.{Form, adjustment_in, checksum_in_slot, file, form_of, groups_of_content, size_of}
-use Rattle.font_write.specs.Parts.{bytes_at, count_to, glyf_to, table_at}
+use Rattle.font_write.specs.Parts.{bytes_at, count_to, glyf_to, groups_bytes, table_at}
 use Rattle.font_write.specs.declared.plan.Measure.{Measure}
 use Rattle.font_write.specs.declared.plan.Plan.{Plan}
 use Rattle.font_write.specs.declared.size.Counts.{Counts}
 use Rattle.font_write.specs.declared.size.Size.{Size}
 
--- the groups of the map and the bytes of the outlines are counted
+-- the groups of the map are counted and summed, and the bytes of the outlines counted
 pub record AreCounts (K : Content) (c : Counts) : Type 0 where
   pub groups : c.groups ≡ length (groups_of_content K)
+  pub group_sum : c.group_sum ≡ checksum_of (groups_bytes (groups_of_content K))
   pub outlines : c.outlines ≡ length (glyf_to K (glyph_count K.copied))
   pub small : c.outlines ≤ 0x0001_0000_0000_0000
 

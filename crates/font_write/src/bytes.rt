@@ -1,10 +1,11 @@
 //! Numbers and padding as bytes. OpenType 1.9, Data Types; Organization of an OpenType Font.
-ghost use Rattle.std.specs.Prelude.{◌≡◌, ◌+◌, ◌<◌, ◌≤◌, ◌++◌, length, false, replicate};
+ghost use Rattle.std.specs.Prelude.{◌≡◌, ◌+◌, ◌<◌, ◌≤◌, ◌++◌, length, take, false, replicate};
 ghost use Rattle.sfnt_bytes.specs.Findings.{padding_of};
 ghost use Rattle.sfnt_bytes.specs.declared.directory.TheConstants.{MAX_FILE};
 ghost use Rattle.font_theory.specs.Bytes.{bytes16, bytes32, padded};
 ghost use Rattle.font_theory.specs.File.{header_bytes};
 ghost use Rattle.font_write.specs.Trace.{Sends};
+ghost use Rattle.font_write.specs.declared.bytes.TheConstants.{BLOCK};
 
 use crate::sink::{Sink, Stopped};
 use sfnt_bytes::search_fields;
@@ -39,6 +40,22 @@ pub(crate) fn three_words(x: u32, y: u32, z: u32) -> [u8; 12]
     let [e, f, g, h] = word(y);
     let [i, j, k, l] = word(z);
     [a, b, c, d, e, f, g, h, i, j, k, l]
+}
+
+/// Numbers that are sent one after the other are gathered in a block of so many bytes first: a sink that is
+/// asked for each of them alone takes several times as long.
+pub(crate) const BLOCK: usize = 1024;
+
+/// Puts the bytes of a `u32` into a block.
+pub(crate) fn put_word(block: &mut [u8; BLOCK], at: usize, x: u32)
+    requires { at + 4 ≤ BLOCK }
+    ensures { take (at + 4) block.new ≡ take at block.old ++ bytes32 x }
+{
+    let [a, b, c, d] = word(x);
+    block[at] = a;
+    block[at + 1] = b;
+    block[at + 2] = c;
+    block[at + 3] = d;
 }
 
 // sfntVersion 1.0 and four numbers.

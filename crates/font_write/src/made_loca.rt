@@ -1,23 +1,21 @@
 //! `loca`: where each outline begins, and where the last one ends. OpenType 1.9, loca.
-ghost use Rattle.std.specs.Prelude.{◌≡◌, ◌+◌, ◌-◌, ◌*◌, ◌≤◌, ◌++◌, length, take, false};
+ghost use Rattle.std.specs.Prelude.{◌≡◌, ◌+◌, ◌-◌, ◌*◌, ◌<◌, ◌≤◌, ◌++◌, length, take, false};
 ghost use Rattle.sfnt_bytes.specs.Sums.{checksum_of};
 ghost use Rattle.sfnt_bytes.specs.declared.directory.TheConstants.{MAX_FILE};
 ghost use Rattle.font_theory.specs.Bytes.{bytes32};
 ghost use Rattle.font_theory.specs.Content.{glyph_count};
 ghost use Rattle.font_write.specs.Parts.{glyf_to};
-ghost use Rattle.font_write.specs.Inside.{all_offsets, all_outlines, loca_to};
-ghost use Rattle.font_write.specs.declared.made_loca.TheConstants.{BLOCK};
+ghost use Rattle.font_write.specs.Inside.{IsWalk, all_offsets, all_outlines, loca_to};
+ghost use Rattle.font_write.specs.declared.bytes.TheConstants.{BLOCK};
 ghost use Rattle.font_write.specs.Trace.{Sends};
 
-use crate::bytes::{send_word, word};
+use crate::bytes::{BLOCK, put_word, send_word};
 use crate::made_glyf::outline_length;
 use crate::sink::{Sink, Stopped};
 use crate::source::Source;
 
-// So many offsets are gathered before they are sent, and so many bytes they have.
+// For so many glyphs a block has room.
 const GLYPHS: u16 = 256;
-
-const BLOCK: usize = 1024;
 
 /// The length of `loca`.
 pub(crate) fn loca_length<S: Source>(source: &S) -> u32
@@ -34,49 +32,67 @@ pub(crate) fn sum_loca<S: Source>(source: &S) -> u32
 {
     let mut offset: u32 = 0;
     let mut sum: u32 = 0;
-    for g in 0..source.glyph_count() {
+    let count = source.glyph_count();
+    let mut g = source.next_kept(0);
+    while g < count {
         offset += outline_length(source, g);
-        sum = sum.wrapping_add(offset);
+        let next = source.next_kept(g + 1);
+        // One offset stands for all glyphs up to the next one that is kept.
+        sum = sum.wrapping_add(offset.wrapping_mul(u32::from(next - g)));
+        g = next;
     }
     sum
 }
 
-// Puts a number into a block.
-fn put_word(block: &mut [u8; BLOCK], at: usize, x: u32)
-    requires { at + 4 ≤ BLOCK }
-    ensures { take (at + 4) block.new ≡ take at block.old ++ bytes32 x }
+// How many bytes the outlines of the glyphs below one have, and the least glyph from that one on that is
+// kept.
+#[derive(Clone, Copy)]
+struct Walk {
+    offset: u32,
+    next: u16,
+}
+
+// Goes on behind a glyph.
+fn pass_glyph<S: Source>(source: &S, g: u16, walk: Walk) -> Walk
+    requires low { g < 65535 }
+    requires walk { IsWalk (S.content_of source.now) g walk }
+    requires within { g < glyph_count (S.content_of source.now).copied }
+    requires small { length (all_outlines (S.content_of source.now)) ≤ MAX_FILE }
+    ensures { IsWalk (S.content_of source.now) (g + 1) result }
 {
-    let [a, b, c, d] = word(x);
-    block[at] = a;
-    block[at + 1] = b;
-    block[at + 2] = c;
-    block[at + 3] = d;
+    if g < walk.next {
+        return walk;
+    }
+    Walk {
+        offset: walk.offset + outline_length(source, g),
+        next: source.next_kept(g + 1),
+    }
 }
 
 // Gathers the offsets behind the glyphs from one on up to another at the front of a block: a sink that
-// is asked for each of them alone takes several times as long. Returns the last of them.
+// is asked for each of them alone takes several times as long. Returns where the walk stands then.
 fn gather_offsets<S: Source>(
     source: &S,
     from: u16,
     to: u16,
-    start: u32,
+    start: Walk,
     block: &mut [u8; BLOCK],
-) -> u32
+) -> Walk
     requires order { from ≤ to }
     requires few { 4 * (to - from) ≤ BLOCK }
     requires within { to ≤ glyph_count (S.content_of source.now).copied }
-    requires start { start ≡ length (glyf_to (S.content_of source.now) from) }
+    requires start { IsWalk (S.content_of source.now) from start }
     requires small { length (all_outlines (S.content_of source.now)) ≤ MAX_FILE }
-    ensures end { result ≡ length (glyf_to (S.content_of source.now) to) }
+    ensures end { IsWalk (S.content_of source.now) to result }
     ensures gathered { loca_to (S.content_of source.now) from ++ take (4 * (to - from)) block.new ≡ loca_to
         (S.content_of source.now) to }
 {
-    let mut offset = start;
+    let mut walk = start;
     for g in from..to {
-        offset += outline_length(source, g);
-        put_word(block, 4 * (g - from) as usize, offset);
+        walk = pass_glyph(source, g, walk);
+        put_word(block, 4 * (g - from) as usize, walk.offset);
     }
-    offset
+    walk
 }
 
 /// Sends `loca`.
@@ -87,13 +103,16 @@ pub(crate) fn send_loca<S: Source, K: Sink>(source: &S, sink: &mut K) -> Result<
     ensures { Sends (K.trace sink.old) (K.trace sink.new) (all_offsets (S.content_of source.now)) result }
 {
     let mut block = [0; BLOCK];
-    let mut offset: u32 = 0;
+    let mut walk = Walk {
+        offset: 0,
+        next: source.next_kept(0),
+    };
     let mut from: u16 = 0;
     let count = source.glyph_count();
     send_word(0, sink)?;
     while from < count {
         let to = from + (count - from).min(GLYPHS);
-        offset = gather_offsets(source, from, to, offset, &mut block);
+        walk = gather_offsets(source, from, to, walk, &mut block);
         sink.take(&block[..4 * (to - from) as usize])?;
         from = to;
     }

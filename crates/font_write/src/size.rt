@@ -9,17 +9,18 @@ ghost use Rattle.font_write.specs.Parts.{table_at};
 ghost use Rattle.font_write.specs.Plan.{AreCounts, IsSize};
 
 use crate::bytes::padding;
-use crate::made_cmap::{cmap_length, count_groups};
+use crate::made_cmap::{cmap_length, measure_groups};
 use crate::made_glyf::{glyf_length, outlines_size};
 use crate::made_loca::loca_length;
 use crate::source::Source;
 use font_theory::Profile;
 use sfnt_bytes::{CMAP, GLYF, HEAD, LOCA};
 
-/// How many groups a map has, and how many bytes all outlines.
+/// How many groups a map has, what their words sum to, and how many bytes all outlines have.
 #[derive(Clone, Copy, Debug, PartialEq, Eq)]
 pub struct Counts {
     pub groups: u32,
+    pub group_sum: u32,
     pub outlines: usize,
 }
 
@@ -85,8 +86,10 @@ fn slot_size<S: Source>(source: &S, profile: Profile, counts: Counts, slot: usiz
 pub fn file_size<S: Source>(source: &S, profile: Profile) -> Size
     ensures { IsSize (form_of profile) (S.content_of source.now) result }
 {
+    let (groups, group_sum) = measure_groups(source);
     let counts = Counts {
-        groups: count_groups(source),
+        groups,
+        group_sum,
         outlines: outlines_size(source),
     };
     counted_size(source, profile, counts)

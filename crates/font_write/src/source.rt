@@ -5,6 +5,7 @@ ghost use Rattle.font_map.specs.CharacterMap.{IsCharacterMap};
 ghost use Rattle.font_map.specs.Runs.{IsRun, NoRun};
 ghost use Rattle.font_theory.specs.Bytes.{cut_head, padded};
 ghost use Rattle.font_theory.specs.Content.{Content, IsWritable, KeepsComponents, glyph_count};
+ghost use Rattle.font_write.specs.Parts.{IsNextKept};
 
 use font_map::Run;
 
@@ -55,6 +56,20 @@ pub trait Source {
     /// Whether a glyph is kept.
     fn keeps(&self, g: u16) -> bool
         ensures { result ≡ is_some ((content_of self.now).outline g) };
+
+    /// The least kept glyph not below `from`, or `numGlyphs` where there is none.
+    fn next_kept(&self, from: u16) -> u16
+        requires { from ≤ glyph_count (content_of self.now).copied }
+        ensures { IsNextKept (content_of self.now) from result }
+    {
+        let count = self.glyph_count();
+        for g in from..count {
+            if self.keeps(g) {
+                return g;
+            }
+        }
+        count
+    }
 
     /// The outline of a glyph that is kept, without the zeros that fill it. Of any other glyph it is
     /// not said which bytes it gives.
