@@ -1,0 +1,264 @@
+/* Does the calls of fontcut.h that the lines of standard input ask for, in C99 and in C++17, and prints each answer:
+ *
+ *     check FONT
+ *     size FONT RANGES..              a range is FIRST-LAST, in hexadecimal digits
+ *     cut FONT OUT ROOM RANGES..      ROOM is a number of bytes, or - for just as many as are needed
+ *     form FONT
+ *     belongs CUT FONT
+ *     join OUT ROOM FILES..
+ *     codes FONT OUT ROOM             OUT gets a line for each range; ROOM is a number of ranges
+ *     text STATUS DETAIL SIZE STEP    also prints the text
+ *
+ * Each room lies between guards, and the answer is followed by `touched` where a byte was written that should not be.
+ * With the argument N the whole of standard input is done in N threads at once, and only the first of them prints. */
+#include "fontcut.h"
+
+#include <inttypes.h>
+#include <pthread.h>
+#include <stdio.h>
+#include <stdlib.h>
+#include <string.h>
+
+enum { WORDS = 512, LINE = 65536, GUARD = 64, FILL = 0xA5, NEEDED = -1 };
+
+static char *lines;
+
+typedef struct file {
+    uint8_t *at;
+    size_t length;
+} file;
+
+static void *got(size_t bytes)
+{
+    void *at = malloc(bytes ? bytes : 1);
+    if (!at) {
+        fprintf(stderr, "library_calls: no memory\n");
+        exit(3);
+    }
+    return at;
+}
+
+static file read_file(const char *path)
+{
+    file read = {NULL, 0};
+    FILE *from = fopen(path, "rb");
+    if (!from || fseek(from, 0, SEEK_END)) {
+        fprintf(stderr, "library_calls: cannot read %s\n", path);
+        exit(3);
+    }
+    read.length = (size_t)ftell(from);
+    rewind(from);
+    read.at = (uint8_t *)got(read.length);
+    if (fread(read.at, 1, read.length, from) != read.length)
+        exit(3);
+    fclose(from);
+    return read;
+}
+
+static void write_file(const char *path, const uint8_t *at, size_t length)
+{
+    FILE *to = fopen(path, "wb");
+    if (!to || fwrite(at, 1, length, to) != length || fclose(to))
+        exit(3);
+}
+
+/* Room for so many bytes between guards, all of it filled. */
+static uint8_t *guarded(size_t room)
+{
+    uint8_t *all = (uint8_t *)got(room + 2 * GUARD);
+    memset(all, FILL, room + 2 * GUARD);
+    return all + GUARD;
+}
+
+/* Whether only the first so many bytes of the room were written. */
+static int is_untouched(const uint8_t *out, size_t written, size_t room)
+{
+    size_t i;
+    for (i = 0; i < GUARD; i++)
+        if (out[i - GUARD] != FILL)
+            return 0;
+    for (i = written; i < room + GUARD; i++)
+        if (out[i] != FILL)
+            return 0;
+    return 1;
+}
+
+static void say(int is_first, fontcut_answer answer, int is_whole)
+{
+    if (is_first)
+        printf("%" PRIu32 " %" PRIu32 " %" PRIu64 " %" PRIu64 "%s\n", answer.status, answer.detail, answer.size,
+               answer.step, is_whole ? "" : " touched");
+}
+
+static size_t ranges_of(char **words, int count, fontcut_range *ranges)
+{
+    int i;
+    for (i = 0; i < count; i++) {
+        char *rest;
+        ranges[i].first = (uint32_t)strtoul(words[i], &rest, 16);
+        ranges[i].last = (uint32_t)strtoul(rest + 1, NULL, 16);
+    }
+    return (size_t)count;
+}
+
+static size_t room_of(const char *word, uint64_t needed)
+{
+    return word[0] == '-' ? (size_t)needed : (size_t)strtoull(word, NULL, 10);
+}
+
+static void do_cut(int is_first, char **words, int count)
+{
+    fontcut_range ranges[WORDS];
+    file font = read_file(words[1]);
+    size_t given = ranges_of(words + 4, count - 4, ranges);
+    size_t room = room_of(words[3], fontcut_cut_size(font.at, font.length, ranges, given).size);
+    uint8_t *out = guarded(room);
+    fontcut_answer answer = fontcut_cut(font.at, font.length, ranges, given, out, room);
+    size_t written = answer.status ? 0 : (size_t)answer.size;
+    say(is_first, answer, is_untouched(out, written, room));
+    if (is_first)
+        write_file(words[2], out, written);
+    free(out - GUARD);
+    free(font.at);
+}
+
+static void do_join(int is_first, char **words, int count)
+{
+    static fontcut_bytes none;
+    fontcut_bytes *files = (fontcut_bytes *)got(sizeof none * (size_t)count);
+    size_t given = (size_t)count - 3, i, room;
+    uint8_t *out;
+    fontcut_answer answer;
+    for (i = 0; i < given; i++) {
+        file one = read_file(words[i + 3]);
+        files[i].at = one.at;
+        files[i].length = one.length;
+    }
+    out = guarded(0);
+    room = room_of(words[2], words[2][0] == '-' ? fontcut_join_all(files, given, out, 0).size : 0);
+    free(out - GUARD);
+    out = guarded(room);
+    answer = fontcut_join_all(files, given, out, room);
+    say(is_first, answer, is_untouched(out, answer.status ? 0 : (size_t)answer.size, room));
+    if (is_first)
+        write_file(words[1], out, answer.status ? 0 : (size_t)answer.size);
+    free(out - GUARD);
+    for (i = 0; i < given; i++)
+        free((void *)files[i].at);
+    free(files);
+}
+
+static void do_codes(int is_first, char **words)
+{
+    file font = read_file(words[1]);
+    size_t room = (size_t)strtoull(words[3], NULL, 10), i, bytes = room * sizeof(fontcut_range);
+    uint8_t *out = guarded(bytes);
+    fontcut_answer answer = fontcut_codes(font.at, font.length, (fontcut_range *)(void *)out, room);
+    size_t written = answer.status ? 0 : (size_t)answer.size;
+    say(is_first, answer, is_untouched(out, written * sizeof(fontcut_range), bytes));
+    if (is_first) {
+        FILE *to = fopen(words[2], "wb");
+        for (i = 0; to && i < written; i++) {
+            fontcut_range range;
+            memcpy(&range, out + i * sizeof range, sizeof range);
+            fprintf(to, range.first == range.last ? "U+%" PRIX32 "\n" : "U+%" PRIX32 "-%" PRIX32 "\n", range.first,
+                    range.last);
+        }
+        if (!to || fclose(to))
+            exit(3);
+    }
+    free(out - GUARD);
+    free(font.at);
+}
+
+static void do_text(int is_first, char **words)
+{
+    fontcut_answer asked, answer;
+    uint8_t *out = guarded(64);
+    asked.status = (uint32_t)strtoul(words[1], NULL, 10);
+    asked.detail = (uint32_t)strtoul(words[2], NULL, 10);
+    asked.size = strtoull(words[3], NULL, 10);
+    asked.step = strtoull(words[4], NULL, 10);
+    answer = fontcut_refusal_text(asked, out, 64);
+    say(is_first, answer, is_untouched(out, answer.status ? 0 : (size_t)answer.size, 64));
+    if (is_first)
+        printf("%.*s\n", (int)answer.size, (const char *)out);
+    free(out - GUARD);
+}
+
+static void do_line(int is_first, char **words, int count)
+{
+    fontcut_range ranges[WORDS];
+    file one, other;
+    if (!strcmp(words[0], "cut")) {
+        do_cut(is_first, words, count);
+    } else if (!strcmp(words[0], "join")) {
+        do_join(is_first, words, count);
+    } else if (!strcmp(words[0], "codes")) {
+        do_codes(is_first, words);
+    } else if (!strcmp(words[0], "text")) {
+        do_text(is_first, words);
+    } else if (!strcmp(words[0], "belongs")) {
+        one = read_file(words[1]);
+        other = read_file(words[2]);
+        say(is_first, fontcut_is_cut_of(one.at, one.length, other.at, other.length), 1);
+        free(one.at);
+        free(other.at);
+    } else {
+        one = read_file(words[1]);
+        if (!strcmp(words[0], "check"))
+            say(is_first, fontcut_check(one.at, one.length), 1);
+        else if (!strcmp(words[0], "form"))
+            say(is_first, fontcut_is_cut(one.at, one.length), 1);
+        else
+            say(is_first,
+                fontcut_cut_size(one.at, one.length, ranges, ranges_of(words + 2, count - 2, ranges)), 1);
+        free(one.at);
+    }
+}
+
+static void *do_all(void *is_first)
+{
+    char *mine = (char *)got(strlen(lines) + 1), *line, *next;
+    strcpy(mine, lines);
+    for (line = mine; *line; line = next) {
+        char *words[WORDS], *rest = line, *word;
+        int count = 0;
+        next = strchr(line, '\n');
+        next = next ? next + 1 : line + strlen(line);
+        if (*next || next[-1] == '\n')
+            next[-1] = 0;
+        while ((word = strtok_r(rest, " ", &rest)) && count < WORDS)
+            words[count++] = word;
+        if (count)
+            do_line(is_first != NULL, words, count);
+    }
+    free(mine);
+    return NULL;
+}
+
+int main(int count, char **words)
+{
+    int threads = 1 < count ? atoi(words[1]) : 1, i;
+    pthread_t others[16];
+    size_t length = 0, room = LINE, more;
+    lines = (char *)got(room + 1);
+    while ((more = fread(lines + length, 1, room - length, stdin)) > 0) {
+        length += more;
+        if (length == room) {
+            room *= 2;
+            lines = (char *)realloc(lines, room + 1);
+            if (!lines)
+                return 3;
+        }
+    }
+    lines[length] = 0;
+    for (i = 1; i < threads && i < 16; i++)
+        if (pthread_create(&others[i], NULL, do_all, NULL))
+            return 3;
+    do_all(&threads);
+    for (i = 1; i < threads && i < 16; i++)
+        pthread_join(others[i], NULL);
+    free(lines);
+    return 0;
+}

@@ -1,0 +1,120 @@
+/* Does each call of fontcut.h that asks for memory again and again, while the first, the second, .. request is refused,
+ * and prints for each call how many requests it makes. Words: a font, and a cut of it. It is linked with
+ * --wrap=malloc,--wrap=realloc. The status is 0 where each refused request was answered by FONTCUT_NO_MEMORY and left the
+ * room as it was. */
+#include "fontcut.h"
+
+#include <stdio.h>
+#include <stdlib.h>
+#include <string.h>
+
+enum { ROOM = 4 * 1024 * 1024, FILL = 0xA5, MOST = 1000 };
+
+void *__real_malloc(size_t size);
+void *__real_realloc(void *at, size_t size);
+void *__wrap_malloc(size_t size);
+void *__wrap_realloc(void *at, size_t size);
+
+/* How many requests are granted before one is refused; below 0 where none is. */
+static long left = -1;
+
+static int is_refused(void)
+{
+    return left >= 0 && left-- == 0;
+}
+
+void *__wrap_malloc(size_t size)
+{
+    return is_refused() ? NULL : __real_malloc(size);
+}
+
+void *__wrap_realloc(void *at, size_t size)
+{
+    return is_refused() ? NULL : __real_realloc(at, size);
+}
+
+static uint8_t room[ROOM];
+static fontcut_bytes files[2];
+
+static const fontcut_range RANGES[] = {{0x41, 0x43}, {0x61, 0x61}, {0x100, 0x200}};
+
+static const char *const NAMES[] = {"cut_size", "cut", "is_cut", "is_cut_of", "join_all", "codes", "refusal_text"};
+
+static fontcut_answer do_call(int call)
+{
+    const fontcut_bytes font = files[0], cut = files[1];
+    fontcut_answer told = {FONTCUT_BAD_GLYPH, 7, 0, 0};
+    fontcut_bytes cuts[2];
+    cuts[0] = cuts[1] = cut;
+    switch (call) {
+    case 0:
+        return fontcut_cut_size(font.at, font.length, RANGES, 3);
+    case 1:
+        return fontcut_cut(font.at, font.length, RANGES, 3, room, ROOM);
+    case 2:
+        return fontcut_is_cut(cut.at, cut.length);
+    case 3:
+        return fontcut_is_cut_of(cut.at, cut.length, font.at, font.length);
+    case 4:
+        return fontcut_join_all(cuts, 2, room, ROOM);
+    case 5:
+        return fontcut_codes(font.at, font.length, (fontcut_range *)(void *)room, ROOM / sizeof(fontcut_range));
+    default:
+        return fontcut_refusal_text(told, room, ROOM);
+    }
+}
+
+static fontcut_bytes read_file(const char *path)
+{
+    fontcut_bytes read = {NULL, 0};
+    FILE *from = fopen(path, "rb");
+    uint8_t *at;
+    if (!from || fseek(from, 0, SEEK_END))
+        exit(3);
+    read.length = (size_t)ftell(from);
+    rewind(from);
+    at = (uint8_t *)malloc(read.length);
+    if (!at || fread(at, 1, read.length, from) != read.length)
+        exit(3);
+    fclose(from);
+    read.at = at;
+    return read;
+}
+
+static int is_untouched(void)
+{
+    size_t i;
+    for (i = 0; i < ROOM; i++)
+        if (room[i] != FILL)
+            return 0;
+    return 1;
+}
+
+int main(int count, char **words)
+{
+    int call, status = count == 3 ? 0 : 2;
+    long request;
+    if (status)
+        return status;
+    files[0] = read_file(words[1]);
+    files[1] = read_file(words[2]);
+    for (call = 0; call < (int)(sizeof NAMES / sizeof *NAMES); call++) {
+        for (request = 0; request < MOST; request++) {
+            fontcut_answer answer;
+            memset(room, FILL, ROOM);
+            left = request;
+            answer = do_call(call);
+            left = -1;
+            if (answer.status == FONTCUT_DONE)
+                break;
+            if (answer.status != FONTCUT_NO_MEMORY || !is_untouched()) {
+                printf("%s: request %ld refused: status %u\n", NAMES[call], request, (unsigned)answer.status);
+                status = 1;
+            }
+        }
+        printf("%s %ld\n", NAMES[call], request);
+    }
+    free((void *)files[0].at);
+    free((void *)files[1].at);
+    return status;
+}
