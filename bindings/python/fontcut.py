@@ -8,6 +8,7 @@
 A font is anything that has bytes: `bytes`, `bytearray`, a `memoryview`, an `mmap`. The characters are a `str`, or code
 points and ranges of them, both ends included: `[0x20, (0x41, 0x5A)]`, `range(0x41, 0x5B)`. Glyphs keep their numbers.
 A font, or a list of cuts, that is refused raises `Refused`, which carries the number, the text and what it is about.
+Where the library is refused memory a call raises `MemoryError`.
 
 The library is found as `libfontcut.so.0`, where the system looks for libraries, or where the variable FONTCUT_LIBRARY
 says. All calls are safe on all bytes, keep nothing, and let other threads run while they work.
@@ -24,7 +25,7 @@ __all__ = ["Form", "Range", "Refused", "check", "codes", "cut", "cut_size", "for
 Bytes = Union[bytes, bytearray, memoryview]
 Codes = Union[str, Iterable[Union[int, Tuple[int, int]]]]
 
-_BAD_RANGE, _NO_MEMORY, _TOO_LARGE, _SMALL_ROOM = 15, 16, 18, 100
+_NO_MEMORY, _TOO_LARGE, _NOTHING_TO_JOIN, _SMALL_ROOM = 16, 18, 24, 100
 _OF_TAGS, _OF_NUMBERS = (5, 6, 7, 21), (12, 15, 17, 22, 23)
 _LAST_CODE = 0x10FFFF
 
@@ -127,7 +128,7 @@ def _done(answer: _Answer, several: bool = False) -> _Answer:
         argument = answer.detail
     elif answer.status == _TOO_LARGE:
         argument = answer.size
-    file = answer.step if several and answer.status != 24 else None
+    file = answer.step if several and answer.status != _NOTHING_TO_JOIN else None
     raise Refused(answer.status, _text(answer), argument, file)
 
 
