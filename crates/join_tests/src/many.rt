@@ -20,22 +20,30 @@ fn at(step: usize, error: JoinError) -> Option<JoinAllError> {
 }
 
 #[test]
-fn refusals_of_many(rt: HostRuntime) -> Result<(), Fail> {
-    let alloc = rt.alloc();
-    let nothing = Some(JoinAllError::NothingToJoin);
-    assert_eq!(rt; refusal_of_all(alloc, &[]), nothing);
-    let lone = at(0, JoinError::NotACut(Which::First));
-    assert_eq!(rt; refusal_of_all(alloc, &[&BASE6]), lone);
-    let second = at(1, JoinError::NotACut(Which::Second));
-    assert_eq!(rt; refusal_of_all(alloc, &[&AACUTE, &BASE6]), second);
+fn refusals_of_many(rt: HostRuntime) {
+    let second = [AACUTE.as_slice(), &BASE6];
+    let third = [AACUTE.as_slice(), &AACUTE, &[]];
     let fault = FontError::Directory(DirError::Truncated);
-    let third = at(2, JoinError::Font(Which::Second, fault));
-    assert_eq!(rt; refusal_of_all(alloc, &[&AACUTE, &AACUTE, &[]]), third);
+    for (files, refusal) in [
+        ([].as_slice(), Some(JoinAllError::NothingToJoin)),
+        (&second[1..], at(0, JoinError::NotACut(Which::First))),
+        (&second, at(1, JoinError::NotACut(Which::Second))),
+        (&third, at(2, JoinError::Font(Which::Second, fault))),
+    ] {
+        assert_eq!(rt; refusal_of_all(rt.alloc(), files), refusal);
+    }
+}
+
+// Two cuts with other outlines of a glyph, beside one that has neither.
+#[test]
+fn other_outline_in_many(rt: HostRuntime) -> Result<(), Fail> {
+    let alloc = rt.alloc();
     let a = cut_of(alloc, &BASE6, &[(0x41, 0x41)])?;
     let b = cut_of(alloc, &other_outline(alloc)?, &[(0x41, 0x41)])?;
     let other = at(2, JoinError::DifferentGlyph(1));
-    assert_eq!(rt; refusal_of_all(alloc, &[&NOTHING, &a, &b]), other);
-    assert_eq!(rt; refusal_of_all(alloc, &[&b, &NOTHING, &a]), other);
+    for files in [[NOTHING.as_slice(), &a, &b], [&b, &NOTHING, &a]] {
+        assert_eq!(rt; refusal_of_all(alloc, &files), other);
+    }
     Ok(())
 }
 

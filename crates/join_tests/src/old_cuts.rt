@@ -47,8 +47,16 @@ fn old_cut_without_outlines(rt: HostRuntime) -> Result<(), Fail> {
     let old = in_first_profile(alloc, &space)?;
     assert_eq!(rt; (space.len(), old.len()), (352, 340));
     assert!(rt; is_old_of(alloc, &old, &space));
-    let both = cut_of(alloc, &file, &[(0x20, 0x20), (0x41, 0x41)])?;
+    Ok(())
+}
+
+#[test]
+fn joins_without_outlines(rt: HostRuntime) -> Result<(), Fail> {
+    let alloc = rt.alloc();
+    let file = fonts::without_outline(alloc, 0)?;
+    let old = in_first_profile(alloc, &cut_of(alloc, &file, &[(0x20, 0x20)])?)?;
     let letter = in_first_profile(alloc, &cut_of(alloc, &file, &[(0x41, 0x41)])?)?;
+    let both = cut_of(alloc, &file, &[(0x20, 0x20), (0x41, 0x41)])?;
     assert_eq!(rt; both.len(), 376);
     assert!(rt; is_join(alloc, &old, &letter, &both));
     assert!(rt; is_join(alloc, &letter, &old, &both));

@@ -253,6 +253,26 @@ fn runs_of_mapping(rt: HostRuntime) -> Result<(), Fail> {
 // All codes of the tables and sets of these tests are below.
 const STOP: u32 = 0x200;
 
+// The glyph of a wanted code, 0 where the code is not wanted.
+fn wanted_glyph<A: Allocator>(mapping: &Mapping<'_>, wanted: &Wanted<A>, code: u32) -> u16 {
+    if wanted.contains(code) {
+        mapping.glyph(code)
+    } else {
+        0
+    }
+}
+
+// Whether both ways to the run from a code on come to this one.
+fn is_run_of_both<A: Allocator>(
+    mapping: &Mapping<'_>,
+    chart: &Chart<'_>,
+    wanted: &Wanted<A>,
+    from: u32,
+    run: Option<Run>,
+) -> bool {
+    mapping.wanted_run(wanted, from) == run && chart.wanted_run(wanted, from) == run
+}
+
 // Whether the groups and runs are those that asking each code gives.
 fn are_plain_groups<A: Allocator>(
     mapping: &Mapping<'_>,
@@ -263,30 +283,26 @@ fn are_plain_groups<A: Allocator>(
     let mut last: Option<Group> = None;
     let mut from = 0;
     for code in 0..STOP {
-        let glyph = if wanted.contains(code) {
-            mapping.glyph(code)
-        } else {
-            0
-        };
-        if let Some(group) = last {
-            if goes_on(group, code, glyph) {
+        let glyph = wanted_glyph(mapping, wanted, code);
+        match last {
+            Some(group) if goes_on(group, code, glyph) => {
                 last = Some(Group {
                     last: code,
                     ..group
                 });
                 continue;
             }
-            let run = mapping.wanted_run(wanted, from);
-            let charted = chart.wanted_run(wanted, from);
-            if groups.next() != Some(group) || run != Some(group) || charted != run {
-                return false;
+            Some(_) => {
+                if groups.next() != last || !is_run_of_both(mapping, chart, wanted, from, last) {
+                    return false;
+                }
+                from = code;
             }
-            from = code;
+            None => {}
         }
         last = run_of_code(code, glyph);
     }
-    mapping.wanted_run(wanted, from) == last
-        && chart.wanted_run(wanted, from) == last
+    is_run_of_both(mapping, chart, wanted, from, last)
         && groups.next() == last
         && (last == None || groups.next() == None)
 }
