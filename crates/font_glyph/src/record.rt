@@ -22,7 +22,7 @@ impl fmt::Display for GlyphFault {
 impl Error for GlyphFault {}
 
 impl GlyphFault {
-    /// The number of the refusal, 17.
+    /// Returns the number of the refusal, 17.
     pub fn number(&self) -> u8
         ensures { result ≡ fault_number }
     {

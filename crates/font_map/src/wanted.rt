@@ -23,7 +23,7 @@ pub enum WantedError {
 }
 
 impl WantedError {
-    /// The number of the refusal, 15 or 16.
+    /// Returns the number of the refusal, 15 or 16.
     pub fn number(&self) -> u8
         ensures { result ≡ wanted_error_number self.now }
     {

@@ -19,7 +19,7 @@ pub enum WordError {
 }
 
 impl WordError {
-    /// The number of the refusal, 15 or 26.
+    /// Returns the number of the refusal, 15 or 26.
     pub fn number(&self) -> u8
         ensures { result ≡ word_error_number self.now }
     {
