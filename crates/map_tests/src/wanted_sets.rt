@@ -7,7 +7,8 @@ use sfnt_bytes::NoMemory;
 use std::alloc::{AllocError, Allocator, Global};
 use std::test::Fail;
 
-// Whether a set has exactly the codes that a list says of the codes from 0 on, and none behind them.
+// Returns whether a set has exactly the codes that a list says of the codes from 0 on, and none behind
+// them.
 fn has_codes<A: Allocator>(wanted: &Wanted<A>, codes: &[bool]) -> bool {
     let mut code = 0u32;
     for has in codes {
@@ -253,7 +254,7 @@ fn runs_of_mapping(rt: HostRuntime) -> Result<(), Fail> {
 // All codes of the tables and sets of these tests are below.
 const STOP: u32 = 0x200;
 
-// Whether the groups and runs are those that asking each code gives.
+// Returns whether the groups and runs are those that asking each code gives.
 fn are_plain_groups<A: Allocator>(
     mapping: &Mapping<'_>,
     chart: &Chart<'_>,

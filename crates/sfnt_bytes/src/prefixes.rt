@@ -75,8 +75,8 @@ impl<'a> Model for Prefixes<'a> {
 }
 
 impl<'a> Prefixes<'a> {
-    // The bytes of a file from one place on. It pays where the tables that begin at this place of a
-    // word lie over each other so much that they have many times the bytes of the file.
+    // Returns the bytes of a file from one place on. It pays where the tables that begin at this place
+    // of a word lie over each other so much that they have many times the bytes of the file.
     fn of(file: &'a [u8], place: usize) -> Prefixes<'a>
         requires records { HasRecords file.now }
         requires place { place < 4 }
