@@ -1,5 +1,5 @@
-//! The arguments of each command, what `demo`, `check`, `show`, `codes`, `belongs` and help print, and outputs
-//! that are full.
+//! The arguments of each command, what `demo`, `check`, `show`, `codes`, `belongs` and help print, and
+//! outputs that are full.
 use crate::lines::{answers, line_of, run, system_of};
 use font_cut::Outlet;
 use program::{Reason, run_words};
