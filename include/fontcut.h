@@ -1,15 +1,21 @@
 /* fontcut.h: cuts of OpenType fonts with TrueType outlines for wanted characters, and joins of cuts, in memory.
  *
- * Every call is proved to be safe on all bytes and to return. It reads the areas that it is given, writes to the room
- * that it is given, and keeps nothing. It asks for memory of malloc and gives all of it back. Calls may run in as many
- * threads as wanted: there is no state.
+ * Every call is proved to be safe on all bytes and to return. It reads the areas that it is given, writes to
+ * the room that it is given, and keeps nothing. It asks for memory of malloc and gives all of it back. Calls may
+ * run in as many threads as wanted: there is no state.
  *
- * What the caller owes: each pointer is not NULL, where its length is 0 too, and is aligned for its type; the area that
- * it leads to can be read, or written, for its whole length; no room overlaps another area of the same call; and no
+ * What the caller owes: each pointer is not NULL, where its length is 0 too, and is aligned for its type; all of
+ * the area that it leads to can be read, or written; no room overlaps another area of the same call; and no
  * length is 2^63 bytes or more.
  *
- * A room that is written to holds the whole answer at its front, and the rest of it is as it was. Where the status is
- * not FONTCUT_DONE all of it is as it was, where memory is refused too. */
+ * A room that is written to holds all of the answer at its front, and the rest of it is as it was. Where the
+ * status is not FONTCUT_DONE all of it is as it was, where memory is refused too.
+ *
+ * The cut of a font for Latin text, where `room` bytes at `out` are enough for it:
+ *
+ *     fontcut_range latin[] = {{0x20, 0x7E}, {0xA0, 0xFF}};
+ *     fontcut_answer cut = fontcut_cut(font, font_length, latin, 2, out, room);
+ *     if (cut.status == FONTCUT_DONE) fwrite(out, 1, cut.size, stdout); */
 #ifndef FONTCUT_H
 #define FONTCUT_H
 
@@ -20,8 +26,8 @@
 extern "C" {
 #endif
 
-/* The codes from `first` to `last`, both of them included. A range is bad where `first` lies above `last`, or `last`
- * above 0x10FFFF. Ranges may overlap and come in any order; they are added fastest in ascending order. */
+/* The codes from `first` to `last`, both of them included. A range is bad where `first` lies above `last`, or
+ * `last` above 0x10FFFF. Ranges may overlap and come in any order; they are added fastest in ascending order. */
 typedef struct fontcut_range {
     uint32_t first;
     uint32_t last;
@@ -38,12 +44,12 @@ typedef struct fontcut_answer {
     uint32_t status; /* a fontcut_status */
     uint32_t detail; /* what a refusal or an answer is about, as each status and each call says */
     uint64_t size;   /* how much was written, or would have to be, in bytes or ranges */
-    uint64_t step;   /* the index of the file that is refused, where there are several */
+    uint64_t step;   /* of several files the index, from 0, of the one that is refused */
 } fontcut_answer;
 
 /* The numbers of the refusals are those that the program `fontcut` prints. A file is refused by the first that
- * applies, in the order of their numbers, but for FONTCUT_BAD_GLYPH, which comes after FONTCUT_BAD_CMAP. A tag is the
- * number of its four bytes, the first one highest: 0x676C7966 is `glyf`. */
+ * applies, in the order of their numbers, but for FONTCUT_BAD_GLYPH, which comes after FONTCUT_BAD_CMAP. A tag is
+ * the number of its four bytes, the first one highest: 0x676C7966 is `glyf`. */
 typedef enum fontcut_status {
     FONTCUT_DONE = 0,
     FONTCUT_FILE_TOO_LARGE = 1,      /* the file has more than 134,217,728 bytes */
@@ -79,40 +85,41 @@ typedef enum fontcut_form {
     FONTCUT_OLD_CUT = 2      /* as the first profile of the format had it; a join takes it */
 } fontcut_form;
 
-/* Whether a file is accepted as a font. Statuses: 0 to 14, 17. It asks for no memory. */
+/* Tells whether a file is accepted as a font. Statuses: 0 to 14, 17. It asks for no memory. */
 fontcut_answer fontcut_check(const uint8_t *font, size_t font_length);
 
-/* The size in bytes of the cut of a font for the codes of the ranges. No cut is made. Statuses: those of fontcut_check,
- * then 15, 16 and 18. */
+/* Tells the size in bytes of the cut of a font for the codes of the ranges. No cut is made. Statuses: those of
+ * fontcut_check, then 15, 16 and 18. */
 fontcut_answer fontcut_cut_size(const uint8_t *font, size_t font_length, const fontcut_range *ranges,
                                 size_t range_count);
 
-/* Writes the cut of a font for the codes of the ranges to the front of `out`, straight, with nothing in between; size:
- * its bytes. A cut of a font is seldom longer than the font, so a room of the font's length and some more mostly does.
- * Statuses: those of fontcut_check, then 15, 16, 18 and 100. */
+/* Writes the cut of a font for the codes of the ranges to the front of `out`, straight, with nothing in between;
+ * size: its bytes. A cut of a font is seldom longer than the font, so a room of the font's length and some more
+ * mostly does. Statuses: those of fontcut_check, then 15, 16, 18 and 100. */
 fontcut_answer fontcut_cut(const uint8_t *font, size_t font_length, const fontcut_range *ranges, size_t range_count,
                            uint8_t *out, size_t room);
 
-/* Whether a font is a cut, and in which form; detail: a fontcut_form. Statuses: those of fontcut_check, 16. */
+/* Tells whether a font is a cut, and in which form; detail: a fontcut_form. Statuses: those of fontcut_check, 16. */
 fontcut_answer fontcut_is_cut(const uint8_t *font, size_t font_length);
 
-/* Whether the first file is a cut of the second one for some codes, in either form; detail: 1 or 0. Statuses: those of
- * fontcut_check, of the first file with step 0, and then of the second one with step 1; 16. */
+/* Tells whether the first file is a cut of the second one for some codes, in either form; detail: 1 or 0.
+ * Statuses: those of fontcut_check, of the first file with step 0, and then of the second one with step 1; 16. */
 fontcut_answer fontcut_is_cut_of(const uint8_t *cut, size_t cut_length, const uint8_t *font, size_t font_length);
 
-/* Writes the join of all files, cuts of one font, to the front of `out`: that font's cut for all their codes; size: its
- * bytes. Files in either form may come, in any order, and what is written is of today. Statuses: 24; of the first file
- * that is refused, with its index as step, those of fontcut_check, 20, 21 to 23 where it differs from the join of the
- * files before it, and 18 where the join with it is too large; 16; 100. */
+/* Writes the join of all files, cuts of one font, to the front of `out`: that font's cut for all their codes;
+ * size: its bytes. Files in either form may come, in any order, and what is written is of today. Statuses: 24; of
+ * the first file that is refused, with its index as step, those of fontcut_check, 20, 21 to 23 where it differs
+ * from the join of the files before it, and 18 where the join with it is too large; 16, with the index of the file
+ * that was being joined as step; 100. */
 fontcut_answer fontcut_join_all(const fontcut_bytes *files, size_t file_count, uint8_t *out, size_t room);
 
-/* Writes the codes that a font maps to the front of `out`, as the least number of ranges, in ascending order; size: how
- * many ranges they are. `room` is in ranges. Statuses: those of fontcut_check, 16, 100. */
+/* Writes the codes that a font maps to the front of `out`, as the least number of ranges, in ascending order;
+ * size: how many ranges they are. `room` is in ranges. Statuses: those of fontcut_check, 16, 100. */
 fontcut_answer fontcut_codes(const uint8_t *font, size_t font_length, fontcut_range *out, size_t room);
 
-/* Writes the text of a refusal that a call has answered to the front of `out`, as `fontcut` prints it: in UTF-8, with no
- * zero byte at its end; size: its bytes. It is never longer than 64 bytes. For an answer that is no refusal nothing is
- * written, and size is 0. Statuses: 0, 16, 100. */
+/* Writes the text of a refusal that a call has answered to the front of `out`, as `fontcut` prints it: in UTF-8,
+ * with no zero byte at its end; size: its bytes. It is never longer than 64 bytes. For an answer that is no
+ * refusal nothing is written, and size is 0. Statuses: 0, 16, 100. */
 fontcut_answer fontcut_refusal_text(fontcut_answer answer, uint8_t *out, size_t room);
 
 #ifdef __cplusplus

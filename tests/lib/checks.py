@@ -26,9 +26,10 @@ FONTS = {
         LiberationSerif-Bold LiberationSerif-BoldItalic LiberationSerif-Italic LiberationSerif-Regular"""),
 }
 
-# Prints by fontTools what `show` prints of each font: its numbers, the subtable that its mapping is read from, how many
-# codes that maps, and the tags and lengths of its tables in order of tag, which is that of the records in
-# these fonts; fontTools has them by their offsets. At last whether it can be a cut, which has two records.
+# Prints by fontTools what `show` prints of each font: its numbers, the subtable that its mapping is read
+# from, how many codes that maps, and the tags and lengths of its tables in order of tag, which is that of the
+# records in these fonts; fontTools has them by their offsets. At last whether it can be a cut, which has two
+# records.
 SHOWN = """
 import json, sys
 from fontTools.ttLib import TTFont

@@ -78,20 +78,20 @@ pub enum LineError {
     NoMemory,
     /// It asks for help or the version, which is this text.
     Help(String),
-    /// Its words are at fault, as this text says.
+    /// It is at fault, as this text says.
     Words(String),
     /// Standard input is named more than once.
     InputTwice,
 }
 
-// A subcommand over one font.
+// Returns a subcommand over one font.
 fn over_font<'a>(alloc: Global, name: &'a str, about: &'a str) -> Result<Command<'a>, AllocError> {
     Command::new(alloc, name)
         .about(about)
         .arg(Arg::new(alloc, "FONT").required(true))
 }
 
-// An option that takes one value and is used as often as wanted.
+// Returns an option that takes one value and is used as often as wanted.
 fn repeated<'a>(alloc: Global, long: &'a str, value: &'a str, help: &'a str) -> Arg<'a> {
     Arg::new(alloc, long)
         .long(long)
@@ -100,7 +100,7 @@ fn repeated<'a>(alloc: Global, long: &'a str, value: &'a str, help: &'a str) -> 
         .help(help)
 }
 
-// An option that takes no value.
+// Returns an option that takes no value.
 fn flag<'a>(alloc: Global, long: &'a str, help: &'a str) -> Arg<'a> {
     Arg::new(alloc, long)
         .long(long)
@@ -166,7 +166,7 @@ fn command<'a>(alloc: Global) -> Result<Command<'a>, AllocError> {
         .subcommand(demo.after_help(texts::AFTER_DEMO))
 }
 
-// The text of a fault of the words, which `clap` also makes of a call for help or the version.
+// Returns what an error of `clap` comes to, by which it also answers a call for help or the version.
 fn explained(alloc: Global, fault: &Error) -> LineError {
     if fault.kind() == ErrorKind::OutOfMemory {
         return LineError::NoMemory;
@@ -178,7 +178,7 @@ fn explained(alloc: Global, fault: &Error) -> LineError {
     }
 }
 
-// The values of an argument, in the order of the line.
+// Returns the values of an argument, in the order of the line.
 fn values_of<'a>(
     alloc: Global,
     matches: &ArgMatches<'a>,
@@ -252,12 +252,12 @@ fn parse_line<'a>(alloc: Global, words: &'a [String]) -> Result<Option<Line<'a>>
     }
 }
 
-// How many of some paths stand for standard input.
+// Returns how many of some paths stand for standard input.
 fn standard_count(paths: &[&str]) -> usize {
     paths.iter().filter(|path| **path == STANDARD).count()
 }
 
-// Whether a task reads standard input more than once.
+// Returns whether a task reads standard input more than once.
 fn reads_input_twice(task: &Task<'_>) -> bool {
     let count = match task {
         Task::Subset(line) => standard_count(&[line.font])
@@ -270,7 +270,7 @@ fn reads_input_twice(task: &Task<'_>) -> bool {
     1 < count
 }
 
-/// Reads the words of a line, the program's own name not among them.
+/// Reads the arguments of a line, the program's own name not among them.
 ///
 /// # Errors
 /// `Help` and `Words` with the text of `clap`; `InputTwice` where standard input is named more than once

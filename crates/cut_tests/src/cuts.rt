@@ -9,7 +9,7 @@ use sfnt_bytes::{BASE6, Directory};
 use std::alloc::Global;
 use std::test::Fail;
 
-// Whether the cut of a file for the codes in these ranges is the stated file.
+// Returns whether the cut of a file for the codes in these ranges is the stated file.
 fn is_cut_of(
     alloc: Global,
     file: &[u8],
@@ -20,8 +20,8 @@ fn is_cut_of(
     Ok(made.as_slice() == stated)
 }
 
-// Whether the cut of a file for these codes has this size, these groups and these offsets, is accepted
-// and has no finding.
+// Returns whether the cut of a file for these codes has this size, these groups and these offsets, is
+// accepted and has no finding.
 fn is_as_listed(
     alloc: Global,
     file: &[u8],
@@ -34,7 +34,7 @@ fn is_as_listed(
     is_as_stated(alloc, &made, size, groups, loca)
 }
 
-// Whether both ways to write Base6 again give Base6.
+// Returns whether both ways to write Base6 again give Base6.
 fn is_written_again(alloc: Global) -> Result<bool, Fail> {
     let by_tables = file_of_tables(alloc, &fonts::base6_tables(alloc)?)?;
     let by_records = fonts::base6_with_records(alloc, &fonts::base6_records(alloc)?)?;
@@ -82,7 +82,7 @@ fn cut_of_a_and_b(rt: HostRuntime) -> Result<(), Fail> {
     Ok(())
 }
 
-// Whether a file has these records, and this `checksumAdjustment`.
+// Returns whether a file has these records, and this `checksumAdjustment`.
 fn has_sums(alloc: Global, file: &[u8], records: &[Entry], adjustment: u32) -> Result<bool, Fail> {
     let found: Vec<Entry> = Directory::read(file)?.records().collect(alloc)?;
     let bytes = head_of(file)?.get(8..12).ok_or("a short head")?;
@@ -206,7 +206,7 @@ const SMALL: [&str; 14] = [
     "a cut",
 ];
 
-// The font at this place of the list.
+// Returns the font at this place of the list.
 fn small_font(alloc: Global, place: usize) -> Result<Vec<u8>, Fail> {
     match place {
         1 => fonts::composite_of_composite(alloc),
@@ -235,7 +235,7 @@ fn small_fonts(alloc: Global) -> Result<Vec<(&'static str, Vec<u8>)>, Fail> {
     Ok(files)
 }
 
-// The wanted sets of these tests.
+// Returns the wanted sets of these tests.
 fn sets() -> [&'static [(u32, u32)]; 13] {
     [
         &[],
@@ -254,7 +254,7 @@ fn sets() -> [&'static [(u32, u32)]; 13] {
     ]
 }
 
-// Whether the cut for these codes, which are those of the ranges, is the plain one.
+// Returns whether the cut for these codes, which are those of the ranges, is the plain one.
 fn is_as_plain(
     alloc: Global,
     file: &[u8],

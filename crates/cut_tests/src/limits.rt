@@ -32,7 +32,7 @@ fn count_of(alloc: Global, font: &Font<'_>, range: (u32, u32)) -> Option<Counted
     })
 }
 
-// The size of the cut for the codes of a range, or its refusal.
+// Returns the size of the cut for the codes of a range, or its refusal.
 fn size_of(alloc: Global, font: &Font<'_>, range: (u32, u32)) -> Option<Result<u64, CutError>> {
     let wanted = wanted_of(alloc, &[range]).ok()?;
     match cut(alloc, font, &wanted) {

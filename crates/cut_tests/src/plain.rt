@@ -6,7 +6,7 @@ use sfnt_bytes::{Directory, KEPT};
 use std::alloc::{AllocError, Global};
 use std::test::Fail;
 
-/// The codes of a set, ascending.
+/// Returns the codes of a set, ascending.
 pub fn codes_of(alloc: Global, wanted: &Wanted<Global>) -> Result<Vec<u32>, AllocError> {
     let mut codes = Vec::new(alloc);
     for code in 0..=0x10_FFFFu32 {
@@ -66,7 +66,7 @@ fn add_code(groups: &mut Vec<[u32; 3]>, code: u32, glyph: u32) -> Result<(), All
     Ok(())
 }
 
-// The groups of startCharCode, endCharCode and startGlyphID.
+// Returns the groups of startCharCode, endCharCode and startGlyphID.
 fn groups(alloc: Global, font: &Font<'_>, codes: &[u32]) -> Result<Vec<[u32; 3]>, AllocError> {
     let mut groups = Vec::new(alloc);
     for code in codes {
@@ -123,7 +123,7 @@ fn head(alloc: Global, directory: &Directory<'_>) -> Result<Vec<u8>, Fail> {
     Ok(head)
 }
 
-// The tables that are copied, in order of tag, and no byte where a table is made anew.
+// Returns the tables that are copied, in order of tag, and no byte where a table is made anew.
 fn copied(alloc: Global, directory: &Directory<'_>) -> Result<Vec<Table>, AllocError> {
     let mut tables = Vec::new(alloc);
     for slot in 0..16 {
@@ -139,7 +139,7 @@ fn copied(alloc: Global, directory: &Directory<'_>) -> Result<Vec<Table>, AllocE
     Ok(tables)
 }
 
-/// The cut of a font for these codes, which ascend, whatever its size.
+/// Returns the cut of a font for these codes, which ascend, whatever its size.
 pub fn plain_cut(alloc: Global, font: &Font<'_>, codes: &[u32]) -> Result<Vec<u8>, Fail> {
     let directory = font.tables().directory();
     let (glyf, loca) = outlines(alloc, font, codes)?;

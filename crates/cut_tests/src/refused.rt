@@ -51,7 +51,7 @@ fn cut_into_without(
     answered(memory.has_refused(), step, is_sent && !is_broken)
 }
 
-// Whether both cuts answer refused memory so, and the one that is held makes one request more.
+// Returns whether both cuts answer refused memory so, and the one that is held makes one request more.
 fn are_refused_in_turn(alloc: Global, file: &[u8], range: (u32, u32)) -> Result<bool, Fail> {
     let font = Font::open(file)?;
     let stated = cut_of(alloc, file, &[range])?;
@@ -140,7 +140,7 @@ fn outlets_after_a_refusal(rt: HostRuntime) -> Result<(), Fail> {
     Ok(())
 }
 
-// The cut for 0x42, of this size.
+// Returns what the cut for 0x42 answers where this request is refused. It has this size.
 fn count_without(alloc: Global, k: u64, font: &Font<'_>, size: u64) -> Answer {
     let memory = Refusing::new(alloc, k);
     let Ok(wanted) = wanted_of(&memory, &[(0x42, 0x42)]) else {

@@ -97,7 +97,7 @@ impl Narrow {
         self.has_failed
     }
 
-    // How many bytes the next write takes at most.
+    // Returns how many bytes the next write takes at most.
     fn room(&self) -> usize {
         match self.failure {
             Failure::Full(room) => self.piece.min(room.saturating_sub(self.held.len())),

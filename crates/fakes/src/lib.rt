@@ -31,8 +31,8 @@ impl<A> Model for Refusing<A> {
 }
 
 impl<A> Refusing<A> {
-    /// An allocator that refuses the request of this number, the first being 1, and none where the
-    /// number is 0.
+    /// Returns an allocator that refuses the request of this number, the first being 1, and none where
+    /// the number is 0.
     pub fn new(alloc: A, refused: u64) -> Refusing<A>
         ensures { result ≡ (alloc ∷ [], refused) }
     {
@@ -43,12 +43,12 @@ impl<A> Refusing<A> {
         }
     }
 
-    /// How many requests came, the refused one among them.
+    /// Returns how many requests came, the refused one among them.
     pub fn requests(&self) -> u64 {
         self.requests.get()
     }
 
-    /// Whether the request that is refused has come.
+    /// Returns whether the request that is refused has come.
     pub fn has_refused(&self) -> bool
         ensures never { self.now.1 ≡ 0 → result ≡ false }
     {
@@ -68,7 +68,7 @@ impl<A> Refusing<A> {
         }
     }
 
-    // The allocator to which a block goes back.
+    // Returns the allocator to which a block goes back.
     fn lent(&self) -> Option<&A>
         ensures { MatchOption result (self.now.0 ≡ []) (λ alloc. self.now.0 ≡ alloc.now ∷ []) }
     {

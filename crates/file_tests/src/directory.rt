@@ -97,7 +97,7 @@ fn kept_tags(rt: HostRuntime) {
     }
 }
 
-// The table of a slot in Base6.
+// Returns the table of a slot in Base6.
 fn table_of(slot: usize) -> Option<&'static [u8]> {
     match slot {
         1 => Some(&BASE6[124..192]),

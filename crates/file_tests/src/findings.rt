@@ -138,7 +138,7 @@ fn order_of_records(rt: HostRuntime) -> Result<(), Fail> {
     Ok(())
 }
 
-// Whether a file of so many records, of rising tags and no bytes, has these findings.
+// Returns whether a file of so many records, of rising tags and no bytes, has these findings.
 fn has_findings_of_many(alloc: Global, count: u32, stated: &[Finding]) -> Result<bool, Fail> {
     let mut records = Vec::new(alloc);
     for number in 0..count.min(4096) {

@@ -25,8 +25,8 @@ pub const TAGS: [Tag; 7] = [
     Tag(*b"maxp"),
 ];
 
-/// A file with the seven records of Base6 in which the record of this tag names these bytes, which
-/// stand behind all others. Sums stay as they are.
+/// Returns a file with the seven records of Base6 in which the record of this tag names these bytes,
+/// which stand behind all others. Sums stay as they are.
 pub fn with_table(
     alloc: Global,
     file: &[u8],
@@ -48,8 +48,8 @@ pub fn with_table(
     Ok(changed)
 }
 
-/// Whether this is the first refusal that applies to a file, if any, and what the directory alone is
-/// refused for.
+/// Returns whether this is the first refusal that applies to a file, if any, and what the directory
+/// alone is refused for.
 pub fn is_refused(file: &[u8], error: Option<FontError>) -> bool {
     let of_directory = match error {
         Some(FontError::Directory(error)) => Some(error),
@@ -58,7 +58,7 @@ pub fn is_refused(file: &[u8], error: Option<FontError>) -> bool {
     Font::open(file).err() == error && Directory::read(file).err() == of_directory
 }
 
-/// Whether these are the findings of a file, in this order.
+/// Returns whether these are the findings of a file, in this order.
 pub fn has_findings(file: &[u8], stated: &[Finding]) -> bool {
     let Ok(directory) = Directory::read(file) else {
         return false;

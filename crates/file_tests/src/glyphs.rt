@@ -21,7 +21,7 @@ const GLYPHS: [Glyph; 6] = [
     (300, 0, 250, 262),
 ];
 
-// Whether a file has this form of `loca`, so many metrics, and these glyphs.
+// Returns whether a file has this form of `loca`, so many metrics, and these glyphs.
 fn has_glyphs(file: &[u8], form: LocaForm, metrics: u16, glyphs: &[Glyph]) -> Result<bool, Fail> {
     let tables = Tables::open(Directory::read(file)?)?;
     let is_stated = tables.loca_format() == form && tables.metric_count() == metrics;
@@ -38,7 +38,7 @@ fn has_glyphs(file: &[u8], form: LocaForm, metrics: u16, glyphs: &[Glyph]) -> Re
     Ok(true)
 }
 
-// Whether a file is refused for this of its tables.
+// Returns whether a file is refused for this of its tables.
 fn is_refused_for(file: &[u8], error: TableError) -> bool {
     is_refused(file, Some(FontError::Tables(error)))
 }
@@ -143,8 +143,8 @@ fn no_byte_at_the_very_end(rt: HostRuntime) -> Result<(), Fail> {
     Ok(())
 }
 
-// Whether a file has the most glyphs, the last of them with this bearing and all of `glyf`, and the one
-// before it without an outline.
+// Returns whether a file has the most glyphs, the last of them with this bearing and all of `glyf`, and
+// the one before it without an outline.
 fn has_most_glyphs(file: &[u8], bearing: i16) -> Result<bool, Fail> {
     let tables = Tables::open(Directory::read(file)?)?;
     Ok(

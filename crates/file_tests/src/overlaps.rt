@@ -5,7 +5,7 @@ use sfnt_bytes::{Directory, Entry, Finding, Tag};
 use std::alloc::Global;
 use std::test::Fail;
 
-// How many tables of a file have a wrong checksum, and whether the sum of the file is wrong.
+// Returns how many tables of a file have a wrong checksum, and whether the sum of the file is wrong.
 fn wrong_sums(file: &[u8]) -> Option<(usize, bool)> {
     let (mut tables, mut is_file_wrong) = (0, false);
     for finding in Directory::read(file).ok()?.findings() {
@@ -18,18 +18,18 @@ fn wrong_sums(file: &[u8]) -> Option<(usize, bool)> {
     Some((tables, is_file_wrong))
 }
 
-// Whether the sum of a file is wrong, and none where the file is refused.
+// Returns whether the sum of a file is wrong, and none where the file is refused.
 fn is_sum_wrong(file: &[u8]) -> Option<bool> {
     Some(wrong_sums(file)?.1)
 }
 
-// A number below 65,536 that is not easily told from the one before it.
+// Returns a number below 65,536 that is not easily told from the one before it.
 fn chance(seed: &mut u32) -> u32 {
     *seed = seed.wrapping_mul(1_664_525).wrapping_add(1_013_904_223);
     *seed / 65536
 }
 
-// So many bytes, a multiple of four.
+// Returns so many bytes, a multiple of four.
 fn noise(alloc: Global, count: u32) -> Result<Vec<u8>, Fail> {
     let mut seed = count;
     let mut bytes = Vec::new(alloc);
@@ -84,7 +84,7 @@ fn make_sum_right(file: &mut Vec<u8>, place: usize) {
     put_at(file, place, &adjustment.to_be_bytes());
 }
 
-// A file of a `head` and some tables wherever chance puts them; its sum is right.
+// Returns a file of a `head` and some tables wherever chance puts them; its sum is right.
 fn scattered(alloc: Global, seed: &mut u32) -> Result<Vec<u8>, Fail> {
     let body = noise(alloc, 600)?;
     let mut records: Vec<Entry> = Vec::new(alloc);

@@ -45,7 +45,7 @@ fn prefixes_and_versions(rt: HostRuntime) {
     }
 }
 
-// Whether so many zeros are refused so.
+// Returns whether so many zeros are refused so.
 fn are_refused(alloc: Global, length: usize, error: FontError) -> bool {
     match zeros(alloc, length) {
         Ok(file) => is_refused(&file, Some(error)),
@@ -62,7 +62,7 @@ fn size_limits(rt: HostRuntime) {
     assert!(rt; is_refused(&BASE6[..427], Some(maxp)));
 }
 
-// Whether Base6 with these bytes, at most four, from a place on is refused so.
+// Returns whether Base6 with these bytes, at most four, from a place on is refused so.
 fn is_refused_with(at: usize, bytes: &[u8], error: Option<FontError>) -> bool {
     bytes.len() <= 4 && at <= 424 && is_refused(&base6_with(at, bytes), error)
 }
@@ -126,7 +126,7 @@ fn every_prefix(rt: HostRuntime) {
     assert!(rt; is_refused(&BASE6, None));
 }
 
-// What a record's byte made 0xFF leads to: its tag, its checksum, its offset, its length.
+// Returns what a record's byte made 0xFF leads to: its tag, its checksum, its offset, its length.
 fn record_refusal(tag: Tag, byte: usize) -> Option<FontError> {
     let (is_cmap, is_glyf) = (tag == Tag(*b"cmap"), tag == Tag(*b"glyf"));
     match byte {
@@ -157,7 +157,7 @@ fn one_byte_set(rt: HostRuntime) {
     }
 }
 
-// Whether Base6 with only so many bytes of the table of a record is refused so.
+// Returns whether Base6 with only so many bytes of the table of a record is refused so.
 fn is_short_refused(record: usize, length: u8, error: Option<TableError>) -> bool {
     let bytes = [0, 0, 0, length];
     record < 7 && is_refused_with(RECORDS + RECORD * record + 12, &bytes, error.map(Tables))
@@ -191,7 +191,7 @@ fn shortest_tables(rt: HostRuntime) {
     }
 }
 
-// Whether a file of these records and nothing behind them is refused so.
+// Returns whether a file of these records and nothing behind them is refused so.
 fn are_records_refused(alloc: Global, records: &[Entry], error: FontError) -> Result<bool, Fail> {
     Ok(is_refused(&file_as_stated(alloc, records, &[])?, Some(error)))
 }
@@ -230,7 +230,7 @@ fn order_of_records_refused(rt: HostRuntime) -> Result<(), Fail> {
     Ok(())
 }
 
-// Base6 in which `head` and the tables after it are empty.
+// Returns Base6 in which `head` and the tables after it are empty.
 fn with_empty_tables(alloc: Global) -> Result<Vec<u8>, Fail> {
     let mut file = BASE6.to_vec(alloc)?;
     for tag in [b"head", b"maxp", b"hhea", b"hmtx", b"loca"] {
@@ -267,7 +267,7 @@ fn order_of_refusals(rt: HostRuntime) -> Result<(), Fail> {
     Ok(())
 }
 
-// Whether Base6 with these entries in `loca` is refused so.
+// Returns whether Base6 with these entries in `loca` is refused so.
 fn is_loca_refused(
     alloc: Global,
     entries: [u16; 7],

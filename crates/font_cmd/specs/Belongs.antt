@@ -19,18 +19,20 @@ abbrev pub answer_text : Bool → List ℕ
 answer_text true = line (codes "yes")
 answer_text false = line (codes "no")
 
--- both files are accepted, and the answer says whether the first one is a cut of the second one for some codes, in some form
+-- both files are accepted, and the answer says whether the first one is a cut of the second one for some
+-- codes, in some form
 pub record Answers (cut font : List ℕ) (answer : Bool) : Type 0 where
   pub cut_accepted : font_fault cut ≡ None
   pub font_accepted : font_fault font ≡ None
   pub is : IsTrue answer ↔ IsCutForSome font cut
 
--- the first file is refused as a font, or it is accepted and the second one is refused, by the first refusal that applies
+-- the first file is refused as a font, or it is accepted and the second one is refused, by the first refusal
+-- that applies
 abbrev pub RefusesOneOf : List ℕ → List ℕ → Which → FontError → Type 0
 RefusesOneOf cut font First error = font_fault cut ≡ Some error
 RefusesOneOf cut font Second error = (font_fault cut ≡ None) × (font_fault font ≡ Some error)
 
--- why there is no answer of two files: want of memory, or one of them is refused
+-- why there is no answer of two files: memory is refused, or one of them is
 abbrev pub IsUnanswered : List ℕ → List ℕ → RunError → Type 0
 IsUnanswered cut font Memory = Unit {0}
 IsUnanswered cut font (OneOf which error) = RefusesOneOf cut font which error
@@ -44,7 +46,8 @@ got_both remaining cut font P = got remaining cut (λ x. got remaining font (λ 
 abbrev pub BrokeAfter : {R : Type 0} → (R → Option (List ℕ)) → Inlet R → Inlet R → ℕ → Type 0
 BrokeAfter remaining i j count = (inlets.inlet_broken_of j ≡ true) × inlets.Gives remaining i j count
 
--- how a run that is not done leaves the inlet of CUT, from c to d, that of FONT, from i to j, and its outlet, from o to p
+-- how a run that is not done leaves the inlet of CUT, from c to d, that of FONT, from i to j, and its outlet,
+-- from o to p
 abbrev pub BelongsStops : {R W : Type 0} (remaining : R → Option (List ℕ)) (contents : W → Option (List ℕ)) (c d i j : Inlet R) (o p : Outlet W) → RunError → Type 0
 -- nothing was sent: CUT broke, and FONT was not read, or FONT did
 BelongsStops remaining contents c d i j o p (Read count) =

@@ -37,7 +37,7 @@ abbrev pub ranges_of : List Run → List Range
 ranges_of [] = []
 ranges_of (run ∷ runs) = ranges_on (codes_of run) runs
 
--- the ranges of the mapped codes not below one
+-- the ranges of the mapped codes from a given one on
 unfoldable pub code_ranges : (ℕ → ℕ) → ℕ → List Range
 code_ranges m from = ranges_of (groups_from m from)
 
@@ -62,7 +62,8 @@ pub record IsReadBack (range : Range) : Type 0 where
   pub word : IsWord (range_word range) range.first range.last
   pub good : IsBadRange range.first range.last → ⊥
 
--- the ranges of a map ascend with a code that is not mapped between each two, have the mapped codes and no others, and are read back
+-- the ranges of a map ascend with a code that is not mapped between each two, have the mapped codes and no
+-- others, and are read back
 pub record CodesLaws (m : ℕ → ℕ) : Type 0 where
   pub separate : AreSeparate 0 (code_ranges m 0)
   pub exact : (c : ℕ) → member (code_ranges m 0) c ≡ is_mapped m c

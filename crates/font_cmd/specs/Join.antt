@@ -37,7 +37,8 @@ pub record AreGot {R : Type 0} (remaining : R → Option (List ℕ)) (list : Lis
   pub count : length files ≡ length list
   pub each : (k : ℕ) (inlet : Inlet R) → slice_get list k ≡ Some inlet → got remaining inlet (λ bytes. file_at files k ≡ bytes)
 
--- a read failed: the inlets before it were read, it is broken after so many bytes, and those behind it are as they were
+-- a read failed: the inlets before it were read, it is broken after so many bytes, and those behind it are as
+-- they were
 pub record BreaksAfter {R : Type 0} (remaining : R → Option (List ℕ)) (old new : List (Inlet R)) (count : ℕ) : Type 0 where
   pub at : ℕ
   pub unread : Inlet R

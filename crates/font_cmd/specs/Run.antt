@@ -23,7 +23,8 @@ use Rattle.font_cut.specs.Outlet as outlets
 abbrev pub got : {R : Type 0} → (R → Option (List ℕ)) → Inlet R → (List ℕ → Type 0) → Type 0
 got remaining inlet P = IfSome (remaining (inlets.reader_of inlet)) (λ bytes. P (take (MAX_FILE + 1) bytes))
 
--- how a run that is not done leaves its inlet, from i to j, and its outlet, from o to p; `serves` says of which files it sends something, `text` what it sends of them, and `refuses` when it refuses a file
+-- how a run that is not done leaves its inlet, from i to j, and its outlet, from o to p; `serves` says of
+-- which files it sends something, `text` what it sends of them, and `refuses` when it refuses a file
 abbrev pub RunStops : {R W : Type 0} (remaining : R → Option (List ℕ)) (contents : W → Option (List ℕ)) (serves : List ℕ → Type 0) (text : List ℕ → List ℕ) (refuses : RunError → Type 0) (i j : Inlet R) (o p : Outlet W) → RunError → Type 0
 -- the inlet is broken after so many bytes, and nothing was sent
 RunStops remaining contents serves text refuses i j o p (Read count) = (inlets.inlet_broken_of j ≡ true) × inlets.Gives remaining i j count × (p ≡ o)
@@ -39,14 +40,15 @@ RunStops remaining contents serves text refuses i j o p (Write count) =
     (inlets.inlet_broken_of j ≡ false) × (outlets.broken_of p ≡ true) × (outlets.written_of p ≡ count)
     × got remaining i (λ file. serves file × outlets.WentOut contents o p (take count (text file)))
 
--- how a run that reads a file and sends a text of it leaves its inlet, from i to j, and its outlet, from o to p; `serves`, `text` and `refuses` are those of `RunStops`
+-- how a run that reads a file and sends a text of it leaves its inlet, from i to j, and its outlet, from o to
+-- p; `serves`, `text` and `refuses` are those of `RunStops`
 pub record SendsText {R W T : Type 0} (remaining : R → Option (List ℕ)) (contents : W → Option (List ℕ)) (serves : List ℕ → Type 0) (text : List ℕ → List ℕ) (refuses : RunError → Type 0) (i j : Inlet R) (o p : Outlet W) (result : Result T RunError) : Type 0 where
   pub spent : inlets.inlet_fresh_of j ≡ false
   pub sent : OnOk result (got remaining i (λ file. serves file × outlets.WentOut contents o p (text file)))
   pub unbroken : OnOk result ((inlets.inlet_broken_of j ≡ false) × (outlets.broken_of p ≡ false))
   pub error : IfErr result (RunStops remaining contents serves text refuses i j o p)
 
--- each file is served
+-- every file is served
 abbrev pub AnyFile : List ℕ → Type 0
 AnyFile file = Unit {0}
 
@@ -93,7 +95,7 @@ of_cut_error cut_errors.NoMemory = Memory
 of_cut_error (cut_errors.TooLarge size) = TooLarge size
 of_cut_error (cut_errors.WriteFault count) = Write count
 
--- the error of a run whose files were not joined: each want of memory is one and the same
+-- the error of a run whose files were not joined: wherever memory is refused it is one and the same
 abbrev pub of_join_error : JoinAllError → RunError
 of_join_error (At step join_errors.NoMemory) = Memory
 of_join_error error = Join error

@@ -11,7 +11,7 @@ use font_cut::{Font, Outlet, Which, is_cut_of};
 use std::alloc::Allocator;
 use std::io::{Read, Write};
 
-// Whether a file is a cut of another. The first one is opened first.
+// Returns whether a file is a cut of another. The first one is opened first.
 fn is_cut_in<A: Allocator + Copy>(alloc: A, cut: &[u8], font: &[u8]) -> Result<bool, RunError>
     ensures { MatchResult result (Answers cut.now font.now) (IsUnanswered cut.now font.now) }
 {
@@ -26,17 +26,18 @@ fn is_cut_in<A: Allocator + Copy>(alloc: A, cut: &[u8], font: &[u8]) -> Result<b
     Ok(is_cut_of(alloc, &cut, &font)?)
 }
 
-// What is printed of an answer.
+// Returns what is printed of an answer.
 fn answer(belongs: bool) -> &'static str
     ensures { result.now ≡ answer_text belongs }
 {
     if belongs { "yes\n" } else { "no\n" }
 }
 
-/// Reads a cut and then a font to their ends, sends `yes` where the cut is one of that font for some codes,
-/// in any form, and else `no`, and answers which. No cut is built for that.
+/// Reads a cut and then a font to their ends, sends `yes` where the cut is one of that font for some
+/// codes, in any form, and else `no`, and returns which. No cut is built for that.
 ///
 /// # Errors
+///
 /// `Read` where a reader fails: its inlet is broken, and a font is not read behind a cut that was not.
 /// `Memory` where memory is refused, `OneOf` where a file is refused as a font, the cut being looked at
 /// first: then nothing was sent. `Write` where the writer fails.

@@ -53,7 +53,7 @@ impl<A: Allocator> Report<A> {
         })
     }
 
-    // Whether the file is accepted without a finding.
+    // Returns whether the file is accepted without a finding.
     fn is_clean(&self) -> bool
         ensures { IsTrue result ↔ (self.now.fault ≡ None) × (shown_findings self.now ≡ Some []) }
     {
@@ -83,12 +83,13 @@ impl<A: Allocator> fmt::Display for Report<A> {
 }
 
 /// Reads a file to its end, and sends a line for each finding, their count, and whether the file is
-/// accepted or why it is refused; of a file whose directory is refused the last line alone. Answers
+/// accepted or why it is refused; of a file whose directory is refused the last line alone. Returns
 /// whether the file is accepted and has no finding.
 ///
 /// # Errors
-/// `Read` where the reader fails, `Memory` where memory is refused: then nothing was sent. `Write`
-/// where the writer fails.
+///
+/// `Read` where the reader fails, `Memory` where memory is refused: then nothing was sent. `Write` where
+/// the writer fails.
 #[tactic(auto, using(crate::proofs::CheckLemmas::read_findings_accepted), unfolding(crate::specs::Check::check_text))]
 pub fn run_check<R: Read, W: Write, A: Allocator + Copy>(
     alloc: A,
@@ -97,7 +98,7 @@ pub fn run_check<R: Read, W: Write, A: Allocator + Copy>(
 ) -> Result<bool, RunError>
     requires inlet { inlet_fresh_of inlet.old ≡ true }
     requires outlet { fresh_of outlet.old ≡ true }
-    // A file is never refused: that is what is sent of it.
+    // `check` reports a refused file on the outlet; it is not an error of the run.
     ensures sent { SendsText R.remaining W.contents AnyFile check_text RefusesNone
         inlet.old inlet.new outlet.old outlet.new result }
     ensures answer { IfOk result (λ clean. got R.remaining inlet.old

@@ -26,7 +26,7 @@ pub enum ReadError {
 }
 
 impl ReadError {
-    /// The number of this refusal.
+    /// Returns the number of this refusal.
     pub fn number(&self) -> u8
         ensures { result ≡ read_error_number self.now }
     {
@@ -64,7 +64,7 @@ pub struct Inlet<R> {
     state: State,
 }
 
-// One read of at most `most` bytes, to the front of `piece`.
+// Reads once, at most `most` bytes, to the front of `piece`.
 fn read_piece<R: Read>(reader: &mut R, piece: &mut [u8], most: usize) -> io::Result<usize>
     requires room { 0 < most }
     requires fits { most ≤ length piece.old }
@@ -78,7 +78,7 @@ fn read_piece<R: Read>(reader: &mut R, piece: &mut [u8], most: usize) -> io::Res
 }
 
 impl<R: Read> Inlet<R> {
-    /// An inlet that was not read.
+    /// Returns an inlet that was not read.
     pub fn new(reader: R) -> Inlet<R>
         ensures fresh { inlet_fresh_of result ≡ true }
         ensures whole { inlet_broken_of result ≡ false }
@@ -90,14 +90,14 @@ impl<R: Read> Inlet<R> {
         }
     }
 
-    /// Whether `read_all` was not called.
+    /// Returns whether `read_all` was not called.
     pub fn is_fresh(&self) -> bool
         ensures { result ≡ inlet_fresh_of self.now }
     {
         matches!(self.state, State::Fresh)
     }
 
-    /// Whether `read_all` has answered `ReadFault`.
+    /// Returns whether `read_all` has answered `ReadFault`.
     pub fn is_broken(&self) -> bool
         ensures { result ≡ inlet_broken_of self.now }
     {

@@ -31,12 +31,13 @@ fn read_each<R: Read, A: Allocator + Copy>(
     Ok(files)
 }
 
-/// Reads cuts to their ends, in order, sends their join, and answers its size.
+/// Reads cuts to their ends, in order, sends their join, and returns its size in bytes.
 ///
 /// # Errors
-/// `Read` where a reader fails: its inlet is broken, and no other. `Memory` where memory is refused,
-/// and `Join` with the first step that is refused, a size that is too large among them. Nothing was
-/// sent in these cases. `Write` where the writer fails.
+///
+/// `Read` where a reader fails: its inlet is broken, and no other. `Memory` where memory is refused, and
+/// `Join` with the first step that is refused, a size that is too large among them. Nothing was sent in
+/// these cases. `Write` where the writer fails.
 pub fn run_join<R: Read, W: Write, A: Allocator + Copy>(
     alloc: A,
     inlets: &mut [Inlet<R>],

@@ -1,4 +1,4 @@
-//! The runs of `fontcut` over readers and writers: each has a contract that says what is sent and when it stops.
+//! The runs of `fontcut` over readers and writers: the contract of each says what is sent and when it stops.
 #![tactic(auto)]
 
 mod belongs;

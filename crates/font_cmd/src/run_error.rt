@@ -40,7 +40,7 @@ pub enum RunError {
 }
 
 impl RunError {
-    /// The number of the refusal.
+    /// Returns the number of the refusal.
     pub fn number(&self) -> u8
         ensures { result ≡ run_error_number self.now }
     {
@@ -111,7 +111,7 @@ impl From<CutIntoError> for RunError {
     }
 }
 
-// Each want of memory of a run is `Memory`, whatever step it comes at.
+// Where memory is refused the error of a run is `Memory`, whatever step it comes at.
 impl From<JoinAllError> for RunError {
     ghost from_gives = { λ held error. error ≡ of_join_error held };
 

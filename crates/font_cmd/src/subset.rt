@@ -12,10 +12,11 @@ use font_cut::{Font, Outlet, Wanted, cut_into};
 use std::alloc::Allocator;
 use std::io::{Read, Write};
 
-/// Reads a font to its end, sends its cut for the codes that are wanted, and answers the size of the
-/// cut.
+/// Reads a font to its end, sends its cut for the codes that are wanted, and returns the size of the cut
+/// in bytes.
 ///
 /// # Errors
+///
 /// `Read` where the reader fails, `Memory` where memory is refused, `Font` where the font is, and
 /// `TooLarge` where its cut has more bytes than a file may have: then nothing was sent. `Write` where
 /// the writer fails.

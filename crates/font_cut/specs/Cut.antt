@@ -49,19 +49,22 @@ pub record IsWritten (file bytes : List ℕ) : Type 0 where
   pub is : bytes ≡ file
   pub small : length bytes ≤ MAX_FILE
 
--- why there is no cut in memory: want of memory, or its size
+-- why there is no cut in memory: memory is refused, or the cut is too large
 abbrev pub IsCutRefusal : List ℕ → CutError → Type 0
 IsCutRefusal cut cut_errors.NoMemory = Unit {0}
 IsCutRefusal cut (cut_errors.TooLarge size) = IsTooLarge cut size
 
--- why a cut was not sent, and what was: nothing before a write failed, and else a front of it, which is not too large
+-- why a cut was not sent, and what was: nothing before a write failed, and else a front of it, which is not
+-- too large
 abbrev pub StopsCut : {W : Type 0} → (W → Option (List ℕ)) → Outlet W → Outlet W → List ℕ → CutIntoError → Type 0
 StopsCut contents old new cut into_errors.NoMemory = new ≡ old
 StopsCut contents old new cut (into_errors.TooLarge size) = (new ≡ old) × IsTooLarge cut size
 StopsCut contents old new cut (into_errors.WriteFault written) =
     (length cut ≤ MAX_FILE) × (broken_of new ≡ true) × (written ≡ written_of new) × WentOut contents old new (take written cut)
 
--- a cut is accepted, has no finding, has the font's metrics, maps the wanted codes as the font does and no others, and keeps the outlines of what their glyphs lead to, up to zeros behind them; and its cuts are the font's, for the codes in both sets
+-- a cut is accepted, has no finding, has the font's metrics, maps the wanted codes as the font does and no
+-- others, and keeps the outlines of what their glyphs lead to, up to zeros behind them; and its cuts are the
+-- font's, for the codes in both sets
 pub record IsSound (file : List ℕ) (wanted : ℕ → Bool) (made : List ℕ) : Type 0 where
   pub accepted : font_fault made ≡ None
   pub clean : findings_of made ≡ []

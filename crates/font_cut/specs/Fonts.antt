@@ -1,4 +1,4 @@
--- What the crates below say of font files, this project's own words and the standard's, passed on to those above.
+-- What the crates below say of font files, in this project's own words and the standard's, passed on.
 pub use Rattle.sfnt_bytes.specs.Directory.{dropped_of, kept_tag, table_of}
 pub use Rattle.sfnt_bytes.specs.Findings.{findings_of}
 pub use Rattle.sfnt_bytes.specs.Refusals.{directory_fault}

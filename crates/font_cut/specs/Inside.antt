@@ -29,7 +29,7 @@ use Rattle.std.specs.List.{range_with_len}
 use Rattle.std.specs.Option.{option_map}
 use Rattle.std.specs.Prelude.{◌≡◌, ◌≢◌, ℕ, ◌+◌, ◌<◌, ◌≤◌, ◌⊎◌, ◌↔◌, nat_lt, ◌&&◌, Bool, true, List, length, Option, None, Some, [], false, not, find, ◌∷◌, ◌++◌, get_or}
 
--- n glyphs from one on are marked, beside those that were
+-- the n glyphs from a given one on are marked, beside those that were
 pub record AreMarked (old new : List Bool) (low n : ℕ) : Type 0 where
   pub count : length new ≡ length old
   pub marked : (g : ℕ) → has new g ≡ true ↔ ((low ≤ g) × (g < low + n)) ⊎ (has old g ≡ true)
@@ -39,13 +39,13 @@ pub record IsSeedSet (file : List ℕ) (wanted : ℕ → Bool) (marks : List Boo
   pub count : length marks ≡ glyph_count_of file
   pub seeds : (g : ℕ) → has marks g ≡ is_seed (restricted wanted (map_of file)) g
 
--- .notdef and the glyphs of the codes below one are marked
+-- .notdef and the glyphs of the codes below a given one are marked
 pub record AreSeedsTo (m : ℕ → ℕ) (from : ℕ) (marks : List Bool) : Type 0 where
   pub zero : has marks 0 ≡ true
   pub codes : (c : ℕ) → c < from → has marks (m c) ≡ true
   pub only : (g : ℕ) → has marks g ≡ true → (g ≡ 0) ⊎ ((c : ℕ) × (m c ≡ g))
 
--- a set has the mapped codes below one, and no others
+-- a set has the mapped codes below a given one, and no others
 abbrev pub AreMappedTo : (ℕ → ℕ) → ℕ → (ℕ → Bool) → Type 0
 AreMappedTo m from w = (c : ℕ) → w c ≡ (nat_lt c from && is_mapped m c)
 
@@ -76,7 +76,8 @@ pub record IsPast (runs : List Run) (from at : ℕ) : Type 0 where
   pub within : at ≤ length runs
   pub before : (k : ℕ) → k < at → (run_at runs k).last < from
 
--- the runs before a place end below a code; another place, not before it, is behind all runs, or its run does not end below the code
+-- the runs before a place end below a code; another place, not before it, is behind all runs, or its run does
+-- not end below the code
 pub record IsBetween (runs : List Run) (from low high : ℕ) : Type 0 where
   pub past : IsPast runs from low
   pub order : low ≤ high
@@ -88,12 +89,13 @@ pub record IsPlace (runs : List Run) (from at : ℕ) : Type 0 where
   pub past : IsPast runs from at
   pub there : at < length runs → from ≤ (run_at runs at).last
 
--- a map leaves a run alone: it has no code from one on up to the end of the run, and behind it none that goes on with it
+-- a map leaves a run alone: it has no code from a given one on up to the end of the run, and behind it none
+-- that goes on with it
 pub record LeavesAlone (m : ℕ → ℕ) (from : ℕ) (run : Run) : Type 0 where
   pub none : (c : ℕ) → from ≤ c → c ≤ run.last → m c ≡ 0
   pub behind : m (run.last + 1) + run.first ≢ run.glyph + (run.last + 1)
 
--- behind a run of a list up to another place, a map has no code from one on up to behind each run
+-- behind a run of a list up to another place, a map has no code from a given one on up to behind each run
 abbrev pub IsGapBelow : List Run → ℕ → ℕ → (ℕ → ℕ) → ℕ → Type 0
 IsGapBelow runs at end m from = (k : ℕ) → at < k → k < end → (c : ℕ) → from ≤ c → c ≤ (run_at runs k).last + 1 → m c ≡ 0
 
@@ -107,7 +109,7 @@ pub record AreTaken (old now : List (Option (List ℕ))) (L : Records) (n : ℕ)
   pub below : (g : ℕ) → g < n → listed_outline now g ≡ union_of (listed_outline old) L g
   pub above : (g : ℕ) → n ≤ g → listed_outline now g ≡ listed_outline old g
 
--- why a file is no first one: want of memory, or it is no cut
+-- why a file is no first one: memory is refused, or it is no cut
 abbrev pub IsFirstRefusal : List ℕ → JoinError → Type 0
 IsFirstRefusal x NoMemory = Unit {0}
 IsFirstRefusal x error = (is_cut our_format x ≡ false) × (error ≡ NotACut First)

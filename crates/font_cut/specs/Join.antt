@@ -47,7 +47,7 @@ join_lines x y =
 unfoldable pub join_fault : List ℕ → List ℕ → Option JoinError
 join_fault x y = first_of_lines (join_lines x y)
 
--- why two accepted files are not united: want of memory, or the first refusal that applies
+-- why two accepted files are not united: memory is refused, or the first refusal that applies
 abbrev pub IsUnionRefusal : List ℕ → List ℕ → JoinError → Type 0
 IsUnionRefusal x y NoMemory = Unit {0}
 IsUnionRefusal x y error = union_fault x y ≡ Some error
@@ -57,12 +57,13 @@ pub record IsJoin (x y z : List ℕ) : Type 0 where
   pub unrefused : join_fault x y ≡ None
   pub is : z ≡ joined our_format x y
 
--- why there is no join: want of memory, which comes after the faults of both fonts, or the first refusal that applies
+-- why there is no join: memory is refused, behind the refusals of both fonts, or the first refusal that
+-- applies
 abbrev pub IsJoinRefusal : List ℕ → List ℕ → JoinError → Type 0
 IsJoinRefusal x y NoMemory = (font_fault x ≡ None) × (font_fault y ≡ None)
 IsJoinRefusal x y error = join_fault x y ≡ Some error
 
--- refused for want of memory, or for a size that is too large
+-- memory is refused, or the size is too large
 abbrev pub IsForSize : ℕ → JoinError → Type 0
 IsForSize size NoMemory = Unit {0}
 IsForSize size (TooLarge s) = (s ≡ size) × (MAX_FILE < size)

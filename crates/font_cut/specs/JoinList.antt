@@ -15,7 +15,7 @@ use Rattle.font_cut.specs.declared.join_error.JoinAllError.TheVariants.{At, Noth
 use Rattle.font_cut.specs.declared.join_error.JoinError.{JoinError}
 use Rattle.font_cut.specs.declared.join_error.JoinError.TheVariants.{DifferentGlyph, DifferentMapping, DifferentTable}
 
--- v stands after k joins in turn, the first of them being that of the first file with itself
+-- v is what k joins in turn come to, the first of them being that of the first file with itself
 abbrev pub Stands : List (List ℕ) → ℕ → List ℕ → Type 0
 Stands files zero v = v ≡ file_at files 0
 Stands files (suc k) v = (w : List ℕ) × Stands files k w × IsJoin w (file_at files k) v
@@ -32,7 +32,7 @@ abbrev pub IsAllRefusal : List (List ℕ) → JoinAllError → Type 0
 IsAllRefusal files NothingToJoin = files ≡ []
 IsAllRefusal files (At step error) = IsRefusedAt files step error
 
--- z stands after all steps, of which there is one at least
+-- z is what all steps come to, of which there is one at least
 pub record IsAllJoined (files : List (List ℕ)) (z : List ℕ) : Type 0 where
   pub some : 0 < length files
   pub stands : Stands files (length files) z
@@ -49,7 +49,7 @@ pub record AreCuts (F : List ℕ) (A : ℕ → ℕ → Bool) (files : List (List
   pub cuts : (k : ℕ) → k < length files → IsCutOf F (A k) (file_at files k)
   pub small : (k : ℕ) → k < length files → length (file_at files k) ≤ MAX_FILE
 
--- refused for want of memory, or for the size of the cut for the first sets
+-- memory is refused, or the cut for the first sets is too large
 abbrev pub IsForSizeOf : List ℕ → (ℕ → ℕ → Bool) → List (List ℕ) → JoinAllError → Type 0
 IsForSizeOf F A files NothingToJoin = files ≡ []
 IsForSizeOf F A files (At step error) = IsForSize (length (cut_of F (union_below A (suc step)))) error
@@ -78,17 +78,19 @@ pub record IsCutOff {W : Type 0} (contents : W → Option (List ℕ)) (old new :
   pub count : written ≡ written_of new
   pub front : WentOut contents old new (take written z)
 
--- why the join of a list of files was not sent, and what was: nothing before a write failed, and else a front of it
+-- why the join of a list of files was not sent, and what was: nothing before a write failed, and else a front
+-- of it
 abbrev pub StopsJoin : {W : Type 0} → (W → Option (List ℕ)) → Outlet W → Outlet W → List (List ℕ) → JoinAllIntoError → Type 0
 StopsJoin contents old new files (NotJoined error) = (new ≡ old) × IsAllRefusal files error
 StopsJoin contents old new files (WriteFault written) = (z : List ℕ) × IsAllJoined files z × IsCutOff contents old new z written
 
--- refused for want of memory, for the size of the cut for the first sets, or by a write that failed
+-- memory is refused, or the cut for the first sets is too large, or a write failed
 abbrev pub IsForSizeInto : List ℕ → (ℕ → ℕ → Bool) → List (List ℕ) → JoinAllIntoError → Type 0
 IsForSizeInto F A files (NotJoined error) = IsForSizeOf F A files error
 IsForSizeInto F A files (WriteFault written) = Unit {0}
 
--- the laws of joins of many files, over what `gives` says of an answer: that it is, or that it sent, some file
+-- the laws of joins of many files, over what `gives` says of an answer: that it is, or that it sent, some
+-- file
 
 -- cuts of one file give its cut for all their codes
 abbrev pub GivesCutOfUnion : {T E : Type 0} → List (List ℕ) → Result T E → (List ℕ → T → Type 0) → (List ℕ → (ℕ → ℕ → Bool) → List (List ℕ) → E → Type 0) → Type 0

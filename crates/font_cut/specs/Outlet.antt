@@ -30,6 +30,6 @@ pub record WentOut {W : Type 0} (contents : W → Option (List ℕ)) (old new : 
   pub appends : Appends (contents (writer_of old)) (contents (writer_of new)) bs
   pub counts : written_of new ≡ written_of old + length bs
 
--- the text of a fault
+-- the text of a write that failed
 abbrev pub write_fault_text : WriteFault → List ℕ
 write_fault_text fault = codes "write fault after " ++ decimal fault.written

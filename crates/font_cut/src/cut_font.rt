@@ -31,7 +31,7 @@ pub enum CutError {
 }
 
 impl CutError {
-    /// The number of the refusal, 16 or 18.
+    /// Returns the number of the refusal, 16 or 18.
     pub fn number(&self) -> u8
         ensures { result ≡ cut_error_number self.now }
     {
@@ -57,7 +57,7 @@ pub enum CutIntoError {
 }
 
 impl CutIntoError {
-    /// The number of the refusal, 16, 18 or 19.
+    /// Returns the number of the refusal, 16, 18 or 19.
     pub fn number(&self) -> u8
         ensures { result ≡ cut_into_error_number self.now }
     {
@@ -85,7 +85,7 @@ impl From<NoMemory> for CutIntoError {
     }
 }
 
-// The cut, or the refusal that applies.
+// Returns the cut, or the refusal that applies.
 #[tactic(auto, using(crate::proofs::CutLemmas::cut_of_is))]
 fn cut_exactly<A: Allocator + Copy>(
     alloc: A,
@@ -99,12 +99,24 @@ fn cut_exactly<A: Allocator + Copy>(
     file_in_memory(alloc, &source)
 }
 
-/// The cut of a font for the wanted codes, in one vector.
+/// Returns the cut of a font for the wanted codes, as one file in a vector of just its size. Every glyph
+/// keeps its number; `docs/FORMAT.md` has the format.
 ///
 /// # Errors
 ///
-/// `NoMemory` where memory is refused, and `TooLarge` where the cut has more than
+/// `NoMemory` where memory is refused, and `TooLarge` where the cut would have more than
 /// [`MAX_FILE`](crate::MAX_FILE) bytes.
+///
+/// # Example
+///
+/// From `cut_of` in `sample_cuts`, by which the tests of `cut_tests` make their cuts:
+///
+/// ```
+/// let font = Font::open(file)?;
+/// let wanted = wanted_of(alloc, ranges)?;
+/// let made = cut(alloc, &font, &wanted)?;
+/// Ok(made)
+/// ```
 pub fn cut<A: Allocator + Copy>(
     alloc: A,
     font: &Font<'_>,
@@ -138,14 +150,26 @@ fn cut_into_exactly<W: Write, A: Allocator + Copy>(
     send_whole(&source, out)
 }
 
-/// Sends the cut of a font for the wanted codes, and answers how many bytes it has. All memory is
-/// asked for before the first write: that for the glyphs that it keeps, and none for the cut itself.
-/// The cut is sent in short pieces, so a writer that costs something at each call should gather them.
+/// Sends the cut of a font for the wanted codes, and returns how many bytes it has. All memory is asked
+/// for before the first write: that for the glyphs that it keeps, and none for the cut itself. The cut
+/// is sent in short pieces, so a writer that costs something at each call should gather them.
 ///
 /// # Errors
 ///
 /// `NoMemory` and `TooLarge` as those of [`cut`]: nothing was sent. `WriteFault` where a write failed:
 /// the outlet is broken, and a front of the cut went out.
+///
+/// # Example
+///
+/// From the test `sends_the_cut` of `cut_tests`:
+///
+/// ```
+/// let font = Font::open(&BASE6)?;
+/// let wanted = wanted_of(rt.alloc(), &[(0xC1, 0xC1)])?;
+/// let mut outlet = Outlet::new(Vec::new(rt.alloc()));
+/// let answer = cut_into(rt.alloc(), &font, &wanted, &mut outlet);
+/// assert_eq!(rt; outlet.into_inner().as_slice(), AACUTE.as_slice());
+/// ```
 pub fn cut_into<W: Write, A: Allocator + Copy>(
     alloc: A,
     font: &Font<'_>,

@@ -28,7 +28,7 @@ pub enum CutForm {
     Current,
 }
 
-// The form of a font's file.
+// Returns the form of a font's file.
 fn form_exactly<A: Allocator + Copy>(alloc: A, font: &Font<'_>) -> Result<CutForm, NoMemory>
     ensures { IfOk result (λ form. form ≡ cut_form_of font.now) }
 {
@@ -51,12 +51,23 @@ pub fn cut_form<A: Allocator + Copy>(alloc: A, font: &Font<'_>) -> Result<CutFor
     form_exactly(alloc, font)
 }
 
-/// Whether a font's file is its own cut for all codes as it is written now. An old cut is none. No cut is
-/// built for that.
+/// Returns whether a font's file is its own cut for all codes, as it is written today. Of an old cut
+/// that is false; [`cut_form`] tells it from other files. No cut is built for that.
 ///
 /// # Errors
 ///
 /// `NoMemory` where memory is refused.
+///
+/// # Example
+///
+/// From `cut_form_of` in `join_tests`, by which its test `cut_form_of_files` asks:
+///
+/// ```
+/// match Font::open(file) {
+///     Ok(font) => is_cut(alloc, &font).ok(),
+///     Err(_) => None,
+/// }
+/// ```
 pub fn is_cut<A: Allocator + Copy>(alloc: A, font: &Font<'_>) -> Result<bool, NoMemory>
     ensures exact { IfOk result (λ b. b ≡ is_current our_format font.now) }
     ensures form { IfOk result (λ b. IsTrue b ↔ IsCurrent our_format font.now) }
@@ -66,8 +77,8 @@ pub fn is_cut<A: Allocator + Copy>(alloc: A, font: &Font<'_>) -> Result<bool, No
     Ok(matches!(form, CutForm::Current))
 }
 
-// The codes that a font maps. The runs ascend, so each is put behind the codes that are in the set, and none
-// is refused as a bad range.
+// Returns the codes that a font maps. The runs ascend, so each is put behind the codes that are in the
+// set, and none is refused as a bad range.
 fn mapped_set<A: Allocator + Copy>(alloc: A, font: &Font<'_>) -> Result<Wanted<A>, NoMemory>
     ensures { IfOk result (λ wanted. member wanted ≡ is_mapped (map_of font.now)) }
 {
@@ -83,7 +94,7 @@ fn mapped_set<A: Allocator + Copy>(alloc: A, font: &Font<'_>) -> Result<Wanted<A
     Ok(codes)
 }
 
-// The file of a font.
+// Returns the file of a font.
 fn file_of<'a>(font: &Font<'a>) -> &'a [u8]
     ensures file { result.now ≡ font.now }
     ensures small { length result.now ≤ MAX_FILE }
@@ -92,7 +103,7 @@ fn file_of<'a>(font: &Font<'a>) -> &'a [u8]
     font.tables().directory().file()
 }
 
-// Whether a file is that of a content, in whatever form.
+// Returns whether a file is that of a content, in whatever form.
 fn is_written<S: Source>(source: &S, bytes: &[u8]) -> bool
     requires { length bytes.now ≤ MAX_FILE }
     ensures { IsTrue result ↔ Writes our_format (S.content_of source.now) bytes.now }
@@ -104,7 +115,7 @@ fn is_written<S: Source>(source: &S, bytes: &[u8]) -> bool
     }
 }
 
-// Whether a font's file is the cut of another font for the codes that it maps.
+// Returns whether a font's file is the cut of another font for the codes that it maps.
 fn is_cut_for_own_codes<A: Allocator + Copy>(
     alloc: A,
     cut: &Font<'_>,
@@ -117,8 +128,8 @@ fn is_cut_for_own_codes<A: Allocator + Copy>(
     Ok(is_written(&source, file_of(cut)))
 }
 
-/// Whether the file of `cut` is a cut of `font` for some codes, in any form of a cut: then it is the cut for
-/// the codes that it maps itself. No cut is built for that.
+/// Returns whether the file of `cut` is a cut of `font` for some codes, in any form of a cut: then it is
+/// the cut for the codes that it maps itself. No cut is built for that.
 ///
 /// # Errors
 ///

@@ -26,7 +26,7 @@ pub(crate) const CURRENT: Profile = Profile::Second;
 
 const OLD: Profile = Profile::First;
 
-// Measures a content. Refused with the length of its file, where that is too large.
+// Measures a content, or returns the length of its file as an error where that is too large.
 fn measure<S: Source>(source: &S) -> Result<(Plan, u64), u64>
     ensures { MatchResult result (IsMeasured (S.content_of source.now))
         (IsTooLarge (file current_form (S.content_of source.now))) }
@@ -38,7 +38,7 @@ fn measure<S: Source>(source: &S) -> Result<(Plan, u64), u64>
     Ok((plan_of(source, CURRENT, size), size.bytes))
 }
 
-/// The file of a content in one vector, for which memory is asked once, when its size is known.
+/// Returns the file of a content in one vector, for which memory is asked once, when its size is known.
 pub(crate) fn file_in_memory<S: Source, A: Allocator + Copy>(
     alloc: A,
     source: &S,
@@ -57,7 +57,7 @@ pub(crate) fn file_in_memory<S: Source, A: Allocator + Copy>(
     }
 }
 
-/// Sends the file of a content, and answers its length. It asks for no memory.
+/// Sends the file of a content, and returns its length. It asks for no memory.
 pub(crate) fn send_whole<S: Source, W: Write>(
     source: &S,
     out: &mut Outlet<W>,
@@ -82,8 +82,8 @@ pub(crate) fn send_whole<S: Source, W: Write>(
     Ok(size)
 }
 
-// Whether a file is that of a content in a profile, in which that has so many bytes. A file of another
-// length is not compared.
+// Returns whether a file is that of a content in a profile, in which that has so many bytes. A file of
+// another length is not compared.
 fn is_whole<S: Source>(source: &S, profile: Profile, size: Size, bytes: &[u8]) -> bool
     requires size { IsSize (form_of profile) (S.content_of source.now) size }
     requires small { length bytes.now ≤ MAX_FILE }
@@ -96,8 +96,8 @@ fn is_whole<S: Source>(source: &S, profile: Profile, size: Size, bytes: &[u8]) -
     is_file_of(source, &plan, bytes)
 }
 
-/// In which form a file is that of a content, if in any. The content is counted once, and its files differ
-/// in size, so the file is compared with one of them at most. It asks for no memory.
+/// Returns in which form a file is that of a content, if in any. The content is counted once, and its
+/// files differ in size, so the file is compared with one of them at most. It asks for no memory.
 pub(crate) fn form_among<S: Source>(source: &S, bytes: &[u8]) -> CutForm
     requires { length bytes.now ≤ MAX_FILE }
     ensures { IsFileIn (S.content_of source.now) bytes.now result }

@@ -27,8 +27,8 @@ impl fmt::Display for Which {
     }
 }
 
-/// Why two files are not joined: the first refusal that applies, in this order, where want of memory
-/// may come at any time after the faults of both fonts.
+/// Why two files are not joined: the first refusal that applies, in this order. Memory may be refused at
+/// any time behind the refusals of both fonts.
 #[derive(Clone, Copy, Debug, PartialEq, Eq, Error)]
 pub enum JoinError {
     /// One file is no font that is accepted.
@@ -55,7 +55,7 @@ pub enum JoinError {
 }
 
 impl JoinError {
-    /// The number of the refusal: that of the font's fault, 20 to 23, 18 or 16.
+    /// Returns the number of the refusal: that of the font's refusal, 20 to 23, 18 or 16.
     pub fn number(&self) -> u8
         ensures { result ≡ join_error_number self.now }
     {
@@ -77,14 +77,14 @@ pub enum JoinAllError {
     /// The list is empty.
     #[error("nothing to join")]
     NothingToJoin,
-    /// The join of what stood before with this file was refused. Step 0 joins the first file with
-    /// itself.
+    /// The join of all files before this one with this one was refused. `step` is its index in the list;
+    /// step 0 joins the first file with itself.
     #[error("{error}")]
     At { step: usize, error: JoinError },
 }
 
 impl JoinAllError {
-    /// The number of the refusal: 24, or that of the join.
+    /// Returns the number of the refusal: 24, or that of the join.
     pub fn number(&self) -> u8
         ensures { result ≡ join_all_error_number self.now }
     {
@@ -107,7 +107,7 @@ pub enum JoinAllIntoError {
 }
 
 impl JoinAllIntoError {
-    /// The number of the refusal: that of the join, or 19.
+    /// Returns the number of the refusal: that of the join, or 19.
     pub fn number(&self) -> u8
         ensures { result ≡ join_all_into_error_number self.now }
     {

@@ -62,7 +62,7 @@ fn open_first<F: InMemory>(files: &[F]) -> Result<Font<'_>, JoinAllError>
     }
 }
 
-// The union, or its size where that is too large.
+// Returns the union, or its size as an error where that is too large.
 fn sized<'f, 'a, A: Allocator + Copy>(
     union: Union<'f, 'a, A>,
 ) -> Result<Union<'f, 'a, A>, JoinError>
@@ -76,7 +76,7 @@ fn sized<'f, 'a, A: Allocator + Copy>(
     }
 }
 
-// The first file joined with itself, which writes it anew.
+// Returns the first file joined with itself, which writes it anew.
 fn first_of<'f, 'a, A: Allocator + Copy>(
     alloc: A,
     font: &'f Font<'a>,
@@ -91,7 +91,7 @@ fn first_of<'f, 'a, A: Allocator + Copy>(
     }
 }
 
-// What stands, joined with the next file.
+// Returns the join of the files so far with the next file.
 fn joined_with<'f, 'a, A: Allocator + Copy>(
     alloc: A,
     all: Union<'f, 'a, A>,
@@ -110,7 +110,7 @@ fn joined_with<'f, 'a, A: Allocator + Copy>(
     }
 }
 
-// The union of all files, of which the first is open, or the first refusal.
+// Returns the union of all files, of which the first is open, or the first refusal.
 fn union_in_turn<'f, 'a, A: Allocator + Copy, F: InMemory>(
     alloc: A,
     first: &'f Font<'a>,
@@ -133,7 +133,7 @@ fn union_in_turn<'f, 'a, A: Allocator + Copy, F: InMemory>(
     Ok(all)
 }
 
-// The same, in a form that is quick to write.
+// Returns the same in a form that is quick to write.
 fn union_of_all<'f, 'a, A: Allocator + Copy, F: InMemory>(
     alloc: A,
     first: &'f Font<'a>,
@@ -156,7 +156,7 @@ fn union_of_all<'f, 'a, A: Allocator + Copy, F: InMemory>(
     }
 }
 
-// The join of all files, or the first refusal.
+// Returns the join of all files, or the first refusal.
 fn join_in_turn<A: Allocator + Copy>(
     alloc: A,
     files: &[Vec<u8, A>],
@@ -181,14 +181,26 @@ fn join_in_turn<A: Allocator + Copy>(
     }
 }
 
-/// The first file joined with itself, and then what stands with each next file in turn. Cuts of one
-/// font give its cut for the codes of all of them, in whatever order and in whichever forms they come,
-/// and each tree of joins over the same files gives the same file. The first step writes an old file
-/// anew, so it is refused where that is too large.
+/// Returns the first file joined with itself, and then the join so far with each next file in turn. Cuts
+/// of one font give its cut for the codes of all of them, in whatever order and in whichever forms they
+/// come. Each tree of joins over the same files gives the same file, written anew where it is an old
+/// one. The first step writes an old file anew, so it is refused where that is too large.
 ///
 /// # Errors
 ///
 /// `NothingToJoin` for an empty list, and else the first step that is refused.
+///
+/// # Example
+///
+/// From `is_join_of` in `join_tests`, by which its test `order_and_grouping` joins three cuts in each
+/// order:
+///
+/// ```
+/// match join_all(alloc, &copied) {
+///     Ok(file) => file.as_slice() == stated,
+///     Err(_) => false,
+/// }
+/// ```
 pub fn join_all<A: Allocator + Copy>(
     alloc: A,
     files: &[Vec<u8, A>],
@@ -223,8 +235,9 @@ pub fn open_first_file<'a>(files: &'a [&'a [u8]]) -> Result<Font<'a>, JoinAllErr
     open_first(files)
 }
 
-/// The union of a list of files, of which the first is open: what [`join_all`] makes its file of, so that the
-/// join can be measured, and then sent to any sink. All memory that the join needs is asked for here.
+/// Returns the union of a list of files, of which the first is open: what [`join_all`] makes its file
+/// of, so that the join can be measured, and then sent to any sink. All memory that the join needs is
+/// asked for here.
 ///
 /// # Errors
 ///
@@ -242,7 +255,7 @@ pub fn union_of_files<'f, 'a, A: Allocator + Copy>(
     union_of_all(alloc, first, files)
 }
 
-// Sends the join of all files, or answers the first refusal.
+// Sends the join of all files, or returns the first refusal.
 fn send_in_turn<A: Allocator + Copy, W: Write>(
     alloc: A,
     files: &[Vec<u8, A>],
@@ -270,14 +283,15 @@ fn send_in_turn<A: Allocator + Copy, W: Write>(
     }
 }
 
-/// Sends the join of a list of files, and answers how many bytes it has. All memory is asked for before
-/// the first write: a mark and a place for each glyph, and the groups of the union, but none for the join
-/// itself. It is sent in short pieces, so a writer that costs something at each call should gather them.
+/// Sends the join of a list of files, and returns how many bytes it has. All memory is asked for before
+/// the first write: a mark and a place for each glyph, and the groups of the union, but none for the
+/// join itself. It is sent in short pieces, so a writer that costs something at each call should gather
+/// them.
 ///
 /// # Errors
 ///
-/// `NotJoined` with the refusal of [`join_all`]: nothing was sent. `WriteFault` where a write failed: the
-/// outlet is broken, and a front of the join went out.
+/// `NotJoined` with the refusal of [`join_all`]: nothing was sent. `WriteFault` where a write failed:
+/// the outlet is broken, and a front of the join went out.
 pub fn join_all_into<A: Allocator + Copy, W: Write>(
     alloc: A,
     files: &[Vec<u8, A>],

@@ -14,7 +14,7 @@ use crate::join_source::Joined;
 use font_file::Font;
 use std::alloc::Allocator;
 
-// The join, or the refusal that applies.
+// Returns the join, or the refusal that applies.
 #[tactic(auto, using(crate::proofs::JoinLemmas::first_refused, crate::proofs::JoinLemmas::second_refused, crate::proofs::JoinLemmas::union_refused, crate::proofs::JoinLemmas::is_join, crate::proofs::JoinLemmas::is_too_large))]
 fn join_exactly<A: Allocator + Copy>(alloc: A, x: &[u8], y: &[u8]) -> Result<Vec<u8, A>, JoinError>
     ensures { MatchResult result (λ z. IsJoin x.now y.now z.items) (IsJoinRefusal x.now y.now) }
@@ -38,13 +38,25 @@ fn join_exactly<A: Allocator + Copy>(alloc: A, x: &[u8], y: &[u8]) -> Result<Vec
     }
 }
 
-/// The join of two files in cut form, each as it is written now or as the first profile had it: the file
-/// that has the tables of both, and the codes and the outlines of each, as it is written now. Cuts of one
-/// font give its cut for the codes of both. An old file joined with itself is that file written anew.
+/// Returns the join of two files in cut form, each as it is written today or as the first profile had
+/// it: the file that has the tables of both, and the codes and the outlines of each, as it is written
+/// today. Cuts of one font give its cut for the codes of both. An old file joined with itself is that
+/// file written anew.
 ///
 /// # Errors
 ///
-/// The first [`JoinError`] that applies.
+/// The first [`JoinError`] that applies, in the order of its variants.
+///
+/// # Example
+///
+/// From the test `empty_glyf` of `join_tests`, in which `space` and `letter` are cuts of one font:
+///
+/// ```
+/// let space = cut_of(alloc, &file, &[(0x20, 0x20)])?;
+/// let letter = cut_of(alloc, &file, &[(0x41, 0x41)])?;
+/// assert_eq!(rt; letter.len(), 364);
+/// assert_eq!(rt; join(alloc, &space, &letter)?.len(), 376);
+/// ```
 pub fn join<A: Allocator + Copy>(alloc: A, x: &[u8], y: &[u8]) -> Result<Vec<u8, A>, JoinError>
     ensures exact { MatchResult result (λ z. IsJoin x.now y.now z.items) (IsJoinRefusal x.now y.now) }
     ensures cuts { (F : List ℕ) (A B : ℕ → Bool) → font_fault F ≡ None → IsCutOf F A x.now →

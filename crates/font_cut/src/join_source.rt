@@ -36,13 +36,13 @@ impl<'a, A: Allocator> Model for Joined<'a, A> {
 }
 
 impl<'a, A: Allocator + Copy> Joined<'a, A> {
-    /// The union of two fonts in cut form, each current or old. All memory that a join needs before its
-    /// file is made is asked for here.
+    /// Returns the union of two fonts in cut form, each current or old. All memory that a join needs
+    /// before its file is made is asked for here.
     ///
     /// # Errors
     ///
-    /// `NoMemory` where memory is refused, and else the first of `NotACut`, of the first font and
-    /// then of the second, `DifferentTable`, `DifferentMapping` and `DifferentGlyph` that applies.
+    /// `NoMemory` where memory is refused, and else the first of `NotACut`, of the first font and then
+    /// of the second, `DifferentTable`, `DifferentMapping` and `DifferentGlyph` that applies.
     pub fn new(alloc: A, x: &'a Font<'a>, y: &'a Font<'a>) -> Result<Joined<'a, A>, JoinError>
         ensures { MatchResult result (λ joined. (joined ≡ (x.entry.now, y.entry.now))
             × (union_fault x.entry.now y.entry.now ≡ None)) (IsUnionRefusal x.entry.now y.entry.now) }

@@ -15,7 +15,7 @@ pub struct WriteFault {
 }
 
 impl WriteFault {
-    /// The number of this refusal.
+    /// Returns the number of this refusal.
     pub fn number(&self) -> u8
         ensures { result ≡ 19 }
     {
@@ -43,7 +43,7 @@ pub struct Outlet<W> {
 }
 
 impl<W: Write> Outlet<W> {
-    /// An outlet that has sent nothing.
+    /// Returns an outlet that has sent nothing.
     pub fn new(writer: W) -> Outlet<W>
         ensures fresh { fresh_of result ≡ true }
         ensures writer { writer_of result ≡ writer }
@@ -56,21 +56,21 @@ impl<W: Write> Outlet<W> {
         }
     }
 
-    /// The number of bytes that the writer took.
+    /// Returns the number of bytes that the writer took.
     pub fn written(&self) -> u64
         ensures { result ≡ written_of self.now }
     {
         self.written
     }
 
-    /// Whether a call has answered `WriteFault`.
+    /// Returns whether a call has answered `WriteFault`.
     pub fn is_broken(&self) -> bool
         ensures { result ≡ broken_of self.now }
     {
         self.broken
     }
 
-    /// Whether nothing was sent, and nothing has failed.
+    /// Returns whether nothing was sent, and nothing has failed.
     pub fn is_fresh(&self) -> bool
         ensures { result ≡ fresh_of self.now }
     {
@@ -138,7 +138,7 @@ impl<W: Write> Outlet<W> {
         }
     }
 
-    /// The writer as it stands.
+    /// Returns the writer as it stands, without a flush.
     pub fn into_inner(self) -> W
         ensures { result ≡ writer_of self }
     {

@@ -34,7 +34,7 @@ impl<'a, A: Allocator> Model for Outlines<'a, A> {
 }
 
 impl<'a, A: Allocator + Copy> Outlines<'a, A> {
-    /// None, for glyphs below `count`.
+    /// Returns a list with no outline, for glyphs below `count`.
     pub(crate) fn new(alloc: A, count: u16) -> Result<Outlines<'a, A>, NoMemory>
         ensures count { IfOk result (λ outlines. length outlines ≡ count) }
         ensures none { IfOk result (λ outlines. (g : ℕ) → listed_outline outlines g ≡ None) }
@@ -45,7 +45,7 @@ impl<'a, A: Allocator + Copy> Outlines<'a, A> {
 }
 
 impl<'a, A: Allocator> Outlines<'a, A> {
-    // What was kept at the place of a glyph.
+    // Returns what is kept at the place of a glyph.
     fn kept_at(&self, g: u16) -> Option<&'a [u8]>
         requires { g < length self.now }
         ensures { option_copied result ≡ listed_outline self.now g }
@@ -53,7 +53,7 @@ impl<'a, A: Allocator> Outlines<'a, A> {
         self.outlines[g as usize]
     }
 
-    /// The outline of a glyph.
+    /// Returns the outline of a glyph, where it has one.
     pub(crate) fn at(&self, g: u16) -> Option<&'a [u8]>
         requires { g < length self.now }
         ensures outline { option_copied result ≡ listed_outline self.now g }
@@ -64,7 +64,7 @@ impl<'a, A: Allocator> Outlines<'a, A> {
         self.kept_at(g)
     }
 
-    /// The length of all outlines together.
+    /// Returns the length of all outlines together, in bytes.
     pub(crate) fn bytes(&self) -> u64
         ensures { AreCounted self.now result }
     {
@@ -82,7 +82,7 @@ impl<'a, A: Allocator> Outlines<'a, A> {
         self.bytes += outline.len() as u64;
     }
 
-    // Takes the outline of a glyph, where it has none yet. Whether it has another one.
+    // Takes the outline of a glyph, where it has none yet. Returns whether it has another one.
     fn take_one<B: Allocator>(&mut self, file: &Listed<'_, 'a, B>, g: u16) -> bool
         requires form { IsCut our_format file.now }
         requires within { g < length self.old }
@@ -103,8 +103,8 @@ impl<'a, A: Allocator> Outlines<'a, A> {
         false
     }
 
-    /// Takes the outlines of a file in cut form, of each glyph below `count` that has none yet, up to
-    /// the first glyph that has another one.
+    /// Takes the outlines of a file in cut form, of each glyph below `count` that has none yet, and
+    /// returns the first glyph that has another one. Those behind that glyph are not taken.
     pub(crate) fn take<B: Allocator>(&mut self, file: &Listed<'_, 'a, B>, count: u16) -> Option<u16>
         requires form { IsCut our_format file.now }
         requires count { length self.old ≡ count }

@@ -1,4 +1,5 @@
--- The fonts that are accepted: the refusals of a whole file, in their order, and what an accepted one means (OpenType 1.9, Organization of an OpenType Font).
+-- The fonts that are accepted, and all refusals in their order (OpenType 1.9, Organization of an OpenType
+-- Font).
 use Rattle.std.specs.Prelude.{ℕ, Bool, false, not, nat_lt, List, [], ◌∷◌, ◌++◌, find, map, Option, unwrap_or}
 use Rattle.std.specs.List.{list_all, range_with_len}
 use Rattle.std.specs.Option.{option_map, option_map_or}

@@ -14,7 +14,7 @@ use font_tables::Tables;
 use sfnt_bytes::{CMAP, Directory};
 use std::marker::Model;
 
-// Whether a record has a list of components, all of them glyphs below the count.
+// Returns whether a record has a list of components, all of them glyphs below the count.
 fn has_record(outline: &[u8], glyphs: u16) -> bool
     ensures { result ≡ is_record glyphs outline.now }
 {
@@ -29,7 +29,7 @@ fn has_bad_glyph(tables: &Tables<'_>, g: u16) -> bool
     !has_record(tables.outline(g), tables.glyph_count())
 }
 
-// The first glyph whose record is refused.
+// Returns the first glyph whose record is refused.
 #[tactic(auto, using(crate::proofs::FontLemmas::find_step))]
 fn first_bad_glyph(tables: &Tables<'_>) -> Option<u16>
     ensures { result ≡ find (is_bad_glyph tables.now) (range_with_len 0 (glyph_count_of tables.now)) }
@@ -43,7 +43,7 @@ fn first_bad_glyph(tables: &Tables<'_>) -> Option<u16>
     None
 }
 
-// The bytes of `cmap`.
+// Returns the bytes of `cmap`.
 #[tactic(auto, unfolding(crate::specs::Font::cmap_of))]
 fn cmap<'a>(directory: &Directory<'a>) -> &'a [u8]
     ensures { result.now ≡ cmap_of directory.now }
@@ -71,7 +71,24 @@ impl<'a> Model for Font<'a> {
 }
 
 impl<'a> Font<'a> {
-    /// Opens the font of a file. Refused with the first [`FontError`] that applies.
+    /// Opens the font of a file, which may be any bytes. It asks for no memory.
+    ///
+    /// # Errors
+    ///
+    /// The first [`FontError`] that applies: of the directory, of the tables that every font must have,
+    /// of the mapping, and then of the glyph records.
+    ///
+    /// # Example
+    ///
+    /// From the test `lookups_of_base6` of `file_tests`:
+    ///
+    /// ```
+    /// let font = Font::open(&BASE6)?;
+    /// assert_eq!(rt; font.tables().units_per_em(), 1000);
+    /// assert_eq!(rt; font.mapping().chosen(), (3, 1, 4));
+    /// assert_eq!(rt; font.metric(3), (500, 0));
+    /// assert_eq!(rt; font.outline(3), &BASE6[228..250]);
+    /// ```
     #[tactic(auto, using(crate::proofs::FontLemmas::font_fault_is))]
     pub fn open(file: &'a [u8]) -> Result<Font<'a>, FontError>
         ensures { MatchResult result
@@ -86,24 +103,24 @@ impl<'a> Font<'a> {
         Ok(Font { tables, mapping })
     }
 
-    /// The tables of the font.
+    /// Returns the tables of the font.
     pub fn tables(&self) -> &Tables<'a>
         ensures tables { result.now ≡ self.now }
 
-        // What opening it has shown.
+        // Keeps the fact that `Font::open` proved.
         ensures sound { font_fault self.now ≡ None }
     {
         &self.tables
     }
 
-    /// The mapping of its `cmap` to its glyphs.
+    /// Returns the mapping of its `cmap` to its glyphs.
     pub fn mapping(&self) -> &Mapping<'a>
         ensures { result.now ≡ (cmap_of self.now, glyph_count_of self.now) }
     {
         &self.mapping
     }
 
-    /// The glyph of a code, 0 where it is not mapped.
+    /// Returns the glyph of a code, 0 where it is not mapped.
     #[tactic(auto, using(crate::proofs::FontLemmas::has_glyph))]
     pub fn glyph(&self, code: u32) -> u16
         ensures glyph { result ≡ map_of self.now code }
@@ -112,7 +129,7 @@ impl<'a> Font<'a> {
         self.mapping.glyph(code)
     }
 
-    /// The advance width and the left side bearing of a glyph.
+    /// Returns the advance width and the left side bearing of a glyph, in font units.
     pub fn metric(&self, g: u16) -> (u16, i16)
         requires { g < glyph_count_of self.now }
         ensures { result ≡ metric_of self.now g }
@@ -120,18 +137,18 @@ impl<'a> Font<'a> {
         self.tables.metric(g)
     }
 
-    /// The outline of a glyph: no byte where it has none.
+    /// Returns the outline of a glyph, its bytes of `glyf`: none where it is empty.
     pub fn outline(&self, g: u16) -> &'a [u8]
         requires { g < glyph_count_of self.now }
         ensures outline { result.now ≡ outline_of self.now g }
 
-        // What opening the font has shown of it.
+        // Keeps what `Font::open` proved of the record.
         ensures record { IsRecord (glyph_count_of self.now) result.now }
     {
         self.tables.outline(g)
     }
 
-    /// The components of a glyph, in order: none of an empty or a simple one.
+    /// Returns the components of a glyph, in order: none of an empty or a simple one.
     pub fn components(&self, g: u16) -> Components<'a>
         requires { g < glyph_count_of self.now }
         ensures list { ComponentList (outline_of self.now g) result }

@@ -24,7 +24,7 @@ pub enum FontError {
 }
 
 impl FontError {
-    /// The number of the refusal: that of the error that it holds, or 17.
+    /// Returns the number of the refusal: that of the error that it holds, or 17.
     pub fn number(&self) -> u8
         ensures { result ≡ error_number self.now }
     {

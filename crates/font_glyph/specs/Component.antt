@@ -15,7 +15,8 @@ has_more flags = has_flag flags 0x0020
 abbrev pub arguments_size : ℕ → ℕ
 arguments_size flags = if has_flag flags 0x0001 then 4 else 2
 
--- the bytes of the scales: WE_HAVE_A_SCALE counts before WE_HAVE_AN_X_AND_Y_SCALE, and that before WE_HAVE_A_TWO_BY_TWO
+-- the bytes of the scales: WE_HAVE_A_SCALE counts before WE_HAVE_AN_X_AND_Y_SCALE, and that before
+-- WE_HAVE_A_TWO_BY_TWO
 abbrev pub scales_size : ℕ → ℕ
 scales_size flags = if has_flag flags 0x0008 then 2 else if has_flag flags 0x0040 then 4 else if has_flag flags 0x0080 then 8 else 0
 
@@ -27,7 +28,7 @@ component_size flags = 4 + arguments_size flags + scales_size flags
 abbrev pub first_component : List ℕ → Component
 first_component bytes = record { flags = u16_at bytes 0; glyph = u16_at bytes 2 }
 
--- the bytes begin with the component, whole
+-- the bytes begin with the component, all of which is there
 pub record StartsWith (bytes : List ℕ) (component : Component) : Type 0 where
   pub flags : component.flags ≡ u16_at bytes 0
   pub glyph : component.glyph ≡ u16_at bytes 2

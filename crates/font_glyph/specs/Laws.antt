@@ -17,7 +17,8 @@ ComponentsAreComputed = (b : List ℕ) (list : List Component) → components_of
 abbrev pub BytesBehindRecord : Type 0
 BytesBehindRecord = (b behind : List ℕ) (list : List Component) → 10 ≤ length b → ComponentList b list → ComponentList (b ++ behind) list
 
--- where the seeds and all components stay below a count, rounds over the numbers below it find what is reached
+-- where the seeds and all components stay below a count, rounds over the numbers below it find what is
+-- reached
 abbrev pub ReachedIsReach : Type 0
 ReachedIsReach = (records : ℕ → List ℕ) (seeds : ℕ → Bool) (count : ℕ) → ((g : ℕ) → seeds g ≡ true → g < count)
     → ((s g : ℕ) → s < count → IsComponentOf (records s) g → g < count) → (g : ℕ) → reached records seeds count g ≡ true ↔ Reach records seeds g

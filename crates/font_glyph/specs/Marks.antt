@@ -5,6 +5,6 @@ use Rattle.std.specs.Prelude.{◌≡◌, ◌<◌, ◌≤◌, ℕ, Bool, false, L
 unfoldable pub has : List Bool → ℕ → Bool
 has marks g = slice_index_or marks g false
 
--- no glyph from one on up to a stop is marked
+-- no glyph from a given one on up to a stop is marked
 abbrev pub NoMark : List Bool → ℕ → ℕ → Type 0
 NoMark marks from stop = (g : ℕ) → from ≤ g → g < stop → has marks g ≡ false

@@ -4,7 +4,7 @@ use Rattle.std.specs.Option.{option_map, unwrap_or}
 use Rattle.font_glyph.specs.Component.{StartsWith, component_size, first_component, has_more}
 use Rattle.font_glyph.specs.declared.component.Component.{Component}
 
--- the bytes begin with the components, whole, of which all but the last say that another follows
+-- the bytes begin with the components, all of which are there; all but the last say that another follows
 abbrev pub Chain : List ℕ → List Component → Type 0
 Chain bytes [] = ⊥
 Chain bytes (c ∷ []) = StartsWith bytes c × (has_more c.flags ≡ false)
@@ -18,7 +18,8 @@ IsSimple b = (10 ≤ length b) × (slice_index b 0 < 0x80)
 abbrev pub IsComposite : List ℕ → Type 0
 IsComposite b = (10 ≤ length b) × (0x80 ≤ slice_index b 0)
 
--- the record b has the list of components: none where it is empty or simple, and a chain behind the header of a composite
+-- the record b has the list of components: none where it is empty or simple, and a chain behind the header of
+-- a composite
 pub data ComponentList (b : List ℕ) (list : List Component) : Type 0 where
   Empty : b ≡ [] → list ≡ [] → ComponentList b list
   Simple : IsSimple b → list ≡ [] → ComponentList b list

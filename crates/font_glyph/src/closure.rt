@@ -43,7 +43,7 @@ fn visit<A: Allocator>(
     Ok(())
 }
 
-// The marked glyphs, with room for all others.
+// Returns the marked glyphs, in a list that has room for all others.
 fn marked<A: Allocator>(alloc: A, marks: &Marks<A>, count: u16) -> Result<Vec<u16, A>, NoMemory>
     requires { length marks.now ≡ count }
     ensures all { IfOk result (λ work. (g : ℕ) → has marks.now g ≡ true → Contains work.items g) }
@@ -62,6 +62,10 @@ fn marked<A: Allocator>(alloc: A, marks: &Marks<A>, count: u16) -> Result<Vec<u1
 /// Marks the glyphs that chains of components reach from the seeds, and no others.
 ///
 /// Each glyph is looked at once at the most, so the time is linear in the components.
+///
+/// # Errors
+///
+/// `NoMemory` where memory is refused.
 pub fn close<O: Outlines, A: Allocator + Copy>(
     alloc: A,
     outlines: &O,

@@ -34,7 +34,7 @@ pub struct Component {
 }
 
 impl Component {
-    /// Whether another component follows.
+    /// Returns whether another component follows.
     pub(crate) fn has_more(self) -> bool
         ensures { result ≡ has_more self.flags }
     {
@@ -42,8 +42,8 @@ impl Component {
     }
 }
 
-// How many bytes a component has: flags, glyph, arguments and scales. Of several flags for scales
-// the first counts.
+// Returns how many bytes a component has: flags, glyph, arguments and scales. Of several flags for
+// scales the first counts.
 #[tactic(auto, unfolding(crate::specs::Component::component_size))]
 fn size_of_component(flags: u16) -> usize
     ensures { result ≡ component_size flags }
@@ -65,7 +65,7 @@ fn size_of_component(flags: u16) -> usize
     4 + arguments + scales
 }
 
-/// The component that the bytes begin with, where it is whole, and what follows it.
+/// Returns the component that the bytes begin with, where all of it is there, and what follows it.
 pub(crate) fn split_component(b: &[u8]) -> Option<(Component, &[u8])>
     ensures none { IfNone result ((component : Component) → StartsWith b.now component → ⊥) }
     ensures first { IfSome result (λ split. StartsWith b.now split.0) }
@@ -103,7 +103,8 @@ impl<'a> Model for Components<'a> {
 }
 
 impl<'a> Components<'a> {
-    /// The components of a record that [`check_record`](crate::check_record) accepts.
+    /// Returns the components of a record that [`check_record`](crate::check_record) accepts, in order.
+    /// OpenType 1.9, glyf, Composite Glyph Description.
     #[tactic(auto, unfolding(crate::specs::Record::HasList))]
     pub fn of(b: &'a [u8]) -> Components<'a>
         requires { HasList b.now }

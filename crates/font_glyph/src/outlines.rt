@@ -10,11 +10,11 @@ pub trait Outlines {
     /// The record of each glyph.
     ghost record_at: { Self → ℕ → List ℕ };
 
-    /// How many glyphs there are.
+    /// Returns how many glyphs there are.
     fn count(&self) -> u16
         ensures { result ≡ count_of self.now };
 
-    /// The record of a glyph: it has a list of components, all of them glyphs below the count.
+    /// Returns the record of a glyph: it has a list of components, all of them glyphs below the count.
     fn record_of(&self, g: u16) -> &[u8]
         requires { g < count_of self.now }
         ensures record { result.now ≡ record_at self.now g }

@@ -22,7 +22,7 @@ impl fmt::Display for GlyphFault {
 impl Error for GlyphFault {}
 
 impl GlyphFault {
-    /// The number of the refusal, 17.
+    /// Returns the number of the refusal, 17.
     pub fn number(&self) -> u8
         ensures { result ≡ fault_number }
     {
@@ -47,8 +47,12 @@ fn check_chain(b: &[u8], glyphs: u16) -> Result<(), GlyphFault>
     Err(GlyphFault)
 }
 
-/// Checks that a record is empty, of a simple glyph, or of a composite whose components are whole,
+/// Checks that a record is empty, of a simple glyph, or of a composite whose components are all there,
 /// and that each component is a glyph below `glyphs`. What follows the last component is not read.
+///
+/// # Errors
+///
+/// [`GlyphFault`] where that is not so.
 #[tactic(auto, unfolding(crate::specs::Record::HasList, crate::specs::Record::IsRecord))]
 pub fn check_record(b: &[u8], glyphs: u16) -> Result<(), GlyphFault>
     ensures exact { IsOk result ↔ IsRecord glyphs b.now }

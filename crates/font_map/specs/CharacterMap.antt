@@ -7,7 +7,7 @@ pub record IsCharacterMap (m : ℕ → ℕ) : Type 0 where
   pub codes : (c : ℕ) → 0x110000 ≤ c → m c ≡ 0
   pub glyphs : (c : ℕ) → m c < 65536
 
--- no code from one on up to a stop is mapped
+-- no code from a given one on up to a stop is mapped
 abbrev pub IsUnmapped : (ℕ → ℕ) → ℕ → ℕ → Type 0
 IsUnmapped m from stop = (c : ℕ) → from ≤ c → c < stop → m c ≡ 0
 
@@ -35,7 +35,7 @@ AreCompatible m k = (c : ℕ) → 0 < m c → 0 < k c → m c ≡ k c
 abbrev pub is_mapped : (ℕ → ℕ) → ℕ → Bool
 is_mapped m c = nat_lt 0 (m c)
 
--- how many of the n codes from one on are mapped
+-- how many of the n codes from a given one on are mapped
 unfoldable pub mapped_among : (ℕ → ℕ) → ℕ → ℕ → ℕ
 mapped_among m from n = count_by (is_mapped m) (range_with_len from n)
 

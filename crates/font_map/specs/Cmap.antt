@@ -1,4 +1,4 @@
--- The encoding records of `cmap`, and the subtable that is chosen (OpenType 1.9, cmap, Encoding records and encodings).
+-- Encoding records, and the subtable that is chosen (OpenType 1.9, cmap, Encoding records and encodings).
 use Rattle.std.specs.Prelude.{ℕ, ◌+◌, ◌*◌, ◌%◌, nat_lt, nat_le, nat_eq, Bool, ◌&&◌, ◌||◌, List, [], ◌∷◌, length, drop, find, if◌then◌else◌, Option}
 use Rattle.std.specs.List.{range_with_len}
 use Rattle.std.specs.Option.{option_map_or}
@@ -7,7 +7,7 @@ use Rattle.sfnt_bytes.specs.Lines.{first_of_lines}
 use Rattle.font_map.specs.Format4.{segment_count}
 use Rattle.font_map.specs.Format12.{group_count}
 
--- numTables, and 0 where `cmap` has no whole header
+-- numTables, and 0 where the header of `cmap` is cut off
 unfoldable pub encoding_count : List ℕ → ℕ
 encoding_count cmap = if nat_lt (length cmap) 4 then 0 else u16_at cmap 2
 
@@ -15,7 +15,7 @@ encoding_count cmap = if nat_lt (length cmap) 4 then 0 else u16_at cmap 2
 unfoldable pub subtable_at : List ℕ → ℕ → List ℕ
 subtable_at cmap k = drop (u32_at cmap (8 + 8 * k)) cmap
 
--- record k is whole, has this platformID and encodingID, and two bytes at its offset say format 4 or 12
+-- record k is all there, has this platformID and encodingID, and two bytes at its offset say format 4 or 12
 unfoldable pub is_candidate : List ℕ → ℕ → ℕ → ℕ → Bool
 is_candidate cmap platform encoding k = let s = subtable_at cmap k in
     nat_le (12 + 8 * k) (length cmap)
@@ -34,7 +34,8 @@ chosen_record cmap = first_of_lines (candidate_of cmap 3 10 ∷ candidate_of cma
 unfoldable pub chosen_of : List ℕ → ℕ × ℕ × ℕ
 chosen_of cmap = option_map_or (λ k. (u16_at cmap (4 + 8 * k), u16_at cmap (6 + 8 * k), u16_at (subtable_at cmap k) 0)) (chosen_record cmap) (0, 0, 0)
 
--- a subtable has fewer than 16 bytes, an odd segCountX2, or segments or groups that are not all whole within `cmap`
+-- a subtable has fewer than 16 bytes, an odd segCountX2, or segments or groups that do not all lie within
+-- `cmap`
 unfoldable pub is_malformed : List ℕ → Bool
 is_malformed s =
     nat_lt (length s) 16

@@ -1,4 +1,4 @@
--- A subtable of groups, given with all bytes of `cmap` behind it (OpenType 1.9, cmap, Format 12: Segmented coverage).
+-- Groups, with all bytes of `cmap` behind them (OpenType 1.9, cmap, Format 12: Segmented coverage).
 use Rattle.std.specs.Prelude.{ℕ, ◌+◌, ◌-◌, ◌*◌, ◌<◌, ◌≤◌, Bool, ◌&&◌, nat_le, List, length, map, find, if◌then◌else◌, Option, MatchOption}
 use Rattle.std.specs.List.{range_with_len}
 use Rattle.std.specs.Option.{option_map_or}
@@ -11,7 +11,7 @@ use Rattle.font_map.specs.declared.format12.ListedGroup.{ListedGroup}
 unfoldable pub group_count : List ℕ → ℕ
 group_count s = u32_at s 12
 
--- all groups are whole within the bytes
+-- all groups lie within the bytes
 abbrev pub HasGroups : List ℕ → Type 0
 HasGroups s = 16 + 12 * group_count s ≤ length s
 
@@ -39,10 +39,11 @@ group_glyph s c = option_map_or (λ group. glyph_along group c) (find (holds c) 
 abbrev pub glyph_of_group : ListedGroup → ℕ → ℕ
 glyph_of_group group c = if holds c group then glyph_along group c else 0
 
--- a group, if any, alone decides the codes from one on up to a stop, where it ends at the latest; else none is mapped
+-- a group, if any, alone decides the codes from a given one on up to a stop, where it ends at the latest;
+-- else none is mapped
 abbrev pub Decides : List ℕ → ℕ → Option ListedGroup → ℕ → Type 0
 Decides s from found stop = MatchOption found (IsUnmapped (group_glyph s) from stop) (λ group. (group.last < stop) × AreSame (group_glyph s) (glyph_of_group group) from stop)
 
--- the groups lie strictly above one another
+-- each group lies strictly above the one before it
 abbrev pub HasOrderedGroups : List ℕ → Type 0
 HasOrderedGroups s = AreInOrder (λ group. group.first) (λ group. group.last) 0 (groups_of s)

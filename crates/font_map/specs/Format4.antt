@@ -1,4 +1,5 @@
--- A subtable of segments, given with all bytes of `cmap` behind it (OpenType 1.9, cmap, Format 4: Segment mapping to delta values).
+-- Segments, with all bytes of `cmap` behind them (OpenType 1.9, cmap, Format 4: Segment mapping to delta
+-- values).
 use Rattle.std.specs.Prelude.{ℕ, ◌+◌, ◌-◌, ◌*◌, ◌/◌, ◌%◌, ◌≤◌, Bool, nat_le, nat_lt, nat_eq, List, length, map, find, if◌then◌else◌}
 use Rattle.std.specs.List.{range_with_len}
 use Rattle.std.specs.Option.{option_map_or}
@@ -10,7 +11,7 @@ use Rattle.font_map.specs.declared.format4.Segment.{Segment}
 unfoldable pub segment_count : List ℕ → ℕ
 segment_count s = u16_at s 6 / 2
 
--- all segments are whole within the bytes
+-- all segments lie within the bytes
 abbrev pub HasSegments : List ℕ → Type 0
 HasSegments s = 16 + 8 * segment_count s ≤ length s
 
@@ -33,7 +34,7 @@ segments_of s = map (segment_in s) (range_with_len 0 (segment_count s))
 abbrev pub reaches : ℕ → Segment → Bool
 reaches c segment = nat_le c segment.last
 
--- the entry of glyphIdArray at a place, and 0 where it is not whole within `cmap`
+-- the entry of glyphIdArray at a place, and 0 where it does not lie within `cmap`
 unfoldable pub entry_or_zero : List ℕ → ℕ → ℕ
 entry_or_zero s at = if nat_le (at + 2) (length s) then u16_at s at else 0
 
@@ -46,10 +47,11 @@ glyph_by s segment c =
     else if nat_eq entry 0 then 0
     else (entry + segment.delta) % 65536
 
--- the glyph of a code by the first listed segment that ends at the code or above it; 0 where none does, and above 0xFFFF
+-- the glyph of a code by the first listed segment that ends at the code or above it; 0 where none does, and
+-- above 0xFFFF
 unfoldable pub segment_glyph : List ℕ → ℕ → ℕ
 segment_glyph s c = if nat_lt 0xFFFF c then 0 else option_map_or (λ segment. glyph_by s segment c) (find (reaches c) (segments_of s)) 0
 
--- the segments lie strictly above one another
+-- each segment lies strictly above the one before it
 abbrev pub HasOrderedSegments : List ℕ → Type 0
 HasOrderedSegments s = AreInOrder (λ segment. segment.first) (λ segment. segment.last) 0 (segments_of s)

@@ -64,18 +64,18 @@ abbrev pub with_range : Range → List Range → List Range
 with_range a [] = a ∷ []
 with_range a (b ∷ ranges) = if nat_lt (b.last + 1) a.first then b ∷ with_range a ranges else absorbed a (b ∷ ranges)
 
--- the first codes of a set from one on, in a row
+-- the first codes of a set from a given one on, in a row
 pub record IsRow (w : ℕ → Bool) (from : ℕ) (range : Range) : Type 0 where
   pub from_on : from ≤ range.first
   pub least : (c : ℕ) → from ≤ c → c < range.first → w c ≡ false
   pub order : range.first ≤ range.last
   pub all : (c : ℕ) → range.first ≤ c → c ≤ range.last → w c ≡ true
 
--- a set has no code from one on
+-- a set has no code from a given one on
 abbrev pub NoRow : (ℕ → Bool) → ℕ → Type 0
 NoRow w from = (c : ℕ) → from ≤ c → w c ≡ false
 
--- no code from one on up to a stop is free: 0xFFFF stands where a code is free
+-- no code from a given one on up to a stop is free: 0xFFFF stands where a code is free
 abbrev pub NoneFree : List ℕ → ℕ → ℕ → Type 0
 NoneFree glyphs from stop = (c : ℕ) → from ≤ c → c < stop → slice_index glyphs c ≢ 0xFFFF
 
@@ -86,7 +86,7 @@ pub record IsSkip (glyphs skip : List ℕ) : Type 0 where
   pub within : (b : ℕ) → b < 0x11001 → b + slice_index skip b < 0x11001
   pub taken : (b : ℕ) → NoneFree glyphs (16 * b) (16 * (b + slice_index skip b))
 
--- no code from one on up to another is free, and the other one is free where it is below a stop
+-- no code from a given one on up to another is free, and the other one is free where it is below a stop
 pub record IsFirstFree (glyphs : List ℕ) (from stop at : ℕ) : Type 0 where
   pub from_on : from ≤ at
   pub passed : NoneFree glyphs from at
@@ -102,7 +102,8 @@ abbrev pub subtable_glyph : Subtable → ℕ → ℕ
 subtable_glyph (Segments s) = segment_glyph s
 subtable_glyph (Groups s) = group_glyph s
 
--- what a mapping to n glyphs keeps: nothing is refused; the chosen record, which is within `cmap`, and its subtable
+-- what a mapping to n glyphs keeps: nothing is refused; the chosen record, which is within `cmap`, and its
+-- subtable
 pub record IsChosen (cmap : List ℕ) (n k : ℕ) (subtable : Subtable) : Type 0 where
   pub glyphs : n < 65536
   pub accepted : map_fault cmap ≡ None

@@ -1,4 +1,4 @@
--- Members of a list in order of their codes, and what a search for one of them finds (OpenType 1.9, cmap, formats 4 and 12).
+-- Members of a list in order of their codes, and the search for one (OpenType 1.9, cmap, formats 4 and 12).
 use Rattle.std.specs.Prelude.{ℕ, suc, ◌≤◌, List, [], ◌∷◌}
 
 -- each member has a code, and lies strictly above the one before it; the first is not below a bound

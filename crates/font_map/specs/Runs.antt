@@ -1,14 +1,14 @@
--- Runs, neighbouring codes on neighbouring glyphs, and the groups that spell a map (OpenType 1.9, cmap, Format 12: Segmented coverage).
+-- Runs of codes on glyphs, and the groups of a map (OpenType 1.9, cmap, Format 12: Segmented coverage).
 use Rattle.std.specs.Prelude.{◌≡◌, ◌≢◌, ℕ, zero, suc, ◌+◌, ◌-◌, ◌<◌, ◌≤◌, nat_le, nat_eq, ◌&&◌, List, [], ◌∷◌, Bool, if◌then◌else◌, length, Option, MatchOption}
 use Rattle.std.specs.List.{slice_get}
 use Rattle.font_map.specs.CharacterMap.{IsCharacterMap, restricted}
 use Rattle.font_map.specs.declared.runs.Run.{Run}
 
--- no code from one on is mapped
+-- no code from `from` on is mapped
 abbrev pub NoRun : (ℕ → ℕ) → ℕ → Type 0
 NoRun m from = (c : ℕ) → from ≤ c → m c ≡ 0
 
--- the least mapped code from one on, and codes after it on neighbouring glyphs
+-- the least mapped code from `from` on, and codes after it on neighbouring glyphs
 pub record IsPiece (m : ℕ → ℕ) (from : ℕ) (run : Run) : Type 0 where
   pub from_on : from ≤ run.first
   pub least : (c : ℕ) → from ≤ c → c < run.first → m c ≡ 0
@@ -41,12 +41,12 @@ with_code c (suc g) (run ∷ runs) =
     then record { first = c; last = run.last; glyph = suc g } ∷ runs
     else record { first = c; last = c; glyph = suc g } ∷ run ∷ runs
 
--- the groups of the n codes from one on
+-- the groups of the n codes from a given one on
 unfoldable pub groups_among : (ℕ → ℕ) → ℕ → ℕ → List Run
 groups_among m c zero = []
 groups_among m c (suc n) = with_code c (m c) (groups_among m (c + 1) n)
 
--- the groups of a map on the codes not below one
+-- the groups of a map on the codes from a given one on
 unfoldable pub groups_from : (ℕ → ℕ) → ℕ → List Run
 groups_from m from = groups_among m from (0x110000 - from)
 
@@ -55,7 +55,8 @@ abbrev pub spelled : List Run → ℕ → ℕ
 spelled [] c = 0
 spelled (run ∷ runs) c = if nat_le run.first c && nat_le c run.last then run.glyph + (c - run.first) else spelled runs c
 
--- each group has a code and no glyph 0, and begins above the end of the one before it; the first is not below a bound
+-- each group has a code and no glyph 0, and begins above the end of the one before it; the first is not below
+-- a bound
 abbrev pub AreAscending : ℕ → List Run → Type 0
 AreAscending low [] = Unit {0}
 AreAscending low (run ∷ runs) = (low ≤ run.first) × (run.first ≤ run.last) × (0 < run.glyph) × AreAscending (suc run.last) runs
@@ -76,7 +77,8 @@ pub record AreCanonical (m : ℕ → ℕ) (runs : List Run) : Type 0 where
   pub exact : (c : ℕ) → spelled runs c ≡ m c
   pub apart : AreApart runs
 
--- each map has canonical groups, no others, and they are its runs one after the other; likewise on the codes not below one
+-- each map has canonical groups, no others, and they are its runs one after the other; likewise on the codes
+-- from a given one on
 pub record CanonicalGroups (m : ℕ → ℕ) : Type 0 where
   pub there : AreCanonical m (groups_from m 0)
   pub alone : (runs : List Run) → AreCanonical m runs → runs ≡ groups_from m 0
@@ -90,7 +92,8 @@ FewestGroups =
     (wanted : ℕ → Bool) (m : ℕ → ℕ) (runs : List Run) → IsCharacterMap m → AreAscending 0 runs → ((c : ℕ) → spelled runs c ≡ restricted wanted m c)
     → length (groups_from (restricted wanted m) 0) ≤ length runs
 
--- the run from a code on is the first of the canonical groups of the map on the codes from there on, and there is none where these are none
+-- the run from a code on is the first of the canonical groups of the map on the codes from there on, and
+-- there is none where these are none
 abbrev pub RunIsFirstGroup : Type 0
 RunIsFirstGroup =
     (m : ℕ → ℕ) (from : ℕ) (found : Option Run) (groups : List Run) → IsCharacterMap m → MatchOption found (NoRun m from) (IsRun m from)

@@ -1,4 +1,4 @@
--- Sets of codes, this project's own: functions from a code to whether it is in the set, and sorted ranges that hold them.
+-- Sets of codes, this project's own: whether a code is in a set, and the sorted ranges that hold it.
 use Rattle.std.specs.Prelude.{ℕ, ◌+◌, ◌<◌, ◌≤◌, ◌⊎◌, nat_le, Bool, false, ◌&&◌, ◌||◌, List, [], ◌∷◌}
 use Rattle.font_map.specs.declared.ranges.Range.{Range}
 

@@ -40,8 +40,11 @@ impl<'a, A: Allocator> Model for Chart<'a, A> {
 }
 
 impl<'a, A: Allocator + Copy> Chart<'a, A> {
-    /// Makes the chart of a mapping. It asks for memory only where the subtable stands out of order, and
-    /// errors where that is refused.
+    /// Makes the chart of a mapping. It asks for memory only where the subtable stands out of order.
+    ///
+    /// # Errors
+    ///
+    /// `NoMemory` where memory is refused.
     pub fn of(alloc: A, mapping: &'a Mapping<'a>) -> Result<Chart<'a, A>, NoMemory>
         ensures { IfOk result (λ chart. chart ≡ mapping.entry.now) }
     {
@@ -86,14 +89,15 @@ impl<'a, A: Allocator> Chart<'a, A> {
             (NoRun (mapping_of self.now.0 self.now.1) from)
             (IsRun (mapping_of self.now.0 self.now.1) from) }
 
-        // What choosing the mapping has shown.
+        // Keeps the fact that `Mapping::choose` proved.
         ensures map { IsCharacterMap (mapping_of self.now.0 self.now.1) }
     {
         let _chosen = self.mapping.chosen();
         next_run(self, from)
     }
 
-    /// Returns the same over the mapped codes of a set.
+    /// Returns the run that begins at the least mapped code of a set that is not below `from`: as long
+    /// as neighbouring codes of the set lie on neighbouring glyphs.
     pub fn wanted_run<B: Allocator>(&self, wanted: &Wanted<B>, from: u32) -> Option<Run>
         ensures { MatchOption result
             (NoRun (restricted (member wanted.now) (mapping_of self.now.0 self.now.1)) from)

@@ -29,7 +29,7 @@ fn count_encodings(cmap: &[u8]) -> usize
     }
 }
 
-/// The bytes from the subtable of a record on.
+/// Returns the bytes from the subtable of a record on.
 #[tactic(auto, using(crate::proofs::ByteLemmas::drop_past, crate::proofs::ByteLemmas::drop_range), unfolding(crate::specs::Cmap::subtable_at))]
 pub(crate) fn subtable_at(cmap: &[u8], k: usize) -> &[u8]
     requires { 12 + 8 * k ≤ length cmap.now }
@@ -73,7 +73,8 @@ fn find_candidate(cmap: &[u8], platform: u16, encoding: u16) -> Option<usize>
     None
 }
 
-/// The record of the subtable that is used: the first listed of the first pair that has a candidate.
+/// Returns the index of the record whose subtable is used: the first listed of the first pair that has a
+/// candidate.
 #[tactic(auto, unfolding(crate::specs::Cmap::chosen_record))]
 pub(crate) fn choose_record(cmap: &[u8]) -> Option<usize>
     ensures value { result ≡ chosen_record cmap.now }

@@ -26,7 +26,7 @@ pub fn run_is_first_group()
     ensures { RunIsFirstGroup }
 {}
 
-/// A text is a word for one range of codes at most.
+/// A text is a range word for one range of codes at most.
 pub fn one_range_of_word()
     ensures { OneRangeOfWord }
 {}

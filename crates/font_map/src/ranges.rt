@@ -48,7 +48,7 @@ fn place_range(ranges: &[Range], code: u32) -> usize
     first_reaching(&RangeEnds { ranges }, ANYWHERE, code)
 }
 
-/// Whether a code is in one of the ranges.
+/// Returns whether a code is in one of the ranges.
 pub(crate) fn has_code(ranges: &[Range], code: u32) -> bool
     requires { AreSeparate 0 ranges.now }
     ensures { result ≡ member ranges.now code }
@@ -63,7 +63,7 @@ pub(crate) fn has_code(ranges: &[Range], code: u32) -> bool
     true
 }
 
-/// The first codes from one on that are in a range, in a row.
+/// Returns the codes, from `from` on, of the first range that ends at `from` or above it.
 pub(crate) fn row_from(ranges: &[Range], from: u32) -> Option<Range>
     requires { AreSeparate 0 ranges.now }
     ensures { MatchOption result (NoRow (member ranges.now) from) (IsRow (member ranges.now) from) }
@@ -79,7 +79,7 @@ pub(crate) fn row_from(ranges: &[Range], from: u32) -> Option<Range>
     })
 }
 
-// How many ranges end before another one, with a gap.
+// Returns how many ranges end before another one, with a gap.
 #[tactic(auto, using(crate::proofs::AddingLemmas::with_range_at))]
 fn count_before(ranges: &[Range], range: Range) -> usize
     requires { AreSeparate 0 ranges.now }
@@ -90,7 +90,8 @@ fn count_before(ranges: &[Range], range: Range) -> usize
     place_range(ranges, range.first.saturating_sub(1))
 }
 
-// A range in one with those from `i` on that it overlaps or touches, and the end of these.
+// Merges `range` with the ranges from index `i` on that overlap or touch it. Returns the union and the
+// index behind the last one merged.
 #[tactic(auto, using(crate::proofs::AddingLemmas::absorbed_on, crate::proofs::AddingLemmas::absorbed_stop, crate::proofs::AddingLemmas::absorbed_end))]
 fn absorb(ranges: &[Range], i: usize, range: Range) -> (Range, usize)
     requires { i ≤ length ranges.now }
@@ -112,7 +113,8 @@ fn absorb(ranges: &[Range], i: usize, range: Range) -> (Range, usize)
     (whole, ranges.len())
 }
 
-// Puts a range in the place of those from `i` to `j`: it asks for memory only where these are none.
+// Puts a range in the place of those from index `i` to `j`. It asks for memory only where these are
+// none.
 fn replace<A: Allocator>(
     ranges: &mut Vec<Range, A>,
     i: usize,

@@ -20,7 +20,7 @@ impl fmt::Display for MapError {
 impl Error for MapError {}
 
 impl MapError {
-    /// The number of the refusal, 13 or 14.
+    /// Returns the number of the refusal, 13 or 14.
     pub fn number(&self) -> u8
         ensures { result ≡ error_number self.now }
     {

@@ -23,7 +23,7 @@ pub enum WantedError {
 }
 
 impl WantedError {
-    /// The number of the refusal, 15 or 16.
+    /// Returns the number of the refusal, 15 or 16.
     pub fn number(&self) -> u8
         ensures { result ≡ wanted_error_number self.now }
     {
@@ -62,7 +62,7 @@ impl<A: Allocator> Model for Wanted<A> {
 }
 
 impl<A: Allocator> Wanted<A> {
-    /// No code.
+    /// Returns the empty set.
     pub fn new(alloc: A) -> Wanted<A>
         ensures { member result ≡ no_codes }
     {
@@ -71,7 +71,7 @@ impl<A: Allocator> Wanted<A> {
         }
     }
 
-    /// All code points, 0 to 0x10FFFF.
+    /// Returns the set of all code points, 0 to 0x10FFFF.
     ///
     /// # Errors
     ///
@@ -88,26 +88,37 @@ impl<A: Allocator> Wanted<A> {
         Ok(Wanted { ranges })
     }
 
-    /// Whether a code is in the set.
+    /// Returns whether a code is in the set.
     pub fn contains(&self, code: u32) -> bool
         ensures { result ≡ member self.now code }
     {
         has_code(self.ranges.as_slice(), code)
     }
 
-    /// The first codes of the set from one on, in a row.
+    /// Returns the codes, from `from` on, of the first range of the set that ends at `from` or above it.
     pub(crate) fn row_from(&self, from: u32) -> Option<Range>
         ensures { MatchOption result (NoRow (member self.now) from) (IsRow (member self.now) from) }
     {
         row_from(self.ranges.as_slice(), from)
     }
 
-    /// Adds the codes from the first to the last. A refusal leaves the set as it was.
+    /// Adds the codes from the first to the last, both included. A refusal leaves the set as it was.
     ///
     /// # Errors
     ///
     /// `BadRange` where the first code is above the last or the last above 0x10FFFF, and `NoMemory`
     /// where memory is refused.
+    ///
+    /// # Example
+    ///
+    /// From the test `bad_ranges_leave_the_set` of `map_tests`:
+    ///
+    /// ```
+    /// let mut wanted = Wanted::new(rt.alloc());
+    /// assert_eq!(rt; wanted.add(0x41, 0x42), Ok(()));
+    /// assert_eq!(rt; wanted.add(0x42, 0x41), Err(WantedError::BadRange));
+    /// assert_eq!(rt; wanted.add(0, 0x11_0000), Err(WantedError::BadRange));
+    /// ```
     #[tactic(auto, using(crate::proofs::AddingLemmas::wanted_separate))]
     pub fn add(&mut self, first: u32, last: u32) -> Result<(), WantedError>
         ensures bad_range { (result ≡ Err BadRange) ↔ IsBadRange first last }

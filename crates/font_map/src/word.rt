@@ -9,16 +9,17 @@ use thiserror::Error;
 /// Why a text names no range of codes.
 #[derive(Clone, Copy, Debug, PartialEq, Eq, Error)]
 pub enum WordError {
-    /// It is no word.
+    /// The text is no range word.
     #[error("bad word")]
     BadWord,
-    /// It is a word whose first code is above its last, or whose last code is above 0x10FFFF.
+    /// The text is a range word whose first code is above its last, or whose last code is above
+    /// 0x10FFFF.
     #[error("bad range")]
     BadRange,
 }
 
 impl WordError {
-    /// The number of the refusal, 15 or 26.
+    /// Returns the number of the refusal, 15 or 26.
     pub fn number(&self) -> u8
         ensures { result ≡ word_error_number self.now }
     {
@@ -29,7 +30,7 @@ impl WordError {
     }
 }
 
-// The code that 1 to 6 hexadecimal digits write.
+// Returns the code that 1 to 6 hexadecimal digits write.
 fn read_code(digits: &str) -> Option<u32>
     ensures { MatchOption result ((code : ℕ) → SpellsCode digits.now code → ⊥) (SpellsCode digits.now) }
 {
@@ -47,7 +48,7 @@ fn read_code(digits: &str) -> Option<u32>
     Some(code)
 }
 
-// One code, or two with `-` between.
+// Returns one code as a range, or two with `-` between.
 fn read_codes(text: &str) -> Option<(u32, u32)>
     ensures { MatchOption result ((first last : ℕ) → WritesCodes text.now first last → ⊥)
         (λ range. WritesCodes text.now range.0 range.1) }
@@ -67,13 +68,13 @@ fn read_codes(text: &str) -> Option<(u32, u32)>
     Some((first, last))
 }
 
-/// The first and the last code of a word: `all`, `U+` and 1 to 6 hexadecimal digits of either case, or
-/// `U+`, digits, `-` and digits.
+/// Returns the first and the last code of a range word: `all`, `U+` and 1 to 6 hexadecimal digits of
+/// either case, or `U+`, digits, `-` and digits.
 ///
 /// # Errors
 ///
-/// `BadWord` for any other text, and `BadRange` for a word whose first code is above its last or whose
-/// last code is above 0x10FFFF.
+/// `BadWord` for any other text, and `BadRange` for a range word whose first code is above its last or
+/// whose last code is above 0x10FFFF.
 pub fn read_word(word: &str) -> Result<(u32, u32), WordError>
     ensures { MatchResult result
         (λ range. IsWord word.now range.0 range.1 × (IsBadRange range.0 range.1 → ⊥))

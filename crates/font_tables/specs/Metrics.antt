@@ -21,7 +21,8 @@ lsb hmtx i = i16_at hmtx (4 * i + 2)
 unfoldable pub left_side_bearing : List ℕ → ℕ → ℕ → ℤ
 left_side_bearing hmtx h i = i16_at hmtx (4 * h + 2 * i)
 
--- advance and left side bearing of glyph g, where there are h pairs: past them with the advance of the last pair
+-- advance and left side bearing of glyph g, where there are h pairs: past them with the advance of the last
+-- pair
 unfoldable pub metric_in : List ℕ → ℕ → ℕ → ℕ × ℤ
 metric_in hmtx h g = if nat_lt g h then (advance_width hmtx g, lsb hmtx g)
     else (advance_width hmtx (h - 1), left_side_bearing hmtx h (g - h))

@@ -1,4 +1,4 @@
--- Why the tables of a font are refused, this project's own: the lines in their order, each with its condition.
+-- Why the tables of a font are refused, this project's own: lines in their order, each with its condition.
 use Rattle.std.specs.Prelude.{ℕ, ◌+◌, ◌-◌, ◌*◌, nat_lt, nat_eq, not, Bool, ◌&&◌, ◌||◌, List, [], ◌∷◌, length, find, Option, is_none}
 use Rattle.std.specs.List.{range_with_len}
 use Rattle.std.specs.Option.{option_map}
@@ -32,7 +32,7 @@ is_bad_hhea hhea glyphs = nat_lt (length hhea) 36 || nat_eq (number_of_h_metrics
 abbrev pub is_bad_hmtx : List ℕ → ℕ → ℕ → Bool
 is_bad_hmtx hmtx h glyphs = nat_lt (length hmtx) (4 * h + 2 * (glyphs - h))
 
--- offset j is not whole within `loca`, is above the length of `glyf`, or is below the offset before it
+-- offset j does not lie within `loca`, is above the length of `glyf`, or is below the offset before it
 unfoldable pub is_bad_offset : LocaForm → List ℕ → ℕ → ℕ → Bool
 is_bad_offset form loca glyf_length j =
     nat_lt (length loca) (offset_size form * (j + 1))
@@ -43,7 +43,8 @@ is_bad_offset form loca glyf_length j =
 abbrev pub is_bad_loca_at : List ℕ → ℕ → Bool
 is_bad_loca_at file j = is_bad_offset (loca_form_of file) (loca_of file) (length (glyf_of file)) j
 
--- the refusals, where `find` gives the least tag and the least index: there is one offset more than there are glyphs
+-- the refusals, where `find` gives the least tag and the least index: there is one offset more than there are
+-- glyphs
 abbrev pub table_lines : List ℕ → List (Option TableError)
 table_lines file =
     option_map MissingTable (find (is_missing file) required_tags)

@@ -36,7 +36,7 @@ fn read_index_to_loc_format(head: &[u8]) -> u16
     be16(head, 50)
 }
 
-/// The form of the offsets in `loca`.
+/// Returns the form of the offsets in `loca`.
 pub(crate) fn read_loca_form(head: &[u8]) -> LocaForm
     requires { 54 ≤ length head.now }
     ensures { result ≡ form_of_format (index_to_loc_format head.now) }
@@ -48,7 +48,7 @@ pub(crate) fn read_loca_form(head: &[u8]) -> LocaForm
     }
 }
 
-/// Whether the table is refused.
+/// Returns whether the table is refused.
 pub(crate) fn has_bad_head(head: &[u8]) -> bool
     ensures { result ≡ is_bad_head head.now }
 {

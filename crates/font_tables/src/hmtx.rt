@@ -44,7 +44,8 @@ fn read_left_side_bearing(hmtx: &[u8], pairs: usize, i: usize) -> i16
     read_i16(hmtx, PAIR * pairs + BEARING * i)
 }
 
-/// The advance and the left side bearing of a glyph, where there are so many pairs.
+/// Returns the advance width and the left side bearing of a glyph, in font units, where there are so
+/// many pairs.
 #[tactic(auto, unfolding(crate::specs::Metrics::metric_in))]
 pub(crate) fn read_metric(hmtx: &[u8], pairs: usize, g: usize) -> (u16, i16)
     requires { HasMetric hmtx.now pairs g }
@@ -60,7 +61,7 @@ pub(crate) fn read_metric(hmtx: &[u8], pairs: usize, g: usize) -> (u16, i16)
     }
 }
 
-/// Whether the table is refused, in a font of so many pairs and glyphs.
+/// Returns whether the table is refused, in a font of so many pairs and glyphs.
 pub(crate) fn has_bad_hmtx(hmtx: &[u8], pairs: u16, glyphs: u16) -> bool
     requires { pairs ≤ glyphs }
     ensures { result ≡ is_bad_hmtx hmtx.now pairs glyphs }

@@ -18,7 +18,7 @@ pub enum LocaForm {
 }
 
 impl LocaForm {
-    // How many bytes an offset has.
+    // Returns how many bytes an offset has.
     fn offset_size(self) -> usize
         ensures { result ≡ offset_size self }
     {
@@ -29,7 +29,7 @@ impl LocaForm {
     }
 }
 
-// The offset `j`, in bytes from the start of `glyf`.
+// Returns the offset `j`, in bytes from the start of `glyf`.
 #[tactic(auto, unfolding(crate::specs::Outlines::offset_at))]
 fn read_offset(form: LocaForm, loca: &[u8], j: usize) -> usize
     requires { offset_size form * (j + 1) ≤ length loca.now }
@@ -41,7 +41,7 @@ fn read_offset(form: LocaForm, loca: &[u8], j: usize) -> usize
     }
 }
 
-/// The outline of a glyph.
+/// Returns the outline of a glyph.
 pub(crate) fn outline_within<'a>(form: LocaForm, loca: &[u8], glyf: &'a [u8], g: usize) -> &'a [u8]
     requires { HasOutline form loca.now glyf.now g }
     ensures { result.now ≡ outline_in form loca.now glyf.now g }
@@ -63,8 +63,8 @@ fn has_bad_offset(form: LocaForm, loca: &[u8], glyf_length: usize, j: u32) -> bo
     glyf_length < offset || (j > 0 && offset < read_offset(form, loca, j - 1))
 }
 
-// Whether a short offset up to the last one falls. The loop does not end early and knows its form,
-// so that the compiler can read many offsets at once.
+// Returns whether a short offset up to the last one is below the one before it. The loop does not end
+// early and knows its form, so that the compiler can read many offsets at once.
 #[tactic(auto, using(crate::proofs::OffsetLemmas::offset_is_whole, crate::proofs::OffsetLemmas::falls_none, crate::proofs::OffsetLemmas::falls_more))]
 fn short_offset_falls(loca: &[u8], last: usize) -> bool
     requires { offset_size LocaForm.Short * (last + 1) ≤ length loca.now }
@@ -77,7 +77,7 @@ fn short_offset_falls(loca: &[u8], last: usize) -> bool
     found
 }
 
-// The same of long offsets.
+// Returns the same of long offsets.
 #[tactic(auto, using(crate::proofs::OffsetLemmas::offset_is_whole, crate::proofs::OffsetLemmas::falls_none, crate::proofs::OffsetLemmas::falls_more))]
 fn long_offset_falls(loca: &[u8], last: usize) -> bool
     requires { offset_size LocaForm.Long * (last + 1) ≤ length loca.now }
@@ -100,7 +100,7 @@ fn has_fall(form: LocaForm, loca: &[u8], last: usize) -> bool
     }
 }
 
-/// The least index of a bad offset. Where there is none, `loca` is read once.
+/// Returns the least index of a bad offset. Where there is none, `loca` is read once.
 #[tactic(auto, using(crate::proofs::OffsetLemmas::none_is_bad))]
 pub(crate) fn first_bad_offset(
     form: LocaForm,

@@ -27,7 +27,7 @@ pub(crate) fn read_num_glyphs(maxp: &[u8]) -> u16
     be16(maxp, 4)
 }
 
-/// Whether the table is refused.
+/// Returns whether the table is refused.
 pub(crate) fn has_bad_maxp(maxp: &[u8]) -> bool
     ensures { result ≡ is_bad_maxp maxp.now }
 {

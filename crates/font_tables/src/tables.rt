@@ -33,8 +33,8 @@ pub enum TableError {
     BadHhea,
     /// `hmtx` has no room for a metric of each glyph.
     BadHmtx,
-    /// The offset of this index, the least such one, is not whole within `loca`, is above the
-    /// length of `glyf`, or is below the offset before it.
+    /// The offset of this index, the least such one, does not lie within `loca`, is above the length of
+    /// `glyf`, or is below the offset before it.
     BadLoca(u32),
 }
 
@@ -46,7 +46,7 @@ fn is_without(directory: &Directory<'_>, slot: usize) -> bool
     directory.table(slot).is_none()
 }
 
-// The tag of the first of the slots that has no table.
+// Returns the tag of the first of the slots that has no table.
 #[tactic(auto, unfolding(sfnt_bytes::specs::Directory::kept_tag))]
 fn first_missing(directory: &Directory<'_>, slots: &[usize]) -> Option<Tag>
     requires { (k : ℕ) → k < length slots.now → slice_index slots.now k < 16 }
@@ -60,14 +60,14 @@ fn first_missing(directory: &Directory<'_>, slots: &[usize]) -> Option<Tag>
     None
 }
 
-// The tag of the first required table that is missing.
+// Returns the tag of the first required table that is missing.
 fn missing_table(directory: &Directory<'_>) -> Option<Tag>
     ensures { result ≡ find (is_missing directory.now) required_tags }
 {
     first_missing(directory, &[CMAP, GLYF, HEAD, HHEA, HMTX, LOCA, MAXP])
 }
 
-// The table of a slot, empty where it is missing.
+// Returns the table of a slot, empty where it is missing.
 #[tactic(auto, unfolding(crate::specs::Tables::table_or_empty))]
 fn table<'a>(directory: &Directory<'a>, slot: usize) -> &'a [u8]
     requires { slot < 16 }
@@ -104,8 +104,11 @@ impl<'a> Model for Tables<'a> {
 }
 
 impl<'a> Tables<'a> {
-    /// Reads the tables of a directory, which is spent: [`Directory::read`] gives it again. Refused
-    /// with the first [`TableError`] that applies.
+    /// Reads the tables of a directory. It takes the directory, which [`Directory::read`] gives again.
+    ///
+    /// # Errors
+    ///
+    /// The first [`TableError`] that applies, in the order of its variants.
     #[tactic(auto, using(crate::proofs::SlotLemmas::are_slots), unfolding(crate::specs::Refusals::table_fault, crate::specs::Fields::glyph_count_of, crate::specs::Fields::units_per_em_of, crate::specs::Fields::metric_count_of, crate::specs::Fields::loca_form_of))]
     pub fn open(directory: Directory<'a>) -> Result<Tables<'a>, TableError>
         ensures { MatchResult result
@@ -153,18 +156,18 @@ impl<'a> Tables<'a> {
         })
     }
 
-    /// The directory that the tables were read of.
+    /// Returns the directory that the tables were read from.
     pub fn directory(&self) -> &Directory<'a>
         ensures directory { result.now ≡ self.now }
 
-        // What reading it, and its tables, has shown.
+        // Keeps the facts that `Directory::read` and `Tables::open` proved.
         ensures readable { directory_fault self.now ≡ None }
         ensures sound { table_fault self.now ≡ None }
     {
         &self.directory
     }
 
-    /// `numGlyphs` of `maxp`: 1 at least.
+    /// Returns `numGlyphs` of `maxp`: 1 at least.
     #[tactic(auto, using(crate::proofs::TableLemmas::is_measured))]
     pub fn glyph_count(&self) -> u16
         ensures count { result ≡ glyph_count_of self.now }
@@ -173,14 +176,14 @@ impl<'a> Tables<'a> {
         self.glyph_count
     }
 
-    /// `unitsPerEm` of `head`, of which nothing is checked.
+    /// Returns `unitsPerEm` of `head`: how many font units an em has. Nothing of it is checked.
     pub fn units_per_em(&self) -> u16
         ensures { result ≡ units_per_em_of self.now }
     {
         self.units_per_em
     }
 
-    /// `numberOfHMetrics` of `hhea`: 1 at least, and no more than there are glyphs.
+    /// Returns `numberOfHMetrics` of `hhea`: 1 at least, and no more than there are glyphs.
     #[tactic(auto, using(crate::proofs::TableLemmas::is_measured))]
     pub fn metric_count(&self) -> u16
         ensures count { result ≡ metric_count_of self.now }
@@ -190,14 +193,15 @@ impl<'a> Tables<'a> {
         self.metric_count
     }
 
-    /// `indexToLocFormat` of `head`.
+    /// Returns `indexToLocFormat` of `head`.
     pub fn loca_format(&self) -> LocaForm
         ensures { result ≡ loca_form_of self.now }
     {
         self.form
     }
 
-    /// The advance width and the left side bearing of a glyph.
+    /// Returns the advance width and the left side bearing of a glyph, in font units. A glyph behind the
+    /// pairs of `hmtx` has the advance width of the last pair.
     #[tactic(auto, unfolding(crate::specs::Metrics::metric_of))]
     pub fn metric(&self, g: u16) -> (u16, i16)
         requires { g < glyph_count_of self.now }
@@ -206,7 +210,7 @@ impl<'a> Tables<'a> {
         read_metric(self.hmtx, self.metric_count as usize, g as usize)
     }
 
-    /// The outline of a glyph: no byte where it has none.
+    /// Returns the outline of a glyph, its bytes of `glyf`: none where it is empty.
     #[tactic(auto, unfolding(crate::specs::Outlines::outline_of))]
     pub fn outline(&self, g: u16) -> &'a [u8]
         requires { g < glyph_count_of self.now }

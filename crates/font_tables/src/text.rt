@@ -24,7 +24,7 @@ impl fmt::Display for TableError {
 impl Error for TableError {}
 
 impl TableError {
-    /// The number of the refusal, 7 to 12.
+    /// Returns the number of the refusal, 7 to 12.
     pub fn number(&self) -> u8
         ensures { result ≡ error_number self.now }
     {

@@ -1,4 +1,4 @@
--- Numbers as bytes, the highest byte first, padding, and the two fields of `head` that a cut writes (OpenType 1.9, Data Types; head).
+-- Numbers as bytes, padding, and the two fields of `head` that a cut writes (OpenType 1.9, Data Types; head).
 use Rattle.std.specs.Prelude.{ℕ, ◌/◌, ◌%◌, List, [], ◌∷◌, ◌++◌, drop, length, replicate, take}
 use Rattle.sfnt_bytes.specs.Findings.{padding_of}
 
@@ -18,6 +18,7 @@ padded b = b ++ replicate (padding_of (length b)) 0
 unfoldable pub with_adjustment : ℕ → List ℕ → List ℕ
 with_adjustment adjustment head = take 8 head ++ (bytes32 adjustment ++ drop 12 head)
 
--- `head` as a cut has it, before its file is summed: checksumAdjustment 0, indexToLocFormat 1, and all else as it was
+-- `head` as a cut has it, before its file is summed: checksumAdjustment 0, indexToLocFormat 1, and all else
+-- as it was
 unfoldable pub cut_head : List ℕ → List ℕ
 cut_head head = take 8 head ++ (bytes32 0 ++ (take 38 (drop 12 head) ++ (bytes16 1 ++ drop 52 head)))

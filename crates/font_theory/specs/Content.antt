@@ -1,4 +1,4 @@
--- What an accepted font means to a cut, what a cut is made of, and what is read back of a cut, this project's own. A table stands by its slot, the place of its tag in KEPT.
+-- What is read of an accepted font, and what a cut is made of, this project's own; tables stand by slot.
 use Rattle.std.specs.Prelude.{◌≡◌, ℕ, ◌<◌, ◌≤◌, nat_eq, nat_le, nat_lt, Bool, true, false, ◌||◌, List, [], length, if◌then◌else◌, Option, None, IsSome, unwrap_or}
 use Rattle.sfnt_bytes.specs.Directory.{kept_tag, table_of}
 use Rattle.sfnt_bytes.specs.Lines.{when}

@@ -1,4 +1,4 @@
--- Cuts and joins of files, and the order of files, this project's own: over any reader and writer of files, and those of this program.
+-- Cuts and joins of files, and the order of files, this project's own, over any reader and writer of files.
 use Rattle.std.specs.Prelude.{◌≡◌, ◌≢◌, ℕ, ◌≤◌, Bool, ◌&&◌, ◌||◌, ◌⊎◌, List, length, is_none, Option, None, Some}
 use Rattle.std.specs.Str.{bytes_eq}
 use Rattle.sfnt_bytes.specs.declared.directory.DirError.TheVariants.{FileTooLarge}

@@ -1,4 +1,4 @@
--- The one file of a content (OpenType 1.9, Organization of an OpenType Font; cmap, Format 12: Segmented coverage; loca; glyf).
+-- The one file of a content (OpenType 1.9, Organization of an OpenType Font; cmap, Format 12; loca; glyf).
 use Rattle.std.specs.Prelude.{◌≡◌, ℕ, ◌+◌, ◌*◌, nat_eq, List, [], ◌∷◌, ◌++◌, length, map, replicate, if◌then◌else◌, Option, None, Some, sum}
 use Rattle.std.specs.List.{concat, flat_map, range_with_len}
 use Rattle.std.specs.Option.{option_map, option_map_or}
@@ -24,7 +24,7 @@ use Rattle.font_theory.specs.declared.Profile.TheVariants.{First, Second}
 unfoldable pub groups_of_content : Content → List Run
 groups_of_content K = groups_from K.map 0
 
--- the outlines of n glyphs from one on, [] for one that is not kept
+-- the outlines of n glyphs from a given one on, [] for one that is not kept
 abbrev pub outlines_from : Content → ℕ → ℕ → List (List ℕ)
 outlines_from K g n = map (record_in K.outline) (range_with_len g n)
 
@@ -32,7 +32,7 @@ outlines_from K g n = map (record_in K.outline) (range_with_len g n)
 unfoldable pub outlines_of : Content → List (List ℕ)
 outlines_of K = outlines_from K 0 (glyph_count K.copied)
 
--- the offsets of outlines that stand end to end from one on, and that of their end
+-- the offsets of outlines that stand end to end, the first at a given offset, and that of their end
 abbrev pub offsets_from : ℕ → List (List ℕ) → List ℕ
 offsets_from at [] = at ∷ []
 offsets_from at (outline ∷ outlines) = at ∷ offsets_from (at + length outline) outlines
@@ -48,7 +48,8 @@ numbers_of run = run.first ∷ run.last ∷ run.glyph ∷ []
 abbrev pub group_bytes : Run → List ℕ
 group_bytes run = bytes32 run.first ++ (bytes32 run.last ++ bytes32 run.glyph)
 
--- a subtable of format 12 up to its n groups, word by word: format and reserved, length, language and numGroups
+-- a subtable of format 12 up to its n groups, word by word: format and reserved, length, language and
+-- numGroups
 abbrev pub subtable_front : ℕ → List ℕ
 subtable_front n = 0x000C0000 ∷ (16 + 12 * n) ∷ 0 ∷ n ∷ []
 
@@ -64,7 +65,8 @@ first_form = record {
   zeros = λ _. 0;
 }
 
--- the second profile. `cmap`: two records, 0/4 and 3/10, of one subtable right behind them. `glyf` is never empty
+-- the second profile. `cmap`: two records, 0/4 and 3/10, of one subtable right behind them. `glyf` is never
+-- empty
 unfoldable pub second_form : Form
 second_form = record {
   front = λ n. 0x00000002 ∷ 0x00000004 ∷ 20 ∷ 0x0003000A ∷ 20 ∷ subtable_front n;
@@ -128,7 +130,7 @@ abbrev pub table_in : Form → Content → List ℕ → ℕ → Option Table
 table_in form K head slot =
     option_map (λ bytes. record { tag = kept_tag slot; checksum = checksum_in_slot slot bytes; bytes = bytes }) (bytes_in_slot form K head slot)
 
--- the tables in n slots from one on
+-- the tables in n slots from a given one on
 abbrev pub tables_from : Form → Content → List ℕ → ℕ → ℕ → List Table
 tables_from form K head slot n = present (map (table_in form K head) (range_with_len slot n))
 
@@ -175,7 +177,8 @@ file form K = file_with form K (with_adjustment (adjustment_in form K) K.head)
 abbrev pub padded_length : Option (List ℕ) → ℕ
 padded_length bytes = option_map_or (λ b. length (padded b)) bytes 0
 
--- the length of the file of a content, with these lengths of its `cmap` and of its `glyf`, padded: 12 bytes and a record for each of k tables; `loca`; and the other tables, padded
+-- the length of the file of a content, with these lengths of its `cmap` and of its `glyf`, padded: 12 bytes
+-- and a record for each of k tables; `loca`; and the other tables, padded
 abbrev pub size_with : Content → ℕ → ℕ → ℕ
 size_with K cmap glyf =
     let k = 4 + length (present (map K.copied (range_with_len 0 16))) in

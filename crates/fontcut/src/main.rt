@@ -18,7 +18,7 @@ const UNREADABLE: &str = "fontcut: a word of the line is not UTF-8\n";
 // Linux passes no longer argument on.
 const LONGEST: usize = 128 * 1024;
 
-// The words after the program's own name, or `demo` where there is none.
+// Returns the words after the program's own name, or `demo` where there is none.
 fn words_after_name(alloc: Global, all: Vec<String>) -> Result<Vec<String>, AllocError> {
     let mut words: Vec<String> = all.into_iter().skip(1).collect(alloc)?;
     if words.is_empty() {
@@ -50,7 +50,7 @@ fn unreadable_argument(rt: &impl Env) -> Option<usize> {
     None
 }
 
-// The lines that say that an argument is not UTF-8, and which one it is.
+// Returns the lines that say that an argument is not UTF-8, and which one it is.
 fn unreadable_text(alloc: Global, number: usize) -> Result<String, AllocError> {
     let first = UNREADABLE;
     format!(in alloc; "{first}fontcut: argument {number} is not UTF-8\n")

@@ -1,4 +1,4 @@
--- What a call for the mapped codes of a font answers, this project's own: the ranges that `codes` prints, in the caller's room.
+-- What the call for the mapped codes answers, this project's own: the ranges that `codes` prints.
 use Rattle.std.specs.Prelude.{◌≡◌, ℕ, ◌<◌, List, length, map, None, Some, Result, MatchResult}
 use Rattle.font_file.specs.Font.{font_fault}
 use Rattle.font_map.specs.declared.ranges.Range.{Range}
@@ -14,7 +14,7 @@ use Rattle.fontcut_c.specs.declared.refusal.Refusal.TheVariants.{Font, NoMemory,
 abbrev pub as_written : Range → CodeRange
 as_written range = record { first = range.first; last = range.last }
 
--- the ranges of the mapped codes of a map not below one
+-- the ranges of the mapped codes of a map from a given one on
 abbrev pub listed_from : (ℕ → ℕ) → ℕ → List CodeRange
 listed_from m from = map as_written (code_ranges m from)
 

@@ -9,7 +9,8 @@ use Rattle.fontcut_c.specs.declared.answer.Answer.{Answer}
 use Rattle.fontcut_c.specs.declared.refusal.Refusal.{Refusal}
 use Rattle.fontcut_c.specs.declared.refusal.Refusal.TheVariants.{NoMemory, SmallRoom}
 
--- the words that the texts of the refusals begin with, by number; none where that is no refusal that is answered here
+-- the words that the texts of the refusals begin with, by number; none where that is no refusal that is
+-- answered here
 abbrev pub all_words : List (List ℕ)
 all_words =
     [] ∷

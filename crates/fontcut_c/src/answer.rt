@@ -13,12 +13,12 @@ pub struct Answer {
     pub detail: u32,
     /// How many bytes, or ranges, were written; and where the status is 100 or 18, how many there are.
     pub size: u64,
-    /// Which of several files is refused, counted from 0.
+    /// Which of several files is refused, or was being joined where memory is refused, counted from 0.
     pub step: u64,
 }
 
 impl Answer {
-    /// A call is done, and wrote so much.
+    /// Returns the answer of a call that is done, and wrote so much.
     pub(crate) fn done(size: u64) -> Answer
         ensures { result ≡ done_with size }
     {
@@ -30,7 +30,7 @@ impl Answer {
         }
     }
 
-    /// A question is answered.
+    /// Returns the answer to a question.
     pub(crate) fn told(detail: u32) -> Answer
         ensures { result ≡ told_with detail }
     {
@@ -42,7 +42,7 @@ impl Answer {
         }
     }
 
-    /// The refusal of a number, with what it names.
+    /// Returns the refusal of a number, with what it names.
     pub(crate) fn refused(number: u8, argument: u32) -> Answer
         ensures { result ≡ refused_with number argument }
     {
@@ -54,7 +54,7 @@ impl Answer {
         }
     }
 
-    /// A status that tells a size.
+    /// Returns a status that tells a size.
     pub(crate) fn sized(status: u32, size: u64) -> Answer
         ensures { result ≡ sized_with status size }
     {
@@ -66,7 +66,7 @@ impl Answer {
         }
     }
 
-    /// The same, of a file of several.
+    /// Returns the same, of a file of several.
     pub(crate) fn at(self, step: u64) -> Answer
         ensures { result ≡ at_step step self }
     {

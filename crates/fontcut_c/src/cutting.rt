@@ -10,7 +10,7 @@ use crate::room::{size_of, write_to};
 use font_cut::{CutOf, Font};
 use std::alloc::Global;
 
-// Opens a font of which codes are wanted, or answers the first of what refuses that.
+// Opens a font of which codes are wanted, or returns the first of what refuses that.
 fn opened<'a>(file: &'a [u8], ranges: &[CodeRange]) -> Result<Font<'a>, Refusal>
     ensures { MatchResult result (λ font. (font ≡ file.now) × IsAccepted file.now ranges.now)
         (RefusesRequest file.now ranges.now) }
@@ -25,7 +25,7 @@ fn opened<'a>(file: &'a [u8], ranges: &[CodeRange]) -> Result<Font<'a>, Refusal>
     }
 }
 
-/// How many bytes the cut of a font has. No cut is built.
+/// Returns how many bytes the cut of a font has. No cut is built.
 pub(crate) fn cut_size(alloc: Global, file: &[u8], ranges: &[CodeRange]) -> Result<u64, Refusal>
     ensures { MatchResult result (λ size. IsCutSize file.now ranges.now size × (size ≤ MAX_FILE))
         (RefusesSize file.now ranges.now) }
@@ -44,7 +44,7 @@ pub(crate) fn cut_size(alloc: Global, file: &[u8], ranges: &[CodeRange]) -> Resu
     }
 }
 
-/// Writes the cut of a font to the front of room, and answers its length.
+/// Writes the cut of a font to the front of room, and returns its length.
 pub(crate) fn cut_to(
     alloc: Global,
     file: &[u8],

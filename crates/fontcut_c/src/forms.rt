@@ -9,7 +9,7 @@ use crate::refusal::{PairRefusal, Refusal};
 use font_cut::{CutForm, Font, cut_form, is_cut_of};
 use std::alloc::Global;
 
-/// In which form a file is a cut.
+/// Returns in which form a file is a cut.
 pub(crate) fn form_of(alloc: Global, file: &[u8]) -> Result<CutForm, Refusal>
     ensures { MatchResult result (λ form. (font_fault file.now ≡ None) × (form ≡ cut_form_of file.now))
         (RefusesFont file.now) }
@@ -24,7 +24,8 @@ pub(crate) fn form_of(alloc: Global, file: &[u8]) -> Result<CutForm, Refusal>
     }
 }
 
-/// The number of a form: 0 where the file is no cut, 1 where it is current and 2 where it is old.
+/// Returns the number of a form: 0 where the file is no cut, 1 where it is current and 2 where it is
+/// old.
 pub(crate) fn number_of(form: CutForm) -> u32
     ensures { result ≡ form_number form }
 {
@@ -35,7 +36,7 @@ pub(crate) fn number_of(form: CutForm) -> u32
     }
 }
 
-/// Whether a file is a cut of a font.
+/// Returns whether a file is a cut of a font.
 pub(crate) fn belongs(alloc: Global, cut: &[u8], font: &[u8]) -> Result<bool, PairRefusal>
     ensures { MatchResult result (IsBelonging cut.now font.now) (RefusesPair cut.now font.now) }
 {

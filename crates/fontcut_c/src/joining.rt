@@ -9,7 +9,7 @@ use font_theory::Profile;
 use font_write::file_size;
 use std::alloc::Global;
 
-/// Writes the join of all files to the front of room, and answers its length.
+/// Writes the join of all files to the front of room, and returns its length.
 pub(crate) fn join_to(alloc: Global, files: &[&[u8]], out: &mut [u8]) -> Result<u64, JoinRefusal>
     ensures { let bytes = map (λ f. f.now) files.now in
         MatchResult result (IsJoinInRoom bytes out.old out.new)

@@ -34,7 +34,7 @@ use crate::text::text_to;
 use font_cut::Font;
 use std::alloc::Global;
 
-/// Whether a font is accepted: status 0, or the first refusal that applies.
+/// Tells whether a font is accepted: status 0, or the first refusal that applies.
 #[unsafe(no_mangle)]
 pub extern "C" fn fontcut_check(font: &[u8]) -> Answer
     ensures { result ≡ check_answer (font_fault font.now) }
@@ -45,7 +45,7 @@ pub extern "C" fn fontcut_check(font: &[u8]) -> Answer
     }
 }
 
-/// How many bytes the cut of a font for the codes of the ranges has. No cut is built.
+/// Tells how many bytes the cut of a font for the codes of the ranges has. No cut is built.
 #[unsafe(no_mangle)]
 pub extern "C" fn fontcut_cut_size(alloc: Global, font: &[u8], ranges: &[CodeRange]) -> Answer
     ensures { AnswersCutSize font.now ranges.now result }
@@ -76,8 +76,8 @@ pub extern "C" fn fontcut_cut(
     }
 }
 
-/// In which form a font is a cut: `detail` is 0 where it is none, 1 where it is current and 2 where it is an
-/// old one.
+/// Tells in which form a font is a cut: `detail` is 0 where it is none, 1 where it is current and 2
+/// where it is an old one.
 #[unsafe(no_mangle)]
 pub extern "C" fn fontcut_is_cut(alloc: Global, font: &[u8]) -> Answer
     ensures { AnswersForm font.now result }
@@ -88,8 +88,8 @@ pub extern "C" fn fontcut_is_cut(alloc: Global, font: &[u8]) -> Answer
     }
 }
 
-/// Whether `cut` is a cut of `font` for some codes: `detail` is 1 where it is one, and else 0. Where a file is
-/// refused `step` is 0 for `cut` and 1 for `font`.
+/// Tells whether `cut` is a cut of `font` for some codes: `detail` is 1 where it is one, and else 0.
+/// Where a file is refused `step` is 0 for `cut` and 1 for `font`.
 #[unsafe(no_mangle)]
 pub extern "C" fn fontcut_is_cut_of(alloc: Global, cut: &[u8], font: &[u8]) -> Answer
     ensures { AnswersBelonging cut.now font.now result }
@@ -113,8 +113,8 @@ pub extern "C" fn fontcut_join_all(alloc: Global, files: &[&[u8]], out: &mut [u8
     }
 }
 
-/// Writes the ranges of the codes that a font maps to the front of `out`, ascending, each as long as it can be.
-/// `size` counts ranges. A refusal leaves `out` as it was.
+/// Writes the ranges of the codes that a font maps to the front of `out`, ascending, each as long as it
+/// can be. `size` counts ranges. A refusal leaves `out` as it was.
 #[unsafe(no_mangle)]
 pub extern "C" fn fontcut_codes(alloc: Global, font: &[u8], out: &mut [CodeRange]) -> Answer
     ensures exact { AnswersCodes font.now out.old out.new result }
@@ -126,8 +126,8 @@ pub extern "C" fn fontcut_codes(alloc: Global, font: &[u8], out: &mut [CodeRange
     }
 }
 
-/// Writes the text of what another call answered to the front of `out`: the text of its refusal, and none where
-/// that call was done. A refusal leaves `out` as it was.
+/// Writes the text of what another call answered to the front of `out`: the text of its refusal, and
+/// none where that call was done. A refusal leaves `out` as it was.
 #[unsafe(no_mangle)]
 pub extern "C" fn fontcut_refusal_text(alloc: Global, answer: Answer, out: &mut [u8]) -> Answer
     ensures exact { AnswersText answer out.old out.new result }

@@ -40,7 +40,7 @@ fn put_ranges(chart: &Chart<'_>, out: &mut [CodeRange])
     }
 }
 
-/// Writes the ranges of the codes that a font maps to the front of room, and answers how many.
+/// Writes the ranges of the codes that a font maps to the front of room, and returns how many.
 pub(crate) fn codes_to(alloc: Global, file: &[u8], out: &mut [CodeRange]) -> Result<u64, Refusal>
     ensures { MatchResult result (IsListInRoom file.now out.old out.new)
         (λ refusal. (out.new ≡ out.old) × RefusesList file.now (length out.old) refusal) }

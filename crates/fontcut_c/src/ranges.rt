@@ -29,7 +29,7 @@ pub(crate) fn first_bad(ranges: &[CodeRange]) -> Option<usize>
     None
 }
 
-/// The codes of ranges of which none is bad.
+/// Returns the codes of ranges of which none is bad.
 pub(crate) fn wanted_of(alloc: Global, ranges: &[CodeRange]) -> Result<Wanted, NoMemory>
     ensures { IfOk result (λ wanted. member wanted ≡ wanted_by ranges.now) }
 {

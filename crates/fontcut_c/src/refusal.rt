@@ -45,14 +45,14 @@ pub enum JoinRefusal {
     SmallRoom(u64),
 }
 
-// A tag as a number.
+// Returns a tag as a number.
 fn number_of(tag: Tag) -> u32
     ensures { result ≡ tag_number tag }
 {
     be32(&tag.0, 0)
 }
 
-// What the refusal of a font names.
+// Returns what the refusal of a font names.
 fn argument_of(error: FontError) -> u32
     ensures { result ≡ font_argument error }
 {
@@ -68,14 +68,14 @@ fn argument_of(error: FontError) -> u32
     }
 }
 
-// The answer where a font is refused.
+// Returns the answer where a font is refused.
 fn refused_font(error: FontError) -> Answer
     ensures { result ≡ font_answer error }
 {
     Answer::refused(error.number(), argument_of(error))
 }
 
-// An index as far as 32 bits hold it.
+// Returns an index, or the largest number of 32 bits where it is larger.
 fn detail_of(index: usize) -> u32
     ensures { result ≡ as_detail index }
 {
@@ -87,7 +87,7 @@ fn detail_of(index: usize) -> u32
 }
 
 impl Refusal {
-    /// What is answered.
+    /// Returns what is answered.
     pub(crate) fn answer(self) -> Answer
         ensures { result ≡ refusal_answer self }
     {
@@ -102,7 +102,7 @@ impl Refusal {
 }
 
 impl PairRefusal {
-    /// What is answered.
+    /// Returns what is answered.
     pub(crate) fn answer(self) -> Answer
         ensures { result ≡ pair_refusal_answer self }
     {
@@ -114,7 +114,7 @@ impl PairRefusal {
     }
 }
 
-// The answer where two files are not joined.
+// Returns the answer where two files are not joined.
 fn refused_join(error: JoinError) -> Answer
     ensures { result ≡ join_error_answer error }
 {
@@ -129,7 +129,7 @@ fn refused_join(error: JoinError) -> Answer
     }
 }
 
-// The answer where files are not joined.
+// Returns the answer where files are not joined.
 fn refused_list(error: JoinAllError) -> Answer
     ensures { result ≡ join_all_error_answer error }
 {
@@ -140,7 +140,7 @@ fn refused_list(error: JoinAllError) -> Answer
 }
 
 impl JoinRefusal {
-    /// What is answered.
+    /// Returns what is answered.
     pub(crate) fn answer(self) -> Answer
         ensures { result ≡ join_refusal_answer self }
     {

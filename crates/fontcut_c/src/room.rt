@@ -9,7 +9,7 @@ use font_cut::MAX_FILE;
 use font_theory::Profile;
 use font_write::{Size, Source, file_size, plan_of};
 
-// How much the file of a source has, where that is not too large.
+// Returns how much the file of a source has, where that is not too large.
 fn measured<S: Source>(source: &S) -> Result<Size, Refusal>
     ensures { MatchResult result (IsFileSize (S.content_of source.now))
         (RefusesFileSize (file current_form (S.content_of source.now))) }
@@ -21,7 +21,7 @@ fn measured<S: Source>(source: &S) -> Result<Size, Refusal>
     Ok(size)
 }
 
-/// How many bytes the file of a source has, where these are not too many.
+/// Returns how many bytes the file of a source has, where these are not too many.
 pub(crate) fn size_of<S: Source>(source: &S) -> Result<u64, Refusal>
     ensures { MatchResult result (IsFileLength (file current_form (S.content_of source.now)))
         (RefusesFileSize (file current_form (S.content_of source.now))) }
@@ -32,8 +32,8 @@ pub(crate) fn size_of<S: Source>(source: &S) -> Result<u64, Refusal>
     }
 }
 
-/// Writes the file of a source, which has been measured, to the front of room, and answers its length. It asks
-/// for no memory. Refused with that length, where there is less room.
+/// Writes the file of a source, which has been measured, to the front of room, and returns its length.
+/// It asks for no memory. Refused with that length, where there is less room.
 pub(crate) fn write_sized<S: Source>(source: &S, size: Size, out: &mut [u8]) -> Result<u64, u64>
     requires { IsFileSize (S.content_of source.now) size }
     ensures { MatchResult result (IsFileInRoom (file current_form (S.content_of source.now)) out.old out.new)
@@ -48,7 +48,7 @@ pub(crate) fn write_sized<S: Source>(source: &S, size: Size, out: &mut [u8]) -> 
     Ok(size.bytes)
 }
 
-/// Writes the file of a source to the front of room, and answers its length. It asks for no memory.
+/// Writes the file of a source to the front of room, and returns its length. It asks for no memory.
 pub(crate) fn write_to<S: Source>(source: &S, out: &mut [u8]) -> Result<u64, Refusal>
     ensures { MatchResult result (IsFileInRoom (file current_form (S.content_of source.now)) out.old out.new)
         (λ refusal. (out.new ≡ out.old)

@@ -16,7 +16,7 @@ const AACUTE: [CodeRange; 1] = [CodeRange {
     last: 0xC1,
 }];
 
-// The answer of a call that is done, with a size.
+// Returns the answer of a call that is done, with a size.
 fn done(size: u64) -> Answer {
     Answer {
         status: 0,

@@ -38,7 +38,7 @@ const WORDS: [&str; 25] = [
     "nothing to join",
 ];
 
-// The words at an index.
+// Returns the words at an index.
 #[tactic(auto, using(crate::proofs::TextLemmas::word_at))]
 fn word_at(words: &[&'static str], index: usize) -> &'static str
     requires { index < length words.now }
@@ -47,7 +47,7 @@ fn word_at(words: &[&'static str], index: usize) -> &'static str
     words[index]
 }
 
-// The words of a number.
+// Returns the words of a number.
 #[tactic(auto, unfolding(crate::specs::Text::words_of))]
 fn words(number: u32) -> &'static str
     ensures { result.now ≡ words_of number }
@@ -133,7 +133,7 @@ impl fmt::Display for Text {
     }
 }
 
-// Writes bytes to the front of room, and answers how many.
+// Writes bytes to the front of room, and returns how many.
 fn put_front(bytes: &[u8], out: &mut [u8]) -> Result<u64, u64>
     ensures { MatchResult result (IsInRoom bytes.now out.old out.new)
         (λ size. (out.new ≡ out.old) × (size ≡ length bytes.now) × (length out.old < size)) }
@@ -145,7 +145,7 @@ fn put_front(bytes: &[u8], out: &mut [u8]) -> Result<u64, u64>
     Ok(bytes.len() as u64)
 }
 
-/// Writes the text of a refusal to the front of room, and answers its length.
+/// Writes the text of a refusal to the front of room, and returns its length.
 pub(crate) fn text_to(alloc: Global, answer: Answer, out: &mut [u8]) -> Result<u64, Refusal>
     ensures { MatchResult result (IsInRoom (refusal_text answer) out.old out.new)
         (λ refusal. (out.new ≡ out.old) × RefusesText answer (length out.old) refusal) }

@@ -10,7 +10,7 @@ use sfnt_bytes::NoMemory;
 use std::alloc::{AllocError, Allocator, Global};
 use std::test::Fail;
 
-// The marked glyphs, in order.
+// Returns the marked glyphs, in order.
 fn marked<A: Allocator>(alloc: Global, marks: &Marks<A>, count: u16) -> Result<Vec<u16>, AllocError>
     requires { length marks.now ≡ count }
 {
@@ -23,7 +23,7 @@ fn marked<A: Allocator>(alloc: Global, marks: &Marks<A>, count: u16) -> Result<V
     Ok(glyphs)
 }
 
-// The outlines of these records, among which is this glyph.
+// Returns the outlines of these records, among which is this glyph.
 fn outlines_with(records: Vec<Vec<u8>>, g: u16) -> Result<Records, Fail>
     ensures { IfOk result (λ outlines. g < length outlines) }
 {
@@ -34,7 +34,7 @@ fn outlines_with(records: Vec<Vec<u8>>, g: u16) -> Result<Records, Fail>
     Ok(outlines)
 }
 
-// The seed alone, and what it reaches, with this memory.
+// Returns the seed alone, and what it reaches, with this memory.
 fn closed<A: Allocator + Copy>(
     alloc: A,
     outlines: &Records,
@@ -48,7 +48,7 @@ fn closed<A: Allocator + Copy>(
     close(alloc, outlines, &seeds)
 }
 
-// What one glyph of these records reaches.
+// Returns what one glyph of these records reaches.
 fn reached_from(alloc: Global, records: Vec<Vec<u8>>, seed: u16) -> Result<Vec<u16>, Fail> {
     let outlines = outlines_with(records, seed)?;
     let marks = closed(alloc, &outlines, seed)?;
@@ -56,8 +56,8 @@ fn reached_from(alloc: Global, records: Vec<Vec<u8>>, seed: u16) -> Result<Vec<u
     Ok(glyphs)
 }
 
-// Base6 whose glyph 3 has this as its first component. Glyph 5 has glyph 3 alone as a component where
-// it is a composite.
+// Returns Base6 whose glyph 3 has this as its first component. Glyph 5 has glyph 3 alone as a component
+// where it is a composite.
 fn changed(alloc: Global, first: u8, is_composite: bool) -> Result<Vec<Vec<u8>>, Fail> {
     let mut records = base6_records(alloc)?;
     let record = records.get_mut(3).ok_or("no glyph 3")?;

@@ -3,13 +3,13 @@ use font_glyph::Component;
 use sample_fonts::bytes::put_u16;
 use std::alloc::{AllocError, Global};
 
-/// A component with these flags.
+/// Returns a component with these flags.
 pub fn part(flags: u16, glyph: u16) -> Component {
     Component { flags, glyph }
 }
 
-/// The record of a composite: each component with two bytes of arguments, whatever its flags say,
-/// and `rest` behind the last.
+/// Returns the record of a composite: each component with two bytes of arguments, whatever its flags
+/// say, and `rest` behind the last.
 pub fn composite(
     alloc: Global,
     components: &[Component],

@@ -25,7 +25,7 @@ fn ring(alloc: Global, place: usize) -> Result<Vec<Vec<u8>>, Fail> {
     Ok(records)
 }
 
-// How many glyphs the first one reaches, and in how many milliseconds.
+// Returns how many glyphs the first one reaches, and in how many milliseconds.
 fn reached_from_first(
     rt: &impl std::rt::Clock,
     alloc: Global,

@@ -6,7 +6,7 @@ use sfnt_bytes::BASE6;
 use std::alloc::Global;
 use std::test::Fail;
 
-// The components of a record that is good.
+// Returns the components of a record that is good.
 fn components_of(alloc: Global, record: &[u8], glyphs: u16) -> Result<Vec<Component>, Fail> {
     check_record(record, glyphs)?;
     let components: Vec<Component> = Components::of(record).collect(alloc)?;

@@ -23,7 +23,7 @@ impl Model for Records {
 }
 
 impl Records {
-    /// The records, where each has components that are among them, and there are 65,535 at most.
+    /// Returns the records, where each has components that are among them, and there are 65,535 at most.
     pub fn new(records: Vec<Vec<u8>>) -> Option<Records>
         ensures good { IsSome result ↔ AreRecords (bytes_of records.items) }
         ensures value { IfSome result (λ r. r ≡ bytes_of records.items) }

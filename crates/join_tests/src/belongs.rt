@@ -10,7 +10,7 @@ use sfnt_bytes::BASE6;
 use std::alloc::Global;
 use std::test::Fail;
 
-// Whether a file is a cut of another, and none where one of them is not accepted.
+// Returns whether a file is a cut of another, and none where one of them is not accepted.
 fn belongs(alloc: Global, cut: &[u8], font: &[u8]) -> Option<bool> {
     match (Font::open(cut), Font::open(font)) {
         (Ok(cut), Ok(font)) => is_cut_of(alloc, &cut, &font).ok(),

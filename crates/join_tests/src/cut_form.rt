@@ -65,7 +65,7 @@ const ENDS: [(usize, Tag); 7] = [
     (412, Tag(*b"maxp")),
 ];
 
-// The fault of so many bytes of the cut for 0xC1.
+// Returns the refusal of so many bytes of the cut for 0xC1.
 fn fault_of_front(length: usize) -> FontError {
     if length < 124 {
         return FontError::Directory(DirError::Truncated);

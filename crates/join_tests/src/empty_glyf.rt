@@ -7,7 +7,8 @@ use sfnt_bytes::Directory;
 use std::alloc::Global;
 use std::test::Fail;
 
-// Whether the cut for these codes has this size, these groups, offsets of 0 and those four zeros.
+// Returns whether the cut for these codes has this size, these groups, offsets of 0 and those four
+// zeros.
 fn is_empty_cut(
     alloc: Global,
     file: &[u8],

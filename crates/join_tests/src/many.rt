@@ -14,7 +14,7 @@ fn join_of_many(rt: HostRuntime) {
     assert!(rt; is_join_of(rt.alloc(), &files, &A_B_AACUTE));
 }
 
-// The refusal of a step.
+// Returns the refusal of a step.
 fn at(step: usize, error: JoinError) -> Option<JoinAllError> {
     Some(JoinAllError::At { step, error })
 }
@@ -47,7 +47,7 @@ fn other_outline_in_many(rt: HostRuntime) -> Result<(), Fail> {
     Ok(())
 }
 
-// Whether both groupings of three files are joined to the stated file.
+// Returns whether both groupings of three files are joined to the stated file.
 fn is_join_of_either(alloc: Global, x: &[u8], y: &[u8], z: &[u8], stated: &[u8]) -> bool {
     match (join(alloc, x, y), join(alloc, y, z)) {
         (Ok(left), Ok(right)) => {

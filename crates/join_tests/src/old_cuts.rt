@@ -10,7 +10,8 @@ use sfnt_bytes::BASE6;
 use std::alloc::Global;
 use std::test::Fail;
 
-// Whether a file is an old cut, is accepted without a finding, and joined with itself is the current one.
+// Returns whether a file is an old cut, is accepted without a finding, and joined with itself is the
+// current one.
 fn is_old_of(alloc: Global, old: &[u8], current: &[u8]) -> bool {
     form_of(alloc, old) == Some(CutForm::Old)
         && form_of(alloc, current) == Some(CutForm::Current)

@@ -62,7 +62,7 @@ fn refused_memory_in_is_cut(rt: HostRuntime) -> Result<(), Fail> {
     Ok(())
 }
 
-// The step of a join of two files that was refused memory.
+// Returns the step of a join of two files that was refused memory.
 fn step_of_two(refusal: Option<JoinError>) -> Option<usize> {
     match refusal {
         Some(JoinError::NoMemory) => Some(0),
@@ -183,7 +183,7 @@ fn refused_memory_in_join_all(rt: HostRuntime) {
     assert!(rt; matches!(found, Some((_, 2))), "{found:?}");
 }
 
-// The faults of both fonts, and the want of files, come before memory is asked for.
+// Memory is asked for behind the refusals of both fonts, and not where there is no file.
 #[test]
 fn faults_before_memory(rt: HostRuntime) {
     let alloc = rt.alloc();

@@ -23,7 +23,7 @@ fn texts_of_faults(rt: HostRuntime) -> Result<(), Fail> {
     Ok(())
 }
 
-// The refusal for a code.
+// Returns the refusal for a code.
 fn mapping(code: u32) -> JoinError {
     JoinError::DifferentMapping(code)
 }
@@ -50,7 +50,7 @@ fn texts_of_refusals(rt: HostRuntime) -> Result<(), Fail> {
     Ok(())
 }
 
-// The refusal of a step.
+// Returns the refusal of a step.
 fn at(step: usize, error: JoinError) -> JoinAllError {
     JoinAllError::At { step, error }
 }

@@ -55,13 +55,13 @@ const EMPTY_PREP: Change = Change::Behind(*b"prep", &[]);
 
 const VMTX: Change = Change::Behind(*b"vmtx", &[0]);
 
-// The refusal for a table.
+// Returns the refusal for a table.
 fn table(tag: [u8; 4]) -> JoinError {
     JoinError::DifferentTable(Tag(tag))
 }
 
-// The refusals of the joins of the cuts of Base6 and of a font with these changes, for the codes from
-// 0x41 to the last: in this order, in the other, and of Base6 itself with the second cut.
+// Returns the refusals of the joins of the cuts of Base6 and of a font with these changes, for the codes
+// from 0x41 to the last: in this order, in the other, and of Base6 itself with the second cut.
 fn refusals(alloc: Global, changes: &[Change], last: u32) -> Result<[Option<JoinError>; 3], Fail> {
     let x = cut_of(alloc, &BASE6, &[(0x41, last)])?;
     let y = cut_of(alloc, &base6_changed(alloc, changes)?, &[(0x41, last)])?;
@@ -108,7 +108,7 @@ fn differences(rt: HostRuntime) -> Result<(), Fail> {
     Ok(())
 }
 
-// The fault of a font.
+// Returns the refusal of a font.
 fn fault(which: Which, error: DirError) -> JoinError {
     JoinError::Font(which, FontError::Directory(error))
 }

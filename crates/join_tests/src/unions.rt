@@ -7,7 +7,7 @@ use sample_fonts::known_cuts::{A_AND_B, A_B_AACUTE, AACUTE};
 use std::alloc::Global;
 use std::test::Fail;
 
-// The kept glyphs of the union of two cuts.
+// Returns the kept glyphs of the union of two cuts.
 fn kept_of_union(alloc: Global, x: &[u8], y: &[u8]) -> Result<Vec<u16>, Fail> {
     let (first, second) = (Font::open(x)?, Font::open(y)?);
     let joined = Joined::new(alloc, &first, &second)?;
@@ -15,8 +15,8 @@ fn kept_of_union(alloc: Global, x: &[u8], y: &[u8]) -> Result<Vec<u16>, Fail> {
     Ok(kept)
 }
 
-// Whether two files have a `head` of 54 bytes each, which differ in `checksumAdjustment` alone: in the
-// bytes 8 to 11.
+// Returns whether two files have a `head` of 54 bytes each, which differ in `checksumAdjustment` alone:
+// in the bytes 8 to 11.
 fn have_other_adjustments(x: &[u8], y: &[u8]) -> Result<bool, Fail> {
     let (a, b) = (head_of(x)?, head_of(y)?);
     let mut is_stated = a.len() == 54 && b.len() == 54;

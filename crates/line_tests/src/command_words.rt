@@ -1,4 +1,5 @@
-//! The words of each line, what `demo`, `check`, `show`, `codes`, `belongs` and help print, and outputs that are full.
+//! The arguments of each command, what `demo`, `check`, `show`, `codes`, `belongs` and help print, and
+//! outputs that are full.
 use crate::lines::{answers, line_of, run, system_of};
 use font_cut::Outlet;
 use program::{Reason, run_words};
@@ -29,7 +30,7 @@ fn demo_prints_the_font_it_carries(rt: HostRuntime) {
     assert!(rt; answers(&rt, &["demo"], 0, DEMO, b""));
 }
 
-// Lines whose words are at fault.
+// Lines that are at fault.
 const FAULTS: [&[&str]; 18] = [
     &[],
     &["check"],
@@ -61,8 +62,8 @@ const HELP: [&[&str]; 7] = [
     &["join", "--help"],
 ];
 
-// Whether a line has this status, and prints where that says: help on standard output, and what is at
-// fault on standard error.
+// Returns whether a line has this status, and prints where that says: help on standard output, and what
+// is at fault on standard error.
 fn is_told(rt: &HostRuntime, words: &[&str], status: u8) -> bool {
     match run(rt, rt.alloc(), words) {
         Ok(line) => {

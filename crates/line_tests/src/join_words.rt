@@ -1,4 +1,4 @@
-//! `join` over real files: the order of its faults, what is printed of them, and what becomes of OUT.
+//! `join` over real files: what is wrong is told in its order, and what becomes of OUT.
 use crate::lines::{first_unlike, makes_a_and_b, remove_files, write_cut};
 use sfnt_bytes::BASE6;
 use std::fs;

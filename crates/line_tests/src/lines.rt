@@ -43,7 +43,7 @@ impl Write for Shut {
     }
 }
 
-/// What a line is run with.
+/// Returns what a line is run with.
 pub fn system_of<'a, F>(
     files: &'a F,
     alloc: Global,
@@ -72,7 +72,7 @@ pub fn run<F: Files>(files: &F, alloc: Global, words: &[&str]) -> Result<Answere
     })
 }
 
-/// Whether a line answers and prints this and no more.
+/// Returns whether a line answers and prints this and no more.
 pub fn answers(rt: &HostRuntime, words: &[&str], status: u8, out: &[u8], err: &[u8]) -> bool {
     match run(rt, rt.alloc(), words) {
         Ok(line) => {
@@ -82,7 +82,7 @@ pub fn answers(rt: &HostRuntime, words: &[&str], status: u8, out: &[u8], err: &[
     }
 }
 
-/// Whether the file at a path holds these bytes.
+/// Returns whether the file at a path holds these bytes.
 pub fn holds(rt: &HostRuntime, path: &str, bytes: &[u8]) -> bool {
     match fs::read(rt, path) {
         Ok(held) => held.as_slice() == bytes,
@@ -90,7 +90,8 @@ pub fn holds(rt: &HostRuntime, path: &str, bytes: &[u8]) -> bool {
     }
 }
 
-/// Whether a line does what it asks for, prints nothing, and leaves the cut for A and B at this path.
+/// Returns whether a line does what it asks for, prints nothing, and leaves the cut for A and B at this
+/// path.
 pub fn makes_a_and_b(rt: &HostRuntime, words: &[&str], path: &str) -> bool {
     answers(rt, words, 0, b"", b"") && holds(rt, path, &A_AND_B)
 }
@@ -125,7 +126,7 @@ pub fn remove_files(rt: &HostRuntime, paths: &[&str]) -> Result<(), Fail> {
     Ok(())
 }
 
-// Whether the files are as they were written, and no other was made.
+// Returns whether the files are as they were written, and no other was made.
 fn is_as_it_was(rt: &HostRuntime) -> bool {
     holds(rt, "kept.ttf", b"as it was")
         && holds(rt, "font.ttf", &BASE6)
@@ -134,8 +135,8 @@ fn is_as_it_was(rt: &HostRuntime) -> bool {
         && fs::read(rt, "gone/out.ttf").is_err()
 }
 
-// Whether a line, its status and what it says on standard error are as a row states, and it changes no
-// file.
+// Returns whether a line, its status and what it says on standard error are as a row states, and it
+// changes no file.
 fn is_refused(rt: &HostRuntime, row: &str) -> Result<bool, Fail> {
     let (line, stated) = row.split_once(" => ").ok_or("no arrow")?;
     let mut words = Vec::new(rt.alloc());

@@ -125,8 +125,8 @@ impl<F: Files> Files for ShortFiles<'_, F> {
     }
 }
 
-// Whether a line over files that take so many bytes a write, and that have so much room, writes all of
-// the cut, or says that OUT cannot be written, leaves OUT as it was and no file beside it.
+// Returns whether a line over files that take so many bytes a write, and that have so much room, writes
+// all of the cut, or says that OUT cannot be written, leaves OUT as it was and no file beside it.
 fn is_told(rt: &HostRuntime, words: &[&str], most: usize, room: usize) -> Result<bool, Fail> {
     let files = ShortFiles {
         files: rt,

@@ -57,7 +57,7 @@ fn subset_of_a_and_b(rt: HostRuntime) -> Result<(), Fail> {
     remove_files(&rt, &["font.ttf", "cut.ttf"])
 }
 
-// Base6 with U+0041 on glyph 1 and U+1F600 on glyph 5 alone.
+// Returns Base6 with U+0041 on glyph 1 and U+1F600 on glyph 5 alone.
 fn with_face(alloc: Global) -> Result<Vec<u8>, Fail> {
     let mut cmap = Vec::new(alloc);
     put_u16(&mut cmap, &[0, 1, 3, 10, 0, 12])?; // version, numTables, the record
@@ -67,7 +67,7 @@ fn with_face(alloc: Global) -> Result<Vec<u8>, Fail> {
     base6_with_cmap(alloc, cmap)
 }
 
-// Whether a line makes the cut for both.
+// Returns whether a line makes the cut for both.
 fn makes_face(rt: &HostRuntime, words: &[&str]) -> Result<bool, Fail> {
     let status = run(rt, rt.alloc(), words)?.status;
     let made = fs::read(rt, "some.ttf")?;

@@ -35,8 +35,8 @@ fn groups(alloc: Global, in_order: bool) -> Result<Vec<u8>, AllocError> {
     cmap_of(alloc, &[(3, 10, &table)])
 }
 
-// Whether the chart of a mapping makes so many requests, is refused where one of them is, and is there
-// once there is memory. It has this glyph for 0x42, and a run from 0x50 on.
+// Returns whether the chart of a mapping makes so many requests, is refused where one of them is, and is
+// there once there is memory. It has this glyph for 0x42, and a run from 0x50 on.
 fn has_requests(alloc: Global, cmap: &[u8], requests: u64, glyph: u16) -> Result<bool, Fail> {
     let mapping = Mapping::choose(cmap, 6)?;
     for k in 1..=requests {
@@ -74,7 +74,7 @@ fn refused_charts(rt: HostRuntime) -> Result<(), Fail> {
     Ok(())
 }
 
-// A group of forty: the next ones are within it, around it, or in no order.
+// Returns a group of forty: the next ones are within it, around it, or in no order.
 fn group(order: u8, i: u32) -> [u32; 3]
     requires { i < 40 }
 {

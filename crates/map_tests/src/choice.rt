@@ -18,7 +18,7 @@ fn texts_of_refusals(rt: HostRuntime) -> Result<(), Fail> {
     Ok(())
 }
 
-// Whether the `cmap` of these subtables has this choice, so many codes and these glyphs.
+// Returns whether the `cmap` of these subtables has this choice, so many codes and these glyphs.
 fn is_chosen(
     alloc: Global,
     tables: &[(u16, u16, &[u8])],
@@ -32,7 +32,7 @@ fn is_chosen(
     }
 }
 
-// Whether the `cmap` of these subtables is refused so.
+// Returns whether the `cmap` of these subtables is refused so.
 fn is_none_chosen(alloc: Global, tables: &[(u16, u16, &[u8])], refusal: MapError) -> bool {
     match cmap_of(alloc, tables) {
         Ok(cmap) => is_refused(alloc, &cmap, refusal),
@@ -76,7 +76,7 @@ fn no_candidate(rt: HostRuntime) -> Result<(), Fail> {
     Ok(())
 }
 
-// Whether the second subtable is chosen in both orders, and has glyph 2 alone, for 0x41.
+// Returns whether the second subtable is chosen in both orders, and has glyph 2 alone, for 0x41.
 fn is_second(
     alloc: Global,
     first: (u16, u16, &[u8]),

@@ -3,14 +3,14 @@ use sample_fonts::bytes::{put_u16, put_u32};
 use sfnt_bytes::BASE6;
 use std::alloc::{AllocError, Global};
 
-/// The `cmap` of Base6: 3/1 format 4, and glyphs 4, 1, 5, 3 for 0x20, 0x41, 0x42, 0xC1.
+/// Returns the `cmap` of Base6: 3/1 format 4, and glyphs 4, 1, 5, 3 for 0x20, 0x41, 0x42, 0xC1.
 pub fn base6_cmap() -> [u8; 68] {
     let mut cmap = [0; 68];
     cmap.copy_from_slice(&BASE6[124..192]);
     cmap
 }
 
-/// The subtable of Base6, without the header and the record of its `cmap`.
+/// Returns the subtable of Base6, without the header and the record of its `cmap`.
 pub fn base6_subtable() -> &'static [u8] {
     &BASE6[136..192]
 }
@@ -24,7 +24,7 @@ pub struct Segment {
     pub offset: u16,
 }
 
-/// A subtable of format 4 with these segments, and this glyphIdArray behind them.
+/// Returns a subtable of format 4 with these segments, and this glyphIdArray behind them.
 pub fn format4(alloc: Global, segments: &[Segment], array: &[u16]) -> Result<Vec<u8>, AllocError> {
     let count = segments.len() as u64 % 0x8000;
     let mut s = Vec::new(alloc);
@@ -47,8 +47,8 @@ pub fn format4(alloc: Global, segments: &[Segment], array: &[u16]) -> Result<Vec
     Ok(s)
 }
 
-/// A subtable of format 12 with these groups of startCharCode, endCharCode and startGlyphID, which
-/// says that it has `count` of them.
+/// Returns a subtable of format 12 with these groups of startCharCode, endCharCode and startGlyphID,
+/// which says that it has `count` of them.
 pub fn format12_of(alloc: Global, count: u32, groups: &[[u32; 3]]) -> Result<Vec<u8>, AllocError> {
     let mut s = Vec::new(alloc);
     put_u16(&mut s, &[12, 0])?; // format, reserved
@@ -59,12 +59,12 @@ pub fn format12_of(alloc: Global, count: u32, groups: &[[u32; 3]]) -> Result<Vec
     Ok(s)
 }
 
-/// A subtable of format 12 with these groups.
+/// Returns a subtable of format 12 with these groups.
 pub fn format12(alloc: Global, groups: &[[u32; 3]]) -> Result<Vec<u8>, AllocError> {
     format12_of(alloc, (groups.len() as u64 % 0x1000) as u32, groups)
 }
 
-/// A `cmap` with these subtables, one behind the other, each under its platform and encoding.
+/// Returns a `cmap` with these subtables, one behind the other, each under its platform and encoding.
 pub fn cmap_of(alloc: Global, tables: &[(u16, u16, &[u8])]) -> Result<Vec<u8>, AllocError> {
     let count = (tables.len() as u64 % 0x1000) as u16;
     let mut cmap = Vec::new(alloc);
@@ -81,7 +81,7 @@ pub fn cmap_of(alloc: Global, tables: &[(u16, u16, &[u8])]) -> Result<Vec<u8>, A
     Ok(cmap)
 }
 
-/// A number below 65,536 that is not easily told from the one before it.
+/// Returns a number below 65,536 that is not easily told from the one before it.
 pub fn chance(seed: &mut u32) -> u32 {
     *seed = seed.wrapping_mul(1_664_525).wrapping_add(1_013_904_223);
     *seed / 65536

@@ -22,7 +22,7 @@ pub struct Plain<'a> {
     start: u32,
 }
 
-// The format of a record of the pair at this place, and where its subtable begins.
+// Returns the format of a record of the pair at this place, and where its subtable begins.
 fn candidate(cmap: &[u8], at: u64, pair: (u16, u16)) -> Option<(u16, u32)> {
     let platform = u16_at(cmap, at)?;
     let encoding = u16_at(cmap, at.checked_add(2)?)?;
@@ -61,7 +61,7 @@ impl Plain<'_> {
         u32_at(self.cmap, u64::from(self.start).checked_add(place)?)
     }
 
-    // How many bytes there are from the start of the subtable to the end of `cmap`.
+    // Returns how many bytes there are from the start of the subtable to the end of `cmap`.
     fn room(&self) -> u64 {
         (self.cmap.len() as u64).saturating_sub(u64::from(self.start))
     }
@@ -117,7 +117,7 @@ impl Plain<'_> {
         None
     }
 
-    /// The glyph of a code.
+    /// Returns the glyph of a code.
     pub fn glyph(&self, glyphs: u16, code: u32) -> u16 {
         let found = if self.chosen.2 == 4 {
             self.by_segments(u64::from(code))
@@ -137,7 +137,7 @@ impl Plain<'_> {
     }
 }
 
-/// Whether a glyph is the one behind the last of a run.
+/// Returns whether a glyph is the one behind the last of a run.
 pub fn goes_on(run: Run, code: u32, glyph: u16) -> bool {
     let along = code.wrapping_sub(run.first);
     glyph != 0 && u32::from(glyph) == u32::from(run.glyph).wrapping_add(along)
@@ -155,13 +155,13 @@ pub fn run_of_code(code: u32, glyph: u16) -> Option<Run> {
     })
 }
 
-// Whether the first run from a code on is this one, by the mapping and by its chart.
+// Returns whether the first run from a code on is this one, by the mapping and by its chart.
 fn is_run(mapping: &Mapping<'_>, chart: &Chart<'_>, from: u32, run: Option<Run>) -> bool {
     mapping.next_run(from) == run && chart.next_run(from) == run
 }
 
-// Whether each code has the plain program's glyph, and the runs are those of the plain program, by the
-// mapping and by its chart.
+// Returns whether each code has the plain program's glyph, and the runs are those of the plain program,
+// by the mapping and by its chart.
 fn has_same_map(mapping: &Mapping<'_>, chart: &Chart<'_>, plain: &Plain<'_>, glyphs: u16) -> bool {
     let mut from = 0;
     let mut count = 0u32;
@@ -196,13 +196,13 @@ fn has_same_map(mapping: &Mapping<'_>, chart: &Chart<'_>, plain: &Plain<'_>, gly
         && is_unmapped_from(mapping, chart, u32::MAX)
 }
 
-// Whether no code from one on is mapped, by the mapping and by its chart.
+// Returns whether no code from `from` on is mapped, by the mapping and by its chart.
 fn is_unmapped_from(mapping: &Mapping<'_>, chart: &Chart<'_>, code: u32) -> bool {
     mapping.glyph(code) == 0 && chart.glyph(code) == 0 && is_run(mapping, chart, code, None)
 }
 
-/// Whether a `cmap` is refused as the plain program refuses it, or has the same choice, glyphs, runs
-/// and number of codes, and a chart that has them too.
+/// Returns whether a `cmap` is refused as the plain program refuses it, or has the same choice, glyphs,
+/// runs and number of codes, and a chart that has them too.
 pub fn is_as_plain(alloc: Global, cmap: &[u8], glyphs: u16) -> bool {
     let fast = Mapping::choose(cmap, glyphs);
     let Some(plain) = choose(cmap) else {
@@ -222,7 +222,7 @@ pub fn is_as_plain(alloc: Global, cmap: &[u8], glyphs: u16) -> bool {
     }
 }
 
-/// Whether the first run from a code on is this one.
+/// Returns whether the first run from a code on is this one.
 pub fn is_next_run(cmap: &[u8], glyphs: u16, from: u32, run: Option<(u32, u32, u16)>) -> bool {
     match Mapping::choose(cmap, glyphs) {
         Ok(mapping) => {
@@ -232,7 +232,7 @@ pub fn is_next_run(cmap: &[u8], glyphs: u16, from: u32, run: Option<(u32, u32, u
     }
 }
 
-/// Whether a `cmap` has this choice, so many mapped codes and these glyphs of codes.
+/// Returns whether a `cmap` has this choice, so many mapped codes and these glyphs of codes.
 pub fn has_codes(
     cmap: &[u8],
     glyphs: u16,
@@ -251,7 +251,7 @@ pub fn has_codes(
     mapping.chosen() == chosen && mapping.mapped_count() == count
 }
 
-/// Whether a `cmap` has them, and all else as the plain program says.
+/// Returns whether a `cmap` has them, and all else as the plain program says.
 pub fn has_map(
     alloc: Global,
     cmap: &[u8],
@@ -263,7 +263,7 @@ pub fn has_map(
     has_codes(cmap, glyphs, chosen, count, codes) && is_as_plain(alloc, cmap, glyphs)
 }
 
-/// Whether a `cmap` is refused so, by the plain program too.
+/// Returns whether a `cmap` is refused so, by the plain program too.
 pub fn is_refused(alloc: Global, cmap: &[u8], refusal: MapError) -> bool {
     Mapping::choose(cmap, 6).err() == Some(refusal) && is_as_plain(alloc, cmap, 6)
 }

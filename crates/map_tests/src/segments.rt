@@ -63,7 +63,7 @@ fn cmap4(alloc: Global, segments: &[Segment], array: &[u16]) -> Result<Vec<u8>, 
     cmap_of(alloc, &[(3, 1, &table)])
 }
 
-// A segment whose first code has a glyph, by its delta.
+// Returns a segment whose first code has a glyph, by its delta.
 fn segment(start: u16, end: u16, glyph: u16) -> Segment {
     Segment {
         start,
@@ -73,7 +73,7 @@ fn segment(start: u16, end: u16, glyph: u16) -> Segment {
     }
 }
 
-// A `cmap` of such segments, of which startCode, endCode and the first glyph are listed.
+// Returns a `cmap` of such segments, of which startCode, endCode and the first glyph are listed.
 fn by_deltas(alloc: Global, listed: &[(u16, u16, u16)]) -> Result<Vec<u8>, AllocError> {
     let mut segments = Vec::new(alloc);
     for (start, end, glyph) in listed {
@@ -99,8 +99,8 @@ fn deltas_that_wrap(rt: HostRuntime) -> Result<(), Fail> {
     Ok(())
 }
 
-// Whether 0x41 has this glyph, which is looked for `offset` bytes behind its idRangeOffset, at 22, in
-// so many bytes of the `cmap`.
+// Returns whether 0x41 has this glyph, which is looked for `offset` bytes behind its idRangeOffset, at
+// 22, in so many bytes of the `cmap`.
 fn has_entry(
     alloc: Global,
     offset: u16,

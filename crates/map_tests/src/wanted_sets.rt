@@ -7,7 +7,8 @@ use sfnt_bytes::NoMemory;
 use std::alloc::{AllocError, Allocator, Global};
 use std::test::Fail;
 
-// Whether a set has exactly the codes that a list says of the codes from 0 on, and none behind them.
+// Returns whether a set has exactly the codes that a list says of the codes from 0 on, and none behind
+// them.
 fn has_codes<A: Allocator>(wanted: &Wanted<A>, codes: &[bool]) -> bool {
     let mut code = 0u32;
     for has in codes {
@@ -253,7 +254,7 @@ fn runs_of_mapping(rt: HostRuntime) -> Result<(), Fail> {
 // All codes of the tables and sets of these tests are below.
 const STOP: u32 = 0x200;
 
-// The glyph of a wanted code, 0 where the code is not wanted.
+// Returns the glyph of a wanted code, 0 where the code is not wanted.
 fn wanted_glyph<A: Allocator>(mapping: &Mapping<'_>, wanted: &Wanted<A>, code: u32) -> u16 {
     if wanted.contains(code) {
         mapping.glyph(code)
@@ -262,7 +263,7 @@ fn wanted_glyph<A: Allocator>(mapping: &Mapping<'_>, wanted: &Wanted<A>, code: u
     }
 }
 
-// Whether both ways to the run from a code on come to this one.
+// Returns whether both ways to the run from a code on come to this one.
 fn is_run_of_both<A: Allocator>(
     mapping: &Mapping<'_>,
     chart: &Chart<'_>,
@@ -273,7 +274,7 @@ fn is_run_of_both<A: Allocator>(
     mapping.wanted_run(wanted, from) == run && chart.wanted_run(wanted, from) == run
 }
 
-// Whether the groups and runs are those that asking each code gives.
+// Returns whether the groups and runs are those that asking each code gives.
 fn are_plain_groups<A: Allocator>(
     mapping: &Mapping<'_>,
     chart: &Chart<'_>,

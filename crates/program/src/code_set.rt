@@ -12,7 +12,7 @@ pub(crate) struct CodeSet {
     words: Vec<u32>,
 }
 
-// A word count of zeros. The prover is slow where the count is written out.
+// Returns so many zeros. The prover is slow where their number is written out.
 fn zeros(alloc: Global, count: usize) -> Result<Vec<u32>, AllocError> {
     vec![in alloc; 0; count]
 }

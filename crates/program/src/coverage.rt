@@ -65,7 +65,8 @@ fn add_font(text: &mut String, font: &Font<'_>) -> Result<(), AllocError> {
 }
 
 impl Coverage {
-    /// What is told of a font and of the codes that are wanted. All memory that it needs is asked for here.
+    /// Returns what is told of a font and of the codes that are wanted. All memory that it needs is
+    /// asked for here.
     pub(crate) fn of(
         alloc: Global,
         font: &Font<'_>,
@@ -85,7 +86,7 @@ impl Coverage {
         })
     }
 
-    /// Whether the font maps each code that is wanted.
+    /// Returns whether the font maps each code that is wanted.
     pub(crate) fn is_full(&self) -> bool {
         self.is_full
     }

@@ -4,7 +4,7 @@ use font_cmd::{Inlet, RunError, run_join, run_subset};
 use font_cut::{BASE6, Directory, Font, Outlet};
 use std::alloc::{AllocError, Global};
 
-// A line for the file, one for each table, and the number of findings.
+// Returns a line for the file, one for each table, and the number of findings.
 fn described(alloc: Global, directory: &Directory<'_>) -> Result<String, AllocError> {
     let size = directory.file().len();
     let mut text = String::new(alloc);
@@ -52,7 +52,7 @@ fn add_join(alloc: Global, text: &mut String, x: &[u8], y: &[u8]) -> Result<(), 
     Ok(())
 }
 
-/// What `demo` prints.
+/// Returns what `demo` prints.
 pub(crate) fn demo_text(alloc: Global) -> Result<String, RunError> {
     let font = Font::open(&BASE6)?;
     let mut text = described(alloc, font.tables().directory())?;

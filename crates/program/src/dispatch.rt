@@ -25,7 +25,7 @@ use std::rt::Files;
 // The bytes that are gathered for one write of a file: a cut is made of many short pieces.
 const BLOCK: usize = 64 * 1024;
 
-// What stands for a path where a report cannot be written.
+// The name in the place of a path where a report cannot be written.
 const STANDARD_OUTPUT: &str = "standard output";
 
 // What a task comes to where nothing is at fault.
@@ -64,7 +64,7 @@ fn say<V: Write>(err: &mut Outlet<V>, text: &str)
     let _ = err.put(text.as_bytes());
 }
 
-// The lines that say what is at fault, and the system's reason where it is wanted and known.
+// Returns the lines that say what is at fault, and the system's reason where it is wanted and known.
 fn fault_text(alloc: Global, fault: &Fault<'_>, reason: Option<i32>) -> Result<String, AllocError> {
     let mut text = format!(in alloc; "fontcut: {fault}\n")?;
     if let (Fault::Unread(_) | Fault::Unwritten(_), Some(number)) = (fault, reason) {
@@ -99,7 +99,7 @@ fn print<W: Write>(out: &mut Outlet<W>, text: &str) -> Result<Answer, Fault<'sta
     Ok(Answer::of(true))
 }
 
-// The answer of a run that has read the file at a path and printed what it says of it.
+// Returns the answer of a run that has read the file at a path and printed what it says of it.
 fn answered(font: &str, is_well: Result<bool, RunError>) -> Result<Answer, Fault<'_>> {
     match is_well {
         Ok(is_well) => Ok(Answer::of(is_well)),
@@ -158,7 +158,7 @@ fn belongs<'a, F: Files, I: Read + Copy + Drop, O, W: Write>(
     answered(unread, is_cut)
 }
 
-// The file at a path, or standard output. Nothing is made before the first write.
+// Returns the file at a path, or standard output. Nothing is made before the first write.
 fn target<'a, F: Files, I, O: Write + Copy + Drop>(
     system: &System<'a, F, I, O>,
     path: &'a str,
@@ -172,7 +172,7 @@ fn target<'a, F: Files, I, O: Write + Copy + Drop>(
     }
 }
 
-// What OUT is, by way of a block of bytes.
+// Returns an outlet to OUT, which gathers a block of bytes for each write.
 fn outlet<'a, F: Files, I, O: Write + Copy + Drop>(
     system: &System<'a, F, I, O>,
     path: &'a str,
@@ -282,7 +282,7 @@ fn subset<'a, F: Files, I: Read + Copy + Drop, O: Write + Copy + Drop>(
     Ok(Answer::of(true))
 }
 
-// The path of the inlet whose reader has failed.
+// Returns the path of the inlet whose reader has failed.
 fn broken_path<'a, R: Read>(inlets: &[Inlet<R>], paths: &[&'a str]) -> Option<&'a str> {
     for (inlet, &path) in inlets.iter().zip(paths) {
         if inlet.is_broken() {
@@ -377,13 +377,13 @@ fn run_line<'a, F: Files, I: Read + Copy + Drop, O: Write + Copy + Drop, W: Writ
     ended(system.alloc, err, answer, reason)
 }
 
-/// Does what the words of a command line ask for, the program's own name not among them, and answers
-/// the status: 0 where it is done, 1 where a file is refused or has a finding, a code is not mapped that
-/// a strict line wants, or memory was refused, 2 where the words or a file of wanted codes are at fault,
-/// 3 where a file cannot be read or an output cannot be written.
+/// Does what the arguments of a command line ask for, the program's own name not among them, and returns
+/// the status: 0 where it is done; 1 where a file is refused or has a finding, a code is not mapped that a
+/// strict line wants, or memory was refused; 2 where the line or a file of wanted codes is at fault; 3 where
+/// a file cannot be read or an output cannot be written.
 ///
-/// Reports and help go to `out`, a cut or join whose OUT is `-` to the output of `system`; faults, and what
-/// `--report` tells, to `err`.
+/// Reports and help go to `out`, a cut or join whose OUT is `-` to the output of `system`; what is wrong, and
+/// what `--report` tells, to `err`.
 pub fn run_words<'a, F, I, O, W, V>(
     system: &System<'a, F, I, O>,
     words: &'a [String],

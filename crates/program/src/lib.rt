@@ -1,4 +1,4 @@
-//! What `fontcut` does with the words of a command line and with files: it is safe and returns, and tests show the rest.
+//! What `fontcut` does with a command line and with files: it is safe and returns, and tests show the rest.
 #![tactic(auto)]
 
 mod code_set;

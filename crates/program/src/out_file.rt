@@ -37,12 +37,12 @@ pub(crate) struct OutFile<'a, F: Files> {
     is_beside: bool,
 }
 
-// Whether an error says that memory was refused.
+// Returns whether an error says that memory was refused.
 fn is_memory(error: &io::Error) -> bool {
     error.kind() == ErrorKind::OutOfMemory
 }
 
-// Whether a path names an open file of a process.
+// Returns whether a path names an open file of a process.
 fn is_handle(path: &PathBuf) -> bool {
     HANDLES
         .iter()
@@ -68,8 +68,8 @@ fn followed<F: Files>(files: &F, alloc: Global, path: &str) -> Result<PathBuf, A
     Ok(path)
 }
 
-// A path of a file beside a path, with room for another name behind its own: `set_file_name` asks for that
-// before it lets the old name go.
+// Returns a path of a file beside a path, with room for another name behind its own: `set_file_name`
+// asks for that before it lets the old name go.
 fn longest_beside(alloc: Global, path: &PathBuf) -> Result<PathBuf, AllocError> {
     let mut beside = match path.as_path().parent() {
         Some(folder) => folder.join(alloc, LONGEST)?,
@@ -80,7 +80,8 @@ fn longest_beside(alloc: Global, path: &PathBuf) -> Result<PathBuf, AllocError> 
 }
 
 impl<'a, F: Files> OutFile<'a, F> {
-    /// The file at a path, at which nothing is changed yet. All memory that it needs is asked for here.
+    /// Returns the file at a path, at which nothing is changed yet. All memory that it needs is asked
+    /// for here.
     pub(crate) fn new(
         files: &'a F,
         alloc: Global,

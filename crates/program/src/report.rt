@@ -12,7 +12,7 @@ pub(crate) enum Fault<'a> {
     InputTwice,
     /// This word names no range of codes.
     BadWord(&'a str),
-    /// What stands in a line of the file at this path is not UTF-8, or is this word, which names no range.
+    /// A line of the file at this path is not UTF-8, or has this word, which names no range.
     BadLine {
         path: &'a str,
         line: u64,
@@ -20,14 +20,14 @@ pub(crate) enum Fault<'a> {
     },
     /// The file at this path cannot be read.
     Unread(&'a str),
-    /// What stands at this path cannot be written.
+    /// The file at this path, or standard output, cannot be written.
     Unwritten(&'a str),
     /// A file is refused, or memory was.
     Refused(RunError),
 }
 
 impl<'a> Fault<'a> {
-    /// The fault of a run that reads the file at `font` and writes what stands at `out`.
+    /// Returns why a run is not done that reads the file at `font` and writes OUT at `out`.
     pub(crate) fn of_run(font: &'a str, out: &'a str, error: RunError) -> Fault<'a> {
         match error {
             RunError::Read(_) => Fault::Unread(font),
@@ -36,8 +36,8 @@ impl<'a> Fault<'a> {
         }
     }
 
-    /// The status of the program: 1 where a file is refused or memory was, 2 where a word is at fault, 3
-    /// where a file cannot be read or written.
+    /// Returns the status of the program: 1 where a file is refused or memory was, 2 where a word is at
+    /// fault, 3 where a file cannot be read or written.
     pub(crate) fn status(&self) -> u8 {
         match self {
             Fault::Refused(_) => 1,
@@ -47,12 +47,12 @@ impl<'a> Fault<'a> {
     }
 }
 
-/// The fault that memory is refused.
+/// Returns that memory is refused.
 pub(crate) fn no_memory() -> Fault<'static> {
     Fault::Refused(RunError::Memory)
 }
 
-// The place of one of two files, counted from one.
+// Returns the place of one of two files, counted from one.
 fn place_of(which: Which) -> u8 {
     match which {
         Which::First => 1,

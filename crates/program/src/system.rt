@@ -9,7 +9,7 @@ use std::io::{Read, Write};
 pub struct Reason(Cell<Option<i32>>);
 
 impl Reason {
-    /// No reason yet.
+    /// Returns a place that holds no reason yet.
     pub fn new() -> Reason {
         Reason(Cell::new(None))
     }
@@ -34,7 +34,7 @@ pub struct Heard<'a, T> {
 }
 
 impl<'a, T> Heard<'a, T> {
-    /// The same reader or writer, whose errors are kept.
+    /// Returns the same reader or writer, whose errors are kept.
     pub fn new(inner: T, reason: &'a Reason) -> Heard<'a, T> {
         Heard { inner, reason }
     }

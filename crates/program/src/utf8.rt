@@ -22,12 +22,12 @@ impl Utf8 {
         }
     }
 
-    /// Whether a character is not complete.
+    /// Returns whether a character is not complete.
     pub(crate) fn is_inside(&self) -> bool {
         self.lacks != 0
     }
 
-    // The first byte of a character that is longer than a byte.
+    // Takes the first byte of a character that is longer than a byte.
     fn begin(&mut self, byte: u8) -> Result<(), NotUtf8> {
         let (bits, lacks, least) = match byte {
             0xC2..=0xDF => (byte & 0x1F, 1, 0x80),

@@ -28,7 +28,7 @@ pub(crate) enum Listed {
 pub(crate) enum Stopped {
     /// A read failed.
     Unread,
-    /// What stands in a line is no UTF-8, or is this word, which names no range.
+    /// A line is not UTF-8, or has this word, which names no range.
     BadLine { line: u64, word: Option<String> },
     /// Memory was refused.
     NoMemory,
@@ -67,7 +67,7 @@ impl<'a> Reading<'a> {
         })
     }
 
-    // A fault in the line that is read.
+    // Returns that the line which is read is at fault.
     fn bad_line(&self, word: Option<String>) -> Stopped {
         Stopped::BadLine {
             line: self.line,
@@ -75,7 +75,7 @@ impl<'a> Reading<'a> {
         }
     }
 
-    // The fault of the word that was read.
+    // Returns that the word which was read is at fault.
     fn bad_word(&self) -> Stopped {
         match String::from_str(self.alloc, self.word.as_str()) {
             Ok(word) => self.bad_line(Some(word)),

@@ -12,7 +12,7 @@ const KINDS: [ErrorKind; 3] = [Interrupted, Other, WriteZero];
 // More reads and writes than any run makes.
 const MANY: u64 = 500;
 
-// Whether a run ended with a failed read after so many bytes, and sent nothing.
+// Returns whether a run ended with a failed read after so many bytes, and sent nothing.
 fn is_unread(run: Run, ended: &Outcome, came: u64) -> bool {
     ended.answer == Err(Read(came))
         && ended.inlets == run.stopped()
@@ -20,7 +20,7 @@ fn is_unread(run: Run, ended: &Outcome, came: u64) -> bool {
         && ended.writer.held().is_empty()
 }
 
-// Whether a run ended with a failed write, and says how many bytes went out, which are a front.
+// Returns whether a run ended with a failed write, and says how many bytes went out, which are a front.
 fn is_unwritten(run: Run, ended: &Outcome) -> bool {
     let held = ended.writer.held();
     ended.answer == Err(Write(held.len() as u64))
@@ -57,7 +57,7 @@ const WORKED: [(Run, usize, Failure, RunError); 23] = [
     (Run::BelongsSecond, 4096, AtFlush(Other), Write(4)),
 ];
 
-// Whether a run ended with this error, and left inlets, outlet and writer as that says.
+// Returns whether a run ended with this error, and left inlets, outlet and writer as that says.
 fn has_stopped(run: Run, ended: &Outcome, error: RunError) -> bool {
     match error {
         Read(came) => is_unread(run, ended, came),
@@ -73,7 +73,7 @@ fn failing_devices(rt: HostRuntime) {
     }
 }
 
-// How many bytes come before the read of this number, and none where no read has that number.
+// Returns how many bytes come before the read of this number, and none where no read has that number.
 fn came_before(run: Run, piece: usize, k: u64) -> Option<u64> {
     let length = run.file().len() as u64;
     let came = (piece as u64).saturating_mul(k.saturating_sub(1));
@@ -85,7 +85,8 @@ fn came_before(run: Run, piece: usize, k: u64) -> Option<u64> {
     }
 }
 
-// Whether the run with each read failing in turn is as it should be, up to one that meets no failure.
+// Returns whether the run with each read failing in turn is as it should be, up to one that meets no
+// failure.
 fn fails_at_each_read(alloc: Global, run: Run, piece: usize, kind: ErrorKind) -> bool {
     for k in 1..MANY {
         let ended = failing(alloc, run, piece, AtRead(k, kind));
@@ -98,16 +99,16 @@ fn fails_at_each_read(alloc: Global, run: Run, piece: usize, kind: ErrorKind) ->
     false
 }
 
-// Whether so many bytes go out before the write of this number. A report is sent by one call; of a
-// cut it is known where each write takes one byte.
+// Returns whether so many bytes go out before the write of this number. A report is sent by one call; of
+// a cut it is known where each write takes one byte.
 fn is_count(run: Run, piece: usize, k: u64, written: u64) -> bool {
     let is_report = !matches!(run, Run::Subset | Run::JoinFirst | Run::JoinSecond);
     let count = (piece as u64).saturating_mul(k.saturating_sub(1));
     written == count || !(is_report || piece == 1)
 }
 
-// Whether the run with each write failing in turn is as it should be, up to one that meets no failure.
-// Where there is no kind of error, the write takes nothing.
+// Returns whether the run with each write failing in turn is as it should be, up to one that meets no
+// failure. Where there is no kind of error, the write takes nothing.
 fn fails_at_each_write(alloc: Global, run: Run, piece: usize, kind: Option<ErrorKind>) -> bool {
     for k in 1..MANY {
         let failure = match kind {

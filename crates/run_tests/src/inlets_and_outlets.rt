@@ -5,14 +5,14 @@ use font_cut::{BASE6, Outlet, WriteFault};
 use std::alloc::Global;
 use std::io::ErrorKind;
 
-// How many bytes of Base6 go by before the call of this number, at most `piece` a call.
+// Returns how many bytes of Base6 go by before the call of this number, at most `piece` a call.
 fn bytes_before(call: u64, piece: usize) -> u64 {
     (piece as u64)
         .saturating_mul(call.saturating_sub(1))
         .min(428)
 }
 
-// Whether Base6 is sent up to the write of this number, which fails.
+// Returns whether Base6 is sent up to the write of this number, which fails.
 fn is_sent_up_to(alloc: Global, piece: usize, k: u64, failure: Failure) -> bool {
     let mut outlet = Outlet::new(Narrow::new(alloc, piece, failure));
     let answer = outlet.put(&BASE6);
@@ -41,7 +41,8 @@ fn short_writer(rt: HostRuntime) {
     }
 }
 
-// Whether Base6 is read to its end, which takes so many reads, or up to the read `k`, which fails.
+// Returns whether Base6 is read to its end, which takes so many reads, or up to the read `k`, which
+// fails.
 fn is_read_up_to(alloc: Global, piece: usize, reads: u64, k: u64) -> bool {
     let failure = Failure::AtRead(k, ErrorKind::Interrupted);
     let mut inlet = Inlet::new(Pieces::new(&BASE6, piece, failure));

@@ -7,8 +7,8 @@ use font_cut::{BASE6, JoinAllError, Outlet};
 use std::alloc::Global;
 use std::test::Fail;
 
-// Whether a run that was refused its request of this number says so, and has sent nothing. A subset
-// and a join ask for memory once before they read.
+// Returns whether a run that was refused its request of this number says so, and has sent nothing. A
+// subset and a join ask for memory once before they read.
 fn is_refused(run: Run, ended: &Outcome, k: u64) -> bool {
     let asks_first = matches!(run, Run::Subset | Run::JoinFirst | Run::JoinSecond);
     let may_be_unread = k == 1 && asks_first;
@@ -19,8 +19,8 @@ fn is_refused(run: Run, ended: &Outcome, k: u64) -> bool {
         && (ended.inlets[0] == State::Read || may_be_unread)
 }
 
-// Whether the run with each request for memory refused in turn is as it should be, up to one that
-// meets no refusal.
+// Returns whether the run with each request for memory refused in turn is as it should be, up to one
+// that meets no refusal.
 fn is_refused_each(alloc: Global, run: Run) -> bool {
     for k in 1..200u64 {
         let memory = Refusing::new(alloc, k);
@@ -44,7 +44,7 @@ fn refused_memory_in_runs(rt: HostRuntime) {
     }
 }
 
-// The same of an inlet that is read to its end.
+// Returns the same of an inlet that is read to its end.
 fn is_refused_each_in_read_all(alloc: Global, file: &[u8]) -> bool {
     for k in 1..100u64 {
         let memory = Refusing::new(alloc, k);

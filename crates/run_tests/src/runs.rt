@@ -47,7 +47,7 @@ pub enum State {
 }
 
 impl Run {
-    /// What the test's reader gives.
+    /// Returns what the test's reader gives.
     pub fn file(self) -> &'static [u8] {
         match self {
             Run::Check | Run::Show | Run::Codes | Run::Subset | Run::BelongsSecond => &BASE6,
@@ -55,7 +55,7 @@ impl Run {
         }
     }
 
-    /// What is to be sent.
+    /// Returns what is to be sent.
     pub fn text(self) -> &'static [u8] {
         match self {
             Run::Check => CHECKED,
@@ -67,8 +67,8 @@ impl Run {
         }
     }
 
-    /// What is to be answered: of `check` 1 for an accepted font, of `belongs` 1 for a cut of the font, and
-    /// of `show` and `codes` nothing.
+    /// Returns what is to be answered: of `check` 1 for an accepted font, of `belongs` 1 for a cut of
+    /// the font, and of `show` and `codes` nothing.
     pub fn answer(self) -> u64 {
         match self {
             Run::Check | Run::BelongsFirst | Run::BelongsSecond => 1,
@@ -138,7 +138,7 @@ fn outcome_of(
     }
 }
 
-// A run over one inlet. Where the set of wanted codes gets no memory, that is the answer.
+// Runs over one inlet. Where the set of wanted codes gets no memory, that is the answer.
 fn run_alone(memory: &Refusing<Global>, run: Run, reader: Pieces<'_>, writer: Narrow) -> Outcome {
     let mut inlet = Inlet::new(reader);
     let mut outlet = Outlet::new(writer);
@@ -158,7 +158,7 @@ fn run_alone(memory: &Refusing<Global>, run: Run, reader: Pieces<'_>, writer: Na
     outcome_of(answer, inlets, outlet)
 }
 
-// A join, of whose three inlets the second one is the test's where `is_second`, and else the first.
+// Runs a join, of whose three inlets the second one is the test's where `is_second`, and else the first.
 fn run_joined(
     memory: &Refusing<Global>,
     is_second: bool,
@@ -182,7 +182,8 @@ fn run_joined(
     outcome_of(answer, states, outlet)
 }
 
-// A run of `belongs`, of whose two inlets the second one is the test's where `is_second`, and else the first.
+// Runs `belongs`, of whose two inlets the second one is the test's where `is_second`, and else the
+// first.
 fn run_compared(
     memory: &Refusing<Global>,
     is_second: bool,
@@ -236,7 +237,7 @@ pub fn over(alloc: Global, run: Run, file: &[u8]) -> Outcome {
     )
 }
 
-/// Whether a run answered this and sent this text, and read all inlets.
+/// Returns whether a run answered this and sent this text, and read all inlets.
 pub fn has_sent(run: Run, ended: &Outcome, answer: u64, text: &[u8]) -> bool {
     ended.answer == Ok(answer)
         && ended.inlets == run.read()
@@ -245,7 +246,7 @@ pub fn has_sent(run: Run, ended: &Outcome, answer: u64, text: &[u8]) -> bool {
         && ended.written == text.len() as u64
 }
 
-/// Whether a run has sent all that it is to send.
+/// Returns whether a run has sent all that it is to send.
 pub fn is_done(run: Run, ended: &Outcome) -> bool {
     has_sent(run, ended, run.answer(), run.text())
 }

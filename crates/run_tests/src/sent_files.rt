@@ -101,7 +101,7 @@ fn with_dropped_tables(alloc: Global) -> Result<Vec<u8>, Fail> {
     file_as_stated(alloc, &records, &BASE6[124..])
 }
 
-// Whether this is the cut of Base6 for some codes, as `subset` sends it.
+// Returns whether this is the cut of Base6 for some codes, as `subset` sends it.
 fn is_cut_for(alloc: Global, codes: &[u32], cut: &[u8]) -> bool {
     let mut wanted = Wanted::new(alloc);
     for &code in codes {
@@ -115,7 +115,7 @@ fn is_cut_for(alloc: Global, codes: &[u32], cut: &[u8]) -> bool {
     answer == Ok(cut.len() as u64) && outlet.into_inner().as_slice() == cut
 }
 
-// Whether `join` of two files answers and sends this.
+// Returns whether `join` of two files answers and sends this.
 fn joins(alloc: Global, x: &[u8], y: &[u8], answer: Result<u64, RunError>, text: &[u8]) -> bool {
     let mut inlets = [Inlet::new(x), Inlet::new(y)];
     let mut outlet = Outlet::new(Vec::new(alloc));
@@ -155,7 +155,7 @@ fn one_cut_alone(rt: HostRuntime) {
     assert_eq!(rt; outlet.into_inner().as_slice(), AACUTE.as_slice());
 }
 
-// Whether a run over this file ends with the refusal of the font, and sends nothing.
+// Returns whether a run over this file ends with the refusal of the font, and sends nothing.
 fn is_refused(alloc: Global, run: Run, file: &[u8], error: FontError) -> bool {
     let ended = over(alloc, run, file);
     ended.answer == Err(RunError::Font(error))
@@ -206,7 +206,7 @@ fn refused_files_of_a_join(rt: HostRuntime) {
     }
 }
 
-// Whether `belongs` of two files answers and sends this.
+// Returns whether `belongs` of two files answers and sends this.
 fn tells(
     alloc: Global,
     cut: &[u8],

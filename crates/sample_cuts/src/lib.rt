@@ -12,7 +12,7 @@ use std::test::Fail;
 // How many words stand in a cut's `cmap` before its groups.
 const BEFORE_GROUPS: usize = 9;
 
-/// A set of the codes in these ranges.
+/// Returns a set of the codes in these ranges.
 pub fn wanted_of<A: Allocator + Copy>(
     alloc: A,
     ranges: &[(u32, u32)],
@@ -24,7 +24,7 @@ pub fn wanted_of<A: Allocator + Copy>(
     Ok(wanted)
 }
 
-/// The cut of a file for the codes in these ranges.
+/// Returns the cut of a file for the codes in these ranges.
 pub fn cut_of(alloc: Global, file: &[u8], ranges: &[(u32, u32)]) -> Result<Vec<u8>, Fail> {
     let font = Font::open(file)?;
     let wanted = wanted_of(alloc, ranges)?;
@@ -32,7 +32,7 @@ pub fn cut_of(alloc: Global, file: &[u8], ranges: &[(u32, u32)]) -> Result<Vec<u
     Ok(made)
 }
 
-/// The first refusal that applies to a file.
+/// Returns the first refusal that applies to a file.
 pub fn refusal_of(file: &[u8]) -> Option<FontError> {
     Font::open(file).err()
 }
@@ -53,7 +53,7 @@ fn words_of(alloc: Global, bytes: &[u8]) -> Result<Vec<u32>, Fail> {
     Ok(words)
 }
 
-/// The groups of a cut, three words each.
+/// Returns the groups of a cut, three words each.
 pub fn groups_of(alloc: Global, file: &[u8]) -> Result<Vec<u32>, Fail> {
     let table = Directory::read(file)?.table(CMAP).ok_or("no cmap")?;
     let words = words_of(alloc, table)?;
@@ -62,7 +62,7 @@ pub fn groups_of(alloc: Global, file: &[u8]) -> Result<Vec<u32>, Fail> {
     Ok(copy)
 }
 
-// The offsets of a cut.
+// Returns the offsets of a cut.
 fn loca_of(alloc: Global, file: &[u8]) -> Result<Vec<u32>, Fail> {
     let table = Directory::read(file)?.table(LOCA).ok_or("no loca")?;
     let words = words_of(alloc, table)?;
@@ -81,7 +81,7 @@ pub fn head_of(file: &[u8]) -> Result<&[u8], Fail> {
     Ok(head)
 }
 
-/// The kept glyphs of a source, in order.
+/// Returns the kept glyphs of a source, in order.
 pub fn kept_of<S: Source>(alloc: Global, source: &S) -> Result<Vec<u16>, AllocError> {
     let mut glyphs = Vec::new(alloc);
     for g in 0..source.glyph_count() {
@@ -92,7 +92,7 @@ pub fn kept_of<S: Source>(alloc: Global, source: &S) -> Result<Vec<u16>, AllocEr
     Ok(glyphs)
 }
 
-/// Whether a file is accepted, and has no finding.
+/// Returns whether a file is accepted, and has no finding.
 pub fn is_clean(file: &[u8]) -> bool {
     match Font::open(file) {
         Ok(font) => font.tables().directory().findings().next().is_none(),
@@ -100,7 +100,8 @@ pub fn is_clean(file: &[u8]) -> bool {
     }
 }
 
-/// Whether the cut has this size, these groups and these offsets, is accepted and has no finding.
+/// Returns whether the cut has this size, these groups and these offsets, is accepted and has no
+/// finding.
 pub fn is_as_stated(
     alloc: Global,
     made: &[u8],

@@ -36,7 +36,7 @@ pub fn put_at(bytes: &mut Vec<u8>, at: usize, others: &[u8]) {
     }
 }
 
-/// The sum of the words, the last one filled with zeros.
+/// Returns the sum of the words, the last one filled with zeros.
 pub fn checksum(bytes: &[u8]) -> u32 {
     let mut sum = 0u32;
     for (place, byte) in bytes.iter().enumerate() {
@@ -51,14 +51,14 @@ pub fn checksum(bytes: &[u8]) -> u32 {
     sum
 }
 
-/// The bytes of words.
+/// Returns the bytes of words.
 pub fn bytes_of(alloc: Global, words: &[u32]) -> Result<Vec<u8>, AllocError> {
     let mut bytes = Vec::new(alloc);
     put_u32(&mut bytes, words)?;
     Ok(bytes)
 }
 
-/// Zeros.
+/// Returns zeros.
 pub fn zeros(alloc: Global, length: usize) -> Result<Vec<u8>, AllocError> {
     vec![in alloc; 0u8; length]
 }

@@ -30,8 +30,8 @@ pub fn entry(tag: &[u8; 4], checksum: u32, offset: u32, length: u32) -> Entry {
     }
 }
 
-/// A directory with these records, as they stand. Its search fields are right where there are right
-/// ones, and else zero. More than 65,535 records are refused.
+/// Returns a directory with these records, as they stand. Its search fields are right where there are
+/// right ones, and else zero. More than 65,535 records are refused.
 pub(crate) fn directory_of(alloc: Global, entries: &[Entry]) -> Result<Vec<u8>, Fail> {
     let count = u16::try_from(entries.len()).map_err(|_| "too many records")?;
     let (range, selector, shift) = search_fields(count).unwrap_or((0, 0, 0));
@@ -55,8 +55,8 @@ pub fn file_as_stated(alloc: Global, entries: &[Entry], rest: &[u8]) -> Result<V
     Ok(file)
 }
 
-/// The bytes of a table in what stands behind a directory of so many bytes. A table of no byte may
-/// stand anywhere.
+/// Returns the bytes of a table in the bytes that follow a directory of so many bytes. A table of no
+/// byte may stand anywhere.
 pub(crate) fn table_in<'a>(start: usize, rest: &'a [u8], entry: &Entry) -> Option<&'a [u8]> {
     if entry.length == 0 {
         return Some(&[]);
@@ -65,7 +65,7 @@ pub(crate) fn table_in<'a>(start: usize, rest: &'a [u8], entry: &Entry) -> Optio
     rest.get(at..at.checked_add(entry.length as usize)?)
 }
 
-// The records with right sums.
+// Returns the records with right sums.
 fn summed(alloc: Global, entries: &[Entry], rest: &[u8]) -> Result<Vec<Entry>, Fail> {
     let start = directory_of(alloc, entries)?.len();
     let mut all = Vec::new(alloc);
@@ -79,14 +79,14 @@ fn summed(alloc: Global, entries: &[Entry], rest: &[u8]) -> Result<Vec<Entry>, F
     Ok(all)
 }
 
-// Where `checksumAdjustment` stands.
+// Returns where `checksumAdjustment` stands.
 fn adjustment_place(entries: &[Entry]) -> Option<usize> {
     let head = entries.iter().find(|entry| entry.tag == Tag(*b"head"))?;
     Some(head.offset as usize + 8)
 }
 
-/// A file with these records and with `rest` behind them, in which `checksumAdjustment` is 0: all
-/// sums and the search fields are made right.
+/// Returns a file with these records and with `rest` behind them, in which `checksumAdjustment` is 0:
+/// all sums and the search fields are made right.
 pub(crate) fn file_of(alloc: Global, entries: &[Entry], rest: &[u8]) -> Result<Vec<u8>, Fail> {
     let all = summed(alloc, entries, rest)?;
     let mut file = directory_of(alloc, &all)?;
@@ -97,7 +97,7 @@ pub(crate) fn file_of(alloc: Global, entries: &[Entry], rest: &[u8]) -> Result<V
     Ok(file)
 }
 
-/// A file with right sums in the place of its own.
+/// Returns a file with right sums in the place of its own.
 pub fn mended(alloc: Global, file: &[u8]) -> Result<Vec<u8>, Fail> {
     let entries: Vec<Entry> = Directory::read(file)?.records().collect(alloc)?;
     let place = adjustment_place(&entries).ok_or("no head")?;
@@ -107,7 +107,7 @@ pub fn mended(alloc: Global, file: &[u8]) -> Result<Vec<u8>, Fail> {
     file_of(alloc, &entries, zeroed.get(start..).ok_or("no table")?)
 }
 
-/// The file of these tables, in this order; `checksumAdjustment` is 0 in `head`.
+/// Returns the file of these tables, in this order; `checksumAdjustment` is 0 in `head`.
 pub fn file_of_tables(alloc: Global, tables: &[Table]) -> Result<Vec<u8>, Fail> {
     let count = u16::try_from(tables.len()).map_err(|_| "too many tables")?;
     let mut offset = 12 + 16 * u32::from(count);
@@ -127,7 +127,7 @@ pub fn file_of_tables(alloc: Global, tables: &[Table]) -> Result<Vec<u8>, Fail> 
     file_of(alloc, &entries, &rest)
 }
 
-/// The tables of a file, in the order of its records, with `checksumAdjustment` 0.
+/// Returns the tables of a file, in the order of its records, with `checksumAdjustment` 0.
 pub fn tables_of(alloc: Global, file: &[u8]) -> Result<Vec<Table>, Fail> {
     let mut tables = Vec::new(alloc);
     for entry in Directory::read(file)?.records() {
@@ -144,7 +144,7 @@ pub fn tables_of(alloc: Global, file: &[u8]) -> Result<Vec<Table>, Fail> {
     Ok(tables)
 }
 
-/// The bytes of the table of this name.
+/// Returns the bytes of the table of this name.
 pub(crate) fn table_named<'a>(
     tables: &'a mut Vec<Table>,
     tag: &[u8; 4],

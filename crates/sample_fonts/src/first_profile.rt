@@ -7,8 +7,9 @@ use sfnt_bytes::{KEPT, Tag};
 use std::alloc::Global;
 use std::test::Fail;
 
-// The tables of a cut in the first profile: `cmap` has one record, of the subtable that stands behind two in
-// the second profile, and `glyf` has no bytes of its own, which are there where all offsets are 0.
+// Returns the tables of a cut in the first profile: `cmap` has one record, of the subtable that stands
+// behind two in the second profile, and `glyf` has no bytes of its own, which are there where all
+// offsets are 0.
 fn tables_in_first(alloc: Global, cut: &[u8]) -> Result<Vec<Table>, Fail> {
     let mut tables = tables_of(alloc, cut)?;
     let mut cmap = Vec::new(alloc);
@@ -23,7 +24,7 @@ fn tables_in_first(alloc: Global, cut: &[u8]) -> Result<Vec<Table>, Fail> {
     Ok(tables)
 }
 
-/// A cut of the second profile in the first one.
+/// Returns a cut of the second profile in the first one.
 pub fn in_first_profile(alloc: Global, cut: &[u8]) -> Result<Vec<u8>, Fail> {
     file_of_tables(alloc, &tables_in_first(alloc, cut)?)
 }
@@ -31,7 +32,8 @@ pub fn in_first_profile(alloc: Global, cut: &[u8]) -> Result<Vec<u8>, Fail> {
 // How many bytes of its zeros `vmtx` leaves out in the largest files.
 const LEFT_OUT: usize = 48;
 
-/// A cut of the second profile in the first one, with nine tables of zeros besides: all that it may keep.
+/// Returns a cut of the second profile in the first one, with nine tables of zeros besides: all that it
+/// may keep.
 pub fn wide_in_first_profile(alloc: Global, cut: &[u8]) -> Result<Vec<u8>, Fail> {
     let mut own = tables_in_first(alloc, cut)?;
     let mut tables = Vec::new(alloc);

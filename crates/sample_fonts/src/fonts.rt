@@ -40,7 +40,7 @@ pub fn base6_with(at: usize, bytes: &[u8]) -> [u8; 428]
     with_bytes(BASE6, at, bytes)
 }
 
-/// The tables of Base6, with `checksumAdjustment` 0.
+/// Returns the tables of Base6, with `checksumAdjustment` 0.
 pub fn base6_tables(alloc: Global) -> Result<Vec<Table>, Fail> {
     tables_of(alloc, &BASE6)
 }
@@ -75,7 +75,7 @@ fn apply(alloc: Global, tables: &mut Vec<Table>, change: Change) -> Result<(), F
     Ok(())
 }
 
-/// Base6 with these changes.
+/// Returns Base6 with these changes.
 pub fn base6_changed(alloc: Global, changes: &[Change]) -> Result<Vec<u8>, Fail> {
     let mut tables = base6_tables(alloc)?;
     for change in changes {
@@ -84,14 +84,14 @@ pub fn base6_changed(alloc: Global, changes: &[Change]) -> Result<Vec<u8>, Fail>
     file_of_tables(alloc, &tables)
 }
 
-/// Base6 with another `cmap`.
+/// Returns Base6 with another `cmap`.
 pub fn base6_with_cmap(alloc: Global, cmap: Vec<u8>) -> Result<Vec<u8>, Fail> {
     let mut tables = base6_tables(alloc)?;
     replace(&mut tables, b"cmap", cmap)?;
     file_of_tables(alloc, &tables)
 }
 
-/// The records of the glyphs of Base6.
+/// Returns the records of the glyphs of Base6.
 pub fn base6_records(alloc: Global) -> Result<Vec<Vec<u8>>, AllocError> {
     let mut records = Vec::new(alloc);
     for record in [
@@ -107,7 +107,7 @@ pub fn base6_records(alloc: Global) -> Result<Vec<Vec<u8>>, AllocError> {
     Ok(records)
 }
 
-/// Base6 with other records, as many, each of an even length.
+/// Returns Base6 with other records, as many, each of an even length.
 pub fn base6_with_records(alloc: Global, records: &[Vec<u8>]) -> Result<Vec<u8>, Fail> {
     let mut glyf = Vec::new(alloc);
     let mut loca = Vec::new(alloc);
@@ -123,7 +123,7 @@ pub fn base6_with_records(alloc: Global, records: &[Vec<u8>]) -> Result<Vec<u8>,
     file_of_tables(alloc, &tables)
 }
 
-/// A `cmap` of one record 3/1 of format 4, with these startCode, endCode and idDelta.
+/// Returns a `cmap` of one record 3/1 of format 4, with these startCode, endCode and idDelta.
 pub fn segments(alloc: Global, listed: &[(u16, u16, u16)]) -> Result<Vec<u8>, Fail> {
     let count = u16::try_from(listed.len()).map_err(|_| "too many segments")?;
     let mut cmap = Vec::new(alloc);
@@ -146,7 +146,7 @@ pub fn segments(alloc: Global, listed: &[(u16, u16, u16)]) -> Result<Vec<u8>, Fa
     Ok(cmap)
 }
 
-// The record of a glyph with one component, two bytes of arguments and no more.
+// Returns the record of a glyph with one component, two bytes of arguments and no more.
 fn one_component(alloc: Global, glyph: u8) -> Result<Vec<u8>, AllocError> {
     let mut record = Vec::new(alloc);
     put_u16(&mut record, &[0xFFFF, 0, 0, 0, 0])?; // numberOfContours, the bounds
@@ -154,7 +154,7 @@ fn one_component(alloc: Global, glyph: u8) -> Result<Vec<u8>, AllocError> {
     Ok(record)
 }
 
-// The records of Base6, with glyph 3's first component as stated.
+// Returns the records of Base6, with glyph 3's first component as stated.
 fn records_with_first_component(alloc: Global, glyph: u8) -> Result<Vec<Vec<u8>>, Fail> {
     let mut records = base6_records(alloc)?;
     let record = records.get_mut(3).ok_or("no glyph 3")?;
@@ -162,45 +162,45 @@ fn records_with_first_component(alloc: Global, glyph: u8) -> Result<Vec<Vec<u8>>
     Ok(records)
 }
 
-/// Base6 in which glyph 5 has glyph 3 alone as a component, which has 1 and 2.
+/// Returns Base6 in which glyph 5 has glyph 3 alone as a component, which has 1 and 2.
 pub fn composite_of_composite(alloc: Global) -> Result<Vec<u8>, Fail> {
     let mut records = base6_records(alloc)?;
     *records.get_mut(5).ok_or("no glyph 5")? = one_component(alloc, 3)?;
     base6_with_records(alloc, &records)
 }
 
-/// Base6 in which glyphs 3 and 5 have each other as components.
+/// Returns Base6 in which glyphs 3 and 5 have each other as components.
 pub fn ring_of_two(alloc: Global) -> Result<Vec<u8>, Fail> {
     let mut records = records_with_first_component(alloc, 5)?;
     *records.get_mut(5).ok_or("no glyph 5")? = one_component(alloc, 3)?;
     base6_with_records(alloc, &records)
 }
 
-/// Base6 in which glyph 3 has itself as its first component.
+/// Returns Base6 in which glyph 3 has itself as its first component.
 pub fn glyph_of_itself(alloc: Global) -> Result<Vec<u8>, Fail> {
     let records = records_with_first_component(alloc, 3)?;
     base6_with_records(alloc, &records)
 }
 
-/// Base6 in which this glyph has no outline.
+/// Returns Base6 in which this glyph has no outline.
 pub fn without_outline(alloc: Global, glyph: usize) -> Result<Vec<u8>, Fail> {
     let mut records = base6_records(alloc)?;
     *records.get_mut(glyph).ok_or("no such glyph")? = Vec::new(alloc);
     base6_with_records(alloc, &records)
 }
 
-/// Base6 in which the last byte of glyph 1 is 0x23.
+/// Returns Base6 in which the last byte of glyph 1 is 0x23.
 pub fn other_outline(alloc: Global) -> Result<Vec<u8>, Fail> {
     base6_changed(alloc, &[Change::Byte(*b"glyf", 25, 0x23)])
 }
 
-/// Base6 with 0x61 to 0x63 on the glyphs 1 to 3 as its only codes.
+/// Returns Base6 with 0x61 to 0x63 on the glyphs 1 to 3 as its only codes.
 pub fn three_in_a_row(alloc: Global) -> Result<Vec<u8>, Fail> {
     let cmap = segments(alloc, &[(0x61, 0x63, 0xFFA0), (0xFFFF, 0xFFFF, 1)])?;
     base6_with_cmap(alloc, cmap)
 }
 
-/// Base6 with 0x43 mapped to 2 besides.
+/// Returns Base6 with 0x43 mapped to 2 besides.
 pub fn one_more_code(alloc: Global) -> Result<Vec<u8>, Fail> {
     let cmap = segments(
         alloc,
@@ -216,7 +216,7 @@ pub fn one_more_code(alloc: Global) -> Result<Vec<u8>, Fail> {
     base6_with_cmap(alloc, cmap)
 }
 
-/// Base6 with one code, 0x42 on glyph 3, by a glyphIdArray; the last segment points past `cmap`.
+/// Returns Base6 with one code, 0x42 on glyph 3, by a glyphIdArray; the last segment points past `cmap`.
 pub fn by_glyph_array(alloc: Global) -> Result<Vec<u8>, Fail> {
     let cmap = bytes_of(
         alloc,
@@ -238,8 +238,8 @@ pub fn by_glyph_array(alloc: Global) -> Result<Vec<u8>, Fail> {
     base6_with_cmap(alloc, cmap)
 }
 
-/// Base6 with the groups (0x41, 0x41, 5), (0x42, 0x10FFFF, 0) of format 12 under 3/10, listed behind
-/// its 3/1.
+/// Returns Base6 with the groups (0x41, 0x41, 5), (0x42, 0x10FFFF, 0) of format 12 under 3/10, listed
+/// behind its 3/1.
 pub fn by_groups(alloc: Global) -> Result<Vec<u8>, Fail> {
     let mut cmap = Vec::new(alloc);
     put_u16(&mut cmap, &[0, 2, 3, 1, 0, 20, 3, 10, 0, 76])?; // version, numTables, two records
@@ -250,7 +250,7 @@ pub fn by_groups(alloc: Global) -> Result<Vec<u8>, Fail> {
     base6_with_cmap(alloc, cmap)
 }
 
-/// Base6 with its records in reversed order and no checksum; `checksumAdjustment` stays.
+/// Returns Base6 with its records in reversed order and no checksum; `checksumAdjustment` stays.
 pub fn reversed_directory(alloc: Global) -> Result<Vec<u8>, Fail> {
     let mut entries = Vec::new(alloc);
     for entry in Directory::read(&BASE6)?.records() {
@@ -267,7 +267,7 @@ pub fn reversed_directory(alloc: Global) -> Result<Vec<u8>, Fail> {
     Ok(file)
 }
 
-// The records of Base6 with offsets so much higher.
+// Returns the records of Base6 with offsets so much higher.
 fn entries_behind(alloc: Global, added: u32) -> Result<Vec<Entry>, Fail> {
     let mut entries = Vec::new(alloc);
     for entry in Directory::read(&BASE6)?.records() {
@@ -277,14 +277,14 @@ fn entries_behind(alloc: Global, added: u32) -> Result<Vec<Entry>, Fail> {
     Ok(entries)
 }
 
-// What stands behind the directory of Base6, with `checksumAdjustment` 0.
+// Returns the bytes of Base6 behind its directory, with `checksumAdjustment` 0.
 fn base6_rest(alloc: Global) -> Result<Vec<u8>, AllocError> {
     let mut rest = BASE6[124..].to_vec(alloc)?;
     put_at(&mut rest, 148, &[0; 4]);
     Ok(rest)
 }
 
-/// Base6 with a last record `name` over the bytes of `glyf`.
+/// Returns Base6 with a last record `name` over the bytes of `glyf`.
 pub fn name_over_glyf(alloc: Global) -> Result<Vec<u8>, Fail> {
     let mut entries = entries_behind(alloc, 16)?;
     entries.push(Entry {
@@ -297,7 +297,7 @@ pub fn name_over_glyf(alloc: Global) -> Result<Vec<u8>, Fail> {
     file_of(alloc, &entries, &rest)
 }
 
-/// Base6 with 65,528 records `zzzz` behind its own, whose offset, length and checksum are 0.
+/// Returns Base6 with 65,528 records `zzzz` behind its own, whose offset, length and checksum are 0.
 pub fn many_records(alloc: Global) -> Result<Vec<u8>, Fail> {
     let mut entries = entries_behind(alloc, 1_048_448)?;
     for entry in entries.iter_mut() {
@@ -321,8 +321,8 @@ pub const REGION: u32 = 14_913_024;
 // How many of its last bytes `vhea` and `vmtx` leave out.
 const LEFT_OUT: u32 = 4;
 
-/// Base6 with all nine optional tables over one region of zeros, `vhea` and `vmtx` over all but its
-/// last four bytes.
+/// Returns Base6 with all nine optional tables over one region of zeros, `vhea` and `vmtx` over all but
+/// its last four bytes.
 pub fn wide(alloc: Global) -> Result<Vec<u8>, Fail> {
     let own = entries_behind(alloc, 144)?;
     let mut entries = Vec::new(alloc);

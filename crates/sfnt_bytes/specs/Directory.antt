@@ -1,4 +1,4 @@
--- The records of a table directory, and the table of a tag (OpenType 1.9, Organization of an OpenType Font, Table Directory).
+-- Records, and the table of a tag (OpenType 1.9, Organization of an OpenType Font, Table Directory).
 use Rattle.std.specs.Prelude.{ℕ, ◌+◌, ◌*◌, ◌≤◌, nat_le, not, Bool, List, [], ◌∷◌, filter, find, length, map, slice_index, slice_index_or, slice_range, Option}
 use Rattle.std.specs.List.{range_with_len}
 use Rattle.std.specs.Option.{option_map}

@@ -1,4 +1,5 @@
--- What is not as the standard asks in a file that is read all the same (OpenType 1.9, Organization of an OpenType Font).
+-- What is not as the standard asks, and is read all the same (OpenType 1.9, Organization of an OpenType
+-- Font).
 use Rattle.std.specs.Prelude.{ℕ, ◌+◌, ◌-◌, ◌%◌, nat_le, nat_lt, nat_eq, not, Bool, true, false, ◌&&◌, List, [], ◌∷◌, ◌++◌, drop, replicate, if◌then◌else◌, Option}
 use Rattle.std.specs.List.{flat_map, starts_with}
 use Rattle.std.specs.Option.{option_map_or}
@@ -32,7 +33,7 @@ padding_of n = (4 - n % 4) % 4
 unfoldable pub is_padded : List ℕ → Entry → Bool
 is_padded file entry = starts_with nat_eq (drop (entry.offset + entry.length) file) (replicate (padding_of entry.length) 0)
 
--- the checksum of a record's table: of `head` with checksumAdjustment, where it is whole, as 0
+-- the checksum of a record's table: of `head` with checksumAdjustment, where all of it is there, as 0
 unfoldable pub table_sum : List ℕ → Entry → ℕ
 table_sum file entry = let bytes = table_bytes file entry in
     if has_tag HEAD_TAG entry && nat_le 12 entry.length then checksum_of (without_field bytes 8) else checksum_of bytes
@@ -53,7 +54,7 @@ entry_findings file entry = if not (is_within file entry) then OutOfFile entry.t
 unfoldable pub has_file_sum : List ℕ → ℕ → Bool
 has_file_sum file at = nat_eq (u32_at file at) (adjustment_of (checksum_of (without_field file at)))
 
--- there is a `head` with a whole checksumAdjustment, which is not the one of the file
+-- there is a `head` with all of checksumAdjustment, which is not the one of the file
 unfoldable pub has_wrong_file_sum : List ℕ → Bool
 has_wrong_file_sum file = option_map_or (λ head. nat_le 12 head.length && not (has_file_sum file (head.offset + 8))) (table_entry file HEAD_TAG) false
 

@@ -1,4 +1,4 @@
--- Numbers in a list of bytes, the highest byte first (OpenType 1.9, Data Types). A byte past the end counts as 0.
+-- Big-endian numbers in a list of bytes; a byte past the end counts as 0 (OpenType 1.9, Data Types).
 use Rattle.std.specs.Prelude.{ℕ, ◌+◌, ◌*◌, List, slice_index}
 
 -- the number of four bytes

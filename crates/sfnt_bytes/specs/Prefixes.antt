@@ -1,4 +1,4 @@
--- Sums of the words of a file up to many places, from which those of any table follow (OpenType 1.9, Calculating Checksums).
+-- Sums of words up to many places, from which those of tables follow (OpenType 1.9, Calculating Checksums).
 use Rattle.std.specs.Prelude.{◌≡◌, ℕ, ◌*◌, ◌%◌, ◌<◌, ◌≤◌, List, drop, length, slice_index, take}
 use Rattle.sfnt_bytes.specs.Sums.{checksum_of}
 

@@ -52,7 +52,7 @@ error_number NotTrueType = 4
 error_number (DuplicateTable tag) = 5
 error_number (TableOutOfFile tag) = 6
 
--- the text of want of memory
+-- the text where memory is refused
 abbrev pub no_memory_text : List ℕ
 no_memory_text = codes "no memory"
 

@@ -46,8 +46,9 @@ pub enum DirError {
 #[derive(Clone, Copy, Debug, PartialEq, Eq)]
 pub struct NoMemory;
 
-/// `searchRange`, `entrySelector` and `rangeShift` for `n` tables. None where `n` is 0, or above
-/// 4,095, where `searchRange` has no `u16`.
+/// Returns `searchRange`, `entrySelector` and `rangeShift` for `n` tables. None where `n` is 0, or above
+/// 4,095, where `searchRange` has no `u16`. OpenType 1.9, Organization of an OpenType Font, Table
+/// Directory.
 #[tactic(auto, using(crate::proofs::SearchFieldsLemmas::search_fields_is), unfolding(crate::specs::SearchFields::search_fields_of))]
 pub fn search_fields(n: u16) -> Option<(u16, u16, u16)>
     ensures { result ≡ search_fields_of n }
@@ -68,7 +69,7 @@ fn has_duplicate(file: &[u8], tag: Tag) -> bool
     count_of(file, tag) > 1
 }
 
-// The first of the tags that two records carry.
+// Returns the first of the tags that two records carry.
 fn first_duplicate(file: &[u8], tags: &[Tag]) -> Option<Tag>
     requires { HasRecords file.now }
     ensures { result ≡ find (is_duplicate file.now) tags.now }
@@ -87,7 +88,7 @@ fn lies_outside(file: &[u8], tag: Tag) -> bool
     }
 }
 
-// The first of the tags whose table does not lie within the file.
+// Returns the first of the tags whose table does not lie within the file.
 fn first_outside(file: &[u8], tags: &[Tag]) -> Option<Tag>
     requires { HasRecords file.now }
     ensures { result ≡ find (is_outside file.now) tags.now }
@@ -116,7 +117,12 @@ impl<'a> Model for Directory<'a> {
 }
 
 impl<'a> Directory<'a> {
-    /// Reads the directory of a file. Refused with the first [`DirError`] that applies.
+    /// Reads the directory of a file, which may be any bytes. OpenType 1.9, Organization of an OpenType
+    /// Font, Table Directory.
+    ///
+    /// # Errors
+    ///
+    /// The first [`DirError`] that applies, in the order of its variants.
     #[tactic(auto, unfolding(crate::specs::Refusals::directory_fault))]
     pub fn read(file: &'a [u8]) -> Result<Directory<'a>, DirError>
         ensures { MatchResult result
@@ -148,17 +154,17 @@ impl<'a> Directory<'a> {
         Ok(Directory { file })
     }
 
-    /// The whole file.
+    /// Returns the bytes of the file.
     pub fn file(&self) -> &'a [u8]
         ensures file { result.now ≡ self.now }
 
-        // What reading it has shown.
+        // Keeps the fact that `Directory::read` proved.
         ensures sound { directory_fault self.now ≡ None }
     {
         self.file
     }
 
-    /// The records, in the order of the file: 65,535 at most.
+    /// Returns the records, in the order of the file: 65,535 at most.
     pub fn records(&self) -> Records<'a>
         ensures records { result ≡ records_of self.now }
         ensures count { length result < 65536 }
@@ -166,7 +172,7 @@ impl<'a> Directory<'a> {
         records_in(self.file)
     }
 
-    /// The records whose tag is not among [`KEPT`], in the order of the file.
+    /// Returns the records whose tag is not among [`KEPT`], in the order of the file.
     pub fn dropped(&self) -> Dropped<'a>
         ensures records { result ≡ dropped_of self.now }
         ensures count { length result < 65536 }
@@ -174,8 +180,8 @@ impl<'a> Directory<'a> {
         dropped_in(self.file)
     }
 
-    /// What is not as the standard asks: of the directory, of each record in the order of the file,
-    /// and of the sum of the file.
+    /// Returns what is not as the standard asks: of the directory, of each record in the order of the
+    /// file, and of the sum of the file.
     pub fn findings(&self) -> Findings<'a>
         ensures findings { result ≡ findings_of self.now }
         ensures count { length result < 2 ^ 18 }
@@ -183,7 +189,7 @@ impl<'a> Directory<'a> {
         findings_in(self.file)
     }
 
-    /// The table of the tag `KEPT[slot]`, where there is one.
+    /// Returns the table of the tag `KEPT[slot]`, without its padding, where there is one.
     pub fn table(&self, slot: usize) -> Option<&'a [u8]>
         requires { slot < 16 }
         ensures { option_copied result ≡ table_of self.now (kept_tag slot) }

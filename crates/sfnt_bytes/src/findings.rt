@@ -42,7 +42,7 @@ fn found(condition: bool, finding: Finding) -> Option<Finding>
     condition.then_some(finding)
 }
 
-// Whether the tags are strictly ascending.
+// Returns whether the tags are strictly ascending.
 #[tactic(auto, unfolding(crate::specs::Findings::is_ascending))]
 fn has_sorted_records(file: &[u8]) -> bool
     requires { HasRecords file.now }
@@ -74,7 +74,8 @@ fn has_fields(file: &[u8]) -> bool
     }
 }
 
-// Only a whole `checksumAdjustment` is left out of the sum.
+// Returns the checksum of a record's table. Of `head`, `checksumAdjustment` counts as 0 where all of it
+// is there.
 #[tactic(auto, unfolding(crate::specs::Findings::table_sum))]
 fn sum_of_table(sums: &mut TableSums<'_>, entry: Entry) -> u32
     requires { IsTrue (is_within sums.old entry) }
@@ -164,7 +165,7 @@ fn has_right_sum(sums: &TableSums<'_>, at: usize) -> bool
     be32(file, at) == adjustment(sum_without(sums.file_sum(), file, at))
 }
 
-// What is found of the sum of the file, where its `checksumAdjustment` stands at a place.
+// Returns the finding of the sum of the file, if any, where its `checksumAdjustment` stands at a place.
 fn finding_of_sum(sums: &TableSums<'_>, place: Option<usize>) -> Option<Finding>
     requires { IfSome place (λ at. at + 4 ≤ length sums.now) }
     ensures { result ≡ when (is_wrong_at sums.now place) FileSum }
@@ -175,7 +176,7 @@ fn finding_of_sum(sums: &TableSums<'_>, place: Option<usize>) -> Option<Finding>
     }
 }
 
-// Where a whole `checksumAdjustment` stands.
+// Returns where `checksumAdjustment` stands, where all of it is there.
 #[tactic(auto, unfolding(crate::specs::Findings::has_wrong_file_sum))]
 fn adjustment_place(file: &[u8]) -> Option<usize>
     requires room { HasRecords file.now }
@@ -233,7 +234,7 @@ impl<'a> Iterator for Findings<'a> {
     }
 }
 
-/// The findings of a file that has all the records that it says.
+/// Returns the findings of a file that has all the records that it says.
 #[tactic(auto, unfolding(crate::specs::Findings::findings_of))]
 pub(crate) fn findings_in(file: &[u8]) -> Findings<'_>
     requires room { HasRecords file.now }

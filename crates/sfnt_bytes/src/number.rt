@@ -4,7 +4,7 @@ ghost use Rattle.sfnt_bytes.specs.Number.{u16_at, u32_at};
 
 use byteorder::{BigEndian, ByteOrder};
 
-/// The big-endian `u16` at the byte `at`.
+/// Returns the big-endian `u16` at the byte `at`.
 #[tactic(auto, unfolding(crate::specs::Number::u16_at))]
 pub fn be16(b: &[u8], at: usize) -> u16
     requires { at + 2 ≤ length b.now }
@@ -13,7 +13,7 @@ pub fn be16(b: &[u8], at: usize) -> u16
     BigEndian::read_u16(&b[at..])
 }
 
-/// The big-endian `u32` at the byte `at`.
+/// Returns the big-endian `u32` at the byte `at`.
 #[tactic(auto, unfolding(crate::specs::Number::u32_at))]
 pub fn be32(b: &[u8], at: usize) -> u32
     requires { at + 4 ≤ length b.now }

@@ -15,7 +15,7 @@ const STRIDE: usize = 65_536;
 /// How many sums are kept: for all bytes of the largest file that is read.
 const COUNT: usize = 2_048;
 
-// The sums up to each multiple of the stride.
+// Returns the sums up to each multiple of the stride.
 fn prefixes_of(bytes: &[u8]) -> [u32; COUNT]
     ensures { ArePrefixes bytes.now result }
 {
@@ -31,7 +31,7 @@ fn prefixes_of(bytes: &[u8]) -> [u32; COUNT]
     sums
 }
 
-// The sum up to a place.
+// Returns the sum up to a place.
 fn sum_to(bytes: &[u8], sums: &[u32], to: usize) -> u32
     requires sums { ArePrefixes bytes.now sums.now }
     requires within { to ≤ length bytes.now }
@@ -41,7 +41,7 @@ fn sum_to(bytes: &[u8], sums: &[u32], to: usize) -> u32
     sums[k].wrapping_add(word_sum(&bytes[k * STRIDE..to]))
 }
 
-// The sum of the bytes between two places.
+// Returns the sum of the bytes between two places.
 fn sum_between(bytes: &[u8], sums: &[u32], from: usize, to: usize) -> u32
     requires sums { ArePrefixes bytes.now sums.now }
     requires whole { from % 4 ≡ 0 }
@@ -75,8 +75,8 @@ impl<'a> Model for Prefixes<'a> {
 }
 
 impl<'a> Prefixes<'a> {
-    // The bytes of a file from one place on. It pays where the tables that begin at this place of a
-    // word lie over each other so much that they have many times the bytes of the file.
+    // Returns the bytes of a file from one place on. It pays where the tables that begin at this place
+    // of a word lie over each other so much that they have many times the bytes of the file.
     fn of(file: &'a [u8], place: usize) -> Prefixes<'a>
         requires records { HasRecords file.now }
         requires place { place < 4 }
@@ -125,7 +125,8 @@ struct Front {
 }
 
 impl Front {
-    // The sum up to the end of a table whose sum is known, or to the last multiple of 4 before it.
+    // Returns the sum up to the end of a table whose sum is known, or to the last multiple of 4 before
+    // it.
     //
     // What lies between is summed here, so the table is passed over unless it has at least as many
     // bytes: other tables may lie there.
@@ -180,7 +181,7 @@ impl<'a> Model for TableSums<'a> {
 }
 
 impl<'a> TableSums<'a> {
-    /// For a file that has all the records that it says.
+    /// Returns the sums of a file that has all the records that it says.
     pub(crate) fn of(file: &'a [u8]) -> TableSums<'a>
         requires { HasRecords file.now }
         ensures { result ≡ file.now }
@@ -194,14 +195,14 @@ impl<'a> TableSums<'a> {
         }
     }
 
-    /// The file.
+    /// Returns the file.
     pub(crate) fn file(&self) -> &'a [u8]
         ensures { result.now ≡ self.now }
     {
         self.at_0.bytes
     }
 
-    /// The checksum of the bytes from one place up to another one.
+    /// Returns the checksum of the bytes from one place up to another one.
     pub(crate) fn sum(&mut self, from: usize, to: usize) -> u32
         requires order { from ≤ to }
         requires within { to ≤ length self.old }
@@ -213,7 +214,7 @@ impl<'a> TableSums<'a> {
         sum
     }
 
-    /// The checksum of the file.
+    /// Returns the checksum of the file.
     pub(crate) fn file_sum(&self) -> u32
         ensures { result ≡ checksum_of self.now }
     {

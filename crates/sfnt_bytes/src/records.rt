@@ -27,7 +27,7 @@ pub struct Entry {
 }
 
 impl Entry {
-    /// Whether the table lies within the file.
+    /// Returns whether the table lies within the file.
     pub(crate) fn is_within(self, file: &[u8]) -> bool
         ensures { result ≡ is_within file.now self }
     {
@@ -95,7 +95,7 @@ impl<'a> Iterator for Records<'a> {
     }
 }
 
-/// The records of a file that has all that it says.
+/// Returns the records of a file that has all that it says.
 #[tactic(auto, unfolding(crate::specs::Directory::records_of))]
 pub(crate) fn records_in(file: &[u8]) -> Records<'_>
     requires { HasRecords file.now }
@@ -109,7 +109,7 @@ pub(crate) fn records_in(file: &[u8]) -> Records<'_>
     }
 }
 
-/// How many records carry the tag.
+/// Returns how many records carry the tag.
 pub(crate) fn count_of(file: &[u8], tag: Tag) -> usize
     requires { HasRecords file.now }
     ensures { result ≡ count_by (has_tag tag) (records_of file.now) }
@@ -117,7 +117,7 @@ pub(crate) fn count_of(file: &[u8], tag: Tag) -> usize
     records_in(file).filter(|entry| entry.tag == tag).count()
 }
 
-/// The first record that carries the tag.
+/// Returns the first record that carries the tag.
 #[tactic(auto, unfolding(crate::specs::Directory::table_entry))]
 pub(crate) fn find_entry(file: &[u8], tag: Tag) -> Option<Entry>
     requires { HasRecords file.now }
@@ -165,7 +165,7 @@ impl<'a> Iterator for Dropped<'a> {
     }
 }
 
-/// The dropped records of a file that has all that it says.
+/// Returns the dropped records of a file that has all that it says.
 #[tactic(auto, unfolding(crate::specs::Directory::dropped_of))]
 pub(crate) fn dropped_in(file: &[u8]) -> Dropped<'_>
     requires { HasRecords file.now }

@@ -5,10 +5,10 @@ ghost use Rattle.sfnt_bytes.specs.Sums.{adjustment_of, checksum_of, without_fiel
 
 use crate::number::be32;
 
-/// What the words of a whole file sum to, `checksumAdjustment` among them.
+/// What the words of a file sum to, `checksumAdjustment` among them.
 const FILE_SUM: u32 = 0xB1B0_AFBA;
 
-// Fewer than four bytes as one word, filled with zeros.
+// Returns fewer than four bytes as one word, filled with zeros.
 #[tactic(auto, unfolding(crate::specs::Number::u32_at))]
 fn last_word(rest: &[u8]) -> u32
     requires { length rest.now < 4 }
@@ -19,8 +19,8 @@ fn last_word(rest: &[u8]) -> u32
     be32(&last, 0)
 }
 
-/// The checksum of a table: the sum modulo 2^32 of the big-endian `u32` words of `b`, the last one
-/// filled with zeros.
+/// Returns the checksum of a table: the sum modulo 2^32 of the big-endian `u32` words of `b`, the last
+/// one filled with zeros. OpenType 1.9, Organization of an OpenType Font, Calculating Checksums.
 pub fn word_sum(b: &[u8]) -> u32
     ensures { result ≡ checksum_of b.now }
 {
@@ -33,8 +33,8 @@ pub fn word_sum(b: &[u8]) -> u32
     sum.wrapping_add(last_word(rest))
 }
 
-/// The checksum of `b`, which is `sum`, with the four bytes at `at` as zeros, wherever in a word they
-/// stand.
+/// Returns the checksum of `b`, which is `sum`, with the four bytes at `at` as zeros, wherever in a word
+/// they stand.
 pub(crate) fn sum_without(sum: u32, b: &[u8], at: usize) -> u32
     requires sum { sum ≡ checksum_of b.now }
     requires room { at + 4 ≤ length b.now }

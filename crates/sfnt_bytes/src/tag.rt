@@ -61,7 +61,7 @@ fn is_among(tags: &[Tag], tag: Tag) -> bool
 }
 
 impl Tag {
-    /// Whether a cut keeps the table of this tag.
+    /// Returns whether a cut keeps the table of this tag.
     #[tactic(auto, unfolding(crate::specs::Tag::is_kept_tag))]
     pub(crate) fn is_kept(self) -> bool
         ensures { result ≡ is_kept_tag self }
@@ -69,7 +69,7 @@ impl Tag {
         is_among(&KEPT, self)
     }
 
-    /// The tag as a number, which orders tags by their bytes.
+    /// Returns the tag as a number, which orders tags by their bytes.
     pub(crate) fn number(self) -> u32
         ensures { result ≡ tag_number self }
     {

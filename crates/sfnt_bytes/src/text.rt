@@ -94,7 +94,7 @@ impl fmt::Display for DirError {
 impl Error for DirError {}
 
 impl DirError {
-    /// The number of the refusal, 1 to 6.
+    /// Returns the number of the refusal, 1 to 6.
     pub fn number(&self) -> u8
         ensures { result ≡ error_number self.now }
     {
@@ -120,7 +120,7 @@ impl fmt::Display for NoMemory {
 impl Error for NoMemory {}
 
 impl NoMemory {
-    /// The number of the refusal, 16.
+    /// Returns the number of the refusal, 16.
     pub fn number(&self) -> u8
         ensures { result ≡ no_memory_number }
     {
