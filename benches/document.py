@@ -84,7 +84,8 @@ def most_row(what, limit, ratios):
     if not pairs:
         return [what, ratio(limit), "–", "–", "not measured"]
     most, name = max(pairs)
-    return held_row(what, limit, most, name)
+    above = sum(value > limit for value, _ in pairs)
+    return held_row(what, limit, most, f"{name}; {above} of {len(pairs)} are above")
 
 
 def beside_font(rows, who):

@@ -27,7 +27,7 @@ Wanted = namedtuple("Wanted", "name ranges fontcut hb pyft")
 
 # How long is measured: the milliseconds that each program or way is given, the least and the most of its runs.
 Effort = namedtuple("Effort", "run_ms least most call_ms least_calls joins")
-FULL = Effort(500, 7, 200, 300, 7, COUNTS)
+FULL = Effort(700, 9, 300, 400, 7, COUNTS)
 QUICK = Effort(60, 3, 20, 60, 3, COUNTS[:2])
 
 # A font for a set: the bytes of the cut, and what each program took by its name.

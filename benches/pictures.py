@@ -13,7 +13,7 @@ from document import MB, SETS, sizes
 COLOURS = {"fontcut": "#0b5394", "cut": "#0b5394", "join": "#0b5394", "floor": "#8a8a8a", "copy": "#8a8a8a",
            "hb-subset": "#d9730d", "hb": "#d9730d", "pyftsubset": "#5b8c3e"}
 LABELS = {"cut": "fontcut_cut", "hb": "hb_subset_or_fail", "copy": "copy and sum",
-          "floor": "floor (read, copy, sum, write)"}
+          "floor": "floor (read, copy, sum, write)", "pyftsubset": "pyftsubset (one run)"}
 STYLE = {"svg.fonttype": "none", "svg.hashsalt": "fontcut", "font.family": "sans-serif", "font.size": 10,
          "axes.grid": True, "grid.color": "#dddddd", "axes.axisbelow": True, "axes.spines.top": False,
          "axes.spines.right": False, "figure.facecolor": "white", "axes.facecolor": "white"}
@@ -23,7 +23,7 @@ RATES = [0.1, 0.2, 0.5, 1, 2, 5, 10]
 
 def plain(value, _=None):
     """A number of an axis, with no power of ten."""
-    return f"{value:g}"
+    return f"{value:,.0f}" if value >= 1 else f"{value:g}"
 
 
 def log_axes(axes, ticks):
@@ -78,8 +78,9 @@ def of_joins(path, joins):
     axes.plot(read, [one.floor.processor for one in joins], marker="o", color=COLOURS["floor"],
               label="C program: read, sum, write")
     for one in joins:
+        few = one.count <= 20  # their labels lie below the line, for above it is the axis
         axes.annotate(f"{one.count} cuts", (one.read / 2**20, one.join.processor), textcoords="offset points",
-                      xytext=(0, 7), ha="right", fontsize=9)
+                      xytext=(8, -10) if few else (-4, 7), ha="left" if few else "right", fontsize=9)
     axes.set_xlabel("MiB read")
     axes.set_ylabel("least time of the processor, ms")
     axes.set_xlim(left=0)
