@@ -90,10 +90,11 @@ def built():
         end()
 
 
-def built_library():
-    """Builds the library for C where it is not built yet, which takes minutes, and returns the paths of the static one, the
-    shared one, and the static one by the other compiler. Where it cannot be built, the script ends here."""
-    ran = subprocess.run([os.path.join(TOP, "bindings", "c", "build"), "both"], stdin=subprocess.DEVNULL,
+def built_library(*words):
+    """Builds the library for C where it is not built yet, which takes minutes, and returns the paths of the static one,
+    the shared one, and with the word `both` the static one by the other compiler. Where it cannot be built, the script
+    ends here."""
+    ran = subprocess.run([os.path.join(TOP, "bindings", "c", "build"), *words], stdin=subprocess.DEVNULL,
                          capture_output=True, text=True)
     if ran.returncode:
         check("the library is built", False, ran.stderr)

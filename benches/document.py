@@ -1,0 +1,220 @@
+"""The text of docs/PERFORMANCE.md: tables of what was measured, and what they are held against."""
+import math
+import os
+import platform
+import re
+
+from checks import TOP, run
+from measure import DEBIAN_PYTHON, HB_SUBSET, SIZED
+
+MB = 1_000_000
+SETS = "ASCII", "3,000 ideographs", "all", "none"
+
+
+def mean(ratios):
+    """The geometric mean."""
+    return math.exp(sum(map(math.log, ratios)) / len(ratios))
+
+
+def number(value):
+    """Three digits that count, or all of a whole number's."""
+    if value >= 100:
+        return f"{value:,.0f}"
+    return f"{value:.{max(0, 2 - math.floor(math.log10(value)))}f}" if value > 0 else "0"
+
+
+def ratio(value):
+    """Two digits behind the point, one more where the first two say little, one less for a large ratio."""
+    if value is None:
+        return "–"
+    return f"{value:.3f}" if value < 0.1 else f"{value:.2f}" if value < 10 else f"{value:.1f}"
+
+
+def table(titles, rows):
+    """A table in Markdown, its first column to the left."""
+    lines = [titles, ["---"] + ["--:"] * (len(titles) - 1), *rows]
+    return "\n".join("| " + " | ".join(map(str, line)) + " |" for line in lines)
+
+
+def by_font(rows, value):
+    """A dictionary of each font's values, by set."""
+    found = {}
+    for row in rows:
+        found.setdefault(row.font, {})[row.wanted] = value(row)
+    return found
+
+
+def ratios_of(rows, one, other, kind="least"):
+    """The ratios of two contenders' times by font and set, where both were measured."""
+    both = [row for row in rows if row.took.get(one) and row.took.get(other)]
+    return by_font(both, lambda row: getattr(row.took[one], kind) / getattr(row.took[other], kind))
+
+
+def column(ratios, wanted):
+    """Ratios for the wanted sets over all fonts, with the names of the fonts."""
+    return [(values[name], f"{font.name}, {name}") for font, values in ratios.items() for name in wanted
+            if name in values]
+
+
+def ratio_table(ratios):
+    """A row a font, a column a set, and the geometric means at the end."""
+    rows = [[font.name, f"{font.size / MB:.2f}", *(ratio(values.get(name)) for name in SETS)]
+            for font, values in ratios.items()]
+    means = [mean([value for value, _ in column(ratios, [name])]) for name in SETS]
+    return table(["font", "MB", *SETS], rows + [["geometric mean", "", *map(ratio, means)]])
+
+
+def held_row(what, limit, found, worst, show=ratio):
+    """A row of what was set: the figure, the farthest font, and whether the limit is held."""
+    return [what, show(limit), show(found), worst, "yes" if found <= limit else "**no**"]
+
+
+def mean_row(what, limit, ratios, wanted):
+    """A row for a geometric mean."""
+    pairs = column(ratios, wanted)
+    if not pairs:
+        return [what, ratio(limit), "–", "–", "not measured"]
+    most, name = max(pairs)
+    return held_row(what, limit, mean([value for value, _ in pairs]), f"{ratio(most)} ({name})")
+
+
+def most_row(what, limit, ratios):
+    """A row for the largest of all ratios."""
+    pairs = column(ratios, SETS)
+    if not pairs:
+        return [what, ratio(limit), "–", "–", "not measured"]
+    most, name = max(pairs)
+    above = sum(value > limit for value, _ in pairs)
+    return held_row(what, limit, most, f"{name}; {above} of {len(pairs)} are above")
+
+
+def beside_font(rows, who):
+    """The most memory above the font, in bytes, and where that was."""
+    return max((row.took[who].peak - row.font.size, f"{row.font.name}, {row.wanted}") for row in rows)
+
+
+def of_others(found, where):
+    """The most memory above the font's size of the floor at the same font and set, and what nothing takes."""
+    mine = [row for row in found["programs"] if f"{row.font.name}, {row.wanted}" == where]
+    return (f"the floor {beside_font(mine, 'floor')[0] / MB:.2f}, "
+            f"a program that does nothing {found['nothing'].peak / MB:.2f}")
+
+
+def held(found):
+    """What was set, and what was measured."""
+    calls, programs = found["calls"], found["programs"]
+    hb, copy = ratios_of(calls, "cut", "hb"), ratios_of(calls, "cut", "copy")
+    floor = ratios_of(programs, "fontcut", "floor", "median")
+    tool = ratios_of(programs, "fontcut", "hb-subset", "median")
+    peak, where = beside_font(programs, "fontcut")
+    return [
+        mean_row("`cut` : `hb_subset_or_fail`, ASCII", 1.1, hb, ["ASCII"]),
+        mean_row("the same, 3,000 ideographs", 0.5, hb, ["3,000 ideographs"]),
+        mean_row("the same, all", 0.2, hb, ["all"]),
+        most_row("the same, the largest of any font and set", 2.5, hb),
+        mean_row("`cut` : copy and sum, all", 1.3, copy, ["all"]),
+        mean_row("program : floor, all fonts and sets", 1.12, floor, SETS),
+        mean_row("the same, 3,000 ideographs", 1.25, floor, ["3,000 ideographs"]),
+        mean_row("program : `hb-subset`, all", 0.45, tool, ["all"]),
+        held_row("peak memory above the font's size, MB", 1.0, peak / MB, f"{where}; {of_others(found, where)}"),
+    ]
+
+
+def times_table(rows, names, ratios):
+    """A row a font and set: the least and the median of each contender in milliseconds, and ratios of the least."""
+    def cells(row):
+        timed = [row.took.get(name) for name in names]
+        yield from (f"{number(one.least)}, {number(one.median)}" if one else "–" for one in timed)
+        for one, other in ratios:
+            both = row.took.get(one), row.took.get(other)
+            yield ratio(both[0].least / both[1].least) if all(both) else "–"
+    titles = ["font", "wanted", "bytes of the cut", *names, *(f"{one} : {other}" for one, other in ratios)]
+    return table(titles, [[row.font.name, row.wanted, f"{row.size:,}", *cells(row)] for row in rows])
+
+
+def slow_table(rows):
+    """How many times as long pyftsubset takes; one run each."""
+    timed = [row for row in rows if row.took.get("pyftsubset")]
+    ratios = by_font(timed, lambda row: row.took["pyftsubset"] / row.took["fontcut"].median)
+    return ratio_table(ratios) if ratios else "pyftsubset was not there, or was left out."
+
+
+def memory_table(rows, fonts):
+    """The most memory above the font's size over all sets, in MB."""
+    names = [name for name in ("fontcut", "floor", "hb-subset") if all(row.took.get(name) for row in rows)]
+    lines = []
+    for font in fonts:
+        mine = [row for row in rows if row.font == font]
+        beside = [beside_font(mine, name)[0] / MB for name in names]
+        lines.append([font.name, f"{font.size / MB:.2f}", *(f"{more:.2f}" for more in beside)])
+    return table(["font", "MB", *names], lines)
+
+
+def join_table(joins):
+    """A row for each number of cuts."""
+    rows = []
+    for one in joins:
+        ours, floor = one.join, one.floor
+        rows.append([one.count, f"{one.read / 2**20:.1f}", f"{one.written / 2**20:.1f}",
+                     f"{ours.processor:.1f}, {ours.processor_median:.1f}",
+                     f"{floor.processor:.1f}, {floor.processor_median:.1f}", ratio(ours.processor / floor.processor),
+                     f"{ours.processor / (one.read / 2**20):.2f}", f"{(ours.peak - one.read) / 2**20:.1f}"])
+    return table(["cuts", "MiB read", "MiB written", "join, ms", "C program, ms", "ratio", "ms a MiB read",
+                  "MiB of memory beside the files"], rows)
+
+
+def check_table(rows):
+    """`check` beside reading and summing."""
+    lines = []
+    for row in rows:
+        ours, floor = row.took["check"], row.took["read and sum"]
+        lines.append([row.font.name, f"{row.font.size / MB:.2f}", f"{number(ours.least)}, {number(ours.median)}",
+                      f"{number(floor.least)}, {number(floor.median)}", ratio(ours.least / floor.least),
+                      ratio(ours.median / floor.median)])
+    return table(["font", "MB", "check, ms", "read and sum, ms", "ratio of the least", "of the medians"], lines)
+
+
+def sizes(found):
+    """For fonts of about 1, 4, 16 and 52 MB, the least milliseconds over the MB by what was done."""
+    points = []
+    for name in SIZED:
+        font = next((one for one in found["fonts"] if one.name == name), None)
+        if not font:
+            continue
+        checks = next(row.took for row in found["checks"] if row.font == font)
+        calls = next(row.took for row in found["calls"] if row.font == font and row.wanted == "all")
+        program = next(row.took for row in found["programs"] if row.font == font and row.wanted == "all")
+        least = {"check": checks["check"], "read and sum": checks["read and sum"], "subset, all": program["fontcut"],
+                 "cut, all, in process": calls["cut"], "copy and sum, in process": calls["copy"]}
+        points.append((font, {what: one.least / (font.size / MB) for what, one in least.items()}))
+    return points
+
+
+def size_table(found):
+    """The time over size."""
+    points = sizes(found)
+    if not points:
+        return "None of the fonts is installed."
+    whats = list(points[0][1])
+    rows = [[font.name, f"{font.size / MB:.2f}", *(number(least[what]) for what in whats)] for font, least in points]
+    return table(["font", "MB", *whats], rows)
+
+
+def first_line(*words):
+    """What a program says of its version."""
+    try:
+        return run(*words)[1].decode(errors="replace").splitlines()[0].strip()
+    except (IndexError, FileNotFoundError):
+        return "not there"
+
+
+def machine():
+    """The machine and the programs, in a sentence; no name of a host."""
+    with open("/proc/cpuinfo", encoding="utf-8") as opened:
+        named = re.search(r"^model name\s*:\s*(.*)$", opened.read(), re.M)
+    processor = f" ({named.group(1).strip()})" if named else ""
+    with open(os.path.join(TOP, "crates", "command_line", "src", "lib.rt"), encoding="utf-8") as opened:
+        version = re.search(r'VERSION: &str = "(.*)"', opened.read()).group(1)
+    tools = first_line(DEBIAN_PYTHON, "-c", "import fontTools; print(fontTools.version)")
+    return (f"{os.cpu_count()} cores{processor}, {platform.system()} {platform.release()}; fontcut {version}, "
+            f"{first_line(HB_SUBSET, '--version')}, fontTools {tools}, {first_line('gcc', '--version')}")

@@ -1,0 +1,195 @@
+/* Times three ways to the bytes of a cut, all in memory and in one process, in turn:
+
+       cut     fontcut_cut into a room that is kept
+       hb      hb_subset_or_fail, and the blob of what it makes; the face and the input are made once
+       copy    copying as many bytes as the cut has into that room, and summing their words once
+
+   Words: the font, a file with a line FIRST-LAST in hexadecimal digits for each range of wanted codes, the
+   milliseconds that each way is given in all, and the least number of its calls. Prints a line for each way: its name,
+   the bytes that it makes, the least and the median nanoseconds of a call, and the number of calls.
+
+   HarfBuzz keeps glyph numbers and hints, and drops the layout tables, as a cut does: it has no closure over them to
+   do. A way that fails is left out, and so is HarfBuzz where it is not there (-DNO_HARFBUZZ). */
+#include <stdint.h>
+#include <stdio.h>
+#include <stdlib.h>
+#include <time.h>
+
+#ifndef NO_HARFBUZZ
+#include <hb-subset.h>
+#endif
+
+#include "copy_and_sum.h"
+#include "fontcut.h"
+
+enum { WAYS = 3, RANGES = 65536, CALLS = 20000, MORE = 1 << 20 };
+
+typedef struct way {
+    const char *name;
+    size_t (*call)(void); /* returns the bytes that it made, or 0 where it failed */
+    size_t size;
+    int has_failed;
+    int calls;
+    int64_t total;
+    int64_t times[CALLS];
+} way;
+
+static unsigned char *font, *room;
+static size_t font_length, room_length, cut_length;
+static fontcut_range ranges[RANGES];
+static size_t range_count;
+static volatile uint32_t last_sum; /* so that no sum is left out */
+
+static size_t call_cut(void)
+{
+    fontcut_answer answer = fontcut_cut(font, font_length, ranges, range_count, room, room_length);
+    return answer.status == FONTCUT_DONE ? (size_t)answer.size : 0;
+}
+
+static size_t call_copy(void)
+{
+    last_sum = copy_and_sum(room, cut_length, font, font_length);
+    return cut_length;
+}
+
+#ifndef NO_HARFBUZZ
+static hb_face_t *face;
+static hb_subset_input_t *input;
+
+static void prepare_hb(void)
+{
+    static const char dropped[][5] = {"GSUB", "GPOS", "GDEF", "kern"};
+    hb_blob_t *blob = hb_blob_create((const char *)font, (unsigned)font_length, HB_MEMORY_MODE_READONLY, NULL, NULL);
+    face = hb_face_create(blob, 0);
+    hb_blob_destroy(blob);
+    input = hb_subset_input_create_or_fail();
+    if (input == NULL)
+        exit(3);
+    hb_subset_input_set_flags(input, HB_SUBSET_FLAGS_RETAIN_GIDS);
+    for (size_t at = 0; at < range_count; at++)
+        hb_set_add_range(hb_subset_input_unicode_set(input), ranges[at].first, ranges[at].last);
+    for (size_t at = 0; at < sizeof dropped / sizeof dropped[0]; at++)
+        hb_set_add(hb_subset_input_set(input, HB_SUBSET_SETS_DROP_TABLE_TAG), hb_tag_from_string(dropped[at], 4));
+}
+
+static size_t call_hb(void)
+{
+    hb_face_t *made = hb_subset_or_fail(face, input);
+    if (made == NULL)
+        return 0;
+    hb_blob_t *blob = hb_face_reference_blob(made);
+    size_t size = hb_blob_get_length(blob);
+    hb_blob_destroy(blob);
+    hb_face_destroy(made);
+    return size;
+}
+#endif
+
+static int64_t now(void)
+{
+    struct timespec time;
+    clock_gettime(CLOCK_MONOTONIC, &time);
+    return (int64_t)time.tv_sec * 1000000000 + time.tv_nsec;
+}
+
+static unsigned char *got(size_t bytes)
+{
+    unsigned char *at = malloc(bytes);
+    if (at == NULL)
+        exit(3);
+    return at;
+}
+
+static void read_font(const char *path)
+{
+    FILE *from = fopen(path, "rb");
+    if (from == NULL || fseek(from, 0, SEEK_END) != 0)
+        exit(3);
+    font_length = (size_t)ftell(from);
+    rewind(from);
+    font = got(font_length);
+    if (font_length == 0 || fread(font, 1, font_length, from) != font_length)
+        exit(3);
+    fclose(from);
+}
+
+static void read_ranges(const char *path)
+{
+    FILE *from = fopen(path, "r");
+    unsigned first, last;
+    if (from == NULL)
+        exit(3);
+    for (; range_count < RANGES && fscanf(from, "%x-%x", &first, &last) == 2; range_count++) {
+        ranges[range_count].first = first;
+        ranges[range_count].last = last;
+    }
+    fclose(from);
+}
+
+static void call(way *one)
+{
+    int64_t begin = now();
+    one->size = one->call();
+    int64_t took = now() - begin;
+    one->times[one->calls++] = took;
+    one->total += took;
+}
+
+static int ascending(const void *first, const void *second)
+{
+    int64_t one = *(const int64_t *)first, other = *(const int64_t *)second;
+    return (one > other) - (one < other);
+}
+
+static void say(way *one)
+{
+    if (one->has_failed)
+        return;
+    qsort(one->times, (size_t)one->calls, sizeof one->times[0], ascending);
+    printf("%s %zu %lld %lld %d\n", one->name, one->size, (long long)one->times[0],
+           (long long)one->times[one->calls / 2], one->calls);
+}
+
+/* Calls the ways in turn, until each has had its time and the least number of calls. */
+static void call_in_turn(way *ways, int count, int64_t enough, int least)
+{
+    int called = 1;
+    while (called) {
+        called = 0;
+        for (int at = 0; at < count; at++) {
+            way *one = &ways[at];
+            if (!one->has_failed && one->calls < CALLS && (one->calls < least || one->total < enough)) {
+                call(one);
+                called = 1;
+            }
+        }
+    }
+}
+
+int main(int count, char **words)
+{
+    static way ways[WAYS];
+    int used = 0;
+    if (count != 5)
+        return 1;
+    read_font(words[1]);
+    read_ranges(words[2]);
+    room_length = 2 * font_length + MORE;
+    room = got(room_length + 4);
+    ways[used].name = "cut";
+    ways[used++].call = call_cut;
+#ifndef NO_HARFBUZZ
+    prepare_hb();
+    ways[used].name = "hb";
+    ways[used++].call = call_hb;
+#endif
+    ways[used].name = "copy";
+    ways[used++].call = call_copy;
+    cut_length = call_cut();
+    for (int at = 0; at < used; at++) /* the first call of each finds memory that nobody had, and is not timed */
+        ways[at].has_failed = ways[at].call() == 0;
+    call_in_turn(ways, used, atoll(words[3]) * 1000000, atoi(words[4]));
+    for (int at = 0; at < used; at++)
+        say(&ways[at]);
+    return 0;
+}

@@ -1,0 +1,134 @@
+/* Runs programs in turn, many times, and prints a line for each: the least and the median time of a run by the clock on
+   the wall, both of the processor's, all in nanoseconds; the most memory that a run had, in bytes; the number of runs.
+
+       runs MILLISECONDS LEAST MOST STATUS OUT \; PROGRAM WORDS.. \; PROGRAM WORDS..
+
+   Each program is run LEAST times at least, and MOST times at most; between these it leaves the turns when its runs
+   have taken MILLISECONDS. OUT is removed before each run. What the programs print goes nowhere. A program that ends
+   with a status above STATUS is not run again, and its line is `failed`. The memory of a child counts what its parent
+   had when it was started, so the parent is this small program. */
+#include <fcntl.h>
+#include <spawn.h>
+#include <stdint.h>
+#include <stdio.h>
+#include <stdlib.h>
+#include <string.h>
+#include <sys/resource.h>
+#include <sys/wait.h>
+#include <time.h>
+#include <unistd.h>
+
+enum { PROGRAMS = 8, RUNS = 10000 };
+
+typedef struct program {
+    char **words;
+    int has_failed;
+    int runs;
+    int64_t total;
+    int64_t times[RUNS];
+    int64_t processor[RUNS];
+    long peak; /* in KiB */
+} program;
+
+extern char **environ;
+
+static program programs[PROGRAMS];
+
+static int64_t now(void)
+{
+    struct timespec time;
+    clock_gettime(CLOCK_MONOTONIC, &time);
+    return (int64_t)time.tv_sec * 1000000000 + time.tv_nsec;
+}
+
+static int64_t nanoseconds(struct timeval time)
+{
+    return ((int64_t)time.tv_sec * 1000000 + time.tv_usec) * 1000;
+}
+
+/* Runs a program once, and adds what it took. Returns whether it ended with no status above the worst. */
+static int run(program *one, const char *out, int worst, posix_spawn_file_actions_t *actions)
+{
+    struct rusage used;
+    int status;
+    pid_t child;
+    remove(out);
+    int64_t begin = now();
+    if (posix_spawn(&child, one->words[0], actions, NULL, one->words, environ) != 0)
+        return 0;
+    if (wait4(child, &status, 0, &used) != child || !WIFEXITED(status) || WEXITSTATUS(status) > worst)
+        return 0;
+    int64_t took = now() - begin;
+    one->processor[one->runs] = nanoseconds(used.ru_utime) + nanoseconds(used.ru_stime);
+    one->times[one->runs++] = took;
+    one->total += took;
+    if (one->peak < used.ru_maxrss)
+        one->peak = used.ru_maxrss;
+    return 1;
+}
+
+/* Reads the programs behind the words of this one. Returns how many there are. */
+static int programs_of(char **words)
+{
+    int count = 0;
+    for (; *words != NULL; words++)
+        if (strcmp(*words, ";") == 0) {
+            *words = NULL;
+            if (count == PROGRAMS)
+                return 0;
+            programs[count++].words = words + 1;
+        }
+    return count;
+}
+
+static int ascending(const void *first, const void *second)
+{
+    int64_t one = *(const int64_t *)first, other = *(const int64_t *)second;
+    return (one > other) - (one < other);
+}
+
+/* Prints the least and the median of some times. */
+static void say_times(int64_t *times, int runs)
+{
+    qsort(times, (size_t)runs, sizeof times[0], ascending);
+    printf("%lld %lld ", (long long)times[0], (long long)times[runs / 2]);
+}
+
+static void say(program *one)
+{
+    if (one->has_failed) {
+        puts("failed");
+        return;
+    }
+    say_times(one->times, one->runs);
+    say_times(one->processor, one->runs);
+    printf("%lld %d\n", (long long)one->peak * 1024, one->runs);
+}
+
+int main(int given, char **words)
+{
+    posix_spawn_file_actions_t actions;
+    if (given < 8 || strtol(words[2], NULL, 10) < 1)
+        return 1;
+    int64_t enough = atoll(words[1]) * 1000000;
+    int least = atoi(words[2]), most = atoi(words[3]), worst = atoi(words[4]), ran = 1;
+    int count = programs_of(words + 6);
+    most = most < RUNS ? most : RUNS;
+    posix_spawn_file_actions_init(&actions);
+    posix_spawn_file_actions_addopen(&actions, 0, "/dev/null", O_RDONLY, 0);
+    posix_spawn_file_actions_addopen(&actions, 1, "/dev/null", O_WRONLY, 0);
+    posix_spawn_file_actions_addopen(&actions, 2, "/dev/null", O_WRONLY, 0);
+    while (ran) {
+        ran = 0;
+        for (int at = 0; at < count; at++) {
+            program *one = &programs[at];
+            if (one->has_failed || one->runs >= most || (one->runs >= least && one->total >= enough))
+                continue;
+            one->has_failed = !run(one, words[5], worst, &actions);
+            ran = 1;
+        }
+    }
+    for (int at = 0; at < count; at++)
+        say(&programs[at]);
+    return 0;
+}

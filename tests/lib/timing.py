@@ -1,0 +1,78 @@
+"""What the measuring scripts share: C programs that are compiled, programs that run in turn, calls in one process."""
+import os
+import subprocess
+from collections import namedtuple
+
+from checks import TOP, run
+
+LIB = os.path.join(TOP, "tests", "lib")
+BENCHES = os.path.join(TOP, "benches")
+
+# 3,000 codes, spread evenly over U+4E00-9FFF.
+IDEOGRAPHS = [0x4E00 + 0x5200 * k // 3000 for k in range(3000)]
+
+# What runs of a program took: the least and the median in milliseconds of wall clock, both of the processor's time, and
+# the most memory in bytes.
+Timed = namedtuple("Timed", "least median processor processor_median peak")
+
+# What calls in one process took: the bytes that a call makes, the least and the median in milliseconds.
+Called = namedtuple("Called", "size least median")
+
+
+def compiled(folder, source, *words):
+    """Compiles a C program of these sources into the folder, and returns its path."""
+    name = os.path.splitext(os.path.basename(source))[0]
+    path = os.path.join(folder, name)
+    ran = run("gcc", "-O2", "-o", path, source, *words)
+    if ran != (0, b"", b""):
+        raise RuntimeError(f"gcc does not compile {name}: {ran[2].decode(errors='replace')}")
+    return path
+
+
+def in_turn(runs, out, programs, milliseconds, least, most, worst=0):
+    """Runs programs in turn by tests/lib/runs.c, the program at `runs`, each as long as it is told, and `out` removed
+    before each run. Returns what each took, or None for one that ended with a status above the worst."""
+    words = [word for program in programs for word in (";", *map(str, program))]
+    status, lines, err = run(runs, str(milliseconds), str(least), str(most), str(worst), out, *words, timeout=3600)
+    if status:
+        raise RuntimeError(err.decode(errors="replace"))
+    return [None if line == "failed" else timed(line.split()) for line in lines.decode().splitlines()]
+
+
+def timed(words):
+    """What a line of runs.c says."""
+    least, median, processor, processor_median, peak, _ = map(int, words)
+    return Timed(least / 1e6, median / 1e6, processor / 1e6, processor_median / 1e6, peak)
+
+
+def harfbuzz():
+    """The words that a C program is compiled with to call HarfBuzz's subsetter, or None where that cannot be had."""
+    try:
+        ran = subprocess.run(["pkg-config", "--cflags", "--libs", "harfbuzz-subset"], capture_output=True, text=True)
+    except FileNotFoundError:
+        return None
+    return ran.stdout.split() if ran.returncode == 0 else None
+
+
+def compiled_calls(folder, library):
+    """Compiles benches/in_process.c over the static library, with HarfBuzz where that can be had."""
+    source = os.path.join(BENCHES, "in_process.c")
+    words = harfbuzz()
+    words = ["-DNO_HARFBUZZ"] if words is None else words
+    return compiled(folder, source, "-std=c99", "-D_GNU_SOURCE", f"-I{os.path.join(TOP, 'include')}", library, *words)
+
+
+def put_ranges(path, ranges):
+    """Writes ranges of codes as benches/in_process.c reads them."""
+    with open(path, "w", encoding="ascii") as out:
+        out.writelines(f"{first:X}-{last:X}\n" for first, last in ranges)
+
+
+def calls_in_turn(calls, font, ranges, milliseconds, least):
+    """Runs benches/in_process.c, the program at `calls`, over a font and a file of ranges. Returns what each way took,
+    by its name: `cut`, `hb` and `copy`. A way that fails is left out."""
+    status, lines, err = run(calls, font, ranges, str(milliseconds), str(least), timeout=3600)
+    if status:
+        raise RuntimeError(f"{font}: status {status}: {err.decode(errors='replace')}")
+    rows = [line.split() for line in lines.decode().splitlines()]
+    return {name: Called(int(size), int(low) / 1e6, int(median) / 1e6) for name, size, low, median, _ in rows}
