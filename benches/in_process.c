@@ -1,7 +1,8 @@
 /* Times three ways to the bytes of a cut, all in memory and in one process, in turn:
 
        cut     fontcut_cut into a room that is kept
-       hb      hb_subset_or_fail, and the blob of what it makes; the face and the input are made once
+       hb      hb_subset_or_fail, and the blob of what it makes; the face and the input are made for each call,
+               as a cut begins with the same bytes and ranges each time
        copy    copying as many bytes as the cut has into that room, and summing their words once
 
    Words: the font, a file with a line FIRST-LAST in hexadecimal digits for each range of wanted codes, the
@@ -53,16 +54,18 @@ static size_t call_copy(void)
 }
 
 #ifndef NO_HARFBUZZ
-static hb_face_t *face;
-static hb_subset_input_t *input;
+static hb_face_t *face_of_font(void)
+{
+    hb_blob_t *blob = hb_blob_create((const char *)font, (unsigned)font_length, HB_MEMORY_MODE_READONLY, NULL, NULL);
+    hb_face_t *face = hb_face_create(blob, 0);
+    hb_blob_destroy(blob);
+    return face;
+}
 
-static void prepare_hb(void)
+static hb_subset_input_t *input_of_ranges(void)
 {
     static const char dropped[][5] = {"GSUB", "GPOS", "GDEF", "kern"};
-    hb_blob_t *blob = hb_blob_create((const char *)font, (unsigned)font_length, HB_MEMORY_MODE_READONLY, NULL, NULL);
-    face = hb_face_create(blob, 0);
-    hb_blob_destroy(blob);
-    input = hb_subset_input_create_or_fail();
+    hb_subset_input_t *input = hb_subset_input_create_or_fail();
     if (input == NULL)
         exit(3);
     hb_subset_input_set_flags(input, HB_SUBSET_FLAGS_RETAIN_GIDS);
@@ -70,17 +73,23 @@ static void prepare_hb(void)
         hb_set_add_range(hb_subset_input_unicode_set(input), ranges[at].first, ranges[at].last);
     for (size_t at = 0; at < sizeof dropped / sizeof dropped[0]; at++)
         hb_set_add(hb_subset_input_set(input, HB_SUBSET_SETS_DROP_TABLE_TAG), hb_tag_from_string(dropped[at], 4));
+    return input;
 }
 
 static size_t call_hb(void)
 {
+    hb_face_t *face = face_of_font();
+    hb_subset_input_t *input = input_of_ranges();
     hb_face_t *made = hb_subset_or_fail(face, input);
-    if (made == NULL)
-        return 0;
-    hb_blob_t *blob = hb_face_reference_blob(made);
-    size_t size = hb_blob_get_length(blob);
-    hb_blob_destroy(blob);
-    hb_face_destroy(made);
+    size_t size = 0;
+    if (made != NULL) {
+        hb_blob_t *blob = hb_face_reference_blob(made);
+        size = hb_blob_get_length(blob);
+        hb_blob_destroy(blob);
+        hb_face_destroy(made);
+    }
+    hb_subset_input_destroy(input);
+    hb_face_destroy(face);
     return size;
 }
 #endif
@@ -179,7 +188,6 @@ int main(int count, char **words)
     ways[used].name = "cut";
     ways[used++].call = call_cut;
 #ifndef NO_HARFBUZZ
-    prepare_hb();
     ways[used].name = "hb";
     ways[used++].call = call_hb;
 #endif
