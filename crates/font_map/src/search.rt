@@ -1,5 +1,5 @@
 //! The search by halves among members in order of their codes: segments, groups or ranges.
-ghost use Rattle.std.specs.Prelude.{◌≡◌, ◌<◌, ◌≤◌, ℕ};
+ghost use Rattle.std.specs.Prelude.{◌≡◌, ◌+◌, ◌<◌, ◌≤◌, ℕ, IsTrue};
 ghost use Rattle.font_map.specs.Inside.{Ascends, IsFirstReaching};
 
 /// Members, each with a last code.
@@ -23,6 +23,20 @@ pub(crate) trait Ends {
 /// No hint where a member may stand.
 pub(crate) const ANYWHERE: usize = usize::MAX;
 
+// Whether the first member that ends at the code or above it stands behind a place, or none does and the place
+// is the last one.
+#[tactic(auto, using(crate::proofs::OrderLemmas::first_behind))]
+fn is_behind<E: Ends>(ends: &E, place: usize, code: u32) -> bool
+    requires { Ascends (E.end_of ends.now) (E.count_of ends.now) }
+    ensures { IsTrue result → IsFirstReaching (E.end_of ends.now) (E.count_of ends.now) code (place + 1) }
+{
+    let count = ends.count();
+    if count <= place || code <= ends.end_at(place) {
+        return false;
+    }
+    place + 1 == count || code <= ends.end_at(place + 1)
+}
+
 /// Returns the place of the first member that ends at the code or above it, by halves, or the number of
 /// members where none does. Where that is the place that the hint names or the one behind it, two members
 /// are read.
@@ -32,6 +46,10 @@ pub(crate) fn first_reaching<E: Ends>(ends: &E, hint: usize, code: u32) -> usize
 {
     let mut low = 0;
     let mut high = ends.count();
+    // Most walks go on with the next member.
+    if is_behind(ends, hint, code) {
+        return hint + 1;
+    }
     let mut guess = hint;
     let mut tries = if hint < high { 2u8 } else { 0 };
     while low < high {
