@@ -33,6 +33,24 @@ past_middle runs from middle ok lt h =
       before = λ k low. let x = ends_ascend (spelled runs) 0 runs ok.are k middle (omega (arith, low)) lt in omega (arith, x, h);
     }
 
+-- the place behind such a run, where its own run does not end below the code
+pub place_behind : (runs : List Run) (from place : ℕ) → AreMapRuns runs → 0 < place → place < length runs → (run_at runs (place - 1)).last < from → from ≤ (run_at runs place).last → IsPlace runs from place
+place_behind runs from place ok some lt below on =
+    let behind : place - 1 + 1 ≡ place = omega (arith, some) in
+    record {
+      past = subst (λ (p : ℕ). IsPast runs from p) behind (past_middle runs from (place - 1) ok (omega (arith, some, lt)) below);
+      there = λ low. on;
+    }
+
+-- the place for a code above the end of a run is behind that run
+pub place_above : (runs : List Run) (from i at : ℕ) → AreMapRuns runs → i < length runs → (run_at runs i).last < from → IsPlace runs from at → i < at
+place_above runs from i at ok lt below place = elim (cases_lt i at) [
+  | inl less ↦ less
+  | inr le ↦
+      let up = ends_ascend (spelled runs) 0 runs ok.are at i le lt in
+      absurd (omega (arith, place.there (omega (arith, le, lt)), up, below))
+]
+
 -- halving goes on behind the middle, or up to it
 pub middle_past : (runs : List Run) (from low high middle : ℕ) → AreMapRuns runs → IsBetween runs from low high → low ≤ middle → middle < high → (run_at runs middle).last < from → IsBetween runs from (middle + 1) high
 middle_past runs from low high middle ok h le lt less =

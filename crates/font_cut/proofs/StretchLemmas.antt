@@ -1,14 +1,25 @@
 -- Stretches of runs of one list that another map leaves alone: they are runs of the union.
-use Rattle.std.proofs.Common.{◌≡◌, ℕ, zero, suc, ◌+◌, ◌-◌, ◌<◌, ◌≤◌, List, [], ◌∷◌, ◌++◌, length, take, drop, append_assoc, sym, ap, ◌∙◌, subst, arith}
+use Rattle.std.proofs.Common.{◌≡◌, ℕ, zero, suc, ◌+◌, ◌-◌, ◌<◌, ◌≤◌, List, [], ◌∷◌, ◌++◌, length, take, drop, append_assoc, refl, sym, ap, ◌∙◌, subst, arith, inl, inr}
 use Rattle.std.proofs.Math.Seq.{take-suc}
+use Rattle.std.proofs.lemmas.Bool.{cases_lt}
 use Rattle.std.proofs.lemmas.List.{get_or-drop, length-drop}
 use Rattle.font_map.specs.CharacterMap.{IsCharacterMap}
 use Rattle.font_map.specs.Runs.{AreRuns, IsRun, groups_from, spelled}
 use Rattle.font_map.specs.declared.runs.Run.{Run}
 use Rattle.font_write.proofs.GroupLemmas.{groups_go_on}
 use Rattle.font_cut.specs.Union.{AreMapRuns}
-use Rattle.font_cut.specs.Inside.{IsDone, IsGapBelow, IsPast, LeavesAlone, run_at}
-use Rattle.font_cut.proofs.RunListLemmas.{found_at, past_more, past_on, run_sound, run_whole}
+use Rattle.font_cut.specs.Inside.{AreLeftAlone, IsDone, IsPast, LeavesAlone, run_at}
+use Rattle.font_cut.proofs.RunListLemmas.{end_leaves_alone, ends_ascend, found_at, next_leaves_alone, past_more, past_on, run_sound, run_whole}
+
+-- each run has an order and a glyph
+pub each_sound : (runs : List Run) → AreMapRuns runs → (k : ℕ) → k < length runs → ((run_at runs k).first ≤ (run_at runs k).last) × (0 < (run_at runs k).glyph) × ((run_at runs k).last ≤ 0x10FFFF)
+each_sound runs ok k lt =
+    let past : IsPast runs ((run_at runs k).last + 1) k = record {
+      within = omega (arith, lt);
+      before = λ m x. omega (arith, ends_ascend (spelled runs) 0 runs ok.are m k (omega (arith, x)) lt);
+    } in
+    let sound = run_sound runs ((run_at runs k).last + 1) k ok past lt in
+    (sound.0, sound.1, sound.2)
 
 -- each run begins behind the one before it
 next_behind : (m : ℕ → ℕ) (low : ℕ) (runs : List Run) → AreRuns m low runs → (k : ℕ) → suc k < length runs → (run_at runs k).last + 1 ≤ (run_at runs (suc k)).first
@@ -16,6 +27,53 @@ next_behind m low [] h k lt = absurd (omega (arith, lt))
 next_behind m low (r ∷ []) h k lt = absurd (omega (arith, lt))
 next_behind m low (r ∷ s ∷ rs) h zero lt = h.1.0.piece.from_on
 next_behind m low (r ∷ s ∷ rs) h (suc k) lt = next_behind m (r.last + 1) (s ∷ rs) h.1 k (omega (arith, lt))
+
+-- so they begin in order
+pub starts_ascend : (runs : List Run) → AreMapRuns runs → (i k : ℕ) → i ≤ k → k < length runs → (run_at runs i).first ≤ (run_at runs k).first
+starts_ascend runs ok i zero le lt = let e : i ≡ 0 = omega (arith, le) in subst (λ (m : ℕ). (run_at runs i).first ≤ (run_at runs m).first) e (omega arith)
+starts_ascend runs ok i (suc k) le lt = elim (cases_lt i (suc k)) [
+  | inl less ↦
+      let here = each_sound runs ok i (omega (arith, less, lt)) in
+      let up = ends_ascend (spelled runs) 0 runs ok.are i k (omega (arith, less)) (omega (arith, lt)) in
+      omega (arith, here.0, up, next_behind (spelled runs) 0 runs ok.are k lt)
+  | inr more ↦ let e : i ≡ suc k = omega (arith, more, le) in subst (λ (m : ℕ). (run_at runs i).first ≤ (run_at runs m).first) e (omega arith)
+]
+
+-- runs that end below the next run of another list, up to one of them: that list leaves alone those behind a place
+module _ (a b : List Run) (from i j end : ℕ) (first : AreMapRuns a) (second : AreMapRuns b) (past : IsPast b from j) (there : j < length b) (on : from ≤ (run_at a i).last) (below : IsPast a (run_at b j).first end) where
+  -- but for the last one: that may go on
+  pub alone_below : (k : ℕ) → i < k → suc k < end → LeavesAlone (spelled b) from (run_at a k)
+  alone_below k up lt =
+      let here = each_sound a first k (omega (arith, lt, below.within)) in
+      let next = each_sound a first (suc k) (omega (arith, lt, below.within)) in
+      let step = next_behind (spelled a) 0 a first.are k (omega (arith, lt, below.within)) in
+      let far : (run_at a k).last + 1 < (run_at b j).first = omega (arith, step, next.0, below.before (suc k) lt) in
+      let up_to = ends_ascend (spelled a) 0 a first.are i k (omega (arith, up)) (omega (arith, lt, below.within)) in
+      next_leaves_alone b from j (run_at a k) second past there (omega (arith, far)) (omega (arith, on, up_to)) here.0 here.1 (λ e. absurd (omega (arith, e, far)))
+
+  pub alone_but_last : AreLeftAlone a i (end - 1) (spelled b) from
+  alone_but_last k up lt = alone_below k up (omega (arith, lt))
+
+  pub alone_with_last : LeavesAlone (spelled b) from (run_at a (end - 1)) → AreLeftAlone a i end (spelled b) from
+  alone_with_last last k up lt = elim (cases_lt (suc k) end) [
+    | inl less ↦ alone_below k up less
+    | inr le ↦
+        let e : end - 1 ≡ k = omega (arith, le, lt) in
+        subst (λ (m : ℕ). LeavesAlone (spelled b) from (run_at a m)) e last
+  ]
+
+-- the end of a list leaves all of them alone
+pub alone_at_end : (a b : List Run) (from i j : ℕ) → AreMapRuns a → AreMapRuns b → IsPast b from j → length b ≤ j → from ≤ (run_at a i).last → AreLeftAlone a i (length a) (spelled b) from
+alone_at_end a b from i j first second past there on k up lt =
+    let ends = each_sound a first k lt in
+    let up_to = ends_ascend (spelled a) 0 a first.are i k (omega (arith, up)) lt in
+    end_leaves_alone b from j (run_at a k) second past there (omega (arith, on, up_to)) ends.0 ends.1
+
+-- a stretch of one run
+pub one_run : (runs : List Run) → length runs ≡ 1 → run_at runs 0 ∷ [] ≡ runs
+one_run [] e = absurd (omega (arith, e))
+one_run (r ∷ []) e = refl
+one_run (r ∷ s ∷ rs) e = absurd (omega (arith, e))
 
 -- a list, and a place whose run begins at a code or behind it
 module _ (list : List Run) (ok : AreMapRuns list) (from i : ℕ) (start : IsPast list from i) (begins : from ≤ (run_at list i).first) where
@@ -57,7 +115,7 @@ module _ (list : List Run) (ok : AreMapRuns list) (from i : ℕ) (start : IsPast
 
   -- another map leaves those of a stretch alone, so they are runs of the union
   module _ (M other : ℕ → ℕ) (map : IsCharacterMap M) (lift : (c : ℕ) (run : Run) → IsRun (spelled list) c run → LeavesAlone other c run → IsRun M c run)
-      (end : ℕ) (first : LeavesAlone other from (run_at list i)) (gap : IsGapBelow list i end other from) (runs : List Run) (done : IsDone M runs from) where
+      (end : ℕ) (first : LeavesAlone other from (run_at list i)) (rest : AreLeftAlone list i end other from) (runs : List Run) (done : IsDone M runs from) where
     one_done : (before : List Run) (c k : ℕ) → IsPast list c k → k < length list → c ≤ (run_at list k).first → LeavesAlone other c (run_at list k) → IsDone M before c → IsDone M (before ++ run_at list k ∷ []) (behind k)
     one_done before c k there lt at alone is =
         let f = found_at (spelled list) c 0 list k ok.are (omega arith) lt there.before in
@@ -75,9 +133,10 @@ module _ (list : List Run) (ok : AreMapRuns list) (from i : ℕ) (start : IsPast
         let there : IsPast list (behind j) (suc j) = subst (IsPast list (behind j)) (omega arith) before.past in
         let sound = run_sound list (behind j) (suc j) ok there lt in
         let next = next_behind (spelled list) 0 list ok.are j lt in
+        let left = rest (suc j) (omega (arith, e)) less in
         let alone : LeavesAlone other (behind j) here = record {
-          none = λ c x y. gap (suc j) (omega (arith, e)) less c (omega (arith, x, before.on)) (omega (arith, y));
-          behind = λ q. let z = gap (suc j) (omega (arith, e)) less (here.last + 1) (omega (arith, before.on, next, sound.0)) (omega arith) in absurd (omega (arith, q, z, sound.0, sound.1));
+          none = λ c x y. left.none c (omega (arith, x, before.on)) y;
+          behind = left.behind;
         } in
         subst (λ (l : List Run). IsDone M l (behind (suc j))) (append_assoc runs (take (suc n) (drop i list)) (here ∷ []) ∙ ap (λ (l : List Run). runs ++ l) (sym (take_more (suc n) (suc j) e lt)))
         (one_done (runs ++ take (suc n) (drop i list)) (behind j) (suc j) there lt next alone (are_done n j (omega (arith, e)) (omega (arith, lt)) (omega (arith, less))))

@@ -95,9 +95,9 @@ pub record LeavesAlone (m : ℕ → ℕ) (from : ℕ) (run : Run) : Type 0 where
   pub none : (c : ℕ) → from ≤ c → c ≤ run.last → m c ≡ 0
   pub behind : m (run.last + 1) + run.first ≢ run.glyph + (run.last + 1)
 
--- behind a run of a list up to another place, a map has no code from a given one on up to behind each run
-abbrev pub IsGapBelow : List Run → ℕ → ℕ → (ℕ → ℕ) → ℕ → Type 0
-IsGapBelow runs at end m from = (k : ℕ) → at < k → k < end → (c : ℕ) → from ≤ c → c ≤ (run_at runs k).last + 1 → m c ≡ 0
+-- behind a run of a list up to another place, a map leaves each run alone from a code on
+abbrev pub AreLeftAlone : List Run → ℕ → ℕ → (ℕ → ℕ) → ℕ → Type 0
+AreLeftAlone runs at end m from = (k : ℕ) → at < k → k < end → LeavesAlone m from (run_at runs k)
 
 -- some runs are the first groups of a map, those below a code
 abbrev pub IsDone : (ℕ → ℕ) → List Run → ℕ → Type 0

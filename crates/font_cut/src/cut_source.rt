@@ -22,7 +22,7 @@ use crate::cut_forms::CutForm;
 use crate::emit::form_among;
 use font_file::Font;
 use font_glyph::{Marks, close};
-use font_map::{Chart, Run, Wanted};
+use font_map::{Chart, Pieces, Run, Wanted, run_of};
 use font_write::Source;
 use sfnt_bytes::{CMAP, Directory, GLYF, HEAD, LOCA, NoMemory};
 use std::alloc::{Allocator, Global};
@@ -91,12 +91,15 @@ impl<'f, 'a, A: Allocator + Copy> Charted<'f, 'a, A> {
     {
         self.known_map();
         let mut runs = Vec::new(alloc);
+        let mut ahead = self.chart.piece(0);
         let mut from = 0;
-        while let Some(run) = self.chart.next_run(from) {
+        while let Some(piece) = ahead {
+            let (run, behind) = run_of(&self.chart, piece);
             if runs.push(run).is_err() {
                 return Err(NoMemory);
             }
             from = run.last + 1;
+            ahead = behind;
         }
         Ok(runs)
     }

@@ -1,15 +1,18 @@
 //! The runs of the union of two maps. OpenType 1.9, cmap, Format 12: Segmented coverage.
-ghost use Rattle.std.specs.Prelude.{◌≡◌, ◌+◌, ◌<◌, ◌≤◌, ◌++◌, ℕ, List, [], length, IfOk, IsTrue, MatchOption};
+ghost use Rattle.std.specs.Prelude.{◌≡◌, ◌+◌, ◌<◌, ◌≤◌, ◌++◌, ℕ, List, [], length, IfOk, IsTrue, MatchOption, OnOk};
 ghost use Rattle.font_map.specs.CharacterMap.{IsCharacterMap, united};
 ghost use Rattle.font_map.specs.Runs.{IsNext, IsPiece, IsRun, spelled};
 ghost use Rattle.font_map.specs.declared.runs.Run.{Run};
 ghost use Rattle.font_cut.specs.Union.{AreMapRuns};
-ghost use Rattle.font_cut.specs.Inside.{IsDone, IsGapBelow, IsPast, IsPlace, LeavesAlone};
+ghost use Rattle.font_cut.specs.Inside.{AreLeftAlone, IsDone, IsPast, IsPlace, LeavesAlone, run_at};
 
-use crate::run_list::{place_from, run_from};
+use crate::run_list::{place_by_guess, run_from};
 use font_map::Run;
 use sfnt_bytes::NoMemory;
 use std::alloc::Allocator;
+
+// How many codes there are. No map has more runs.
+const CODES: usize = 0x110000;
 
 // Returns the place of the first run that ends at a code or above it, where the runs before a place are
 // known to end below the code.
@@ -129,32 +132,40 @@ fn leaves_alone(runs: &[Run], place: usize, run: Run) -> bool
     true
 }
 
-// Returns the place behind the runs of `a` from place `i` on that end below the code before the next run of
-// `b`, which is at place `j`; the run at place `i` is one of them in any case.
-fn end_of_stretch(a: &[Run], i: usize, b: &[Run], j: usize) -> usize
+// Returns the place behind the runs of `a` from place `i` on that `b` leaves alone, whose next run is at place
+// `j`: those that end below that run, but for the last one where that run goes on with it. The run at place `i` is
+// one of them in any case. They are likely to be `count` runs.
+#[tactic(auto, using(crate::proofs::StretchLemmas::each_sound))]
+fn end_of_stretch(a: &[Run], i: usize, b: &[Run], j: usize, count: usize) -> usize
     requires first { AreMapRuns a.now }
     requires second { AreMapRuns b.now }
     requires there { i < length a.now }
     ensures order { i < result }
     ensures within { result ≤ length a.now }
-    ensures gap { (from : ℕ) → IsPast b.now from j → IsGapBelow a.now i result (spelled b.now) from }
+    ensures alone { (from : ℕ) → IsPast b.now from j → from ≤ (run_at a.now i).first →
+        AreLeftAlone a.now i result (spelled b.now) from }
 {
     if j >= b.len() {
         return a.len();
     }
     let next = b[j].first;
-    if next <= a[i].last || next - a[i].last == 1 {
+    if next <= a[i].last {
         return i + 1;
     }
-    place_from(a, i + 1, next - 1)
+    let end = place_by_guess(a, i + 1, i.saturating_add(count), next);
+    if end == i + 1 || leaves_alone(b, j, a[end - 1]) {
+        return end;
+    }
+    end - 1
 }
 
 // The runs of one of both from a code on that begin there and are left alone by the other list, the places
-// behind them, and the code behind them.
+// behind them, and the code behind them. They are likely to be `count` runs.
 fn next_apart<'r>(
     a: &'r [Run],
     b: &'r [Run],
     places: (usize, usize),
+    count: usize,
     from: u32,
 ) -> Option<(&'r [Run], (usize, usize), u32)>
     requires first { AreMapRuns a.now }
@@ -170,14 +181,31 @@ fn next_apart<'r>(
 {
     let (i, j) = places;
     if i < a.len() && from <= a[i].first && leaves_alone(b, j, a[i]) {
-        let end = end_of_stretch(a, i, b, j);
+        let end = end_of_stretch(a, i, b, j, count);
         return Some((&a[i..end], (end, j), a[end - 1].last + 1));
     }
     if j < b.len() && from <= b[j].first && leaves_alone(a, i, b[j]) {
-        let end = end_of_stretch(b, j, a, i);
+        let end = end_of_stretch(b, j, a, i, count);
         return Some((&b[j..end], (i, end), b[end - 1].last + 1));
     }
     None
+}
+
+// Adds a stretch of runs. For one run a copy of a slice costs more than the run.
+#[tactic(auto, using(crate::proofs::StretchLemmas::one_run))]
+fn push_stretch<A: Allocator>(runs: &mut Vec<Run, A>, stretch: &[Run]) -> Result<(), NoMemory>
+    ensures { OnOk result (runs.new.items ≡ runs.old.items ++ stretch.now) }
+{
+    if stretch.len() == 1 {
+        if runs.push(stretch[0]).is_err() {
+            return Err(NoMemory);
+        }
+        return Ok(());
+    }
+    if runs.extend_from_slice(stretch).is_err() {
+        return Err(NoMemory);
+    }
+    Ok(())
 }
 
 // Adds the runs of both from a code on that are left alone by the other list, up to one that is not. Returns
@@ -202,18 +230,20 @@ fn push_apart<A: Allocator>(
 {
     let mut at = places;
     let mut code = from;
-    while let Some((stretch, places_behind, behind)) = next_apart(a, b, at, code) {
-        if runs.extend_from_slice(stretch).is_err() {
-            return Err(NoMemory);
-        }
+    // The lists mostly take turns, and each goes on in stretches of one length.
+    let mut counts = (1, 1);
+    while let Some((stretch, places_behind, behind)) = next_apart(a, b, at, counts.0, code) {
+        push_stretch(runs, stretch)?;
         at = places_behind;
         code = behind;
+        counts = (counts.1, stretch.len());
     }
     Ok((at, code))
 }
 
-// Returns an empty list with room for so many runs: that of a list whose runs go, where it has enough. It is
-// not made to grow, for that would copy runs that nobody needs.
+// Returns an empty list with room for so many runs: that of a list whose runs go, where it has enough. Else it
+// gets room for twice as many, since the lists that follow are longer, and memory costs nothing until it is
+// written. It is not made to grow, for that would copy runs that nobody needs.
 fn empty_list<A: Allocator + Copy>(
     alloc: A,
     room: Vec<Run, A>,
@@ -223,10 +253,12 @@ fn empty_list<A: Allocator + Copy>(
 {
     let mut runs = room;
     runs.clear();
+    let mut wanted = count;
     if runs.capacity() < count {
         runs = Vec::new(alloc);
+        wanted = count.saturating_add(count).min(CODES).max(count);
     }
-    if runs.reserve(count).is_err() {
+    if runs.reserve(wanted).is_err() {
         return Err(NoMemory);
     }
     Ok(runs)

@@ -1,5 +1,5 @@
 //! Lists of runs, and the search for a code in them. OpenType 1.9, cmap, Format 12: Segmented coverage.
-ghost use Rattle.std.specs.Prelude.{◌<◌, MatchOption};
+ghost use Rattle.std.specs.Prelude.{◌<◌, IsTrue, MatchOption};
 ghost use Rattle.font_map.specs.Runs.{IsRun, NoRun, spelled};
 ghost use Rattle.font_cut.specs.Union.{AreMapRuns};
 ghost use Rattle.font_cut.specs.Inside.{IsBetween, IsPast, IsPlace};
@@ -103,9 +103,9 @@ impl Hint {
     }
 }
 
-// Returns the place of the first run that ends at a code or above it, where the runs before `low` end below
-// the code. It is likely to be `low`, or else `guess`.
-fn place_by_guess(runs: &[Run], low: usize, guess: usize, from: u32) -> usize
+/// Returns the place of the first run that ends at a code or above it, where the runs before `low` end below
+/// the code. It is likely to be `low`, or else `guess`.
+pub(crate) fn place_by_guess(runs: &[Run], low: usize, guess: usize, from: u32) -> usize
     requires runs { AreMapRuns runs.now }
     requires past { IsPast runs.now from low }
     ensures { IsPlace runs.now from result }
@@ -139,9 +139,23 @@ fn place_near(runs: &[Run], hint: Hint, from: u32) -> usize
     place_from(runs, 0, from)
 }
 
-/// The run that begins at the least mapped code not below `from`. `hint` keeps where it stands, so that a walk
-/// over the runs goes on from there.
-pub(crate) fn run_among(runs: &[Run], hint: &Cell<Hint>, from: u32) -> Option<Run>
+// Whether the first run that ends at a code or above it stands at a place, which is not the first one.
+fn is_place(runs: &[Run], place: usize, from: u32) -> bool
+    requires { AreMapRuns runs.now }
+    ensures { IsTrue result → IsPlace runs.now from place }
+{
+    if place == 0
+        || runs.len() <= place
+        || from <= runs[place - 1].last
+        || runs[place].last < from
+    {
+        return false;
+    }
+    true
+}
+
+// The run that begins at the least mapped code not below `from`, where the walk takes another step than before.
+fn run_searched(runs: &[Run], hint: &Cell<Hint>, from: u32) -> Option<Run>
     requires { AreMapRuns runs.now }
     ensures { MatchOption result (NoRun (spelled runs.now) from) (IsRun (spelled runs.now) from) }
 {
@@ -149,4 +163,20 @@ pub(crate) fn run_among(runs: &[Run], hint: &Cell<Hint>, from: u32) -> Option<Ru
     let place = place_near(runs, last, from);
     hint.set(last.moved(place));
     run_from(runs, place, from)
+}
+
+/// The run that begins at the least mapped code not below `from`. `hint` keeps where it stands, so that a walk
+/// over the runs goes on from there.
+pub(crate) fn run_among(runs: &[Run], hint: &Cell<Hint>, from: u32) -> Option<Run>
+    requires { AreMapRuns runs.now }
+    ensures { MatchOption result (NoRun (spelled runs.now) from) (IsRun (spelled runs.now) from) }
+{
+    let last = hint.get();
+    let place = last.place.saturating_add(last.step);
+    // Most steps are as long as the one before: they read two runs that stand beside each other.
+    if is_place(runs, place, from) {
+        hint.set(Hint { place, ..last });
+        return run_from(runs, place, from);
+    }
+    run_searched(runs, hint, from)
 }

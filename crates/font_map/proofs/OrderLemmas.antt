@@ -1,7 +1,7 @@
 -- Members in order of their codes, searches by halves, and what a search for a member finds.
 use Rattle.std.proofs.Common.{◌≡◌, ℕ, zero, suc, ◌+◌, ◌<◌, ◌≤◌, Bool, true, false, List, [], ◌∷◌, length, get_or, find, Some, None, refl, ap, subst, ◌∙◌, arith, inl, inr}
 use Rattle.std.proofs.lemmas.Bool.{cases_lt, cond_both}
-use Rattle.font_map.specs.Inside.{Ascends}
+use Rattle.font_map.specs.Inside.{Ascends, IsFirstReaching}
 use Rattle.font_map.specs.Order.{AreInOrder}
 
 -- each member has a code, and is not below the bound
@@ -53,6 +53,18 @@ halves_up end n c low high m o h a b l =
         | inr z ↦ let q : m ≡ k = omega arith in subst (λ (i : ℕ). end i < c) q l
       ];
       above = h.above;
+    }
+
+-- the first member that ends at a code or above it is the one behind a member that ends below the code
+pub first_behind : (end : ℕ → ℕ) (n c place : ℕ) → Ascends end n → place < n → end place < c → (place + 1 < n → c ≤ end (place + 1)) → IsFirstReaching end n c (place + 1)
+first_behind end n c place o lt below here =
+    record {
+      within = omega (arith, lt);
+      before = λ k x. elim (cases_lt k place) [
+        | inl z ↦ omega (arith, o k place z lt, below)
+        | inr z ↦ let q : place ≡ k = omega (arith, x, z) in subst (λ (i : ℕ). end i < c) q below
+      ];
+      here = here;
     }
 
 -- the first member that passes, by its place

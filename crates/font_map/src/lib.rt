@@ -25,6 +25,6 @@ pub use crate::laws::{
     canonical_groups, fewest_groups, map_laws, one_range_of_word, run_is_first_group,
 };
 pub use crate::mapping::{MapError, Mapping};
-pub use crate::runs::{Pieces, Run, next_run};
+pub use crate::runs::{Pieces, Run, next_run, run_of};
 pub use crate::wanted::{Wanted, WantedError};
 pub use crate::word::{WordError, read_word};

@@ -1,5 +1,5 @@
 //! The search by halves among members in order of their codes: segments, groups or ranges.
-ghost use Rattle.std.specs.Prelude.{◌≡◌, ◌<◌, ◌≤◌, ℕ};
+ghost use Rattle.std.specs.Prelude.{◌≡◌, ◌+◌, ◌<◌, ◌≤◌, ℕ, IsTrue};
 ghost use Rattle.font_map.specs.Inside.{Ascends, IsFirstReaching};
 
 /// Members, each with a last code.
@@ -23,38 +23,62 @@ pub(crate) trait Ends {
 /// No hint where a member may stand.
 pub(crate) const ANYWHERE: usize = usize::MAX;
 
-/// Returns the place of the first member that ends at the code or above it, by halves, or the number of
-/// members where none does. Where that is the place that the hint names or the one behind it, two members
-/// are read.
+// Whether the first member that ends at the code or above it stands behind a place, or none does and the place
+// is the last one.
+#[tactic(auto, using(crate::proofs::OrderLemmas::first_behind))]
+fn is_behind<E: Ends>(ends: &E, place: usize, code: u32) -> bool
+    requires { Ascends (E.end_of ends.now) (E.count_of ends.now) }
+    ensures { IsTrue result → IsFirstReaching (E.end_of ends.now) (E.count_of ends.now) code (place + 1) }
+{
+    let count = ends.count();
+    if count <= place || code <= ends.end_at(place) {
+        return false;
+    }
+    place + 1 == count || code <= ends.end_at(place + 1)
+}
+
+/// Returns the place of the first member that ends at the code or above it, or the number of members where none
+/// does. It is looked for at the place that the hint names and the one before it, or behind that in steps that
+/// double, and then by halves: a place close behind the hint is found soon.
 pub(crate) fn first_reaching<E: Ends>(ends: &E, hint: usize, code: u32) -> usize
     requires { Ascends (E.end_of ends.now) (E.count_of ends.now) }
     ensures { IsFirstReaching (E.end_of ends.now) (E.count_of ends.now) code result }
 {
     let mut low = 0;
     let mut high = ends.count();
+    // Most walks go on with the next member.
+    if is_behind(ends, hint, code) {
+        return hint + 1;
+    }
     let mut guess = hint;
-    let mut tries = if hint < high { 2u8 } else { 0 };
+    // 0 is by halves.
+    let mut step: usize = if hint < high { 1 } else { 0 };
     while low < high {
-        let middle = middle_of(low, high, guess, tries);
-        tries = tries.saturating_sub(1);
+        let middle = middle_of(low, high, guess);
         if ends.end_at(middle) < code {
             low = middle + 1;
-            guess = low;
+            guess = middle.saturating_add(step);
+            step = step.saturating_add(step);
         } else {
             high = middle;
-            guess = high.saturating_sub(1);
+            guess = if step == 1 {
+                middle.saturating_sub(1)
+            } else {
+                ANYWHERE
+            };
+            step = 0;
         }
     }
     low
 }
 
-// Returns the guess, as long as there are tries for it, and else the middle.
-fn middle_of(low: usize, high: usize, guess: usize, tries: u8) -> usize
+// Returns the guess where it lies between the bounds, and else the middle.
+fn middle_of(low: usize, high: usize, guess: usize) -> usize
     requires { low < high }
     ensures from { low ≤ result }
     ensures to { result < high }
 {
-    if tries > 0 && low <= guess && guess < high {
+    if low <= guess && guess < high {
         guess
     } else {
         low + (high - low) / 2

@@ -1,26 +1,56 @@
-use Rattle.std.proofs.Common.{inl, inr, ◌-◌, arith}
-use Rattle.std.proofs.lemmas.Bool.{cases_lt}
-use Rattle.font_map.specs.Runs.{spelled}
+use Rattle.std.proofs.Common.{◌-◌, arith}
 use Rattle.font_cut.specs.Inside.{run_at}
-use Rattle.font_cut.proofs.RunListLemmas.{ends_ascend, gap_at_end, gap_before, past_middle}
+use Rattle.font_cut.proofs.RunListLemmas.{past_middle, place_above}
+use Rattle.font_cut.proofs.StretchLemmas.{alone_at_end, alone_but_last, alone_with_last, each_sound, starts_ascend}
+use Rattle.font_cut.proofs.merging.end_of_stretch.Goals.{then-end-i-via-then-end-i, then-end-i-via-else-end-i+then-leaves_alone}
 use Rattle.font_cut.proofs.merging.end_of_stretch.Goals as goal
 
-pub returns-then-j-b-clause-gap : goal.returns-then-j-b-clause-gap
-returns-then-j-b-clause-gap c = λ from past k low less x on to. gap_at_end c.args.b.now from c.args.j x c.requires.second past c.if-j-b.true on
+pub returns-then-j-b-clause-alone : goal.returns-then-j-b-clause-alone
+returns-then-j-b-clause-alone c = λ from past on.
+    alone_at_end c.args.a.now c.args.b.now from c.args.i c.args.j c.requires.first c.requires.second past c.if-j-b.true (omega (arith, on, (each_sound c.args.a.now c.requires.first c.args.i c.requires.there).0))
 
-pub place_from-requires-clause-past : goal.place_from-requires-clause-past
-place_from-requires-clause-past c =
-    past_middle c.args.a.now ((run_at c.args.b.now c.args.j).first - 1) c.args.i c.requires.first c.requires.there (omega (arith, c.if-next-a.false, c.if-next-a-eq1.false))
+pub place_by_guess-end-requires-clause-past : goal.place_by_guess-end-requires-clause-past
+place_by_guess-end-requires-clause-past c =
+    past_middle c.args.a.now (run_at c.args.b.now c.args.j).first c.args.i c.requires.first c.requires.there (omega (arith, c.if-next-a.false))
+
+pub overflow_sub-end : goal.overflow_sub-end
+overflow_sub-end c =
+    let up = place_above c.args.a.now (run_at c.args.b.now c.args.j).first c.args.i c.place_by_guess-end.result c.requires.first c.requires.there (omega (arith, c.if-next-a.false)) c.place_by_guess-end.ensures in
+    omega (arith, up)
+
+pub leaves_alone-requires-clause-small : goal.leaves_alone-requires-clause-small
+leaves_alone-requires-clause-small c =
+    let up = place_above c.args.a.now (run_at c.args.b.now c.args.j).first c.args.i c.place_by_guess-end.result c.requires.first c.requires.there (omega (arith, c.if-next-a.false)) c.place_by_guess-end.ensures in
+    (each_sound c.args.a.now c.requires.first (c.place_by_guess-end.result - 1) (omega (arith, up, c.place_by_guess-end.ensures.past.within))).2
+
+pub returns-then-end-i-clause-order : goal.returns-then-end-i-clause-order
+returns-then-end-i-clause-order c =
+    place_above c.args.a.now (run_at c.args.b.now c.args.j).first c.args.i c.place_by_guess-end.result c.requires.first c.requires.there (omega (arith, c.if-next-a.false)) c.place_by_guess-end.ensures
+
+pub returns-then-end-i-clause-alone : goal.returns-then-end-i-clause-alone
+returns-then-end-i-clause-alone c = λ from past on.
+    let up = place_above c.args.a.now (run_at c.args.b.now c.args.j).first c.args.i c.place_by_guess-end.result c.requires.first c.requires.there (omega (arith, c.if-next-a.false)) c.place_by_guess-end.ensures in
+    elim c.then-end-i.branch [
+      | then-end-i-via-then-end-i w ↦ λ k more lt. absurd (omega (arith, w.if-end-i.true, more, lt))
+      | then-end-i-via-else-end-i+then-leaves_alone w ↦
+          let last = c.place_by_guess-end.result - 1 in
+          let begins = starts_ascend c.args.a.now c.requires.first c.args.i last (omega (arith, up)) (omega (arith, up, c.place_by_guess-end.ensures.past.within)) in
+          alone_with_last c.args.a.now c.args.b.now from c.args.i c.args.j c.place_by_guess-end.result c.requires.first c.requires.second past (omega (arith, c.if-j-b.false))
+          (omega (arith, on, (each_sound c.args.a.now c.requires.first c.args.i c.requires.there).0)) c.place_by_guess-end.ensures.past
+          (w.leaves_alone.ensures from past (omega (arith, on, begins)) w.if-leaves_alone.true)
+    ]
+
+pub overflow_sub-result : goal.overflow_sub-result
+overflow_sub-result c =
+    let up = place_above c.args.a.now (run_at c.args.b.now c.args.j).first c.args.i c.place_by_guess-end.result c.requires.first c.requires.there (omega (arith, c.if-next-a.false)) c.place_by_guess-end.ensures in
+    omega (arith, up)
 
 pub returns-clause-order : goal.returns-clause-order
-returns-clause-order c = elim (cases_lt c.args.i c.place_from.result) [
-  | inl less ↦ less
-  | inr le ↦
-      let there = c.place_from.ensures.there (omega (arith, le, c.requires.there)) in
-      let up = ends_ascend (spelled c.args.a.now) 0 c.args.a.now c.requires.first.are c.place_from.result c.args.i le c.requires.there in
-      absurd (omega (arith, there, up, c.if-next-a.false, c.if-next-a-eq1.false))
-]
+returns-clause-order c =
+    let up = place_above c.args.a.now (run_at c.args.b.now c.args.j).first c.args.i c.place_by_guess-end.result c.requires.first c.requires.there (omega (arith, c.if-next-a.false)) c.place_by_guess-end.ensures in
+    omega (arith, up, c.if-end-i.false)
 
-pub returns-clause-gap : goal.returns-clause-gap
-returns-clause-gap c = λ from past k low less x on to.
-    gap_before c.args.b.now from c.args.j x c.requires.second past (omega (arith, c.if-j-b.false)) on (omega (arith, to, c.place_from.ensures.past.before k less))
+pub returns-clause-alone : goal.returns-clause-alone
+returns-clause-alone c = λ from past on.
+    alone_but_last c.args.a.now c.args.b.now from c.args.i c.args.j c.place_by_guess-end.result c.requires.first c.requires.second past (omega (arith, c.if-j-b.false))
+    (omega (arith, on, (each_sound c.args.a.now c.requires.first c.args.i c.requires.there).0)) c.place_by_guess-end.ensures.past

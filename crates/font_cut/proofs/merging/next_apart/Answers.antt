@@ -21,7 +21,7 @@ overflow_add-result c = let behind = is_behind c.args.a.now c.requires.first c.a
 pub returns-then-leaves_alone-clause-done : goal.returns-then-leaves_alone-clause-done
 returns-then-leaves_alone-clause-done c = λ runs done.
     stretch_done c.args.a.now c.requires.first c.args.from c.args.places.0 c.requires.first_past c.if-from-a.true (united (spelled c.args.a.now) (spelled c.args.b.now)) (spelled c.args.b.now) (both_map c.args.a.now c.args.b.now c.requires.first c.requires.second) (first_alone (spelled c.args.a.now) (spelled c.args.b.now)) c.end_of_stretch-end.result
-    (c.leaves_alone.ensures c.args.from c.requires.second_past c.if-from-a.true c.if-leaves_alone.true) (c.end_of_stretch-end.ensures.gap c.args.from c.requires.second_past) runs done c.end_of_stretch-end.ensures.order c.end_of_stretch-end.ensures.within
+    (c.leaves_alone.ensures c.args.from c.requires.second_past c.if-from-a.true c.if-leaves_alone.true) (c.end_of_stretch-end.ensures.alone c.args.from c.requires.second_past c.if-from-a.true) runs done c.end_of_stretch-end.ensures.order c.end_of_stretch-end.ensures.within
 
 pub returns-then-leaves_alone-clause-first_past : goal.returns-then-leaves_alone-clause-first_past
 returns-then-leaves_alone-clause-first_past c =
@@ -51,7 +51,7 @@ overflow_add-result-then-leaves_alone-2 c = let behind = is_behind c.args.b.now 
 pub returns-then-leaves_alone-2-clause-done : goal.returns-then-leaves_alone-2-clause-done
 returns-then-leaves_alone-2-clause-done c = λ runs done.
     stretch_done c.args.b.now c.requires.second c.args.from c.args.places.1 c.requires.second_past c.if-from-b.true (united (spelled c.args.a.now) (spelled c.args.b.now)) (spelled c.args.a.now) (both_map c.args.a.now c.args.b.now c.requires.first c.requires.second) (second_alone (spelled c.args.a.now) (spelled c.args.b.now)) c.end_of_stretch-end-then-leaves_alone-2.result
-    (c.leaves_alone-then-from-b.ensures c.args.from c.requires.first_past c.if-from-b.true c.if-leaves_alone-2.true) (c.end_of_stretch-end-then-leaves_alone-2.ensures.gap c.args.from c.requires.first_past) runs done c.end_of_stretch-end-then-leaves_alone-2.ensures.order c.end_of_stretch-end-then-leaves_alone-2.ensures.within
+    (c.leaves_alone-then-from-b.ensures c.args.from c.requires.first_past c.if-from-b.true c.if-leaves_alone-2.true) (c.end_of_stretch-end-then-leaves_alone-2.ensures.alone c.args.from c.requires.first_past c.if-from-b.true) runs done c.end_of_stretch-end-then-leaves_alone-2.ensures.order c.end_of_stretch-end-then-leaves_alone-2.ensures.within
 
 pub returns-then-leaves_alone-2-clause-second_past : goal.returns-then-leaves_alone-2-clause-second_past
 returns-then-leaves_alone-2-clause-second_past c =

@@ -8,7 +8,7 @@ use Rattle.font_cut.proofs.merging.push_apart.Goals as goal
 pub loop-stretch-preserved : goal.loop-stretch-preserved
 loop-stretch-preserved g c =
     let M : ℕ → ℕ = united (spelled c.args.a.now) (spelled c.args.b.now) in
-    let pushed : c.extend_from_slice.new.self.items ≡ c.loop-stretch.runs.items ++ c.in-Some.stretch.now = search rules in
+    let pushed : c.push_stretch.new.runs.items ≡ c.loop-stretch.runs.items ++ c.in-Some.stretch.now = search (rules, c.push_stretch.ensures) in
     record {
       done = subst (λ (runs : List Run). IsDone M runs c.in-Some.behind) (sym pushed) (c.in-Some.ensures.done c.loop-stretch.runs.items c.loop-stretch.invariant.done);
       first_past = c.in-Some.ensures.first_past;
