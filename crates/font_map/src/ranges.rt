@@ -39,13 +39,14 @@ impl<'a> Ends for RangeEnds<'a> {
     }
 }
 
-// Returns the place of the first range that ends at the code or above it.
+// Returns the place of the first range that ends at the code or above it, which is likely to stand close behind
+// the hint.
 #[tactic(auto, using(crate::proofs::RangeLemmas::ranges_ascend))]
-fn place_range(ranges: &[Range], code: u32) -> usize
+fn place_range(ranges: &[Range], hint: usize, code: u32) -> usize
     requires { AreSeparate 0 ranges.now }
     ensures { IsFirstReaching (range_end ranges.now) (length ranges.now) code result }
 {
-    first_reaching(&RangeEnds { ranges }, ANYWHERE, code)
+    first_reaching(&RangeEnds { ranges }, hint, code)
 }
 
 /// Returns whether a code is in one of the ranges.
@@ -53,7 +54,7 @@ pub(crate) fn has_code(ranges: &[Range], code: u32) -> bool
     requires { AreSeparate 0 ranges.now }
     ensures { result ≡ member ranges.now code }
 {
-    let i = place_range(ranges, code);
+    let i = place_range(ranges, ANYWHERE, code);
     if i >= ranges.len() {
         return false;
     }
@@ -63,20 +64,22 @@ pub(crate) fn has_code(ranges: &[Range], code: u32) -> bool
     true
 }
 
-/// Returns the codes, from `from` on, of the first range that ends at `from` or above it.
-pub(crate) fn row_from(ranges: &[Range], from: u32) -> Option<Range>
+/// Returns the codes, from `from` on, of the first range that ends at `from` or above it, and the place of that
+/// range, as a hint for the next search.
+pub(crate) fn row_by_hint(ranges: &[Range], hint: usize, from: u32) -> (Option<Range>, usize)
     requires { AreSeparate 0 ranges.now }
-    ensures { MatchOption result (NoRow (member ranges.now) from) (IsRow (member ranges.now) from) }
+    ensures { MatchOption result.0 (NoRow (member ranges.now) from) (IsRow (member ranges.now) from) }
 {
-    let i = place_range(ranges, from);
+    let i = place_range(ranges, hint, from);
     if i >= ranges.len() {
-        return None;
+        return (None, i);
     }
     let range = ranges[i];
-    Some(Range {
+    let row = Range {
         first: from.max(range.first),
         last: range.last,
-    })
+    };
+    (Some(row), i)
 }
 
 // Returns how many ranges end before another one, with a gap.
@@ -87,7 +90,12 @@ fn count_before(ranges: &[Range], range: Range) -> usize
     ensures rest { with_range range ranges.now ≡ take result ranges.now ++ absorbed range
         (drop result ranges.now) }
 {
-    place_range(ranges, range.first.saturating_sub(1))
+    // Ranges mostly come in order, so the last one is looked at first.
+    place_range(
+        ranges,
+        ranges.len().saturating_sub(1),
+        range.first.saturating_sub(1),
+    )
 }
 
 // Merges `range` with the ranges from index `i` on that overlap or touch it. Returns the union and the

@@ -5,9 +5,10 @@ ghost use Rattle.font_map.specs.Wanted.{IsBadRange, all_codes, codes_between, ei
 ghost use Rattle.font_map.specs.Inside.{IsRow, NoRow};
 ghost use Rattle.font_map.specs.declared.wanted.WantedError.TheVariants.{BadRange, NoMemory};
 
-use crate::ranges::{Range, add_range, has_code, row_from};
+use crate::ranges::{Range, add_range, has_code, row_by_hint};
 use sfnt_bytes::NoMemory;
 use std::alloc::{Allocator, Global};
+use std::cell::Cell;
 use std::marker::Model;
 use thiserror::Error;
 
@@ -46,6 +47,8 @@ impl From<NoMemory> for WantedError {
 #[derive(Drop)]
 pub struct Wanted<A: Allocator = Global> {
     ranges: Vec<Range, A>,
+    // Where the range that was read last stands: a walk over the set goes on from there.
+    hint: Cell<usize>,
 }
 
 // Its value is the list of ranges, which is seen by `member` alone.
@@ -68,6 +71,7 @@ impl<A: Allocator> Wanted<A> {
     {
         Wanted {
             ranges: Vec::new(alloc),
+            hint: Cell::new(0),
         }
     }
 
@@ -85,7 +89,10 @@ impl<A: Allocator> Wanted<A> {
             last: 0x10FFFF,
         };
         ranges.push(range).map_err(|_| NoMemory)?;
-        Ok(Wanted { ranges })
+        Ok(Wanted {
+            ranges,
+            hint: Cell::new(0),
+        })
     }
 
     /// Returns whether a code is in the set.
@@ -99,7 +106,9 @@ impl<A: Allocator> Wanted<A> {
     pub(crate) fn row_from(&self, from: u32) -> Option<Range>
         ensures { MatchOption result (NoRow (member self.now) from) (IsRow (member self.now) from) }
     {
-        row_from(self.ranges.as_slice(), from)
+        let (row, place) = row_by_hint(self.ranges.as_slice(), self.hint.get(), from);
+        self.hint.set(place);
+        row
     }
 
     /// Adds the codes from the first to the last, both included. A refusal leaves the set as it was.
