@@ -155,6 +155,9 @@ fn is_place(runs: &[Run], place: usize, from: u32) -> bool
 }
 
 // The run that begins at the least mapped code not below `from`, where the walk takes another step than before.
+// It stands apart, so that what is done at each step stays short.
+#[cold]
+#[inline(never)]
 fn run_searched(runs: &[Run], hint: &Cell<Hint>, from: u32) -> Option<Run>
     requires { AreMapRuns runs.now }
     ensures { MatchOption result (NoRun (spelled runs.now) from) (IsRun (spelled runs.now) from) }
@@ -167,6 +170,7 @@ fn run_searched(runs: &[Run], hint: &Cell<Hint>, from: u32) -> Option<Run>
 
 /// The run that begins at the least mapped code not below `from`. `hint` keeps where it stands, so that a walk
 /// over the runs goes on from there.
+#[inline(always)]
 pub(crate) fn run_among(runs: &[Run], hint: &Cell<Hint>, from: u32) -> Option<Run>
     requires { AreMapRuns runs.now }
     ensures { MatchOption result (NoRun (spelled runs.now) from) (IsRun (spelled runs.now) from) }

@@ -55,6 +55,14 @@ impl<A: Allocator> Pieces for UnionMap<A> {
 }
 
 impl<A: Allocator> UnionMap<A> {
+    // Returns the run that begins at the least mapped code not below `from`, by the pieces of both lists.
+    #[inline(never)]
+    fn run_of_both(&self, from: u32) -> Option<Run>
+        ensures { MatchOption result (NoRun (map_in self.now) from) (IsRun (map_in self.now) from) }
+    {
+        next_run(self, from)
+    }
+
     /// Returns the run that begins at the least mapped code not below `from`. Where all runs stand in one
     /// list, that is read alone, and the run behind is not looked at.
     pub(crate) fn next_run(&self, from: u32) -> Option<Run>
@@ -63,7 +71,7 @@ impl<A: Allocator> UnionMap<A> {
         if self.recent.is_empty() {
             return run_among(&self.settled, &self.settled_hint, from);
         }
-        next_run(self, from)
+        self.run_of_both(from)
     }
 
     /// Returns a number that the groups of the map do not exceed: no step goes over all of them.
