@@ -28,7 +28,7 @@ use sfnt_bytes::{CMAP, Directory, GLYF, HEAD, LOCA, NoMemory};
 use std::alloc::{Allocator, Global};
 use std::marker::Model;
 
-// That nothing refuses a font: its type carries that, and each call of `tables` says it.
+// Recalls for the prover that this font was accepted. Does nothing at run time.
 pub(crate) fn accepted(font: &Font<'_>)
     ensures { font_fault font.now ≡ None }
 {
@@ -178,7 +178,7 @@ fn mark_reached<A: Allocator + Copy>(
     Ok(kept)
 }
 
-// The glyphs that a cut keeps.
+// Returns the glyphs that a cut keeps.
 fn mark_kept<A: Allocator + Copy>(
     alloc: A,
     font: &Charted<'_, '_, A>,
@@ -191,14 +191,14 @@ fn mark_kept<A: Allocator + Copy>(
     Ok(kept)
 }
 
-// The bytes of `head`.
+// Returns the bytes of `head`.
 fn table_head<'a>(directory: &Directory<'a>) -> &'a [u8]
     ensures { result.now ≡ unwrap_or (table_of directory.now (kept_tag HEAD)) [] }
 {
     directory.table(HEAD).unwrap_or(&[])
 }
 
-// `head` of an accepted font.
+// Returns `head` of an accepted font.
 #[tactic(auto, using(crate::proofs::SourceLemmas::head_is, crate::proofs::SourceLemmas::head_long, crate::proofs::SourceLemmas::head_small))]
 pub(crate) fn head<'a>(font: &Font<'a>) -> &'a [u8]
     ensures head { result.now ≡ head_of font.now }
@@ -208,7 +208,7 @@ pub(crate) fn head<'a>(font: &Font<'a>) -> &'a [u8]
     table_head(font.tables().directory())
 }
 
-// The table of a slot, where a cut copies it.
+// Returns the table of a slot, where a cut copies it.
 #[tactic(auto, using(crate::proofs::SourceLemmas::table_small))]
 pub(crate) fn copied<'a>(font: &Font<'a>, slot: usize) -> Option<&'a [u8]>
     ensures table { option_copied result ≡ (font_of font.now).copied slot }
@@ -220,7 +220,7 @@ pub(crate) fn copied<'a>(font: &Font<'a>, slot: usize) -> Option<&'a [u8]>
     font.tables().directory().table(slot)
 }
 
-// An outline of an accepted font.
+// Returns an outline of an accepted font.
 #[tactic(auto, using(crate::proofs::SourceLemmas::outline_small))]
 pub(crate) fn outline<'a>(font: &Font<'a>, g: u16) -> &'a [u8]
     requires { g < glyph_count_of font.now }
@@ -255,8 +255,8 @@ impl<'f, 'a, A: Allocator> Model for CutOf<'f, 'a, A> {
 }
 
 impl<'f, 'a, A: Allocator + Copy> CutOf<'f, 'a, A> {
-    /// The content of the cut of a font for the wanted codes. All memory that a cut needs before its
-    /// file is made is asked for here.
+    /// Returns the content of the cut of a font for the wanted codes. All memory that a cut needs before
+    /// its file is made is asked for here.
     ///
     /// # Errors
     ///
@@ -277,7 +277,8 @@ impl<'f, 'a, A: Allocator + Copy> CutOf<'f, 'a, A> {
         })
     }
 
-    /// The content of the cut of a font for all codes, and the runs of its map, which is read once for both.
+    /// Returns the content of the cut of a font for all codes, and the runs of its map, which is read once
+    /// for both.
     pub(crate) fn with_runs(
         alloc: A,
         font: &'f Font<'a>,
@@ -297,7 +298,7 @@ impl<'f, 'a, A: Allocator + Copy> CutOf<'f, 'a, A> {
         Ok((source, runs))
     }
 
-    /// The content of the cut of a font for all codes.
+    /// Returns the content of the cut of a font for all codes.
     pub(crate) fn for_all_codes(alloc: A, font: &'f Font<'a>) -> Result<CutOf<'f, 'a, A>, NoMemory>
         ensures { IfOk result (λ source. source ≡ (font.entry.now, None)) }
     {
@@ -359,8 +360,8 @@ impl<'f, 'a, A: Allocator> Source for CutOf<'f, 'a, A> {
 }
 
 impl<'f, 'a, A: Allocator> CutOf<'f, 'a, A> {
-    /// The outline of a glyph that all codes keep, as a file in cut form has it: with the zeros that
-    /// fill it.
+    /// Returns the outline of a glyph that all codes keep, as a file in cut form has it: with the zeros
+    /// that fill it.
     pub(crate) fn written_outline(&self, g: u16) -> Option<&'a [u8]>
         requires form { IsCut our_format self.now.0 }
         requires all { self.now.1 ≡ None }
@@ -374,7 +375,7 @@ impl<'f, 'a, A: Allocator> CutOf<'f, 'a, A> {
         None
     }
 
-    /// The file of the font.
+    /// Returns the file of the font.
     pub(crate) fn file(&self) -> &'a [u8]
         ensures file { result.now ≡ self.now.0 }
 
@@ -384,7 +385,7 @@ impl<'f, 'a, A: Allocator> CutOf<'f, 'a, A> {
         self.charted.font().tables().directory().file()
     }
 
-    /// The form in which the font's file is the file of this content, which is that for all codes.
+    /// Returns the form in which the font's file is the file of this content, which is that for all codes.
     pub(crate) fn form(&self) -> CutForm
         requires { self.now.1 ≡ None }
         ensures { result ≡ cut_form_of self.now.0 }

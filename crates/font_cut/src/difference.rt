@@ -16,14 +16,15 @@ use font_theory::Difference;
 use font_write::Source;
 use sfnt_bytes::{HEAD, KEPT, Tag};
 
-/// Whether two slices hold the same bytes.
+/// Returns whether two slices hold the same bytes.
 pub(crate) fn is_same(a: &[u8], b: &[u8]) -> bool
     ensures { result ≡ bytes_eq a.now b.now }
 {
     a == b
 }
 
-// Whether two `head`s are the same as a cut has them: all but checksumAdjustment and indexToLocFormat.
+// Returns whether two `head`s are the same as a cut has them: all but checksumAdjustment and
+// indexToLocFormat.
 #[tactic(auto, using(crate::proofs::TableDifferenceLemmas::same_heads))]
 fn is_same_head(a: &[u8], b: &[u8]) -> bool
     requires first { 54 ≤ length a.now }
@@ -36,7 +37,7 @@ fn is_same_head(a: &[u8], b: &[u8]) -> bool
     is_same(&a[52..], &b[52..])
 }
 
-// Whether the tables in a slot differ.
+// Returns whether the tables in a slot differ.
 #[tactic(auto, using(crate::proofs::TableDifferenceLemmas::head_differs, crate::proofs::TableDifferenceLemmas::tables_differ, crate::proofs::TableDifferenceLemmas::tables_absent, crate::proofs::TableDifferenceLemmas::first_alone, crate::proofs::TableDifferenceLemmas::second_alone))]
 fn is_other_table<K: Source, L: Source>(k: &K, l: &L, slot: usize) -> bool
     ensures { result ≡ is_different_table (K.content_of k.now) (L.content_of l.now) slot }
@@ -51,7 +52,7 @@ fn is_other_table<K: Source, L: Source>(k: &K, l: &L, slot: usize) -> bool
     }
 }
 
-// The first slot whose tables differ.
+// Returns the first slot whose tables differ.
 #[tactic(auto, using(crate::proofs::FirstLemmas::first_found, font_file::proofs::FontLemmas::find_step, crate::proofs::FirstLemmas::first_end))]
 fn different_table<K: Source, L: Source>(k: &K, l: &L) -> Option<u8>
     ensures { result ≡ find (is_different_table (K.content_of k.now) (L.content_of l.now))
@@ -65,8 +66,8 @@ fn different_table<K: Source, L: Source>(k: &K, l: &L) -> Option<u8>
     None
 }
 
-// The first code that both map, to two glyphs. The first content is known by its map: a piece of that will
-// do, for a run of it may go on over many pieces.
+// Returns the first code that both map, to two glyphs. The first content is known by its map: a piece of
+// that will do, for a run of it may go on over many pieces.
 fn different_code<P: Pieces, L: Source>(map: &P, l: &L) -> Option<u32>
     ensures { (K : Content) → K.map ≡ P.map_of map.now → result ≡ find
         (is_different_code K (L.content_of l.now)) (range_with_len 0 CODES) }
@@ -88,7 +89,7 @@ fn different_code<P: Pieces, L: Source>(map: &P, l: &L) -> Option<u32>
     None
 }
 
-/// The first table or code that tells two contents apart, the first of which has this map.
+/// Returns the first table or code that tells two contents apart, the first of which has this map.
 #[tactic(auto, unfolding(crate::specs::Inside::early_difference))]
 pub(crate) fn early_difference<K: Source, P: Pieces, L: Source>(
     k: &K,
@@ -107,7 +108,7 @@ pub(crate) fn early_difference<K: Source, P: Pieces, L: Source>(
     None
 }
 
-// The tag of a slot.
+// Returns the tag of a slot.
 #[tactic(auto, unfolding(sfnt_bytes::specs::Directory::kept_tag))]
 fn tag_of(slot: u8) -> Tag
     requires { slot < 16 }
@@ -116,7 +117,7 @@ fn tag_of(slot: u8) -> Tag
     KEPT[usize::from(slot)]
 }
 
-/// The refusal for a difference.
+/// Returns the refusal for a difference.
 pub(crate) fn refusal_of(difference: Difference) -> JoinError
     requires { (slot : ℕ) → difference ≡ Difference.AtTable slot → slot < 16 }
     ensures { result ≡ different difference }

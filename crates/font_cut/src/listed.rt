@@ -99,14 +99,15 @@ impl<'f, 'a, A: Allocator> Source for Listed<'f, 'a, A> {
 }
 
 impl<'f, 'a, A: Allocator> Listed<'f, 'a, A> {
-    /// The list of runs, where nothing else of this is needed any more.
+    /// Returns the list of runs, where nothing else of this is needed any more.
     pub(crate) fn into_runs(self) -> Vec<Run, A>
         ensures { AreRunsOf self.entry result.items }
     {
         self.runs
     }
 
-    /// The outline of a glyph that is kept, as a file in cut form has it: with the zeros that fill it.
+    /// Returns the outline of a glyph that is kept, as a file in cut form has it: with the zeros that fill
+    /// it.
     pub(crate) fn written_outline(&self, g: u16) -> Option<&'a [u8]>
         requires { IsCut our_format self.now }
         ensures outline { MatchOption result ((content (font_of self.now) everything).outline g ≡ None)
@@ -116,7 +117,7 @@ impl<'f, 'a, A: Allocator> Listed<'f, 'a, A> {
         self.font.written_outline(g)
     }
 
-    /// Whether the font's file is the file of this content, in any form.
+    /// Returns whether the font's file is the file of this content, in any form.
     pub(crate) fn is_cut(&self) -> bool
         ensures exact { result ≡ is_cut our_format self.now }
         ensures form { IsTrue result → IsCut our_format self.now }

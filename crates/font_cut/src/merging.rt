@@ -28,8 +28,8 @@ fn place_after(runs: &[Run], place: usize, from: u32) -> usize
     at
 }
 
-/// The first piece of the union of two maps, where the first pieces of both are known: one of them, up
-/// to where the first map goes on.
+/// Returns the first piece of the union of two maps, where the first pieces of both are known: one of them,
+/// up to where the first map goes on.
 pub(crate) fn first_piece(a: Option<Run>, b: Option<Run>) -> Option<Run>
     ensures { (m k : ℕ → ℕ) (from : ℕ) → IsNext m from a → IsNext k from b → IsNext (united m k) from result }
 {
@@ -49,7 +49,7 @@ pub(crate) fn first_piece(a: Option<Run>, b: Option<Run>) -> Option<Run>
     })
 }
 
-// The first piece of both from a code on, and the places that it was found at.
+// Returns the first piece of both from a code on, and the places that it was found at.
 #[tactic(auto, using(crate::proofs::RunListLemmas::next_of, crate::proofs::RunListLemmas::past_on))]
 fn piece_of_both(
     a: &[Run],
@@ -73,7 +73,7 @@ fn piece_of_both(
     )
 }
 
-// The run that begins with a piece, the first piece behind it, and the places that it was found at.
+// Returns the run that begins with a piece, the first piece behind it, and the places that it was found at.
 fn run_of_both(
     a: &[Run],
     b: &[Run],
@@ -108,8 +108,8 @@ fn run_of_both(
     (run, ahead, at)
 }
 
-// Whether the run at a place leaves a run alone, which begins at a code or above it: it begins behind that
-// run and does not go on with it. So does the end of the list.
+// Returns whether the run at a place leaves a run alone, which begins at a code or above it: it begins
+// behind that run and does not go on with it. So does the end of the list.
 fn leaves_alone(runs: &[Run], place: usize, run: Run) -> bool
     requires runs { AreMapRuns runs.now }
     requires order { run.first ≤ run.last }
@@ -159,8 +159,8 @@ fn end_of_stretch(a: &[Run], i: usize, b: &[Run], j: usize, count: usize) -> usi
     end - 1
 }
 
-// The runs of one of both from a code on that begin there and are left alone by the other list, the places
-// behind them, and the code behind them. They are likely to be `count` runs.
+// Returns the runs of one of both from a code on that begin there and are left alone by the other list, the
+// places behind them, and the code behind them. They are likely to be `count` runs.
 fn next_apart<'r>(
     a: &'r [Run],
     b: &'r [Run],

@@ -90,7 +90,7 @@ impl<'f, 'a, A: Allocator> Source for Union<'f, 'a, A> {
 }
 
 impl<'f, 'a, A: Allocator> Union<'f, 'a, A> {
-    // The outline of a glyph, with the zeros that fill it.
+    // Returns the outline of a glyph, with the zeros that fill it.
     fn outline(&self, g: u16) -> Option<&'a [u8]>
         ensures outline { MatchOption result ((content_in self.now).outline g ≡ None)
             (λ b. (content_in self.now).outline g ≡ Some b.now) }
@@ -105,9 +105,9 @@ impl<'f, 'a, A: Allocator> Union<'f, 'a, A> {
 }
 
 impl<'f, 'a, A: Allocator> Union<'f, 'a, A> {
-    /// How many bytes the file of the union has, where these are too many. Its outlines are counted as they
-    /// are added and its groups are at most those of both lists, so that a step goes over neither but where
-    /// the size is close to the limit.
+    /// Returns how many bytes the file of the union has, where these are too many. Its outlines are counted
+    /// as they are added and its groups are at most those of both lists, so that a step goes over neither
+    /// but where the size is close to the limit.
     pub(crate) fn too_large(&self) -> Option<u64>
         ensures { MatchOption result
             (length (file current_form (content_in self.now)) ≤ MAX_FILE)
@@ -122,7 +122,7 @@ impl<'f, 'a, A: Allocator> Union<'f, 'a, A> {
     }
 }
 
-// Why a file is not added, before outlines are compared.
+// Returns why a file is not added, before outlines are compared.
 fn early_refusal<A: Allocator, B: Allocator>(
     k: &Union<'_, '_, A>,
     l: &Listed<'_, '_, B>,
@@ -140,7 +140,7 @@ fn early_refusal<A: Allocator, B: Allocator>(
 }
 
 impl<'f, 'a, A: Allocator + Copy> Union<'f, 'a, A> {
-    /// The union of one file in cut form.
+    /// Returns the union of one file in cut form.
     ///
     /// # Errors
     ///
@@ -170,7 +170,7 @@ impl<'f, 'a, A: Allocator + Copy> Union<'f, 'a, A> {
         })
     }
 
-    /// The union with one more file, but for its size.
+    /// Returns the union with one more file, but for its size.
     ///
     /// # Errors
     ///
@@ -202,7 +202,7 @@ impl<'f, 'a, A: Allocator + Copy> Union<'f, 'a, A> {
         })
     }
 
-    /// The same union, whose file is quick to write.
+    /// Returns the same union, whose file is quick to write.
     ///
     /// # Errors
     ///

@@ -9,8 +9,8 @@ use std::marker::Model;
 /// So many marks are looked at in one step.
 const BLOCK: usize = 64;
 
-// Whether so many marks stand behind a place and none of them is set. It looks at all of them, so that the
-// compiler may take many at a time.
+// Returns whether so many marks stand behind a place and none of them is set. It looks at all of them, so
+// that the compiler may take many at a time.
 #[tactic(auto, unfolding(crate::specs::Marks::has))]
 fn is_clear(marks: &[bool], at: usize) -> bool
     requires { at ≤ length marks.now }
@@ -77,7 +77,7 @@ impl<A: Allocator> Model for Marks<A> {
 }
 
 impl<A: Allocator> Marks<A> {
-    /// No mark at all, for glyphs below `count`.
+    /// Returns a set with no mark at all, for glyphs below `count`.
     #[tactic(auto, unfolding(crate::specs::Marks::has))]
     pub fn new(alloc: A, count: u16) -> Result<Marks<A>, NoMemory>
         ensures count { IfOk result (λ marks. length marks ≡ count) }
@@ -87,7 +87,7 @@ impl<A: Allocator> Marks<A> {
         Ok(Marks { marks })
     }
 
-    /// The same marks.
+    /// Returns the same marks.
     pub(crate) fn copied(&self, alloc: A) -> Result<Marks<A>, NoMemory>
         ensures { IfOk result (λ marks. marks ≡ self.now) }
     {
@@ -95,7 +95,7 @@ impl<A: Allocator> Marks<A> {
         Ok(Marks { marks })
     }
 
-    /// Whether a glyph is marked.
+    /// Returns whether a glyph is marked.
     #[tactic(auto, unfolding(crate::specs::Marks::has))]
     pub fn has(&self, g: u16) -> bool
         requires { g < length self.now }

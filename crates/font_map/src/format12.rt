@@ -39,7 +39,7 @@ impl ListedGroup {
     }
 }
 
-/// numGroups
+/// Returns numGroups.
 #[tactic(auto, using(crate::proofs::GroupLemmas::groups_end), unfolding(crate::specs::Format12::group_count))]
 pub(crate) fn count_groups(s: &[u8]) -> usize
     requires { 16 ≤ length s.now }
@@ -73,7 +73,7 @@ pub(crate) fn group_at(s: &[u8], i: usize) -> ListedGroup
     read_group(s, i)
 }
 
-// Whether each group has a code, and lies strictly above the one before it.
+// Returns whether each group has a code, and lies strictly above the one before it.
 fn has_ordered_groups(s: &[u8]) -> bool
     requires { HasGroups s.now }
     ensures { IsTrue result ↔ HasOrderedGroups s.now }
@@ -109,7 +109,7 @@ fn group_of(s: &[u8], i: usize, code: u32) -> Option<ListedGroup>
     Some(group)
 }
 
-// The first listed group that has the code, group by group.
+// Returns the first listed group that has the code, group by group.
 fn walk_groups(s: &[u8], code: u32) -> Option<ListedGroup>
     requires { HasGroups s.now }
     ensures value { result ≡ find (holds code) (groups_of s.now) }
@@ -125,7 +125,7 @@ fn walk_groups(s: &[u8], code: u32) -> Option<ListedGroup>
     None
 }
 
-// The codes from one on that a group alone maps to one of the glyphs.
+// Returns the codes from a given one on that a group alone maps to one of the glyphs.
 fn clip_group(group: ListedGroup, from: u32, glyphs: u16) -> Option<Run>
     ensures { MatchOption result (NoRun (clipped glyphs (glyph_of_group group)) from)
         (IsPiece (clipped glyphs (glyph_of_group group)) from) }
@@ -175,8 +175,8 @@ fn reach_at(s: &[u8], i: usize, from: u32) -> (Option<ListedGroup>, u32)
     (Some(ListedGroup { last, ..group }), last + 1)
 }
 
-// The same, group by group: a group that is listed before the one that has the code decides from its
-// first code on.
+// Returns the same, group by group: a group that is listed before the one that has the code decides from
+// its first code on.
 fn walk_reach(s: &[u8], from: u32) -> (Option<ListedGroup>, u32)
     requires room { HasGroups s.now }
     requires low { from < 0x110000 }

@@ -73,7 +73,7 @@ impl<'a> Mapping<'a> {
         })
     }
 
-    /// `platformID`, `encodingID` and format of the chosen subtable.
+    /// Returns `platformID`, `encodingID` and format of the chosen subtable.
     #[tactic(auto, using(crate::proofs::MappingLemmas::is_character_map), unfolding(crate::specs::Cmap::chosen_of))]
     pub fn chosen(&self) -> (u16, u16, u16)
         ensures chosen { result ≡ chosen_of self.now.0 }
@@ -90,7 +90,7 @@ impl<'a> Mapping<'a> {
         )
     }
 
-    /// The glyph of a code, 0 where it is not mapped.
+    /// Returns the glyph of a code, 0 where it is not mapped.
     #[tactic(auto, unfolding(crate::specs::Mapping::mapping_of))]
     pub fn glyph(&self, code: u32) -> u16
         ensures glyph { result ≡ mapping_of self.now.0 self.now.1 code }
@@ -99,14 +99,14 @@ impl<'a> Mapping<'a> {
         clip(self.subtable.glyph(code), self.glyphs, code)
     }
 
-    /// How many codes are mapped.
+    /// Returns how many codes are mapped.
     pub fn mapped_count(&self) -> u32
         ensures { result ≡ mapped_codes (mapping_of self.now.0 self.now.1) }
     {
         mapped_count(self)
     }
 
-    /// The run that begins at the least mapped code not below `from`: as long as neighbouring codes
+    /// Returns the run that begins at the least mapped code not below `from`: as long as neighbouring codes
     /// lie on neighbouring glyphs.
     pub fn next_run(&self, from: u32) -> Option<Run>
         ensures { MatchOption result (NoRun (mapping_of self.now.0 self.now.1) from)
@@ -149,7 +149,7 @@ impl<'a> Mapping<'a> {
         Ok(())
     }
 
-    /// The same over the mapped codes of a set.
+    /// Returns the same over the mapped codes of a set.
     pub fn wanted_run<A: Allocator>(&self, wanted: &Wanted<A>, from: u32) -> Option<Run>
         ensures { MatchOption result
             (NoRun (restricted (member wanted.now) (mapping_of self.now.0 self.now.1)) from)

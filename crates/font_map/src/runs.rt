@@ -33,13 +33,13 @@ pub trait Pieces {
     /// The map: 0 is "not mapped".
     ghost map_of: { Self → ℕ → ℕ };
 
-    /// The least mapped code not below `from`, and some codes after it on neighbouring glyphs.
+    /// Returns the least mapped code not below `from`, and some codes after it on neighbouring glyphs.
     fn piece(&self, from: u32) -> Option<Run>
         ensures { MatchOption result (NoRun (map_of self.now) from) (IsPiece (map_of self.now) from) };
 }
 
-/// The run that begins with a piece, and the first piece behind it. A walk that goes on with that piece searches none
-/// twice.
+/// Returns the run that begins with a piece, and the first piece behind it. A walk that goes on with that
+/// piece searches none twice.
 pub fn run_of<P: Pieces>(pieces: &P, piece: Run) -> (Run, Option<Run>)
     requires order { piece.first ≤ piece.last }
     requires small { piece.last ≤ 0x10FFFF }
@@ -61,7 +61,7 @@ pub fn run_of<P: Pieces>(pieces: &P, piece: Run) -> (Run, Option<Run>)
     (run, None)
 }
 
-/// The run that begins at the least mapped code not below `from`.
+/// Returns the run that begins at the least mapped code not below `from`.
 pub fn next_run<P: Pieces>(pieces: &P, from: u32) -> Option<Run>
     ensures { MatchOption result (NoRun (P.map_of pieces.now) from) (IsRun (P.map_of pieces.now) from) }
 {
@@ -70,7 +70,7 @@ pub fn next_run<P: Pieces>(pieces: &P, from: u32) -> Option<Run>
     Some(run)
 }
 
-/// How many codes are mapped.
+/// Returns how many codes are mapped.
 pub(crate) fn mapped_count<P: Pieces>(pieces: &P) -> u32
     ensures { result ≡ mapped_codes (P.map_of pieces.now) }
 {
@@ -83,7 +83,7 @@ pub(crate) fn mapped_count<P: Pieces>(pieces: &P) -> u32
     count
 }
 
-/// The glyph of a code, and 0 where there is no such glyph or no such code.
+/// Returns the glyph of a code, and 0 where there is no such glyph or no such code.
 pub(crate) fn clip(glyph: u64, glyphs: u16, code: u32) -> u16
     ensures { result ≡ clipped glyphs (λ _. glyph) code }
 {

@@ -23,8 +23,8 @@ pub(crate) trait Ends {
 /// No hint where a member may stand.
 pub(crate) const ANYWHERE: usize = usize::MAX;
 
-// Whether the first member that ends at the code or above it stands behind a place, or none does and the place
-// is the last one.
+// Returns whether the first member that ends at the code or above it stands behind a place, or none does
+// and the place is the last one.
 #[tactic(auto, using(crate::proofs::OrderLemmas::first_behind))]
 fn is_behind<E: Ends>(ends: &E, place: usize, code: u32) -> bool
     requires { Ascends (E.end_of ends.now) (E.count_of ends.now) }

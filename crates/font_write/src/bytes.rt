@@ -10,21 +10,21 @@ ghost use Rattle.font_write.specs.declared.bytes.TheConstants.{BLOCK};
 use crate::sink::{Sink, Stopped};
 use sfnt_bytes::search_fields;
 
-/// How many zeros fill a length to a multiple of 4.
+/// Returns how many zeros fill a length to a multiple of 4.
 pub(crate) fn padding(length: usize) -> usize
     ensures { result ≡ padding_of length }
 {
     (4 - length % 4) % 4
 }
 
-/// The bytes of a `u16`.
+/// Returns the bytes of a `u16`.
 pub(crate) fn half(x: u16) -> [u8; 2]
     ensures { result ≡ bytes16 x }
 {
     x.to_be_bytes()
 }
 
-/// The bytes of a `u32`.
+/// Returns the bytes of a `u32`.
 #[tactic(auto, using(crate::proofs::NumberLemmas::bytes32_is))]
 pub(crate) fn word(x: u32) -> [u8; 4]
     ensures { result ≡ bytes32 x }
@@ -32,7 +32,7 @@ pub(crate) fn word(x: u32) -> [u8; 4]
     x.to_be_bytes()
 }
 
-/// The bytes of three `u32`.
+/// Returns the bytes of three `u32`.
 pub(crate) fn three_words(x: u32, y: u32, z: u32) -> [u8; 12]
     ensures { result ≡ bytes32 x ++ (bytes32 y ++ bytes32 z) }
 {
@@ -58,7 +58,7 @@ pub(crate) fn put_word(block: &mut [u8; BLOCK], at: usize, x: u32)
     block[at + 3] = d;
 }
 
-// sfntVersion 1.0 and four numbers.
+// Returns sfntVersion 1.0 and four numbers, as bytes.
 fn header_of(count: u16, range: u16, selector: u16, shift: u16) -> [u8; 12]
     ensures { result ≡ bytes32 65536 ++ (bytes16 count ++
         (bytes16 range ++ (bytes16 selector ++ bytes16 shift))) }
@@ -70,7 +70,7 @@ fn header_of(count: u16, range: u16, selector: u16, shift: u16) -> [u8; 12]
     [0, 1, 0, 0, a, b, c, d, e, f, g, h]
 }
 
-/// The header of a file of so many tables.
+/// Returns the header of a file of so many tables.
 pub(crate) fn header(count: u16) -> [u8; 12]
     requires some { 0 < count }
     requires few { count ≤ 16 }

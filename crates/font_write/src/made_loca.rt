@@ -17,7 +17,7 @@ use crate::source::Source;
 // For so many glyphs a block has room.
 const GLYPHS: u16 = 256;
 
-/// The length of `loca`.
+/// Returns the length of `loca`.
 pub(crate) fn loca_length<S: Source>(source: &S) -> u32
     ensures exact { result ≡ length (all_offsets (S.content_of source.now)) }
     ensures small { result ≤ 0x0004_0000 }
@@ -25,7 +25,7 @@ pub(crate) fn loca_length<S: Source>(source: &S) -> u32
     4 * (u32::from(source.glyph_count()) + 1)
 }
 
-/// The checksum of `loca`.
+/// Returns the checksum of `loca`.
 pub(crate) fn sum_loca<S: Source>(source: &S) -> u32
     requires small { length (all_outlines (S.content_of source.now)) ≤ MAX_FILE }
     ensures { result ≡ checksum_of (all_offsets (S.content_of source.now)) }

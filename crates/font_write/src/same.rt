@@ -36,7 +36,7 @@ impl<'a> Model for Same<'a> {
         IsOdd s.file.now (take s.at s.file.now) s.odd) };
 }
 
-// How many bytes two slices begin with alike.
+// Returns how many bytes two slices begin with alike.
 fn common(a: &[u8], b: &[u8]) -> usize
     ensures a { result ≤ length a.now }
     ensures b { result ≤ length b.now }
@@ -57,7 +57,7 @@ fn common(a: &[u8], b: &[u8]) -> usize
 }
 
 impl<'a> Same<'a> {
-    /// Nothing is compared yet.
+    /// Returns a comparison with a file, of which nothing is compared yet.
     pub fn new(file: &'a [u8]) -> Same<'a>
         ensures { result ≡ record { file = file.entry.now; taken = []; odd = None; stopped = false } }
     {
@@ -69,14 +69,14 @@ impl<'a> Same<'a> {
         }
     }
 
-    /// Whether all of the file was taken.
+    /// Returns whether all of the file was taken.
     pub fn is_whole(&self) -> bool
         ensures { IsTrue result ↔ self.now.taken ≡ self.now.file }
     {
         self.at == self.file.len()
     }
 
-    // What was shown is no front of the file.
+    // Recalls that the bytes offered so far are not a prefix of the file. Does nothing at run time.
     fn is_odd(&self)
         ensures { self.now.stopped ≡ true → IsOdd self.now.file self.now.taken self.now.odd }
     {
@@ -101,7 +101,7 @@ impl<'a> Sink for Same<'a> {
     }
 }
 
-/// Whether a file is that of a source.
+/// Returns whether a file is that of a source.
 pub fn is_file_of<S: Source>(source: &S, plan: &Plan, file_bytes: &[u8]) -> bool
     requires plan { IsPlan (S.content_of source.now) plan.now }
     requires small { length (planned_file plan.now (S.content_of source.now)) ≤ MAX_FILE }

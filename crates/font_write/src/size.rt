@@ -31,7 +31,7 @@ pub struct Size {
     pub bytes: u64,
 }
 
-/// The length of the table in a slot, where there is one.
+/// Returns the length of the table in a slot, where there is one.
 pub(crate) fn table_length<S: Source>(
     source: &S,
     profile: Profile,
@@ -61,7 +61,7 @@ pub(crate) fn table_length<S: Source>(
     }
 }
 
-// A length with the zeros that fill it.
+// Returns a length with the zeros that fill it.
 fn padded_size(length: u64) -> u64
     requires { length ≤ 0x0001_0000_0000_0004 }
     ensures { result ≡ length + padding_of length }
@@ -69,7 +69,7 @@ fn padded_size(length: u64) -> u64
     length + padding(length as usize) as u64
 }
 
-// The length of the table in a slot, padded, with its record, and 0 where there is none.
+// Returns the length of the table in a slot, padded, with its record, and 0 where there is none.
 fn slot_size<S: Source>(source: &S, profile: Profile, counts: Counts, slot: usize) -> u64
     requires counts { AreCounts (S.content_of source.now) counts }
     ensures exact { result ≡ option_map_or (λ bytes. 16 + length (padded bytes))

@@ -22,28 +22,29 @@ pub trait Source {
         ensures writable { IsWritable (content_of self.now) }
         ensures components { KeepsComponents (content_of self.now) };
 
-    /// The table of a slot that is copied as it is: none of `cmap`, `glyf`, `head` and `loca`.
+    /// Returns the table of a slot that is copied as it is: none of `cmap`, `glyf`, `head` and `loca`.
     fn copied(&self, slot: usize) -> Option<&[u8]>
         ensures table { MatchOption result ((content_of self.now).copied slot ≡ None)
             (λ b. (content_of self.now).copied slot ≡ Some b.now) }
         ensures small { MatchOption result Unit (λ b. length b.now ≤ MAX_FILE) };
 
-    /// `head`, which may differ from that of the file in `checksumAdjustment` and `indexToLocFormat`.
+    /// Returns `head`, which may differ from that of the file in `checksumAdjustment` and
+    /// `indexToLocFormat`.
     fn head(&self) -> &[u8]
         ensures head { (content_of self.now).head ≡ cut_head result.now }
         ensures long { 54 ≤ length result.now }
         ensures small { length result.now ≤ MAX_FILE };
 
-    /// `numGlyphs`
+    /// Returns `numGlyphs`.
     fn glyph_count(&self) -> u16
         ensures { result ≡ glyph_count (content_of self.now).copied };
 
-    /// The run that begins at the least mapped code not below `from`.
+    /// Returns the run that begins at the least mapped code not below `from`.
     fn next_run(&self, from: u32) -> Option<Run>
         ensures { MatchOption result (NoRun (content_of self.now).map from)
             (IsRun (content_of self.now).map from) };
 
-    /// The glyph of a code, 0 where it is not mapped.
+    /// Returns the glyph of a code, 0 where it is not mapped.
     fn glyph(&self, code: u32) -> u16
         ensures { result ≡ (content_of self.now).map code }
     {
@@ -53,11 +54,11 @@ pub trait Source {
         }
     }
 
-    /// Whether a glyph is kept.
+    /// Returns whether a glyph is kept.
     fn keeps(&self, g: u16) -> bool
         ensures { result ≡ is_some ((content_of self.now).outline g) };
 
-    /// The least kept glyph not below `from`, or `numGlyphs` where there is none.
+    /// Returns the least kept glyph not below `from`, or `numGlyphs` where there is none.
     fn next_kept(&self, from: u16) -> u16
         requires { from ≤ glyph_count (content_of self.now).copied }
         ensures { IsNextKept (content_of self.now) from result }
@@ -71,15 +72,15 @@ pub trait Source {
         count
     }
 
-    /// The outline of a glyph that is kept, without the zeros that fill it. Of any other glyph it is
-    /// not said which bytes it gives.
+    /// Returns the outline of a glyph that is kept, without the zeros that fill it. Of any other glyph it
+    /// is not said which bytes it gives.
     fn outline_of(&self, g: u16) -> &[u8]
         ensures outline { IsSome ((content_of self.now).outline g) →
             (content_of self.now).outline g ≡ Some (padded result.now) }
         ensures small { length result.now ≤ MAX_FILE };
 }
 
-/// What is known of the map of a source.
+/// Recalls what is known of the map of a source. Does nothing at run time.
 #[tactic(auto, using(crate::proofs::MapLemmas::is_map))]
 pub(crate) fn known_map<S: Source>(source: &S)
     ensures { IsCharacterMap (S.content_of source.now).map }

@@ -20,7 +20,7 @@ use crate::source::Source;
 use font_theory::Profile;
 use sfnt_bytes::{CMAP, GLYF, HEAD, KEPT, LOCA, Tag};
 
-// The table in a slot, where there is one.
+// Sends the table in a slot, where there is one.
 fn send_table<S: Source, K: Sink>(
     source: &S,
     plan: &Plan,
@@ -54,7 +54,7 @@ fn send_table<S: Source, K: Sink>(
     }
 }
 
-// A record of the directory.
+// Sends a record of the directory.
 fn send_entry<K: Sink>(
     tag: Tag,
     checksum: u32,
@@ -71,7 +71,7 @@ fn send_entry<K: Sink>(
     sink.take(&three_words(checksum, offset, length))
 }
 
-// The record of a slot, where there is a table.
+// Sends the record of a slot, where there is a table.
 fn send_record<S: Source, K: Sink>(
     source: &S,
     profile: Profile,
@@ -96,7 +96,7 @@ fn send_record<S: Source, K: Sink>(
     Ok(())
 }
 
-// All records.
+// Sends all records.
 fn send_records<S: Source, K: Sink>(source: &S, plan: &Plan, sink: &mut K) -> Result<(), Stopped>
     requires going { (K.trace sink.old).stopped ≡ false }
     requires plan { IsPlan (S.content_of source.now) plan.now }
@@ -115,7 +115,7 @@ fn send_records<S: Source, K: Sink>(source: &S, plan: &Plan, sink: &mut K) -> Re
     Ok(())
 }
 
-// The table in a slot, padded.
+// Sends the table in a slot, padded.
 fn send_body<S: Source, K: Sink>(
     source: &S,
     plan: &Plan,
@@ -135,7 +135,7 @@ fn send_body<S: Source, K: Sink>(
     send_padding(plan.measures[slot].length as usize, sink)
 }
 
-// All tables, each padded.
+// Sends all tables, each padded.
 fn send_bodies<S: Source, K: Sink>(source: &S, plan: &Plan, sink: &mut K) -> Result<(), Stopped>
     requires going { (K.trace sink.old).stopped ≡ false }
     requires plan { IsPlan (S.content_of source.now) plan.now }
