@@ -11,10 +11,11 @@ from timing import BENCHES, IDEOGRAPHS, LIB, calls_in_turn, compiled, compiled_c
 
 OXYGEN = "/usr/share/fonts/truetype/oxygen"  # Debian's package fonts-oxygen
 VLGOTHIC = "/usr/share/fonts/truetype/vlgothic"  # Debian's package fonts-vlgothic
+IPAFONT = "/usr/share/fonts/opentype/ipafont-gothic"  # Debian's package fonts-ipafont-gothic
 
 PATHS = (f"{OXYGEN}/Oxygen-Sans.ttf", f"{FREEFONT}/FreeMonoBold.ttf", f"{LIBERATION}/LiberationSans-Regular.ttf",
-         f"{DEJAVU}/DejaVuSans.ttf", f"{FREEFONT}/FreeSerif.ttf", f"{VLGOTHIC}/VL-Gothic-Regular.ttf", SOURCE,
-         f"{HANAZONO}/HanaMinA.ttf", f"{HANAZONO}/HanaMinB.ttf", f"{BABELSTONE}/BabelStoneHan.ttf")
+         f"{DEJAVU}/DejaVuSans.ttf", f"{FREEFONT}/FreeSerif.ttf", f"{VLGOTHIC}/VL-Gothic-Regular.ttf",
+         f"{IPAFONT}/ipag.ttf", SOURCE, f"{HANAZONO}/HanaMinA.ttf", f"{BABELSTONE}/BabelStoneHan.ttf")
 SIZED = "DejaVuSans", "VL-Gothic-Regular", "LXGWWenKai-Regular", "BabelStoneHan"  # about 1, 4, 16 and 52 MB
 
 HB_SUBSET = "/usr/bin/hb-subset"
