@@ -38,8 +38,8 @@ pub trait Pieces {
         ensures { MatchOption result (NoRun (map_of self.now) from) (IsPiece (map_of self.now) from) };
 }
 
-/// The run that begins with a piece, and the first piece behind it. A walk that goes on with that piece searches none
-/// twice.
+/// The run that begins with a piece, and the first piece behind it. A walk that goes on with that piece
+/// searches none twice.
 pub fn run_of<P: Pieces>(pieces: &P, piece: Run) -> (Run, Option<Run>)
     requires order { piece.first ≤ piece.last }
     requires small { piece.last ≤ 0x10FFFF }
