@@ -132,9 +132,9 @@ fn leaves_alone(runs: &[Run], place: usize, run: Run) -> bool
     true
 }
 
-// Returns the place behind the runs of `a` from place `i` on that `b` leaves alone, whose next run is at place
-// `j`: those that end below that run, but for the last one where that run goes on with it. The run at place `i` is
-// one of them in any case. They are likely to be `count` runs.
+// Returns the place behind the runs of `a` from place `i` on that `b` leaves alone, whose next run is at
+// place `j`: those that end below that run, but for the last one where that run goes on with it. The run at
+// place `i` is one of them in any case. They are likely to be `count` runs.
 #[tactic(auto, using(crate::proofs::StretchLemmas::each_sound))]
 fn end_of_stretch(a: &[Run], i: usize, b: &[Run], j: usize, count: usize) -> usize
     requires first { AreMapRuns a.now }

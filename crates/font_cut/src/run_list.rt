@@ -154,8 +154,8 @@ fn is_place(runs: &[Run], place: usize, from: u32) -> bool
     true
 }
 
-// The run that begins at the least mapped code not below `from`, where the walk takes another step than before.
-// It stands apart, so that what is done at each step stays short.
+// The run that begins at the least mapped code not below `from`, where a walk takes another step than
+// before. It stands apart, so that what is done at each step stays short.
 #[cold]
 #[inline(never)]
 fn run_searched(runs: &[Run], hint: &Cell<Hint>, from: u32) -> Option<Run>
