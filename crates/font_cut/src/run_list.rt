@@ -58,7 +58,7 @@ pub(crate) fn place_from(runs: &[Run], start: usize, from: u32) -> usize
     place_between(runs, low, high, from)
 }
 
-/// The run at a place, from a code on.
+/// Returns the run at a place, from a code on.
 #[tactic(auto, using(crate::proofs::RunListLemmas::none_there, crate::proofs::RunListLemmas::run_there, crate::proofs::RunListLemmas::run_from_there, crate::proofs::RunListLemmas::glyph_there))]
 pub(crate) fn run_from(runs: &[Run], place: usize, from: u32) -> Option<Run>
     requires runs { AreMapRuns runs.now }
@@ -91,7 +91,7 @@ impl Hint {
     /// A walk that has not begun.
     pub(crate) const START: Hint = Hint { place: 0, step: 0 };
 
-    // The walk after a run was found at a place. One that stays keeps its step.
+    // Returns the walk after a run was found at a place. One that stays keeps its step.
     fn moved(self, place: usize) -> Hint {
         if place == self.place {
             return self;
@@ -139,7 +139,8 @@ fn place_near(runs: &[Run], hint: Hint, from: u32) -> usize
     place_from(runs, 0, from)
 }
 
-// Whether the first run that ends at a code or above it stands at a place, which is not the first one.
+// Returns whether the first run that ends at a code or above it stands at a place, which is not the first
+// one.
 fn is_place(runs: &[Run], place: usize, from: u32) -> bool
     requires { AreMapRuns runs.now }
     ensures { IsTrue result → IsPlace runs.now from place }
@@ -154,8 +155,8 @@ fn is_place(runs: &[Run], place: usize, from: u32) -> bool
     true
 }
 
-// The run that begins at the least mapped code not below `from`, where a walk takes another step than
-// before. It stands apart, so that what is done at each step stays short.
+// Returns the run that begins at the least mapped code not below `from`, where a walk takes another step
+// than before. It stands apart, so that what is done at each step stays short.
 #[cold]
 #[inline(never)]
 fn run_searched(runs: &[Run], hint: &Cell<Hint>, from: u32) -> Option<Run>
@@ -168,8 +169,8 @@ fn run_searched(runs: &[Run], hint: &Cell<Hint>, from: u32) -> Option<Run>
     run_from(runs, place, from)
 }
 
-/// The run that begins at the least mapped code not below `from`. `hint` keeps where it stands, so that a walk
-/// over the runs goes on from there.
+/// Returns the run that begins at the least mapped code not below `from`. `hint` keeps where it stands, so
+/// that a walk over the runs goes on from there.
 #[inline(always)]
 pub(crate) fn run_among(runs: &[Run], hint: &Cell<Hint>, from: u32) -> Option<Run>
     requires { AreMapRuns runs.now }

@@ -84,7 +84,7 @@ impl<A: Allocator> UnionMap<A> {
 }
 
 impl<A: Allocator + Copy> UnionMap<A> {
-    /// The map of one list of runs.
+    /// Returns the map of one list of runs.
     pub(crate) fn of_runs(alloc: A, runs: Vec<Run, A>) -> UnionMap<A>
         requires { AreMapRuns runs.items }
         ensures { map_in result ≡ spelled runs.items }
@@ -100,7 +100,7 @@ impl<A: Allocator + Copy> UnionMap<A> {
         }
     }
 
-    /// The same map, of one list: it is quick to walk.
+    /// Returns the same map, of one list: it is quick to walk.
     ///
     /// # Errors
     ///
@@ -126,7 +126,7 @@ impl<A: Allocator + Copy> UnionMap<A> {
         })
     }
 
-    // The map with more runs, which become the short list.
+    // Returns the map with more runs, which become the short list.
     fn with_first(self, runs: Vec<Run, A>) -> UnionMap<A>
         requires one { self.recent ≡ [] }
         requires runs { AreMapRuns runs.items }
@@ -144,7 +144,7 @@ impl<A: Allocator + Copy> UnionMap<A> {
         }
     }
 
-    // The map with more runs, which are merged with the short list.
+    // Returns the map with more runs, which are merged with the short list.
     fn with_recent(self, alloc: A, runs: &[Run], passed: usize) -> Result<UnionMap<A>, NoMemory>
         requires runs { AreMapRuns runs.now }
         requires agree { AreCompatible (map_in self) (spelled runs.now) }
@@ -162,7 +162,7 @@ impl<A: Allocator + Copy> UnionMap<A> {
         })
     }
 
-    /// The map with more runs, which give no code another glyph.
+    /// Returns the map with more runs, which give no code another glyph.
     ///
     /// # Errors
     ///
