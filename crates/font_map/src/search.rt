@@ -37,19 +37,16 @@ fn is_behind<E: Ends>(ends: &E, place: usize, code: u32) -> bool
     place + 1 == count || code <= ends.end_at(place + 1)
 }
 
-/// Returns the place of the first member that ends at the code or above it, or the number of members where none
-/// does. It is looked for at the place that the hint names and the one before it, or behind that in steps that
-/// double, and then by halves: a place close behind the hint is found soon.
-pub(crate) fn first_reaching<E: Ends>(ends: &E, hint: usize, code: u32) -> usize
+// Returns the place of the first member that ends at the code or above it, or the number of members where none
+// does. It is looked for at the place that the hint names and the one before it, or behind that in steps that
+// double, and then by halves. It stands apart, so that what is done at each step of a walk stays short.
+#[inline(never)]
+fn searched<E: Ends>(ends: &E, hint: usize, code: u32) -> usize
     requires { Ascends (E.end_of ends.now) (E.count_of ends.now) }
     ensures { IsFirstReaching (E.end_of ends.now) (E.count_of ends.now) code result }
 {
     let mut low = 0;
     let mut high = ends.count();
-    // Most walks go on with the next member.
-    if is_behind(ends, hint, code) {
-        return hint + 1;
-    }
     let mut guess = hint;
     // 0 is by halves.
     let mut step: usize = if hint < high { 1 } else { 0 };
@@ -70,6 +67,19 @@ pub(crate) fn first_reaching<E: Ends>(ends: &E, hint: usize, code: u32) -> usize
         }
     }
     low
+}
+
+/// Returns the place of the first member that ends at the code or above it, or the number of members where none
+/// does. One close behind the place that the hint names is found soon.
+pub(crate) fn first_reaching<E: Ends>(ends: &E, hint: usize, code: u32) -> usize
+    requires { Ascends (E.end_of ends.now) (E.count_of ends.now) }
+    ensures { IsFirstReaching (E.end_of ends.now) (E.count_of ends.now) code result }
+{
+    // Most walks go on with the next member.
+    if is_behind(ends, hint, code) {
+        return hint + 1;
+    }
+    searched(ends, hint, code)
 }
 
 // Returns the guess where it lies between the bounds, and else the middle.

@@ -1,6 +1,6 @@
 use Rattle.std.proofs.Common.{◌-◌}
 use Rattle.font_map.proofs.OrderLemmas.{Halves}
-use Rattle.font_map.proofs.search.first_reaching.Given as goal
+use Rattle.font_map.proofs.search.searched.Given as goal
 
 abbrev pub invariant-loop-low : goal.invariant-loop-low
 invariant-loop-low g l = Halves (g.E.Ends.end_of l.ends) (g.E.Ends.count_of l.ends) l.code l.low l.high
