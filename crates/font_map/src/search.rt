@@ -1,5 +1,5 @@
 //! The search by halves among members in order of their codes: segments, groups or ranges.
-ghost use Rattle.std.specs.Prelude.{◌≡◌, ◌+◌, ◌<◌, ◌≤◌, ℕ, IsTrue};
+ghost use Rattle.std.specs.Prelude.{◌≡◌, ◌+◌, ◌<◌, ◌≤◌, ℕ, IfSome};
 ghost use Rattle.font_map.specs.Inside.{Ascends, IsFirstReaching};
 
 /// Members, each with a last code.
@@ -23,18 +23,23 @@ pub(crate) trait Ends {
 /// No hint where a member may stand.
 pub(crate) const ANYWHERE: usize = usize::MAX;
 
-// Returns whether the first member that ends at the code or above it stands behind a place, or none does
-// and the place is the last one.
+// Returns the place behind another one, where the first member that ends at the code or above it stands there, or
+// none does and the other place is the last one.
 #[tactic(auto, using(crate::proofs::OrderLemmas::first_behind))]
-fn is_behind<E: Ends>(ends: &E, place: usize, code: u32) -> bool
+fn place_behind<E: Ends>(ends: &E, place: usize, code: u32) -> Option<usize>
     requires { Ascends (E.end_of ends.now) (E.count_of ends.now) }
-    ensures { IsTrue result → IsFirstReaching (E.end_of ends.now) (E.count_of ends.now) code (place + 1) }
+    ensures { IfSome result (IsFirstReaching (E.end_of ends.now) (E.count_of ends.now) code) }
 {
     let count = ends.count();
     if count <= place || code <= ends.end_at(place) {
-        return false;
+        return None;
     }
-    place + 1 == count || code <= ends.end_at(place + 1)
+    let next = place + 1;
+    if next == count || code <= ends.end_at(next) {
+        Some(next)
+    } else {
+        None
+    }
 }
 
 // Returns the place of the first member that ends at the code or above it, or the number of members where none
@@ -76,10 +81,10 @@ pub(crate) fn first_reaching<E: Ends>(ends: &E, hint: usize, code: u32) -> usize
     ensures { IsFirstReaching (E.end_of ends.now) (E.count_of ends.now) code result }
 {
     // Most walks go on with the next member.
-    if is_behind(ends, hint, code) {
-        return hint + 1;
+    match place_behind(ends, hint, code) {
+        Some(place) => place,
+        None => searched(ends, hint, code),
     }
-    searched(ends, hint, code)
 }
 
 // Returns the guess where it lies between the bounds, and else the middle.
