@@ -109,19 +109,6 @@ static unsigned char *got(size_t bytes)
     return at;
 }
 
-static void read_font(const char *path)
-{
-    FILE *from = fopen(path, "rb");
-    if (from == NULL || fseek(from, 0, SEEK_END) != 0)
-        exit(3);
-    font_length = (size_t)ftell(from);
-    rewind(from);
-    font = got(font_length);
-    if (font_length == 0 || fread(font, 1, font_length, from) != font_length)
-        exit(3);
-    fclose(from);
-}
-
 static void read_ranges(const char *path)
 {
     FILE *from = fopen(path, "r");
@@ -181,7 +168,9 @@ int main(int count, char **words)
     int used = 0;
     if (count != 5)
         return 1;
-    read_font(words[1]);
+    font = read_file(words[1], &font_length);
+    if (font == NULL || font_length == 0)
+        return 3;
     read_ranges(words[2]);
     room_length = 2 * font_length + MORE;
     room = got(room_length + 4);

@@ -1,4 +1,4 @@
-//! The search by halves among members in order of their codes: segments, groups or ranges.
+//! The search among members in order of their codes, from a hint on and by halves: segments, groups or ranges.
 ghost use Rattle.std.specs.Prelude.{◌≡◌, ◌+◌, ◌<◌, ◌≤◌, ℕ, IfSome};
 ghost use Rattle.font_map.specs.Inside.{Ascends, IsFirstReaching};
 
