@@ -7,13 +7,13 @@ use Rattle.std.proofs.lemmas.List.Elements.{All-cons}
 use Rattle.std.specs.Fmt.{digits, digit_glyph, digits_onto}
 use Rattle.std.specs.List.{list_all}
 use Rattle.std.specs.Str.Parse.{AllDigits}
-use Rattle.font_map.proofs.RunLemmas.{groups_done, groups_from-runs, groups_next, run_gives}
-use Rattle.font_map.specs.CharacterMap.{IsCharacterMap, is_mapped}
-use Rattle.font_map.specs.Runs.{AreRuns, IsRun, NoRun, groups_from}
-use Rattle.font_map.specs.Wanted.{AreSeparate, codes_between, member}
-use Rattle.font_map.specs.Word.{IsWord, SpellsCode, is_hexadecimal}
-use Rattle.font_map.specs.declared.ranges.Range.{Range}
-use Rattle.font_map.specs.declared.runs.Run.{Run}
+use Rattle.character_map.proofs.RunLemmas.{groups_done, groups_from-runs, groups_next, run_gives}
+use Rattle.character_map.specs.CharacterMap.{IsCharacterMap, is_mapped}
+use Rattle.character_map.specs.Runs.{AreRuns, IsRun, NoRun, groups_from}
+use Rattle.code_sets.specs.Wanted.{AreSeparate, codes_between, member}
+use Rattle.code_sets.specs.Word.{IsWord, SpellsCode, is_hexadecimal}
+use Rattle.code_sets.specs.declared.ranges.Range.{Range}
+use Rattle.character_map.specs.declared.runs.Run.{Run}
 use Rattle.font_cmd.specs.Codes.{CodesLaws, IsReadBack, code_ranges, code_word, codes_of, ranges_of, ranges_on}
 
 -- a range from one code to another

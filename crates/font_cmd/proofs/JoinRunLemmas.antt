@@ -1,13 +1,13 @@
 -- How a join that is refused leaves things, and what refuses that of cuts of one font.
 use Rattle.std.proofs.Common.{rules, ◌≡◌, ◌∙◌, ℕ, Bool, List, [], Option, ap, length, refl, sym}
 use Rattle.font_cut.specs.JoinList.{IsAllRefusal, IsForSizeInto, IsForSizeOf}
-use Rattle.font_cut.specs.Outlet as outlets
+use Rattle.outlet.specs.Outlet as outlets
 use Rattle.font_cut.specs.declared.join_error.JoinAllIntoError.{JoinAllIntoError}
 use Rattle.font_cut.specs.declared.join_error.JoinAllIntoError.TheVariants.{NotJoined, WriteFault}
 use Rattle.font_cut.specs.declared.join_error.JoinAllError.{JoinAllError}
 use Rattle.font_cut.specs.declared.join_error.JoinAllError.TheVariants.{At, NothingToJoin}
 use Rattle.font_cut.specs.declared.join_error.JoinError.TheVariants.{DifferentGlyph, DifferentMapping, DifferentTable, Font, NoMemory, NotACut, TooLarge}
-use Rattle.font_cut.specs.declared.outlet.Outlet.{Outlet}
+use Rattle.outlet.specs.declared.outlet.Outlet.{Outlet}
 use Rattle.font_cmd.specs.Join.{AreGot, AreSpent, JoinStops, OnlySize}
 use Rattle.font_cmd.specs.Run.{of_join_error, of_join_into_error}
 use Rattle.font_cmd.specs.declared.inlet.Inlet.{Inlet}

@@ -1,11 +1,11 @@
 -- What `belongs` prints of two files, and how it leaves its inlets and its outlet, this project's own.
 use Rattle.std.specs.Prelude.{◌≡◌, ℕ, ◌⊎◌, ◌↔◌, Bool, false, true, IsTrue, List, None, Option, Some, codes, take}
-use Rattle.font_cut.specs.Cut.{IsCutForSome}
+use Rattle.font_subset.specs.Cut.{IsCutForSome}
 use Rattle.font_cut.specs.Fonts.{FontError, font_fault}
-use Rattle.font_cut.specs.Outlet as outlets
+use Rattle.outlet.specs.Outlet as outlets
 use Rattle.font_cut.specs.declared.join_error.Which.{Which}
 use Rattle.font_cut.specs.declared.join_error.Which.TheVariants.{First, Second}
-use Rattle.font_cut.specs.declared.outlet.Outlet.{Outlet}
+use Rattle.outlet.specs.declared.outlet.Outlet.{Outlet}
 use Rattle.font_cmd.specs.Check.{line}
 use Rattle.font_cmd.specs.Inlet as inlets
 use Rattle.font_cmd.specs.Join.{IsSpent}

@@ -2,12 +2,12 @@
 use Rattle.std.specs.Prelude.{◌≡◌, ℕ, ◌+◌, nat_eq, true, List, [], ◌∷◌, ◌++◌, All, codes, if◌then◌else◌}
 use Rattle.std.specs.Fmt.{digits}
 use Rattle.std.specs.List.{flat_map}
-use Rattle.font_map.specs.CharacterMap.{is_mapped}
-use Rattle.font_map.specs.Runs.{groups_from}
-use Rattle.font_map.specs.Wanted.{AreSeparate, IsBadRange, member}
-use Rattle.font_map.specs.Word.{IsWord}
-use Rattle.font_map.specs.declared.ranges.Range.{Range}
-use Rattle.font_map.specs.declared.runs.Run.{Run}
+use Rattle.character_map.specs.CharacterMap.{is_mapped}
+use Rattle.character_map.specs.Runs.{groups_from}
+use Rattle.code_sets.specs.Wanted.{AreSeparate, IsBadRange, member}
+use Rattle.code_sets.specs.Word.{IsWord}
+use Rattle.code_sets.specs.declared.ranges.Range.{Range}
+use Rattle.character_map.specs.declared.runs.Run.{Run}
 use Rattle.font_cut.specs.Fonts.{cmap_of, glyph_count_of, mapping_of}
 use Rattle.font_cmd.specs.Check.{line}
 use Rattle.font_cmd.specs.declared.codes.RangeLine.{RangeLine}

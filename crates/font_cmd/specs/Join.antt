@@ -1,13 +1,13 @@
 -- What the run of a join is given, and how it leaves its inlets and its outlet, this project's own.
 use Rattle.std.specs.Prelude.{◌≡◌, ℕ, suc, ◌+◌, Bool, false, true, All, List, drop, length, Option, Some, take}
 use Rattle.std.specs.List.{AllWithin, slice_get}
-use Rattle.font_cut.specs.Cut.{cut_of}
+use Rattle.font_subset.specs.Cut.{cut_of}
 use Rattle.font_cut.specs.Fonts.{file_at, union_below}
 use Rattle.font_cut.specs.JoinList.{AreCuts, IsAllJoined, IsAllRefusal}
 use Rattle.font_cut.specs.Join.{IsForSize}
-use Rattle.font_cut.specs.Outlet as outlets
+use Rattle.outlet.specs.Outlet as outlets
 use Rattle.font_cut.specs.declared.join_error.JoinAllError.TheVariants.{At, NothingToJoin}
-use Rattle.font_cut.specs.declared.outlet.Outlet.{Outlet}
+use Rattle.outlet.specs.declared.outlet.Outlet.{Outlet}
 use Rattle.font_cmd.specs.Inlet as inlets
 use Rattle.font_cmd.specs.Run.{got, of_join_error}
 use Rattle.font_cmd.specs.declared.inlet.Inlet.{Inlet}

@@ -1,9 +1,9 @@
 -- What a run is given, and how it leaves its inlet and its outlet, this project's own.
 use Rattle.std.specs.Prelude.{◌≡◌, ℕ, ◌+◌, ◌≤◌, Bool, false, true, length, List, None, Option, IfErr, IfSome, OnOk, Result, Some, take}
-use Rattle.font_cut.specs.Cut.{IsTooLarge, cut_of}
+use Rattle.font_subset.specs.Cut.{IsTooLarge, cut_of}
 use Rattle.font_cut.specs.Fonts.{MAX_FILE, error_number, font_fault, no_memory_number}
-use Rattle.font_cut.specs.declared.cut_font.CutIntoError.{CutIntoError}
-use Rattle.font_cut.specs.declared.cut_font.CutIntoError.TheVariants as cut_errors
+use Rattle.font_subset.specs.declared.cut_font.CutIntoError.{CutIntoError}
+use Rattle.font_subset.specs.declared.cut_font.CutIntoError.TheVariants as cut_errors
 use Rattle.font_cut.specs.JoinText.{join_all_error_number}
 use Rattle.font_cut.specs.declared.join_error.JoinAllIntoError.{JoinAllIntoError}
 use Rattle.font_cut.specs.declared.join_error.JoinAllIntoError.TheVariants as join_into_errors
@@ -13,11 +13,11 @@ use Rattle.font_cut.specs.declared.join_error.JoinError.TheVariants as join_erro
 use Rattle.font_cmd.specs.declared.inlet.Inlet.{Inlet}
 use Rattle.font_cmd.specs.declared.inlet.ReadError.{ReadError}
 use Rattle.font_cmd.specs.declared.inlet.ReadError.TheVariants.{NoMemory, ReadFault}
-use Rattle.font_cut.specs.declared.outlet.Outlet.{Outlet}
+use Rattle.outlet.specs.declared.outlet.Outlet.{Outlet}
 use Rattle.font_cmd.specs.declared.run_error.RunError.{RunError}
 use Rattle.font_cmd.specs.declared.run_error.RunError.TheVariants.{Font, Join, Memory, OneOf, Read, TooLarge, Write}
 use Rattle.font_cmd.specs.Inlet as inlets
-use Rattle.font_cut.specs.Outlet as outlets
+use Rattle.outlet.specs.Outlet as outlets
 
 -- P holds of what came from the inlet's reader, where the reader tells its bytes
 abbrev pub got : {R : Type 0} → (R → Option (List ℕ)) → Inlet R → (List ℕ → Type 0) → Type 0

@@ -1,6 +1,6 @@
 //! `belongs`: whether a file is a cut of a font.
 ghost use Rattle.std.specs.Prelude.{◌≡◌, IfErr, IfOk, MatchResult, OnOk, false, true};
-ghost use Rattle.font_cut.specs.Outlet.{WentOut, broken_of, fresh_of};
+ghost use Rattle.outlet.specs.Outlet.{WentOut, broken_of, fresh_of};
 ghost use Rattle.font_cmd.specs.Belongs.{Answers, BelongsStops, IsUnanswered, answer_text, got_both};
 ghost use Rattle.font_cmd.specs.Inlet.{inlet_fresh_of};
 ghost use Rattle.font_cmd.specs.Join.{IsSpent};

@@ -4,7 +4,7 @@ ghost use Rattle.std.specs.List.{flat_map};
 ghost use Rattle.font_cut.specs.Fonts.{findings_of, font_fault};
 ghost use Rattle.font_cmd.specs.Check.{check_text, finding_line, read_findings, report_text, shown_findings};
 ghost use Rattle.font_cmd.specs.Inlet.{inlet_fresh_of};
-ghost use Rattle.font_cut.specs.Outlet.{fresh_of};
+ghost use Rattle.outlet.specs.Outlet.{fresh_of};
 ghost use Rattle.font_cmd.specs.Run.{AnyFile, RefusesNone, SendsText, got};
 
 use crate::inlet::Inlet;

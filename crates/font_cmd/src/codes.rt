@@ -1,8 +1,8 @@
 //! `codes`: the mapped codes of a font, as words that `subset` reads.
 ghost use Rattle.std.specs.Prelude.{◌≡◌, ◌+◌, ◌≤◌, ◌∷◌, ℕ, [], MatchOption, Some, true};
-ghost use Rattle.font_map.specs.CharacterMap.{IsCharacterMap};
+ghost use Rattle.character_map.specs.CharacterMap.{IsCharacterMap};
 ghost use Rattle.font_cut.specs.Fonts.{mapping_of};
-ghost use Rattle.font_cut.specs.Outlet.{fresh_of};
+ghost use Rattle.outlet.specs.Outlet.{fresh_of};
 ghost use Rattle.font_cmd.specs.Codes.{CodesLaws, code_lines, code_ranges, codes_text, range_line, range_of_line};
 ghost use Rattle.font_cmd.specs.Inlet.{inlet_fresh_of};
 ghost use Rattle.font_cmd.specs.Run.{IsAccepted, RefusesFont, SendsText};

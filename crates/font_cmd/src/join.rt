@@ -1,8 +1,8 @@
 //! `join`: the join of cuts.
 ghost use Rattle.std.specs.Prelude.{◌≡◌, ◌≤◌, ℕ, Bool, List, IfErr, IfOk, MatchResult, OnOk, false, length, map, true};
-ghost use Rattle.font_cut.specs.Cut.{cut_of};
+ghost use Rattle.font_subset.specs.Cut.{cut_of};
 ghost use Rattle.font_cut.specs.Fonts.{MAX_FILE, union_below};
-ghost use Rattle.font_cut.specs.Outlet.{WentOut, broken_of, fresh_of};
+ghost use Rattle.outlet.specs.Outlet.{WentOut, broken_of, fresh_of};
 ghost use Rattle.font_cmd.specs.Join.{AreFresh, AreGot, AreSpent, GotCuts, JoinStops, OnlySize, ReadStops, SendsJoin};
 
 use crate::inlet::Inlet;

@@ -1,6 +1,6 @@
 //! What the runs share: their error, and how they send what they have made.
 ghost use Rattle.std.specs.Prelude.{◌≡◌, false, true, take, IfErr, OnErr, OnOk};
-ghost use Rattle.font_cut.specs.Outlet.{WentOut, broken_of, fresh_of, written_of};
+ghost use Rattle.outlet.specs.Outlet.{WentOut, broken_of, fresh_of, written_of};
 ghost use Rattle.font_cmd.specs.Run.{of_cut_error, of_join_error, of_join_into_error, of_read_error, run_error_number};
 ghost use Rattle.font_cmd.specs.declared.run_error.RunError.TheVariants.{Font, Memory, Write};
 

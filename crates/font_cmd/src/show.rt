@@ -2,7 +2,7 @@
 ghost use Rattle.std.specs.Prelude.{◌≡◌, ◌<◌, None, Some, IfOk, true};
 ghost use Rattle.font_cut.specs.Fonts.{cmap_of, glyph_count_of, mapped_codes, mapping_of};
 ghost use Rattle.font_cmd.specs.Inlet.{inlet_fresh_of};
-ghost use Rattle.font_cut.specs.Outlet.{fresh_of};
+ghost use Rattle.outlet.specs.Outlet.{fresh_of};
 ghost use Rattle.font_cmd.specs.Run.{IsAccepted, RefusesFont, SendsText};
 ghost use Rattle.font_cmd.specs.Show.{cut_text, dropped_line, dropped_text, font_text, kept_line, kept_table_line, kept_text, mapped_text, numbers_text, show_text};
 

@@ -1,8 +1,8 @@
 //! `subset`: the cut of a font for the codes that are wanted.
 ghost use Rattle.std.specs.Prelude.{◌≡◌, ◌≤◌, IfOk, length, true};
-ghost use Rattle.font_cut.specs.Cut.{cut_of};
+ghost use Rattle.font_subset.specs.Cut.{cut_of};
 ghost use Rattle.font_cut.specs.Fonts.{MAX_FILE, member};
-ghost use Rattle.font_cut.specs.Outlet.{fresh_of};
+ghost use Rattle.outlet.specs.Outlet.{fresh_of};
 ghost use Rattle.font_cmd.specs.Inlet.{inlet_fresh_of};
 ghost use Rattle.font_cmd.specs.Run.{HasCut, RefusesCut, SendsText, got};
 

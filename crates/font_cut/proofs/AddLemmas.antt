@@ -6,9 +6,9 @@ use Rattle.std.proofs.Math.Path.{fun_ext}
 use Rattle.sfnt_bytes.specs.Lines.{first_of_lines, when}
 use Rattle.sfnt_bytes.specs.declared.directory.TheConstants.{MAX_FILE}
 use Rattle.font_tables.specs.Fields.{glyph_count_of}
-use Rattle.font_map.specs.CharacterMap.{united}
-use Rattle.font_map.specs.Runs.{IsRun, NoRun, spelled}
-use Rattle.font_map.specs.declared.runs.Run.{Run}
+use Rattle.character_map.specs.CharacterMap.{united}
+use Rattle.character_map.specs.Runs.{IsRun, NoRun, spelled}
+use Rattle.character_map.specs.declared.runs.Run.{Run}
 use Rattle.font_glyph.specs.Union.{Records, union_of}
 use Rattle.font_file.specs.Font.{font_fault}
 use Rattle.font_theory.specs.Content.{Content, IsClosedContent, content, everything, font_of, glyph_count}
@@ -24,14 +24,16 @@ use Rattle.font_theory.proofs.FontLemmas.{glyph_count-file}
 use Rattle.font_theory.proofs.FormatLemmas.{our_format-most}
 use Rattle.font_theory.proofs.JoinLemmas.{IsClosed-both, both-self}
 use Rattle.font_theory.proofs.OurFormatLemmas.{our_format-is}
-use Rattle.font_cut.specs.Cut.{IsWritten}
+use Rattle.font_subset.specs.Cut.{IsWritten}
 use Rattle.font_cut.specs.JoinList.{IsAllJoined, IsRefusedAt, Stands}
 use Rattle.font_cut.specs.Inside.{AgreesEarly, AreTaken, HoldsFile, IsAddRefusal, IsFirstRefusal, IsTooLargeUnion, IsUnited, add_fault, early_difference}
 use Rattle.font_theory.specs.Tree.{file_at}
 use Rattle.font_cut.proofs.JoinListLemmas.{stands_more}
 use Rattle.font_theory.proofs.RefusalLemmas.{tested-CanJoin}
 use Rattle.font_cut.specs.Join.{IsJoin, IsJoinRefusal, IsUnionRefusal, different, union_fault}
-use Rattle.font_cut.specs.Union.{AreRunsOf, Held, IsUnion, TwoLists, content_in, is_other, listed_outline, map_in}
+use Rattle.font_subset.specs.ListedRuns.{AreRunsOf}
+use Rattle.font_cut.specs.Union.{Held, IsUnion, content_in, is_other, listed_outline}
+use Rattle.run_lists.specs.RunLists.{TwoLists, map_in}
 use Rattle.font_cut.proofs.FirstLemmas.{first_none}
 use Rattle.font_cut.proofs.OutlineListLemmas.{taken_whole}
 use Rattle.font_cut.specs.declared.join_error.JoinError.{JoinError}
@@ -39,7 +41,7 @@ use Rattle.font_cut.specs.declared.join_error.JoinError.TheVariants.{DifferentGl
 use Rattle.font_cut.specs.declared.join_error.Which.TheVariants.{First, Second}
 use Rattle.font_cut.proofs.JoinLemmas.{is_join, is_too_large, joinable, union_refused}
 use Rattle.font_cut.proofs.UnionLemmas.{first_no_cut}
-use Rattle.font_cut.proofs.WholeLemmas.{our_format-fault, our_format-whole}
+use Rattle.font_subset.proofs.WholeLemmas.{our_format-fault, our_format-whole}
 
 -- the lines, at what they test
 abbrev lines_at : Bool → Option Difference → Option JoinError

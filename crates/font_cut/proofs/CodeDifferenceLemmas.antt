@@ -2,8 +2,8 @@
 use Rattle.std.proofs.Common.{◌≡◌, ◌≢◌, ℕ, ◌+◌, ◌-◌, ◌<◌, ◌≤◌, max, min, Bool, true, false, nat_lt, ◌&&◌, ◌⊎◌, find, refl, sym, ◌∙◌, arith, Some, None, inl, inr}
 use Rattle.std.specs.List.{range_with_len}
 use Rattle.std.proofs.lemmas.Bool.{cases_lt, eq-eqb, lt-ltb, ne_eqb}
-use Rattle.font_map.specs.Runs.{IsPiece, IsRun, NoRun}
-use Rattle.font_map.specs.declared.runs.Run.{Run}
+use Rattle.character_map.specs.Runs.{IsPiece, IsRun, NoRun}
+use Rattle.character_map.specs.declared.runs.Run.{Run}
 use Rattle.font_theory.specs.Content.{CODES, Content}
 use Rattle.font_theory.specs.Difference.{is_different_code}
 use Rattle.font_theory.proofs.SpellingLemmas.{codes_are}

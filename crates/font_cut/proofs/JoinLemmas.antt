@@ -18,12 +18,12 @@ use Rattle.font_theory.proofs.FormatLemmas.{our_format-most}
 use Rattle.font_theory.proofs.FontLemmas.{size-accepted}
 use Rattle.font_theory.proofs.OurFormatLemmas.{our_format-is}
 use Rattle.font_theory.proofs.RefusalLemmas.{CanJoin-tested, different-under, no_cut-under, refused-under, tested-CanJoin}
-use Rattle.font_cut.specs.Cut.{IsCutOf, IsTooLarge, IsWritten, cut_of}
+use Rattle.font_subset.specs.Cut.{IsCutOf, IsTooLarge, IsWritten, cut_of}
 use Rattle.font_cut.specs.Join.{IsForSize, IsJoin, IsJoinRefusal, IsLeastUpper, IsTrueRefusal, IsUnionRefusal, different, join_fault, union_fault}
 use Rattle.font_cut.specs.declared.join_error.JoinError.{JoinError}
 use Rattle.font_cut.specs.declared.join_error.JoinError.TheVariants.{DifferentGlyph, DifferentMapping, DifferentTable, Font, NoMemory, NotACut, TooLarge}
 use Rattle.font_cut.specs.declared.join_error.Which.TheVariants.{First, Second}
-use Rattle.font_cut.proofs.WholeLemmas.{our_format-fault}
+use Rattle.font_subset.proofs.WholeLemmas.{our_format-fault}
 
 pub our_format-joined : (x y : List ℕ) → joined our_format x y ≡ file current_form (both (content (font_of x) everything) (content (font_of y) everything))
 unfolding our_format

@@ -10,18 +10,18 @@ use Rattle.font_theory.proofs.FormatLemmas.{our_format-most}
 use Rattle.font_theory.proofs.GrownLemmas.{Differs-grown, Value-grown, Value-grown_cuts, Value-grown_same, grown-cuts, grown-joins}
 use Rattle.font_theory.proofs.OurFormatLemmas.{our_format-is}
 use Rattle.font_theory.proofs.CutLemmas.{IsCut-current}
-use Rattle.font_cut.specs.Cut.{cut_of}
+use Rattle.font_subset.specs.Cut.{cut_of}
 use Rattle.font_cut.specs.JoinList.{AreCuts, IsAllJoined, IsAllRefusal, IsForDifference, IsForSizeInto, IsForSizeOf, IsRefusedAt, Stands, StopsJoin}
 use Rattle.font_cut.specs.Join.{IsForSize, IsJoin}
 use Rattle.font_cut.specs.declared.join_error.JoinAllError.{JoinAllError}
 use Rattle.font_cut.specs.declared.join_error.JoinAllIntoError.{JoinAllIntoError}
 use Rattle.font_cut.specs.declared.join_error.JoinAllIntoError.TheVariants.{NotJoined, WriteFault}
-use Rattle.font_cut.specs.declared.outlet.Outlet.{Outlet}
+use Rattle.outlet.specs.declared.outlet.Outlet.{Outlet}
 use Rattle.font_cut.specs.declared.join_error.JoinAllError.TheVariants.{At, NothingToJoin}
 use Rattle.font_cut.specs.declared.join_error.JoinError.{JoinError}
 use Rattle.font_cut.specs.declared.join_error.JoinError.TheVariants.{DifferentGlyph, DifferentMapping, DifferentTable, Font, NoMemory, NotACut, TooLarge}
 use Rattle.font_cut.proofs.JoinLemmas.{joinable, least_upper, only_size, small_join}
-use Rattle.font_cut.proofs.WholeLemmas.{our_format-fault}
+use Rattle.font_subset.proofs.WholeLemmas.{our_format-fault}
 
 pub file_at-map : {X : Type 0} (f : X → List ℕ) (xs : List X) (k : ℕ) (d : X) → k < length xs → f (get_or xs k d) ≡ file_at (map f xs) k
 file_at-map f xs k d low = sym (get_or-map f xs k d [] low)

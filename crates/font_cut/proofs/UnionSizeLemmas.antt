@@ -2,9 +2,9 @@
 use Rattle.std.proofs.Common.{◌≡◌, ℕ, ◌+◌, ◌*◌, ◌≤◌, List, length, refl, sym, ap, ◌∙◌, arith}
 use Rattle.sfnt_bytes.specs.declared.directory.TheConstants.{MAX_FILE}
 use Rattle.sfnt_bytes.specs.Sums.{checksum_of}
-use Rattle.font_map.specs.Runs.{groups_from}
-use Rattle.font_map.specs.declared.runs.Run.{Run}
-use Rattle.font_map.proofs.RunLemmas.{groups_done}
+use Rattle.character_map.specs.Runs.{groups_from}
+use Rattle.character_map.specs.declared.runs.Run.{Run}
+use Rattle.character_map.proofs.RunLemmas.{groups_done}
 use Rattle.font_theory.specs.Content.{Content, IsWritable, KeepsComponents, glyph_count}
 use Rattle.font_theory.specs.File.{current_form, file, form_of, groups_of_content, outlines_of, second_form, size_of}
 use Rattle.font_theory.proofs.FontLemmas.{glyph_count-file}
@@ -17,7 +17,7 @@ use Rattle.font_write.specs.declared.size.Counts.{Counts}
 use Rattle.font_cut.specs.Union.{AreCounted, Held, IsUnion, content_in, outlines_length}
 use Rattle.font_cut.specs.Inside.{without_codes}
 use Rattle.font_cut.proofs.OutlineListLemmas.{length-glyf_to, outlines_length-most}
-use Rattle.font_cut.proofs.UnionMapLemmas.{no_codes}
+use Rattle.run_lists.proofs.UnionMapLemmas.{no_codes}
 
 -- the outlines of a union are counted
 module _ (u : Held) (bytes : ℕ) (ok : IsUnion u) (counted : AreCounted u.outlines bytes) where

@@ -4,10 +4,10 @@ use Rattle.sfnt_bytes.specs.declared.directory.TheConstants.{MAX_FILE}
 use Rattle.font_file.specs.Font.{font_fault}
 use Rattle.font_theory.specs.Cut.{IsCurrent, IsCut, our_format, renewed}
 use Rattle.font_theory.specs.Tree.{Differs, IsOver, IsSmall, JoinTree, Value, cuts, file_at, union_below}
-use Rattle.font_cut.specs.Cut.{IsCutOf, cut_of}
+use Rattle.font_subset.specs.Cut.{IsCutOf, cut_of}
 use Rattle.font_cut.specs.Join.{IsForSize, IsJoin, IsJoinRefusal}
-use Rattle.font_cut.specs.Outlet.{WentOut, broken_of, written_of}
-use Rattle.font_cut.specs.declared.outlet.Outlet.{Outlet}
+use Rattle.outlet.specs.Outlet.{WentOut, broken_of, written_of}
+use Rattle.outlet.specs.declared.outlet.Outlet.{Outlet}
 use Rattle.font_cut.specs.declared.join_error.JoinAllIntoError.{JoinAllIntoError}
 use Rattle.font_cut.specs.declared.join_error.JoinAllIntoError.TheVariants.{NotJoined, WriteFault}
 use Rattle.font_cut.specs.declared.join_error.JoinAllError.{JoinAllError}

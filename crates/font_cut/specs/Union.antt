@@ -4,37 +4,10 @@ use Rattle.std.specs.Option.{unwrap_or}
 use Rattle.sfnt_bytes.specs.declared.directory.TheConstants.{MAX_FILE}
 use Rattle.font_tables.specs.Fields.{glyph_count_of}
 use Rattle.font_glyph.specs.Union.{Records}
-use Rattle.font_map.specs.CharacterMap.{AreCompatible, IsCharacterMap, united}
-use Rattle.font_map.specs.Runs.{AreRuns, spelled}
-use Rattle.font_map.specs.declared.runs.Run.{Run}
 use Rattle.font_file.specs.Font.{font_fault}
-use Rattle.font_theory.specs.Content.{Content, IsClosedContent, content, everything, font_of}
+use Rattle.font_theory.specs.Content.{Content, IsClosedContent, font_of}
 use Rattle.font_theory.specs.Difference.{are_different}
-
--- the runs of a character map: the one that they spell
-pub record AreMapRuns (runs : List Run) : Type 0 where
-  pub map : IsCharacterMap (spelled runs)
-  pub are : AreRuns (spelled runs) 0 runs
-
--- the map of a union, spelled by two lists of runs
-pub record TwoLists : Type 0 where
-  pub settled : List Run
-  pub recent : List Run
-
--- that map: the first list decides where it has a code
-abbrev pub map_in : TwoLists → ℕ → ℕ
-map_in lists = united (spelled lists.settled) (spelled lists.recent)
-
--- both lists are the runs of maps that give no code two glyphs
-pub record AreTwoLists (lists : TwoLists) : Type 0 where
-  pub settled : AreMapRuns lists.settled
-  pub recent : AreMapRuns lists.recent
-  pub agree : AreCompatible (spelled lists.settled) (spelled lists.recent)
-
--- the runs of the map of a file for all codes
-pub record AreRunsOf (file : List ℕ) (runs : List Run) : Type 0 where
-  pub spelled_map : spelled runs ≡ (content (font_of file) everything).map
-  pub of_map : AreMapRuns runs
+use Rattle.run_lists.specs.RunLists.{TwoLists, map_in}
 
 -- the outline of a glyph in a list
 abbrev pub listed_outline : List (Option (List ℕ)) → ℕ → Option (List ℕ)

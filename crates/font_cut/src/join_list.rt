@@ -3,19 +3,18 @@ ghost use Rattle.std.specs.Prelude.{◌≡◌, ◌<◌, ◌≤◌, ℕ, List, le
 ghost use Rattle.sfnt_bytes.specs.declared.directory.TheConstants.{MAX_FILE};
 ghost use Rattle.font_theory.specs.File.{current_form, file};
 ghost use Rattle.font_theory.specs.Tree.{Differs, Value, cuts, grown};
-ghost use Rattle.font_cut.specs.Outlet.{HasSent, broken_of, fresh_of, writer_of};
+ghost use Rattle.outlet.specs.Outlet.{HasSent, broken_of, fresh_of, writer_of};
 ghost use Rattle.font_cut.specs.Join.{IsJoin, IsJoinRefusal};
 ghost use Rattle.font_cut.specs.JoinList.{AgreesWithEveryTree, AgreesWithTreesOfCurrentFiles, AgreesWithTreesOfCuts, EveryTreeDiffers, GivesCutOfUnion, GivesValue, IsAllJoined, IsAllRefusal, IsFirst, IsForSizeInto, IsForSizeOf, IsSentAs, SendsAll, StopsJoin};
 ghost use Rattle.font_cut.specs.Inside.{HoldsFile, IsTooLargeUnion, IsUnited};
 ghost use Rattle.font_cut.specs.Union.{content_in};
 ghost use Rattle.font_cut.specs.declared.join_error.JoinAllIntoError.TheVariants.{NotJoined};
 
-use crate::cut_source::accepted;
-use crate::emit::{file_in_memory, send_whole};
 use crate::join_error::{JoinAllError, JoinAllIntoError, JoinError, Which};
-use crate::outlet::Outlet;
 use crate::union::Union;
 use font_file::Font;
+use font_subset::{accepted, file_in_memory, send_whole};
+use outlet::Outlet;
 use std::alloc::Allocator;
 use std::io::Write;
 

@@ -4,14 +4,13 @@ ghost use Rattle.sfnt_bytes.specs.declared.directory.TheConstants.{MAX_FILE};
 ghost use Rattle.font_file.specs.Font.{font_fault};
 ghost use Rattle.font_theory.specs.Content.{everything};
 ghost use Rattle.font_theory.specs.Cut.{IsCut, either, our_format, renewed};
-ghost use Rattle.font_cut.specs.Cut.{IsCutOf, cut_of};
+ghost use Rattle.font_subset.specs.Cut.{IsCutOf, cut_of};
 ghost use Rattle.font_cut.specs.Join.{IsForSize, IsJoin, IsJoinRefusal, IsLeastUpper, IsTrueRefusal};
 
-use crate::cut_font::CutError;
-use crate::emit::file_in_memory;
 use crate::join_error::{JoinError, Which};
 use crate::join_source::Joined;
 use font_file::Font;
+use font_subset::{CutError, file_in_memory};
 use std::alloc::Allocator;
 
 // Returns the join, or the refusal that applies.

@@ -2,11 +2,11 @@
 ghost use Rattle.std.specs.Prelude.{◌≡◌, None, MatchResult};
 ghost use Rattle.font_cut.specs.Join.{IsUnionRefusal, union_fault};
 
-use crate::cut_source::accepted;
 use crate::join_error::JoinError;
 use crate::union::Union;
 use font_file::Font;
 use font_map::Run;
+use font_subset::accepted;
 use font_write::Source;
 use std::alloc::{Allocator, Global};
 use std::marker::Model;

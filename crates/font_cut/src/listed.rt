@@ -5,15 +5,13 @@ ghost use Rattle.std.specs.Prelude.{◌≡◌, ◌≤◌, length, None, Some, If
 ghost use Rattle.sfnt_bytes.specs.declared.directory.TheConstants.{MAX_FILE};
 ghost use Rattle.font_theory.specs.Content.{content, everything, font_of};
 ghost use Rattle.font_theory.specs.Cut.{IsCut, is_cut, our_format};
-ghost use Rattle.font_cut.specs.Union.{AreRunsOf};
+ghost use Rattle.font_subset.specs.ListedRuns.{AreRunsOf};
 
-use crate::cut_forms::CutForm;
-use crate::cut_source::CutOf;
-use crate::emit::form_among;
-use crate::run_list::{Hint, run_among};
 use font_file::Font;
 use font_map::Run;
+use font_subset::{CutForm, CutOf, form_among};
 use font_write::Source;
+use run_lists::{Hint, run_among};
 use sfnt_bytes::NoMemory;
 use std::alloc::Allocator;
 use std::cell::Cell;
@@ -31,8 +29,8 @@ pub(crate) struct Listed<'f, 'a, A: Allocator> {
 // Its value is the file of the font.
 impl<'f, 'a, A: Allocator> Model for Listed<'f, 'a, A> {
     ghost use Rattle.std.specs.Prelude.{◌≡◌, ℕ, List, Option, None};
-    ghost use Rattle.font_map.specs.declared.ranges.Range.{Range};
-    ghost use Rattle.font_cut.specs.Union.{AreRunsOf};
+    ghost use Rattle.code_sets.specs.declared.ranges.Range.{Range};
+    ghost use Rattle.font_subset.specs.ListedRuns.{AreRunsOf};
 
     ghost Value = { List ℕ };
 

@@ -8,21 +8,20 @@ ghost use Rattle.font_theory.specs.Content.{content, everything, font_of};
 ghost use Rattle.font_theory.specs.Cut.{IsCut, our_format};
 ghost use Rattle.font_theory.specs.File.{current_form, file};
 ghost use Rattle.font_theory.specs.Join.{both};
-ghost use Rattle.font_cut.specs.Cut.{IsTooLarge};
+ghost use Rattle.font_subset.specs.Cut.{IsTooLarge};
 ghost use Rattle.font_cut.specs.Union.{IsUnion, content_in};
 ghost use Rattle.font_cut.specs.Inside.{AgreesEarly, IsAddRefusal, IsFirstRefusal, add_fault};
 
-use crate::cut_source::{accepted, copied, head};
 use crate::difference::{early_difference, refusal_of};
-use crate::emit::CURRENT;
 use crate::join_error::{JoinError, Which};
 use crate::listed::Listed;
 use crate::outlines::Outlines;
-use crate::union_map::UnionMap;
 use crate::without_codes::size_without_codes;
 use font_file::Font;
 use font_map::Run;
+use font_subset::{CURRENT, accepted, copied, head};
 use font_write::{Source, file_size};
+use run_lists::UnionMap;
 use sfnt_bytes::{MAX_FILE, NoMemory};
 use std::alloc::Allocator;
 use std::marker::Model;
@@ -68,7 +67,7 @@ impl<'f, 'a, A: Allocator> Source for Union<'f, 'a, A> {
         head(self.first)
     }
 
-    #[tactic(auto, using(crate::proofs::SourceLemmas::glyph_count_is))]
+    #[tactic(auto, using(font_subset::proofs::SourceLemmas::glyph_count_is))]
     fn glyph_count(&self) -> u16 {
         self.first.tables().glyph_count()
     }

@@ -1,13 +1,13 @@
 //! How many bytes a file has beside the groups of its `cmap`. OpenType 1.9, cmap, Format 12: Segmented
 //! coverage.
 ghost use Rattle.std.specs.Prelude.{◌≡◌, ◌+◌, ◌*◌, ◌≤◌, length};
-ghost use Rattle.font_map.specs.Runs.{groups_from};
+ghost use Rattle.character_map.specs.Runs.{groups_from};
 ghost use Rattle.font_theory.specs.Content.{glyph_count};
 ghost use Rattle.font_theory.specs.File.{current_form, file};
 ghost use Rattle.font_write.specs.Parts.{glyf_to};
 
-use crate::emit::CURRENT;
 use font_map::Run;
+use font_subset::CURRENT;
 use font_write::{Counts, Source, counted_size};
 
 // A content without its codes.

@@ -3,14 +3,14 @@ use Rattle.std.proofs.Common.{◌≡◌, ◌≢◌, ℕ, ◌+◌, ◌<◌, ◌�
 use Rattle.std.proofs.lemmas.Bool.{cases_lt}
 use Rattle.std.proofs.lemmas.Bool.Decides.{nat_tests}
 use Rattle.std.proofs.lemmas.List.{get_or-set_same, get_or-set_other}
-use Rattle.font_map.specs.CharacterMap.{clipped}
-use Rattle.font_map.specs.Format12.{glyph_along, group_glyph, groups_of, holds}
-use Rattle.font_map.specs.Format4.{segment_glyph}
+use Rattle.character_map.specs.CharacterMap.{clipped}
+use Rattle.cmap_subtables.specs.Format12.{glyph_along, group_glyph, groups_of, holds}
+use Rattle.cmap_subtables.specs.Format4.{segment_glyph}
 use Rattle.font_map.specs.Inside.{IsFirstFree, IsLaid}
-use Rattle.font_map.proofs.GroupLemmas.{glyph_by_find, holds_yes}
-use Rattle.font_map.proofs.PieceLemmas.{clipped_none}
-use Rattle.font_map.proofs.SegmentLemmas.{glyph_above}
-use Rattle.font_map.specs.declared.format12.ListedGroup.{ListedGroup}
+use Rattle.cmap_subtables.proofs.GroupLemmas.{glyph_by_find, holds_yes}
+use Rattle.character_map.proofs.PieceLemmas.{clipped_none}
+use Rattle.cmap_subtables.proofs.SegmentLemmas.{glyph_above}
+use Rattle.cmap_subtables.specs.declared.format12.ListedGroup.{ListedGroup}
 
 -- the value at a place where the list was changed, or not
 at_same : (xs : List ℕ) (i v : ℕ) → i < length xs → get_or (set xs i v) i 0 ≡ v

@@ -1,15 +1,4 @@
 pub mod ByteLemmas
-pub mod OrderLemmas
-pub mod GroupLemmas
-pub mod SegmentLemmas
-pub mod PieceLemmas
-pub mod CountLemmas
 pub mod MappingLemmas
-pub mod MapLemmas
-pub mod RunLemmas
 pub mod LaidOutLemmas
-pub mod FewestLemmas
-pub mod RangeLemmas
-pub mod AddingLemmas
 pub mod WantedLemmas
-pub mod WordLemmas

@@ -4,8 +4,8 @@ use Rattle.std.specs.List.{range_with_len}
 use Rattle.std.specs.Option.{option_map_or}
 use Rattle.sfnt_bytes.specs.Number.{u16_at, u32_at}
 use Rattle.sfnt_bytes.specs.Lines.{first_of_lines}
-use Rattle.font_map.specs.Format4.{segment_count}
-use Rattle.font_map.specs.Format12.{group_count}
+use Rattle.cmap_subtables.specs.Format4.{segment_count}
+use Rattle.cmap_subtables.specs.Format12.{group_count}
 
 -- numTables, and 0 where the header of `cmap` is cut off
 unfoldable pub encoding_count : List ℕ → ℕ

@@ -1,12 +1,5 @@
-pub mod CharacterMap
 pub mod Cmap
-pub mod Format12
-pub mod Format4
 pub mod Inside
 pub mod Mapping
-pub mod Order
 pub mod Refusals
-pub mod Runs
 pub mod Text
-pub mod Wanted
-pub mod Word

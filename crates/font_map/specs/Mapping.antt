@@ -2,10 +2,10 @@
 use Rattle.std.specs.Prelude.{ℕ, nat_eq, List, if◌then◌else◌}
 use Rattle.std.specs.Option.{option_map_or}
 use Rattle.sfnt_bytes.specs.Number.{u16_at}
-use Rattle.font_map.specs.CharacterMap.{clipped}
+use Rattle.character_map.specs.CharacterMap.{clipped}
 use Rattle.font_map.specs.Cmap.{chosen_record, subtable_at}
-use Rattle.font_map.specs.Format4.{segment_glyph}
-use Rattle.font_map.specs.Format12.{group_glyph}
+use Rattle.cmap_subtables.specs.Format4.{segment_glyph}
+use Rattle.cmap_subtables.specs.Format12.{group_glyph}
 
 -- the glyph of a code as a subtable gives it: by segments in format 4, else by groups
 unfoldable pub listed_glyph : List ℕ → ℕ → ℕ

@@ -4,20 +4,13 @@
 
 mod chart;
 mod cmap;
-mod format12;
-mod format4;
 mod groups;
 mod laid_out;
 mod laws;
 mod mapping;
-mod ranges;
-mod runs;
-mod search;
 mod subtable;
 mod text;
-mod wanted;
 mod within;
-mod word;
 
 pub use crate::chart::Chart;
 pub use crate::groups::{Group, Groups};
@@ -25,6 +18,5 @@ pub use crate::laws::{
     canonical_groups, fewest_groups, map_laws, one_range_of_word, run_is_first_group,
 };
 pub use crate::mapping::{MapError, Mapping};
-pub use crate::runs::{Pieces, Run, next_run, run_of};
-pub use crate::wanted::{Wanted, WantedError};
-pub use crate::word::{WordError, read_word};
+pub use character_map::{Pieces, Run, next_run, run_of};
+pub use code_sets::{Wanted, WantedError, WordError, read_word};

@@ -1,16 +1,15 @@
 //! The subtable that maps the codes: by segments or by groups. OpenType 1.9, cmap: Character to Glyph
 //! Index Mapping Table, formats 4 and 12.
 ghost use Rattle.std.specs.Prelude.{◌≡◌, ◌<◌, ◌≤◌, true, false, length, MatchOption};
-ghost use Rattle.font_map.specs.CharacterMap.{IsUnmapped, clipped};
+ghost use Rattle.character_map.specs.CharacterMap.{IsUnmapped, clipped};
 ghost use Rattle.font_map.specs.Cmap.{is_malformed};
 ghost use Rattle.font_map.specs.Inside.{subtable_glyph};
 ghost use Rattle.font_map.specs.Mapping.{listed_glyph};
-ghost use Rattle.font_map.specs.Runs.{IsNext, IsPiece, NoRun};
+ghost use Rattle.character_map.specs.Runs.{IsNext, IsPiece, NoRun};
 
 use crate::cmap::SEGMENTS;
-use crate::format4::{Segments, count_segments};
-use crate::format12::{ListedGroups, count_groups};
-use crate::runs::Run;
+use character_map::Run;
+use cmap_subtables::{ListedGroups, Segments, count_groups, count_segments};
 use sfnt_bytes::be16;
 
 /// A subtable, by its format.

@@ -5,8 +5,8 @@ use Rattle.std.proofs.Math.Path.{fun_ext}
 use Rattle.std.proofs.lemmas.Bool.{cases_eq, eqb-true}
 use Rattle.std.proofs.lemmas.Bool.Decides.{same_from_decides, Decides-like}
 use Rattle.sfnt_bytes.specs.Lines.{when}
-use Rattle.font_map.specs.CharacterMap.{restricted}
-use Rattle.font_map.proofs.MapLemmas.{restricted-restricted, same_cond}
+use Rattle.character_map.specs.CharacterMap.{restricted}
+use Rattle.character_map.proofs.MapLemmas.{restricted-restricted, same_cond}
 use Rattle.font_glyph.specs.Reach.{IsComponentOf, Reach}
 use Rattle.font_glyph.specs.Record.{IsRecord}
 use Rattle.font_theory.specs.Bytes.{padded}

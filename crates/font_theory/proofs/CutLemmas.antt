@@ -5,10 +5,10 @@ use Rattle.std.specs.Str.{bytes_eq}
 use Rattle.std.proofs.lemmas.Bool.{and_from, and_parts, lt-ltb, ltb-true, or_cases, or_left, or_right}
 use Rattle.std.proofs.lemmas.Bool.Decides.{nat_tests}
 use Rattle.std.proofs.lemmas.Slice.Eq.{bytes_eq-Decides}
-use Rattle.font_map.specs.CharacterMap.{is_mapped, restricted, united}
+use Rattle.character_map.specs.CharacterMap.{is_mapped, restricted, united}
 use Rattle.sfnt_bytes.specs.Lines.{when}
 use Rattle.font_theory.specs.Bytes.{padded}
-use Rattle.font_map.proofs.MapLemmas.{same_cond}
+use Rattle.character_map.proofs.MapLemmas.{same_cond}
 use Rattle.font_theory.specs.Content.{Content, IsClosedContent, content, everything, is_kept, seen}
 use Rattle.font_theory.specs.Cut.{CanJoin, Format, IsCurrent, IsCut, IsFormat, IsOld, Under, Writes, codes_of, cut, either, is_current, is_cut, is_old, joined, old_cut, renewed, whole}
 use Rattle.font_theory.specs.Join.{Agree, both}

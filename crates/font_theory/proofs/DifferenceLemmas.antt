@@ -6,7 +6,7 @@ use Rattle.std.specs.Str.{bytes_eq}
 use Rattle.std.proofs.lemmas.Bool.{cases_eq, cases_lt, eqb-true, eq-eqb, le-leb, lt-ltb, ltb-true, ne_eqb, not-false, or_right}
 use Rattle.std.proofs.lemmas.Slice.Eq.{bytes_eq-Decides}
 use Rattle.sfnt_bytes.specs.Lines.{first_of_lines}
-use Rattle.font_map.proofs.OrderLemmas.{find_none}
+use Rattle.member_search.proofs.OrderLemmas.{find_none}
 use Rattle.font_theory.specs.Content.{CODES, Content, IsClosedContent, everything, glyph_count, is_made, seen}
 use Rattle.font_theory.specs.Difference.{are_different, difference, is_different_code, is_different_glyph, is_different_table}
 use Rattle.font_theory.specs.Join.{Agree}

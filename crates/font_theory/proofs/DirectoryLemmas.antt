@@ -16,7 +16,7 @@ use Rattle.sfnt_bytes.specs.declared.directory.TheConstants.{MAX_FILE}
 use Rattle.sfnt_bytes.specs.declared.records.Entry.{Entry}
 use Rattle.sfnt_bytes.specs.declared.tag.Tag.{Tag}
 use Rattle.sfnt_bytes.specs.declared.tag.TheConstants.{KEPT}
-use Rattle.font_map.proofs.OrderLemmas.{find_none}
+use Rattle.member_search.proofs.OrderLemmas.{find_none}
 use Rattle.font_theory.specs.Bytes.{padded}
 use Rattle.font_theory.specs.Content.{Content}
 use Rattle.font_theory.specs.File.{Form, Table, bytes_in_slot, entries_at, file_of, table_in, tables_from}

@@ -3,7 +3,7 @@ use Rattle.std.proofs.Common.{◌≡◌, ℕ, ◌<◌, Bool, true, cond, nat_eq,
 use Rattle.std.specs.Bool.{Decides}
 use Rattle.std.proofs.lemmas.Bool.{eqb-true, lt-ltb}
 use Rattle.std.proofs.lemmas.Bool.Decides.{Decides-like}
-use Rattle.font_map.specs.CharacterMap.{restricted}
+use Rattle.character_map.specs.CharacterMap.{restricted}
 use Rattle.font_glyph.specs.Reach.{IsComponentOf, Reach}
 use Rattle.font_glyph.specs.Reach.Reach.{seed, part}
 use Rattle.font_tables.specs.Fields.{glyph_count_of}

@@ -5,8 +5,8 @@ use Rattle.std.specs.Option.{option_or}
 use Rattle.std.proofs.lemmas.Bool.{cases_lt, false_from_ne_true}
 use Rattle.std.proofs.lemmas.Bool.Decides.{same_from_decides, Decides-like, Decides-or, nat_tests}
 use Rattle.sfnt_bytes.specs.Lines.{when}
-use Rattle.font_map.specs.CharacterMap.{is_mapped, restricted, united}
-use Rattle.font_map.proofs.MapLemmas.{united-restricted, united-same, united-some, united-swapped}
+use Rattle.character_map.specs.CharacterMap.{is_mapped, restricted, united}
+use Rattle.character_map.proofs.MapLemmas.{united-restricted, united-same, united-some, united-swapped}
 use Rattle.font_glyph.specs.Reach.{IsComponentOf}
 use Rattle.font_glyph.specs.Reach.Reach.{seed, part}
 use Rattle.font_glyph.specs.Record.{IsRecord}

@@ -15,9 +15,9 @@ use Rattle.font_tables.specs.Fields.{glyph_count_of, index_to_loc_format, loca_f
 use Rattle.font_tables.specs.Outlines.{offset_at, outline_of}
 use Rattle.font_tables.specs.Refusals.{is_bad_offset, is_missing, table_fault}
 use Rattle.font_tables.specs.Tables.{cmap_tag, glyf_tag, head_tag, hhea_tag, hmtx_tag, loca_tag, maxp_tag, required_tags, table_or_empty}
-use Rattle.font_map.specs.CharacterMap.{restricted}
+use Rattle.character_map.specs.CharacterMap.{restricted}
 use Rattle.font_map.specs.Cmap.{candidate_of, chosen_record, encoding_count, is_candidate, is_malformed, subtable_at}
-use Rattle.font_map.specs.Format4.{entry_or_zero, glyph_by, segment_count, segment_glyph, segment_in, segments_of}
+use Rattle.cmap_subtables.specs.Format4.{entry_or_zero, glyph_by, segment_count, segment_glyph, segment_in, segments_of}
 use Rattle.font_map.specs.Mapping.{listed_glyph, mapping_of}
 use Rattle.font_map.specs.Refusals.{map_fault}
 use Rattle.font_glyph.specs.Component.{component_size}

@@ -7,7 +7,7 @@ use Rattle.font_tables.specs.Fields.{glyph_count_of, num_glyphs, number_of_h_met
 use Rattle.font_tables.specs.Outlines.{outline_of}
 use Rattle.font_tables.specs.Refusals.{is_bad_head, is_bad_hhea, is_bad_hmtx, is_bad_maxp}
 use Rattle.font_tables.specs.Tables.{head_of}
-use Rattle.font_map.specs.CharacterMap.{restricted}
+use Rattle.character_map.specs.CharacterMap.{restricted}
 use Rattle.font_glyph.specs.Reach.{any_below, reached}
 use Rattle.font_glyph.specs.Record.{IsRecord}
 use Rattle.font_glyph.specs.Union.{HoldsComponents, Records, record_in}

@@ -3,7 +3,7 @@ use Rattle.std.specs.Prelude.{◌≡◌, ◌≢◌, ℕ, ◌≤◌, Bool, ◌&&�
 use Rattle.std.specs.Str.{bytes_eq}
 use Rattle.sfnt_bytes.specs.declared.directory.DirError.TheVariants.{FileTooLarge}
 use Rattle.sfnt_bytes.specs.declared.directory.TheConstants.{MAX_FILE}
-use Rattle.font_map.specs.CharacterMap.{is_mapped}
+use Rattle.character_map.specs.CharacterMap.{is_mapped}
 use Rattle.font_file.specs.Font.{font_fault}
 use Rattle.font_file.specs.declared.font_error.FontError.{FontError}
 use Rattle.font_file.specs.declared.font_error.FontError.TheVariants.{Directory}
@@ -11,7 +11,7 @@ use Rattle.font_theory.specs.Content.{Content, Font, IsClosedContent, IsFont, co
 use Rattle.font_theory.specs.File.{Form, current_form, file, form_of}
 use Rattle.font_theory.specs.Join.{Agree, both}
 use Rattle.font_theory.specs.declared.Profile.TheVariants.{First}
-pub use Rattle.font_map.specs.Wanted.{either}
+pub use Rattle.code_sets.specs.Wanted.{either}
 
 -- a reader and a writer of files
 pub record Format : Type 0 where

@@ -9,11 +9,11 @@ use Rattle.sfnt_bytes.specs.Sums.{adjustment_of, checksum_of, without_field}
 use Rattle.sfnt_bytes.specs.declared.records.Entry.{Entry}
 use Rattle.sfnt_bytes.specs.declared.tag.Tag.{Tag}
 use Rattle.sfnt_bytes.specs.declared.tag.TheConstants.{CMAP, GLYF, HEAD, LOCA}
-use Rattle.font_map.specs.CharacterMap.{clipped}
+use Rattle.character_map.specs.CharacterMap.{clipped}
 use Rattle.font_map.specs.Mapping.{mapping_of}
 use Rattle.font_map.specs.Refusals.{map_fault}
-use Rattle.font_map.specs.Runs.{groups_from, spelled}
-use Rattle.font_map.specs.declared.runs.Run.{Run}
+use Rattle.character_map.specs.Runs.{groups_from, spelled}
+use Rattle.character_map.specs.declared.runs.Run.{Run}
 use Rattle.font_glyph.specs.Union.{record_in}
 use Rattle.font_theory.specs.Bytes.{bytes16, bytes32, padded, with_adjustment}
 use Rattle.font_theory.specs.Content.{Content, glyph_count}

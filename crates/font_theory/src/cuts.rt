@@ -4,7 +4,7 @@ ghost use Rattle.sfnt_bytes.specs.declared.directory.DirError.TheVariants.{FileT
 ghost use Rattle.sfnt_bytes.specs.declared.directory.TheConstants.{MAX_FILE};
 ghost use Rattle.font_tables.specs.Metrics.{metric_of};
 ghost use Rattle.font_tables.specs.Outlines.{outline_of};
-ghost use Rattle.font_map.specs.CharacterMap.{restricted};
+ghost use Rattle.character_map.specs.CharacterMap.{restricted};
 ghost use Rattle.font_glyph.specs.Reach.{Reach};
 ghost use Rattle.font_file.specs.Font.{font_fault, map_of};
 ghost use Rattle.font_file.specs.declared.font_error.FontError.{FontError};

@@ -1,8 +1,8 @@
 //! What a file is written from: this project's own.
 ghost use Rattle.std.specs.Prelude.{◌≡◌, ◌≤◌, ◌<◌, length, None, Some, is_some, IsSome, MatchOption};
 ghost use Rattle.sfnt_bytes.specs.declared.directory.TheConstants.{MAX_FILE};
-ghost use Rattle.font_map.specs.CharacterMap.{IsCharacterMap};
-ghost use Rattle.font_map.specs.Runs.{IsRun, NoRun};
+ghost use Rattle.character_map.specs.CharacterMap.{IsCharacterMap};
+ghost use Rattle.character_map.specs.Runs.{IsRun, NoRun};
 ghost use Rattle.font_theory.specs.Bytes.{cut_head, padded};
 ghost use Rattle.font_theory.specs.Content.{Content, IsWritable, KeepsComponents, glyph_count};
 ghost use Rattle.font_write.specs.Parts.{IsNextKept};

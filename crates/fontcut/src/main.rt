@@ -2,7 +2,7 @@
 #![tactic(auto)]
 
 ghost use Rattle.std.specs.Prelude.{◌≡◌, true};
-ghost use Rattle.font_cut.specs.Outlet.{fresh_of};
+ghost use Rattle.outlet.specs.Outlet.{fresh_of};
 
 use font_cut::Outlet;
 use program::{Heard, Reason, System, run_words};

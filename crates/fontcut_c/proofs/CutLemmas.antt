@@ -2,13 +2,13 @@
 use Rattle.std.proofs.Common.{◌≡◌, ◌≤◌, ℕ, List, Bool, ◌++◌, length, drop, ap, sym, ◌∙◌, Option, Some, Result, MatchResult}
 use Rattle.std.proofs.lemmas.Result.{MatchResult-weaker}
 use Rattle.sfnt_bytes.specs.declared.directory.TheConstants.{MAX_FILE}
-use Rattle.font_map.specs.Wanted.{member}
-use Rattle.font_map.specs.declared.ranges.Range.{Range}
+use Rattle.code_sets.specs.Wanted.{member}
+use Rattle.code_sets.specs.declared.ranges.Range.{Range}
 use Rattle.font_theory.specs.Content.{content, font_of}
 use Rattle.font_theory.specs.File.{current_form, file}
-use Rattle.font_cut.specs.Content.{codes_wanted}
-use Rattle.font_cut.specs.Cut.{cut_of}
-use Rattle.font_cut.proofs.CutLemmas.{cut_of_is}
+use Rattle.font_subset.specs.Content.{codes_wanted}
+use Rattle.font_subset.specs.Cut.{cut_of}
+use Rattle.font_subset.proofs.CutLemmas.{cut_of_is}
 use Rattle.fontcut_c.specs.Cutting.{IsAccepted, IsCutInRoom, IsCutSize, RefusesCut, RefusesSize, wanted_by}
 use Rattle.fontcut_c.specs.Inside.{IsFileInRoom, IsFileLength, RefusesFile, RefusesFileSize}
 use Rattle.fontcut_c.specs.declared.ranges.CodeRange.{CodeRange}

@@ -6,8 +6,8 @@ use Rattle.font_tables.specs.declared.tables.TableError.TheVariants.{BadLoca, Mi
 use Rattle.font_file.specs.Text.{error_number}
 use Rattle.font_file.specs.declared.font_error.FontError.{FontError}
 use Rattle.font_file.specs.declared.font_error.FontError.TheVariants.{BadGlyph, Directory, Mapping, Tables}
-use Rattle.font_cut.specs.declared.cut_forms.CutForm.{CutForm}
-use Rattle.font_cut.specs.declared.cut_forms.CutForm.TheVariants.{Current, Not, Old}
+use Rattle.font_subset.specs.declared.cut_forms.CutForm.{CutForm}
+use Rattle.font_subset.specs.declared.cut_forms.CutForm.TheVariants.{Current, Not, Old}
 use Rattle.font_cut.specs.declared.join_error.JoinAllError.{JoinAllError}
 use Rattle.font_cut.specs.declared.join_error.JoinAllError.TheVariants.{At, NothingToJoin}
 use Rattle.font_cut.specs.declared.join_error.JoinError.{JoinError}

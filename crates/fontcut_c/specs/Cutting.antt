@@ -1,9 +1,9 @@
 -- What a call for a cut answers, this project's own: the first refusal, or the cut in the caller's room.
 use Rattle.std.specs.Prelude.{◌≡◌, ℕ, ◌<◌, ◌≤◌, Bool, List, [], ◌∷◌, length, None, Some, Result, MatchResult, slice_index_or}
 use Rattle.sfnt_bytes.specs.declared.directory.TheConstants.{MAX_FILE}
-use Rattle.font_map.specs.Wanted.{IsBadRange, codes_between, either, no_codes}
+use Rattle.code_sets.specs.Wanted.{IsBadRange, codes_between, either, no_codes}
 use Rattle.font_file.specs.Font.{font_fault}
-use Rattle.font_cut.specs.Cut.{cut_of}
+use Rattle.font_subset.specs.Cut.{cut_of}
 use Rattle.fontcut_c.specs.Answers.{IsInRoom, size_answer}
 use Rattle.fontcut_c.specs.declared.answer.Answer.{Answer}
 use Rattle.fontcut_c.specs.declared.ranges.CodeRange.{CodeRange}

@@ -1,8 +1,8 @@
 -- What the calls for the form of a cut answer, this project's own.
 use Rattle.std.specs.Prelude.{◌≡◌, ℕ, ◌↔◌, IsTrue, Bool, List, None, Some, Result, MatchResult}
 use Rattle.font_file.specs.Font.{font_fault}
-use Rattle.font_cut.specs.Cut.{IsCutForSome, cut_form_of}
-use Rattle.font_cut.specs.declared.cut_forms.CutForm.{CutForm}
+use Rattle.font_subset.specs.Cut.{IsCutForSome, cut_form_of}
+use Rattle.font_subset.specs.declared.cut_forms.CutForm.{CutForm}
 use Rattle.fontcut_c.specs.Answers.{belongs_answer, form_answer}
 use Rattle.fontcut_c.specs.declared.answer.Answer.{Answer}
 use Rattle.fontcut_c.specs.declared.refusal.PairRefusal.{PairRefusal}

@@ -1,7 +1,7 @@
 -- What the call for the mapped codes answers, this project's own: the ranges that `codes` prints.
 use Rattle.std.specs.Prelude.{◌≡◌, ℕ, ◌<◌, List, length, map, None, Some, Result, MatchResult}
 use Rattle.font_file.specs.Font.{font_fault}
-use Rattle.font_map.specs.declared.ranges.Range.{Range}
+use Rattle.code_sets.specs.declared.ranges.Range.{Range}
 use Rattle.font_cut.specs.Fonts.{cmap_of, glyph_count_of, mapping_of}
 use Rattle.font_cmd.specs.Codes.{code_ranges}
 use Rattle.fontcut_c.specs.Answers.{IsInRoom, size_answer}

@@ -1,7 +1,7 @@
 //! Whether a file is a cut, and whether it is one of a font.
 ghost use Rattle.std.specs.Prelude.{◌≡◌, None, MatchResult};
 ghost use Rattle.font_file.specs.Font.{font_fault};
-ghost use Rattle.font_cut.specs.Cut.{cut_form_of};
+ghost use Rattle.font_subset.specs.Cut.{cut_form_of};
 ghost use Rattle.fontcut_c.specs.Answers.{form_number};
 ghost use Rattle.fontcut_c.specs.Forms.{IsBelonging, RefusesFont, RefusesPair};
 

@@ -15,7 +15,7 @@ mod text;
 
 ghost use Rattle.std.specs.Prelude.{◌≡◌, ◌≢◌, map};
 ghost use Rattle.font_file.specs.Font.{font_fault};
-ghost use Rattle.font_cut.specs.Cut.{cut_of};
+ghost use Rattle.font_subset.specs.Cut.{cut_of};
 ghost use Rattle.fontcut_c.specs.Answers.{IsInRoom, check_answer};
 ghost use Rattle.fontcut_c.specs.Cutting.{AnswersCut, AnswersCutSize, wanted_by};
 ghost use Rattle.fontcut_c.specs.Forms.{AnswersBelonging, AnswersForm};

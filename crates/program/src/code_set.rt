@@ -1,20 +1,12 @@
 //! Sets of codes, a bit for each: sets that come code by code, in any order, from texts of any length.
 use std::alloc::{AllocError, Global};
 
-// How many codes there are, and how many 32-bit words hold a bit for each.
-const CODES: u32 = 0x11_0000;
+const LAST_CODE: u32 = 0x10_FFFF;
 
-const WORDS: usize = CODES as usize / 32;
-
-/// A set of codes.
+/// A set of codes. It has memory for those up to the greatest one that was added.
 #[derive(Drop)]
 pub(crate) struct CodeSet {
     words: Vec<u32>,
-}
-
-// Returns so many zeros. The prover is slow where their number is written out.
-fn zeros(alloc: Global, count: usize) -> Result<Vec<u32>, AllocError> {
-    vec![in alloc; 0; count]
 }
 
 // Puts a range behind others, or lets the last of them go on where they touch.
@@ -42,21 +34,45 @@ fn push_word(ranges: &mut Vec<(u32, u32)>, start: u32, word: u32) -> Result<(), 
 }
 
 impl CodeSet {
-    pub(crate) fn new(alloc: Global) -> Result<CodeSet, AllocError> {
-        Ok(CodeSet {
-            words: zeros(alloc, WORDS)?,
-        })
-    }
-
-    /// Adds a code. One that is no code is left out.
-    pub(crate) fn add(&mut self, code: u32) {
-        if let Some(word) = self.words.get_mut((code / 32) as usize) {
-            *word |= 1 << (code % 32);
+    pub(crate) fn new(alloc: Global) -> CodeSet {
+        CodeSet {
+            words: Vec::new(alloc),
         }
     }
 
-    /// Adds the codes from the first to the last.
-    pub(crate) fn add_range(&mut self, first: u32, last: u32) {
+    // Makes room for the codes up to a given one.
+    fn reach(&mut self, code: u32) -> Result<(), AllocError> {
+        let needed = (code / 32) as usize + 1;
+        for _ in self.words.len()..needed {
+            self.words.push(0)?;
+        }
+        Ok(())
+    }
+
+    /// Adds a code. A number above 0x10FFFF is left out.
+    ///
+    /// # Errors
+    /// `AllocError` where memory is refused.
+    pub(crate) fn add(&mut self, code: u32) -> Result<(), AllocError> {
+        if code <= LAST_CODE {
+            self.reach(code)?;
+        }
+        if let Some(word) = self.words.get_mut((code / 32) as usize) {
+            *word |= 1 << (code % 32);
+        }
+        Ok(())
+    }
+
+    /// Adds the codes from the first to the last. Numbers above 0x10FFFF are left out.
+    ///
+    /// # Errors
+    /// `AllocError` where memory is refused.
+    pub(crate) fn add_range(&mut self, first: u32, last: u32) -> Result<(), AllocError> {
+        let last = last.min(LAST_CODE);
+        if last < first {
+            return Ok(());
+        }
+        self.reach(last)?;
         for at in first / 32..last / 32 + 1 {
             let low = if at == first / 32 { first % 32 } else { 0 };
             let high = if at == last / 32 { last % 32 } else { 31 };
@@ -64,15 +80,17 @@ impl CodeSet {
                 *word |= (u32::MAX << low) & (u32::MAX >> (31 - high));
             }
         }
+        Ok(())
     }
 
     /// Returns the codes that are not in another set.
     pub(crate) fn without(&self, alloc: Global, other: &CodeSet) -> Result<CodeSet, AllocError> {
-        let mut left = CodeSet::new(alloc)?;
-        for ((word, held), gone) in left.words.iter_mut().zip(&self.words).zip(&other.words) {
-            *word = *held & !*gone;
+        let mut words = Vec::new(alloc);
+        for (at, &held) in self.words.iter().enumerate() {
+            let gone = other.words.get(at).copied().unwrap_or(0);
+            words.push(held & !gone)?;
         }
-        Ok(left)
+        Ok(CodeSet { words })
     }
 
     /// Returns the number of codes.

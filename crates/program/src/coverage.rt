@@ -21,7 +21,7 @@ pub(crate) struct Coverage {
 
 // Returns the codes that a font maps.
 fn mapped_codes(alloc: Global, font: &Font<'_>) -> Result<CodeSet, AllocError> {
-    let mut codes = CodeSet::new(alloc)?;
+    let mut codes = CodeSet::new(alloc);
     let Ok(chart) = Chart::of(alloc, font.mapping()) else {
         return Err(AllocError);
     };
@@ -30,7 +30,7 @@ fn mapped_codes(alloc: Global, font: &Font<'_>) -> Result<CodeSet, AllocError> {
         let Some(run) = chart.next_run(from) else {
             break;
         };
-        codes.add_range(run.first, run.last);
+        codes.add_range(run.first, run.last)?;
         from = run.last.saturating_add(1);
     }
     Ok(codes)

@@ -1,7 +1,7 @@
 //! The program's body: it does what a command line asks for, and answers the status.
 ghost use Rattle.std.specs.Prelude.{◌≡◌, IfOk, true};
 ghost use Rattle.font_cmd.specs.Inlet.{inlet_fresh_of};
-ghost use Rattle.font_cut.specs.Outlet.{fresh_of};
+ghost use Rattle.outlet.specs.Outlet.{fresh_of};
 
 use crate::code_set::CodeSet;
 use crate::coverage::Coverage;

@@ -3,24 +3,26 @@ use crate::code_set::CodeSet;
 use crate::report::{Fault, no_memory};
 use crate::wanted_files::{Listed, Stopped, add_listed};
 use font_cut::{Wanted, read_word};
-use std::alloc::Global;
+use std::alloc::{AllocError, Global};
 use std::io::Read;
 
 // Adds the ranges of words, up to the first one that is no word.
 fn add_words<'a>(codes: &mut CodeSet, words: &[&'a str]) -> Result<(), Fault<'a>> {
     for &word in words {
         match read_word(word) {
-            Ok((first, last)) => codes.add_range(first, last),
+            Ok((first, last)) if codes.add_range(first, last).is_err() => return Err(no_memory()),
+            Ok(_) => {}
             Err(_) => return Err(Fault::BadWord(word)),
         }
     }
     Ok(())
 }
 
-fn add_text(codes: &mut CodeSet, text: &str) {
+fn add_text(codes: &mut CodeSet, text: &str) -> Result<(), AllocError> {
     for letter in text.chars() {
-        codes.add(letter as u32);
+        codes.add(letter as u32)?;
     }
+    Ok(())
 }
 
 /// Returns the codes of words and of the characters of texts.
@@ -32,12 +34,12 @@ pub(crate) fn codes_of<'a>(
     texts: &[&str],
     words: &[&'a str],
 ) -> Result<CodeSet, Fault<'a>> {
-    let Ok(mut codes) = CodeSet::new(alloc) else {
-        return Err(no_memory());
-    };
+    let mut codes = CodeSet::new(alloc);
     add_words(&mut codes, words)?;
     for &text in texts {
-        add_text(&mut codes, text);
+        if add_text(&mut codes, text).is_err() {
+            return Err(no_memory());
+        }
     }
     Ok(codes)
 }

@@ -34,6 +34,12 @@ pub(crate) enum Stopped {
     NoMemory,
 }
 
+impl From<AllocError> for Stopped {
+    fn from(_: AllocError) -> Stopped {
+        Stopped::NoMemory
+    }
+}
+
 // What is known of a file between two bytes.
 #[derive(Drop)]
 struct Reading<'a> {
@@ -90,9 +96,8 @@ impl<'a> Reading<'a> {
         }
         match read_word(self.word.as_str()) {
             Ok((first, last)) => {
-                self.codes.add_range(first, last);
                 self.word.clear();
-                Ok(())
+                Ok(self.codes.add_range(first, last)?)
             }
             Err(_) => Err(self.bad_word()),
         }
@@ -105,10 +110,7 @@ impl<'a> Reading<'a> {
         if LONGEST < self.word.len().saturating_add(4) {
             return Err(self.bad_word());
         }
-        match self.word.push(letter) {
-            Ok(()) => Ok(()),
-            Err(_) => Err(Stopped::NoMemory),
-        }
+        Ok(self.word.push(letter)?)
     }
 
     fn take_of_words(&mut self, letter: char) -> Result<(), Stopped> {
@@ -135,7 +137,7 @@ impl<'a> Reading<'a> {
             _ if is_mark => {}
             Listed::Words => self.take_of_words(letter)?,
             Listed::Characters if letter == '\n' || letter == '\r' => {}
-            Listed::Characters => self.codes.add(letter as u32),
+            Listed::Characters => self.codes.add(letter as u32)?,
         }
         if letter == '\n' {
             self.line = self.line.saturating_add(1);
@@ -174,9 +176,7 @@ pub(crate) fn add_listed<R: Read>(
     listed: Listed,
     codes: &mut CodeSet,
 ) -> Result<(), Stopped> {
-    let Ok(mut reading) = Reading::new(alloc, listed, codes) else {
-        return Err(Stopped::NoMemory);
-    };
+    let mut reading = Reading::new(alloc, listed, codes)?;
     let mut piece = [0u8; PIECE];
     for _ in 0..u64::MAX {
         match file.read(&mut piece) {

@@ -1,5 +1,5 @@
 use Rattle.std.proofs.Common.{rules, Bool, take}
-use Rattle.font_cut.specs.Outlet.{WentOut}
+use Rattle.outlet.specs.Outlet.{WentOut}
 use Rattle.font_cmd.specs.Belongs.{Answers, answer_text, got_both}
 use Rattle.font_cmd.proofs.belongs.run_belongs.Goals as goal
 

@@ -1,5 +1,5 @@
 use Rattle.std.proofs.Common.{ℕ, rules, length, map, sym, subst, ◌∙◌, ap}
-use Rattle.font_cut.specs.Cut.{cut_of}
+use Rattle.font_subset.specs.Cut.{cut_of}
 use Rattle.font_cut.specs.Fonts.{union_below}
 use Rattle.font_cut.specs.JoinList.{AreCuts, IsSentAs}
 use Rattle.font_cmd.proofs.JoinRunLemmas.{only_size_into, sends_end}

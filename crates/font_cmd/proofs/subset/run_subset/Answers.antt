@@ -1,8 +1,8 @@
 use Rattle.std.proofs.Common.{rules, ◌≡◌, ◌≤◌, ℕ, List, None, length, take, subst, ◌+◌}
 use Rattle.std.proofs.lemmas.Option.{IfSome_then}
-use Rattle.font_cut.specs.Cut.{cut_of}
+use Rattle.font_subset.specs.Cut.{cut_of}
 use Rattle.font_cut.specs.Fonts.{MAX_FILE, font_fault, member}
-use Rattle.font_cut.specs.Outlet.{WentOut}
+use Rattle.outlet.specs.Outlet.{WentOut}
 use Rattle.font_cmd.specs.Inlet.{reader_of}
 use Rattle.font_cmd.specs.Run.{HasCut}
 use Rattle.font_cmd.proofs.subset.run_subset.Goals as goal

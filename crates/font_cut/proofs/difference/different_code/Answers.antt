@@ -1,5 +1,5 @@
 use Rattle.std.proofs.Common.{ℕ, min, refl, arith, subst, sym}
-use Rattle.font_map.specs.Runs.{IsPiece, NoRun}
+use Rattle.character_map.specs.Runs.{IsPiece, NoRun}
 use Rattle.font_cut.proofs.CodeDifferenceLemmas.{at_run, end_left, end_right, run_along, run_apart, run_found}
 use Rattle.font_cut.proofs.difference.different_code.Goals as goal
 

@@ -6,7 +6,7 @@ use Rattle.font_cut.specs.Union.{Held, content_in}
 use Rattle.font_cut.specs.Inside.{HoldsFile, IsAddRefusal, add_fault}
 use Rattle.font_cut.specs.Join.{IsJoin}
 use Rattle.font_cut.proofs.AddLemmas.{joined_next, refused_next, too_large_next}
-use Rattle.font_cut.proofs.WholeLemmas.{our_format-fault}
+use Rattle.font_subset.proofs.WholeLemmas.{our_format-fault}
 use Rattle.font_cut.proofs.JoinLemmas.{second_refused}
 use Rattle.font_cut.proofs.join_list.joined_with.Goals as goal
 

@@ -2,8 +2,8 @@ use Rattle.std.proofs.Common.{rules, ◌≡◌, ℕ, List, None, subst}
 use Rattle.font_theory.specs.Content.{Content, content, everything, font_of}
 use Rattle.font_theory.specs.File.{file, current_form}
 use Rattle.font_theory.specs.Join.{both}
-use Rattle.font_cut.specs.Cut.{IsCutRefusal, IsTooLarge, IsWritten}
-use Rattle.font_cut.specs.declared.cut_font.CutError.{CutError}
+use Rattle.font_subset.specs.Cut.{IsCutRefusal, IsTooLarge, IsWritten}
+use Rattle.font_subset.specs.declared.cut_font.CutError.{CutError}
 use Rattle.font_cut.specs.Join.{union_fault}
 use Rattle.font_cut.proofs.JoinLemmas.{is_join, is_too_large, second_refused}
 use Rattle.font_cut.proofs.join_pair.join_exactly.Goals as goal

@@ -1,5 +1,5 @@
 use Rattle.std.proofs.Common.{◌-◌, drop}
-use Rattle.font_map.specs.Format12.{groups_of}
+use Rattle.cmap_subtables.specs.Format12.{groups_of}
 use Rattle.font_map.specs.Inside.{IsFirstFree, IsLaid, IsSkip}
 use Rattle.font_map.proofs.laid_out.lay_group.Given as goal
 

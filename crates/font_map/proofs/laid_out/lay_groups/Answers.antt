@@ -1,5 +1,5 @@
 use Rattle.std.proofs.Common.{arith}
-use Rattle.font_map.proofs.GroupLemmas.{groups_end}
+use Rattle.cmap_subtables.proofs.GroupLemmas.{groups_end}
 use Rattle.font_map.proofs.LaidOutLemmas.{laid_all}
 use Rattle.font_map.proofs.laid_out.lay_groups.Goals as goal
 

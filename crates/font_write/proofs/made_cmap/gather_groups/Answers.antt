@@ -1,7 +1,7 @@
 use Rattle.std.proofs.Common.{◌≡◌, ℕ, ◌+◌, ◌*◌, List, ◌++◌, take, sym, ap, ◌∙◌, refl, arith, append_assoc}
-use Rattle.font_map.specs.Runs.{groups_from}
-use Rattle.font_map.specs.declared.runs.Run.{Run}
-use Rattle.font_map.proofs.RunLemmas.{groups_done}
+use Rattle.character_map.specs.Runs.{groups_from}
+use Rattle.character_map.specs.declared.runs.Run.{Run}
+use Rattle.character_map.proofs.RunLemmas.{groups_done}
 use Rattle.font_theory.specs.Content.{Content}
 use Rattle.font_theory.specs.File.{group_bytes}
 use Rattle.font_write.specs.Parts.{groups_bytes}

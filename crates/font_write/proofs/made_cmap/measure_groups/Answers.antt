@@ -1,7 +1,7 @@
 use Rattle.std.proofs.Common.{◌+◌, flat_map, length, sum, List, ap, arith}
-use Rattle.font_map.specs.declared.runs.Run.{Run}
-use Rattle.font_map.proofs.RunLemmas.{groups_done, groups_few, groups_next}
-use Rattle.font_map.specs.Runs.{groups_from}
+use Rattle.character_map.specs.declared.runs.Run.{Run}
+use Rattle.character_map.proofs.RunLemmas.{groups_done, groups_few, groups_next}
+use Rattle.character_map.specs.Runs.{groups_from}
 use Rattle.font_theory.specs.Content.{Content}
 use Rattle.font_theory.specs.File.{groups_of_content, numbers_of}
 use Rattle.font_write.proofs.ChecksumLemmas.{checksum_of-groups_bytes, sum-numbers_of}

@@ -1,6 +1,6 @@
 use Rattle.std.proofs.Common.{rules, ◌++◌}
 use Rattle.std.proofs.Output.{has_written_append, has_written_of_eq}
-use Rattle.font_cut.proofs.FontLemmas.{range_with_len-step}
+use Rattle.font_subset.proofs.FontLemmas.{range_with_len-step}
 use Rattle.font_cmd.specs.Show.{kept_line}
 use Rattle.font_cmd.proofs.LineLemmas.{flat_map-moves}
 use Rattle.font_cmd.proofs.show.KeptDisplay.fmt.Goals as goal

@@ -1,5 +1,5 @@
 use Rattle.std.proofs.Common.{◌≡◌, MatchOption, subst}
-use Rattle.font_map.specs.Runs.{IsRun, NoRun}
+use Rattle.character_map.specs.Runs.{IsRun, NoRun}
 use Rattle.font_theory.specs.Content.{Content, content, everything, font_of}
 use Rattle.font_theory.specs.Join.{both}
 use Rattle.font_cut.specs.Union.{content_in}

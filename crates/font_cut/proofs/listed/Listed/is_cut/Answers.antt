@@ -3,9 +3,9 @@ use Rattle.sfnt_bytes.specs.declared.directory.TheConstants.{MAX_FILE}
 use Rattle.font_theory.proofs.FontLemmas.{size-accepted}
 use Rattle.font_file.specs.Font.{font_fault}
 use Rattle.font_theory.specs.Content.{content, everything, font_of}
-use Rattle.font_cut.specs.Cut.{cut_form_of}
-use Rattle.font_cut.specs.Inside.{IsFileIn}
-use Rattle.font_cut.proofs.WholeLemmas.{form_by, is_cut_tells, is_no_cut, is_some_cut}
+use Rattle.font_subset.specs.Cut.{cut_form_of}
+use Rattle.font_subset.specs.Inside.{IsFileIn}
+use Rattle.font_subset.proofs.WholeLemmas.{form_by, is_cut_tells, is_no_cut, is_some_cut}
 use Rattle.font_cut.proofs.listed.Listed.is_cut.Goals as goal
 use Rattle.font_cut.proofs.listed.Listed.is_cut.Goals.{in-Not, in_default}
 

@@ -1,11 +1,12 @@
 use Rattle.std.proofs.Common.{◌≡◌, ℕ, List, None, Some, find, sym, ap, ◌∙◌, subst}
 use Rattle.std.specs.List.{range_with_len}
-use Rattle.font_map.specs.CharacterMap.{AreCompatible, united}
+use Rattle.character_map.specs.CharacterMap.{AreCompatible, united}
 use Rattle.font_file.specs.Font.{font_fault}
 use Rattle.font_theory.specs.Content.{content, everything, font_of}
 use Rattle.font_theory.specs.Join.{both}
 use Rattle.font_tables.specs.Fields.{glyph_count_of}
-use Rattle.font_cut.specs.Union.{Held, TwoLists, content_in, is_other, listed_outline, map_in}
+use Rattle.font_cut.specs.Union.{Held, content_in, is_other, listed_outline}
+use Rattle.run_lists.specs.RunLists.{TwoLists, map_in}
 use Rattle.font_cut.specs.Inside.{AgreesEarly, add_fault}
 use Rattle.font_cut.specs.declared.join_error.JoinError.TheVariants.{DifferentGlyph}
 use Rattle.font_cut.proofs.AddLemmas.{agree_added, content_added, early_form, no_other_glyph, other_glyph, taken_added, union_added}

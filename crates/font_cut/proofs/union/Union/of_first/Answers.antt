@@ -2,11 +2,13 @@ use Rattle.std.proofs.Common.{rules, ◌≡◌, ℕ, List, None, length, sym, su
 use Rattle.font_tables.specs.Fields.{glyph_count_of}
 use Rattle.font_theory.specs.Content.{Content, content, everything, font_of}
 use Rattle.font_theory.specs.Cut.{IsCut, our_format}
-use Rattle.font_cut.specs.Union.{AreRunsOf, IsUnion, TwoLists, content_in, listed_outline, map_in}
+use Rattle.font_subset.specs.ListedRuns.{AreRunsOf}
+use Rattle.font_cut.specs.Union.{IsUnion, content_in, listed_outline}
+use Rattle.run_lists.specs.RunLists.{TwoLists, map_in}
 use Rattle.font_cut.specs.Inside.{AreTaken}
 use Rattle.font_cut.proofs.AddLemmas.{content_first, none_other, union_first}
 use Rattle.font_cut.proofs.OutlineListLemmas.{taken_whole, union_of_none}
-use Rattle.font_cut.proofs.SourceLemmas.{glyph_count_is}
+use Rattle.font_subset.proofs.SourceLemmas.{glyph_count_is}
 use Rattle.font_cut.proofs.union.Union.of_first.Goals as goal
 
 pub invariant_of-result : goal.invariant_of-result

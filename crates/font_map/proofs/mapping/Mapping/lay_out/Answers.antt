@@ -1,6 +1,6 @@
 use Rattle.std.proofs.Common.{ap, sym, ◌∙◌}
-use Rattle.font_map.specs.Format12.{group_glyph}
-use Rattle.font_map.specs.Format4.{segment_glyph}
+use Rattle.cmap_subtables.specs.Format12.{group_glyph}
+use Rattle.cmap_subtables.specs.Format4.{segment_glyph}
 use Rattle.font_map.specs.Inside.{subtable_glyph}
 use Rattle.font_map.proofs.MappingLemmas.{laid_out_of_chosen}
 use Rattle.font_map.proofs.mapping.Mapping.lay_out.Goals as goal

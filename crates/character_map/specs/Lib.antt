@@ -1,0 +1,2 @@
+pub mod CharacterMap
+pub mod Runs

@@ -1,0 +1,14 @@
+use Rattle.std.proofs.Common.{◌≤◌, ◌-◌}
+use Rattle.character_map.specs.CharacterMap.{IsUnmapped, clipped}
+use Rattle.cmap_subtables.specs.Format12.{group_glyph}
+use Rattle.cmap_subtables.proofs.format12.piece_near.Given as goal
+
+abbrev pub invariant-loop-at : goal.invariant-loop-at
+invariant-loop-at l =
+    record {
+      on : l.from ≤ l.at;
+      none : IsUnmapped (clipped l.glyphs (group_glyph l.groups)) l.from l.at;
+    }
+
+abbrev pub decreases-loop-at : goal.decreases-loop-at
+decreases-loop-at l = 0x110000 - l.at

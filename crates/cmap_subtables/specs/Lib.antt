@@ -1,0 +1,3 @@
+pub mod Format12
+pub mod Format4
+pub mod Inside

@@ -1,0 +1,4 @@
+pub mod Inside
+pub mod Text
+pub mod Wanted
+pub mod Word

@@ -1,7 +1,0 @@
-use Rattle.std.proofs.Common.{arith}
-use Rattle.font_map.proofs.RunLemmas.{piece_last}
-use Rattle.font_map.proofs.SegmentLemmas.{none_above}
-use Rattle.font_map.proofs.format4.walk_run.Goals as goal
-
-pub returns : goal.returns
-returns c = piece_last _ _ _ c.loop-run.invariant.piece (none_above _ _ _ (omega arith))

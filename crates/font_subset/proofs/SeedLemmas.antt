@@ -1,0 +1,180 @@
+-- Marks of .notdef and of the glyphs of codes.
+use Rattle.std.proofs.Common.{◌≡◌, ℕ, zero, suc, ◌+◌, ◌-◌, ◌<◌, ◌≤◌, ◌↔◌, inl, inr, Bool, true, ◌||◌, nat_eq, List, [], ◌∷◌, length, None, refl, sym, ◌∙◌, subst, arith}
+use mathlib.Core.Path.{fun_ext}
+use Rattle.std.proofs.lemmas.Bool.{cases_eq, cases_lt, eq-eqb, eqb-true, or_cases, or_left, or_right}
+use Rattle.std.specs.Cmp.{both_ways}
+use Rattle.font_glyph.specs.Marks.{has}
+use Rattle.character_map.specs.CharacterMap.{IsCharacterMap, restricted}
+use Rattle.character_map.specs.Runs.{AreRuns, IsRun, NoRun, spelled}
+use Rattle.character_map.specs.declared.runs.Run.{Run}
+use Rattle.font_glyph.specs.Reach.{Reach}
+use Rattle.font_theory.specs.Content.{CODES, everything, font_of, is_kept, is_seed}
+use Rattle.font_theory.proofs.WantedLemmas.{is_seed-code, is_seed-tells, is_seed-zero}
+use Rattle.font_tables.specs.Fields.{glyph_count_of}
+use Rattle.font_tables.specs.Outlines.{outline_of}
+use Rattle.font_file.specs.Font.{font_fault, map_of}
+use Rattle.font_theory.proofs.FileWantedLemmas.{is_kept-file}
+use Rattle.font_theory.proofs.FontLemmas.{IsFont-accepted, glyph_count-file}
+use Rattle.font_theory.proofs.SpellingLemmas.{codes_are}
+use Rattle.font_theory.proofs.WantedLemmas.{restricted-cases}
+use Rattle.font_subset.specs.Content.{IsKeptSet}
+use Rattle.font_subset.specs.Inside.{AreMarked, AreSeedsTo, IsSeedSet}
+use Rattle.run_lists.specs.Inside.{run_at}
+use Rattle.font_subset.specs.ListedRuns.{AreRunsOf}
+
+pub marked_start : (old : List Bool) (low : ℕ) → AreMarked old old low (low - low)
+marked_start old low =
+    record {
+      count = refl;
+      marked = λ g. (λ h. inr h, λ h. elim h [ inl x ↦ let q : ⊥ = omega (arith, x.0, x.1) in absurd q | inr x ↦ x ]);
+    }
+
+-- one more
+pub marked_more : (old marks new : List Bool) (low at : ℕ) → low ≤ at → AreMarked old marks low (at - low) → length new ≡ length marks → ((h : ℕ) → has new h ≡ (nat_eq h at || has marks h)) → AreMarked old new low (at + 1 - low)
+marked_more old marks new low at le before count is =
+    record {
+      count = count ∙ before.count;
+      marked = λ g. (
+        λ h. elim (or_cases _ _ (sym (is g) ∙ h)) [
+          | inl e ↦ let same = eqb-true g at e in inl (omega arith, omega arith)
+          | inr e ↦ elim ((before.marked g).0 e) [ inl x ↦ inl (x.0, omega (arith, x.1)) | inr x ↦ inr x ]
+        ],
+        λ h. is g ∙ (elim h [
+          | inl x ↦ elim (cases_eq g at) [
+            | inl e ↦ or_left _ _ (eq-eqb g at e)
+            | inr e ↦ or_right _ _ ((before.marked g).1 (inl (x.0, omega (arith, x.1, e))))
+          ]
+          | inr x ↦ or_right _ _ ((before.marked g).1 (inr x))
+        ]),
+      );
+    }
+
+pub marked_end : (old marks : List Bool) (low n k : ℕ) → n ≡ k → AreMarked old marks low n → AreMarked old marks low k
+marked_end old marks low n k e h = subst (AreMarked old marks low) e h
+
+-- the glyphs of one more run
+pub seeds_more : (m : ℕ → ℕ) (from : ℕ) (run : Run) (old new : List Bool) → IsRun m from run → AreSeedsTo m from old → AreMarked old new run.glyph (run.last - run.first + 1) → AreSeedsTo m (run.last + 1) new
+seeds_more m from run old new is before more =
+    record {
+      zero = (more.marked 0).1 (inr before.zero);
+      codes = λ c low. elim (cases_lt c from) [
+        | inl below ↦ (more.marked (m c)).1 (inr (before.codes c below))
+        | inr above ↦ elim (cases_lt c run.first) [
+          | inl gap ↦ subst (λ (g : ℕ). has new g ≡ true) (sym (is.piece.least c above gap)) ((more.marked 0).1 (inr before.zero))
+          | inr on ↦ let e = is.piece.along c on (omega arith) in let o = is.piece.order in (more.marked (m c)).1 (inl (omega arith, omega arith))
+        ]
+      ];
+      only = λ g h. elim ((more.marked g).0 h) [
+        | inl x ↦
+            let c : ℕ = run.first + (g - run.glyph) in
+            let o = is.piece.order in
+            let on : c ≤ run.last = omega (arith, x.0, x.1) in
+            let e = is.piece.along c (omega arith) on in
+            inr (c, omega (arith, x.0))
+        | inr x ↦ before.only g x
+      ];
+    }
+
+-- all codes
+pub seeds_end : (m : ℕ → ℕ) (from : ℕ) (marks : List Bool) → ((c : ℕ) → CODES ≤ c → m c ≡ 0) → NoRun m from → AreSeedsTo m from marks → (g : ℕ) → has marks g ≡ is_seed m g
+seeds_end m from marks past none are g = both_ways (has marks g) (is_seed m g) forth back
+  where
+    forth : has marks g ≡ true → is_seed m g ≡ true
+    forth h = elim (are.only g h) [
+      | inl e ↦ subst (λ (x : ℕ). is_seed m x ≡ true) (sym e) (is_seed-zero m)
+      | inr w ↦ subst (λ (x : ℕ). is_seed m x ≡ true) w.1 (is_seed-code m past w.0)
+    ]
+
+    back : is_seed m g ≡ true → has marks g ≡ true
+    back h = elim (is_seed-tells m g h) [
+      | inl e ↦ subst (λ (x : ℕ). has marks x ≡ true) (sym e) are.zero
+      | inr w ↦ elim (cases_lt w.0 from) [
+        | inl low ↦ subst (λ (x : ℕ). has marks x ≡ true) w.1 (are.codes w.0 low)
+        | inr high ↦ subst (λ (x : ℕ). has marks x ≡ true) (sym (none w.0 high) ∙ w.1) are.zero
+      ]
+    ]
+
+-- the wanted codes of an accepted file are codes, and their glyphs are glyphs
+pub wanted_past : (file : List ℕ) (wanted : ℕ → Bool) → font_fault file ≡ None → (c : ℕ) → CODES ≤ c → restricted wanted (map_of file) c ≡ 0
+wanted_past file wanted accepted c past = restricted-cases wanted (map_of file) (λ g. g ≡ 0) c ((IsFont-accepted file accepted).mapped_codes c past) refl
+
+wanted_below : (file : List ℕ) (wanted : ℕ → Bool) → font_fault file ≡ None → (c : ℕ) → restricted wanted (map_of file) c < glyph_count_of file
+wanted_below file wanted accepted c =
+    let ok = IsFont-accepted file accepted in
+    let low = ok.mapped_below c in
+    let count = glyph_count-file file in
+    restricted-cases wanted (map_of file) (λ g. g < glyph_count_of file) c (omega arith) (omega arith)
+
+pub run_within : (file : List ℕ) (wanted : ℕ → Bool) (from : ℕ) (run : Run) → font_fault file ≡ None → IsRun (restricted wanted (map_of file)) from run → run.glyph + (run.last - run.first) < glyph_count_of file
+run_within file wanted from run accepted is =
+    let o = is.piece.order in
+    let e = is.piece.along run.last o (omega arith) in
+    let low = wanted_below file wanted accepted run.last in
+    omega arith
+
+-- what is reached from the seeds is what a cut keeps
+pub kept_marked : (file : List ℕ) (wanted : ℕ → Bool) (seeds marks : List Bool) → font_fault file ≡ None → IsSeedSet file wanted seeds → length marks ≡ glyph_count_of file
+    → ((g : ℕ) → has marks g ≡ true ↔ Reach (outline_of file) (has seeds) g) → IsKeptSet file wanted marks
+kept_marked file wanted seeds marks accepted is count reached =
+    let same : has seeds ≡ is_seed (restricted wanted (map_of file)) = fun_ext is.seeds in
+    record {
+      count = count;
+      kept = λ g.
+          let decided = is_kept-file file wanted accepted g in
+          both_ways (has marks g) (is_kept (font_of file) wanted g)
+          (λ h. decided.1 (subst (λ (s : ℕ → Bool). Reach (outline_of file) s g) same ((reached g).0 h)))
+          (λ h. (reached g).1 (subst (λ (s : ℕ → Bool). Reach (outline_of file) s g) (sym same) (decided.0 h)));
+    }
+
+-- the code behind the first k runs
+abbrev pub behind_runs : ℕ → List Run → ℕ → ℕ
+behind_runs low runs zero = low
+behind_runs low [] (suc k) = low
+behind_runs low (run ∷ runs) (suc k) = behind_runs (run.last + 1) runs k
+
+nth_run : (m : ℕ → ℕ) (low : ℕ) (runs : List Run) → AreRuns m low runs → (k : ℕ) → k < length runs → IsRun m (behind_runs low runs k) (run_at runs k)
+nth_run m low [] h k lt = absurd (omega (arith, lt))
+nth_run m low (r ∷ rs) h zero lt = h.0
+nth_run m low (r ∷ rs) h (suc k) lt = nth_run m (r.last + 1) rs h.1 k (omega (arith, lt))
+
+behind_next : (low : ℕ) (runs : List Run) (k : ℕ) → k < length runs → behind_runs low runs (suc k) ≡ (run_at runs k).last + 1
+behind_next low [] k lt = absurd (omega (arith, lt))
+behind_next low (r ∷ rs) zero lt = refl
+behind_next low (r ∷ rs) (suc k) lt = behind_next (r.last + 1) rs k (omega (arith, lt))
+
+no_run : (m : ℕ → ℕ) (low : ℕ) (runs : List Run) → AreRuns m low runs → NoRun m (behind_runs low runs (length runs))
+no_run m low [] h = h
+no_run m low (r ∷ rs) h = no_run m (r.last + 1) rs h.1
+
+-- the map of an accepted file is a character map
+pub whole_map : (file : List ℕ) (count : ℕ) → font_fault file ≡ None → count ≡ glyph_count_of file → count < 65536 → IsCharacterMap (restricted everything (map_of file))
+whole_map file count accepted is small =
+    record {
+      codes = λ c past. wanted_past file everything accepted c (subst (λ (n : ℕ). n ≤ c) (sym codes_are) past);
+      glyphs = λ c. omega (arith, wanted_below file everything accepted c, is, small);
+    }
+
+-- the runs of a file
+module _ (file : List ℕ) (runs : List Run) (accepted : font_fault file ≡ None) (are : AreRunsOf file runs) where
+  abbrev whole : ℕ → ℕ
+  whole = restricted everything (map_of file)
+
+  whole_is : spelled runs ≡ whole
+  whole_is = are.spelled_map
+
+  runs_are_whole : AreRuns whole 0 runs
+  runs_are_whole = subst (λ (m : ℕ → ℕ). AreRuns m 0 runs) whole_is are.of_map.are
+
+  pub listed_run : (k : ℕ) → k < length runs → IsRun whole (behind_runs 0 runs k) (run_at runs k)
+  listed_run k lt = nth_run whole 0 runs runs_are_whole k lt
+
+  pub listed_within : (k : ℕ) → k < length runs → (run_at runs k).glyph + ((run_at runs k).last - (run_at runs k).first) < glyph_count_of file
+  listed_within k lt = run_within file everything (behind_runs 0 runs k) (run_at runs k) accepted (listed_run k lt)
+
+  pub seeds_listed : (k : ℕ) (old new : List Bool) → k < length runs → AreSeedsTo whole (behind_runs 0 runs k) old → AreMarked old new (run_at runs k).glyph ((run_at runs k).last - (run_at runs k).first + 1) → AreSeedsTo whole (behind_runs 0 runs (suc k)) new
+  seeds_listed k old new lt before more =
+      subst (λ (c : ℕ). AreSeedsTo whole c new) (sym (behind_next 0 runs k lt)) (seeds_more whole (behind_runs 0 runs k) (run_at runs k) old new (listed_run k lt) before more)
+
+  pub seeds_all : (marks : List Bool) → length marks ≡ glyph_count_of file → AreSeedsTo whole (behind_runs 0 runs (length runs)) marks → IsSeedSet file everything marks
+  seeds_all marks count before =
+      record { count = count; seeds = seeds_end whole (behind_runs 0 runs (length runs)) marks (wanted_past file everything accepted) (no_run whole 0 runs runs_are_whole) before }

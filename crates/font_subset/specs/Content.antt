@@ -1,0 +1,23 @@
+-- The glyphs that a cut keeps, as marks (OpenType 1.9, glyf, Composite Glyph Description).
+use Rattle.std.specs.Prelude.{◌≡◌, ℕ, Bool, List, length, Option, None, Some}
+use Rattle.character_map.specs.CharacterMap.{restricted}
+use Rattle.code_sets.specs.Wanted.{member}
+use Rattle.code_sets.specs.declared.ranges.Range.{Range}
+use Rattle.font_glyph.specs.Marks.{has}
+use Rattle.font_tables.specs.Fields.{glyph_count_of}
+use Rattle.font_file.specs.Font.{map_of}
+use Rattle.font_theory.specs.Content.{everything, font_of, is_kept}
+
+-- the wanted codes: those in some ranges, or all
+abbrev pub codes_wanted : Option (List Range) → ℕ → Bool
+codes_wanted None = everything
+codes_wanted (Some ranges) = member ranges
+
+-- the character map of a file on the wanted codes
+abbrev pub wanted_map : List ℕ → Option (List Range) → ℕ → ℕ
+wanted_map file wanted = restricted (codes_wanted wanted) (map_of file)
+
+-- the glyphs that a cut keeps are marked
+pub record IsKeptSet (file : List ℕ) (wanted : ℕ → Bool) (marks : List Bool) : Type 0 where
+  pub count : length marks ≡ glyph_count_of file
+  pub kept : (g : ℕ) → has marks g ≡ is_kept (font_of file) wanted g

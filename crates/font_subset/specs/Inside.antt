@@ -1,0 +1,47 @@
+-- Words of proofs, and of contracts of calls that `font_cut` does not pass on.
+use Rattle.font_subset.specs.declared.cut_forms.CutForm.{CutForm}
+use Rattle.font_subset.specs.declared.cut_forms.CutForm.TheVariants.{Current, Not, Old}
+use Rattle.font_file.specs.Font.{map_of}
+use Rattle.font_glyph.specs.Marks.{has}
+use Rattle.character_map.specs.CharacterMap.{is_mapped, restricted}
+use Rattle.font_tables.specs.Fields.{glyph_count_of}
+use Rattle.font_theory.specs.Content.{is_seed, Content}
+use Rattle.font_theory.specs.File.{file, form_of, current_form, current_profile}
+use Rattle.font_theory.specs.declared.Profile.TheVariants as profiles
+use Rattle.font_write.specs.Plan.{IsPlan}
+use Rattle.font_write.specs.declared.plan.Plan.{Plan}
+use Rattle.sfnt_bytes.specs.declared.directory.TheConstants.{MAX_FILE}
+use Rattle.std.specs.Prelude.{◌≡◌, ◌≢◌, ℕ, ◌+◌, ◌<◌, ◌≤◌, ◌⊎◌, ◌↔◌, nat_lt, ◌&&◌, Bool, true, List, length}
+
+-- the n glyphs from a given one on are marked, beside those that were
+pub record AreMarked (old new : List Bool) (low n : ℕ) : Type 0 where
+  pub count : length new ≡ length old
+  pub marked : (g : ℕ) → has new g ≡ true ↔ ((low ≤ g) × (g < low + n)) ⊎ (has old g ≡ true)
+
+-- .notdef and the glyphs of the wanted codes are marked
+pub record IsSeedSet (file : List ℕ) (wanted : ℕ → Bool) (marks : List Bool) : Type 0 where
+  pub count : length marks ≡ glyph_count_of file
+  pub seeds : (g : ℕ) → has marks g ≡ is_seed (restricted wanted (map_of file)) g
+
+-- .notdef and the glyphs of the codes below a given one are marked
+pub record AreSeedsTo (m : ℕ → ℕ) (from : ℕ) (marks : List Bool) : Type 0 where
+  pub zero : has marks 0 ≡ true
+  pub codes : (c : ℕ) → c < from → has marks (m c) ≡ true
+  pub only : (g : ℕ) → has marks g ≡ true → (g ≡ 0) ⊎ ((c : ℕ) × (m c ≡ g))
+
+-- a set has the mapped codes below a given one, and no others
+abbrev pub AreMappedTo : (ℕ → ℕ) → ℕ → (ℕ → Bool) → Type 0
+AreMappedTo m from w = (c : ℕ) → w c ≡ (nat_lt c from && is_mapped m c)
+
+-- a file is that of a content as it is written, or as it was written before, or neither
+abbrev pub IsFileIn : Content → List ℕ → CutForm → Type 0
+IsFileIn K X Current = X ≡ file current_form K
+IsFileIn K X Old = X ≡ file (form_of profiles.First) K
+IsFileIn K X Not = (X ≢ file current_form K) × (X ≢ file (form_of profiles.First) K)
+
+-- the plan of the file of a content, and its length, which is not too large
+pub record IsMeasured (K : Content) (measured : Plan × ℕ) : Type 0 where
+  pub plan : IsPlan K measured.0
+  pub profile : measured.0.profile ≡ current_profile
+  pub size : measured.1 ≡ length (file current_form K)
+  pub small : length (file current_form K) ≤ MAX_FILE

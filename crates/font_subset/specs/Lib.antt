@@ -1,0 +1,5 @@
+pub mod Content
+pub mod Cut
+pub mod Inside
+pub mod ListedRuns
+pub mod Text

@@ -1,0 +1,191 @@
+//! The cut of a font for a wanted set, in memory or sent: a font file in its turn. OpenType 1.9,
+//! Organization of an OpenType Font.
+ghost use Rattle.std.specs.Prelude.{◌≡◌, ◌≤◌, length, false, true, IfErr, IfOk, IsSome, MatchResult, OnOk};
+ghost use Rattle.sfnt_bytes.specs.declared.directory.TheConstants.{MAX_FILE};
+ghost use Rattle.code_sets.specs.Wanted.{member};
+ghost use Rattle.font_subset.specs.Cut.{IsCutRefusal, IsSound, IsWritten, StopsCut, cut_of};
+ghost use Rattle.outlet.specs.Outlet.{HasSent, WentOut, broken_of, fresh_of, writer_of};
+ghost use Rattle.font_subset.specs.declared.cut_font.CutError.TheVariants.{NoMemory as CutNoMemory};
+ghost use Rattle.font_subset.specs.declared.cut_font.CutIntoError.TheVariants.{NoMemory as IntoNoMemory};
+ghost use Rattle.font_subset.specs.Text.{cut_error_number, cut_into_error_number};
+
+use crate::cut_source::{CutOf, accepted};
+use crate::emit::{file_in_memory, send_whole};
+use font_file::Font;
+use font_map::Wanted;
+use outlet::Outlet;
+use sfnt_bytes::NoMemory;
+use std::alloc::Allocator;
+use std::io::Write;
+use thiserror::Error;
+
+/// Why no cut is made.
+#[derive(Clone, Copy, Debug, PartialEq, Eq, Error)]
+pub enum CutError {
+    /// Memory was refused.
+    #[error("no memory")]
+    NoMemory,
+    /// The cut would have so many bytes, more than [`MAX_FILE`](crate::MAX_FILE).
+    #[error("too large {0}")]
+    TooLarge(u64),
+}
+
+impl CutError {
+    /// Returns the number of the refusal, 16 or 18.
+    pub fn number(&self) -> u8
+        ensures { result ≡ cut_error_number self.now }
+    {
+        match self {
+            CutError::NoMemory => 16,
+            CutError::TooLarge(_) => 18,
+        }
+    }
+}
+
+/// Why a cut is not sent.
+#[derive(Clone, Copy, Debug, PartialEq, Eq, Error)]
+pub enum CutIntoError {
+    /// Memory was refused. Nothing was sent.
+    #[error("no memory")]
+    NoMemory,
+    /// The cut would have so many bytes, more than [`MAX_FILE`](crate::MAX_FILE). Nothing was sent.
+    #[error("too large {0}")]
+    TooLarge(u64),
+    /// A write failed after so many bytes.
+    #[error("write fault after {0}")]
+    WriteFault(u64),
+}
+
+impl CutIntoError {
+    /// Returns the number of the refusal, 16, 18 or 19.
+    pub fn number(&self) -> u8
+        ensures { result ≡ cut_into_error_number self.now }
+    {
+        match self {
+            CutIntoError::NoMemory => 16,
+            CutIntoError::TooLarge(_) => 18,
+            CutIntoError::WriteFault(_) => 19,
+        }
+    }
+}
+
+impl From<NoMemory> for CutError {
+    ghost from_gives = { λ held error. error ≡ CutNoMemory };
+
+    fn from(_error: NoMemory) -> CutError {
+        CutError::NoMemory
+    }
+}
+
+impl From<NoMemory> for CutIntoError {
+    ghost from_gives = { λ held error. error ≡ IntoNoMemory };
+
+    fn from(_error: NoMemory) -> CutIntoError {
+        CutIntoError::NoMemory
+    }
+}
+
+// Returns the cut, or the refusal that applies.
+#[tactic(auto, using(crate::proofs::CutLemmas::cut_of_is))]
+fn cut_exactly<A: Allocator + Copy>(
+    alloc: A,
+    font: &Font<'_>,
+    wanted: &Wanted<A>,
+) -> Result<Vec<u8, A>, CutError>
+    ensures { MatchResult result (λ v. IsWritten (cut_of font.now (member wanted.now)) v.items)
+        (IsCutRefusal (cut_of font.now (member wanted.now))) }
+{
+    let source = CutOf::new(alloc, font, wanted)?;
+    file_in_memory(alloc, &source)
+}
+
+/// Returns the cut of a font for the wanted codes, as one file in a vector of just its size. Every glyph
+/// keeps its number; `docs/FORMAT.md` has the format.
+///
+/// # Errors
+///
+/// `NoMemory` where memory is refused, and `TooLarge` where the cut would have more than
+/// [`MAX_FILE`](crate::MAX_FILE) bytes.
+///
+/// # Example
+///
+/// From `cut_of` in `sample_cuts`, by which the tests of `cut_tests` make their cuts:
+///
+/// ```
+/// let font = Font::open(file)?;
+/// let wanted = wanted_of(alloc, ranges)?;
+/// let made = cut(alloc, &font, &wanted)?;
+/// Ok(made)
+/// ```
+pub fn cut<A: Allocator + Copy>(
+    alloc: A,
+    font: &Font<'_>,
+    wanted: &Wanted<A>,
+) -> Result<Vec<u8, A>, CutError>
+    ensures exact { MatchResult result (λ v. v.items ≡ cut_of font.now (member wanted.now))
+        (IsCutRefusal (cut_of font.now (member wanted.now))) }
+    ensures small { IfOk result (λ v. length v.items ≤ MAX_FILE) }
+    ensures sound { IfOk result (λ v. IsSound font.now (member wanted.now) v.items) }
+{
+    accepted(font);
+    cut_exactly(alloc, font, wanted)
+}
+
+// Sends the cut, or answers the refusal that applies.
+#[tactic(auto, using(crate::proofs::CutLemmas::cut_of_is))]
+fn cut_into_exactly<W: Write, A: Allocator + Copy>(
+    alloc: A,
+    font: &Font<'_>,
+    wanted: &Wanted<A>,
+    out: &mut Outlet<W>,
+) -> Result<u64, CutIntoError>
+    requires { fresh_of out.old ≡ true }
+    ensures size { IfOk result (λ size. size ≡ length (cut_of font.now (member wanted.now))) }
+    ensures small { OnOk result (length (cut_of font.now (member wanted.now)) ≤ MAX_FILE) }
+    ensures sends { OnOk result (WentOut W.contents out.old out.new (cut_of font.now (member wanted.now))) }
+    ensures unbroken { OnOk result (broken_of out.new ≡ false) }
+    ensures stops { IfErr result (StopsCut W.contents out.old out.new (cut_of font.now (member wanted.now))) }
+{
+    let source = CutOf::new(alloc, font, wanted)?;
+    send_whole(&source, out)
+}
+
+/// Sends the cut of a font for the wanted codes, and returns how many bytes it has. All memory is asked
+/// for before the first write: that for the glyphs that it keeps, and none for the cut itself. The cut
+/// is sent in short pieces, so a writer that costs something at each call should gather them.
+///
+/// # Errors
+///
+/// `NoMemory` and `TooLarge` as those of [`cut`]: nothing was sent. `WriteFault` where a write failed:
+/// the outlet is broken, and a front of the cut went out.
+///
+/// # Example
+///
+/// From the test `sends_the_cut` of `cut_tests`:
+///
+/// ```
+/// let font = Font::open(&BASE6)?;
+/// let wanted = wanted_of(rt.alloc(), &[(0xC1, 0xC1)])?;
+/// let mut outlet = Outlet::new(Vec::new(rt.alloc()));
+/// let answer = cut_into(rt.alloc(), &font, &wanted, &mut outlet);
+/// assert_eq!(rt; outlet.into_inner().as_slice(), AACUTE.as_slice());
+/// ```
+pub fn cut_into<W: Write, A: Allocator + Copy>(
+    alloc: A,
+    font: &Font<'_>,
+    wanted: &Wanted<A>,
+    out: &mut Outlet<W>,
+) -> Result<u64, CutIntoError>
+    requires { fresh_of out.old ≡ true }
+    ensures size { IfOk result (λ size. size ≡ length (cut_of font.now (member wanted.now))) }
+    ensures small { OnOk result (length (cut_of font.now (member wanted.now)) ≤ MAX_FILE) }
+    ensures sent { OnOk result (IsSome (W.contents (writer_of out.old)) →
+        HasSent W.contents out.new (cut_of font.now (member wanted.now))) }
+    ensures sends { OnOk result (WentOut W.contents out.old out.new (cut_of font.now (member wanted.now))) }
+    ensures unbroken { OnOk result (broken_of out.new ≡ false) }
+    ensures stops { IfErr result (StopsCut W.contents out.old out.new (cut_of font.now (member wanted.now))) }
+    ensures sound { OnOk result (IsSound font.now (member wanted.now) (cut_of font.now (member wanted.now))) }
+{
+    accepted(font);
+    cut_into_exactly(alloc, font, wanted, out)
+}

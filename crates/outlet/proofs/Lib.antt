@@ -1,0 +1,2 @@
+pub mod OutletLemmas
+pub mod SinkLemmas

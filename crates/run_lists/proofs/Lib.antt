@@ -1,0 +1,3 @@
+pub mod StretchLemmas
+pub mod UnionMapLemmas
+pub mod RunListLemmas
