@@ -39,6 +39,8 @@ struct Report<A: Allocator> {
 }
 
 impl<A: Allocator> Report<A> {
+    // It stands apart, for its search for findings has 120 KB on the stack, which no other run is to touch.
+    #[inline(never)]
     fn of(alloc: A, file: &[u8]) -> Result<Report<A>, AllocError>
         ensures findings { IfOk result (λ report. shown_findings report ≡ read_findings file.now) }
         ensures fault { IfOk result (λ report. report.fault ≡ font_fault file.now) }

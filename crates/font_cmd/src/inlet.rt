@@ -14,7 +14,12 @@ const LIMIT: usize = MAX_FILE as usize + 1;
 
 // The most bytes of one read. It goes to the stack and is copied from there: room in a vector must be
 // filled with zeros before it is read into, and a vector that doubles by zeros touches twice the pages.
-const PIECE: usize = 64 * 1024;
+// It is short, for in a small font the first touch of a page costs more than reading it.
+const PIECE: usize = 16 * 1024;
+
+// The bytes that there is room for at first. The C library lets a block of this size grow by mapping its
+// pages elsewhere, where it copies a smaller one.
+const ROOM: usize = 256 * 1024;
 
 /// Why a reader was not read to its end.
 #[derive(Clone, Copy, Debug, PartialEq, Eq)]
@@ -110,6 +115,8 @@ impl<R: Read> Inlet<R> {
     /// # Errors
     /// `ReadFault` where a read fails, with the count of the bytes that had come; the inlet is broken.
     /// `NoMemory` where the bytes have no room; the inlet is not broken.
+    // It stands apart, so that its array is on the stack once, and not for each inlet of a caller.
+    #[inline(never)]
     pub fn read_all<A: Allocator>(&mut self, alloc: A) -> Result<Vec<u8, A>, ReadError>
         requires { inlet_fresh_of self.old ≡ true }
         ensures spent { inlet_fresh_of self.new ≡ false }
@@ -125,7 +132,10 @@ impl<R: Read> Inlet<R> {
         ensures error { IfErr result (StopsAs R.remaining self.old self.new) }
     {
         self.state = State::Spent;
-        let mut bytes = Vec::new(alloc);
+        let mut bytes = match Vec::with_capacity(alloc, ROOM) {
+            Ok(bytes) => bytes,
+            Err(_) => return Err(ReadError::NoMemory),
+        };
         let mut piece = [0u8; PIECE];
         while bytes.len() < LIMIT {
             let most = PIECE.min(LIMIT - bytes.len());

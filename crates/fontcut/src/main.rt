@@ -32,10 +32,16 @@ fn words_of_line(rt: &(impl Env + AllocGlobal), alloc: Global) -> io::Result<Vec
     Ok(words_after_name(alloc, all)?)
 }
 
+// Returns so many zeros. The prover is slow where their number is written out.
+fn zeros(alloc: Global, count: usize) -> Result<Vec<u8>, AllocError> {
+    vec![in alloc; 0; count]
+}
+
 // Returns the number of the first argument that is not UTF-8, counted from 1 behind the program's name,
-// where `--verbose` stands before it.
-fn unreadable_argument(rt: &impl Env) -> Option<usize> {
-    let mut bytes = [0u8; LONGEST];
+// where `--verbose` stands before it and memory is not refused.
+fn unreadable_argument(rt: &impl Env, alloc: Global) -> Option<usize> {
+    // An array on the stack would be touched at the start of each run.
+    let mut bytes = zeros(alloc, LONGEST).ok()?;
     let mut is_verbose = false;
     for i in 1..usize::MAX {
         let Ok(length) = rt.arg(i, &mut bytes) else {
@@ -90,7 +96,7 @@ fn main(rt: HostRuntime) -> ExitCode {
             ExitCode::from(1)
         }
         Err(_) => {
-            say_unreadable(alloc, &mut err, unreadable_argument(&rt));
+            say_unreadable(alloc, &mut err, unreadable_argument(&rt, alloc));
             ExitCode::from(2)
         }
     }

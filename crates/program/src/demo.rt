@@ -5,6 +5,9 @@ use font_cut::{BASE6, Directory, Font, Outlet};
 use std::alloc::{AllocError, Global};
 
 // Returns a line for the file, one for each table, and the number of findings.
+//
+// It stands apart, as the search for findings in `check` does.
+#[inline(never)]
 fn described(alloc: Global, directory: &Directory<'_>) -> Result<String, AllocError> {
     let size = directory.file().len();
     let mut text = String::new(alloc);

@@ -23,7 +23,7 @@ use std::io::{BufWriter, Read, Write};
 use std::rt::Files;
 
 // The bytes that are gathered for one write of a file: a cut is made of many short pieces.
-const BLOCK: usize = 64 * 1024;
+const BLOCK: usize = 16 * 1024;
 
 // The name in the place of a path where a report cannot be written.
 const STANDARD_OUTPUT: &str = "standard output";

@@ -6,7 +6,7 @@ use std::alloc::{AllocError, Global};
 use std::io::Read;
 
 // The most bytes of one read.
-const PIECE: usize = 64 * 1024;
+const PIECE: usize = 16 * 1024;
 
 // The longest word that is held. A range word has at most 15 letters.
 const LONGEST: usize = 64;
