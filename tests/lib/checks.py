@@ -6,7 +6,9 @@ import sys
 
 TOP = os.path.dirname(os.path.dirname(os.path.dirname(os.path.abspath(__file__))))
 FONTCUT = os.path.join(TOP, "fontcut")
-PROGRAM = os.path.join(TOP, "crates", "fontcut", "out", "fontcut")
+PROGRAM = os.path.join(TOP, "crates", "fontcut", "out", "bin", "fontcut")
+# The same proved code as rt links it, with the C library of the machine: a library can stand before that.
+DYNAMIC = os.path.join(TOP, "crates", "fontcut", "out", "fontcut")
 
 DEJAVU = "/usr/share/fonts/truetype/dejavu"  # Debian's package fonts-dejavu-core
 LIBERATION = "/usr/share/fonts/truetype/liberation2"  # Debian's package fonts-liberation2
