@@ -1,5 +1,5 @@
 //! What `--report` tells of a font: the wanted codes that it lacks, and the tables that a cut of it drops.
-use crate::code_set::CodeSet;
+use crate::code_set::{CodeSet, count_of};
 use font_cut::{Chart, Font};
 use std::alloc::{AllocError, Global};
 
@@ -72,12 +72,14 @@ impl Coverage {
         font: &Font<'_>,
         wanted: &CodeSet,
     ) -> Result<Coverage, AllocError> {
-        let unmapped = wanted.without(alloc, &mapped_codes(alloc, font)?)?;
-        let (count, lacking) = (wanted.count(), unmapped.count());
+        let unmapped = wanted
+            .without(alloc, &mapped_codes(alloc, font)?)?
+            .ranges(alloc)?;
+        let (count, lacking) = (count_of(&wanted.ranges(alloc)?), count_of(&unmapped));
         let mapped = count.saturating_sub(lacking);
         let mut text = String::new(alloc);
         write!(text, "wanted {count}\nmapped {mapped}\n")?;
-        add_unmapped(&mut text, &unmapped.ranges(alloc)?)?;
+        add_unmapped(&mut text, &unmapped)?;
         add_font(&mut text, font)?;
         text.reserve(LAST_LINE.len())?;
         Ok(Coverage {

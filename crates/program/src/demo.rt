@@ -1,5 +1,5 @@
 //! `demo`: what is found in the font that the program carries, and what its cuts come to.
-use crate::wanted::{codes_of, wanted_of};
+use crate::wanted::codes_of;
 use font_cmd::{Inlet, RunError, run_join, run_subset};
 use font_cut::{BASE6, Directory, Font, Outlet};
 use std::alloc::{AllocError, Global};
@@ -35,7 +35,7 @@ fn add_cut(alloc: Global, text: &mut String, words: &[&str]) -> Result<Vec<u8>, 
     let Ok(codes) = codes_of(alloc, &[], words) else {
         return Err(RunError::Memory);
     };
-    let Ok(wanted) = wanted_of(alloc, &codes) else {
+    let Ok(wanted) = codes.into_wanted(alloc) else {
         return Err(RunError::Memory);
     };
     let mut outlet = Outlet::new(Vec::new(alloc));

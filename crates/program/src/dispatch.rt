@@ -10,7 +10,7 @@ use crate::inputs::{opened, opened_each, sources};
 use crate::out_file::{OutFile, Target};
 use crate::report::{Fault, no_memory};
 use crate::system::{Heard, System};
-use crate::wanted::{add_files, codes_of, wanted_of};
+use crate::wanted::{add_files, codes_of};
 use crate::wanted_files::Listed;
 use command_line::{Join, Line, LineError, STANDARD, Subset, Task, parse};
 use font_cmd::{
@@ -226,7 +226,7 @@ fn cut_and_told<'a, F: Files, I, O: Write + Copy + Drop, R: Read>(
     system: &System<'a, F, I, O>,
     line: &Subset<'a>,
     inlet: &mut Inlet<R>,
-    codes: &CodeSet,
+    codes: CodeSet,
 ) -> Result<Answer, Fault<'a>>
     requires { inlet_fresh_of inlet.old ≡ true }
 {
@@ -236,7 +236,7 @@ fn cut_and_told<'a, F: Files, I, O: Write + Copy + Drop, R: Read>(
         Err(error) => return Err(Fault::of_run(line.font, line.out, RunError::from(error))),
     };
     let coverage = match Font::open(&file) {
-        Ok(font) => Coverage::of(alloc, &font, codes),
+        Ok(font) => Coverage::of(alloc, &font, &codes),
         Err(error) => return Err(Fault::Refused(RunError::Font(error))),
     };
     let Ok(coverage) = coverage else {
@@ -245,7 +245,9 @@ fn cut_and_told<'a, F: Files, I, O: Write + Copy + Drop, R: Read>(
     if line.is_strict && !coverage.is_full() {
         return Ok(Answer::telling(false, coverage.into_text()));
     }
-    let wanted = wanted_of(alloc, codes)?;
+    let Ok(wanted) = codes.into_wanted(alloc) else {
+        return Err(no_memory());
+    };
     let size = cut(system, line, &mut Inlet::new(file.as_slice()), &wanted)?;
     if !line.reports {
         return Ok(Answer::of(true));
@@ -275,9 +277,11 @@ fn subset<'a, F: Files, I: Read + Copy + Drop, O: Write + Copy + Drop>(
     )?;
     add_files(alloc, words, &line.code_files, Listed::Words, &mut codes)?;
     if line.reports || line.is_strict {
-        return cut_and_told(system, line, &mut inlet, &codes);
+        return cut_and_told(system, line, &mut inlet, codes);
     }
-    let wanted = wanted_of(alloc, &codes)?;
+    let Ok(wanted) = codes.into_wanted(alloc) else {
+        return Err(no_memory());
+    };
     cut(system, line, &mut inlet, &wanted)?;
     Ok(Answer::of(true))
 }

@@ -1,8 +1,8 @@
-//! The wanted set of a command line: the ranges of its words and files, and the characters of its texts.
+//! The wanted codes of a command line: the ranges of its words and files, and the characters of its texts.
 use crate::code_set::CodeSet;
 use crate::report::{Fault, no_memory};
 use crate::wanted_files::{Listed, Stopped, add_listed};
-use font_cut::{Wanted, read_word};
+use font_cut::read_word;
 use std::alloc::{AllocError, Global};
 use std::io::Read;
 
@@ -67,25 +67,4 @@ pub(crate) fn add_files<'a, R: Read + Drop>(
         }
     }
     Ok(())
-}
-
-/// Returns a set of codes as a wanted set.
-///
-/// The ranges are added in rising order, so that each goes behind those that are there: of a hundred
-/// thousand ranges in falling order each one would move all others.
-///
-/// # Errors
-/// `Refused` where memory is.
-pub(crate) fn wanted_of(alloc: Global, codes: &CodeSet) -> Result<Wanted, Fault<'static>> {
-    let Ok(ranges) = codes.ranges(alloc) else {
-        return Err(no_memory());
-    };
-    let mut wanted = Wanted::new(alloc);
-    for (first, last) in ranges {
-        // These are good ranges, so only memory can be refused.
-        if wanted.add(first, last).is_err() {
-            return Err(no_memory());
-        }
-    }
-    Ok(wanted)
 }

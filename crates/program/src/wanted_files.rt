@@ -55,6 +55,11 @@ struct Reading<'a> {
     word: String,
 }
 
+// Returns whether a byte of a file of words stands between words.
+fn parts_words(byte: u8) -> bool {
+    matches!(byte, b'\n' | b'\r' | b'\t' | b' ' | b',' | b'#')
+}
+
 impl<'a> Reading<'a> {
     fn new(
         alloc: Global,
@@ -145,13 +150,61 @@ impl<'a> Reading<'a> {
         Ok(())
     }
 
+    // Adds the range of the word that begins at a place of a text, where it stands there whole and names
+    // one, and returns how many bytes are done with, its line end among them. Else none is.
+    fn take_whole_word(&mut self, text: &str, at: usize) -> Result<usize, Stopped> {
+        let is_inside = self.is_comment || self.utf8.is_inside() || !self.word.is_empty();
+        let rest = text.as_bytes().get(at..).unwrap_or(&[]);
+        if is_inside || rest.first() != Some(&b'U') {
+            return Ok(0);
+        }
+        let Some(length) = rest
+            .iter()
+            .take(LONGEST)
+            .position(|&byte| parts_words(byte))
+        else {
+            return Ok(0);
+        };
+        let Some(word) = text.get(at..at.saturating_add(length)) else {
+            return Ok(0);
+        };
+        let Ok((first, last)) = read_word(word) else {
+            return Ok(0);
+        };
+        self.is_new = false;
+        self.codes.add_range(first, last)?;
+        if rest.get(length) != Some(&b'\n') {
+            return Ok(length);
+        }
+        self.line = self.line.saturating_add(1);
+        Ok(length.saturating_add(1))
+    }
+
+    fn take_byte(&mut self, byte: u8) -> Result<(), Stopped> {
+        match self.utf8.take(byte) {
+            Ok(Some(letter)) => self.take_letter(letter),
+            Ok(None) => Ok(()),
+            Err(_) => Err(self.bad_line(None)),
+        }
+    }
+
     fn take(&mut self, bytes: &[u8]) -> Result<(), Stopped> {
-        for &byte in bytes {
-            match self.utf8.take(byte) {
-                Ok(Some(letter)) => self.take_letter(letter)?,
-                Ok(None) => {}
-                Err(_) => return Err(self.bad_line(None)),
+        // Bytes that end within a character go letter by letter, as all do of a file of characters.
+        let text = match self.listed {
+            Listed::Words => str::from_utf8(bytes).unwrap_or(""),
+            Listed::Characters => "",
+        };
+        let mut at: usize = 0;
+        for _ in 0..bytes.len() {
+            let Some(&byte) = bytes.get(at) else {
+                break;
+            };
+            let mut done = self.take_whole_word(text, at)?;
+            if done == 0 {
+                self.take_byte(byte)?;
+                done = 1;
             }
+            at = at.saturating_add(done);
         }
         Ok(())
     }
