@@ -53,11 +53,12 @@ fn read_codes(text: &str) -> Option<(u32, u32)>
     ensures { MatchOption result ((first last : ℕ) → WritesCodes text.now first last → ⊥)
         (λ range. WritesCodes text.now range.0 range.1) }
 {
-    let Some((first, last)) = text.split_once('-') else {
-        let Some(code) = read_code(text) else {
-            return None;
-        };
+    // Most words name one code: in these no `-` is looked for.
+    if let Some(code) = read_code(text) {
         return Some((code, code));
+    }
+    let Some((first, last)) = text.split_once('-') else {
+        return None;
     };
     let Some(first) = read_code(first) else {
         return None;

@@ -13,6 +13,11 @@ pub const VERSION: &str = "0.9.0";
 /// The word that stands for standard input where a file is read, and for standard output as OUT.
 pub const STANDARD: &str = "-";
 
+// The names of the subcommands, in the order in which help lists them.
+const SUBCOMMANDS: [&str; 7] = [
+    "check", "show", "codes", "belongs", "subset", "join", "demo",
+];
+
 /// A command line.
 #[derive(Debug, Drop)]
 pub struct Line<'a> {
@@ -84,11 +89,16 @@ pub enum LineError {
     InputTwice,
 }
 
+// Returns an argument that has to be there.
+fn required<'a>(alloc: Global, id: &'a str) -> Arg<'a> {
+    Arg::new(alloc, id).required(true)
+}
+
 // Returns a subcommand over one font.
 fn over_font<'a>(alloc: Global, name: &'a str, about: &'a str) -> Result<Command<'a>, AllocError> {
-    Command::new(alloc, name)
-        .about(about)
-        .arg(Arg::new(alloc, "FONT").required(true))
+    let font = required(alloc, "FONT");
+    let command = Command::new(alloc, name).about(about);
+    command.arg(font)
 }
 
 // Returns an option that takes one value and is used as often as wanted.
@@ -144,11 +154,26 @@ fn join_command<'a>(alloc: Global) -> Result<Command<'a>, AllocError> {
         .arg(files)
 }
 
-fn command<'a>(alloc: Global) -> Result<Command<'a>, AllocError> {
-    let check = over_font(alloc, "check", texts::CHECK)?.after_help(texts::AFTER_CHECK);
-    let show = over_font(alloc, "show", texts::SHOW)?.after_help(texts::AFTER_SHOW);
-    let codes = over_font(alloc, "codes", texts::CODES)?.after_help(texts::AFTER_CODES);
-    let demo = Command::new(alloc, "demo").about(texts::DEMO);
+fn demo_command<'a>(alloc: Global) -> Command<'a> {
+    Command::new(alloc, "demo").about(texts::DEMO)
+}
+
+// Returns the subcommand of a name, if there is one.
+fn subcommand<'a>(alloc: Global, name: &str) -> Result<Option<Command<'a>>, AllocError> {
+    Ok(Some(match name {
+        "check" => over_font(alloc, "check", texts::CHECK)?.after_help(texts::AFTER_CHECK),
+        "show" => over_font(alloc, "show", texts::SHOW)?.after_help(texts::AFTER_SHOW),
+        "codes" => over_font(alloc, "codes", texts::CODES)?.after_help(texts::AFTER_CODES),
+        "belongs" => belongs_command(alloc)?.after_help(texts::AFTER_BELONGS),
+        "subset" => subset_command(alloc)?.after_help(texts::AFTER_SUBSET),
+        "join" => join_command(alloc)?.after_help(texts::AFTER_JOIN),
+        "demo" => demo_command(alloc).after_help(texts::AFTER_DEMO),
+        _ => return Ok(None),
+    }))
+}
+
+// Returns the program's command, which has no subcommand yet.
+fn bare_command<'a>(alloc: Global) -> Result<Command<'a>, AllocError> {
     Command::new(alloc, "fontcut")
         .bin_name("fontcut")?
         .version(VERSION)
@@ -156,14 +181,18 @@ fn command<'a>(alloc: Global) -> Result<Command<'a>, AllocError> {
         .after_help(texts::AFTER_PROGRAM)
         .no_binary_name(true)
         .subcommand_required(true)
-        .arg(flag(alloc, "verbose", texts::VERBOSE).global(true))?
-        .subcommand(check)?
-        .subcommand(show)?
-        .subcommand(codes)?
-        .subcommand(belongs_command(alloc)?.after_help(texts::AFTER_BELONGS))?
-        .subcommand(subset_command(alloc)?.after_help(texts::AFTER_SUBSET))?
-        .subcommand(join_command(alloc)?.after_help(texts::AFTER_JOIN))?
-        .subcommand(demo.after_help(texts::AFTER_DEMO))
+        .arg(flag(alloc, "verbose", texts::VERBOSE).global(true))
+}
+
+// Returns the program's command with all subcommands, in the order in which help lists them.
+fn whole_command<'a>(alloc: Global) -> Result<Command<'a>, AllocError> {
+    let mut command = bare_command(alloc)?;
+    for name in SUBCOMMANDS {
+        if let Some(one) = subcommand(alloc, name)? {
+            command = command.subcommand(one)?;
+        }
+    }
+    Ok(command)
 }
 
 // Returns what an error of `clap` comes to, by which it also answers a call for help or the version.
@@ -240,8 +269,8 @@ fn task_of<'a>(
     })
 }
 
-fn parse_line<'a>(alloc: Global, words: &'a [String]) -> Result<Option<Line<'a>>, Error> {
-    let matches = command(alloc)?.try_get_matches_from(words)?;
+// Returns what a line asks for, by what `clap` found in it.
+fn line_of<'a>(alloc: Global, matches: &ArgMatches<'a>) -> Result<Option<Line<'a>>, AllocError> {
     let Some((name, inner)) = matches.subcommand() else {
         return Ok(None);
     };
@@ -250,6 +279,32 @@ fn parse_line<'a>(alloc: Global, words: &'a [String]) -> Result<Option<Line<'a>>
         Some(task) => Ok(Some(Line { task, is_verbose })),
         None => Ok(None),
     }
+}
+
+// Returns what is found in a line by the one subcommand that its first word names. There is nothing where
+// it names none, or where the line is at fault or asks for help.
+fn matched_alone<'a>(alloc: Global, words: &'a [String]) -> Result<Option<ArgMatches<'a>>, Error> {
+    let name = words.first().map_or("", |word| word.as_str());
+    let Some(alone) = subcommand(alloc, name)? else {
+        return Ok(None);
+    };
+    match bare_command(alloc)?
+        .subcommand(alone)?
+        .try_get_matches_from(words)
+    {
+        Ok(matches) => Ok(Some(matches)),
+        Err(fault) if fault.kind() == ErrorKind::OutOfMemory => Err(fault),
+        Err(_) => Ok(None),
+    }
+}
+
+// All subcommands take longer to make than most lines to read, and only help and faults tell of them.
+fn parse_line<'a>(alloc: Global, words: &'a [String]) -> Result<Option<Line<'a>>, Error> {
+    let matches = match matched_alone(alloc, words)? {
+        Some(matches) => matches,
+        None => whole_command(alloc)?.try_get_matches_from(words)?,
+    };
+    Ok(line_of(alloc, &matches)?)
 }
 
 // Returns how many of some paths stand for standard input.

@@ -19,17 +19,15 @@ const UNREADABLE: &str = "fontcut: a word of the line is not UTF-8\n";
 const LONGEST: usize = 128 * 1024;
 
 // Returns the words after the program's own name, or `demo` where there is none.
-fn words_after_name(alloc: Global, all: Vec<String>) -> Result<Vec<String>, AllocError> {
-    let mut words: Vec<String> = all.into_iter().skip(1).collect(alloc)?;
+fn words_of_line(rt: &(impl Env + AllocGlobal), alloc: Global) -> io::Result<Vec<String>> {
+    let mut words: Vec<String> = env::args(rt)?.collect(alloc)?;
+    if !words.is_empty() {
+        words.remove(0);
+    }
     if words.is_empty() {
         words.push(String::from_str(alloc, "demo")?)?;
     }
     Ok(words)
-}
-
-fn words_of_line(rt: &(impl Env + AllocGlobal), alloc: Global) -> io::Result<Vec<String>> {
-    let all = env::args(rt)?.collect(alloc)?;
-    Ok(words_after_name(alloc, all)?)
 }
 
 // Returns so many zeros. The prover is slow where their number is written out.

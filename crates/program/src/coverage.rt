@@ -1,5 +1,5 @@
 //! What `--report` tells of a font: the wanted codes that it lacks, and the tables that a cut of it drops.
-use crate::code_set::{CodeSet, count_of};
+use code_files::{CodeSet, count_of};
 use font_cut::{Chart, Font};
 use std::alloc::{AllocError, Global};
 

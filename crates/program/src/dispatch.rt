@@ -3,20 +3,19 @@ ghost use Rattle.std.specs.Prelude.{◌≡◌, IfOk, true};
 ghost use Rattle.font_cmd.specs.Inlet.{inlet_fresh_of};
 ghost use Rattle.outlet.specs.Outlet.{fresh_of};
 
-use crate::code_set::CodeSet;
 use crate::coverage::Coverage;
 use crate::demo::demo_text;
 use crate::inputs::{opened, opened_each, sources};
-use crate::out_file::{OutFile, Target};
 use crate::report::{Fault, no_memory};
 use crate::system::{Heard, System};
 use crate::wanted::{add_files, codes_of};
-use crate::wanted_files::Listed;
+use code_files::{CodeSet, Listed};
 use command_line::{Join, Line, LineError, STANDARD, Subset, Task, parse};
 use font_cmd::{
     Inlet, RunError, run_belongs, run_check, run_codes, run_join, run_show, run_subset,
 };
 use font_cut::{Font, Outlet, Wanted};
+use out_file::{OutFile, Target};
 use std::alloc::{AllocError, Global};
 use std::io;
 use std::io::{BufWriter, Read, Write};

@@ -1,6 +1,6 @@
 //! Why the program does not do what a line asks for.
 use crate::inputs::input_name;
-use crate::out_file::output_name;
+use command_line::STANDARD;
 use font_cmd::RunError;
 use font_cut::{JoinAllError, Which};
 use std::fmt;
@@ -50,6 +50,15 @@ impl<'a> Fault<'a> {
 /// Returns that memory is refused.
 pub(crate) fn no_memory() -> Fault<'static> {
     Fault::Refused(RunError::Memory)
+}
+
+// Returns what messages call the output at a path.
+fn output_name(path: &str) -> &str {
+    if path == STANDARD {
+        "standard output"
+    } else {
+        path
+    }
 }
 
 // Returns the place of one of two files, counted from one.

@@ -1,7 +1,6 @@
 //! The wanted codes of a command line: the ranges of its words and files, and the characters of its texts.
-use crate::code_set::CodeSet;
 use crate::report::{Fault, no_memory};
-use crate::wanted_files::{Listed, Stopped, add_listed};
+use code_files::{CodeSet, Listed, Stopped, add_listed};
 use font_cut::read_word;
 use std::alloc::{AllocError, Global};
 use std::io::Read;

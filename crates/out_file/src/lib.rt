@@ -1,5 +1,7 @@
 //! Files that are written. A regular file is replaced whole: its bytes are gathered in a new file beside it.
-use command_line::STANDARD;
+//! This project's own. It is safe and returns, and tests show the rest.
+#![tactic(auto)]
+
 use std::alloc::{AllocError, Global};
 use std::fs::OpenOptions;
 use std::io::{ErrorKind, Write};
@@ -25,7 +27,7 @@ const HANDLES: [&str; 2] = ["/proc/", "/dev/fd/"];
 /// Where a regular file or none stands at the path, a new file beside it takes the bytes, and `place`
 /// gives it the path's name. It is removed where it is dropped before that. A device, a pipe, and a file
 /// in a folder that takes no new file are written to directly.
-pub(crate) struct OutFile<'a, F: Files> {
+pub struct OutFile<'a, F: Files> {
     files: &'a F,
     // The path with the links at its end followed.
     path: PathBuf,
@@ -82,11 +84,7 @@ fn longest_beside(alloc: Global, path: &PathBuf) -> Result<PathBuf, AllocError> 
 impl<'a, F: Files> OutFile<'a, F> {
     /// Returns the file at a path, at which nothing is changed yet. All memory that it needs is asked
     /// for here.
-    pub(crate) fn new(
-        files: &'a F,
-        alloc: Global,
-        path: &str,
-    ) -> Result<OutFile<'a, F>, AllocError> {
+    pub fn new(files: &'a F, alloc: Global, path: &str) -> Result<OutFile<'a, F>, AllocError> {
         let path = followed(files, alloc, path)?;
         Ok(OutFile {
             files,
@@ -159,7 +157,7 @@ impl<'a, F: Files> OutFile<'a, F> {
     ///
     /// # Errors
     /// That of the system; then the path is as it was.
-    pub(crate) fn place(mut self) -> io::Result<()> {
+    pub fn place(mut self) -> io::Result<()> {
         self.opened = None;
         if self.is_beside {
             fs::rename(self.files, self.beside.as_path(), self.path.as_path())?;
@@ -190,18 +188,9 @@ impl<F: Files> Write for OutFile<'_, F> {
 
 /// What OUT is: a file, or standard output.
 #[derive(Drop)]
-pub(crate) enum Target<'a, F: Files, O> {
+pub enum Target<'a, F: Files, O> {
     File(OutFile<'a, F>),
     Standard(O),
-}
-
-/// Returns what messages call the output at a path.
-pub(crate) fn output_name(path: &str) -> &str {
-    if path == STANDARD {
-        "standard output"
-    } else {
-        path
-    }
 }
 
 impl<F: Files, O: Write + Drop> Target<'_, F, O> {
@@ -209,7 +198,7 @@ impl<F: Files, O: Write + Drop> Target<'_, F, O> {
     ///
     /// # Errors
     /// That of the system; then the path is as it was.
-    pub(crate) fn place(self) -> io::Result<()> {
+    pub fn place(self) -> io::Result<()> {
         match self {
             Target::Standard(_) => Ok(()),
             Target::File(file) => file.place(),

@@ -1,7 +1,7 @@
 //! Files of wanted characters, and of words that name ranges of wanted codes. They are read in pieces.
 use crate::code_set::CodeSet;
 use crate::utf8::Utf8;
-use font_cut::read_word;
+use code_sets::read_word;
 use std::alloc::{AllocError, Global};
 use std::io::Read;
 
@@ -16,7 +16,7 @@ const MARK: char = '\u{FEFF}';
 
 /// What a file lists.
 #[derive(Clone, Copy, Debug, PartialEq, Eq)]
-pub(crate) enum Listed {
+pub enum Listed {
     /// Characters. Line ends are none of them.
     Characters,
     /// Range words, parted by blanks, line ends or commas. What follows `#` in a line is a comment.
@@ -25,7 +25,7 @@ pub(crate) enum Listed {
 
 /// Why a file is not read to its end.
 #[derive(Debug, Drop)]
-pub(crate) enum Stopped {
+pub enum Stopped {
     /// A read failed.
     Unread,
     /// A line is not UTF-8, or has this word, which names no range.
@@ -57,7 +57,8 @@ struct Reading<'a> {
 
 // Returns whether a byte of a file of words stands between words.
 fn parts_words(byte: u8) -> bool {
-    matches!(byte, b'\n' | b'\r' | b'\t' | b' ' | b',' | b'#')
+    // Most bytes of a word are above all of these.
+    byte <= b',' && matches!(byte, b'\n' | b'\r' | b'\t' | b' ' | b',' | b'#')
 }
 
 impl<'a> Reading<'a> {
@@ -223,7 +224,7 @@ impl<'a> Reading<'a> {
 /// # Errors
 /// `Unread` where a read fails, `BadLine` with the first line that is not as it should be, `NoMemory`
 /// where memory is refused.
-pub(crate) fn add_listed<R: Read>(
+pub fn add_listed<R: Read>(
     alloc: Global,
     file: &mut R,
     listed: Listed,

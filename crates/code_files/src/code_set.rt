@@ -1,5 +1,5 @@
 //! Sets of codes that come range by range or code by code, in any order, from words and texts of any length.
-use font_cut::Wanted;
+use code_sets::Wanted;
 use std::alloc::{AllocError, Global};
 
 const LAST_CODE: u32 = 0x10_FFFF;
@@ -8,7 +8,7 @@ const LAST_CODE: u32 = 0x10_FFFF;
 /// others. Most sets are given in rising order, and need no bits. A range that goes between others moves
 /// those above it, so that time would grow with the square of the number of ranges that do not rise.
 #[derive(Drop)]
-pub(crate) struct CodeSet {
+pub struct CodeSet {
     rising: Wanted,
     // The code behind the last one of `rising`.
     next: u32,
@@ -69,7 +69,7 @@ fn set_bits(bits: &mut Vec<u32>, first: u32, last: u32) -> Result<(), AllocError
 }
 
 /// Returns the number of codes of ranges that do not overlap.
-pub(crate) fn count_of(ranges: &[(u32, u32)]) -> u32 {
+pub fn count_of(ranges: &[(u32, u32)]) -> u32 {
     let mut count: u32 = 0;
     for &(first, last) in ranges {
         count = count.saturating_add(last.saturating_sub(first).saturating_add(1));
@@ -78,7 +78,7 @@ pub(crate) fn count_of(ranges: &[(u32, u32)]) -> u32 {
 }
 
 impl CodeSet {
-    pub(crate) fn new(alloc: Global) -> CodeSet {
+    pub fn new(alloc: Global) -> CodeSet {
         CodeSet {
             rising: Wanted::new(alloc),
             next: 0,
@@ -90,7 +90,7 @@ impl CodeSet {
     ///
     /// # Errors
     /// `AllocError` where memory is refused.
-    pub(crate) fn add(&mut self, code: u32) -> Result<(), AllocError> {
+    pub fn add(&mut self, code: u32) -> Result<(), AllocError> {
         if code <= LAST_CODE {
             reach(&mut self.bits, code)?;
         }
@@ -104,7 +104,7 @@ impl CodeSet {
     ///
     /// # Errors
     /// `AllocError` where memory is refused.
-    pub(crate) fn add_range(&mut self, first: u32, last: u32) -> Result<(), AllocError> {
+    pub fn add_range(&mut self, first: u32, last: u32) -> Result<(), AllocError> {
         let last = last.min(LAST_CODE);
         if last < first {
             return Ok(());
@@ -133,7 +133,7 @@ impl CodeSet {
     }
 
     /// Returns the codes that are not in another set.
-    pub(crate) fn without(&self, alloc: Global, other: &CodeSet) -> Result<CodeSet, AllocError> {
+    pub fn without(&self, alloc: Global, other: &CodeSet) -> Result<CodeSet, AllocError> {
         let mut bits = self.all_bits(alloc)?;
         for (word, gone) in bits.iter_mut().zip(&other.all_bits(alloc)?) {
             *word &= !gone;
@@ -146,7 +146,7 @@ impl CodeSet {
     }
 
     /// Returns the codes as ranges, in ascending order, that neither overlap nor touch.
-    pub(crate) fn ranges(&self, alloc: Global) -> Result<Vec<(u32, u32)>, AllocError> {
+    pub fn ranges(&self, alloc: Global) -> Result<Vec<(u32, u32)>, AllocError> {
         let mut ranges = Vec::new(alloc);
         let mut start: u32 = 0;
         for &word in &self.all_bits(alloc)? {
@@ -162,7 +162,7 @@ impl CodeSet {
     ///
     /// # Errors
     /// `AllocError` where memory is refused.
-    pub(crate) fn into_wanted(self, alloc: Global) -> Result<Wanted, AllocError> {
+    pub fn into_wanted(self, alloc: Global) -> Result<Wanted, AllocError> {
         if self.bits.is_empty() {
             return Ok(self.rising);
         }
