@@ -5,14 +5,16 @@
 
    Each program is run LEAST times at least, and MOST times at most; between these it leaves the turns when its runs
    have taken MILLISECONDS. OUT is removed before each run. What the programs print goes nowhere. A program that ends
-   with a status above STATUS is not run again, and its line is `failed`. The memory of a child counts what its parent
-   had when it was started, so the parent is this small program. */
+   with a status above STATUS is not run again, and its line is `failed`. The memory is that of one more run, which is
+   stopped before it ends and asked: what `wait4` tells of a child counts what its parent had when it was started. */
 #include <fcntl.h>
+#include <signal.h>
 #include <spawn.h>
 #include <stdint.h>
 #include <stdio.h>
 #include <stdlib.h>
 #include <string.h>
+#include <sys/ptrace.h>
 #include <sys/resource.h>
 #include <sys/wait.h>
 #include <time.h>
@@ -27,7 +29,6 @@ typedef struct program {
     int64_t total;
     int64_t times[RUNS];
     int64_t processor[RUNS];
-    long peak; /* in KiB */
 } program;
 
 extern char **environ;
@@ -62,9 +63,55 @@ static int run(program *one, const char *out, int worst, posix_spawn_file_action
     one->processor[one->runs] = nanoseconds(used.ru_utime) + nanoseconds(used.ru_stime);
     one->times[one->runs++] = took;
     one->total += took;
-    if (one->peak < used.ru_maxrss)
-        one->peak = used.ru_maxrss;
     return 1;
+}
+
+/* The most memory that a process has had, in bytes, as the system lists it. */
+static long memory_of(pid_t process)
+{
+    char path[64], line[256];
+    long most = 0;
+    snprintf(path, sizeof path, "/proc/%d/status", (int)process);
+    FILE *status = fopen(path, "r");
+    while (status != NULL && most == 0 && fgets(line, sizeof line, status) != NULL)
+        sscanf(line, "VmHWM: %ld kB", &most);
+    if (status != NULL)
+        fclose(status);
+    return most * 1024;
+}
+
+/* Starts a program that stops before its first instruction, and that prints nowhere. */
+static pid_t watched(char **words)
+{
+    pid_t child = fork();
+    if (child != 0)
+        return child;
+    int nowhere = open("/dev/null", O_RDWR);
+    for (int standard = 0; standard <= 2; standard++)
+        dup2(nowhere, standard);
+    close(nowhere);
+    ptrace(PTRACE_TRACEME, 0, NULL, NULL);
+    execv(words[0], words);
+    _exit(127);
+}
+
+/* Runs a program once more, and returns the most memory that it had, in bytes. */
+static long peak_of(program *one, const char *out)
+{
+    long most = 0;
+    int status, signal = 0;
+    remove(out);
+    pid_t child = watched(one->words);
+    if (child < 0 || waitpid(child, &status, 0) != child || !WIFSTOPPED(status))
+        return 0;
+    ptrace(PTRACE_SETOPTIONS, child, NULL, (void *)(long)(PTRACE_O_TRACEEXIT | PTRACE_O_EXITKILL));
+    while (ptrace(PTRACE_CONT, child, NULL, (void *)(long)signal) == 0 && waitpid(child, &status, 0) == child
+           && WIFSTOPPED(status)) {
+        int is_end = status >> 8 == (SIGTRAP | PTRACE_EVENT_EXIT << 8);
+        most = is_end ? memory_of(child) : most;
+        signal = is_end ? 0 : WSTOPSIG(status);
+    }
+    return most;
 }
 
 /* Reads the programs behind the words of this one. Returns how many there are. */
@@ -94,7 +141,7 @@ static void say_times(int64_t *times, int runs)
     printf("%lld %lld ", (long long)times[0], (long long)times[runs / 2]);
 }
 
-static void say(program *one)
+static void say(program *one, const char *out)
 {
     if (one->has_failed) {
         puts("failed");
@@ -102,7 +149,7 @@ static void say(program *one)
     }
     say_times(one->times, one->runs);
     say_times(one->processor, one->runs);
-    printf("%lld %d\n", (long long)one->peak * 1024, one->runs);
+    printf("%ld %d\n", peak_of(one, out), one->runs);
 }
 
 int main(int given, char **words)
@@ -129,6 +176,6 @@ int main(int given, char **words)
         }
     }
     for (int at = 0; at < count; at++)
-        say(&programs[at]);
+        say(&programs[at], words[5]);
     return 0;
 }
