@@ -2,27 +2,15 @@
    the program's own file, counted from where that was loaded. Words: the program's path, and its words. What the
    program prints is dropped. */
 #define _GNU_SOURCE
-#include <fcntl.h>
 #include <stdio.h>
 #include <stdlib.h>
 #include <string.h>
-#include <sys/ptrace.h>
 #include <sys/user.h>
 #include <sys/wait.h>
-#include <unistd.h>
+
+#include "../tests/lib/watched.h"
 
 static unsigned long first, end; /* where the program was loaded */
-
-static pid_t started(char **words)
-{
-    pid_t child = fork();
-    if (child != 0)
-        return child;
-    dup2(open("/dev/null", O_WRONLY), 1);
-    ptrace(PTRACE_TRACEME, 0, NULL, NULL);
-    execv(words[0], words);
-    _exit(127);
-}
 
 /* Reads from the list of the child's memory where the program was loaded. */
 static void find_program(pid_t child, const char *program)
@@ -58,7 +46,7 @@ static int step(pid_t child, unsigned char *ran)
 int main(int count, char **words)
 {
     int status;
-    pid_t child = count > 1 ? started(words + 1) : -1;
+    pid_t child = count > 1 ? watched(words + 1) : -1;
     if (child < 0 || waitpid(child, &status, 0) != child || !WIFSTOPPED(status))
         return 1;
     find_program(child, words[1]);

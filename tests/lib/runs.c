@@ -6,7 +6,8 @@
    Each program is run LEAST times at least, and MOST times at most; between these it leaves the turns when its runs
    have taken MILLISECONDS. OUT is removed before each run. What the programs print goes nowhere. A program that ends
    with a status above STATUS is not run again, and its line is `failed`. The memory is that of one more run, which is
-   stopped before it ends and asked: what `wait4` tells of a child counts what its parent had when it was started. */
+   stopped before it ends: what `wait4` tells of a child counts what its parent had when it was started. Where it cannot
+   be told, the line is `failed` too. */
 #include <fcntl.h>
 #include <signal.h>
 #include <spawn.h>
@@ -14,11 +15,12 @@
 #include <stdio.h>
 #include <stdlib.h>
 #include <string.h>
-#include <sys/ptrace.h>
 #include <sys/resource.h>
 #include <sys/wait.h>
 #include <time.h>
 #include <unistd.h>
+
+#include "watched.h"
 
 enum { PROGRAMS = 8, RUNS = 10000 };
 
@@ -80,22 +82,7 @@ static long memory_of(pid_t process)
     return most * 1024;
 }
 
-/* Starts a program that stops before its first instruction, and that prints nowhere. */
-static pid_t watched(char **words)
-{
-    pid_t child = fork();
-    if (child != 0)
-        return child;
-    int nowhere = open("/dev/null", O_RDWR);
-    for (int standard = 0; standard <= 2; standard++)
-        dup2(nowhere, standard);
-    close(nowhere);
-    ptrace(PTRACE_TRACEME, 0, NULL, NULL);
-    execv(words[0], words);
-    _exit(127);
-}
-
-/* Runs a program once more, and returns the most memory that it had, in bytes. */
+/* Runs a program once more, and returns the most memory that it had, in bytes, or 0 where that cannot be told. */
 static long peak_of(program *one, const char *out)
 {
     long most = 0;
@@ -143,13 +130,14 @@ static void say_times(int64_t *times, int runs)
 
 static void say(program *one, const char *out)
 {
-    if (one->has_failed) {
+    long peak = one->has_failed ? 0 : peak_of(one, out);
+    if (peak == 0) {
         puts("failed");
         return;
     }
     say_times(one->times, one->runs);
     say_times(one->processor, one->runs);
-    printf("%ld %d\n", peak_of(one, out), one->runs);
+    printf("%ld %d\n", peak, one->runs);
 }
 
 int main(int given, char **words)
