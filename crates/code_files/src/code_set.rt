@@ -78,6 +78,7 @@ pub fn count_of(ranges: &[(u32, u32)]) -> u32 {
 }
 
 impl CodeSet {
+    /// Returns the set of no codes.
     pub fn new(alloc: Global) -> CodeSet {
         CodeSet {
             rising: Wanted::new(alloc),
@@ -133,6 +134,9 @@ impl CodeSet {
     }
 
     /// Returns the codes that are not in another set.
+    ///
+    /// # Errors
+    /// `AllocError` where memory is refused.
     pub fn without(&self, alloc: Global, other: &CodeSet) -> Result<CodeSet, AllocError> {
         let mut bits = self.all_bits(alloc)?;
         for (word, gone) in bits.iter_mut().zip(&other.all_bits(alloc)?) {
@@ -146,6 +150,9 @@ impl CodeSet {
     }
 
     /// Returns the codes as ranges, in ascending order, that neither overlap nor touch.
+    ///
+    /// # Errors
+    /// `AllocError` where memory is refused.
     pub fn ranges(&self, alloc: Global) -> Result<Vec<(u32, u32)>, AllocError> {
         let mut ranges = Vec::new(alloc);
         let mut start: u32 = 0;

@@ -84,6 +84,9 @@ fn longest_beside(alloc: Global, path: &PathBuf) -> Result<PathBuf, AllocError> 
 impl<'a, F: Files> OutFile<'a, F> {
     /// Returns the file at a path, at which nothing is changed yet. All memory that it needs is asked
     /// for here.
+    ///
+    /// # Errors
+    /// `AllocError` where memory is refused.
     pub fn new(files: &'a F, alloc: Global, path: &str) -> Result<OutFile<'a, F>, AllocError> {
         let path = followed(files, alloc, path)?;
         Ok(OutFile {
@@ -189,7 +192,9 @@ impl<F: Files> Write for OutFile<'_, F> {
 /// What OUT is: a file, or standard output.
 #[derive(Drop)]
 pub enum Target<'a, F: Files, O> {
+    /// The file at a path.
     File(OutFile<'a, F>),
+    /// Standard output.
     Standard(O),
 }
 
