@@ -69,6 +69,10 @@ class Tried:
         text, wanted = font_reading.report(file)
         check(f"{self.name}: {what}, by the second reading", (wanted, text) == (status, out.decode()), text, out)
 
+    def last(self, file):
+        """The last line of `check`."""
+        return self.run("check", file)[1].decode().splitlines()[-1]
+
     def all_same(self, what, rows):
         """Rows of a name, what is wanted and what is found."""
         rows = list(rows)

@@ -1,4 +1,4 @@
-"""Small fonts that are made of the font of six glyphs: other records, tables, mappings and directories, field by field."""
+"""Small fonts that are made of the font of six glyphs: other records, tables, mappings, directories, field by field."""
 import struct
 
 from font_changing import with_tables
