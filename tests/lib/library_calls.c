@@ -171,6 +171,18 @@ static void do_codes(int is_first, char **words)
     free(font.at);
 }
 
+/* Whether room for just the text is enough, and gets the same text. */
+static int fits(fontcut_answer asked, fontcut_answer answer, const uint8_t *text)
+{
+    size_t room = (size_t)answer.size;
+    uint8_t *out = guarded(room);
+    fontcut_answer again = fontcut_refusal_text(asked, out, room);
+    int is_same = again.status == answer.status && again.size == answer.size && !memcmp(out, text, room) &&
+                  is_untouched(out, room, room);
+    free(out - GUARD);
+    return is_same;
+}
+
 static void do_text(int is_first, char **words)
 {
     fontcut_answer asked, answer;
@@ -180,7 +192,7 @@ static void do_text(int is_first, char **words)
     asked.size = strtoull(words[3], NULL, 10);
     asked.step = strtoull(words[4], NULL, 10);
     answer = fontcut_refusal_text(asked, out, 64);
-    say(is_first, answer, is_untouched(out, answer.status ? 0 : (size_t)answer.size, 64));
+    say(is_first, answer, is_untouched(out, answer.status ? 0 : (size_t)answer.size, 64) && fits(asked, answer, out));
     if (is_first)
         printf("%.*s\n", (int)answer.size, (const char *)out);
     free(out - GUARD);

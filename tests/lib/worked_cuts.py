@@ -3,8 +3,8 @@ import os
 import struct
 
 from font_changing import cut_for, with_codes, with_tables
-from font_cutting import assembled, padded
-from font_reading import KEPT, search_fields, tables_of
+from font_cutting import Group, assembled, padded
+from font_reading import KEPT, adjustment_place, records_of, search_fields, table, tables_of, u32
 
 # The font: a directory and seven tables. Its glyphs have 12, 14, 10, 22, 0 and 12 bytes; glyph 3 is
 # composed of 1 and 2. U+0020 is mapped to glyph 4, U+0041 to 1, U+0042 to 5 and U+00C1 to 3.
@@ -90,6 +90,40 @@ CUTS = [
     ("U+41-42 U+C1", 448, 0x000F0300, 0x1B6F056C, 0x0000011C, 0xBC8C1802, (124, 196, 272, 328, 364, 388, 416)),
 ]
 
+# The same in the first profile.
+OLD_CUTS = [
+    ("", 340, 0x000F0027, 0x00640064, 0x00000048, 0xF2A22C20, (124, 152, 164, 220, 256, 280, 308)),
+    ("U+20", 352, 0x000F0078, 0x00640064, 0x00000048, 0xF2A22B2A, (124, 164, 176, 232, 268, 292, 320)),
+    ("U+41 U+42", 392, 0x000F014D, 0x13480228, 0x000000A4, 0xCCDA2444, (124, 176, 216, 272, 308, 332, 360)),
+    ("U+C1", 404, 0x000F01B9, 0x1A750472, 0x00000110, 0xBE801DC4, (124, 164, 228, 284, 320, 344, 372)),
+    ("U+41-42 U+C1", 440, 0x000F02DF, 0x1B6F056C, 0x0000011C, 0xBC8C187C, (124, 188, 264, 320, 356, 380, 408)),
+]
+OLD_CMAP_OF_NOTHING = bytes.fromhex("00000001 0003000A 0000000C 000C0000 00000010 00000000 00000000")
+OLD_CMAP_OF_AACUTE = bytes.fromhex("""
+    00000001 0003000A 0000000C 000C0000 0000001C 00000000 00000001
+    000000C1 000000C1 00000003
+""")
+
+
+def numbers(file):
+    """Size, sums and offsets of a cut, as they are typed in."""
+    records = {record.tag: record for record in records_of(file)}
+    sums = [records[tag].checksum for tag in (b"cmap", b"glyf", b"loca")]
+    adjustment = u32(file, adjustment_place(file))
+    return (len(file), *sums, adjustment, tuple(record.offset for record in records.values()))
+
+
+def loca_of(file):
+    """The long offsets of a cut."""
+    loca = table(file, b"loca")
+    return list(struct.unpack(f">{len(loca) // 4}I", loca))
+
+
+def groups_of(file):
+    """The groups of the one subtable of a cut."""
+    cmap = table(file, b"cmap")
+    return [Group(*struct.unpack_from(">III", cmap, 36 + 12 * index)) for index in range((len(cmap) - 36) // 12)]
+
 
 def base6_tables():
     return tables_of(BASE6)
@@ -118,6 +152,11 @@ def reversed_directory():
 
 # With nine tables of so many bytes, the cut for one of two codes has as many bytes as a file may have.
 REGION = 14_913_024
+
+
+def optional_tables():
+    """These tables, of zeros, `vhea` and `vmtx` without their last four bytes."""
+    return {tag: bytes(REGION - 4 if tag in (b"vhea", b"vmtx") else REGION) for tag in KEPT if tag not in base6_tables()}
 
 
 def wide_font(path):

@@ -119,7 +119,7 @@ impl<A: Allocator> Wanted<A> {
     ///
     /// # Example
     ///
-    /// From the test `bad_ranges_leave_the_set` of `map_tests`:
+    /// From the test `bad_ranges_leave_the_set` of `table_tests`:
     ///
     /// ```
     /// let mut wanted = Wanted::new(rt.alloc());

@@ -1,14 +1,18 @@
-//! Tests over cuts: worked examples, the plain cut beside the fast one, writers that fail and memory
-//! that is refused.
+//! Tests over cuts and joins, of what no program shows: writers that fail, memory that is refused, and calls
+//! of their own.
 #![tactic(auto)]
 
 #[cfg(test)]
-mod cuts;
+mod answers;
 #[cfg(test)]
-mod limits;
+mod calls;
 #[cfg(test)]
-mod plain;
+mod refused_cuts;
 #[cfg(test)]
-mod refused;
+mod refused_joins;
 #[cfg(test)]
-mod sending;
+mod samples;
+#[cfg(test)]
+mod sent_cuts;
+#[cfg(test)]
+mod sent_joins;

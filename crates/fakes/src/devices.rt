@@ -55,16 +55,6 @@ impl Read for Pieces<'_> {
     }
 }
 
-/// A reader of zeros that has no end.
-#[derive(Drop)]
-pub struct Endless;
-
-impl Read for Endless {
-    fn read(&mut self, buf: &mut [u8]) -> io::Result<usize> {
-        io::repeat(0).read(buf)
-    }
-}
-
 /// A writer that holds what it takes, at most `piece` bytes a write.
 #[derive(Drop)]
 pub struct Narrow {
@@ -156,40 +146,6 @@ impl Write for Counting {
     fn write(&mut self, buf: &[u8]) -> io::Result<usize> {
         self.count = self.count.saturating_add(buf.len() as u64);
         Ok(buf.len())
-    }
-
-    fn flush(&mut self) -> io::Result<()> {
-        Ok(())
-    }
-}
-
-/// A writer that takes the bytes which it awaits, and no others.
-#[derive(Drop)]
-pub struct Matching<'a> {
-    awaited: &'a [u8],
-}
-
-impl<'a> Matching<'a> {
-    /// Returns a writer that awaits these bytes.
-    pub fn new(awaited: &'a [u8]) -> Matching<'a> {
-        Matching { awaited }
-    }
-
-    /// Returns how many bytes have not come.
-    pub fn left(&self) -> usize {
-        self.awaited.len()
-    }
-}
-
-impl Write for Matching<'_> {
-    fn write(&mut self, buf: &[u8]) -> io::Result<usize> {
-        match self.awaited.strip_prefix(buf) {
-            Some(rest) => {
-                self.awaited = rest;
-                Ok(buf.len())
-            }
-            None => Ok(0),
-        }
     }
 
     fn flush(&mut self) -> io::Result<()> {

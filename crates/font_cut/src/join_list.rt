@@ -191,14 +191,12 @@ fn join_in_turn<A: Allocator + Copy>(
 ///
 /// # Example
 ///
-/// From `is_join_of` in `join_tests`, by which its test `order_and_grouping` joins three cuts in each
-/// order:
+/// From the test `join_of_many` of `cut_tests`:
 ///
 /// ```
-/// match join_all(alloc, &copied) {
-///     Ok(file) => file.as_slice() == stated,
-///     Err(_) => false,
-/// }
+/// let files = copies(rt.alloc(), rt.alloc(), &[&AACUTE, &A_AND_B, &AACUTE])?;
+/// let joined = join_all(rt.alloc(), &files)?;
+/// assert_eq!(rt; joined.as_slice(), A_B_AACUTE.as_slice());
 /// ```
 pub fn join_all<A: Allocator + Copy>(
     alloc: A,

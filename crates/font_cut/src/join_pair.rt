@@ -48,13 +48,11 @@ fn join_exactly<A: Allocator + Copy>(alloc: A, x: &[u8], y: &[u8]) -> Result<Vec
 ///
 /// # Example
 ///
-/// From the test `empty_glyf` of `join_tests`, in which `space` and `letter` are cuts of one font:
+/// From the test `join_of_two_cuts` of `cut_tests`, over cuts of one font:
 ///
 /// ```
-/// let space = cut_of(alloc, &file, &[(0x20, 0x20)])?;
-/// let letter = cut_of(alloc, &file, &[(0x41, 0x41)])?;
-/// assert_eq!(rt; letter.len(), 364);
-/// assert_eq!(rt; join(alloc, &space, &letter)?.len(), 376);
+/// let joined = join(rt.alloc(), &AACUTE, &A_AND_B)?;
+/// assert_eq!(rt; joined.as_slice(), A_B_AACUTE.as_slice());
 /// ```
 pub fn join<A: Allocator + Copy>(alloc: A, x: &[u8], y: &[u8]) -> Result<Vec<u8, A>, JoinError>
     ensures exact { MatchResult result (λ z. IsJoin x.now y.now z.items) (IsJoinRefusal x.now y.now) }

@@ -80,7 +80,7 @@ impl<'a> Font<'a> {
     ///
     /// # Example
     ///
-    /// From the test `lookups_of_base6` of `file_tests`:
+    /// From the test `lookups_of_base6` of `table_tests`:
     ///
     /// ```
     /// let font = Font::open(&BASE6)?;

@@ -109,7 +109,7 @@ fn cut_exactly<A: Allocator + Copy>(
 ///
 /// # Example
 ///
-/// From `cut_of` in `sample_cuts`, by which the tests of `cut_tests` make their cuts:
+/// From `cut_of` in `cut_tests`, by which its tests make their cuts:
 ///
 /// ```
 /// let font = Font::open(file)?;

@@ -60,13 +60,12 @@ pub fn cut_form<A: Allocator + Copy>(alloc: A, font: &Font<'_>) -> Result<CutFor
 ///
 /// # Example
 ///
-/// From `cut_form_of` in `join_tests`, by which its test `cut_form_of_files` asks:
+/// From the test `cut_form_of_files` of `cut_tests`:
 ///
 /// ```
-/// match Font::open(file) {
-///     Ok(font) => is_cut(alloc, &font).ok(),
-///     Err(_) => None,
-/// }
+/// let (font, made) = (Font::open(&BASE6)?, Font::open(&AACUTE)?);
+/// assert_eq!(rt; is_cut(rt.alloc(), &made), Ok(true));
+/// assert_eq!(rt; is_cut(rt.alloc(), &font), Ok(false));
 /// ```
 pub fn is_cut<A: Allocator + Copy>(alloc: A, font: &Font<'_>) -> Result<bool, NoMemory>
     ensures exact { IfOk result (λ b. b ≡ is_current our_format font.now) }

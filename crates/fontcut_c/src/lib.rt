@@ -138,6 +138,3 @@ pub extern "C" fn fontcut_refusal_text(alloc: Global, answer: Answer, out: &mut 
         Err(refusal) => refusal.answer(),
     }
 }
-
-#[cfg(test)]
-mod tests;

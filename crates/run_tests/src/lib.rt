@@ -11,4 +11,4 @@ mod refused_memory;
 #[cfg(test)]
 mod runs;
 #[cfg(test)]
-mod sent_files;
+mod texts;

@@ -225,28 +225,11 @@ pub fn failing(alloc: Global, run: Run, piece: usize, failure: Failure) -> Outco
     made(&memory, run, reader, Narrow::new(alloc, piece, failure))
 }
 
-/// Makes a run over another file, where nothing fails.
-pub fn over(alloc: Global, run: Run, file: &[u8]) -> Outcome {
-    let memory = Refusing::new(alloc, 0);
-    let reader = Pieces::new(file, 4096, Failure::Nowhere);
-    made(
-        &memory,
-        run,
-        reader,
-        Narrow::new(alloc, 4096, Failure::Nowhere),
-    )
-}
-
-/// Returns whether a run answered this and sent this text, and read all inlets.
-pub fn has_sent(run: Run, ended: &Outcome, answer: u64, text: &[u8]) -> bool {
-    ended.answer == Ok(answer)
+/// Returns whether a run has sent all that it is to send, and read all inlets.
+pub fn is_done(run: Run, ended: &Outcome) -> bool {
+    ended.answer == Ok(run.answer())
         && ended.inlets == run.read()
         && !ended.is_broken
-        && ended.writer.held() == text
-        && ended.written == text.len() as u64
-}
-
-/// Returns whether a run has sent all that it is to send.
-pub fn is_done(run: Run, ended: &Outcome) -> bool {
-    has_sent(run, ended, run.answer(), run.text())
+        && ended.writer.held() == run.text()
+        && ended.written == run.text().len() as u64
 }

@@ -1,0 +1,74 @@
+//! Calls that no program makes, and the texts of refusals that none prints.
+use crate::samples::{copies, kept_of};
+use font_cut::{
+    CutError, CutForm, CutIntoError, Font, JoinAllError, JoinAllIntoError, Joined, cut_form,
+    is_cut, is_cut_of, join, join_all,
+};
+use sample_fonts::known_cuts::{A_AND_B, A_B_AACUTE, AACUTE};
+use sfnt_bytes::BASE6;
+use std::test::Fail;
+
+#[test]
+fn join_of_two_cuts(rt: HostRuntime) -> Result<(), Fail> {
+    let joined = join(rt.alloc(), &AACUTE, &A_AND_B)?;
+    assert_eq!(rt; joined.as_slice(), A_B_AACUTE.as_slice());
+    Ok(())
+}
+
+// The source of a join, by which it could be written elsewhere.
+#[test]
+fn kept_glyphs_of_a_join(rt: HostRuntime) -> Result<(), Fail> {
+    let (first, second) = (Font::open(&AACUTE)?, Font::open(&A_AND_B)?);
+    let source = Joined::new(rt.alloc(), &first, &second)?;
+    let kept = kept_of(rt.alloc(), &source)?;
+    assert_eq!(rt; kept.as_slice(), [0, 1, 2, 3, 5].as_slice());
+    Ok(())
+}
+
+#[test]
+fn join_of_many(rt: HostRuntime) -> Result<(), Fail> {
+    let files = copies(rt.alloc(), rt.alloc(), &[&AACUTE, &A_AND_B, &AACUTE])?;
+    let joined = join_all(rt.alloc(), &files)?;
+    assert_eq!(rt; joined.as_slice(), A_B_AACUTE.as_slice());
+    Ok(())
+}
+
+#[test]
+fn cut_form_of_files(rt: HostRuntime) -> Result<(), Fail> {
+    let (font, made) = (Font::open(&BASE6)?, Font::open(&AACUTE)?);
+    assert_eq!(rt; is_cut(rt.alloc(), &made), Ok(true));
+    assert_eq!(rt; is_cut(rt.alloc(), &font), Ok(false));
+    assert_eq!(rt; cut_form(rt.alloc(), &made), Ok(CutForm::Current));
+    assert_eq!(rt; is_cut_of(rt.alloc(), &made, &font), Ok(true));
+    Ok(())
+}
+
+#[test]
+fn texts_of_refusals(rt: HostRuntime) -> Result<(), Fail> {
+    let text = CutError::TooLarge(134_217_752).to_string(rt.alloc())?;
+    assert_eq!(rt; text.as_str(), "too large 134217752");
+    for (error, number, text) in [
+        (CutIntoError::NoMemory, 16, "no memory"),
+        (
+            CutIntoError::TooLarge(134_217_752),
+            18,
+            "too large 134217752",
+        ),
+        (CutIntoError::WriteFault(100), 19, "write fault after 100"),
+    ] {
+        assert_eq!(rt; error.number(), number, "{text}");
+        assert_eq!(rt; error.to_string(rt.alloc())?.as_str(), text);
+    }
+    for (error, number, text) in [
+        (
+            JoinAllIntoError::NotJoined(JoinAllError::NothingToJoin),
+            24,
+            "nothing to join",
+        ),
+        (JoinAllIntoError::WriteFault(7), 19, "write fault after 7"),
+    ] {
+        assert_eq!(rt; error.number(), number, "{text}");
+        assert_eq!(rt; error.to_string(rt.alloc())?.as_str(), text);
+    }
+    Ok(())
+}

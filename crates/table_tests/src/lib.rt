@@ -1,0 +1,18 @@
+//! Tests of what is read of a font, of wanted sets and of the closure: what no program shows of them, and
+//! memory that is refused.
+#![tactic(auto)]
+
+mod records;
+
+pub use crate::records::Records;
+
+#[cfg(test)]
+mod base6;
+#[cfg(test)]
+mod charts;
+#[cfg(test)]
+mod closures;
+#[cfg(test)]
+mod fonts;
+#[cfg(test)]
+mod wanted_sets;
