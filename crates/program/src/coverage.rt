@@ -36,6 +36,27 @@ fn mapped_codes(alloc: Global, font: &Font<'_>) -> Result<CodeSet, AllocError> {
     Ok(codes)
 }
 
+// Returns the wanted codes that a font does not map, as ranges.
+fn unmapped_ranges(
+    alloc: Global,
+    font: &Font<'_>,
+    wanted: &CodeSet,
+) -> Result<Vec<(u32, u32)>, AllocError> {
+    let mapped = mapped_codes(alloc, font)?;
+    wanted.without(alloc, &mapped)?.ranges(alloc)
+}
+
+// Returns the number of the codes of a set.
+fn code_count(alloc: Global, codes: &CodeSet) -> Result<u32, AllocError> {
+    Ok(count_of(&codes.ranges(alloc)?))
+}
+
+// Returns the lines that say how many codes are wanted, and how many of them are mapped.
+fn first_lines(alloc: Global, wanted: u32, lacking: u32) -> Result<String, AllocError> {
+    let mapped = wanted.saturating_sub(lacking);
+    format!(in alloc; "wanted {wanted}\nmapped {mapped}\n")
+}
+
 // Adds a line for each range of codes, up to some number, and one that says how many more there are.
 fn add_unmapped(text: &mut String, ranges: &[(u32, u32)]) -> Result<(), AllocError> {
     for &(first, last) in ranges.iter().take(LISTED) {
@@ -72,13 +93,9 @@ impl Coverage {
         font: &Font<'_>,
         wanted: &CodeSet,
     ) -> Result<Coverage, AllocError> {
-        let unmapped = wanted
-            .without(alloc, &mapped_codes(alloc, font)?)?
-            .ranges(alloc)?;
-        let (count, lacking) = (count_of(&wanted.ranges(alloc)?), count_of(&unmapped));
-        let mapped = count.saturating_sub(lacking);
-        let mut text = String::new(alloc);
-        write!(text, "wanted {count}\nmapped {mapped}\n")?;
+        let unmapped = unmapped_ranges(alloc, font, wanted)?;
+        let (count, lacking) = (code_count(alloc, wanted)?, count_of(&unmapped));
+        let mut text = first_lines(alloc, count, lacking)?;
         add_unmapped(&mut text, &unmapped)?;
         add_font(&mut text, font)?;
         text.reserve(LAST_LINE.len())?;

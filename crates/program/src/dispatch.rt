@@ -1,6 +1,7 @@
 //! The program's body: it does what a command line asks for, and answers the status.
 ghost use Rattle.std.specs.Prelude.{◌≡◌, IfOk, true};
 ghost use Rattle.font_cmd.specs.Inlet.{inlet_fresh_of};
+ghost use Rattle.font_cmd.specs.Join.{AreFresh};
 ghost use Rattle.outlet.specs.Outlet.{fresh_of};
 
 use crate::coverage::Coverage;
@@ -202,7 +203,7 @@ fn placed<'a, F: Files, I, O: Write + Copy + Drop>(
 }
 
 // Sends the cut of what an inlet reads to OUT, and answers its size.
-fn cut<'a, F: Files, I, O: Write + Copy + Drop, R: Read>(
+fn send_cut<'a, F: Files, I, O: Write + Copy + Drop, R: Read>(
     system: &System<'a, F, I, O>,
     line: &Subset<'a>,
     inlet: &mut Inlet<R>,
@@ -220,34 +221,35 @@ fn cut<'a, F: Files, I, O: Write + Copy + Drop, R: Read>(
     }
 }
 
-// Cuts a font, which is held in memory, and tells which wanted codes it lacks and what is dropped.
-fn cut_and_told<'a, F: Files, I, O: Write + Copy + Drop, R: Read>(
+// Sends the cut for the wanted codes of what an inlet reads to OUT, and answers its size.
+fn cut<'a, F: Files, I, O: Write + Copy + Drop, R: Read>(
     system: &System<'a, F, I, O>,
     line: &Subset<'a>,
     inlet: &mut Inlet<R>,
     codes: CodeSet,
-) -> Result<Answer, Fault<'a>>
+) -> Result<u64, Fault<'a>>
     requires { inlet_fresh_of inlet.old ≡ true }
 {
-    let alloc = system.alloc;
-    let file = match inlet.read_all(alloc) {
-        Ok(file) => file,
-        Err(error) => return Err(Fault::of_run(line.font, line.out, RunError::from(error))),
-    };
-    let coverage = match Font::open(&file) {
-        Ok(font) => Coverage::of(alloc, &font, &codes),
+    match codes.into_wanted(system.alloc) {
+        Ok(wanted) => send_cut(system, line, inlet, &wanted),
+        Err(_) => Err(no_memory()),
+    }
+}
+
+// Returns what is told of a font, whose file this is, and of the codes that are wanted.
+fn covered<'a>(alloc: Global, file: &[u8], codes: &CodeSet) -> Result<Coverage, Fault<'a>> {
+    let font = match Font::open(file) {
+        Ok(font) => font,
         Err(error) => return Err(Fault::Refused(RunError::Font(error))),
     };
-    let Ok(coverage) = coverage else {
-        return Err(no_memory());
-    };
-    if line.is_strict && !coverage.is_full() {
-        return Ok(Answer::telling(false, coverage.into_text()));
+    match Coverage::of(alloc, &font, codes) {
+        Ok(coverage) => Ok(coverage),
+        Err(_) => Err(no_memory()),
     }
-    let Ok(wanted) = codes.into_wanted(alloc) else {
-        return Err(no_memory());
-    };
-    let size = cut(system, line, &mut Inlet::new(file.as_slice()), &wanted)?;
+}
+
+// Returns the answer of a cut of this size, with what is told where that is wanted.
+fn told<'a>(line: &Subset<'a>, coverage: Coverage, size: u64) -> Result<Answer, Fault<'a>> {
     if !line.reports {
         return Ok(Answer::of(true));
     }
@@ -257,31 +259,61 @@ fn cut_and_told<'a, F: Files, I, O: Write + Copy + Drop, R: Read>(
     }
 }
 
+// Cuts a font, whose file this is, for the codes that are wanted, and tells of them.
+fn cut_of_file<'a, F: Files, I, O: Write + Copy + Drop>(
+    system: &System<'a, F, I, O>,
+    line: &Subset<'a>,
+    file: &[u8],
+    codes: CodeSet,
+) -> Result<Answer, Fault<'a>> {
+    let coverage = covered(system.alloc, file, &codes)?;
+    if line.is_strict && !coverage.is_full() {
+        return Ok(Answer::telling(false, coverage.into_text()));
+    }
+    let size = cut(system, line, &mut Inlet::new(file), codes)?;
+    told(line, coverage, size)
+}
+
+// Cuts a font, which is held in memory, and tells which wanted codes it lacks and what is dropped.
+fn cut_and_told<'a, F: Files, I, O: Write + Copy + Drop, R: Read>(
+    system: &System<'a, F, I, O>,
+    line: &Subset<'a>,
+    inlet: &mut Inlet<R>,
+    codes: CodeSet,
+) -> Result<Answer, Fault<'a>>
+    requires { inlet_fresh_of inlet.old ≡ true }
+{
+    match inlet.read_all(system.alloc) {
+        Ok(file) => cut_of_file(system, line, &file, codes),
+        Err(error) => Err(Fault::of_run(line.font, line.out, RunError::from(error))),
+    }
+}
+
+// Adds the codes of the files that a line names, which are all opened before one is read.
+fn add_all_files<'a, F: Files, I: Read + Copy + Drop, O>(
+    system: &System<'a, F, I, O>,
+    line: &Subset<'a>,
+    codes: &mut CodeSet,
+) -> Result<(), Fault<'a>> {
+    let alloc = system.alloc;
+    let texts = sources(system, &line.text_files)?;
+    let words = sources(system, &line.code_files)?;
+    add_files(alloc, texts, &line.text_files, Listed::Characters, codes)?;
+    add_files(alloc, words, &line.code_files, Listed::Words, codes)
+}
+
 // The words are looked at before the font is opened, and the font is opened before files of wanted codes.
 fn subset<'a, F: Files, I: Read + Copy + Drop, O: Write + Copy + Drop>(
     system: &System<'a, F, I, O>,
     line: &Subset<'a>,
 ) -> Result<Answer, Fault<'a>> {
-    let alloc = system.alloc;
-    let mut codes = codes_of(alloc, &line.texts, &line.words)?;
+    let mut codes = codes_of(system.alloc, &line.texts, &line.words)?;
     let mut inlet = opened(system, line.font)?;
-    let texts = sources(system, &line.text_files)?;
-    let words = sources(system, &line.code_files)?;
-    add_files(
-        alloc,
-        texts,
-        &line.text_files,
-        Listed::Characters,
-        &mut codes,
-    )?;
-    add_files(alloc, words, &line.code_files, Listed::Words, &mut codes)?;
+    add_all_files(system, line, &mut codes)?;
     if line.reports || line.is_strict {
         return cut_and_told(system, line, &mut inlet, codes);
     }
-    let Ok(wanted) = codes.into_wanted(alloc) else {
-        return Err(no_memory());
-    };
-    cut(system, line, &mut inlet, &wanted)?;
+    cut(system, line, &mut inlet, codes)?;
     Ok(Answer::of(true))
 }
 
@@ -295,22 +327,33 @@ fn broken_path<'a, R: Read>(inlets: &[Inlet<R>], paths: &[&'a str]) -> Option<&'
     None
 }
 
-fn join<'a, F: Files, I: Read + Copy + Drop, O: Write + Copy + Drop>(
+// Sends the join of what inlets read to OUT.
+fn send_join<'a, F: Files, I, O: Write + Copy + Drop, R: Read>(
     system: &System<'a, F, I, O>,
     line: &Join<'a>,
-) -> Result<Answer, Fault<'a>> {
-    let mut inlets = opened_each(system, &line.files)?;
+    inlets: &mut [Inlet<R>],
+) -> Result<Answer, Fault<'a>>
+    requires { AreFresh inlets.old }
+{
     let mut outlet = outlet(system, line.out)?;
-    match run_join(system.alloc, &mut inlets, &mut outlet) {
+    match run_join(system.alloc, inlets, &mut outlet) {
         Ok(_) => {
             placed(system, outlet, line.out)?;
             Ok(Answer::of(true))
         }
         Err(error) => {
-            let font = broken_path(&inlets, &line.files).unwrap_or("");
+            let font = broken_path(inlets, &line.files).unwrap_or("");
             Err(Fault::of_run(font, line.out, error))
         }
     }
+}
+
+fn join<'a, F: Files, I: Read + Copy + Drop, O: Write + Copy + Drop>(
+    system: &System<'a, F, I, O>,
+    line: &Join<'a>,
+) -> Result<Answer, Fault<'a>> {
+    let mut inlets = opened_each(system, &line.files)?;
+    send_join(system, line, &mut inlets)
 }
 
 fn demo<W: Write>(alloc: Global, out: &mut Outlet<W>) -> Result<Answer, Fault<'static>>

@@ -69,27 +69,45 @@ fn place_of(which: Which) -> u8 {
     }
 }
 
+// Writes that a line of a file is at fault, which has this word or is not UTF-8.
+fn write_bad_line<W: fmt::Write>(
+    f: &mut fmt::Formatter<W>,
+    path: &str,
+    line: u64,
+    word: &Option<String>,
+) -> fmt::Result {
+    let name = input_name(path);
+    match word {
+        Some(word) => write!(f, "{name}: line {line}: bad word {word}"),
+        None => write!(f, "{name}: line {line}: not UTF-8"),
+    }
+}
+
+// Writes the refusal of a file, which is named by its place where there are several.
+fn write_refusal<W: fmt::Write>(f: &mut fmt::Formatter<W>, error: &RunError) -> fmt::Result {
+    match error {
+        RunError::OneOf(which, error) => {
+            let (file, number) = (place_of(*which), error.number());
+            write!(f, "file {file}: refused {number} {error}")
+        }
+        RunError::Join(JoinAllError::At { step, error }) => {
+            // Files are counted from one.
+            let (file, number) = (step.saturating_add(1), error.number());
+            write!(f, "file {file}: refused {number} {error}")
+        }
+        error => {
+            let number = error.number();
+            write!(f, "refused {number} {error}")
+        }
+    }
+}
+
 impl fmt::Display for Fault<'_> {
     fn fmt<W: fmt::Write>(&self, f: &mut fmt::Formatter<W>) -> fmt::Result {
         match self {
             Fault::InputTwice => f.write_str("standard input is named more than once"),
             Fault::BadWord(word) => write!(f, "bad word {word}"),
-            Fault::BadLine {
-                path,
-                line,
-                word: Some(word),
-            } => {
-                let name = input_name(path);
-                write!(f, "{name}: line {line}: bad word {word}")
-            }
-            Fault::BadLine {
-                path,
-                line,
-                word: None,
-            } => {
-                let name = input_name(path);
-                write!(f, "{name}: line {line}: not UTF-8")
-            }
+            Fault::BadLine { path, line, word } => write_bad_line(f, path, *line, word),
             Fault::Unread(path) => {
                 let name = input_name(path);
                 write!(f, "cannot read {name}")
@@ -98,19 +116,7 @@ impl fmt::Display for Fault<'_> {
                 let name = output_name(path);
                 write!(f, "cannot write {name}")
             }
-            Fault::Refused(RunError::OneOf(which, error)) => {
-                let (file, number) = (place_of(*which), error.number());
-                write!(f, "file {file}: refused {number} {error}")
-            }
-            Fault::Refused(RunError::Join(JoinAllError::At { step, error })) => {
-                // Files are counted from one.
-                let (file, number) = (step.saturating_add(1), error.number());
-                write!(f, "file {file}: refused {number} {error}")
-            }
-            Fault::Refused(error) => {
-                let number = error.number();
-                write!(f, "refused {number} {error}")
-            }
+            Fault::Refused(error) => write_refusal(f, error),
         }
     }
 }
