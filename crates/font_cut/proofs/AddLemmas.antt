@@ -23,7 +23,7 @@ use Rattle.font_theory.proofs.DifferenceLemmas.{Agree-from_none}
 use Rattle.font_theory.proofs.FontLemmas.{glyph_count-file}
 use Rattle.font_theory.proofs.FormatLemmas.{our_format-most}
 use Rattle.font_theory.proofs.JoinLemmas.{IsClosed-both, both-self}
-use Rattle.font_theory.proofs.OurFormatLemmas.{our_format-is}
+use Rattle.font_theory.proofs.OurFormatLemmas.{Arises-closed, our_format-is}
 use Rattle.font_subset.specs.Cut.{IsWritten}
 use Rattle.font_cut.specs.JoinList.{IsAllJoined, IsRefusedAt, Stands}
 use Rattle.font_cut.specs.Inside.{AgreesEarly, AreTaken, HoldsFile, IsAddRefusal, IsFirstRefusal, IsTooLargeUnion, IsUnited, add_fault, early_difference}
@@ -278,9 +278,10 @@ unfault_self x form =
 holds_file : (u : Held) → IsClosedContent (content_in u) → length (file current_form (content_in u)) ≤ MAX_FILE → HoldsFile u (file current_form (content_in u))
 unfolding our_format
 holds_file u closed small =
+    let arises = Arises-closed (content_in u) (file current_form (content_in u)) closed (inl refl) small in
     record {
-      form = IsCurrent-written our_format our_format-is (content_in u) (file current_form (content_in u)) closed refl small;
-      whole = sym (whole-written our_format our_format-is (content_in u) (file current_form (content_in u)) closed (inl refl) small);
+      form = IsCurrent-written our_format our_format-is (content_in u) (file current_form (content_in u)) arises refl small;
+      whole = sym (whole-written our_format our_format-is (content_in u) (file current_form (content_in u)) arises (inl refl) small);
       written = refl;
       small = small;
     }

@@ -5,6 +5,7 @@ use Rattle.sfnt_bytes.specs.declared.directory.TheConstants.{MAX_FILE}
 use Rattle.font_file.specs.Font.{font_fault}
 use Rattle.font_theory.specs.Content.{Content, Font, content, font_of, seen}
 use Rattle.font_theory.specs.Cut.{IsCurrent, our_format}
+use Rattle.font_theory.specs.Cut.Arises.{of_file}
 use Rattle.font_theory.specs.File.{file, current_form}
 use Rattle.font_theory.proofs.ContentLemmas.{IsClosed-content}
 use Rattle.font_theory.proofs.CutLemmas.{IsCurrent-cut, cut-cut}
@@ -31,7 +32,7 @@ is_current_of font made wanted accepted is small =
 font_of-cut : (font made : List ℕ) (wanted : ℕ → Bool) → font_fault font ≡ None → made ≡ cut_of font wanted → length made ≤ MAX_FILE → (font_fault made ≡ None) × (font_of made ≡ seen (content (font_of font) wanted))
 unfolding our_format
 font_of-cut font made wanted accepted is small =
-    our_format-is.reads_back (content (font_of font) wanted) made (IsClosed-content (font_of font) wanted (IsFont-accepted font accepted)) (inl (sym is)) small
+    our_format-is.reads_back (content (font_of font) wanted) made (of_file font wanted accepted refl) (inl (sym is)) small
 
 pub is_sound : (font made : List ℕ) (wanted : ℕ → Bool) → font_fault font ≡ None → IsWritten (cut_of font wanted) made → IsSound font wanted made
 is_sound font made wanted accepted written =

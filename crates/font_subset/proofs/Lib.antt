@@ -1,6 +1,9 @@
 pub mod CutLemmas
 pub mod FontLemmas
+pub mod LeanCutLemmas
+pub mod LeanSourceLemmas
+pub mod LeanTableLemmas
 pub mod SeedLemmas
 pub mod SourceLemmas
-pub mod WholeLemmas
 pub mod UnderLemmas
+pub mod WholeLemmas

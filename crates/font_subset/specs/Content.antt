@@ -6,7 +6,8 @@ use Rattle.code_sets.specs.declared.ranges.Range.{Range}
 use Rattle.font_glyph.specs.Marks.{has}
 use Rattle.font_tables.specs.Fields.{glyph_count_of}
 use Rattle.font_file.specs.Font.{map_of}
-use Rattle.font_theory.specs.Content.{everything, font_of, is_kept}
+use Rattle.font_theory.specs.Content.{Content, content, everything, font_of, is_kept}
+use Rattle.font_theory.specs.Lean.{spelled_out, thin}
 
 -- the wanted codes: those in some ranges, or all
 abbrev pub codes_wanted : Option (List Range) → ℕ → Bool
@@ -21,3 +22,7 @@ wanted_map file wanted = restricted (codes_wanted wanted) (map_of file)
 pub record IsKeptSet (file : List ℕ) (wanted : ℕ → Bool) (marks : List Bool) : Type 0 where
   pub count : length marks ≡ glyph_count_of file
   pub kept : (g : ℕ) → has marks g ≡ is_kept (font_of file) wanted g
+
+-- the content that the lean cut of a file for some codes is written as
+unfoldable pub lean_content : List ℕ × Option (List Range) → Content
+lean_content cut = spelled_out (content (thin (font_of cut.0)) (codes_wanted cut.1))

@@ -5,13 +5,16 @@ use Rattle.font_file.specs.Font.{map_of}
 use Rattle.font_glyph.specs.Marks.{has}
 use Rattle.character_map.specs.CharacterMap.{is_mapped, restricted}
 use Rattle.font_tables.specs.Fields.{glyph_count_of}
-use Rattle.font_theory.specs.Content.{is_seed, Content}
+use Rattle.font_theory.specs.Content.{is_seed, Content, font_of}
 use Rattle.font_theory.specs.File.{file, form_of, current_form, current_profile}
 use Rattle.font_theory.specs.declared.Profile.TheVariants as profiles
 use Rattle.font_write.specs.Plan.{IsPlan}
 use Rattle.font_write.specs.declared.plan.Plan.{Plan}
 use Rattle.sfnt_bytes.specs.declared.directory.TheConstants.{MAX_FILE}
-use Rattle.std.specs.Prelude.{◌≡◌, ◌≢◌, ℕ, ◌+◌, ◌<◌, ◌≤◌, ◌⊎◌, ◌↔◌, nat_lt, ◌&&◌, Bool, true, List, length}
+use Rattle.std.specs.Prelude.{◌≡◌, ◌≢◌, ℕ, ◌+◌, ◌<◌, ◌≤◌, ◌⊎◌, ◌↔◌, nat_lt, ◌&&◌, Bool, true, List, [], length, slice_index, Option, unwrap_or}
+use Rattle.std.specs.Option.{option_or}
+use Rattle.code_sets.specs.declared.ranges.Range.{Range}
+use Rattle.font_subset.specs.Content.{lean_content}
 
 -- the n glyphs from a given one on are marked, beside those that were
 pub record AreMarked (old new : List Bool) (low n : ℕ) : Type 0 where
@@ -45,3 +48,14 @@ pub record IsMeasured (K : Content) (measured : Plan × ℕ) : Type 0 where
   pub profile : measured.0.profile ≡ current_profile
   pub size : measured.1 ≡ length (file current_form K)
   pub small : length (file current_form K) ≤ MAX_FILE
+
+-- the bytes of a table at a place, and from there on, are copied to the same place of another
+pub record AreCopied (from : List ℕ) (at size : ℕ) (old new : List ℕ) : Type 0 where
+  pub count : length new ≡ length old
+  pub inside : (j : ℕ) → at ≤ j → j < at + size → slice_index new j ≡ slice_index from j
+  pub outside : (j : ℕ) → (j < at) ⊎ (at + size ≤ j) → slice_index new j ≡ slice_index old j
+
+-- the table of a slot that a lean cut has anew, or none where it has that of the font
+pub record IsMadeTable (cut : List ℕ × Option (List Range)) (slot : ℕ) (table : Option (List ℕ)) : Type 0 where
+  pub is : option_or table ((font_of cut.0).copied slot) ≡ (lean_content cut).copied slot
+  pub small : length (unwrap_or table []) ≤ MAX_FILE

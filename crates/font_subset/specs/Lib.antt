@@ -1,5 +1,6 @@
 pub mod Content
 pub mod Cut
 pub mod Inside
+pub mod Lean
 pub mod ListedRuns
 pub mod Text

@@ -78,7 +78,10 @@ pub fn is_cut<A: Allocator + Copy>(alloc: A, font: &Font<'_>) -> Result<bool, No
 
 // Returns the codes that a font maps. The runs ascend, so each is put behind the codes that are in the
 // set, and none is refused as a bad range.
-fn mapped_set<A: Allocator + Copy>(alloc: A, font: &Font<'_>) -> Result<Wanted<A>, NoMemory>
+pub(crate) fn mapped_set<A: Allocator + Copy>(
+    alloc: A,
+    font: &Font<'_>,
+) -> Result<Wanted<A>, NoMemory>
     ensures { IfOk result (λ wanted. member wanted ≡ is_mapped (map_of font.now)) }
 {
     let chart = Chart::of(alloc, font.mapping())?;
@@ -94,7 +97,7 @@ fn mapped_set<A: Allocator + Copy>(alloc: A, font: &Font<'_>) -> Result<Wanted<A
 }
 
 // Returns the file of a font.
-fn file_of<'a>(font: &Font<'a>) -> &'a [u8]
+pub(crate) fn file_of<'a>(font: &Font<'a>) -> &'a [u8]
     ensures file { result.now ≡ font.now }
     ensures small { length result.now ≤ MAX_FILE }
 {

@@ -93,6 +93,15 @@ fn is_whole<S: Source>(source: &S, profile: Profile, size: Size, bytes: &[u8]) -
     is_file_of(source, &plan, bytes)
 }
 
+/// Returns whether a file is that of a content in the current profile. It asks for no memory.
+pub fn is_current_file<S: Source>(source: &S, bytes: &[u8]) -> bool
+    requires { length bytes.now ≤ MAX_FILE }
+    ensures { IsTrue result ↔ bytes.now ≡ file current_form (S.content_of source.now) }
+{
+    let size = file_size(source, CURRENT);
+    is_whole(source, CURRENT, size, bytes)
+}
+
 /// Returns in which form a file is that of a content, if in any. The content is counted once, and its
 /// files differ in size, so the file is compared with one of them at most. It asks for no memory.
 pub fn form_among<S: Source>(source: &S, bytes: &[u8]) -> CutForm

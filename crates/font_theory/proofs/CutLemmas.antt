@@ -10,10 +10,12 @@ use Rattle.sfnt_bytes.specs.Lines.{when}
 use Rattle.font_theory.specs.Bytes.{padded}
 use Rattle.character_map.proofs.MapLemmas.{same_cond}
 use Rattle.font_theory.specs.Content.{Content, IsClosedContent, content, everything, is_kept, seen}
-use Rattle.font_theory.specs.Cut.{CanJoin, Format, IsCurrent, IsCut, IsFormat, IsOld, Under, Writes, codes_of, cut, either, is_current, is_cut, is_old, joined, old_cut, renewed, whole}
+use Rattle.font_theory.specs.Cut.{Arises, CanJoin, Format, IsCurrent, IsCut, IsFormat, IsOld, Under, Writes, codes_of, cut, either, is_current, is_cut, is_old, joined, old_cut, renewed, whole}
+use Rattle.font_theory.specs.Cut.Arises.{of_file, of_two}
 use Rattle.font_theory.specs.Join.{Agree, both}
+use Rattle.font_theory.proofs.ArisesLemmas.{IsClosed-arises}
 use Rattle.font_theory.proofs.ContentLemmas.{IsClosed-content, content-mapped, content-seen}
-use Rattle.font_theory.proofs.JoinLemmas.{Agree-content, Agree-self, IsClosed-both, both-content, both-self, content-left, content-right}
+use Rattle.font_theory.proofs.JoinLemmas.{Agree-content, Agree-self, both-content, both-self, content-left, content-right}
 
 mapped_either : (x y : ℕ) → nat_lt 0 (cond (nat_eq x 0) y x) ≡ (nat_lt 0 x || nat_lt 0 y)
 mapped_either x y = grind (arith, nat_tests)
@@ -78,30 +80,30 @@ module _ (R : Format) (law : IsFormat R) where
   pub codes_of-accepted : (X : List ℕ) → R.fault X ≡ None → codes_of R X ≡ is_mapped (R.font X).map
   codes_of-accepted X h = ap (λ o c. is_none o && is_mapped (R.font X).map c) h
 
-  -- a file that is written of a closed content is in cut form, and has that content
-  pub whole-written : (K : Content) (X : List ℕ) → IsClosedContent K → Writes R K X → length X ≤ R.most → whole R X ≡ K
-  whole-written K X ok w small = ap (λ F. content F everything) (law.reads_back K X ok w small).1 ∙ ok.closed
+  -- a file that is written of a content that arises is in cut form, and has that content
+  pub whole-written : (K : Content) (X : List ℕ) → Arises R K → Writes R K X → length X ≤ R.most → whole R X ≡ K
+  whole-written K X ok w small = ap (λ F. content F everything) (law.reads_back K X ok w small).1 ∙ (IsClosed-arises R law.is_font K ok).closed
 
-  pub IsCut-written : (K : Content) (X : List ℕ) → IsClosedContent K → Writes R K X → length X ≤ R.most → IsCut R X
+  pub IsCut-written : (K : Content) (X : List ℕ) → Arises R K → Writes R K X → length X ≤ R.most → IsCut R X
   IsCut-written K X ok w small = record {
     accepted = (law.reads_back K X ok w small).0;
     written = subst (λ C. Writes R C X) (sym (whole-written K X ok w small)) w;
   }
 
-  pub IsCurrent-written : (K : Content) (X : List ℕ) → IsClosedContent K → R.file K ≡ X → length X ≤ R.most → IsCurrent R X
+  pub IsCurrent-written : (K : Content) (X : List ℕ) → Arises R K → R.file K ≡ X → length X ≤ R.most → IsCurrent R X
   IsCurrent-written K X ok w small = record {
     accepted = (law.reads_back K X ok (inl w) small).0;
     written = ap R.file (whole-written K X ok (inl w) small) ∙ w;
   }
 
-  pub IsOld-written : (K : Content) (X : List ℕ) → IsClosedContent K → R.old K ≡ X → length X ≤ R.most → IsOld R X
+  pub IsOld-written : (K : Content) (X : List ℕ) → Arises R K → R.old K ≡ X → length X ≤ R.most → IsOld R X
   IsOld-written K X ok w small = record {
     accepted = (law.reads_back K X ok (inr w) small).0;
     written = ap R.old (whole-written K X ok (inr w) small) ∙ w;
   }
 
   pub font-whole : (X : List ℕ) → IsCut R X → R.font X ≡ seen (whole R X)
-  font-whole X ok = (law.reads_back (whole R X) X (IsClosed-content (R.font X) everything (law.is_font X ok.accepted)) ok.written (law.accepted_size X ok.accepted)).1
+  font-whole X ok = (law.reads_back (whole R X) X (of_file X everything ok.accepted refl) ok.written (law.accepted_size X ok.accepted)).1
 
   -- what is kept of a file in cut form stands in it as it is written: with its zeros
   pub outline-whole : (X : List ℕ) → IsCut R X → (g : ℕ) → is_kept (R.font X) everything g ≡ true → (whole R X).outline g ≡ Some ((R.font X).outline g)
@@ -132,17 +134,17 @@ module _ (R : Format) (law : IsFormat R) where
 
   -- what holds of a file X that is a cut of an accepted font for A
   module _ (F : List ℕ) (h : R.fault F ≡ None) (A : ℕ → Bool) (X : List ℕ) (w : Writes R (content (R.font F) A) X) (small : length X ≤ R.most) where
-    closed : IsClosedContent (content (R.font F) A)
-    closed = IsClosed-content (R.font F) A (law.is_font F h)
+    arises : Arises R (content (R.font F) A)
+    arises = of_file F A h refl
 
     pub whole-cut : whole R X ≡ content (R.font F) A
-    whole-cut = whole-written _ X closed w small
+    whole-cut = whole-written _ X arises w small
 
     pub font-cut : R.font X ≡ seen (content (R.font F) A)
-    font-cut = (law.reads_back _ X closed w small).1
+    font-cut = (law.reads_back _ X arises w small).1
 
     pub IsCut-cut : IsCut R X
-    IsCut-cut = IsCut-written _ X closed w small
+    IsCut-cut = IsCut-written _ X arises w small
 
     pub content-cut : (B : ℕ → Bool) → content (R.font X) B ≡ content (R.font F) (λ c. A c && B c)
     content-cut B = ap (λ G. content G B) font-cut ∙ content-seen (R.font F) A B (law.is_font F h)
@@ -152,11 +154,11 @@ module _ (R : Format) (law : IsFormat R) where
 
   -- and as it is written it is current
   pub IsCurrent-cut : (F : List ℕ) → R.fault F ≡ None → (A : ℕ → Bool) (X : List ℕ) → X ≡ cut R F A → length X ≤ R.most → IsCurrent R X
-  IsCurrent-cut F h A X is small = IsCurrent-written (content (R.font F) A) X (IsClosed-content (R.font F) A (law.is_font F h)) (sym is) small
+  IsCurrent-cut F h A X is small = IsCurrent-written (content (R.font F) A) X (of_file F A h refl) (sym is) small
 
   -- as it was written before it is an old one, of the same content
   pub IsOld-cut : (F : List ℕ) → R.fault F ≡ None → (A : ℕ → Bool) (X : List ℕ) → X ≡ old_cut R F A → length X ≤ R.most → IsOld R X
-  IsOld-cut F h A X is small = IsOld-written (content (R.font F) A) X (IsClosed-content (R.font F) A (law.is_font F h)) (sym is) small
+  IsOld-cut F h A X is small = IsOld-written (content (R.font F) A) X (of_file F A h refl) (sym is) small
 
   pub whole-old_cut : (F : List ℕ) → R.fault F ≡ None → (A : ℕ → Bool) → length (old_cut R F A) ≤ R.most → whole R (old_cut R F A) ≡ content (R.font F) A
   whole-old_cut F h A small = whole-cut F h A (old_cut R F A) (inr refl) small
@@ -182,20 +184,20 @@ module _ (R : Format) (law : IsFormat R) where
     okY : IsClosedContent (whole R Y)
     okY = IsClosed-whole Y can.second.accepted
 
-    okU : IsClosedContent (both (whole R X) (whole R Y))
-    okU = IsClosed-both _ _ okX okY can.agree
+    arU : Arises R (both (whole R X) (whole R Y))
+    arU = of_two _ _ (of_file X everything can.first.accepted refl) (of_file Y everything can.second.accepted refl) can.agree refl
 
     back : (R.fault (joined R X Y) ≡ None) × (R.font (joined R X Y) ≡ seen (both (whole R X) (whole R Y)))
-    back = law.reads_back _ _ okU (inl refl) small
+    back = law.reads_back _ _ arU (inl refl) small
 
     pub IsCurrent-joined : IsCurrent R (joined R X Y)
-    IsCurrent-joined = IsCurrent-written _ _ okU refl small
+    IsCurrent-joined = IsCurrent-written _ _ arU refl small
 
     pub IsCut-joined : IsCut R (joined R X Y)
     IsCut-joined = IsCut-current R _ IsCurrent-joined
 
     pub whole-joined : whole R (joined R X Y) ≡ both (whole R X) (whole R Y)
-    whole-joined = whole-written _ _ okU (inl refl) small
+    whole-joined = whole-written _ _ arU (inl refl) small
 
     pub Under-joined_left : Under R X (joined R X Y)
     Under-joined_left = record {

@@ -43,11 +43,11 @@ table_fault-accepted file accepted =
     none (Some error) h = cc
 
 -- the tables in the slots of a font are those of the file's tags
-hhea-slot : (file : List ℕ) → table_in_slot (font_of file).copied 7 ≡ hhea_of file
+pub hhea-slot : (file : List ℕ) → table_in_slot (font_of file).copied 7 ≡ hhea_of file
 unfolding table_or_empty
 hhea-slot file = ap (λ tag. unwrap_or (table_of file tag) []) are_slots.hhea
 
-hmtx-slot : (file : List ℕ) → table_in_slot (font_of file).copied 8 ≡ hmtx_of file
+pub hmtx-slot : (file : List ℕ) → table_in_slot (font_of file).copied 8 ≡ hmtx_of file
 unfolding table_or_empty
 hmtx-slot file = ap (λ tag. unwrap_or (table_of file tag) []) are_slots.hmtx
 

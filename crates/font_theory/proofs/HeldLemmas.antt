@@ -25,7 +25,7 @@ component-nil : (g : ℕ) → IsComponentOf [] g → ⊥
 component-nil g h = let low = component-below 0 [] g (IsRecord-nil 0) h in absurd (omega (arith, low))
 
 module _ (K : Content) (ok : IsClosedContent K) where
-  outline_is : (g : ℕ) → when (is_kept (seen K) everything g) (padded (unwrap_or (K.outline g) [])) ≡ K.outline g
+  pub outline_is : (g : ℕ) → when (is_kept (seen K) everything g) (padded (unwrap_or (K.outline g) [])) ≡ K.outline g
   outline_is g = ap (λ C. C.outline g) ok.closed
 
   pub held-some : (g : ℕ) → IsHeld K g → (b : List ℕ) × (K.outline g ≡ Some b)

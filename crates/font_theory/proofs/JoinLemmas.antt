@@ -61,7 +61,7 @@ in_left K L g b e = ap (λ o. option_or o (L.outline g)) e
 both-map : (K L : Content) (P : ℕ → Type 0) (c : ℕ) → P (K.map c) → P (L.map c) → P ((both K L).map c)
 both-map K L P c x y = elim (nat_eq (K.map c) 0) as (λ b. P (cond b (L.map c) (K.map c))) [ true ↦ y | false ↦ x ]
 
-both-outline : (K L : Content) (P : List ℕ → Type 0) (g : ℕ) → P ((seen K).outline g) → P ((seen L).outline g) → P ((seen (both K L)).outline g)
+pub both-outline : (K L : Content) (P : List ℕ → Type 0) (g : ℕ) → P ((seen K).outline g) → P ((seen L).outline g) → P ((seen (both K L)).outline g)
 both-outline K L P g x y = go (K.outline g) x
   where
     go : (o : Option (List ℕ)) → P (unwrap_or o []) → P (unwrap_or (option_or o (L.outline g)) [])

@@ -1,5 +1,6 @@
 pub mod AcceptedLemmas
 pub mod AdjustmentLemmas
+pub mod ArisesLemmas
 pub mod CmapLemmas
 pub mod ContentLemmas
 pub mod CutHeadLemmas
@@ -17,6 +18,19 @@ pub mod GrownLemmas
 pub mod HeadTableLemmas
 pub mod HeldLemmas
 pub mod JoinLemmas
+pub mod LeanAgreeLemmas
+pub mod LeanContentLemmas
+pub mod LeanCopiedLemmas
+pub mod LeanCutLemmas
+pub mod LeanEntryLemmas
+pub mod LeanFileLemmas
+pub mod LeanFormatLemmas
+pub mod LeanJoinLemmas
+pub mod LeanLemmas
+pub mod LeanMetricLemmas
+pub mod LeanRecordLemmas
+pub mod LeanSizeLemmas
+pub mod LeanTableLemmas
 pub mod LeastLemmas
 pub mod MeaningLemmas
 pub mod NumberLemmas

@@ -19,11 +19,11 @@ use Rattle.font_theory.proofs.RecordLemmas.{Each, length-file_of}
 use Rattle.font_theory.proofs.SlotLemmas.{are_tables, table_with}
 
 -- the sum of a measure of n slots from one on
-abbrev total : (ℕ → ℕ) → ℕ → ℕ → ℕ
+abbrev pub total : (ℕ → ℕ) → ℕ → ℕ → ℕ
 total h k zero = 0
 total h k (suc n) = h k + total h (k + 1) n
 
-sum-map : (h : ℕ → ℕ) (k n : ℕ) → sum (map h (range_with_len k n)) ≡ total h k n
+pub sum-map : (h : ℕ → ℕ) (k n : ℕ) → sum (map h (range_with_len k n)) ≡ total h k n
 sum-map h k zero = refl
 sum-map h k (suc n) = sum_by-cons (λ x. x) (h k) (map h (range_with_len (k + 1) n)) ∙ ap (λ (x : ℕ). h k + x) (sum-map h (k + 1) n)
 
@@ -32,11 +32,11 @@ total-add f g h k zero is = refl
 total-add f g h k (suc n) is = omega (arith, is k, total-add f g h (k + 1) n is)
 
 -- a table counts one
-abbrev one_of : Option (List ℕ) → ℕ
+abbrev pub one_of : Option (List ℕ) → ℕ
 one_of None = 0
 one_of (Some b) = 1
 
-length-present-total : (f : ℕ → Option (List ℕ)) (k n : ℕ) → length (present (map f (range_with_len k n))) ≡ total (λ slot. one_of (f slot)) k n
+pub length-present-total : (f : ℕ → Option (List ℕ)) (k n : ℕ) → length (present (map f (range_with_len k n))) ≡ total (λ slot. one_of (f slot)) k n
 length-present-total f k zero = refl
 length-present-total f k (suc n) = step (f k) (map f (range_with_len (k + 1) n)) ∙ ap (λ (x : ℕ). one_of (f k) + x) (length-present-total f (k + 1) n)
   where

@@ -7,7 +7,7 @@ use Rattle.character_map.specs.CharacterMap.{is_mapped}
 use Rattle.font_file.specs.Font.{font_fault}
 use Rattle.font_file.specs.declared.font_error.FontError.{FontError}
 use Rattle.font_file.specs.declared.font_error.FontError.TheVariants.{Directory}
-use Rattle.font_theory.specs.Content.{Content, Font, IsClosedContent, IsFont, content, everything, font_of, seen}
+use Rattle.font_theory.specs.Content.{Content, Font, IsFont, content, everything, font_of, seen}
 use Rattle.font_theory.specs.File.{Form, current_form, file, form_of}
 use Rattle.font_theory.specs.Join.{Agree, both}
 use Rattle.font_theory.specs.declared.Profile.TheVariants.{First}
@@ -25,12 +25,17 @@ pub record Format : Type 0 where
 abbrev pub Writes : Format → Content → List ℕ → Type 0
 Writes R K X = (R.file K ≡ X) ⊎ (R.old K ≡ X)
 
+-- a content that accepted files come to by cuts and joins
+pub data Arises (R : Format) : Content → Type 0 where
+  of_file : {K : Content} (X : List ℕ) (wanted : ℕ → Bool) → R.fault X ≡ None → content (R.font X) wanted ≡ K → Arises R K
+  of_two : {K : Content} (L M : Content) → Arises R L → Arises R M → Agree L M → both L M ≡ K → Arises R K
+
 -- what binds a reader and a writer
 pub record IsFormat (R : Format) : Type 0 where
   pub is_font : (X : List ℕ) → R.fault X ≡ None → IsFont (R.font X)
   pub accepted_size : (X : List ℕ) → R.fault X ≡ None → length X ≤ R.most
   pub refused_size : (X : List ℕ) (error : FontError) → R.fault X ≡ Some error → error ≢ Directory FileTooLarge → length X ≤ R.most
-  pub reads_back : (K : Content) (X : List ℕ) → IsClosedContent K → Writes R K X → length X ≤ R.most → (R.fault X ≡ None) × (R.font X ≡ seen K)
+  pub reads_back : (K : Content) (X : List ℕ) → Arises R K → Writes R K X → length X ≤ R.most → (R.fault X ≡ None) × (R.font X ≡ seen K)
 
 -- the cut of a file for the wanted codes
 abbrev pub cut : Format → List ℕ → (ℕ → Bool) → List ℕ

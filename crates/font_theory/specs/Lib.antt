@@ -4,5 +4,6 @@ pub mod Cut
 pub mod Difference
 pub mod File
 pub mod Join
+pub mod Lean
 pub mod Tree
 pub mod WorkedFiles

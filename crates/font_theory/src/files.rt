@@ -7,7 +7,7 @@ ghost use Rattle.font_file.specs.Font.{font_fault};
 ghost use Rattle.font_theory.specs.Bytes.{padded};
 ghost use Rattle.font_theory.specs.Content.{Content, IsClosedContent, IsWritable, font_of, seen};
 ghost use Rattle.sfnt_bytes.specs.declared.base6.TheConstants.{BASE6};
-ghost use Rattle.font_theory.specs.Cut.{IsCurrent, IsFormat, IsOld, cut, format_of, our_format};
+ghost use Rattle.font_theory.specs.Cut.{Arises, IsCurrent, IsFormat, IsOld, Writes, cut, format_of, our_format};
 ghost use Rattle.font_theory.specs.File.{Form, IsForm, file, form_of, glyf_bytes, groups_of_content, outlines_of, size_of, size_with};
 ghost use Rattle.font_theory.specs.declared.Profile.{Profile};
 ghost use Rattle.font_theory.specs.declared.Profile.TheVariants.{First, Second};
@@ -95,6 +95,12 @@ pub fn forms_are_formats()
 pub fn our_format_is()
     ensures { IsFormat our_format × (our_format.file ≡ file (form_of Second))
         × (our_format.old ≡ file (form_of First)) × (our_format.most ≡ MAX_FILE) }
+{}
+
+/// A closed content whose file is not too large is one that accepted files come to: that file.
+pub fn closed_arises()
+    ensures { (K : Content) (X : List ℕ) → IsClosedContent K → Writes our_format K X → length X ≤ MAX_FILE →
+        Arises our_format K }
 {}
 
 /// The cut of a small font for no code in the first profile, byte by byte.

@@ -4,6 +4,8 @@
 mod cuts;
 mod files;
 mod joins;
+mod lean;
+mod slots;
 mod trees;
 
 pub use crate::cuts::{
@@ -13,15 +15,23 @@ pub use crate::cuts::{
     wanted_is_in_file, wanted_is_kept,
 };
 pub use crate::files::{
-    cut_of_aacute, cut_of_nothing, cut_of_nothing_second, file_has_no_finding, file_is_accepted,
-    file_means, file_size, form_sizes_are_apart, forms_are_apart, forms_are_formats,
-    no_cut_is_both, our_format_is, outlines_size, profiles_are_forms, second_glyf_has_bytes,
-    size_in_first_profile, size_in_second_profile,
+    closed_arises, cut_of_aacute, cut_of_nothing, cut_of_nothing_second, file_has_no_finding,
+    file_is_accepted, file_means, file_size, form_sizes_are_apart, forms_are_apart,
+    forms_are_formats, no_cut_is_both, our_format_is, outlines_size, profiles_are_forms,
+    second_glyf_has_bytes, size_in_first_profile, size_in_second_profile,
 };
 pub use crate::joins::{
     can_join_is_decided, join_of_cuts, join_of_one, least_upper_bound, no_difference,
     true_refusals, under_is_order, under_one_file, union_is_closed, union_of_cuts,
 };
+pub use crate::lean::{
+    join_of_lean_cuts, lean_agreement_is, lean_content_is, lean_contents_agree,
+    lean_cut_is_accepted, lean_cut_is_current, lean_cut_is_no_longer, lean_cut_of_cut,
+    lean_file_means, lean_is_a_format, lean_is_closed, lean_join_is, lean_least_upper_bound,
+    lean_metrics_are, lean_records_are, lean_slots_are, lean_tables_are, lean_union_is,
+    trees_of_lean_cuts, wanted_is_in_lean_file,
+};
+pub use crate::slots::{POST, VHEA, VMTX};
 pub use crate::trees::{
     clash_everywhere, grown_cuts, same_content, same_union, same_value, same_value_of_cuts,
     trees_of_cuts,

@@ -1,0 +1,11 @@
+use Rattle.std.proofs.lemmas.Result.{MatchResult-weaker}
+use Rattle.font_subset.proofs.LeanCutLemmas.{is_lean_cut_for_some, is_under_lean}
+use Rattle.font_subset.proofs.lean_forms.is_cut_of.Goals as goal
+
+pub returns-clause-exact : goal.returns-clause-exact
+returns-clause-exact g c =
+    MatchResult-weaker c.is_cut_for_own_codes.result c.is_cut_for_own_codes.ensures (λ b e. is_under_lean b c.args.cut.now c.args.font.now c.accepted.ensures c.accepted-2.ensures e) (λ e h. tt)
+
+pub returns-clause-some_codes : goal.returns-clause-some_codes
+returns-clause-some_codes g c =
+    MatchResult-weaker c.is_cut_for_own_codes.result c.is_cut_for_own_codes.ensures (λ b e. is_lean_cut_for_some b c.args.cut.now c.args.font.now c.accepted.ensures c.accepted-2.ensures e) (λ e h. tt)
