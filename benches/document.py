@@ -4,6 +4,7 @@ import os
 import platform
 import re
 
+import cut_sizes
 from checks import TOP, run
 from measure import DEBIAN_PYTHON, HB_SUBSET, SIZED
 
@@ -198,6 +199,43 @@ def size_table(found):
     whats = list(points[0][1])
     rows = [[font.name, f"{font.size / MB:.2f}", *(number(least[what]) for what in whats)] for font, least in points]
     return table(["font", "MB", *whats], rows)
+
+
+def length_ratios(rows, wanted, one, other, kind):
+    """The ratios of two ways' lengths for a set, with the names of the fonts."""
+    both = [row for row in rows if row.wanted == wanted and one in row.made and other in row.made]
+    return [(getattr(row.made[one], kind) / getattr(row.made[other], kind), row.font.name) for row in both]
+
+
+def length_rows(rows):
+    """Rows of what was set: lean cuts as WOFF2 beside those of hb-subset, for each set."""
+    for wanted in cut_sizes.SETS:
+        pairs = length_ratios(rows, wanted, "lean cut", "hb-subset", "woff2")
+        what = f"lean cut : `hb-subset`, bytes as WOFF2, {wanted}"
+        if pairs:
+            most, name = max(pairs)
+            yield held_row(what, 1.25, mean([value for value, _ in pairs]), f"{ratio(most)} ({name})")
+        else:
+            yield [what, ratio(1.25), "–", "–", "not measured"]
+
+
+def length_means(rows):
+    """For each set the geometric means of the lengths of each way, beside those of lean cuts."""
+    lines = []
+    for wanted in cut_sizes.SETS:
+        for way in cut_sizes.WAYS:
+            found = [length_ratios(rows, wanted, way, "lean cut", kind) for kind in cut_sizes.Packed._fields]
+            means = [ratio(mean([value for value, _ in pairs])) if pairs else "–" for pairs in found]
+            lines.append([wanted, way, *means])
+    return table(["wanted", "made by", "raw", "Brotli", "WOFF2"], lines)
+
+
+def length_table(rows):
+    """The bytes of each way for each font and set: as they are, and as WOFF2."""
+    def cell(made):
+        return f"{made.raw:,}, {made.woff2:,}" if made else "–"
+    return table(["font", "wanted", *cut_sizes.WAYS],
+                 [[row.font.name, row.wanted, *(cell(row.made.get(way)) for way in cut_sizes.WAYS)] for row in rows])
 
 
 def first_line(*words):

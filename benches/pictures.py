@@ -8,10 +8,11 @@ matplotlib.use("svg")
 import matplotlib.pyplot as plt
 from matplotlib.ticker import FuncFormatter, NullLocator
 
+import cut_sizes
 from document import MB, SETS, sizes
 
-COLOURS = {"fontcut": "#0b5394", "cut": "#0b5394", "join": "#0b5394", "floor": "#8a8a8a", "copy": "#8a8a8a",
-           "hb-subset": "#d9730d", "hb": "#d9730d", "pyftsubset": "#5b8c3e"}
+COLOURS = {"fontcut": "#0b5394", "cut": "#0b5394", "lean cut": "#0b5394", "join": "#0b5394",
+           "floor": "#8a8a8a", "copy": "#8a8a8a", "hb-subset": "#d9730d", "hb": "#d9730d", "pyftsubset": "#5b8c3e"}
 LABELS = {"cut": "fontcut_cut", "hb": "hb_subset_or_fail", "copy": "copy and sum",
           "floor": "floor (read, copy, sum, write)", "pyftsubset": "pyftsubset (one run)"}
 STYLE = {"svg.fonttype": "none", "svg.hashsalt": "fontcut", "font.family": "sans-serif", "font.size": 10,
@@ -70,6 +71,27 @@ def by_size(path, title, rows, names):
     keep(figure, path)
 
 
+def of_lengths(path, rows):
+    """A panel for each set: the bytes of each way's file as WOFF2, over the size of the font."""
+    figure, panels = plt.subplots(1, len(cut_sizes.SETS), figsize=(8.4, 3.6), sharex=True, sharey=True)
+    for axes, wanted in zip(panels, cut_sizes.SETS):
+        for order, way in enumerate(cut_sizes.WAYS):
+            points = [(row.font.size / MB, row.made[way].woff2 / 1000) for row in rows
+                      if row.wanted == wanted and way in row.made]
+            if points:
+                axes.plot(*zip(*points), marker="o", markersize=3.5, linewidth=1.5, color=COLOURS[way],
+                          linestyle="--" if way == "cut" else "-", label=way, zorder=9 - order)
+        log_axes(axes, SIZES)
+        axes.set_title(wanted, fontsize=10, loc="left")
+        axes.set_xlabel("size of the font, MB")
+    panels[0].set_ylabel("bytes as WOFF2, in thousands")
+    handles, labels = panels[0].get_legend_handles_labels()
+    figure.suptitle("How long cuts are", x=0.02, y=0.98, ha="left", fontsize=12)
+    figure.legend(handles, labels, loc="upper left", bbox_to_anchor=(0.01, 0.93), ncol=len(labels), frameon=False)
+    figure.tight_layout(rect=(0, 0, 1, 0.9))
+    keep(figure, path)
+
+
 def of_joins(path, joins):
     """Joins and the C program, over the bytes that are read."""
     figure, axes = plt.subplots(figsize=(6.4, 3.8))
@@ -118,6 +140,7 @@ def draw(folder, found):
                 ("fontcut", "floor", "hb-subset", "pyftsubset"))
         by_size(os.path.join(folder, "speed_in_process.svg"), "In process: a cut, from memory to memory",
                 found["calls"], ("cut", "hb", "copy"))
+        of_lengths(os.path.join(folder, "cut_sizes.svg"), found["lengths"])
         if found["joins"]:
             of_joins(os.path.join(folder, "speed_joins.svg"), found["joins"])
         points = sizes(found)

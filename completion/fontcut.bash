@@ -5,7 +5,8 @@
 _fontcut_options() {
     case $1 in
     '') echo '--verbose --version --help' ;;
-    subset) echo '--text --text-file --codes-file --report --strict --verbose --help' ;;
+    subset) echo '--text --text-file --codes-file --report --strict --lean --verbose --help' ;;
+    belongs) echo '--lean --verbose --help' ;;
     *) echo '--verbose --help' ;;
     esac
 }

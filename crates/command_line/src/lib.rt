@@ -37,13 +37,24 @@ pub enum Task<'a> {
     /// Print the mapped codes of the font at the path `font`.
     Codes { font: &'a str },
     /// Print whether the file at the path `cut` is a cut of the font at the path `font`.
-    Belongs { cut: &'a str, font: &'a str },
+    Belongs(Belongs<'a>),
     /// Write the cut of a font to a file.
     Subset(Subset<'a>),
     /// Write the join of cuts to a file.
     Join(Join<'a>),
     /// Print what is found in the font that the program carries.
     Demo,
+}
+
+/// What `belongs` asks for.
+#[derive(Debug, Drop)]
+pub struct Belongs<'a> {
+    /// The path of the file that may be a cut.
+    pub cut: &'a str,
+    /// The path of the font.
+    pub font: &'a str,
+    /// Whether a lean cut is asked for.
+    pub is_lean: bool,
 }
 
 /// What `subset` asks for.
@@ -65,6 +76,8 @@ pub struct Subset<'a> {
     pub reports: bool,
     /// Whether nothing is written where a wanted code is not mapped.
     pub is_strict: bool,
+    /// Whether the lean cut is written.
+    pub is_lean: bool,
 }
 
 /// What `join` asks for.
@@ -122,7 +135,8 @@ fn belongs_command<'a>(alloc: Global) -> Result<Command<'a>, AllocError> {
     Command::new(alloc, "belongs")
         .about(texts::BELONGS)
         .arg(Arg::new(alloc, "CUT").required(true))?
-        .arg(Arg::new(alloc, "FONT").required(true))
+        .arg(Arg::new(alloc, "FONT").required(true))?
+        .arg(flag(alloc, "lean", texts::LEAN_CUT))
 }
 
 fn subset_command<'a>(alloc: Global) -> Result<Command<'a>, AllocError> {
@@ -139,6 +153,7 @@ fn subset_command<'a>(alloc: Global) -> Result<Command<'a>, AllocError> {
         .arg(repeated(alloc, "codes-file", "FILE", texts::CODES_FILE))?
         .arg(flag(alloc, "report", texts::REPORT))?
         .arg(flag(alloc, "strict", texts::STRICT))?
+        .arg(flag(alloc, "lean", texts::LEAN))?
         .arg(words)
 }
 
@@ -232,6 +247,7 @@ fn subset_task<'a>(
         words: values_of(alloc, matches, "WORDS")?,
         reports: matches.get_flag("report"),
         is_strict: matches.get_flag("strict"),
+        is_lean: matches.get_flag("lean"),
     })))
 }
 
@@ -239,7 +255,11 @@ fn belongs_task<'a>(matches: &ArgMatches<'a>) -> Option<Task<'a>> {
     let (Some(cut), Some(font)) = (matches.get_str("CUT"), matches.get_str("FONT")) else {
         return None;
     };
-    Some(Task::Belongs { cut, font })
+    Some(Task::Belongs(Belongs {
+        cut,
+        font,
+        is_lean: matches.get_flag("lean"),
+    }))
 }
 
 fn join_task<'a>(alloc: Global, matches: &ArgMatches<'a>) -> Result<Option<Task<'a>>, AllocError> {
@@ -319,7 +339,7 @@ fn reads_input_twice(task: &Task<'_>) -> bool {
             .saturating_add(standard_count(&line.text_files))
             .saturating_add(standard_count(&line.code_files)),
         Task::Join(line) => standard_count(&line.files),
-        Task::Belongs { cut, font } => standard_count(&[*cut, *font]),
+        Task::Belongs(line) => standard_count(&[line.cut, line.font]),
         _ => 0,
     };
     1 < count

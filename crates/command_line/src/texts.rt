@@ -73,14 +73,21 @@ pub(crate) const REPORT: &str =
 pub(crate) const STRICT: &str =
     "Writes nothing and reports, with status 1, where FONT lacks a wanted code";
 
+pub(crate) const LEAN: &str =
+    "Writes the lean cut: no metrics of glyphs that are not kept, and no names of glyphs";
+
+pub(crate) const LEAN_CUT: &str = "Asks for a lean cut, as subset --lean writes it";
+
 pub(crate) const WORDS: &str = "Ranges of codes to keep: all, U+41, U+41-5A";
 
 pub(crate) const AFTER_SUBSET: &str = "\
 A cut keeps the numbers of the glyphs. It drops the tables of layout (GSUB, GPOS, GDEF, kern), of
-variations (fvar, gvar ..), of colours and bitmaps, and signatures; fontcut show lists them.
+variations (fvar, gvar ..), of colours and bitmaps, and signatures; fontcut show lists them. The lean cut
+of a cut is that of its font: --lean with the word all makes a cut lean.
 
 Examples:
   fontcut subset font.ttf cut.ttf --text 'Hello, world'
+  fontcut subset font.ttf lean.ttf U+20-7E --lean
   fontcut subset font.ttf cut.ttf U+20-7E --text-file page.txt --report
 
 Statuses: 0 done; 1 the font is refused, or --strict and a code is not mapped; 2 words; 3 files";

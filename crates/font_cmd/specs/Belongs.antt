@@ -1,6 +1,7 @@
 -- What `belongs` prints of two files, and how it leaves its inlets and its outlet, this project's own.
 use Rattle.std.specs.Prelude.{◌≡◌, ℕ, ◌⊎◌, ◌↔◌, Bool, false, true, IsTrue, List, None, Option, Some, codes, take}
 use Rattle.font_subset.specs.Cut.{IsCutForSome}
+use Rattle.font_subset.specs.Lean.{IsLeanCutForSome}
 use Rattle.font_cut.specs.Fonts.{FontError, font_fault}
 use Rattle.outlet.specs.Outlet as outlets
 use Rattle.font_cut.specs.declared.join_error.Which.{Which}
@@ -19,12 +20,20 @@ abbrev pub answer_text : Bool → List ℕ
 answer_text true = line (codes "yes")
 answer_text false = line (codes "no")
 
--- both files are accepted, and the answer says whether the first one is a cut of the second one for some
--- codes, in some form
-pub record Answers (cut font : List ℕ) (answer : Bool) : Type 0 where
+-- both files are accepted, and the answer says whether the first one is a cut of the second one, as the
+-- relation has it
+pub record AnswersBy (Is : List ℕ → List ℕ → Type 0) (cut font : List ℕ) (answer : Bool) : Type 0 where
   pub cut_accepted : font_fault cut ≡ None
   pub font_accepted : font_fault font ≡ None
-  pub is : IsTrue answer ↔ IsCutForSome font cut
+  pub is : IsTrue answer ↔ Is font cut
+
+-- the answer says whether the first file is a cut of the second one for some codes, in some form
+abbrev pub Answers : List ℕ → List ℕ → Bool → Type 0
+Answers = AnswersBy IsCutForSome
+
+-- the answer says whether the first file is a lean cut of the second one for some codes
+abbrev pub AnswersLean : List ℕ → List ℕ → Bool → Type 0
+AnswersLean = AnswersBy IsLeanCutForSome
 
 -- the first file is refused as a font, or it is accepted and the second one is refused, by the first refusal
 -- that applies
@@ -47,21 +56,21 @@ abbrev pub BrokeAfter : {R : Type 0} → (R → Option (List ℕ)) → Inlet R �
 BrokeAfter remaining i j count = (inlets.inlet_broken_of j ≡ true) × inlets.Gives remaining i j count
 
 -- how a run that is not done leaves the inlet of CUT, from c to d, that of FONT, from i to j, and its outlet,
--- from o to p
-abbrev pub BelongsStops : {R W : Type 0} (remaining : R → Option (List ℕ)) (contents : W → Option (List ℕ)) (c d i j : Inlet R) (o p : Outlet W) → RunError → Type 0
+-- from o to p; the relation is the one that is asked for
+abbrev pub BelongsStops : {R W : Type 0} (Is : List ℕ → List ℕ → Type 0) (remaining : R → Option (List ℕ)) (contents : W → Option (List ℕ)) (c d i j : Inlet R) (o p : Outlet W) → RunError → Type 0
 -- nothing was sent: CUT broke, and FONT was not read, or FONT did
-BelongsStops remaining contents c d i j o p (Read count) =
+BelongsStops Is remaining contents c d i j o p (Read count) =
     (p ≡ o) × ((BrokeAfter remaining c d count × (j ≡ i)) ⊎ (IsSpent d × BrokeAfter remaining i j count))
 -- nothing was sent, and FONT was read or not
-BelongsStops remaining contents c d i j o p Memory = (p ≡ o) × IsSpent d × ((j ≡ i) ⊎ IsSpent j)
+BelongsStops Is remaining contents c d i j o p Memory = (p ≡ o) × IsSpent d × ((j ≡ i) ⊎ IsSpent j)
 -- one of both is refused, and nothing was sent
-BelongsStops remaining contents c d i j o p (OneOf which error) =
+BelongsStops Is remaining contents c d i j o p (OneOf which error) =
     (p ≡ o) × IsSpent d × IsSpent j × got_both remaining c i (λ x y. RefusesOneOf x y which error)
 -- the outlet is broken, and so many bytes of the answer went out
-BelongsStops remaining contents c d i j o p (Write count) =
+BelongsStops Is remaining contents c d i j o p (Write count) =
     IsSpent d × IsSpent j × (outlets.broken_of p ≡ true) × (outlets.written_of p ≡ count)
-    × ((answer : Bool) × got_both remaining c i (λ x y. Answers x y answer) × outlets.WentOut contents o p (take count (answer_text answer)))
+    × ((answer : Bool) × got_both remaining c i (λ x y. AnswersBy Is x y answer) × outlets.WentOut contents o p (take count (answer_text answer)))
 -- nothing else stops it
-BelongsStops remaining contents c d i j o p (Font error) = ⊥
-BelongsStops remaining contents c d i j o p (TooLarge size) = ⊥
-BelongsStops remaining contents c d i j o p (Join error) = ⊥
+BelongsStops Is remaining contents c d i j o p (Font error) = ⊥
+BelongsStops Is remaining contents c d i j o p (TooLarge size) = ⊥
+BelongsStops Is remaining contents c d i j o p (Join error) = ⊥

@@ -1,6 +1,7 @@
 -- What a run is given, and how it leaves its inlet and its outlet, this project's own.
 use Rattle.std.specs.Prelude.{◌≡◌, ℕ, ◌+◌, ◌≤◌, Bool, false, true, length, List, None, Option, IfErr, IfSome, OnOk, Result, Some, take}
 use Rattle.font_subset.specs.Cut.{IsTooLarge, cut_of}
+use Rattle.font_subset.specs.Lean.{lean_cut_of}
 use Rattle.font_cut.specs.Fonts.{MAX_FILE, error_number, font_fault, no_memory_number}
 use Rattle.font_subset.specs.declared.cut_font.CutIntoError.{CutIntoError}
 use Rattle.font_subset.specs.declared.cut_font.CutIntoError.TheVariants as cut_errors
@@ -56,9 +57,17 @@ AnyFile file = Unit {0}
 abbrev pub IsAccepted : List ℕ → Type 0
 IsAccepted file = font_fault file ≡ None
 
+-- a file is accepted, and what is made of it is not too large
+abbrev pub HasMade : (List ℕ → List ℕ) → List ℕ → Type 0
+HasMade made file = (font_fault file ≡ None) × (length (made file) ≤ MAX_FILE)
+
 -- a file is accepted, and its cut for the wanted codes is not too large
 abbrev pub HasCut : (ℕ → Bool) → List ℕ → Type 0
-HasCut wanted file = (font_fault file ≡ None) × (length (cut_of file wanted) ≤ MAX_FILE)
+HasCut wanted = HasMade (λ file. cut_of file wanted)
+
+-- a file is accepted, and its lean cut for the wanted codes is not too large
+abbrev pub HasLeanCut : (ℕ → Bool) → List ℕ → Type 0
+HasLeanCut wanted = HasMade (λ file. lean_cut_of file wanted)
 
 -- no file is refused
 abbrev pub RefusesNone : RunError → Type 0
@@ -74,15 +83,23 @@ RefusesFont remaining inlet (Read count) = ⊥
 RefusesFont remaining inlet Memory = ⊥
 RefusesFont remaining inlet (Write count) = ⊥
 
--- a file is refused as a font, or is one and its cut has so many bytes, more than a file may have
+-- a file is refused as a font, or is one and what is made of it has this size, more than a file may have
+abbrev pub RefusesMade : {R : Type 0} → (R → Option (List ℕ)) → Inlet R → (List ℕ → List ℕ) → RunError → Type 0
+RefusesMade remaining inlet made (Font error) = got remaining inlet (λ file. font_fault file ≡ Some error)
+RefusesMade remaining inlet made (TooLarge size) = got remaining inlet (λ file. (font_fault file ≡ None) × IsTooLarge (made file) size)
+RefusesMade remaining inlet made (OneOf which error) = ⊥
+RefusesMade remaining inlet made (Join error) = ⊥
+RefusesMade remaining inlet made (Read count) = ⊥
+RefusesMade remaining inlet made Memory = ⊥
+RefusesMade remaining inlet made (Write count) = ⊥
+
+-- a file is refused as a font, or its cut is too large
 abbrev pub RefusesCut : {R : Type 0} → (R → Option (List ℕ)) → Inlet R → (ℕ → Bool) → RunError → Type 0
-RefusesCut remaining inlet wanted (Font error) = got remaining inlet (λ file. font_fault file ≡ Some error)
-RefusesCut remaining inlet wanted (TooLarge size) = got remaining inlet (λ file. (font_fault file ≡ None) × IsTooLarge (cut_of file wanted) size)
-RefusesCut remaining inlet wanted (OneOf which error) = ⊥
-RefusesCut remaining inlet wanted (Join error) = ⊥
-RefusesCut remaining inlet wanted (Read count) = ⊥
-RefusesCut remaining inlet wanted Memory = ⊥
-RefusesCut remaining inlet wanted (Write count) = ⊥
+RefusesCut remaining inlet wanted = RefusesMade remaining inlet (λ file. cut_of file wanted)
+
+-- a file is refused as a font, or its lean cut is too large
+abbrev pub RefusesLeanCut : {R : Type 0} → (R → Option (List ℕ)) → Inlet R → (ℕ → Bool) → RunError → Type 0
+RefusesLeanCut remaining inlet wanted = RefusesMade remaining inlet (λ file. lean_cut_of file wanted)
 
 -- the error of a run whose inlet was not read to its end
 abbrev pub of_read_error : ReadError → RunError

@@ -1,6 +1,7 @@
 //! `belongs`: whether a file is a cut of a font.
 ghost use Rattle.std.specs.Prelude.{◌≡◌, IfErr, IfOk, MatchResult, OnOk, false, true};
 ghost use Rattle.outlet.specs.Outlet.{WentOut, broken_of, fresh_of};
+ghost use Rattle.font_subset.specs.Cut.{IsCutForSome};
 ghost use Rattle.font_cmd.specs.Belongs.{Answers, BelongsStops, IsUnanswered, answer_text, got_both};
 ghost use Rattle.font_cmd.specs.Inlet.{inlet_fresh_of};
 ghost use Rattle.font_cmd.specs.Join.{IsSpent};
@@ -26,8 +27,8 @@ fn is_cut_in<A: Allocator + Copy>(alloc: A, cut: &[u8], font: &[u8]) -> Result<b
     Ok(is_cut_of(alloc, &cut, &font)?)
 }
 
-// Returns what is printed of an answer.
-fn answer(belongs: bool) -> &'static str
+/// Returns what is printed of an answer.
+pub(crate) fn answer(belongs: bool) -> &'static str
     ensures { result.now ≡ answer_text belongs }
 {
     if belongs { "yes\n" } else { "no\n" }
@@ -58,7 +59,7 @@ pub fn run_belongs<R: Read, W: Write, A: Allocator + Copy>(
     ensures whole { OnOk result (IsSpent cut.new × IsSpent font.new × (broken_of outlet.new ≡ false)) }
 
     ensures error { IfErr result
-        (BelongsStops R.remaining W.contents cut.old cut.new font.old font.new outlet.old outlet.new) }
+        (BelongsStops IsCutForSome R.remaining W.contents cut.old cut.new font.old font.new outlet.old outlet.new) }
 {
     let cut_file = cut.read_all(alloc)?;
     let font_file = font.read_all(alloc)?;

@@ -6,6 +6,9 @@ use std::alloc::{AllocError, Global};
 // How many ranges of codes are listed.
 const LISTED: usize = 100;
 
+// What a lean cut leaves out.
+const LEAN_LINES: &str = "without metrics of glyphs that are not kept\nwithout names of glyphs\n";
+
 // Room for the last line, which is written after the cut is.
 const LAST_LINE: &str = "cut 134217728 bytes\n";
 
@@ -98,7 +101,7 @@ impl Coverage {
         let mut text = first_lines(alloc, count, lacking)?;
         add_unmapped(&mut text, &unmapped)?;
         add_font(&mut text, font)?;
-        text.reserve(LAST_LINE.len())?;
+        text.reserve(LEAN_LINES.len() + LAST_LINE.len())?;
         Ok(Coverage {
             text,
             is_full: lacking == 0,
@@ -115,8 +118,11 @@ impl Coverage {
         self.text
     }
 
-    /// Returns the lines, and one for the bytes of the cut.
-    pub(crate) fn with_cut(mut self, size: u64) -> Result<String, AllocError> {
+    /// Returns the lines, those for what a lean cut leaves out, and one for the bytes of the cut.
+    pub(crate) fn with_cut(mut self, size: u64, is_lean: bool) -> Result<String, AllocError> {
+        if is_lean {
+            self.text.push_str(LEAN_LINES)?;
+        }
         write!(self.text, "cut {size} bytes\n")?;
         Ok(self.text)
     }

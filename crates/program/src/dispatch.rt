@@ -11,9 +11,10 @@ use crate::report::{Fault, no_memory};
 use crate::system::{Heard, System};
 use crate::wanted::{add_files, codes_of};
 use code_files::{CodeSet, Listed};
-use command_line::{Join, Line, LineError, STANDARD, Subset, Task, parse};
+use command_line::{Belongs, Join, Line, LineError, STANDARD, Subset, Task, parse};
 use font_cmd::{
-    Inlet, RunError, run_belongs, run_check, run_codes, run_join, run_show, run_subset,
+    Inlet, RunError, run_belongs, run_check, run_codes, run_join, run_lean_belongs,
+    run_lean_subset, run_show, run_subset,
 };
 use font_cut::{Font, Outlet, Wanted};
 use out_file::{OutFile, Target};
@@ -145,16 +146,23 @@ fn codes<'a, F: Files, I: Read + Copy + Drop, O, W: Write>(
 
 fn belongs<'a, F: Files, I: Read + Copy + Drop, O, W: Write>(
     system: &System<'a, F, I, O>,
-    cut: &'a str,
-    font: &'a str,
+    line: &Belongs<'a>,
     out: &mut Outlet<W>,
 ) -> Result<Answer, Fault<'a>>
     requires { fresh_of out.old ≡ true }
 {
-    let mut cut_inlet = opened(system, cut)?;
-    let mut font_inlet = opened(system, font)?;
-    let is_cut = run_belongs(system.alloc, &mut cut_inlet, &mut font_inlet, out);
-    let unread = if cut_inlet.is_broken() { cut } else { font };
+    let mut cut_inlet = opened(system, line.cut)?;
+    let mut font_inlet = opened(system, line.font)?;
+    let is_cut = if line.is_lean {
+        run_lean_belongs(system.alloc, &mut cut_inlet, &mut font_inlet, out)
+    } else {
+        run_belongs(system.alloc, &mut cut_inlet, &mut font_inlet, out)
+    };
+    let unread = if cut_inlet.is_broken() {
+        line.cut
+    } else {
+        line.font
+    };
     answered(unread, is_cut)
 }
 
@@ -212,7 +220,12 @@ fn send_cut<'a, F: Files, I, O: Write + Copy + Drop, R: Read>(
     requires { inlet_fresh_of inlet.old ≡ true }
 {
     let mut outlet = outlet(system, line.out)?;
-    match run_subset(system.alloc, inlet, wanted, &mut outlet) {
+    let sent = if line.is_lean {
+        run_lean_subset(system.alloc, inlet, wanted, &mut outlet)
+    } else {
+        run_subset(system.alloc, inlet, wanted, &mut outlet)
+    };
+    match sent {
         Ok(size) => {
             placed(system, outlet, line.out)?;
             Ok(size)
@@ -253,7 +266,7 @@ fn told<'a>(line: &Subset<'a>, coverage: Coverage, size: u64) -> Result<Answer, 
     if !line.reports {
         return Ok(Answer::of(true));
     }
-    match coverage.with_cut(size) {
+    match coverage.with_cut(size, line.is_lean) {
         Ok(text) => Ok(Answer::telling(true, text)),
         Err(_) => Err(no_memory()),
     }
@@ -377,7 +390,7 @@ fn done<'a, F: Files, I: Read + Copy + Drop, O: Write + Copy + Drop, W: Write>(
         Task::Check { font } => check(system, font, out),
         Task::Show { font } => show(system, font, out),
         Task::Codes { font } => codes(system, font, out),
-        Task::Belongs { cut, font } => belongs(system, cut, font, out),
+        Task::Belongs(line) => belongs(system, line, out),
         Task::Subset(line) => subset(system, line),
         Task::Join(line) => join(system, line),
         Task::Demo => demo(system.alloc, out),
