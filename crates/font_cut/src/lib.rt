@@ -6,6 +6,7 @@ mod join_error;
 mod join_list;
 mod join_pair;
 mod join_source;
+pub mod lean;
 mod listed;
 mod outlines;
 mod union;
