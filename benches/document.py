@@ -5,6 +5,7 @@ import platform
 import re
 
 import cut_sizes
+import merged_sizes
 from checks import TOP, run
 from measure import DEBIAN_PYTHON, HB_SUBSET, SIZED
 
@@ -94,6 +95,24 @@ def beside_font(rows, who):
     return max((row.took[who].peak - row.font.size, f"{row.font.name}, {row.wanted}") for row in rows)
 
 
+def lean_memory(row):
+    """How many bytes of the heap a lean cut holds at most more than a cut, for each glyph of the font."""
+    return (row.took["lean"].held - row.took["cut"].held) / row.font.glyphs
+
+
+def lean_memory_row(limit, rows):
+    """A row for the memory of lean cuts."""
+    most, name = max((lean_memory(row), f"{row.font.name}, {row.wanted}") for row in rows)
+    return held_row("memory of a lean cut above that of a cut, bytes a glyph", limit, most, name)
+
+
+def lean_memory_table(rows):
+    """A row a font: its glyphs, and for each set the bytes a glyph that a lean cut holds at most above a cut."""
+    lines = [[font.name, f"{font.glyphs:,}", *(ratio(values.get(name)) for name in SETS)]
+             for font, values in by_font(rows, lean_memory).items()]
+    return table(["font", "glyphs", *SETS], lines)
+
+
 def of_others(found, where):
     """The most memory above the font's size of the floor at the same font and set, and what nothing takes."""
     mine = [row for row in found["programs"] if f"{row.font.name}, {row.wanted}" == where]
@@ -114,6 +133,8 @@ def held(found):
         mean_row("the same, all", 0.2, hb, ["all"]),
         most_row("the same, the largest of any font and set", 2.5, hb),
         mean_row("`cut` : copy and sum, all", 1.3, copy, ["all"]),
+        mean_row("lean cut : `cut`, all fonts and sets", 1.05, ratios_of(calls, "lean", "cut"), SETS),
+        lean_memory_row(12, calls),
         mean_row("program : floor, all fonts and sets", 1.12, floor, SETS),
         mean_row("the same, 3,000 ideographs", 1.25, floor, ["3,000 ideographs"]),
         mean_row("program : `hb-subset`, all", 0.45, tool, ["all"]),
@@ -238,6 +259,22 @@ def length_table(rows):
                  [[row.font.name, row.wanted, *(cell(row.made.get(way)) for way in cut_sizes.WAYS)] for row in rows])
 
 
+def merged_table(rows):
+    """The bytes of the fonts of merged documents, and those of the joined cuts beside them."""
+    def cell(sizes, way):
+        if way not in sizes:
+            return "–"
+        return f"{sizes[way]:,}" + ("" if way == merged_sizes.WAYS[0] else f", {ratio(sizes[way] / least(sizes))}")
+
+    def least(sizes):
+        return sizes[merged_sizes.WAYS[0]]
+
+    if not rows:
+        return "Not measured, for the fonts were not there."
+    return table(["font", "documents", *merged_sizes.WAYS],
+                 [[row.font, row.count, *(cell(row.sizes, way) for way in merged_sizes.WAYS)] for row in rows])
+
+
 def first_line(*words):
     """What a program says of its version."""
     try:
@@ -251,8 +288,8 @@ def machine():
     with open("/proc/cpuinfo", encoding="utf-8") as opened:
         named = re.search(r"^model name\s*:\s*(.*)$", opened.read(), re.M)
     processor = f" ({named.group(1).strip()})" if named else ""
-    with open(os.path.join(TOP, "crates", "command_line", "src", "lib.rt"), encoding="utf-8") as opened:
-        version = re.search(r'VERSION: &str = "(.*)"', opened.read()).group(1)
+    with open(os.path.join(TOP, "VERSION"), encoding="utf-8") as opened:
+        version = opened.read().strip()
     tools = first_line(DEBIAN_PYTHON, "-c", "import fontTools; print(fontTools.version)")
     return (f"{os.cpu_count()} cores{processor}, {platform.system()} {platform.release()}; fontcut {version}, "
             f"{first_line(HB_SUBSET, '--version')}, fontTools {tools}, {first_line('gcc', '--version')}")

@@ -1,16 +1,20 @@
-/* Times three ways to the bytes of a cut, all in memory and in one process, in turn:
+/* Times four ways to the bytes of a cut, all in memory and in one process, in turn:
 
-       cut     fontcut_cut into a room that is kept
+       cut     fontcut_subset into a room that is kept, of the full kind
+       lean    the same of the lean kind
        hb      hb_subset_or_fail, and the blob of what it makes; the face and the input are made for each call,
                as a cut begins with the same bytes and ranges each time
        copy    copying as many bytes as the cut has into that room, and summing their words once
 
    Words: the font, a file with a line FIRST-LAST in hexadecimal digits for each range of wanted codes, the
    milliseconds that each way is given in all, and the least number of its calls. Prints a line for each way: its name,
-   the bytes that it makes, the least and the median nanoseconds of a call, and the number of calls.
+   the bytes that it makes, the least and the median nanoseconds of a call, the number of calls, and the most bytes that
+   a call of the library held of malloc at once, which is counted over one more call. HarfBuzz is another library, of
+   which nothing is counted. It is linked with --wrap=malloc,--wrap=realloc,--wrap=free.
 
    HarfBuzz keeps glyph numbers and hints, and drops the layout tables, as a cut does: it has no closure over them to
    do. A way that fails is left out, and so is HarfBuzz where it is not there (-DNO_HARFBUZZ). */
+#include <malloc.h>
 #include <stdint.h>
 #include <stdio.h>
 #include <stdlib.h>
@@ -23,12 +27,13 @@
 #include "copy_and_sum.h"
 #include "fontcut.h"
 
-enum { WAYS = 3, RANGES = 65536, CALLS = 20000, MORE = 1 << 20 };
+enum { WAYS = 4, RANGES = 65536, CALLS = 20000, MORE = 1 << 20 };
 
 typedef struct way {
     const char *name;
     size_t (*call)(void); /* returns the bytes that it made, or 0 where it failed */
     size_t size;
+    size_t most_held;
     int has_failed;
     int calls;
     int64_t total;
@@ -41,10 +46,58 @@ static fontcut_range ranges[RANGES];
 static size_t range_count;
 static volatile uint32_t last_sum; /* so that no sum is left out */
 
+/* Of one call the bytes that are held of malloc now, and the most that were held at once. */
+static int is_counted;
+static size_t held, most_held;
+
+void *__real_malloc(size_t size);
+void *__real_realloc(void *at, size_t size);
+void __real_free(void *at);
+void *__wrap_malloc(size_t size);
+void *__wrap_realloc(void *at, size_t size);
+void __wrap_free(void *at);
+
+static void *counted(void *at, size_t before)
+{
+    if (is_counted && at != NULL) {
+        held += malloc_usable_size(at) - before;
+        most_held = held > most_held ? held : most_held;
+    }
+    return at;
+}
+
+void *__wrap_malloc(size_t size)
+{
+    return counted(__real_malloc(size), 0);
+}
+
+void *__wrap_realloc(void *at, size_t size)
+{
+    size_t before = is_counted ? malloc_usable_size(at) : 0;
+    return counted(__real_realloc(at, size), before);
+}
+
+void __wrap_free(void *at)
+{
+    if (is_counted)
+        held -= malloc_usable_size(at);
+    __real_free(at);
+}
+
+static size_t call_subset(fontcut_kind kind)
+{
+    fontcut_answer answer = fontcut_subset(kind, font, font_length, ranges, range_count, room, room_length);
+    return answer.status == FONTCUT_DONE ? (size_t)answer.size : 0;
+}
+
 static size_t call_cut(void)
 {
-    fontcut_answer answer = fontcut_cut(font, font_length, ranges, range_count, room, room_length);
-    return answer.status == FONTCUT_DONE ? (size_t)answer.size : 0;
+    return call_subset(FONTCUT_FULL);
+}
+
+static size_t call_lean(void)
+{
+    return call_subset(FONTCUT_LEAN);
 }
 
 static size_t call_copy(void)
@@ -131,6 +184,15 @@ static void call(way *one)
     one->total += took;
 }
 
+static void count_memory(way *one)
+{
+    is_counted = 1;
+    held = most_held = 0;
+    one->call();
+    is_counted = 0;
+    one->most_held = most_held;
+}
+
 static int ascending(const void *first, const void *second)
 {
     int64_t one = *(const int64_t *)first, other = *(const int64_t *)second;
@@ -142,8 +204,8 @@ static void say(way *one)
     if (one->has_failed)
         return;
     qsort(one->times, (size_t)one->calls, sizeof one->times[0], ascending);
-    printf("%s %zu %lld %lld %d\n", one->name, one->size, (long long)one->times[0],
-           (long long)one->times[one->calls / 2], one->calls);
+    printf("%s %zu %lld %lld %d %zu\n", one->name, one->size, (long long)one->times[0],
+           (long long)one->times[one->calls / 2], one->calls, one->most_held);
 }
 
 /* Calls the ways in turn, until each has had its time and the least number of calls. */
@@ -176,6 +238,8 @@ int main(int count, char **words)
     room = got(room_length + 4);
     ways[used].name = "cut";
     ways[used++].call = call_cut;
+    ways[used].name = "lean";
+    ways[used++].call = call_lean;
 #ifndef NO_HARFBUZZ
     ways[used].name = "hb";
     ways[used++].call = call_hb;
@@ -186,7 +250,9 @@ int main(int count, char **words)
     for (int at = 0; at < used; at++) /* the first call of each finds memory that nobody had, and is not timed */
         ways[at].has_failed = ways[at].call() == 0;
     call_in_turn(ways, used, atoll(words[3]) * 1000000, atoi(words[4]));
-    for (int at = 0; at < used; at++)
+    for (int at = 0; at < used; at++) {
+        count_memory(&ways[at]);
         say(&ways[at]);
+    }
     return 0;
 }

@@ -5,7 +5,8 @@ import sys
 import time
 from collections import namedtuple
 
-from checks import BABELSTONE, DEJAVU, FREEFONT, HANAZONO, LIBERATION, PROGRAM, check, end, run, skip
+from checks import BABELSTONE, DEJAVU, FREEFONT, HANAZONO, LIBERATION, PROGRAM, check, end, held, run, skip
+from font_reading import table, u16
 from join_timing import COUNTS, SOURCE, time_join
 from timing import BENCHES, IDEOGRAPHS, LIB, calls_in_turn, compiled, compiled_calls, in_turn, put_ranges
 
@@ -34,7 +35,7 @@ QUICK = Effort(60, 3, 20, 60, 3, COUNTS[:2])
 # A font for a set: the bytes of the cut, and what each program took by its name.
 Row = namedtuple("Row", "font wanted size took")
 
-Font = namedtuple("Font", "name path size")
+Font = namedtuple("Font", "name path size glyphs")
 
 
 def fonts():
@@ -42,7 +43,8 @@ def fonts():
     found = []
     for path in PATHS:
         if os.path.exists(path):
-            found.append(Font(os.path.basename(path)[:-4], path, os.path.getsize(path)))
+            glyphs = u16(table(held(path), b"maxp"), 4)
+            found.append(Font(os.path.basename(path)[:-4], path, os.path.getsize(path), glyphs))
         else:
             skip(os.path.basename(path), "its package is not installed")
     return found
@@ -122,11 +124,11 @@ class Bench:
         return 1000 * (time.perf_counter() - begin) if ran.returncode == 0 else None
 
     def in_process(self, font, wanted):
-        """A cut in memory beside HarfBuzz's call, and a copy with a sum."""
+        """A cut in memory beside a lean cut, HarfBuzz's call, and a copy with a sum."""
         ranges = os.path.join(self.folder, "ranges")
         put_ranges(ranges, wanted.ranges)
         took = calls_in_turn(self.calls, font.path, ranges, self.effort.call_ms, self.effort.least_calls)
-        need(f"{font.name}, {wanted.name}: the call makes the cut", "cut" in took)
+        need(f"{font.name}, {wanted.name}: the calls make both cuts", "cut" in took and "lean" in took)
         if "hb" not in took:
             skip(f"{font.name}, {wanted.name}: hb_subset_or_fail", "it failed, or is not installed")
         return Row(font, wanted.name, took["cut"].size, took)

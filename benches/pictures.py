@@ -13,7 +13,7 @@ from document import MB, SETS, sizes
 
 COLOURS = {"fontcut": "#0b5394", "cut": "#0b5394", "lean cut": "#0b5394", "join": "#0b5394",
            "floor": "#8a8a8a", "copy": "#8a8a8a", "hb-subset": "#d9730d", "hb": "#d9730d", "pyftsubset": "#5b8c3e"}
-LABELS = {"cut": "fontcut_cut", "hb": "hb_subset_or_fail", "copy": "copy and sum",
+LABELS = {"cut": "fontcut_subset", "hb": "hb_subset_or_fail", "copy": "copy and sum",
           "floor": "floor (read, copy, sum, write)", "pyftsubset": "pyftsubset (one run)"}
 STYLE = {"svg.fonttype": "none", "svg.hashsalt": "fontcut", "font.family": "sans-serif", "font.size": 10,
          "axes.grid": True, "grid.color": "#dddddd", "axes.axisbelow": True, "axes.spines.top": False,

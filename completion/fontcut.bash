@@ -5,8 +5,11 @@
 _fontcut_options() {
     case $1 in
     '') echo '--verbose --version --help' ;;
-    subset) echo '--text --text-file --codes-file --report --strict --lean --verbose --help' ;;
-    belongs) echo '--lean --verbose --help' ;;
+    subset)
+        echo '--text --text-file --codes-file --unicodes --exclude --exclude-file'
+        echo '--report --strict --lean --verbose --help'
+        ;;
+    belongs | join) echo '--lean --verbose --help' ;;
     *) echo '--verbose --help' ;;
     esac
 }
@@ -49,7 +52,7 @@ _fontcut() {
             option=''
         elif ! $ended && [ "$word" = -- ]; then
             ended=true
-        elif ! $ended && [[ $word == --text || $word == --text-file || $word == --codes-file ]]; then
+        elif ! $ended && [[ $word =~ ^--(text|(text|codes|exclude)-file|unicodes|exclude)$ ]]; then
             option=$word
         elif ! $ended && [[ $word == -?* ]]; then
             :
@@ -63,8 +66,8 @@ _fontcut() {
     word=${COMP_WORDS[COMP_CWORD]}
     [ "$word" != = ] || word=''
     case $option in
-    --text) ;;
-    --text-file | --codes-file) _fontcut_files "$word" ;;
+    --text | --unicodes | --exclude) ;;
+    --text-file | --codes-file | --exclude-file) _fontcut_files "$word" ;;
     *)
         if [[ $word == -* ]] && ! $ended; then
             _fontcut_words "$(_fontcut_options "$command")" "$word"

@@ -14,17 +14,41 @@
  * The cut of a font for Latin text, where `room` bytes at `out` are enough for it:
  *
  *     fontcut_range latin[] = {{0x20, 0x7E}, {0xA0, 0xFF}};
- *     fontcut_answer cut = fontcut_cut(font, font_length, latin, 2, out, room);
- *     if (cut.status == FONTCUT_DONE) fwrite(out, 1, cut.size, stdout); */
+ *     fontcut_answer cut = fontcut_subset(FONTCUT_FULL, font, font_length, latin, 2, out, room);
+ *     if (cut.status == FONTCUT_DONE) fwrite(out, 1, cut.size, stdout);
+ *
+ * Calls that are marked as deprecated are not in the next version. A program that has to compile without a warning
+ * until then defines FONTCUT_DEPRECATED(text) as nothing before it includes this file. */
 #ifndef FONTCUT_H
 #define FONTCUT_H
 
 #include <stddef.h>
 #include <stdint.h>
 
+/* The version of this header. A program that loads a shared library asks it by fontcut_version for its own. */
+#define FONTCUT_VERSION "0.10.0"
+#define FONTCUT_VERSION_NUMBER 0x000A00 /* 65,536 times the first number, 256 times the second one, and the third one */
+
+#ifndef FONTCUT_DEPRECATED
+#if defined(__GNUC__)
+#define FONTCUT_DEPRECATED(text) __attribute__((deprecated(text)))
+#elif defined(_MSC_VER)
+#define FONTCUT_DEPRECATED(text) __declspec(deprecated(text))
+#else
+#define FONTCUT_DEPRECATED(text)
+#endif
+#endif
+
 #ifdef __cplusplus
 extern "C" {
 #endif
+
+/* The kinds of cuts. A call takes a kind as a number of 32 bits, for how long an enum is and what it may hold is
+ * another thing in each language; a number that is no kind's is answered by FONTCUT_UNKNOWN_KIND. */
+typedef enum fontcut_kind {
+    FONTCUT_FULL = 0, /* cuts with the metrics and the names of all glyphs */
+    FONTCUT_LEAN = 1  /* lean cuts: zeros for the metrics of glyphs that are not kept, and no names of glyphs */
+} fontcut_kind;
 
 /* The codes from `first` to `last`, both of them included. A range is bad where `first` lies above `last`, or
  * `last` above 0x10FFFF. Ranges may overlap and come in any order; they are added fastest in ascending order. */
@@ -32,6 +56,25 @@ typedef struct fontcut_range {
     uint32_t first;
     uint32_t last;
 } fontcut_range;
+
+/* The metrics of a glyph, in font units, as `hmtx` has them. */
+typedef struct fontcut_metric {
+    uint16_t advance; /* the advance width */
+    int16_t bearing;  /* the left side bearing */
+} fontcut_metric;
+
+/* The numbers of a whole font, as `maxp`, `head` and `hhea` have them. The number of glyphs is 1 at least; the others
+ * may be any numbers. All but the first two are in font units. */
+typedef struct fontcut_font_info {
+    uint16_t glyph_count;
+    uint16_t units_per_em; /* how many font units an em has */
+    int16_t x_min;         /* the box that holds all outlines: its left, lower, right and upper side */
+    int16_t y_min;
+    int16_t x_max;
+    int16_t y_max;
+    int16_t ascender;  /* how far a line goes above its baseline */
+    int16_t descender; /* how far a line goes below its baseline, as a number below 0 in most fonts */
+} fontcut_font_info;
 
 /* A file in memory. */
 typedef struct fontcut_bytes {
@@ -43,7 +86,7 @@ typedef struct fontcut_bytes {
 typedef struct fontcut_answer {
     uint32_t status; /* a fontcut_status */
     uint32_t detail; /* what a refusal or an answer is about, as each status and each call says */
-    uint64_t size;   /* how much was written, or would have to be, in bytes or ranges */
+    uint64_t size;   /* how much was written, or would have to be, in bytes, ranges, glyphs or metrics */
     uint64_t step;   /* of several files the index, from 0, of the one that is refused */
 } fontcut_answer;
 
@@ -75,47 +118,88 @@ typedef enum fontcut_status {
     FONTCUT_DIFFERENT_MAPPING = 22,  /* they map a code to two glyphs; detail: the least such code */
     FONTCUT_DIFFERENT_GLYPH = 23,    /* they have two outlines of a glyph; detail: the least such glyph */
     FONTCUT_NOTHING_TO_JOIN = 24,    /* there is no file */
-    FONTCUT_SMALL_ROOM = 100         /* the room is too small; size: what is needed */
+    FONTCUT_SMALL_ROOM = 100,        /* the room is too small; size: what is needed */
+    FONTCUT_UNKNOWN_KIND = 101,      /* the number is no fontcut_kind, which is asked before all else; detail: it */
+    FONTCUT_NO_GLYPH = 102           /* a number is no glyph of the font; detail: the least index of such a one */
 } fontcut_status;
 
-/* What `detail` of fontcut_is_cut says. */
+/* What `detail` of fontcut_cut_form says. A lean cut is never old. */
 typedef enum fontcut_form {
     FONTCUT_NO_CUT = 0,
     FONTCUT_CURRENT_CUT = 1, /* as it is written today */
     FONTCUT_OLD_CUT = 2      /* as the first profile of the format had it; a join takes it */
 } fontcut_form;
 
+/* Returns the version of the library, as FONTCUT_VERSION_NUMBER has that of this header. */
+uint32_t fontcut_version(void);
+
 /* Tells whether a file is accepted as a font. Statuses: 0 to 14, 17. It asks for no memory. */
 fontcut_answer fontcut_check(const uint8_t *font, size_t font_length);
 
-/* Tells the size in bytes of the cut of a font for the codes of the ranges. No cut is made. Statuses: those of
- * fontcut_check, then 15, 16 and 18. */
+/* Gives the size in bytes of the cut of a font for the codes of the ranges, of a fontcut_kind. No cut is made.
+ * Statuses: 101; those of fontcut_check, then 15, 16 and 18. */
+fontcut_answer fontcut_subset_size(uint32_t kind, const uint8_t *font, size_t font_length,
+                                   const fontcut_range *ranges, size_t range_count);
+
+/* Writes the cut of a font for the codes of the ranges, of a fontcut_kind, to the front of `out`, straight, with
+ * nothing in between; size: its bytes. A cut of a font is seldom longer than the font, and a lean cut never longer
+ * than the full one, so a room of the font's length and some more mostly does. Statuses: 101; those of
+ * fontcut_check, then 15, 16, 18 and 100. */
+fontcut_answer fontcut_subset(uint32_t kind, const uint8_t *font, size_t font_length, const fontcut_range *ranges,
+                              size_t range_count, uint8_t *out, size_t room);
+
+/* Says whether a font is a cut of a fontcut_kind, and in which form; detail: a fontcut_form. A font that is a lean
+ * cut is a full cut too. Statuses: 101; those of fontcut_check, 16. */
+fontcut_answer fontcut_cut_form(uint32_t kind, const uint8_t *font, size_t font_length);
+
+/* Says whether the first file is a cut of the second one for some codes, of a fontcut_kind, a full cut in either
+ * form; detail: 1 or 0. Statuses: 101; those of fontcut_check, of the first file with step 0, and then of the
+ * second one with step 1; 16. */
+fontcut_answer fontcut_belongs(uint32_t kind, const uint8_t *cut, size_t cut_length, const uint8_t *font,
+                               size_t font_length);
+
+/* Each call that is marked is the one that its mark names, of FONTCUT_FULL. */
+FONTCUT_DEPRECATED("call fontcut_subset_size")
 fontcut_answer fontcut_cut_size(const uint8_t *font, size_t font_length, const fontcut_range *ranges,
                                 size_t range_count);
 
-/* Writes the cut of a font for the codes of the ranges to the front of `out`, straight, with nothing in between;
- * size: its bytes. A cut of a font is seldom longer than the font, so a room of the font's length and some more
- * mostly does. Statuses: those of fontcut_check, then 15, 16, 18 and 100. */
+FONTCUT_DEPRECATED("call fontcut_subset")
 fontcut_answer fontcut_cut(const uint8_t *font, size_t font_length, const fontcut_range *ranges, size_t range_count,
                            uint8_t *out, size_t room);
 
-/* Tells whether a font is a cut, and in which form; detail: a fontcut_form. Statuses: those of fontcut_check, 16. */
+FONTCUT_DEPRECATED("call fontcut_cut_form")
 fontcut_answer fontcut_is_cut(const uint8_t *font, size_t font_length);
 
-/* Tells whether the first file is a cut of the second one for some codes, in either form; detail: 1 or 0.
- * Statuses: those of fontcut_check, of the first file with step 0, and then of the second one with step 1; 16. */
+FONTCUT_DEPRECATED("call fontcut_belongs")
 fontcut_answer fontcut_is_cut_of(const uint8_t *cut, size_t cut_length, const uint8_t *font, size_t font_length);
 
-/* Writes the join of all files, cuts of one font, to the front of `out`: that font's cut for all their codes;
- * size: its bytes. Files in either form may come, in any order, and what is written is of today. Statuses: 24; of
- * the first file that is refused, with its index as step, those of fontcut_check, 20, 21 to 23 where it differs
- * from the join of the files before it, and 18 where the join with it is too large; 16, with the index of the file
- * that was being joined as step; 100. */
+/* Writes the join of all files, cuts of one font and of a fontcut_kind, to the front of `out`: that font's cut for all
+ * their codes; size: its bytes. Full cuts may come in either form and any order, and what is written is of today; lean
+ * cuts join with lean cuts. Statuses: 101; 24; of the first file that is refused, with its index as step, those of
+ * fontcut_check, 20, 21 to 23 where it differs from the join of the files before it, and 18 where the join with it is
+ * too large; 16, with the index of the file that was being joined as step; 100. */
+fontcut_answer fontcut_join(uint32_t kind, const fontcut_bytes *files, size_t file_count, uint8_t *out, size_t room);
+
+FONTCUT_DEPRECATED("call fontcut_join")
 fontcut_answer fontcut_join_all(const fontcut_bytes *files, size_t file_count, uint8_t *out, size_t room);
 
 /* Writes the codes that a font maps to the front of `out`, as the least number of ranges, in ascending order;
  * size: how many ranges they are. `room` is in ranges. Statuses: those of fontcut_check, 16, 100. */
 fontcut_answer fontcut_codes(const uint8_t *font, size_t font_length, fontcut_range *out, size_t room);
+
+/* Writes for each code, in their order, the glyph to which the font maps it to the front of `out`, and 0 where it maps
+ * it to none, as it does each number above 0x10FFFF; size: how many glyphs they are, as many as there are codes. `room`
+ * is in glyphs. It asks for no memory. Statuses: those of fontcut_check, 100. */
+fontcut_answer fontcut_glyphs(const uint8_t *font, size_t font_length, const uint32_t *codes, size_t code_count,
+                              uint16_t *out, size_t room);
+
+/* Writes for each glyph, in their order, its metrics to the front of `out`; size: how many they are, as many as there
+ * are glyphs. `room` is in metrics. It asks for no memory. Statuses: those of fontcut_check, 102, 100. */
+fontcut_answer fontcut_metrics(const uint8_t *font, size_t font_length, const uint16_t *glyphs, size_t glyph_count,
+                               fontcut_metric *out, size_t room);
+
+/* Writes the numbers of a whole font to `info`. It asks for no memory. Statuses: those of fontcut_check. */
+fontcut_answer fontcut_info(const uint8_t *font, size_t font_length, fontcut_font_info *info);
 
 /* Writes the text of a refusal that a call has answered to the front of `out`, as `fontcut` prints it: in UTF-8,
  * with no zero byte at its end; size: its bytes. It is never longer than 64 bytes. For an answer that is no

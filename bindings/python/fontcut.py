@@ -3,31 +3,53 @@
     import fontcut
     cut = fontcut.cut(font, "Hello")            # bytes: the font, for these characters
     both = fontcut.join([cut, other_cut])       # bytes: the cut for the characters of both
-    fontcut.is_cut_of(both, font)               # True
+    fontcut.belongs(both, font)                 # True
+    lean = fontcut.cut(font, "Hello", lean=True)
+
+    numbers = fontcut.glyphs(font, "Hello")     # [43, 72, 79, 79, 82] in DejaVu Sans: a glyph for each character
+    fontcut.advances(font, numbers)             # their advance widths, in font units
+    fontcut.info(font).units_per_em             # 2048
 
 A font is anything that has bytes: `bytes`, `bytearray`, a `memoryview`, an `mmap`. The characters are a `str`, or code
-points and ranges of them, both ends included: `[0x20, (0x41, 0x5A)]`, `range(0x41, 0x5B)`. Glyphs keep their numbers.
-A font, or a list of cuts, that is refused raises `Refused`, which carries the number, the text and what it is about.
-Where the library is refused memory a call raises `MemoryError`.
+points and ranges of them, both ends included: `[0x20, (0x41, 0x5A)]`, `range(0x41, 0x5B)`, `ranges("U+20, U+41-5A")`.
+Glyphs keep their numbers. A font, or a list of cuts, that is refused raises `Refused`, which carries the number, the
+text and what it is about. What is given in a wrong form raises `TypeError` or `ValueError`. Where the library is
+refused memory a call raises `MemoryError`. The first call loads the library, and raises `LibraryMissing` where there is
+none.
 
-The library is found as `libfontcut.so.0`, where the system looks for libraries, or where the variable FONTCUT_LIBRARY
-says. All calls are safe on all bytes, keep nothing, and let other threads run while they work.
+A lean cut has zeros for the metrics of glyphs that it does not keep, and no names of glyphs: it is never longer than
+the cut, and it is a cut itself. Lean cuts join with lean cuts: `fontcut.join([lean, other_lean], lean=True)`.
+
+The library is the file that the variable FONTCUT_LIBRARY names. Where that is not set it is `libfontcut.so.0` beside
+this file, as a wheel has it, two folders above, as `./install` has it, or where the system looks for libraries. All
+calls are safe on all bytes, keep nothing, and let other threads run while they work.
 """
 from __future__ import annotations
 
 import ctypes
+import functools
+import operator
 import os
+import re
+import warnings
 from enum import Enum
 from typing import Iterable, List, NamedTuple, Optional, Sequence, Tuple, Union
 
-__all__ = ["Form", "Range", "Refused", "check", "codes", "cut", "cut_size", "form", "is_cut", "is_cut_of", "join"]
+__all__ = ["Form", "Range", "Refused", "belongs", "check", "codes", "cut", "cut_size", "form", "is_cut", "is_cut_of",
+           "join"]
+
+__version__ = "0.10.0"
 
 Bytes = Union[bytes, bytearray, memoryview]
 Codes = Union[str, Iterable[Union[int, Tuple[int, int]]]]
 
-_NO_MEMORY, _TOO_LARGE, _NOTHING_TO_JOIN, _SMALL_ROOM = 16, 18, 24, 100
+__all__ += ["FontcutError", "Info", "LibraryMissing", "NoGlyph", "advances", "glyphs", "info", "metrics", "missing",
+            "ranges"]
+
+_NO_MEMORY, _TOO_LARGE, _NOTHING_TO_JOIN, _SMALL_ROOM, _NO_GLYPH = 16, 18, 24, 100, 102
 _OF_TAGS, _OF_NUMBERS = (5, 6, 7, 21), (12, 15, 17, 22, 23)
-_LAST_CODE = 0x10FFFF
+_LAST_CODE, _LAST_GLYPH = 0x10FFFF, 0xFFFF
+_FULL, _LEAN = 0, 1
 
 
 class Range(NamedTuple):
@@ -37,15 +59,60 @@ class Range(NamedTuple):
     last: int
 
 
+class Info(NamedTuple):
+    """The numbers of a whole font, as its `maxp`, `head` and `hhea` have them. All but the first two are in font units.
+
+    glyph_count                 how many glyphs there are, 1 at least: their numbers are those below it
+    units_per_em                how many font units an em has
+    x_min, y_min, x_max, y_max  the box that holds all outlines: its left, lower, right and upper side
+    ascender, descender         how far a line goes above and below its baseline; the second is below 0 in most fonts
+    """
+
+    glyph_count: int
+    units_per_em: int
+    x_min: int
+    y_min: int
+    x_max: int
+    y_max: int
+    ascender: int
+    descender: int
+
+
 class Form(Enum):
-    """Whether a font is a cut, and in which form."""
+    """Whether a font is a cut, and in which form. A lean cut is also a current one: `LEAN` says both."""
 
     NO_CUT = 0
     CURRENT = 1
     OLD = 2
+    LEAN = 3
 
 
-class Refused(Exception):
+class FontcutError(Exception):
+    """What goes wrong in this module: `Refused`, `NoGlyph` or `LibraryMissing`."""
+
+
+class LibraryMissing(FontcutError, OSError):
+    """The library cannot be loaded, or is older than this module."""
+
+
+class NoGlyph(FontcutError, ValueError):
+    """A number was given for a glyph that is none of the font's.
+
+    index  where it stands among those that were given, from 0
+    glyph  the number
+    """
+
+    def __init__(self, index: int, glyph: int):
+        super().__init__(f"item {index}: the font has no glyph {glyph}")
+        self.index = index
+        self.glyph = glyph
+
+    def __reduce__(self) -> Tuple[type, Tuple[int, int]]:
+        """So that a pool of processes can hand it on."""
+        return type(self), (self.index, self.glyph)
+
+
+class Refused(FontcutError):
     """A font, or a list of cuts, is refused.
 
     number    the number of the refusal, as `fontcut` prints it
@@ -61,6 +128,10 @@ class Refused(Exception):
         self.argument = argument
         self.file = file
 
+    def __reduce__(self) -> Tuple[type, Tuple[int, str, Union[None, int, str], Optional[int]]]:
+        """So that a pool of processes can hand it on."""
+        return type(self), (self.number, self.text, self.argument, self.file)
+
 
 class _Range(ctypes.Structure):
     _fields_ = [("first", ctypes.c_uint32), ("last", ctypes.c_uint32)]
@@ -75,29 +146,58 @@ class _Answer(ctypes.Structure):
                 ("step", ctypes.c_uint64)]
 
 
+class _Metric(ctypes.Structure):
+    _fields_ = [("advance", ctypes.c_uint16), ("bearing", ctypes.c_int16)]
+
+
+class _Info(ctypes.Structure):
+    _fields_ = [(name, ctypes.c_int16 if at > 1 else ctypes.c_uint16) for at, name in enumerate(Info._fields)]
+
+
 _FILE = [ctypes.c_void_p, ctypes.c_size_t]
 _RANGES = [ctypes.POINTER(_Range), ctypes.c_size_t]
+_LIST = [ctypes.c_void_p, ctypes.c_size_t]
 _ROOM = [ctypes.c_void_p, ctypes.c_size_t]
-_CALLS = {"check": _FILE, "cut_size": _FILE + _RANGES, "cut": _FILE + _RANGES + _ROOM, "is_cut": _FILE,
-          "is_cut_of": _FILE + _FILE, "join_all": [ctypes.POINTER(_Bytes), ctypes.c_size_t] + _ROOM,
-          "codes": _FILE + _RANGES, "refusal_text": [_Answer] + _ROOM}
+_KIND = [ctypes.c_uint32]
+_CALLS = {"check": _FILE, "subset_size": _KIND + _FILE + _RANGES, "subset": _KIND + _FILE + _RANGES + _ROOM,
+          "cut_form": _KIND + _FILE, "belongs": _KIND + _FILE + _FILE,
+          "join": [ctypes.c_uint32, ctypes.POINTER(_Bytes), ctypes.c_size_t] + _ROOM, "codes": _FILE + _RANGES,
+          "glyphs": _FILE + _LIST + _ROOM, "metrics": _FILE + _LIST + _ROOM, "info": _FILE + [ctypes.POINTER(_Info)],
+          "refusal_text": [_Answer] + _ROOM}
+
+
+def _path() -> str:
+    name, here = "libfontcut.so.0", os.path.dirname(os.path.abspath(__file__))
+    beside = [os.path.join(folder, name) for folder in (here, os.path.dirname(os.path.dirname(here)))]
+    return os.environ.get("FONTCUT_LIBRARY") or next((path for path in beside if os.path.exists(path)), name)
 
 
 def _loaded() -> ctypes.CDLL:
-    library = ctypes.CDLL(os.environ.get("FONTCUT_LIBRARY", "libfontcut.so.0"))
+    library = ctypes.CDLL(_path())
     for name, arguments in _CALLS.items():
         call = getattr(library, "fontcut_" + name)
         call.argtypes, call.restype = arguments, _Answer
     return library
 
 
-_LIBRARY = _loaded()
+@functools.lru_cache(maxsize=None)
+def _library() -> ctypes.CDLL:
+    """The library, which the first call of this function loads."""
+    how = "install it, or let the variable FONTCUT_LIBRARY name the file libfontcut.so.0"
+    try:
+        return _loaded()
+    except OSError as error:
+        raise LibraryMissing(f"the library of fontcut cannot be loaded ({error}): {how}") from error
+    except AttributeError as error:
+        raise LibraryMissing(f"the library is older than this module, {__version__} ({error}): {how}") from error
 
 
 class _File:
     """The bytes of a file where they stand, without a copy where the object allows that."""
 
     def __init__(self, data: Bytes):
+        if isinstance(data, (str, os.PathLike)):
+            raise TypeError(f"a font is given as its bytes, and not as the path {data!r}")
         view = memoryview(data).cast("B")
         self.length = view.nbytes
         if self.length and not view.readonly:
@@ -111,7 +211,7 @@ class _File:
 
 def _text(answer: _Answer) -> str:
     room = ctypes.create_string_buffer(64)
-    told = _LIBRARY.fontcut_refusal_text(answer, room, len(room))
+    told = _library().fontcut_refusal_text(answer, room, len(room))
     return room.raw[:told.size].decode()
 
 
@@ -132,13 +232,57 @@ def _done(answer: _Answer, several: bool = False) -> _Answer:
     raise Refused(answer.status, _text(answer), argument, file)
 
 
-def _ranges(wanted: Codes) -> Sequence[Range]:
-    """The wanted codes as ranges in ascending order, those merged that touch or overlap."""
+def _number(one: object, place: int, what: str) -> int:
+    """A number that was given, of Python or of a library of numbers."""
+    if isinstance(one, str):
+        how = "characters are given as one str" if len(one) == 1 else "range words are read by ranges"
+        raise TypeError(f"item {place} is {one!r}, which is no {what}: {how}")
+    if isinstance(one, bool) or not hasattr(one, "__index__"):
+        raise TypeError(f"item {place} is {one!r}, which is no {what}")
+    return operator.index(one)  # type: ignore[arg-type]
+
+
+def _characters(text: str) -> List[int]:
+    """The code points of a text, in its order."""
+    codes = [ord(character) for character in text]
+    for place, code in enumerate(codes):
+        if 0xD800 <= code <= 0xDFFF:
+            raise ValueError(f"item {place} is the lone surrogate U+{code:04X}, which is no character")
+    return codes
+
+
+def _items(given: object, what: str) -> Iterable[object]:
+    """The items of a list that was given, which is no text, no bytes and no number."""
+    if isinstance(given, (bytes, bytearray, memoryview)):
+        raise TypeError(f"bytes are no list of {what}s: decode them to a str first")
+    if not isinstance(given, Iterable):
+        raise TypeError(f"{given!r} is no list of {what}s")
+    return given
+
+
+def _pair(one: object, place: int) -> Tuple[int, int]:
+    """The first and the last code point of a code point or a range."""
+    if not isinstance(one, (tuple, list)):
+        code = _number(one, place, "code point or range")
+        return code, code
+    if len(one) != 2:
+        raise ValueError(f"item {place} is {one!r}, which is no range: a range is its first and its last code point")
+    return _number(one[0], place, "code point"), _number(one[1], place, "code point")
+
+
+def _pairs(wanted: Codes) -> List[Tuple[int, int]]:
+    """The wanted codes as ranges, in any order."""
     if isinstance(wanted, str):
-        wanted = [ord(character) for character in wanted]
-    pairs = sorted((one, one) if isinstance(one, int) else (one[0], one[1]) for one in wanted)
+        return [(code, code) for code in sorted(set(_characters(wanted)))]
+    if isinstance(wanted, range) and wanted and wanted.step == 1:
+        return [(wanted[0], wanted[-1])]
+    return sorted(_pair(one, place) for place, one in enumerate(_items(wanted, "code point")))
+
+
+def _ranges(wanted: Codes) -> List[Range]:
+    """The wanted codes as ranges in ascending order, those merged that touch or overlap."""
     merged: List[Range] = []
-    for first, last in pairs:
+    for first, last in _pairs(wanted):
         if not 0 <= first <= last <= _LAST_CODE:
             raise ValueError(f"not a range of code points: {first:#x} to {last:#x}")
         if merged and first <= merged[-1].last + 1:
@@ -148,6 +292,15 @@ def _ranges(wanted: Codes) -> Sequence[Range]:
     return merged
 
 
+def _numbers(given: object, what: str, most: int) -> List[int]:
+    """The numbers of a list that was given, none of them below 0 or above the most."""
+    numbers = [_number(one, place, what) for place, one in enumerate(_items(given, what))]
+    for place, number in enumerate(numbers):
+        if not 0 <= number <= most:
+            raise ValueError(f"item {place} is {number}, which is no {what}")
+    return numbers
+
+
 def _in_c(ranges: Sequence[Range]) -> ctypes.Array:
     return (_Range * max(1, len(ranges)))(*[_Range(*one) for one in ranges])
 
@@ -155,33 +308,45 @@ def _in_c(ranges: Sequence[Range]) -> ctypes.Array:
 def check(font: Bytes) -> None:
     """Returns where the font is accepted, and raises `Refused` where it is not."""
     file = _File(font)
-    _done(_LIBRARY.fontcut_check(file.at, file.length))
+    _done(_library().fontcut_check(file.at, file.length))
 
 
-def cut_size(font: Bytes, wanted: Codes) -> int:
-    """The length in bytes of the cut of a font for the wanted characters, of which none is made."""
+def _kind(lean: bool) -> int:
+    return _LEAN if lean else _FULL
+
+
+def cut_size(font: Bytes, wanted: Codes, *, lean: bool = False) -> int:
+    """The length in bytes of the cut of a font for the wanted characters, or of the lean cut, of which none is made."""
     file, ranges = _File(font), _ranges(wanted)
-    return _done(_LIBRARY.fontcut_cut_size(file.at, file.length, _in_c(ranges), len(ranges))).size
+    answer = _library().fontcut_subset_size(_kind(lean), file.at, file.length, _in_c(ranges), len(ranges))
+    return _done(answer).size
 
 
-def cut(font: Bytes, wanted: Codes) -> bytes:
-    """The cut of a font for the wanted characters. Those that the font does not map are passed over.
+def cut(font: Bytes, wanted: Codes, *, lean: bool = False) -> bytes:
+    """The cut of a font for the wanted characters, or the lean cut. Those that the font does not map are passed over.
 
     Raises `Refused` where the font is refused, or its cut too large for a file; `ValueError` for what is no range."""
     file, ranges = _File(font), _ranges(wanted)
     given = _in_c(ranges)
-    return _written(file.length + 4096,
-                    lambda room, size: _LIBRARY.fontcut_cut(file.at, file.length, given, len(ranges), room, size))
+
+    def made(room, size):
+        return _library().fontcut_subset(_kind(lean), file.at, file.length, given, len(ranges), room, size)
+
+    return _written(file.length + 4096, made)
 
 
-def join(cuts: Sequence[Bytes]) -> bytes:
-    """The join of cuts of one font: that font's cut for the characters of all of them, in whatever order they come.
+def join(cuts: Sequence[Bytes], *, lean: bool = False) -> bytes:
+    """The join of cuts of one font, or of lean cuts: that font's cut for the characters of all of them, in whatever order
+    they come.
 
     Raises `Refused`, with the index of the file, where one is no cut or no cut of the font of those before it."""
     files = [_File(one) for one in cuts]
     given = (_Bytes * max(1, len(files)))(*[_Bytes(one.at, one.length) for one in files])
-    room = sum(one.length for one in files) + 4096
-    return _written(room, lambda at, size: _LIBRARY.fontcut_join_all(given, len(files), at, size), several=True)
+
+    def made(room, size):
+        return _library().fontcut_join(_kind(lean), given, len(files), room, size)
+
+    return _written(sum(one.length for one in files) + 4096, made, several=True)
 
 
 def _written(room: int, call, several: bool = False) -> bytes:
@@ -195,32 +360,118 @@ def _written(room: int, call, several: bool = False) -> bytes:
     return ctypes.string_at(out, _done(answer, several).size)
 
 
-def form(font: Bytes) -> Form:
-    """Whether a font is a cut, and in which form."""
+def _form(font: Bytes, lean: bool) -> Form:
+    """In which form a font is a cut, or a lean cut, by one call."""
     file = _File(font)
-    return Form(_done(_LIBRARY.fontcut_is_cut(file.at, file.length)).detail)
+    return Form(_done(_library().fontcut_cut_form(_kind(lean), file.at, file.length)).detail)
 
 
-def is_cut(font: Bytes) -> bool:
-    """Whether a font is a cut as it is written today."""
-    return form(font) is Form.CURRENT
+def form(font: Bytes) -> Form:
+    """Whether a font is a cut, and in which form: `LEAN` for a lean cut, which is a current cut too. A font that is a
+    current cut is looked through twice for that. `is_cut` asks for one of the two alone."""
+    found = _form(font, lean=False)
+    if found is Form.CURRENT and is_cut(font, lean=True):
+        return Form.LEAN
+    return found
+
+
+def is_cut(font: Bytes, *, lean: bool = False) -> bool:
+    """Whether a font is a cut as it is written today, or a lean cut. A lean cut is a cut too."""
+    return _form(font, lean) is Form.CURRENT
+
+
+def belongs(cut: Bytes, font: Bytes, *, lean: bool = False) -> bool:
+    """Whether a file is a cut of a font for some characters, in either form, or a lean cut of it. Raises `Refused`
+    where one of the two is no font: the file 0 is the cut, and 1 the font."""
+    first, second = _File(cut), _File(font)
+    answer = _library().fontcut_belongs(_kind(lean), first.at, first.length, second.at, second.length)
+    return _done(answer, several=True).detail == 1
 
 
 def is_cut_of(cut: Bytes, font: Bytes) -> bool:
-    """Whether a file is a cut of a font for some characters, in either form. Raises `Refused` where one of the two is
-    no font: the file 0 is the cut, and 1 the font."""
-    first, second = _File(cut), _File(font)
-    answer = _LIBRARY.fontcut_is_cut_of(first.at, first.length, second.at, second.length)
-    return _done(answer, several=True).detail == 1
+    """`belongs` by its old name, which goes with the next version."""
+    warnings.warn("is_cut_of is deprecated: call belongs", DeprecationWarning, stacklevel=2)
+    return belongs(cut, font)
 
 
 def codes(font: Bytes) -> List[Range]:
     """The code points that a font maps, as the least number of ranges, in ascending order."""
     file, room = _File(font), 1024
     out = (_Range * room)()
-    answer = _LIBRARY.fontcut_codes(file.at, file.length, out, room)
+    answer = _library().fontcut_codes(file.at, file.length, out, room)
     if answer.status == _SMALL_ROOM:
         room = answer.size
         out = (_Range * room)()
-        answer = _LIBRARY.fontcut_codes(file.at, file.length, out, room)
+        answer = _library().fontcut_codes(file.at, file.length, out, room)
     return [Range(one.first, one.last) for one in out[:_done(answer).size]]
+
+
+def glyphs(font: Bytes, wanted: Union[str, Iterable[int]]) -> List[int]:
+    """The number of the glyph to which a font maps each character, 0 where it maps one to none: in the order of the
+    text, or of the code points."""
+    file = _File(font)
+    numbers = _characters(wanted) if isinstance(wanted, str) else _numbers(wanted, "code point", _LAST_CODE)
+    count = len(numbers)
+    given, out = (ctypes.c_uint32 * max(1, count))(*numbers), (ctypes.c_uint16 * max(1, count))()
+    _done(_library().fontcut_glyphs(file.at, file.length, given, count, out, count))
+    return out[:count]
+
+
+def metrics(font: Bytes, glyphs: Iterable[int]) -> List[Tuple[int, int]]:
+    """The advance width and the left side bearing of each glyph, in font units and in the order of the glyphs.
+
+    Raises `NoGlyph` where a number is no glyph of the font."""
+    file, numbers = _File(font), _numbers(glyphs, "glyph", _LAST_GLYPH)
+    count = len(numbers)
+    given, out = (ctypes.c_uint16 * max(1, count))(*numbers), (_Metric * max(1, count))()
+    answer = _library().fontcut_metrics(file.at, file.length, given, count, out, count)
+    if answer.status == _NO_GLYPH:
+        raise NoGlyph(answer.detail, numbers[answer.detail])
+    _done(answer)
+    return [(one.advance, one.bearing) for one in out[:count]]
+
+
+def advances(font: Bytes, glyphs: Iterable[int]) -> List[int]:
+    """The advance width of each glyph, in font units and in the order of the glyphs: the first of its `metrics`."""
+    return [advance for advance, _ in metrics(font, glyphs)]
+
+
+def info(font: Bytes) -> Info:
+    """The numbers of a whole font: how many glyphs it has, its units, its box, and how high its lines are."""
+    file, out = _File(font), _Info()
+    _done(_library().fontcut_info(file.at, file.length, ctypes.byref(out)))
+    return Info(*(getattr(out, name) for name in Info._fields))
+
+
+def missing(font: Bytes, text: Codes) -> List[int]:
+    """The code points of a text, or of code points and ranges, that the font maps to no glyph: ascending, each once."""
+    wanted = [code for first, last in _ranges(text) for code in range(first, last + 1)]
+    return [code for code, glyph in zip(wanted, glyphs(font, wanted)) if glyph == 0]
+
+
+_WORD = re.compile(r"U\+([0-9A-Fa-f]{1,6})(?:-([0-9A-Fa-f]{1,6}))?")
+
+
+def _read_word(word: str) -> Tuple[int, int]:
+    """The first and the last code point of a range word."""
+    if word == "all":
+        return 0, _LAST_CODE
+    found = _WORD.fullmatch(word)
+    if not found:
+        raise ValueError(f"bad word {word!r}: a range word is all, U+41 or U+41-5A")
+    first, last = int(found[1], 16), int(found[2] or found[1], 16)
+    if not first <= last <= _LAST_CODE:
+        raise ValueError(f"bad range {word!r}: it ends before it begins, or above U+{_LAST_CODE:X}")
+    return first, last
+
+
+def ranges(words: Union[str, Iterable[str]]) -> List[Range]:
+    """The code points that range words name, as ranges in ascending order of which none touch: `all`, `U+41` or
+    `U+41-5A`, and several of them parted by blanks, line ends or commas, as the program reads them from a file. What
+    follows `#` in a line is a comment. Raises `ValueError` for any other word."""
+    texts = [words] if isinstance(words, str) else list(_items(words, "range word"))
+    for place, text in enumerate(texts):
+        if not isinstance(text, str):
+            raise TypeError(f"item {place} is {text!r}, which is no range word")
+    kept = [re.sub("#[^\n]*", "", text) for text in texts]  # type: ignore[call-overload]
+    return _ranges([_read_word(word) for text in kept for word in re.split("[ \t\r\n,]+", text) if word])

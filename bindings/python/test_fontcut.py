@@ -1,10 +1,12 @@
 """Tests of the module over a font of six glyphs. They run where the library is found:
 
-    FONTCUT_LIBRARY=.../libfontcut.so.0.9.0 python3 bindings/python/test_fontcut.py
+    FONTCUT_LIBRARY=.../libfontcut.so.0.10.0 python3 bindings/python/test_fontcut.py
 """
 import mmap
 import os
+import pickle
 import struct
+import subprocess
 import sys
 import tempfile
 import threading
@@ -14,7 +16,9 @@ sys.dont_write_bytecode = True
 HERE = os.path.dirname(os.path.abspath(__file__))
 sys.path[:0] = [HERE, os.path.join(HERE, "..", "..", "tests", "lib")]
 import font_cutting
-from worked_cuts import BASE6
+import font_reading
+import lean_cutting
+from worked_cuts import BASE6, LEAN_CUT_OF_AACUTE
 import fontcut
 
 LETTERS, ACCENTED, ALL = ([(0x41, 0x42)], [(0xC1, 0xC1)], [(0x41, 0x42), (0xC1, 0xC1)])
@@ -26,6 +30,13 @@ class Cutting(unittest.TestCase):
             self.assertEqual(fontcut.cut(BASE6, wanted), font_cutting.cut(BASE6, wanted))
             self.assertEqual(fontcut.cut_size(BASE6, wanted), len(font_cutting.cut(BASE6, wanted)))
 
+    def test_lean_cuts_are_those_of_the_second_reading(self):
+        self.assertEqual(fontcut.cut(BASE6, ACCENTED, lean=True), LEAN_CUT_OF_AACUTE)
+        for wanted in (LETTERS, ACCENTED, ALL, []):
+            lean = lean_cutting.lean_cut(BASE6, wanted)
+            self.assertEqual(fontcut.cut(BASE6, wanted, lean=True), lean)
+            self.assertEqual(fontcut.cut_size(BASE6, wanted, lean=True), len(lean))
+
     def test_wanted_characters_in_each_form(self):
         cut = fontcut.cut(BASE6, LETTERS)
         for wanted in ("AB", "BAAB", [0x42, 0x41], range(0x41, 0x43), [(0x41, 0x41), 0x42], iter([0x41, 0x42])):
@@ -33,8 +44,28 @@ class Cutting(unittest.TestCase):
 
     def test_bad_ranges(self):
         for wanted in ([(2, 1)], [-1], [0x110000], [(0, 0x110000)]):
-            with self.assertRaises(ValueError):
-                fontcut.cut(BASE6, wanted)
+            for lean in (False, True):
+                with self.assertRaises(ValueError):
+                    fontcut.cut(BASE6, wanted, lean=lean)
+
+    def test_what_is_no_set_of_characters(self):
+        """Each is named by its place, with what is wrong about it."""
+        for wanted, error, text in (
+            ([(65, 66, 90)], ValueError, r"item 0 is \(65, 66, 90\), which is no range"),
+            (["A", "B"], TypeError, r"item 0 is 'A', .* characters are given as one str"),
+            ([65, "U+41-5A"], TypeError, r"item 1 is 'U\+41-5A', .* read by ranges"),
+            ("A\ud800", ValueError, r"item 1 is the lone surrogate U\+D800"), ([None], TypeError, "item 0 is None"),
+            ([True], TypeError, "item 0 is True"), ([65, 66.0], TypeError, r"item 1 is 66\.0"),
+            (7, TypeError, "7 is no list"), (b"AB", TypeError, "bytes are no list"), ([(65, "B")], TypeError, "item 0 is 'B'"),
+            ([range(65, 70)], TypeError, r"item 0 is range\(65, 70\)"),
+        ):
+            for call in fontcut.cut, fontcut.cut_size, fontcut.missing:
+                with self.assertRaisesRegex(error, text):
+                    call(BASE6, wanted)
+
+    def test_a_path_is_no_font(self):
+        with self.assertRaisesRegex(TypeError, "not as the path 'a.ttf'"):
+            fontcut.check("a.ttf")
 
     def test_bytes_of_each_kind(self):
         cut = fontcut.cut(BASE6, ALL)
@@ -55,6 +86,15 @@ class Joining(unittest.TestCase):
         self.assertEqual(fontcut.join([self.letters, self.accented]), both)
         self.assertEqual(fontcut.join([self.accented, self.letters, both]), both)
 
+    def test_lean_joins_agree_in_each_order(self):
+        both = lean_cutting.lean_cut(BASE6, ALL)
+        letters, accented = (fontcut.cut(BASE6, wanted, lean=True) for wanted in (LETTERS, ACCENTED))
+        for cuts in ([letters, accented], [accented, letters, both], [letters, letters, accented]):
+            self.assertEqual(fontcut.join(cuts, lean=True), both)
+        with self.assertRaises(fontcut.Refused) as caught:
+            fontcut.join([letters, self.accented], lean=True)
+        self.assertEqual((caught.exception.number, caught.exception.file), (20, 1))
+
     def test_old_cuts_are_renewed(self):
         old = font_cutting.old_cut(BASE6, LETTERS)
         self.assertIs(fontcut.form(old), fontcut.Form.OLD)
@@ -72,16 +112,39 @@ class Joining(unittest.TestCase):
             self.assertEqual((refused.number, refused.text, refused.argument, refused.file),
                              (number, text, argument, file))
 
+    def test_refusals_are_handed_on(self):
+        """A pool of processes hands an exception on as bytes."""
+        refused = fontcut.Refused(36, "different glyph 7", 7, 1)
+        again = pickle.loads(pickle.dumps(refused))
+        self.assertEqual((vars(again), str(again)), (vars(refused), str(refused)))
+
 
 class Asking(unittest.TestCase):
     def test_forms_and_codes(self):
         cut = fontcut.cut(BASE6, ALL)
         fontcut.check(BASE6)
         self.assertIs(fontcut.form(BASE6), fontcut.Form.NO_CUT)
+        self.assertIs(fontcut.form(cut), fontcut.Form.CURRENT)
         self.assertTrue(fontcut.is_cut(cut))
-        self.assertTrue(fontcut.is_cut_of(cut, BASE6))
-        self.assertFalse(fontcut.is_cut_of(BASE6, cut))
+        self.assertFalse(fontcut.is_cut(cut, lean=True))
+        self.assertTrue(fontcut.belongs(cut, BASE6))
+        self.assertFalse(fontcut.belongs(cut, BASE6, lean=True))
+        self.assertFalse(fontcut.belongs(BASE6, cut))
         self.assertEqual(fontcut.codes(cut), [(0x41, 0x42), (0xC1, 0xC1)])
+
+    def test_lean_cuts_are_told(self):
+        lean = fontcut.cut(BASE6, ACCENTED, lean=True)
+        self.assertIs(fontcut.form(lean), fontcut.Form.LEAN)
+        self.assertTrue(fontcut.is_cut(lean))
+        self.assertTrue(fontcut.is_cut(lean, lean=True))
+        self.assertTrue(fontcut.belongs(lean, BASE6, lean=True))
+        self.assertFalse(fontcut.belongs(lean, BASE6))
+        self.assertEqual(fontcut.cut(fontcut.cut(BASE6, ACCENTED), ACCENTED, lean=True), lean)
+
+    def test_old_names(self):
+        cut = fontcut.cut(BASE6, LETTERS)
+        with self.assertWarns(DeprecationWarning):
+            self.assertTrue(fontcut.is_cut_of(cut, BASE6))
 
     def test_refused_fonts(self):
         places = [at for at in range(12, 12 + 16 * 7, 16) if BASE6[at:at + 4] == b"loca"]
@@ -92,9 +155,95 @@ class Asking(unittest.TestCase):
                 fontcut.check(font)
             self.assertEqual((caught.exception.number, caught.exception.argument), (number, argument))
             self.assertIsNone(caught.exception.file)
-        with self.assertRaises(fontcut.Refused) as caught:
-            fontcut.is_cut_of(BASE6, b"")
-        self.assertEqual(caught.exception.file, 1)
+        for lean in (False, True):
+            with self.assertRaises(fontcut.Refused) as caught:
+                fontcut.cut(b"", LETTERS, lean=lean)
+            self.assertEqual(caught.exception.number, 2)
+            with self.assertRaises(fontcut.Refused) as caught:
+                fontcut.belongs(BASE6, b"", lean=lean)
+            self.assertEqual(caught.exception.file, 1)
+
+    def test_glyphs_of_characters(self):
+        self.assertEqual(fontcut.glyphs(BASE6, "AB\u00c1A\U0001f600"), [1, 5, 3, 1, 0])
+        for wanted in ([0x42, 0x41, 0x10FFFF], iter([0x42, 0x41, 0x10FFFF]), (0x42, 0x41, 0x10FFFF)):
+            self.assertEqual(fontcut.glyphs(BASE6, wanted), [5, 1, 0])
+        self.assertEqual(fontcut.glyphs(BASE6, range(0x3F, 0x43)), [0, 0, 1, 5])
+        self.assertEqual(fontcut.glyphs(BASE6, ""), [])
+        for wanted, error in (([-1], ValueError), ([0x110000], ValueError), (["A"], TypeError), ([(65, 66)], TypeError),
+                              ("\udc80", ValueError), (b"A", TypeError), (None, TypeError)):
+            with self.assertRaises(error):
+                fontcut.glyphs(BASE6, wanted)
+
+    def test_metrics_are_those_of_the_second_reading(self):
+        metrics = font_reading.metrics(BASE6)
+        self.assertEqual(fontcut.metrics(BASE6, range(6)), metrics)
+        self.assertEqual(fontcut.metrics(BASE6, [5, 0, 5]), [metrics[5], metrics[0], metrics[5]])
+        self.assertEqual(fontcut.advances(BASE6, [5, 0, 5]), [metrics[5][0], metrics[0][0], metrics[5][0]])
+        self.assertEqual(fontcut.metrics(BASE6, []), [])
+        for glyphs, error in (([-1], ValueError), ([0x10000], ValueError), (["A"], TypeError), ("A", TypeError)):
+            with self.assertRaises(error):
+                fontcut.metrics(BASE6, glyphs)
+
+    def test_a_number_that_is_no_glyph(self):
+        for call in fontcut.metrics, fontcut.advances:
+            with self.assertRaises(fontcut.NoGlyph) as caught:
+                call(BASE6, [0, 5, 6, 7])
+            self.assertEqual((caught.exception.index, caught.exception.glyph), (2, 6))
+            self.assertEqual(str(caught.exception), "item 2: the font has no glyph 6")
+            self.assertIsInstance(caught.exception, (fontcut.FontcutError, ValueError))
+        again = pickle.loads(pickle.dumps(caught.exception))
+        self.assertEqual((vars(again), str(again)), (vars(caught.exception), str(caught.exception)))
+
+    def test_info_is_that_of_the_second_reading(self):
+        self.assertEqual(fontcut.info(BASE6), font_reading.info(BASE6))
+        info = fontcut.info(BASE6)
+        self.assertEqual((info.glyph_count, info.units_per_em), (6, 1000))
+        bare = bytearray(BASE6)
+        head, hhea = (next(record.offset for record in font_reading.records_of(BASE6) if record.tag == tag)
+                      for tag in (b"head", b"hhea"))
+        struct.pack_into(">4h", bare, head + 36, -32768, -1, 32767, 0)
+        struct.pack_into(">2h", bare, hhea + 4, 32767, -32768)
+        self.assertEqual(fontcut.info(bare)[2:], (-32768, -1, 32767, 0, 32767, -32768))
+
+    def test_missing_characters(self):
+        self.assertEqual(fontcut.missing(BASE6, "BAD Zz"), [0x44, 0x5A, 0x7A])
+        self.assertEqual(fontcut.missing(BASE6, [(0x40, 0x43), 0xC1]), [0x40, 0x43])
+        self.assertEqual(fontcut.missing(BASE6, "AB"), [])
+
+    def test_range_words(self):
+        for words, wanted in (("U+41-5A", [(0x41, 0x5A)]), ("all", [(0, 0x10FFFF)]), ("", []), ("U+a", [(10, 10)]),
+                              ("U+61, U+41-5A\tU+5B\r\nU+F0 # U+1\n", [(0x41, 0x5B), (0x61, 0x61), (0xF0, 0xF0)]),
+                              (["U+61", "U+41 U+42"], [(0x41, 0x42), (0x61, 0x61)])):
+            self.assertEqual(fontcut.ranges(words), wanted)
+        self.assertEqual(fontcut.cut(BASE6, fontcut.ranges("U+41-42")), fontcut.cut(BASE6, "AB"))
+        for words in ("ALL", "u+41", "U+", "U+41-", "41", "U+0000041", "U+42-41", "U+110000", "U+41;U+42", "U+4?"):
+            with self.assertRaisesRegex(ValueError, "bad (word|range) "):
+                fontcut.ranges(words)
+        for words in ([65], b"all", 7):
+            with self.assertRaises(TypeError):
+                fontcut.ranges(words)
+
+    def test_refusals_are_those_of_check(self):
+        for font in (b"", b"ttcf" + bytes(8), BASE6[:-1], BASE6[:100]):
+            refused = []
+            for call in (fontcut.check, fontcut.info, lambda font: fontcut.glyphs(font, "A"),
+                         lambda font: fontcut.metrics(font, [9]), lambda font: fontcut.missing(font, "A")):
+                with self.assertRaises(fontcut.Refused) as caught:
+                    call(font)
+                refused.append(vars(caught.exception))
+            self.assertEqual(refused, [refused[0]] * 5)
+            self.assertIsInstance(caught.exception, fontcut.FontcutError)
+
+    def test_the_library_is_looked_for_at_the_first_call(self):
+        """A program may import the module where no library is, and is told then how it is found."""
+        script = ("import fontcut; print(fontcut.__version__, fontcut.ranges('U+41'))\n"
+                  "try: fontcut.check(b'')\nexcept fontcut.LibraryMissing as error: print(error)")
+        for library, text in (("/nowhere/fontcut", "cannot be loaded (/nowhere/"), ("libc.so.6", "older than this")):
+            told = subprocess.run([sys.executable, "-B", "-c", script], env={**os.environ, "FONTCUT_LIBRARY": library},
+                                  cwd=HERE, capture_output=True, text=True, check=True).stdout
+            self.assertIn(fontcut.__version__, told)
+            self.assertIn(text, told)
+            self.assertIn("FONTCUT_LIBRARY", told)
 
     def test_threads(self):
         cut, found = fontcut.cut(BASE6, ALL), []

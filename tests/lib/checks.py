@@ -16,6 +16,14 @@ BABELSTONE = "/usr/share/fonts/truetype/babelstone"  # Debian's package fonts-ba
 HANAZONO = "/usr/share/fonts/truetype/hanazono"  # Debian's package fonts-hanazono
 FREEFONT = "/usr/share/fonts/truetype/freefont"  # Debian's package fonts-freefont-ttf
 
+MANUAL = os.path.join(TOP, "docs", "fontcut.1")
+COMPLETION = os.path.join(TOP, "completion", "fontcut.bash")
+COMPLETIONS = {"bash": COMPLETION, "zsh": os.path.join(TOP, "completion", "_fontcut"),
+               "fish": os.path.join(TOP, "completion", "fontcut.fish")}
+
+with open(os.path.join(TOP, "VERSION"), encoding="ascii") as opened:
+    VERSION = opened.read().strip()
+
 # What the program answers where it is done, and has nothing to print.
 DONE = (0, b"", b"")
 
@@ -131,6 +139,12 @@ def held(path):
         return None
     with open(path, "rb") as opened:
         return opened.read()
+
+
+def files_below(folder):
+    """The paths below a folder of all that is no folder."""
+    paths = [os.path.join(at, name) for at, _, names in os.walk(folder) for name in names]
+    return sorted(os.path.relpath(path, folder) for path in paths)
 
 
 def difference(wanted, found):

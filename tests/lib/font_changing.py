@@ -1,4 +1,6 @@
 """Fonts that are made of a font by small changes, all their sums right."""
+import struct
+
 from font_cutting import assembled, cmap_table, cut, groups_of, ranges, whole_map
 from font_reading import offset, table, tables_of, u16
 
@@ -38,6 +40,21 @@ def with_outlines(file, *glyphs):
     for glyph in glyphs:
         glyf = turned(glyf, offset(loca, form, glyph + 1) - 1)
     return with_tables(file, {b"glyf": glyf})
+
+
+def with_family(file, family):
+    """The font with this family as its only name."""
+    name = family.encode("utf-16-be")
+    header = struct.pack(">HHH", 0, 1, 18)
+    windows, unicode_bmp, american, family_name = 3, 1, 0x409, 1
+    record = struct.pack(">HHHHHH", windows, unicode_bmp, american, family_name, len(name), 0)
+    return with_tables(file, {b"name": header + record + name})
+
+
+def with_classes(file, weight, width):
+    """The font with other classes of weight and width."""
+    os2 = table(file, b"OS/2")
+    return with_tables(file, {b"OS/2": os2[:4] + struct.pack(">HH", weight, width) + os2[8:]})
 
 
 def cut_for(file, words):

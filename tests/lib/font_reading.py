@@ -191,6 +191,22 @@ def mapping(cmap, count):
     return {code: glyph for code, glyph in glyphs.items() if 0 < glyph < count}
 
 
+def metrics(file):
+    """The advance width and the left side bearing of each glyph: past the pairs of `hmtx` with the last pair's advance."""
+    hmtx, pairs = table(file, b"hmtx"), u16(table(file, b"hhea"), 34)
+    count = u16(table(file, b"maxp"), 4)
+    found = [struct.unpack_from(">Hh", hmtx, 4 * glyph) for glyph in range(pairs)]
+    bearings = struct.unpack_from(f">{count - pairs}h", hmtx, 4 * pairs)
+    return found + [(found[-1][0], bearing) for bearing in bearings]
+
+
+def info(file):
+    """numGlyphs, unitsPerEm, xMin, yMin, xMax, yMax, ascender and descender."""
+    head = table(file, b"head")
+    return (u16(table(file, b"maxp"), 4), u16(head, 18), *struct.unpack_from(">4h", head, 36),
+            *struct.unpack_from(">2h", table(file, b"hhea"), 4))
+
+
 def component_size(flags):
     """The bytes of a component: flags, glyph, two arguments, and the scales of the first flag that has some."""
     return 4 + (4 if flags & 1 else 2) + (2 if flags & 8 else 4 if flags & 0x40 else 8 if flags & 0x80 else 0)

@@ -13,6 +13,7 @@ COUNTS = 2, 20, 100, 400
 TIMES = 7
 TIMES_OF_FEW = 25  # a short run is disturbed more
 FEW = 20  # cuts
+ORDINARY, LEAN = (), ("--lean",)  # the words for a kind of cuts
 
 # The number of cuts, the bytes that are read and written, and what the join and the C program took.
 Joined = namedtuple("Joined", "count read written join floor")
@@ -24,27 +25,27 @@ def words_of(count):
     return [f"U+{low:X}-{high - 1:X}" for low, high in zip(edges, edges[1:])]
 
 
-def cuts_of(folder, count):
-    """Makes the cuts, and returns their paths."""
+def cuts_of(folder, count, kind):
+    """Makes the cuts of a kind, and returns their paths."""
     cuts = []
     for k, word in enumerate(words_of(count)):
         cuts.append(os.path.join(folder, f"{count}-{k}.ttf"))
-        run(PROGRAM, "subset", SOURCE, cuts[-1], word)
+        run(PROGRAM, "subset", *kind, SOURCE, cuts[-1], word)
     return cuts
 
 
-def time_join(folder, count, floor, runs, tries=1, most=0.0):
-    """Makes the cuts, joins them, checks the join, and measures, again where the join takes more than `most` times as
-    long as the C program at the path `floor`."""
-    cuts = cuts_of(folder, count)
+def time_join(folder, count, floor, runs, tries=1, most=0.0, kind=ORDINARY):
+    """Makes the cuts of a kind, joins them, checks the join, and measures, again where the join takes more than `most`
+    times as long as the C program at the path `floor`."""
+    cuts = cuts_of(folder, count, kind)
     joined, whole = (os.path.join(folder, name) for name in ("joined.ttf", "whole.ttf"))
-    same(f"join of {count} cuts", (0, b"", b""), run(PROGRAM, "join", joined, *cuts))
-    run(PROGRAM, "subset", SOURCE, whole, f"U+{FIRST:X}-{LAST:X}")
+    same(f"join of {count} cuts", (0, b"", b""), run(PROGRAM, "join", *kind, joined, *cuts))
+    run(PROGRAM, "subset", *kind, SOURCE, whole, f"U+{FIRST:X}-{LAST:X}")
     check(f"the join of {count} cuts is the cut for all their codes", filecmp.cmp(joined, whole, shallow=False))
     bytes_read = sum(map(os.path.getsize, cuts))
     size = os.path.getsize(whole)
     times = TIMES_OF_FEW if count <= FEW else TIMES
-    programs = [[PROGRAM, "join", joined, *cuts], [floor, joined, size, *cuts]]
+    programs = [[PROGRAM, "join", *kind, joined, *cuts], [floor, joined, size, *cuts]]
     for _ in range(tries):
         join, least = in_turn(runs, joined, programs, 0, times, times)
         if not join or not least:

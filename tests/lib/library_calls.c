@@ -1,16 +1,24 @@
 /* Does the calls of fontcut.h that the lines of standard input ask for, in C99 and in C++17, and prints each answer:
  *
  *     check FONT
- *     size FONT RANGES..              a range is FIRST-LAST, in hexadecimal digits
- *     cut FONT OUT ROOM RANGES..      ROOM is a number of bytes, or - for just as many as are needed
- *     form FONT
- *     belongs CUT FONT
- *     join OUT ROOM FILES..
+ *     size KIND FONT RANGES..         KIND is a number; a range is FIRST-LAST, in hexadecimal digits
+ *     cut KIND FONT OUT ROOM RANGES.. ROOM is a number of bytes, or - for just as many as are needed
+ *     form KIND FONT
+ *     belongs KIND CUT FONT
+ *     join KIND OUT ROOM FILES..
  *     codes FONT OUT ROOM             OUT gets a line for each range; ROOM is a number of ranges
+ *     glyphs FONT CODES OUT ROOM      CODES and OUT are files of numbers of 32 and 16 bits, in this machine's order of
+ *                                     bytes; ROOM is a number of glyphs
+ *     metrics FONT GLYPHS OUT ROOM    the same, of glyphs and their metrics
+ *     info FONT OUT                   OUT gets the bytes of the numbers
+ *     version                         prints the version alone
  *     text STATUS DETAIL SIZE STEP    also prints the text
  *
  * Each room lies between guards, and the answer is followed by `touched` where a byte was written that should not be.
+ * For the kind 0 the deprecated call of the same meaning is made too, and `otherwise` stands before the answer where
+ * that one answers or writes something else.
  * With the argument N the whole of standard input is done in N threads at once, and only the first of them prints. */
+#define FONTCUT_DEPRECATED(text)
 #include "fontcut.h"
 
 #include <inttypes.h>
@@ -106,42 +114,118 @@ static size_t room_of(const char *word, uint64_t needed)
     return word[0] == '-' ? (size_t)needed : (size_t)strtoull(word, NULL, 10);
 }
 
+static int is_same(fontcut_answer one, fontcut_answer other)
+{
+    return one.status == other.status && one.detail == other.detail && one.size == other.size && one.step == other.step;
+}
+
+/* Prints an answer, and whether the deprecated call answers the same. */
+static void say_both(int is_first, fontcut_answer answer, fontcut_answer other)
+{
+    if (is_first && !is_same(answer, other))
+        printf("otherwise ");
+    say(is_first, answer, 1);
+}
+
+static uint32_t kind_of(const char *word)
+{
+    return (uint32_t)strtoul(word, NULL, 10);
+}
+
+static void do_size(int is_first, char **words, int count)
+{
+    fontcut_range ranges[WORDS];
+    uint32_t kind = kind_of(words[1]);
+    file font = read_file(words[2]);
+    size_t given = ranges_of(words + 3, count - 3, ranges);
+    fontcut_answer answer = fontcut_subset_size(kind, font.at, font.length, ranges, given);
+    say_both(is_first, answer, kind ? answer : fontcut_cut_size(font.at, font.length, ranges, given));
+    free(font.at);
+}
+
+/* Whether the deprecated call answers and writes the same. */
+static int is_old_cut_same(file font, const fontcut_range *ranges, size_t given, fontcut_answer answer,
+                           const uint8_t *out, size_t room)
+{
+    uint8_t *other = guarded(room);
+    int same = is_same(answer, fontcut_cut(font.at, font.length, ranges, given, other, room)) &&
+               !memcmp(out - GUARD, other - GUARD, room + 2 * GUARD);
+    free(other - GUARD);
+    return same;
+}
+
 static void do_cut(int is_first, char **words, int count)
 {
     fontcut_range ranges[WORDS];
-    file font = read_file(words[1]);
-    size_t given = ranges_of(words + 4, count - 4, ranges);
-    size_t room = room_of(words[3], fontcut_cut_size(font.at, font.length, ranges, given).size);
+    uint32_t kind = kind_of(words[1]);
+    file font = read_file(words[2]);
+    size_t given = ranges_of(words + 5, count - 5, ranges);
+    size_t room = room_of(words[4], fontcut_subset_size(kind, font.at, font.length, ranges, given).size);
     uint8_t *out = guarded(room);
-    fontcut_answer answer = fontcut_cut(font.at, font.length, ranges, given, out, room);
+    fontcut_answer answer = fontcut_subset(kind, font.at, font.length, ranges, given, out, room);
     size_t written = answer.status ? 0 : (size_t)answer.size;
+    if (is_first && kind == FONTCUT_FULL && !is_old_cut_same(font, ranges, given, answer, out, room))
+        printf("otherwise ");
     say(is_first, answer, is_untouched(out, written, room));
     if (is_first)
-        write_file(words[2], out, written);
+        write_file(words[3], out, written);
     free(out - GUARD);
     free(font.at);
+}
+
+static void do_form(int is_first, char **words)
+{
+    uint32_t kind = kind_of(words[1]);
+    file font = read_file(words[2]);
+    fontcut_answer answer = fontcut_cut_form(kind, font.at, font.length);
+    say_both(is_first, answer, kind ? answer : fontcut_is_cut(font.at, font.length));
+    free(font.at);
+}
+
+static void do_belongs(int is_first, char **words)
+{
+    uint32_t kind = kind_of(words[1]);
+    file cut = read_file(words[2]), font = read_file(words[3]);
+    fontcut_answer answer = fontcut_belongs(kind, cut.at, cut.length, font.at, font.length);
+    say_both(is_first, answer, kind ? answer : fontcut_is_cut_of(cut.at, cut.length, font.at, font.length));
+    free(cut.at);
+    free(font.at);
+}
+
+/* Whether the deprecated call answers and writes the same. */
+static int is_old_join_same(const fontcut_bytes *files, size_t given, fontcut_answer answer, const uint8_t *out,
+                            size_t room)
+{
+    uint8_t *other = guarded(room);
+    int same = is_same(answer, fontcut_join_all(files, given, other, room)) &&
+               !memcmp(out - GUARD, other - GUARD, room + 2 * GUARD);
+    free(other - GUARD);
+    return same;
 }
 
 static void do_join(int is_first, char **words, int count)
 {
     static fontcut_bytes none;
     fontcut_bytes *files = (fontcut_bytes *)got(sizeof none * (size_t)count);
-    size_t given = (size_t)count - 3, i, room;
+    size_t given = (size_t)count - 4, i, room;
+    uint32_t kind = kind_of(words[1]);
     uint8_t *out;
     fontcut_answer answer;
     for (i = 0; i < given; i++) {
-        file one = read_file(words[i + 3]);
+        file one = read_file(words[i + 4]);
         files[i].at = one.at;
         files[i].length = one.length;
     }
     out = guarded(0);
-    room = room_of(words[2], words[2][0] == '-' ? fontcut_join_all(files, given, out, 0).size : 0);
+    room = room_of(words[3], words[3][0] == '-' ? fontcut_join(kind, files, given, out, 0).size : 0);
     free(out - GUARD);
     out = guarded(room);
-    answer = fontcut_join_all(files, given, out, room);
+    answer = fontcut_join(kind, files, given, out, room);
+    if (is_first && kind == FONTCUT_FULL && !is_old_join_same(files, given, answer, out, room))
+        printf("otherwise ");
     say(is_first, answer, is_untouched(out, answer.status ? 0 : (size_t)answer.size, room));
     if (is_first)
-        write_file(words[1], out, answer.status ? 0 : (size_t)answer.size);
+        write_file(words[2], out, answer.status ? 0 : (size_t)answer.size);
     free(out - GUARD);
     for (i = 0; i < given; i++)
         free((void *)files[i].at);
@@ -171,6 +255,62 @@ static void do_codes(int is_first, char **words)
     free(font.at);
 }
 
+/* Says an answer and whether its room holds so many bytes and no other was touched, and writes these to a file. */
+static void say_filled(int is_first, fontcut_answer answer, const char *path, const uint8_t *out, size_t item,
+                       size_t room)
+{
+    size_t written = answer.status ? 0 : (size_t)answer.size * item;
+    say(is_first, answer, is_untouched(out, written, room * item));
+    if (is_first)
+        write_file(path, out, written);
+}
+
+static void do_glyphs(int is_first, char **words)
+{
+    file font = read_file(words[1]), codes = read_file(words[2]);
+    size_t room = (size_t)strtoull(words[4], NULL, 10);
+    uint8_t *out = guarded(room * sizeof(uint16_t));
+    fontcut_answer answer = fontcut_glyphs(font.at, font.length, (const uint32_t *)(const void *)codes.at,
+                                           codes.length / sizeof(uint32_t), (uint16_t *)(void *)out, room);
+    say_filled(is_first, answer, words[3], out, sizeof(uint16_t), room);
+    free(out - GUARD);
+    free(codes.at);
+    free(font.at);
+}
+
+static void do_metrics(int is_first, char **words)
+{
+    file font = read_file(words[1]), glyphs = read_file(words[2]);
+    size_t room = (size_t)strtoull(words[4], NULL, 10);
+    uint8_t *out = guarded(room * sizeof(fontcut_metric));
+    fontcut_answer answer = fontcut_metrics(font.at, font.length, (const uint16_t *)(const void *)glyphs.at,
+                                            glyphs.length / sizeof(uint16_t), (fontcut_metric *)(void *)out, room);
+    say_filled(is_first, answer, words[3], out, sizeof(fontcut_metric), room);
+    free(out - GUARD);
+    free(glyphs.at);
+    free(font.at);
+}
+
+static void do_info(int is_first, char **words)
+{
+    file font = read_file(words[1]);
+    uint8_t *out = guarded(sizeof(fontcut_font_info));
+    fontcut_answer answer = fontcut_info(font.at, font.length, (fontcut_font_info *)(void *)out);
+    size_t written = answer.status ? 0 : sizeof(fontcut_font_info);
+    say(is_first, answer, is_untouched(out, written, sizeof(fontcut_font_info)));
+    if (is_first)
+        write_file(words[2], out, written);
+    free(out - GUARD);
+    free(font.at);
+}
+
+static void do_version(int is_first)
+{
+    if (is_first)
+        printf("%" PRIX32 " %s %s\n", fontcut_version(), FONTCUT_VERSION,
+               fontcut_version() == FONTCUT_VERSION_NUMBER ? "same" : "other");
+}
+
 /* Whether room for just the text is enough, and gets the same text. */
 static int fits(fontcut_answer asked, fontcut_answer answer, const uint8_t *text)
 {
@@ -198,35 +338,39 @@ static void do_text(int is_first, char **words)
     free(out - GUARD);
 }
 
+static void do_check(int is_first, char **words)
+{
+    file font = read_file(words[1]);
+    say(is_first, fontcut_check(font.at, font.length), 1);
+    free(font.at);
+}
+
 static void do_line(int is_first, char **words, int count)
 {
-    fontcut_range ranges[WORDS];
-    file one, other;
-    if (!strcmp(words[0], "cut")) {
+    if (!strcmp(words[0], "size"))
+        do_size(is_first, words, count);
+    else if (!strcmp(words[0], "cut"))
         do_cut(is_first, words, count);
-    } else if (!strcmp(words[0], "join")) {
+    else if (!strcmp(words[0], "join"))
         do_join(is_first, words, count);
-    } else if (!strcmp(words[0], "codes")) {
+    else if (!strcmp(words[0], "codes"))
         do_codes(is_first, words);
-    } else if (!strcmp(words[0], "text")) {
+    else if (!strcmp(words[0], "text"))
         do_text(is_first, words);
-    } else if (!strcmp(words[0], "belongs")) {
-        one = read_file(words[1]);
-        other = read_file(words[2]);
-        say(is_first, fontcut_is_cut_of(one.at, one.length, other.at, other.length), 1);
-        free(one.at);
-        free(other.at);
-    } else {
-        one = read_file(words[1]);
-        if (!strcmp(words[0], "check"))
-            say(is_first, fontcut_check(one.at, one.length), 1);
-        else if (!strcmp(words[0], "form"))
-            say(is_first, fontcut_is_cut(one.at, one.length), 1);
-        else
-            say(is_first,
-                fontcut_cut_size(one.at, one.length, ranges, ranges_of(words + 2, count - 2, ranges)), 1);
-        free(one.at);
-    }
+    else if (!strcmp(words[0], "form"))
+        do_form(is_first, words);
+    else if (!strcmp(words[0], "belongs"))
+        do_belongs(is_first, words);
+    else if (!strcmp(words[0], "glyphs"))
+        do_glyphs(is_first, words);
+    else if (!strcmp(words[0], "metrics"))
+        do_metrics(is_first, words);
+    else if (!strcmp(words[0], "info"))
+        do_info(is_first, words);
+    else if (!strcmp(words[0], "version"))
+        do_version(is_first);
+    else
+        do_check(is_first, words);
 }
 
 static void *do_all(void *is_first)

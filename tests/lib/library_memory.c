@@ -1,7 +1,8 @@
-/* Does each call of fontcut.h that asks for memory again and again, while the first, the second, .. request is refused,
- * and prints for each call how many requests it makes. Words: a font, and a cut of it. It is linked with
+/* Does each call of fontcut.h again and again, while the first, the second, .. request for memory is refused, and prints
+ * for each call how many requests it makes. Words: a font, a cut of it, and a lean cut. It is linked with
  * --wrap=malloc,--wrap=realloc. The status is 0 where each refused request was answered by FONTCUT_NO_MEMORY and left the
  * room as it was. */
+#define FONTCUT_DEPRECATED(text)
 #include "fontcut.h"
 
 #include <stdio.h>
@@ -34,31 +35,69 @@ void *__wrap_realloc(void *at, size_t size)
 }
 
 static uint8_t room[ROOM];
-static fontcut_bytes files[2];
+static fontcut_bytes files[3]; /* a font, a cut of it and a lean cut */
 
 static const fontcut_range RANGES[] = {{0x41, 0x43}, {0x61, 0x61}, {0x100, 0x200}};
 
-static const char *const NAMES[] = {"cut_size", "cut", "is_cut", "is_cut_of", "join_all", "codes", "refusal_text"};
+static const uint32_t CODES[] = {0x41, 0x62, 0x10FFFF};
+
+static const uint16_t GLYPHS[] = {2, 0, 1};
+
+static const char *const NAMES[] = {
+    "subset_size", "lean_subset_size", "subset",    "lean_subset",
+    "cut_form",    "lean_cut_form",    "belongs",   "lean_belongs",
+    "cut_size",    "cut",              "is_cut",    "is_cut_of",
+    "join",        "lean_join",        "join_all",  "codes",
+    "check",       "glyphs",           "metrics",   "info",
+    "refusal_text",
+};
 
 static fontcut_answer do_call(int call)
 {
     const fontcut_bytes font = files[0], cut = files[1];
+    const uint32_t kind = call % 2 ? FONTCUT_LEAN : FONTCUT_FULL; /* of the first eight */
     fontcut_answer told = {FONTCUT_BAD_GLYPH, 7, 0, 0};
     fontcut_bytes cuts[2];
     cuts[0] = cuts[1] = cut;
     switch (call) {
     case 0:
-        return fontcut_cut_size(font.at, font.length, RANGES, 3);
     case 1:
-        return fontcut_cut(font.at, font.length, RANGES, 3, room, ROOM);
+        return fontcut_subset_size(kind, font.at, font.length, RANGES, 3);
     case 2:
-        return fontcut_is_cut(cut.at, cut.length);
     case 3:
-        return fontcut_is_cut_of(cut.at, cut.length, font.at, font.length);
+        return fontcut_subset(kind, font.at, font.length, RANGES, 3, room, ROOM);
     case 4:
-        return fontcut_join_all(cuts, 2, room, ROOM);
     case 5:
+        return fontcut_cut_form(kind, cut.at, cut.length);
+    case 6:
+    case 7:
+        return fontcut_belongs(kind, cut.at, cut.length, font.at, font.length);
+    case 8:
+        return fontcut_cut_size(font.at, font.length, RANGES, 3);
+    case 9:
+        return fontcut_cut(font.at, font.length, RANGES, 3, room, ROOM);
+    case 10:
+        return fontcut_is_cut(cut.at, cut.length);
+    case 11:
+        return fontcut_is_cut_of(cut.at, cut.length, font.at, font.length);
+    case 12:
+        return fontcut_join(FONTCUT_FULL, cuts, 2, room, ROOM);
+    case 13:
+        cuts[0] = cuts[1] = files[2];
+        return fontcut_join(FONTCUT_LEAN, cuts, 2, room, ROOM);
+    case 14:
+        return fontcut_join_all(cuts, 2, room, ROOM);
+    case 15:
         return fontcut_codes(font.at, font.length, (fontcut_range *)(void *)room, ROOM / sizeof(fontcut_range));
+    case 16:
+        return fontcut_check(font.at, font.length);
+    case 17:
+        return fontcut_glyphs(font.at, font.length, CODES, 3, (uint16_t *)(void *)room, ROOM / sizeof(uint16_t));
+    case 18:
+        return fontcut_metrics(font.at, font.length, GLYPHS, 3, (fontcut_metric *)(void *)room,
+                               ROOM / sizeof(fontcut_metric));
+    case 19:
+        return fontcut_info(font.at, font.length, (fontcut_font_info *)(void *)room);
     default:
         return fontcut_refusal_text(told, room, ROOM);
     }
@@ -92,12 +131,13 @@ static int is_untouched(void)
 
 int main(int count, char **words)
 {
-    int call, status = count == 3 ? 0 : 2;
+    int call, status = count == 4 ? 0 : 2;
     long request;
     if (status)
         return status;
     files[0] = read_file(words[1]);
     files[1] = read_file(words[2]);
+    files[2] = read_file(words[3]);
     for (call = 0; call < (int)(sizeof NAMES / sizeof *NAMES); call++) {
         for (request = 0; request < MOST; request++) {
             fontcut_answer answer;
@@ -116,5 +156,6 @@ int main(int count, char **words)
     }
     free((void *)files[0].at);
     free((void *)files[1].at);
+    free((void *)files[2].at);
     return status;
 }

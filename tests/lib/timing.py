@@ -15,8 +15,9 @@ IDEOGRAPHS = [0x4E00 + 0x5200 * k // 3000 for k in range(3000)]
 # the most memory in bytes.
 Timed = namedtuple("Timed", "least median processor processor_median peak")
 
-# What calls in one process took: the bytes that a call makes, the least and the median in milliseconds.
-Called = namedtuple("Called", "size least median")
+# What calls in one process took: the bytes that a call makes, the least and the median in milliseconds, and the most
+# bytes that a call of the library held of the heap at once.
+Called = namedtuple("Called", "size least median held")
 
 
 def compiled(folder, source, *words):
@@ -59,7 +60,8 @@ def compiled_calls(folder, library):
     source = os.path.join(BENCHES, "in_process.c")
     words = harfbuzz()
     words = ["-DNO_HARFBUZZ"] if words is None else words
-    return compiled(folder, source, "-std=c99", "-D_GNU_SOURCE", f"-I{os.path.join(TOP, 'include')}", library, *words)
+    return compiled(folder, source, "-std=c99", "-D_GNU_SOURCE", f"-I{os.path.join(TOP, 'include')}", library,
+                    "-Wl,--wrap=malloc,--wrap=realloc,--wrap=free", *words)
 
 
 def put_ranges(path, ranges):
@@ -70,9 +72,10 @@ def put_ranges(path, ranges):
 
 def calls_in_turn(calls, font, ranges, milliseconds, least):
     """Runs benches/in_process.c, the program at `calls`, over a font and a file of ranges. Returns what each way took,
-    by its name: `cut`, `hb` and `copy`. A way that fails is left out."""
+    by its name: `cut`, `lean`, `hb` and `copy`. A way that fails is left out."""
     status, lines, err = run(calls, font, ranges, str(milliseconds), str(least), timeout=3600)
     if status:
         raise RuntimeError(f"{font}: status {status}: {err.decode(errors='replace')}")
     rows = [line.split() for line in lines.decode().splitlines()]
-    return {name: Called(int(size), int(low) / 1e6, int(median) / 1e6) for name, size, low, median, _ in rows}
+    return {name: Called(int(size), int(low) / 1e6, int(median) / 1e6, int(held))
+            for name, size, low, median, _, held in rows}

@@ -5,15 +5,15 @@ use Rattle.std.proofs.lemmas.Bool.Decides.{nat_tests}
 use Rattle.std.proofs.lemmas.List.{drop_more, drop_all}
 use Rattle.std.proofs.lemmas.List.FromFn.{length-map-range_with_len, get_or-map-range_with_len}
 use Rattle.std.specs.Option.{option_map_or}
-use Rattle.character_map.specs.CharacterMap.{IsUnmapped, clipped}
-use Rattle.character_map.specs.Runs.{IsPiece, NoRun}
-use Rattle.member_search.specs.Order.{Ascends, IsFirstReaching}
+use Rattle.codes.specs.CharacterMap.{IsUnmapped, clipped}
+use Rattle.codes.specs.Runs.{IsPiece, NoRun}
+use Rattle.codes.specs.Order.{Ascends, IsFirstReaching}
 use Rattle.cmap_subtables.specs.Inside.{group_end, group_nth}
 use Rattle.cmap_subtables.specs.Format12.{Decides, HasOrderedGroups, glyph_along, glyph_of_group, group_count, group_glyph, group_in, groups_of, holds}
 use Rattle.cmap_subtables.specs.declared.format12.ListedGroup.{ListedGroup}
-use Rattle.character_map.specs.declared.runs.Run.{Run}
-use Rattle.character_map.proofs.PieceLemmas.{stretch_same}
-use Rattle.member_search.proofs.OrderLemmas.{find_at, find_none, in_order_above, in_order_ascends, in_order_pair}
+use Rattle.codes.specs.declared.runs.Run.{Run}
+use Rattle.codes.proofs.PieceLemmas.{stretch_same}
+use Rattle.codes.proofs.OrderLemmas.{find_at, find_none, in_order_above, in_order_ascends, in_order_pair}
 
 abbrev none : ListedGroup
 none = record { first = 0; last = 0; glyph = 0 }
@@ -85,7 +85,7 @@ pub glyph_by_find : (s : List ℕ) (c : ℕ) (o : Option ListedGroup) → find (
 unfolding group_glyph
 glyph_by_find s c o e = ap (λ (x : Option ListedGroup). option_map_or (λ g. glyph_along g c) x 0) e
 
--- a group that is cut off behind a code gives the code the same
+-- a group that is cut off after a code gives the code the same
 pub cut_same : (g : ListedGroup) (last c : ℕ) → g.first ≤ c → c ≤ last → glyph_of_group (record { first = g.first; last = last; glyph = g.glyph }) c ≡ glyph_along g c
 cut_same g last c a b = grind (arith, nat_tests)
 

@@ -5,15 +5,15 @@ use Rattle.std.proofs.lemmas.Bool.Decides.{nat_tests}
 use Rattle.std.proofs.lemmas.List.{drop_more, drop_all}
 use Rattle.std.proofs.lemmas.List.FromFn.{length-map-range_with_len, get_or-map-range_with_len}
 use Rattle.std.specs.Option.{option_map_or}
-use Rattle.character_map.specs.CharacterMap.{IsUnmapped, clipped}
-use Rattle.member_search.specs.Order.{Ascends, IsFirstReaching}
+use Rattle.codes.specs.CharacterMap.{IsUnmapped, clipped}
+use Rattle.codes.specs.Order.{Ascends, IsFirstReaching}
 use Rattle.cmap_subtables.specs.Inside.{glyph_by_delta, glyph_of_segment, segment_end, segment_nth}
-use Rattle.character_map.specs.Runs.{IsPiece, NoRun}
+use Rattle.codes.specs.Runs.{IsPiece, NoRun}
 use Rattle.cmap_subtables.specs.Format4.{HasOrderedSegments, glyph_by, reaches, segment_count, segment_glyph, segment_in, segments_of}
 use Rattle.cmap_subtables.specs.declared.format4.Segment.{Segment}
-use Rattle.character_map.specs.declared.runs.Run.{Run}
-use Rattle.character_map.proofs.PieceLemmas.{clipped_none}
-use Rattle.member_search.proofs.OrderLemmas.{find_at, find_narrower, find_narrower_none, find_none, in_order_ascends}
+use Rattle.codes.specs.declared.runs.Run.{Run}
+use Rattle.codes.proofs.PieceLemmas.{clipped_none}
+use Rattle.codes.proofs.OrderLemmas.{find_at, find_narrower, find_narrower_none, find_none, in_order_ascends}
 
 abbrev none : Segment
 none = record { first = 0; last = 0; delta = 0; offset = 0; place = 0 }

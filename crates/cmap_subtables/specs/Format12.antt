@@ -1,10 +1,10 @@
--- Groups, with all bytes of `cmap` behind them (OpenType 1.9, cmap, Format 12: Segmented coverage).
+-- Groups, with all bytes of `cmap` after them (OpenType 1.9, cmap, Format 12: Segmented coverage).
 use Rattle.std.specs.Prelude.{ℕ, ◌+◌, ◌-◌, ◌*◌, ◌<◌, ◌≤◌, Bool, ◌&&◌, nat_le, List, length, map, find, if◌then◌else◌, Option, MatchOption}
 use Rattle.std.specs.List.{range_with_len}
 use Rattle.std.specs.Option.{option_map_or}
 use Rattle.sfnt_bytes.specs.Number.{u32_at}
-use Rattle.character_map.specs.CharacterMap.{AreSame, IsUnmapped}
-use Rattle.member_search.specs.Order.{AreInOrder}
+use Rattle.codes.specs.CharacterMap.{AreSame, IsUnmapped}
+use Rattle.codes.specs.Order.{AreInOrder}
 use Rattle.cmap_subtables.specs.declared.format12.ListedGroup.{ListedGroup}
 
 -- numGroups

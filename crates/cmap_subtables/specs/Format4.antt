@@ -1,10 +1,10 @@
--- Segments, with all bytes of `cmap` behind them (OpenType 1.9, cmap, Format 4: Segment mapping to delta
+-- Segments, with all bytes of `cmap` after them (OpenType 1.9, cmap, Format 4: Segment mapping to delta
 -- values).
 use Rattle.std.specs.Prelude.{ℕ, ◌+◌, ◌-◌, ◌*◌, ◌/◌, ◌%◌, ◌≤◌, Bool, nat_le, nat_lt, nat_eq, List, length, map, find, if◌then◌else◌}
 use Rattle.std.specs.List.{range_with_len}
 use Rattle.std.specs.Option.{option_map_or}
 use Rattle.sfnt_bytes.specs.Number.{u16_at}
-use Rattle.member_search.specs.Order.{AreInOrder}
+use Rattle.codes.specs.Order.{AreInOrder}
 use Rattle.cmap_subtables.specs.declared.format4.Segment.{Segment}
 
 -- segCountX2, halved

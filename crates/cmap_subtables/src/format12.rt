@@ -1,15 +1,14 @@
 //! Groups, each of codes on neighbouring glyphs. OpenType 1.9, cmap, Format 12: Segmented coverage.
 //!
-//! A subtable `s` is given with all bytes of `cmap` behind it.
+//! A subtable `s` is given with all bytes of `cmap` after it.
 ghost use Rattle.std.specs.Prelude.{◌≡◌, ◌+◌, ◌*◌, ◌<◌, ◌≤◌, ◌^◌, ◌↔◌, IsTrue, IfSome, MatchOption, drop, find, length, [], ◌∷◌};
-ghost use Rattle.character_map.specs.CharacterMap.{IsUnmapped, clipped};
+ghost use Rattle.codes.specs.CharacterMap.{IsUnmapped, clipped};
 ghost use Rattle.cmap_subtables.specs.Format12.{Decides, HasGroups, HasOrderedGroups, glyph_along, glyph_of_group, group_count, group_glyph, group_in, groups_of, holds};
-ghost use Rattle.member_search.specs.Order.{IsFirstReaching};
+ghost use Rattle.codes.specs.Order.{IsFirstReaching};
 ghost use Rattle.cmap_subtables.specs.Inside.{group_end, group_nth};
-ghost use Rattle.character_map.specs.Runs.{IsNext, IsPiece, NoRun};
+ghost use Rattle.codes.specs.Runs.{IsNext, IsPiece, NoRun};
 
-use character_map::Run;
-use member_search::{ANYWHERE, Ends, first_reaching};
+use codes::{ANYWHERE, Ends, Run, first_reaching};
 use sfnt_bytes::be32;
 use std::marker::Model;
 
@@ -348,7 +347,7 @@ impl<'a> Ends for ListedGroups<'a> {
 }
 
 // Returns the first piece of the map from a code on, where groups stand in order, and the place of the
-// group that has it. Where that is the place that the hint names or one soon behind it, no group is
+// group that has it. Where that is the place that the hint names or one soon after it, no group is
 // searched for.
 #[tactic(auto, using(crate::proofs::GroupLemmas::group_ascends))]
 fn piece_near(

@@ -1,16 +1,15 @@
 //! Segments, each of codes that share a delta or lie on an array. OpenType 1.9, cmap, Format 4:
 //! Segment mapping to delta values.
 //!
-//! A subtable `s` is given with all bytes of `cmap` behind it.
+//! A subtable `s` is given with all bytes of `cmap` after it.
 ghost use Rattle.std.specs.Prelude.{◌≡◌, ◌+◌, ◌*◌, ◌<◌, ◌≤◌, ◌^◌, ◌↔◌, ℕ, IsTrue, IfSome, MatchOption, drop, find, length, [], ◌∷◌};
-ghost use Rattle.character_map.specs.CharacterMap.{IsUnmapped, clipped};
+ghost use Rattle.codes.specs.CharacterMap.{IsUnmapped, clipped};
 ghost use Rattle.cmap_subtables.specs.Format4.{HasOrderedSegments, HasSegments, entry_or_zero, glyph_by, reaches, segment_count, segment_glyph, segment_in, segments_of};
-ghost use Rattle.member_search.specs.Order.{IsFirstReaching};
+ghost use Rattle.codes.specs.Order.{IsFirstReaching};
 ghost use Rattle.cmap_subtables.specs.Inside.{glyph_by_delta, glyph_of_segment, segment_end, segment_nth};
-ghost use Rattle.character_map.specs.Runs.{IsNext, IsPiece, IsRun, NoRun};
+ghost use Rattle.codes.specs.Runs.{IsNext, IsPiece, IsRun, NoRun};
 
-use character_map::{Run, clip};
-use member_search::{ANYWHERE, Ends, first_reaching};
+use codes::{ANYWHERE, Ends, Run, clip, first_reaching};
 use sfnt_bytes::be16;
 use std::marker::Model;
 
@@ -160,8 +159,8 @@ fn glyph_by(s: &[u8], segment: Segment, code: u32) -> u16
     ((u32::from(entry) + delta) % 65536) as u16
 }
 
-// Returns the codes from a given one on that a segment alone maps to one of the glyphs by its delta. The glyphs go
-// on at 0 behind 65,535, once at the most.
+// Returns the codes from a given one on that a segment alone maps to one of the glyphs by its delta. The
+// glyphs go on at 0 after 65,535, once at the most.
 fn clip_delta(segment: Segment, from: u32, glyphs: u16) -> Option<Run>
     ensures { MatchOption result (NoRun (clipped glyphs (glyph_by_delta segment)) from)
         (IsPiece (clipped glyphs (glyph_by_delta segment)) from) }
@@ -190,7 +189,7 @@ fn clip_delta(segment: Segment, from: u32, glyphs: u16) -> Option<Run>
     })
 }
 
-// So many codes are looked at behind a piece: a wanted set may ask for every other code of a segment.
+// This number of codes is looked at after a piece: a wanted set may ask for every other code of a segment.
 const AHEAD: u32 = 64;
 
 // A piece, and the next codes that a segment alone maps to the glyphs after it, code by code: who walks over a
@@ -300,7 +299,7 @@ fn walk_piece(s: &[u8], glyphs: u16, from: u32) -> (Option<Run>, usize)
 // Returns the run that begins at the least mapped code from a given one on, for segments in any order.
 //
 // The segment that decides a code stands in no place before the one that decides the code below it.
-// So one walk over the segments serves the whole run, and the code behind it.
+// So one walk over the segments serves the whole run, and the code after it.
 fn walk_run(s: &[u8], glyphs: u16, from: u32) -> Option<Run>
     requires { HasSegments s.now }
     ensures { MatchOption result (NoRun (clipped glyphs (segment_glyph s.now)) from)
@@ -448,7 +447,7 @@ impl<'a> Ends for Segments<'a> {
 }
 
 // Returns the first piece of the map from a code on, where segments stand in order, and the place of the
-// segment that has it. Where that is the place that the hint names or one soon behind it, no segment is
+// segment that has it. Where that is the place that the hint names or one soon after it, no segment is
 // searched for.
 #[tactic(auto, using(crate::proofs::SegmentLemmas::segment_ascends))]
 fn piece_near(segments: &Segments<'_>, glyphs: u16, hint: usize, from: u32) -> (Option<Run>, usize)

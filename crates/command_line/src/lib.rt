@@ -8,7 +8,7 @@ use clap::{Arg, ArgAction, ArgMatches, Command, Error};
 use std::alloc::{AllocError, Global};
 
 /// The version of the program. This is the one place of the number.
-pub const VERSION: &str = "0.9.0";
+pub const VERSION: &str = "0.10.0";
 
 /// The word that stands for standard input where a file is read, and for standard output as OUT.
 pub const STANDARD: &str = "-";
@@ -23,7 +23,7 @@ const SUBCOMMANDS: [&str; 7] = [
 pub struct Line<'a> {
     /// What it asks for.
     pub task: Task<'a>,
-    /// Whether the system's reason is told where a file cannot be read or written.
+    /// Whether the system's reason is said where a file cannot be read or written.
     pub is_verbose: bool,
 }
 
@@ -72,7 +72,13 @@ pub struct Subset<'a> {
     pub code_files: Vec<&'a str>,
     /// The words that name ranges of codes that are kept.
     pub words: Vec<&'a str>,
-    /// Whether it is told which codes were wanted and are not mapped, and what was dropped.
+    /// Lists of ranges of codes that are kept.
+    pub lists: Vec<&'a str>,
+    /// Lists of ranges of codes that are taken away.
+    pub excluded: Vec<&'a str>,
+    /// The paths of files of ranges of codes that are taken away.
+    pub excluded_files: Vec<&'a str>,
+    /// Whether it is said which codes were wanted and are not mapped, and what was dropped.
     pub reports: bool,
     /// Whether nothing is written where a wanted code is not mapped.
     pub is_strict: bool,
@@ -87,6 +93,8 @@ pub struct Join<'a> {
     pub out: &'a str,
     /// The paths of the cuts, one at least.
     pub files: Vec<&'a str>,
+    /// Whether the files are lean cuts, and their lean join is asked for.
+    pub is_lean: bool,
 }
 
 /// Why a command line asks for nothing that can be done.
@@ -109,7 +117,7 @@ fn required<'a>(alloc: Global, id: &'a str) -> Arg<'a> {
 
 // Returns a subcommand over one font.
 fn over_font<'a>(alloc: Global, name: &'a str, about: &'a str) -> Result<Command<'a>, AllocError> {
-    let font = required(alloc, "FONT");
+    let font = required(alloc, "FONT").help(texts::FONT);
     let command = Command::new(alloc, name).about(about);
     command.arg(font)
 }
@@ -134,8 +142,8 @@ fn flag<'a>(alloc: Global, long: &'a str, help: &'a str) -> Arg<'a> {
 fn belongs_command<'a>(alloc: Global) -> Result<Command<'a>, AllocError> {
     Command::new(alloc, "belongs")
         .about(texts::BELONGS)
-        .arg(Arg::new(alloc, "CUT").required(true))?
-        .arg(Arg::new(alloc, "FONT").required(true))?
+        .arg(Arg::new(alloc, "CUT").required(true).help(texts::CUT))?
+        .arg(Arg::new(alloc, "FONT").required(true).help(texts::FONT))?
         .arg(flag(alloc, "lean", texts::LEAN_CUT))
 }
 
@@ -146,11 +154,15 @@ fn subset_command<'a>(alloc: Global) -> Result<Command<'a>, AllocError> {
         .num_args(0..)
         .action(ArgAction::Append)
         .help(texts::WORDS);
+    let out = required(alloc, "OUT").help(texts::OUT);
     over_font(alloc, "subset", texts::SUBSET)?
-        .arg(Arg::new(alloc, "OUT").required(true))?
+        .arg(out)?
         .arg(text)?
         .arg(repeated(alloc, "text-file", "FILE", texts::TEXT_FILE))?
         .arg(repeated(alloc, "codes-file", "FILE", texts::CODES_FILE))?
+        .arg(repeated(alloc, "unicodes", "LIST", texts::UNICODES))?
+        .arg(repeated(alloc, "exclude", "LIST", texts::EXCLUDE))?
+        .arg(repeated(alloc, "exclude-file", "FILE", texts::EXCLUDE_FILE))?
         .arg(flag(alloc, "report", texts::REPORT))?
         .arg(flag(alloc, "strict", texts::STRICT))?
         .arg(flag(alloc, "lean", texts::LEAN))?
@@ -165,7 +177,8 @@ fn join_command<'a>(alloc: Global) -> Result<Command<'a>, AllocError> {
         .help(texts::FILES);
     Command::new(alloc, "join")
         .about(texts::JOIN)
-        .arg(Arg::new(alloc, "OUT").required(true))?
+        .arg(Arg::new(alloc, "OUT").required(true).help(texts::OUT))?
+        .arg(flag(alloc, "lean", texts::LEAN_JOIN))?
         .arg(files)
 }
 
@@ -245,6 +258,9 @@ fn subset_task<'a>(
         text_files: values_of(alloc, matches, "text-file")?,
         code_files: values_of(alloc, matches, "codes-file")?,
         words: values_of(alloc, matches, "WORDS")?,
+        lists: values_of(alloc, matches, "unicodes")?,
+        excluded: values_of(alloc, matches, "exclude")?,
+        excluded_files: values_of(alloc, matches, "exclude-file")?,
         reports: matches.get_flag("report"),
         is_strict: matches.get_flag("strict"),
         is_lean: matches.get_flag("lean"),
@@ -269,6 +285,7 @@ fn join_task<'a>(alloc: Global, matches: &ArgMatches<'a>) -> Result<Option<Task<
     Ok(Some(Task::Join(Join {
         out,
         files: values_of(alloc, matches, "FILES")?,
+        is_lean: matches.get_flag("lean"),
     })))
 }
 
@@ -337,7 +354,8 @@ fn reads_input_twice(task: &Task<'_>) -> bool {
     let count = match task {
         Task::Subset(line) => standard_count(&[line.font])
             .saturating_add(standard_count(&line.text_files))
-            .saturating_add(standard_count(&line.code_files)),
+            .saturating_add(standard_count(&line.code_files))
+            .saturating_add(standard_count(&line.excluded_files)),
         Task::Join(line) => standard_count(&line.files),
         Task::Belongs(line) => standard_count(&[line.cut, line.font]),
         _ => 0,

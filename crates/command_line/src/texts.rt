@@ -10,7 +10,8 @@ OUT is overwritten when all of it is written, and never left half done.
 Statuses: 0 done; 1 a font is refused, check finds something, belongs says no, or memory is refused;
 2 the words of the line are at fault; 3 a file cannot be read or written";
 
-pub(crate) const VERBOSE: &str = "Tells the system's reason where a file cannot be read or written";
+pub(crate) const VERBOSE: &str =
+    "Says more where something fails: the system's reason, the file, what it is";
 
 pub(crate) const CHECK: &str = "Checks FONT: prints each finding, then whether it is accepted";
 
@@ -44,7 +45,7 @@ Examples:
 Statuses: 0 printed; 1 the font is refused; 2 words; 3 files";
 
 pub(crate) const BELONGS: &str =
-    "Tells whether CUT is a cut of FONT for some characters: prints yes or no";
+    "Says whether CUT is a cut of FONT for some characters: prints yes or no";
 
 pub(crate) const AFTER_BELONGS: &str = "\
 CUT may be a join of cuts, or a cut of an earlier version of this program. Of another font, or of another
@@ -62,13 +63,13 @@ pub(crate) const SUBSET: &str =
 pub(crate) const TEXT: &str = "Keeps the characters of TEXT; may be used again";
 
 pub(crate) const TEXT_FILE: &str =
-    "Keeps the characters of a file in UTF-8, but for line ends; may be used again";
+    "Keeps the characters of a file in UTF-8, but for control characters; may be used again";
 
 pub(crate) const CODES_FILE: &str =
-    "Keeps the range words of a file, parted by blanks, line ends or commas; # starts a comment";
+    "Keeps the codes of a file of lists, as those of --unicodes; # starts a comment";
 
 pub(crate) const REPORT: &str =
-    "Tells on standard error which wanted codes FONT lacks, and what the cut drops";
+    "Says on standard error which wanted codes FONT lacks, and what the cut drops";
 
 pub(crate) const STRICT: &str =
     "Writes nothing and reports, with status 1, where FONT lacks a wanted code";
@@ -77,6 +78,20 @@ pub(crate) const LEAN: &str =
     "Writes the lean cut: no metrics of glyphs that are not kept, and no names of glyphs";
 
 pub(crate) const LEAN_CUT: &str = "Asks for a lean cut, as subset --lean writes it";
+
+pub(crate) const FONT: &str =
+    "The path of a font file with TrueType outlines, or - for standard input";
+
+pub(crate) const OUT: &str = "The path that is written to, or - for standard output";
+
+pub(crate) const CUT: &str = "The path of a file that may be a cut, or - for standard input";
+
+pub(crate) const UNICODES: &str =
+    "Keeps the codes of LIST: 41-5A,61,U+3B1,U+4?? or a unicode-range of CSS; may be used again";
+
+pub(crate) const EXCLUDE: &str = "Takes the codes of LIST away from those that are kept";
+
+pub(crate) const EXCLUDE_FILE: &str = "Takes the codes of a file of lists away";
 
 pub(crate) const WORDS: &str = "Ranges of codes to keep: all, U+41, U+41-5A";
 
@@ -89,6 +104,7 @@ Examples:
   fontcut subset font.ttf cut.ttf --text 'Hello, world'
   fontcut subset font.ttf lean.ttf U+20-7E --lean
   fontcut subset font.ttf cut.ttf U+20-7E --text-file page.txt --report
+  fontcut subset font.ttf cut.ttf --unicodes 'U+4??, U+20AC' --exclude 450-45F
 
 Statuses: 0 done; 1 the font is refused, or --strict and a code is not mapped; 2 words; 3 files";
 
@@ -98,12 +114,17 @@ pub(crate) const JOIN: &str =
 
 pub(crate) const FILES: &str = "Cuts of one font, in any order";
 
+pub(crate) const LEAN_JOIN: &str =
+    "Joins lean cuts, as subset --lean writes them, into the lean cut";
+
 pub(crate) const AFTER_JOIN: &str = "\
 A join keeps what its cuts kept, and drops nothing. It is the cut of the font for all their characters.
+Lean cuts join with --lean, and with lean cuts alone; subset --lean with the word all makes a cut lean.
 
 Examples:
   fontcut join all.ttf latin.ttf greek.ttf
   fontcut join all.ttf all.ttf more.ttf
+  fontcut join --lean all.ttf latin.ttf greek.ttf
 
 Statuses: 0 done; 1 a file is refused, or they are no cuts of one font; 2 words; 3 files";
 

@@ -7,6 +7,10 @@ mod answers;
 #[cfg(test)]
 mod calls;
 #[cfg(test)]
+mod lean_cuts;
+#[cfg(test)]
+mod lean_joins;
+#[cfg(test)]
 mod refused_cuts;
 #[cfg(test)]
 mod refused_joins;

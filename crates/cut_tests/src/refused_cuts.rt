@@ -1,5 +1,5 @@
 //! Memory that is refused, and how often it is asked for. A set has one request of its own, the first.
-use crate::answers::{Answer, answered, refused_in_turn};
+use crate::answers::{Outcome, answered, refused_in_turn};
 use crate::samples::{cut_of, kept_of, wanted_of};
 use crate::sent_cuts::is_sent_by_bytes;
 use fakes::Refusing;
@@ -11,18 +11,24 @@ use sfnt_bytes::{BASE6, NoMemory};
 use std::alloc::Global;
 use std::test::Fail;
 
-fn cut_without(alloc: Global, k: u64, font: &Font<'_>, range: (u32, u32), stated: &[u8]) -> Answer {
+fn cut_without(
+    alloc: Global,
+    k: u64,
+    font: &Font<'_>,
+    range: (u32, u32),
+    stated: &[u8],
+) -> Outcome {
     let memory = Refusing::new(alloc, k);
     let Ok(wanted) = wanted_of(&memory, &[range]) else {
-        return Answer::Other;
+        return Outcome::Other;
     };
     if memory.requests() != 1 {
-        return Answer::Other;
+        return Outcome::Other;
     }
     match cut(&memory, font, &wanted) {
         Ok(file) => answered(memory.has_refused(), None, file.as_slice() == stated),
         Err(CutError::NoMemory) => answered(memory.has_refused(), Some(0), false),
-        Err(_) => Answer::Other,
+        Err(_) => Outcome::Other,
     }
 }
 
@@ -33,10 +39,10 @@ fn cut_into_without(
     font: &Font<'_>,
     range: (u32, u32),
     stated: &[u8],
-) -> Answer {
+) -> Outcome {
     let memory = Refusing::new(alloc, k);
     let Ok(wanted) = wanted_of(&memory, &[range]) else {
-        return Answer::Other;
+        return Outcome::Other;
     };
     let mut outlet = Outlet::new(Vec::new(alloc));
     let answer = cut_into(&memory, font, &wanted, &mut outlet);
@@ -78,18 +84,18 @@ fn refused_memory_in_cuts(rt: HostRuntime) -> Result<(), Fail> {
     Ok(())
 }
 
-fn kept_without(alloc: Global, k: u64, file: &[u8], range: (u32, u32), stated: &[u16]) -> Answer {
+fn kept_without(alloc: Global, k: u64, file: &[u8], range: (u32, u32), stated: &[u16]) -> Outcome {
     let Ok(font) = Font::open(file) else {
-        return Answer::Other;
+        return Outcome::Other;
     };
     let memory = Refusing::new(alloc, k);
     let Ok(wanted) = wanted_of(&memory, &[range]) else {
-        return Answer::Other;
+        return Outcome::Other;
     };
     match CutOf::new(&memory, &font, &wanted) {
         Ok(source) => match kept_of(alloc, &source) {
             Ok(kept) => answered(memory.has_refused(), None, kept.as_slice() == stated),
-            Err(_) => Answer::Other,
+            Err(_) => Outcome::Other,
         },
         Err(NoMemory) => answered(memory.has_refused(), Some(0), false),
     }
@@ -131,16 +137,16 @@ fn outlets_after_a_refusal(rt: HostRuntime) -> Result<(), Fail> {
 }
 
 // Returns what the cut for 0x42 answers where this request is refused. It has this size.
-fn count_without(alloc: Global, k: u64, font: &Font<'_>, size: u64) -> Answer {
+fn count_without(alloc: Global, k: u64, font: &Font<'_>, size: u64) -> Outcome {
     let memory = Refusing::new(alloc, k);
     let Ok(wanted) = wanted_of(&memory, &[(0x42, 0x42)]) else {
-        return Answer::Other;
+        return Outcome::Other;
     };
     let mut outlet = Outlet::new(Counting::new());
     match cut_into(&memory, font, &wanted, &mut outlet) {
         Ok(sent) => answered(memory.has_refused(), None, sent == size),
         Err(CutIntoError::NoMemory) => answered(memory.has_refused(), Some(0), false),
-        Err(_) => Answer::Other,
+        Err(_) => Outcome::Other,
     }
 }
 

@@ -1,5 +1,5 @@
 //! Memory that is refused while files are looked at and joined.
-use crate::answers::{Answer, answered, refused_in_turn};
+use crate::answers::{Outcome, answered, refused_in_turn};
 use crate::samples::copies;
 use fakes::Refusing;
 use font_cut::{
@@ -13,9 +13,9 @@ use sfnt_bytes::BASE6;
 use std::alloc::Global;
 use std::test::Fail;
 
-fn cut_form_without(alloc: Global, k: u64, file: &[u8], stated: bool) -> Answer {
+fn cut_form_without(alloc: Global, k: u64, file: &[u8], stated: bool) -> Outcome {
     let Ok(font) = Font::open(file) else {
-        return Answer::Other;
+        return Outcome::Other;
     };
     let memory = Refusing::new(alloc, k);
     match is_cut(&memory, &font) {
@@ -24,9 +24,9 @@ fn cut_form_without(alloc: Global, k: u64, file: &[u8], stated: bool) -> Answer 
     }
 }
 
-fn form_without(alloc: Global, k: u64, file: &[u8], stated: CutForm) -> Answer {
+fn form_without(alloc: Global, k: u64, file: &[u8], stated: CutForm) -> Outcome {
     let Ok(font) = Font::open(file) else {
-        return Answer::Other;
+        return Outcome::Other;
     };
     let memory = Refusing::new(alloc, k);
     match cut_form(&memory, &font) {
@@ -60,9 +60,9 @@ fn refused_memory_in_is_cut(rt: HostRuntime) -> Result<(), Fail> {
     Ok(())
 }
 
-fn belongs_without(alloc: Global, k: u64, cut: &[u8], font: &[u8], stated: bool) -> Answer {
+fn belongs_without(alloc: Global, k: u64, cut: &[u8], font: &[u8], stated: bool) -> Outcome {
     let (Ok(cut), Ok(font)) = (Font::open(cut), Font::open(font)) else {
-        return Answer::Other;
+        return Outcome::Other;
     };
     let memory = Refusing::new(alloc, k);
     match is_cut_of(&memory, &cut, &font) {
@@ -94,9 +94,9 @@ fn step_of_two(refusal: Option<JoinError>) -> Option<usize> {
     }
 }
 
-fn union_without(alloc: Global, k: u64, x: &[u8], y: &[u8], stated: Option<JoinError>) -> Answer {
+fn union_without(alloc: Global, k: u64, x: &[u8], y: &[u8], stated: Option<JoinError>) -> Outcome {
     let (Ok(x), Ok(y)) = (Font::open(x), Font::open(y)) else {
-        return Answer::Other;
+        return Outcome::Other;
     };
     let memory = Refusing::new(alloc, k);
     let refusal = Joined::new(&memory, &x, &y).err();
@@ -123,7 +123,7 @@ fn join_without(
     x: &[u8],
     y: &[u8],
     stated: Result<&[u8], JoinError>,
-) -> Answer {
+) -> Outcome {
     let memory = Refusing::new(alloc, k);
     match join(&memory, x, y) {
         Ok(file) => answered(memory.has_refused(), None, stated == Ok(file.as_slice())),
@@ -173,13 +173,13 @@ fn join_all_without(
     k: u64,
     files: &[&[u8]],
     stated: Result<&[u8], JoinAllError>,
-) -> Answer {
+) -> Outcome {
     let memory = Refusing::new(alloc, k);
     let Ok(copied) = copies(alloc, &memory, files) else {
-        return Answer::Other;
+        return Outcome::Other;
     };
     if memory.requests() != files.len() as u64 {
-        return Answer::Other;
+        return Outcome::Other;
     }
     match join_all(&memory, &copied) {
         Ok(file) => answered(memory.has_refused(), None, stated == Ok(file.as_slice())),
@@ -210,7 +210,7 @@ fn refused_memory_in_join_all(rt: HostRuntime) {
     assert!(rt; matches!(found, Some((_, 2))), "{found:?}");
 }
 
-// Memory is asked for behind the refusals of both fonts, and not where there is no file.
+// Memory is asked for after the refusals of both fonts, and not where there is no file.
 #[test]
 fn faults_before_memory(rt: HostRuntime) {
     let alloc = rt.alloc();
@@ -218,15 +218,15 @@ fn faults_before_memory(rt: HostRuntime) {
     let first = JoinError::Font(Which::First, truncated);
     let second = JoinError::Font(Which::Second, truncated);
     let found = join_without(alloc, 1, &[], &BASE6, Err(first));
-    assert_eq!(rt; found, Answer::Stated);
+    assert_eq!(rt; found, Outcome::Stated);
     let found = join_without(alloc, 1, &BASE6, &[], Err(second));
-    assert_eq!(rt; found, Answer::Stated);
+    assert_eq!(rt; found, Outcome::Stated);
     let found = join_all_without(alloc, 1, &[], Err(JoinAllError::NothingToJoin));
-    assert_eq!(rt; found, Answer::Stated);
+    assert_eq!(rt; found, Outcome::Stated);
     let stated = Err(JoinAllError::At {
         step: 0,
         error: first,
     });
     let found = join_all_without(alloc, 3, &[&BASE6[..5], &BASE6], stated);
-    assert_eq!(rt; found, Answer::Stated);
+    assert_eq!(rt; found, Outcome::Stated);
 }

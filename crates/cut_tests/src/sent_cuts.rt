@@ -46,7 +46,7 @@ fn send_aacute(alloc: Global, piece: usize, failure: Failure) -> Option<Sent> {
     })
 }
 
-// Returns what is stated of a writer that takes so many bytes of the cut and then fails, or all of them.
+// Returns what is stated of a writer that takes this number of bytes of the cut and then fails, or all of them.
 fn taken(written: u64) -> Sent {
     let is_broken = written < SIZE;
     Sent {

@@ -1,5 +1,5 @@
 //! Joins that are sent: to writers that fail at each write, and where each request for memory is refused.
-use crate::answers::{Answer, answered, refused_in_turn};
+use crate::answers::{Outcome, answered, refused_in_turn};
 use crate::refused_joins::step_of_many;
 use crate::samples::copies;
 use fakes::Refusing;
@@ -59,10 +59,10 @@ fn failing_writers(rt: HostRuntime) {
 }
 
 // The outlet is fresh where memory was refused.
-fn send_without(alloc: Global, k: u64, files: &[&[u8]]) -> Answer {
+fn send_without(alloc: Global, k: u64, files: &[&[u8]]) -> Outcome {
     let memory = Refusing::new(alloc, k);
     let Ok(copied) = copies(alloc, &memory, files) else {
-        return Answer::Other;
+        return Outcome::Other;
     };
     let mut outlet = Outlet::new(Vec::new(alloc));
     let sent = join_all_into(&memory, &copied, &mut outlet);

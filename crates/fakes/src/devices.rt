@@ -15,7 +15,7 @@ pub enum Failure {
     AtWrite(u64, ErrorKind),
     /// The write of this number takes no byte.
     TakesNoneAt(u64),
-    /// So many bytes are taken in all, and then none.
+    /// This number of bytes is taken in all, and then none.
     Full(usize),
     /// The first flush is an error of this kind.
     AtFlush(ErrorKind),

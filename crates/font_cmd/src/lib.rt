@@ -1,24 +1,27 @@
-//! The runs of `fontcut` over readers and writers: the contract of each says what is sent and when it stops.
+//! The program `fontcut` over the arguments of a command line and files. Of its own part safety alone is
+//! proved, and that it returns: tests show the rest. What its commands send is proved in `commands`.
 #![tactic(auto)]
 
-mod belongs;
-mod check;
-mod codes;
-mod inlet;
-mod join;
-mod lean_belongs;
-mod lean_subset;
-mod run_error;
-mod show;
-mod subset;
+mod code_set;
+mod coverage;
+mod cutting;
+mod demo;
+mod dispatch;
+mod inputs;
+mod joining;
+mod listed_word;
+mod out_file;
+mod outcome;
+mod output;
+mod refused_file;
+mod report;
+mod shown;
+mod system;
+mod utf8;
+mod wanted;
+mod wanted_files;
 
-pub use crate::belongs::run_belongs;
-pub use crate::check::run_check;
-pub use crate::codes::{RangeLine, codes_laws, next_range, run_codes};
-pub use crate::inlet::{Inlet, ReadError};
-pub use crate::join::run_join;
-pub use crate::lean_belongs::run_lean_belongs;
-pub use crate::lean_subset::run_lean_subset;
-pub use crate::run_error::RunError;
-pub use crate::show::run_show;
-pub use crate::subset::run_subset;
+pub use crate::dispatch::{run_on_system, run_words};
+pub use crate::system::{KeepsReason, Reason, System};
+pub use commands::{RunError, run_check, run_join, run_show, run_subset};
+pub use streams::{Inlet, ReadError};

@@ -1,4 +1,4 @@
--- Components at the front of bytes: which they are, and what is left of the bytes behind one.
+-- Components at the front of bytes: which they are, and what is left of the bytes after one.
 use Rattle.std.proofs.Common.{◌≡◌, ℕ, zero, suc, ◌+◌, ◌*◌, ◌<◌, ◌≤◌, ◌⊎◌, Bool, true, false, if◌then◌else◌, nat_lt, List, [], ◌∷◌, ◌++◌, length, drop, sym, ap, subst, ◌∙◌, arith, refl, Option, Some, None, inl, inr, length-append, length-drop}
 use Rattle.std.specs.List.{All}
 use Rattle.std.specs.Option.{option_map, unwrap_or}
@@ -40,7 +40,7 @@ StartsWith-append r z c h =
       whole = omega arith;
     }
 
--- bytes behind a chain leave it
+-- bytes after a chain leave it
 pub Chain-append : (r z : List ℕ) (list : List Component) → Chain r list → Chain (r ++ z) list
 Chain-append r z [] h = h
 Chain-append r z (c ∷ []) h = (StartsWith-append r z c h.0, h.1)
@@ -121,7 +121,7 @@ chain_of-tells (suc n) r list h =
     longer [] h more k = absurd k
     longer (d ∷ rest) h more k = (h, more, k)
 
--- how a chain goes on behind its first component
+-- how a chain goes on after its first component
 pub Chain-first : (r : List ℕ) (c : Component) (list : List Component) → StartsWith r c → Chain r list
     → ((has_more c.flags ≡ false) × (list ≡ c ∷ [])) ⊎ ((rest : List Component) × (has_more c.flags ≡ true) × (list ≡ c ∷ rest) × Chain (drop (component_size c.flags) r) rest)
 Chain-first r c [] h k = absurd k

@@ -64,7 +64,7 @@ some_is x y e = cc
 pub ComponentList-only : (b : List ℕ) (first second : List Component) → ComponentList b first → ComponentList b second → first ≡ second
 ComponentList-only b first second h k = some_is first second (sym (components_of-is b first h) ∙ components_of-is b second k)
 
--- bytes behind a record leave its list
+-- bytes after a record leave its list
 pub ComponentList-append : (b behind : List ℕ) (list : List Component) → 10 ≤ length b → ComponentList b list → ComponentList (b ++ behind) list
 ComponentList-append b behind list long (Empty e k) = let none = ap length e in absurd (omega arith)
 ComponentList-append b behind list long (Simple h k) =

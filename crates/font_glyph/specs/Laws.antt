@@ -13,7 +13,7 @@ OneComponentList = (b : List ℕ) (first second : List Component) → ComponentL
 abbrev pub ComponentsAreComputed : Type 0
 ComponentsAreComputed = (b : List ℕ) (list : List Component) → components_of b ≡ Some list ↔ ComponentList b list
 
--- bytes behind a record of at least ten bytes leave its list
+-- bytes after a record of at least ten bytes leave its list
 abbrev pub BytesBehindRecord : Type 0
 BytesBehindRecord = (b behind : List ℕ) (list : List Component) → 10 ≤ length b → ComponentList b list → ComponentList (b ++ behind) list
 

@@ -36,6 +36,6 @@ reached_within records seeds count zero g = seeds g
 reached_within records seeds count (suc k) g =
     reached_within records seeds count k g || any_below (λ s. reached_within records seeds count k s && names (records s) g) count
 
--- what is found in so many rounds that no more can be found
+-- what is found in enough rounds that no more can be found
 unfoldable pub reached : (ℕ → List ℕ) → (ℕ → Bool) → ℕ → ℕ → Bool
 reached records seeds count g = reached_within records seeds count (suc count) g

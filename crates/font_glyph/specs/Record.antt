@@ -18,7 +18,7 @@ IsSimple b = (10 ≤ length b) × (slice_index b 0 < 0x80)
 abbrev pub IsComposite : List ℕ → Type 0
 IsComposite b = (10 ≤ length b) × (0x80 ≤ slice_index b 0)
 
--- the record b has the list of components: none where it is empty or simple, and a chain behind the header of
+-- the record b has the list of components: none where it is empty or simple, and a chain after the header of
 -- a composite
 pub data ComponentList (b : List ℕ) (list : List Component) : Type 0 where
   Empty : b ≡ [] → list ≡ [] → ComponentList b list

@@ -11,8 +11,8 @@ pub fn components_are_computed()
     ensures { ComponentsAreComputed }
 {}
 
-/// Bytes behind a record of at least ten bytes leave its list of components.
-pub fn bytes_behind_a_record()
+/// Bytes after a record of at least ten bytes leave its list of components.
+pub fn bytes_after_a_record()
     ensures { BytesBehindRecord }
 {}
 

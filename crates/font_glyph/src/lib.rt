@@ -12,7 +12,7 @@ mod record;
 pub use crate::closure::close;
 pub use crate::component::{Component, Components};
 pub use crate::laws::{
-    bytes_behind_a_record, components_are_computed, one_component_list, reach_is_least,
+    bytes_after_a_record, components_are_computed, one_component_list, reach_is_least,
     reach_of_a_union, reached_is_reach,
 };
 pub use crate::marks::Marks;

@@ -6,11 +6,11 @@ use sfnt_bytes::NoMemory;
 use std::alloc::{Allocator, Global};
 use std::marker::Model;
 
-/// So many marks are looked at in one step.
+/// The number of marks that are looked at in one step.
 const BLOCK: usize = 64;
 
-// Returns whether so many marks stand behind a place and none of them is set. It looks at all of them, so
-// that the compiler may take many at a time.
+// Returns whether this number of marks stands after a place and none of them is set. It looks at all of them,
+// so that the compiler may take many at a time.
 #[tactic(auto, unfolding(crate::specs::Marks::has))]
 fn is_clear(marks: &[bool], at: usize) -> bool
     requires { at ≤ length marks.now }

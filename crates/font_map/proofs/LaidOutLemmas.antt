@@ -3,12 +3,12 @@ use Rattle.std.proofs.Common.{◌≡◌, ◌≢◌, ℕ, ◌+◌, ◌<◌, ◌�
 use Rattle.std.proofs.lemmas.Bool.{cases_lt}
 use Rattle.std.proofs.lemmas.Bool.Decides.{nat_tests}
 use Rattle.std.proofs.lemmas.List.{get_or-set_same, get_or-set_other}
-use Rattle.character_map.specs.CharacterMap.{clipped}
+use Rattle.codes.specs.CharacterMap.{clipped}
 use Rattle.cmap_subtables.specs.Format12.{glyph_along, group_glyph, groups_of, holds}
 use Rattle.cmap_subtables.specs.Format4.{segment_glyph}
 use Rattle.font_map.specs.Inside.{IsFirstFree, IsLaid}
 use Rattle.cmap_subtables.proofs.GroupLemmas.{glyph_by_find, holds_yes}
-use Rattle.character_map.proofs.PieceLemmas.{clipped_none}
+use Rattle.codes.proofs.PieceLemmas.{clipped_none}
 use Rattle.cmap_subtables.proofs.SegmentLemmas.{glyph_above}
 use Rattle.cmap_subtables.specs.declared.format12.ListedGroup.{ListedGroup}
 

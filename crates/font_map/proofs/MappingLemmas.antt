@@ -3,16 +3,16 @@ use Rattle.std.proofs.Common.{◌≡◌, ◌≢◌, ℕ, ◌<◌, ◌≤◌, ◌
 use Rattle.std.proofs.lemmas.Bool.Decides.{nat_tests}
 use Rattle.std.specs.Option.{option_map_or}
 use Rattle.sfnt_bytes.specs.Number.{u16_at}
-use Rattle.character_map.specs.CharacterMap.{IsCharacterMap, clipped}
+use Rattle.codes.specs.CharacterMap.{IsCharacterMap, clipped}
 use Rattle.font_map.specs.Cmap.{chosen_record, subtable_at}
 use Rattle.cmap_subtables.specs.Format4.{segment_glyph}
 use Rattle.font_map.specs.Inside.{IsChosen, subtable_glyph}
 use Rattle.font_map.specs.declared.subtable.Subtable.{Subtable}
 use Rattle.cmap_subtables.specs.Format12.{group_glyph}
 use Rattle.font_map.specs.Mapping.{listed_glyph, mapping_of}
-use Rattle.character_map.specs.Runs.{IsNext, IsRun, NoRun}
-use Rattle.character_map.specs.declared.runs.Run.{Run}
-use Rattle.character_map.proofs.PieceLemmas.{clipped_past}
+use Rattle.codes.specs.Runs.{IsNext, IsRun, NoRun}
+use Rattle.codes.specs.declared.runs.Run.{Run}
+use Rattle.codes.proofs.PieceLemmas.{clipped_past}
 
 listed_segments : (s : List ℕ) (c : ℕ) → u16_at s 0 ≡ 4 → segment_glyph s c ≡ listed_glyph s c
 unfolding listed_glyph

@@ -1,10 +1,10 @@
 -- The groups of a mapping on a set, by the first piece and the run that it begins.
 use Rattle.std.proofs.Common.{◌≡◌, ℕ, ◌+◌, Bool, List, [], ◌∷◌, Option, Some, None, subst}
-use Rattle.character_map.specs.CharacterMap.{IsCharacterMap, restricted}
+use Rattle.codes.specs.CharacterMap.{IsCharacterMap, restricted}
 use Rattle.font_map.specs.Mapping.{mapping_of}
-use Rattle.character_map.specs.Runs.{IsNext, IsPiece, IsRun, NoRun, groups_from}
-use Rattle.character_map.specs.declared.runs.Run.{Run}
-use Rattle.character_map.proofs.RunLemmas.{groups_done, groups_next}
+use Rattle.codes.specs.Runs.{IsNext, IsPiece, IsRun, NoRun, groups_from}
+use Rattle.codes.specs.declared.runs.Run.{Run}
+use Rattle.codes.proofs.RunLemmas.{groups_done, groups_next}
 
 abbrev within : (ℕ → Bool) → List ℕ → ℕ → ℕ → ℕ
 within w cmap n = restricted w (mapping_of cmap n)

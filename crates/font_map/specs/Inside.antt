@@ -1,5 +1,5 @@
 -- Words of private contracts and of proofs: no public clause names them.
-use Rattle.character_map.specs.CharacterMap.{clipped}
+use Rattle.codes.specs.CharacterMap.{clipped}
 use Rattle.font_map.specs.Cmap.{chosen_record, subtable_at}
 use Rattle.cmap_subtables.specs.Format12.{groups_of, group_glyph, holds}
 use Rattle.cmap_subtables.specs.Format4.{segment_glyph}

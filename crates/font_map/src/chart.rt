@@ -1,15 +1,14 @@
 //! A mapping that is quick to walk, in whatever order its subtable stands.
 ghost use Rattle.std.specs.Prelude.{◌≡◌, IfOk, MatchOption};
-ghost use Rattle.character_map.specs.CharacterMap.{IsCharacterMap, mapped_codes, restricted};
+ghost use Rattle.codes.specs.CharacterMap.{IsCharacterMap, mapped_codes, restricted};
 ghost use Rattle.font_map.specs.Mapping.{mapping_of};
-ghost use Rattle.character_map.specs.Runs.{IsRun, NoRun};
-ghost use Rattle.code_sets.specs.Wanted.{member};
+ghost use Rattle.codes.specs.Runs.{IsRun, NoRun};
+ghost use Rattle.codes.specs.Wanted.{member};
 
 use crate::laid_out::LaidOut;
 use crate::mapping::Mapping;
 use crate::within::wanted_run;
-use character_map::{Pieces, Run, mapped_count, next_run};
-use code_sets::Wanted;
+use codes::{Pieces, Run, Wanted, mapped_count, next_run};
 use sfnt_bytes::NoMemory;
 use std::alloc::{Allocator, Global};
 use std::cell::Cell;

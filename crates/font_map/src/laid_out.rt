@@ -1,16 +1,16 @@
 //! A mapping laid out as a list of glyphs, one for each code. OpenType 1.9, cmap: Character to Glyph
 //! Index Mapping Table.
 ghost use Rattle.std.specs.Prelude.{◌≡◌, ◌≢◌, ◌+◌, ◌<◌, ◌≤◌, ℕ, IfOk, MatchOption, drop, length, slice_index};
-ghost use Rattle.character_map.specs.CharacterMap.{clipped};
+ghost use Rattle.codes.specs.CharacterMap.{clipped};
 ghost use Rattle.cmap_subtables.specs.Format12.{HasGroups, group_count, group_glyph, groups_of};
 ghost use Rattle.cmap_subtables.specs.Format4.{HasSegments, segment_glyph};
 ghost use Rattle.font_map.specs.Mapping.{mapping_of};
-ghost use Rattle.character_map.specs.Runs.{IsPiece, NoRun};
+ghost use Rattle.codes.specs.Runs.{IsPiece, NoRun};
 ghost use Rattle.font_map.specs.Inside.{NoneFree, IsFirstFree, IsLaid, IsSkip};
 
 use crate::mapping::Mapping;
-use character_map::{Pieces, Run, clip};
 use cmap_subtables::{count_groups, glyph_at, group_at, walk_place};
+use codes::{Pieces, Run, clip};
 use sfnt_bytes::NoMemory;
 use std::alloc::{Allocator, Global};
 use std::marker::Model;

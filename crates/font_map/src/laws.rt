@@ -1,8 +1,8 @@
 //! Laws over the definitions: each function's contract is one.
 ghost use Rattle.std.specs.Prelude.{ℕ};
-ghost use Rattle.character_map.specs.CharacterMap.{IsCharacterMap, MapLaws};
-ghost use Rattle.character_map.specs.Runs.{CanonicalGroups, FewestGroups, RunIsFirstGroup};
-ghost use Rattle.code_sets.specs.Word.{OneRangeOfWord};
+ghost use Rattle.codes.specs.CharacterMap.{IsCharacterMap, MapLaws};
+ghost use Rattle.codes.specs.Runs.{CanonicalGroups, FewestGroups, RunIsFirstGroup};
+ghost use Rattle.codes.specs.Word.{OneRangeOfWord};
 
 /// Restrictions and unions of character maps follow from each other as those of sets do.
 pub fn map_laws()

@@ -18,5 +18,4 @@ pub use crate::laws::{
     canonical_groups, fewest_groups, map_laws, one_range_of_word, run_is_first_group,
 };
 pub use crate::mapping::{MapError, Mapping};
-pub use character_map::{Pieces, Run, next_run, run_of};
-pub use code_sets::{Wanted, WantedError, WordError, read_word};
+pub use codes::{Pieces, Run, Wanted, WantedError, WordError, next_run, read_word, run_of};

@@ -1,19 +1,18 @@
 //! The mapping of a `cmap` from code points to glyphs. OpenType 1.9, cmap: Character to Glyph Index
 //! Mapping Table.
 ghost use Rattle.std.specs.Prelude.{◌≡◌, ℕ, OnOk, length, slice_index, ◌+◌, ◌<◌, ◌≤◌, ◌⊎◌, ◌↔◌, IsTrue, None, Some, MatchOption, MatchResult};
-ghost use Rattle.character_map.specs.CharacterMap.{IsCharacterMap, IsUnmapped, clipped, mapped_codes, restricted};
+ghost use Rattle.codes.specs.CharacterMap.{IsCharacterMap, IsUnmapped, clipped, mapped_codes, restricted};
 ghost use Rattle.font_map.specs.Cmap.{chosen_of};
 ghost use Rattle.font_map.specs.Mapping.{mapping_of};
 ghost use Rattle.font_map.specs.Refusals.{map_fault};
-ghost use Rattle.character_map.specs.Runs.{IsNext, IsPiece, IsRun, NoRun};
-ghost use Rattle.code_sets.specs.Wanted.{member};
+ghost use Rattle.codes.specs.Runs.{IsNext, IsPiece, IsRun, NoRun};
+ghost use Rattle.codes.specs.Wanted.{member};
 
 use crate::cmap::{HEADER, RECORD, choose_record, subtable_at};
 use crate::laid_out::{lay_groups, lay_segments, no_skips};
 use crate::subtable::Subtable;
 use crate::within::wanted_run;
-use character_map::{Pieces, Run, clip, mapped_count, next_run};
-use code_sets::Wanted;
+use codes::{Pieces, Run, Wanted, clip, mapped_count, next_run};
 use sfnt_bytes::{NoMemory, be16};
 use std::alloc::Allocator;
 use std::marker::Model;
@@ -27,7 +26,7 @@ pub enum MapError {
     BadCmap,
 }
 
-/// The mapping of a `cmap`, for a font of so many glyphs.
+/// The mapping of a `cmap`, for a font of this number of glyphs.
 ///
 /// Segments and groups may stand in any order, overlap, and name glyphs that are not there: a code
 /// has no glyph, then.

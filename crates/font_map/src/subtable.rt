@@ -1,15 +1,15 @@
 //! The subtable that maps the codes: by segments or by groups. OpenType 1.9, cmap: Character to Glyph
 //! Index Mapping Table, formats 4 and 12.
 ghost use Rattle.std.specs.Prelude.{◌≡◌, ◌<◌, ◌≤◌, true, false, length, MatchOption};
-ghost use Rattle.character_map.specs.CharacterMap.{IsUnmapped, clipped};
+ghost use Rattle.codes.specs.CharacterMap.{IsUnmapped, clipped};
 ghost use Rattle.font_map.specs.Cmap.{is_malformed};
 ghost use Rattle.font_map.specs.Inside.{subtable_glyph};
 ghost use Rattle.font_map.specs.Mapping.{listed_glyph};
-ghost use Rattle.character_map.specs.Runs.{IsNext, IsPiece, NoRun};
+ghost use Rattle.codes.specs.Runs.{IsNext, IsPiece, NoRun};
 
 use crate::cmap::SEGMENTS;
-use character_map::Run;
 use cmap_subtables::{ListedGroups, Segments, count_groups, count_segments};
+use codes::Run;
 use sfnt_bytes::be16;
 
 /// A subtable, by its format.
@@ -22,7 +22,7 @@ pub(crate) enum Subtable<'a> {
 }
 
 impl<'a> Subtable<'a> {
-    /// Opens a subtable, given with all bytes of `cmap` behind it. Returns `None` where `segCountX2` is
+    /// Opens a subtable, given with all bytes of `cmap` after it. Returns `None` where `segCountX2` is
     /// odd, or where its segments or groups are not all whole within `cmap`.
     #[tactic(auto, using(crate::proofs::MappingLemmas::listed_by_segments, crate::proofs::MappingLemmas::listed_by_groups), unfolding(crate::specs::Cmap::is_malformed))]
     pub(crate) fn open(s: &'a [u8]) -> Option<Subtable<'a>>

@@ -3,10 +3,10 @@ use Rattle.std.proofs.Common.{◌≡◌, ℕ, ◌≤◌, ◌&&◌, Bool, List, l
 use Rattle.sfnt_bytes.specs.Findings.{findings_of}
 use Rattle.sfnt_bytes.specs.declared.directory.TheConstants.{MAX_FILE}
 use Rattle.font_file.specs.Font.{font_fault}
-use Rattle.font_theory.specs.Content.{Content, Font, content, font_of, seen}
+use Rattle.font_theory.specs.Content.{Content, Font, content, font_of, read_back}
 use Rattle.font_theory.specs.Cut.{IsCurrent, our_format}
 use Rattle.font_theory.specs.Cut.Arises.{of_file}
-use Rattle.font_theory.specs.File.{file, current_form}
+use Rattle.font_theory.specs.File.{file, current_layout}
 use Rattle.font_theory.proofs.ContentLemmas.{IsClosed-content}
 use Rattle.font_theory.proofs.CutLemmas.{IsCurrent-cut, cut-cut}
 use Rattle.font_theory.proofs.FileWantedLemmas.{map_of-wanted, outline_of-wanted}
@@ -17,7 +17,7 @@ use Rattle.font_theory.proofs.WritableLemmas.{IsWritable-closed}
 use Rattle.font_subset.specs.Cut.{IsSound, IsWritten, cut_of}
 
 -- the cut of an accepted file is the file of its content
-pub cut_of_is : (file_bytes : List ℕ) (wanted : ℕ → Bool) → cut_of file_bytes wanted ≡ file current_form (content (font_of file_bytes) wanted)
+pub cut_of_is : (file_bytes : List ℕ) (wanted : ℕ → Bool) → cut_of file_bytes wanted ≡ file current_layout (content (font_of file_bytes) wanted)
 unfolding our_format
 cut_of_is file_bytes wanted = refl
 
@@ -29,7 +29,7 @@ is_current_of font made wanted accepted is small =
     (IsCurrent-cut our_format our_format-is font accepted wanted made is small, λ others. cut-cut our_format our_format-is font accepted wanted made (inl (sym is)) small others)
 
 -- what is read of it
-font_of-cut : (font made : List ℕ) (wanted : ℕ → Bool) → font_fault font ≡ None → made ≡ cut_of font wanted → length made ≤ MAX_FILE → (font_fault made ≡ None) × (font_of made ≡ seen (content (font_of font) wanted))
+font_of-cut : (font made : List ℕ) (wanted : ℕ → Bool) → font_fault font ≡ None → made ≡ cut_of font wanted → length made ≤ MAX_FILE → (font_fault made ≡ None) × (font_of made ≡ read_back (content (font_of font) wanted))
 unfolding our_format
 font_of-cut font made wanted accepted is small =
     our_format-is.reads_back (content (font_of font) wanted) made (of_file font wanted accepted refl) (inl (sym is)) small
@@ -42,7 +42,7 @@ is_sound font made wanted accepted written =
     let cuts = is_current_of font made wanted accepted written.is written.small in
     record {
       accepted = read.0;
-      clean = ap findings_of (written.is ∙ cut_of_is font wanted) ∙ findings_of-file current_form K ok;
+      clean = ap findings_of (written.is ∙ cut_of_is font wanted) ∙ findings_of-file current_layout K ok;
       metrics = metric_of-same font made (ap (λ (F : Font). F.copied) read.1);
       wanted_codes = map_of-wanted font made wanted accepted read.1;
       other_codes = λ c out. ap (λ (F : Font). F.map c) read.1 ∙ rw out refl;

@@ -1,28 +1,30 @@
 -- What a lean cut holds of its font.
-use Rattle.std.proofs.Common.{◌≡◌, ℕ, ◌≤◌, ◌⊎◌, ◌↔◌, ◌&&◌, Bool, true, false, IsTrue, inl, inr, refl, List, length, Option, None, Some, sym, ◌∙◌, ap, subst}
+use Rattle.std.proofs.Common.{◌≡◌, ℕ, ◌≤◌, ◌↔◌, Bool, true, false, IsTrue, inl, inr, refl, List, length, None, Some, sym, ◌∙◌, ap, subst}
 use Rattle.std.proofs.lemmas.Bool.{false_from_ne_true}
 use Rattle.std.proofs.lemmas.Slice.Eq.{bytes_eq-Decides}
 use Rattle.sfnt_bytes.specs.declared.directory.TheConstants.{MAX_FILE}
-use Rattle.code_sets.specs.declared.ranges.Range.{Range}
-use Rattle.code_sets.specs.Wanted.{member}
-use Rattle.character_map.specs.CharacterMap.{is_mapped}
+use Rattle.codes.specs.declared.ranges.Range.{Range}
+use Rattle.codes.specs.Wanted.{member}
+use Rattle.codes.specs.CharacterMap.{is_mapped}
 use Rattle.font_file.specs.Font.{font_fault, map_of}
-use Rattle.font_theory.specs.Content.{Content, content, font_of}
-use Rattle.font_theory.specs.Cut.{IsCurrent, Under, Writes, codes_of, cut, is_current, our_format, whole}
-use Rattle.font_theory.specs.File.{current_form, file}
-use Rattle.font_theory.specs.Lean.{lean_format, thin}
+use Rattle.font_theory.specs.Content.{content, font_of}
+use Rattle.font_theory.specs.Cut.{IsCurrent, Under, Writes, codes_of, cut, is_current, our_format, content_of_all}
+use Rattle.font_theory.specs.File.{current_layout, file}
+use Rattle.font_theory.specs.Lean.{lean_format, metrics_at}
 use Rattle.font_theory.proofs.ContentLemmas.{wanted-map}
 use Rattle.font_theory.proofs.CutLemmas.{IsCurrent-cut, codes_of-accepted, cut-cut, is_current-of, is_current-tells}
+use Rattle.font_theory.proofs.FontLemmas.{IsFont-accepted}
+use Rattle.font_theory.proofs.LeanCutLemmas.{metrics_at-kept}
 use Rattle.font_theory.proofs.LeanFileLemmas.{IsCurrent-ordinary, findings_of-lean, length-lean_cut, map_of-lean, outline_of-lean, font_of-lean_cut}
 use Rattle.font_theory.proofs.LeanFormatLemmas.{lean_format-is}
 use Rattle.font_theory.proofs.LeanMetricLemmas.{metric_of-lean}
-use Rattle.font_subset.specs.Content.{codes_wanted, lean_content}
+use Rattle.font_subset.specs.Content.{lean_content}
 use Rattle.font_subset.specs.Cut.{IsWritten}
 use Rattle.font_subset.specs.Lean.{IsLeanCutForSome, IsLeanSound, lean_cut_of}
 use Rattle.font_subset.proofs.UnderLemmas.{Under-cut}
 
 -- the lean cut is the file of its content
-pub lean_cut_of_is : (font : List ℕ) (ranges : List Range) → lean_cut_of font (member ranges) ≡ file current_form (lean_content (font, Some ranges))
+pub lean_cut_of_is : (font : List ℕ) (ranges : List Range) → lean_cut_of font (member ranges) ≡ file current_layout (lean_content (font, Some ranges))
 unfolding lean_format lean_content
 lean_cut_of_is font ranges = refl
 
@@ -30,7 +32,7 @@ lean_accepted : (font : List ℕ) → font_fault font ≡ None → lean_format.f
 unfolding lean_format
 lean_accepted font h = h
 
-lean_most : (made : List ℕ) → length made ≤ MAX_FILE → length made ≤ lean_format.most
+lean_most : (made : List ℕ) → length made ≤ MAX_FILE → length made ≤ lean_format.limit
 unfolding lean_format
 lean_most made h = h
 
@@ -48,6 +50,7 @@ lean_sound font made wanted accepted written =
       other_codes = λ c out. ap (λ m. m c) map ∙ rw out refl;
       kept = outline_of-lean font made wanted accepted read.1;
       metrics = metric_of-lean font made wanted accepted read.1;
+      vertical = λ g kept. ap (λ G. metrics_at G.copied g) read.1 ∙ metrics_at-kept (font_of font) (IsFont-accepted font accepted) wanted g kept;
       lean_form = form;
       cut_form = IsCurrent-ordinary made form;
       no_longer = subst (λ (b : List ℕ). length b ≤ length (cut our_format font wanted)) (sym written.is) (length-lean_cut font wanted accepted);
@@ -55,11 +58,11 @@ lean_sound font made wanted accepted written =
     }
 
 -- an accepted file is its own lean cut exactly where it is the file of its lean content
-lean_whole : (font : List ℕ) → lean_format.file (whole lean_format font) ≡ file current_form (lean_content (font, None))
+lean_whole : (font : List ℕ) → lean_format.file (content_of_all lean_format font) ≡ file current_layout (lean_content (font, None))
 unfolding lean_format lean_content
 lean_whole font = refl
 
-pub is_current_lean : (font : List ℕ) (b : Bool) → IsTrue b ↔ font ≡ file current_form (lean_content (font, None)) → b ≡ is_current lean_format font
+pub is_current_lean : (font : List ℕ) (b : Bool) → IsTrue b ↔ font ≡ file current_layout (lean_content (font, None)) → b ≡ is_current lean_format font
 unfolding is_current
 is_current_lean font true is = sym ((bytes_eq-Decides _ font).1 (lean_whole font ∙ sym (is.0 refl)))
 is_current_lean font false is = sym (false_from_ne_true _ (λ t. (let n : false ≡ true = is.1 (sym ((bytes_eq-Decides _ font).0 t) ∙ lean_whole font) in cc)))

@@ -6,13 +6,13 @@ use Rattle.std.proofs.lemmas.Bool.{lt-ltb}
 use Rattle.sfnt_bytes.specs.declared.directory.TheConstants.{MAX_FILE}
 use Rattle.sfnt_bytes.specs.declared.tag.TheConstants.{HHEA, HMTX}
 use Rattle.sfnt_bytes.specs.Lines.{when}
-use Rattle.code_sets.specs.declared.ranges.Range.{Range}
+use Rattle.codes.specs.declared.ranges.Range.{Range}
 use Rattle.font_tables.specs.Fields.{number_of_h_metrics}
 use Rattle.font_tables.specs.Refusals.{is_bad_hhea, is_bad_hmtx}
 use Rattle.font_file.specs.Font.{font_fault}
 use Rattle.font_theory.specs.Bytes.{padded}
 use Rattle.font_theory.specs.Content.{Content, IsClosedContent, IsWritable, KeepsComponents, content, font_of, glyph_count, is_kept}
-use Rattle.font_theory.specs.Lean.{cleared, pairs_in, thin, thin_post}
+use Rattle.font_theory.specs.Lean.{blank, cleared, pairs_in, thin, thin_post}
 use Rattle.font_theory.specs.declared.slots.TheConstants.{POST, VHEA, VMTX}
 use Rattle.font_theory.proofs.ContentLemmas.{IsClosed-content}
 use Rattle.font_theory.proofs.FontLemmas.{IsFont-accepted}
@@ -117,11 +117,27 @@ pub small_by : {X : Type 0} (bytes : X → List ℕ) (o : Option X) (made : Opti
 small_by bytes None made none small = tt
 small_by bytes (Some x) made some small = subst (λ (o : Option (List ℕ)). length (unwrap_or o []) ≤ MAX_FILE) some small
 
+-- what a lean cut has at a slot at which it may have a table anew
+pub made_at : {X : Type 0} (bytes : X → List ℕ) (o : Option X) (held cut : Cut) (at slot : ℕ) (made : Option (List ℕ)) → held ≡ cut → slot ≡ at → IsMadeTable held at made → MatchOption o (made ≡ None) (λ x. made ≡ Some (bytes x))
+    → MatchOption o ((lean_content cut).copied slot ≡ (font_of cut.0).copied slot) (λ x. (lean_content cut).copied slot ≡ Some (bytes x))
+made_at bytes o held cut at slot made same here anew given =
+    let there : option_or made ((font_of held.0).copied slot) ≡ (lean_content held).copied slot =
+    subst (λ (s : ℕ). option_or made ((font_of held.0).copied s) ≡ (lean_content held).copied s) (sym here) anew.is in
+    given_by bytes o made ((font_of cut.0).copied slot) ((lean_content cut).copied slot) given (subst (λ (k : Cut). option_or made ((font_of k.0).copied slot) ≡ (lean_content k).copied slot) same there)
+
 pairs_same : (copied : ℕ → Option (List ℕ)) (h b count pairs : ℕ) (header table : List ℕ) → copied b ≡ Some table → unwrap_or (copied h) [] ≡ header → count ≡ glyph_count copied
     → pairs ≡ cond (is_bad_hhea header count || is_bad_hmtx table (number_of_h_metrics header) count) 0 (number_of_h_metrics header) → pairs ≡ pairs_in copied h b
 unfolding pairs_in
 pairs_same copied h b count pairs header table there head n is =
     is ∙ (λ i. cond (is_bad_hhea (sym head i) (n i) || is_bad_hmtx (unwrap_or (sym there i) []) (number_of_h_metrics (sym head i)) (n i)) 0 (number_of_h_metrics (sym head i)))
+
+-- a table of metrics that was made blank
+pub blank_made : (copied : ℕ → Option (List ℕ)) (h b count pairs : ℕ) (header table bytes : List ℕ) → copied b ≡ Some table → unwrap_or (copied h) [] ≡ header → count ≡ glyph_count copied
+    → pairs ≡ cond (is_bad_hhea header count || is_bad_hmtx table (number_of_h_metrics header) count) 0 (number_of_h_metrics header)
+    → bytes ≡ blank pairs count table → Some bytes ≡ option_map (blank (pairs_in copied h b) (glyph_count copied)) (copied b)
+blank_made copied h b count pairs header table bytes there head n is made =
+    ap Some made ∙ (λ i. Some (blank (pairs_same copied h b count pairs header table there head n is i) (n i) table))
+    ∙ sym (ap (option_map (blank (pairs_in copied h b) (glyph_count copied))) there)
 
 -- a table of metrics that is cleared for the marked glyphs, where these are the kept ones
 pub cleared_for : (copied : ℕ → Option (List ℕ)) (h b count pairs : ℕ) (header table bytes : List ℕ) (marks keeps : ℕ → Bool) → copied b ≡ Some table → unwrap_or (copied h) [] ≡ header

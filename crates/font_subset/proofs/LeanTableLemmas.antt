@@ -1,12 +1,12 @@
 -- Tables of metrics that are filled glyph by glyph.
-use Rattle.std.proofs.Common.{◌≡◌, ℕ, suc, ◌+◌, ◌-◌, ◌*◌, ◌<◌, ◌≤◌, ◌⊎◌, inl, inr, nat_eq, nat_le, nat_lt, ◌&&◌, ◌||◌, Bool, true, false, cond, not, List, ◌++◌, length, get_or, drop, take, replicate, refl, sym, ◌∙◌, ap, subst, arith}
+use Rattle.std.proofs.Common.{◌≡◌, ℕ, ◌+◌, ◌-◌, ◌*◌, ◌<◌, ◌≤◌, ◌⊎◌, inl, inr, nat_eq, nat_le, nat_lt, ◌&&◌, Bool, true, false, cond, not, List, ◌++◌, length, get_or, drop, take, replicate, refl, sym, ◌∙◌, ap, subst, arith}
 use Rattle.std.proofs.lemmas.Bool.{cases_Bool, cases_lt, le-leb, le-ltb, lt-leb, lt-ltb, ne_eqb}
-use Rattle.std.proofs.lemmas.List.{drop-take, ext_get_or, get_or-append_right, get_or-drop, get_or-replicate, get_or-take, get_or_append_left, length-append, length-drop, length-replicate, length-take, length-take-le, take_all}
+use Rattle.std.proofs.lemmas.List.{drop-take, ext_get_or, get_or-append_right, get_or-drop, get_or-replicate, get_or-take, get_or_append_left, length-append, length-drop, length-replicate, length-take, length-take-le}
 use Rattle.std.specs.Option.{IsSome, is_some}
 use Rattle.font_theory.specs.Bytes.{bytes32}
 use Rattle.font_theory.specs.Content.{Content, glyph_count}
 use Rattle.font_theory.specs.Lean.{blank, cleared, entry_at, entry_size, holder, is_entry, thin_post, within}
-use Rattle.font_theory.proofs.LeanEntryLemmas.{get_or-blank, get_or-cleared, is_byte_of, is_place, length-blank, length-cleared, entry_size-four}
+use Rattle.font_theory.proofs.LeanEntryLemmas.{get_or-blank, get_or-cleared, is_byte_of, is_place, length-blank, length-cleared}
 use Rattle.font_write.specs.Parts.{IsNextKept}
 use Rattle.font_subset.specs.Inside.{AreCopied}
 use borrow.Rule.Slice.PartMut.{post_of, put_mid}
@@ -296,3 +296,7 @@ unfolding is_entry
 cleared-none keeps n t =
     let size = length-cleared keeps 0 n t in
     ext_get_or 0 (cleared keeps 0 n t) t size (λ j low. get_or-cleared keeps 0 n t j (omega arith))
+
+pub blank-none : (n : ℕ) (t : List ℕ) → blank 0 n t ≡ t
+unfolding is_entry
+blank-none n t = ext_get_or 0 (blank 0 n t) t (length-blank 0 n t) (λ j low. get_or-blank 0 n t j)

@@ -6,4 +6,4 @@ pub mod LeanTableLemmas
 pub mod SeedLemmas
 pub mod SourceLemmas
 pub mod UnderLemmas
-pub mod WholeLemmas
+pub mod ContentOfAllLemmas

@@ -4,9 +4,9 @@ use mathlib.Core.Path.{fun_ext}
 use Rattle.std.proofs.lemmas.Bool.{cases_eq, cases_lt, eq-eqb, eqb-true, or_cases, or_left, or_right}
 use Rattle.std.specs.Cmp.{both_ways}
 use Rattle.font_glyph.specs.Marks.{has}
-use Rattle.character_map.specs.CharacterMap.{IsCharacterMap, restricted}
-use Rattle.character_map.specs.Runs.{AreRuns, IsRun, NoRun, spelled}
-use Rattle.character_map.specs.declared.runs.Run.{Run}
+use Rattle.codes.specs.CharacterMap.{IsCharacterMap, restricted}
+use Rattle.codes.specs.Runs.{AreRuns, IsRun, NoRun, spelled}
+use Rattle.codes.specs.declared.runs.Run.{Run}
 use Rattle.font_glyph.specs.Reach.{Reach}
 use Rattle.font_theory.specs.Content.{CODES, everything, font_of, is_kept, is_seed}
 use Rattle.font_theory.proofs.WantedLemmas.{is_seed-code, is_seed-tells, is_seed-zero}
@@ -19,7 +19,7 @@ use Rattle.font_theory.proofs.SpellingLemmas.{codes_are}
 use Rattle.font_theory.proofs.WantedLemmas.{restricted-cases}
 use Rattle.font_subset.specs.Content.{IsKeptSet}
 use Rattle.font_subset.specs.Inside.{AreMarked, AreSeedsTo, IsSeedSet}
-use Rattle.run_lists.specs.Inside.{run_at}
+use Rattle.map_union.specs.Inside.{run_at}
 use Rattle.font_subset.specs.ListedRuns.{AreRunsOf}
 
 pub marked_start : (old : List Bool) (low : ℕ) → AreMarked old old low (low - low)
@@ -126,7 +126,7 @@ kept_marked file wanted seeds marks accepted is count reached =
           (λ h. (reached g).1 (subst (λ (s : ℕ → Bool). Reach (outline_of file) s g) (sym same) (decided.0 h)));
     }
 
--- the code behind the first k runs
+-- the code after the first k runs
 abbrev pub behind_runs : ℕ → List Run → ℕ → ℕ
 behind_runs low runs zero = low
 behind_runs low [] (suc k) = low

@@ -3,14 +3,14 @@ use Rattle.std.proofs.Common.{◌≡◌, ◌≢◌, ℕ, ◌+◌, ◌<◌, ◌�
 use Rattle.std.proofs.Math.Path.{fun_ext}
 use Rattle.std.proofs.lemmas.Bool.{cases_lt, lt-ltb}
 use Rattle.std.proofs.lemmas.Bool.Decides.{nat_tests}
-use Rattle.character_map.specs.CharacterMap.{is_mapped, restricted}
-use Rattle.character_map.specs.Runs.{IsRun, NoRun}
-use Rattle.code_sets.specs.Wanted.{codes_between, either, no_codes}
-use Rattle.character_map.specs.declared.runs.Run.{Run}
+use Rattle.codes.specs.CharacterMap.{is_mapped, restricted}
+use Rattle.codes.specs.Runs.{IsRun, NoRun}
+use Rattle.codes.specs.Wanted.{codes_between, either, no_codes}
+use Rattle.codes.specs.declared.runs.Run.{Run}
 use Rattle.font_file.specs.Font.{font_fault, map_of}
 use Rattle.font_theory.specs.Content.{Content, Font, content, font_of}
 use Rattle.font_theory.specs.Cut.{Format, IsFormat, Under, Writes, codes_of, our_format}
-use Rattle.font_theory.specs.File.{current_form, file, form_of}
+use Rattle.font_theory.specs.File.{current_layout, file, layout_of}
 use Rattle.font_theory.specs.declared.Profile.TheVariants.{First}
 use Rattle.font_theory.proofs.ContentLemmas.{content-mapped}
 use Rattle.font_theory.proofs.CutLemmas.{codes_of-accepted, font-cut}
@@ -58,11 +58,11 @@ mapped_end m from w none are = fun_ext (λ c. are c ∙ go c)
         ]
 
 -- a file is that of a content in a form, or in none
-pub written_now : (K : Content) (X : List ℕ) → X ≡ file current_form K → Writes our_format K X
+pub written_now : (K : Content) (X : List ℕ) → X ≡ file current_layout K → Writes our_format K X
 unfolding our_format
 written_now K X e = inl (sym e)
 
-pub written_before : (K : Content) (X : List ℕ) → X ≡ file (form_of First) K → Writes our_format K X
+pub written_before : (K : Content) (X : List ℕ) → X ≡ file (layout_of First) K → Writes our_format K X
 unfolding our_format
 written_before K X e = inr (sym e)
 

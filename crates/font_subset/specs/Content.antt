@@ -1,8 +1,8 @@
 -- The glyphs that a cut keeps, as marks (OpenType 1.9, glyf, Composite Glyph Description).
 use Rattle.std.specs.Prelude.{◌≡◌, ℕ, Bool, List, length, Option, None, Some}
-use Rattle.character_map.specs.CharacterMap.{restricted}
-use Rattle.code_sets.specs.Wanted.{member}
-use Rattle.code_sets.specs.declared.ranges.Range.{Range}
+use Rattle.codes.specs.CharacterMap.{restricted}
+use Rattle.codes.specs.Wanted.{member}
+use Rattle.codes.specs.declared.ranges.Range.{Range}
 use Rattle.font_glyph.specs.Marks.{has}
 use Rattle.font_tables.specs.Fields.{glyph_count_of}
 use Rattle.font_file.specs.Font.{map_of}

@@ -9,14 +9,14 @@ use Rattle.font_file.specs.Font.{font_fault, map_of}
 use Rattle.font_theory.specs.Bytes.{padded}
 use Rattle.font_theory.specs.Content.{content}
 use Rattle.font_theory.specs.Cut.{IsCurrent, IsCut, IsOld, Writes, cut, is_current, is_old, our_format}
-use Rattle.outlet.specs.Outlet.{WentOut, broken_of, written_of}
+use Rattle.streams.specs.Outlet.{WentOut, broken_of, written_of}
 use Rattle.font_subset.specs.declared.cut_font.CutError.{CutError}
 use Rattle.font_subset.specs.declared.cut_font.CutError.TheVariants as cut_errors
 use Rattle.font_subset.specs.declared.cut_font.CutIntoError.{CutIntoError}
 use Rattle.font_subset.specs.declared.cut_font.CutIntoError.TheVariants as into_errors
 use Rattle.font_subset.specs.declared.cut_forms.CutForm.{CutForm}
 use Rattle.font_subset.specs.declared.cut_forms.CutForm.TheVariants.{Current, Not, Old}
-use Rattle.outlet.specs.declared.outlet.Outlet.{Outlet}
+use Rattle.streams.specs.declared.outlet.Outlet.{Outlet}
 
 -- the cut of a file for the wanted codes
 abbrev pub cut_of : List ℕ → (ℕ → Bool) → List ℕ
@@ -26,7 +26,7 @@ cut_of file wanted = cut our_format file wanted
 unfoldable pub cut_form_of : List ℕ → CutForm
 cut_form_of file = if is_current our_format file then Current else if is_old our_format file then Old else Not
 
--- a form tells whether an accepted file is current, or an old cut, or neither
+-- a form says whether an accepted file is current, or an old cut, or neither
 pub record IsFormOf (file : List ℕ) (form : CutForm) : Type 0 where
   pub current : (form ≡ Current) ↔ IsCurrent our_format file
   pub old : (form ≡ Old) ↔ IsOld our_format file
@@ -63,7 +63,7 @@ StopsCut contents old new cut (into_errors.WriteFault written) =
     (length cut ≤ MAX_FILE) × (broken_of new ≡ true) × (written ≡ written_of new) × WentOut contents old new (take written cut)
 
 -- a cut is accepted, has no finding, has the font's metrics, maps the wanted codes as the font does and no
--- others, and keeps the outlines of what their glyphs lead to, up to zeros behind them; and its cuts are the
+-- others, and keeps the outlines of what their glyphs lead to, up to zeros after them; and its cuts are the
 -- font's, for the codes in both sets
 pub record IsSound (file : List ℕ) (wanted : ℕ → Bool) (made : List ℕ) : Type 0 where
   pub accepted : font_fault made ≡ None

@@ -8,7 +8,7 @@ use Rattle.font_file.specs.Font.{font_fault, map_of}
 use Rattle.font_theory.specs.Bytes.{padded}
 use Rattle.font_theory.specs.Content.{font_of, is_kept}
 use Rattle.font_theory.specs.Cut.{IsCurrent, cut, our_format}
-use Rattle.font_theory.specs.Lean.{lean_format}
+use Rattle.font_theory.specs.Lean.{lean_format, metrics_at}
 use Rattle.font_subset.specs.Cut.{cut_of}
 
 -- the lean cut of a file for the wanted codes
@@ -21,8 +21,8 @@ IsLeanCutForSome file made = (wanted : ℕ → Bool) × (made ≡ lean_cut_of fi
 
 -- a lean cut is accepted, has no finding, maps the wanted codes as the font does and no others, keeps the
 -- outlines of what their glyphs lead to, up to zeros after them, and has the metrics of each glyph that it
--- keeps; it is in lean cut form, and so in cut form; it is no longer than the ordinary cut; and its lean
--- cuts are the font's, for the codes in both sets
+-- keeps, and of `vmtx` what is of that glyph alone; it is in lean cut form, and so in cut form; it is no
+-- longer than the ordinary cut; and its lean cuts are the font's, for the codes in both sets
 pub record IsLeanSound (file : List ℕ) (wanted : ℕ → Bool) (made : List ℕ) : Type 0 where
   pub accepted : font_fault made ≡ None
   pub clean : findings_of made ≡ []
@@ -30,6 +30,8 @@ pub record IsLeanSound (file : List ℕ) (wanted : ℕ → Bool) (made : List �
   pub other_codes : (c : ℕ) → wanted c ≡ false → map_of made c ≡ 0
   pub kept : (c : ℕ) → wanted c ≡ true → (g : ℕ) → Reach (outline_of file) (nat_eq (map_of file c)) g → outline_of made g ≡ padded (outline_of file g)
   pub metrics : (g : ℕ) → is_kept (font_of file) wanted g ≡ true → metric_of made g ≡ metric_of file g
+  pub vertical : (g : ℕ) → is_kept (font_of file) wanted g ≡ true →
+      metrics_at (font_of made).copied g ≡ metrics_at (font_of file).copied g
   pub lean_form : IsCurrent lean_format made
   pub cut_form : IsCurrent our_format made
   pub no_longer : length made ≤ length (cut_of file wanted)

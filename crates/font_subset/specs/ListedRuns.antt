@@ -1,9 +1,9 @@
 -- The runs of the map of a file in a list, this project's own.
 use Rattle.std.specs.Prelude.{◌≡◌, ℕ, List}
-use Rattle.character_map.specs.Runs.{spelled}
-use Rattle.character_map.specs.declared.runs.Run.{Run}
+use Rattle.codes.specs.Runs.{spelled}
+use Rattle.codes.specs.declared.runs.Run.{Run}
 use Rattle.font_theory.specs.Content.{content, everything, font_of}
-use Rattle.run_lists.specs.RunLists.{AreMapRuns}
+use Rattle.map_union.specs.RunLists.{AreMapRuns}
 
 -- the runs of the map of a file for all codes
 pub record AreRunsOf (file : List ℕ) (runs : List Run) : Type 0 where

@@ -2,21 +2,21 @@
 //! Organization of an OpenType Font.
 ghost use Rattle.std.specs.Prelude.{◌≡◌, ◌≤◌, length, false, true, IfErr, IfOk, IsSome, MatchResult, OnOk};
 ghost use Rattle.sfnt_bytes.specs.declared.directory.TheConstants.{MAX_FILE};
-ghost use Rattle.code_sets.specs.Wanted.{member};
+ghost use Rattle.codes.specs.Wanted.{member};
 ghost use Rattle.font_subset.specs.Cut.{IsCutRefusal, IsSound, IsWritten, StopsCut, cut_of};
-ghost use Rattle.outlet.specs.Outlet.{HasSent, WentOut, broken_of, fresh_of, writer_of};
+ghost use Rattle.streams.specs.Outlet.{HasSent, WentOut, broken_of, fresh_of, writer_of};
 ghost use Rattle.font_subset.specs.declared.cut_font.CutError.TheVariants.{NoMemory as CutNoMemory};
 ghost use Rattle.font_subset.specs.declared.cut_font.CutIntoError.TheVariants.{NoMemory as IntoNoMemory};
 ghost use Rattle.font_subset.specs.Text.{cut_error_number, cut_into_error_number};
 
-use crate::cut_source::{CutOf, accepted};
+use crate::cut_source::{CutOf, recall_accepted};
 use crate::emit::{file_in_memory, send_whole};
 use font_file::Font;
 use font_map::Wanted;
-use outlet::Outlet;
 use sfnt_bytes::NoMemory;
 use std::alloc::Allocator;
 use std::io::Write;
+use streams::Outlet;
 use thiserror::Error;
 
 /// Why no cut is made.
@@ -25,7 +25,7 @@ pub enum CutError {
     /// Memory was refused.
     #[error("no memory")]
     NoMemory,
-    /// The cut would have so many bytes, more than [`MAX_FILE`](crate::MAX_FILE).
+    /// The cut would have this number of bytes, more than [`MAX_FILE`](crate::MAX_FILE).
     #[error("too large {0}")]
     TooLarge(u64),
 }
@@ -48,10 +48,10 @@ pub enum CutIntoError {
     /// Memory was refused. Nothing was sent.
     #[error("no memory")]
     NoMemory,
-    /// The cut would have so many bytes, more than [`MAX_FILE`](crate::MAX_FILE). Nothing was sent.
+    /// The cut would have this number of bytes, more than [`MAX_FILE`](crate::MAX_FILE). Nothing was sent.
     #[error("too large {0}")]
     TooLarge(u64),
-    /// A write failed after so many bytes.
+    /// A write failed after this number of bytes.
     #[error("write fault after {0}")]
     WriteFault(u64),
 }
@@ -127,7 +127,7 @@ pub fn cut<A: Allocator + Copy>(
     ensures small { IfOk result (λ v. length v.items ≤ MAX_FILE) }
     ensures sound { IfOk result (λ v. IsSound font.now (member wanted.now) v.items) }
 {
-    accepted(font);
+    recall_accepted(font);
     cut_exactly(alloc, font, wanted)
 }
 
@@ -186,6 +186,6 @@ pub fn cut_into<W: Write, A: Allocator + Copy>(
     ensures stops { IfErr result (StopsCut W.contents out.old out.new (cut_of font.now (member wanted.now))) }
     ensures sound { OnOk result (IsSound font.now (member wanted.now) (cut_of font.now (member wanted.now))) }
 {
-    accepted(font);
+    recall_accepted(font);
     cut_into_exactly(alloc, font, wanted, out)
 }

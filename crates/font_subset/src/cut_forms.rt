@@ -2,14 +2,14 @@
 //! it is written now or as it was written before.
 ghost use Rattle.std.specs.Prelude.{◌≡◌, ◌≤◌, length, IfOk, IsTrue, ◌↔◌};
 ghost use Rattle.sfnt_bytes.specs.declared.directory.TheConstants.{MAX_FILE};
-ghost use Rattle.character_map.specs.CharacterMap.{is_mapped};
-ghost use Rattle.code_sets.specs.Wanted.{member};
+ghost use Rattle.codes.specs.CharacterMap.{is_mapped};
+ghost use Rattle.codes.specs.Wanted.{member};
 ghost use Rattle.font_file.specs.Font.{map_of};
 ghost use Rattle.font_theory.specs.Cut.{IsCurrent, Under, Writes, is_current, our_format};
 ghost use Rattle.font_subset.specs.Cut.{IsCutForSome, IsCutOf, IsFormOf, cut_form_of};
 
-use crate::cut_source::{CutOf, accepted};
-use crate::emit::form_among;
+use crate::cut_source::{CutOf, recall_accepted};
+use crate::emit::form_of_file;
 use font_file::Font;
 use font_map::{Chart, Wanted};
 use font_write::Source;
@@ -47,12 +47,12 @@ pub fn cut_form<A: Allocator + Copy>(alloc: A, font: &Font<'_>) -> Result<CutFor
     ensures exact { IfOk result (λ form. form ≡ cut_form_of font.now) }
     ensures form { IfOk result (IsFormOf font.now) }
 {
-    accepted(font);
+    recall_accepted(font);
     form_exactly(alloc, font)
 }
 
 /// Returns whether a font's file is its own cut for all codes, as it is written today. Of an old cut
-/// that is false; [`cut_form`] tells it from other files. No cut is built for that.
+/// that is false; [`cut_form`] distinguishes it from other files. No cut is built for that.
 ///
 /// # Errors
 ///
@@ -71,12 +71,12 @@ pub fn is_cut<A: Allocator + Copy>(alloc: A, font: &Font<'_>) -> Result<bool, No
     ensures exact { IfOk result (λ b. b ≡ is_current our_format font.now) }
     ensures form { IfOk result (λ b. IsTrue b ↔ IsCurrent our_format font.now) }
 {
-    accepted(font);
+    recall_accepted(font);
     let form = form_exactly(alloc, font)?;
     Ok(matches!(form, CutForm::Current))
 }
 
-// Returns the codes that a font maps. The runs ascend, so each is put behind the codes that are in the
+// Returns the codes that a font maps. The runs ascend, so each is put after the codes that are in the
 // set, and none is refused as a bad range.
 pub(crate) fn mapped_set<A: Allocator + Copy>(
     alloc: A,
@@ -101,7 +101,7 @@ pub(crate) fn file_of<'a>(font: &Font<'a>) -> &'a [u8]
     ensures file { result.now ≡ font.now }
     ensures small { length result.now ≤ MAX_FILE }
 {
-    accepted(font);
+    recall_accepted(font);
     font.tables().directory().file()
 }
 
@@ -110,7 +110,7 @@ fn is_written<S: Source>(source: &S, bytes: &[u8]) -> bool
     requires { length bytes.now ≤ MAX_FILE }
     ensures { IsTrue result ↔ Writes our_format (S.content_of source.now) bytes.now }
 {
-    match form_among(source, bytes) {
+    match form_of_file(source, bytes) {
         CutForm::Not => false,
         CutForm::Old => true,
         CutForm::Current => true,
@@ -144,7 +144,7 @@ pub fn is_cut_of<A: Allocator + Copy>(
     ensures exact { IfOk result (λ b. IsTrue b ↔ Under our_format cut.now font.now) }
     ensures some_codes { IfOk result (λ b. IsTrue b ↔ IsCutForSome font.now cut.now) }
 {
-    accepted(cut);
-    accepted(font);
+    recall_accepted(cut);
+    recall_accepted(font);
     is_cut_for_own_codes(alloc, cut, font)
 }

@@ -8,8 +8,8 @@ ghost use Rattle.sfnt_bytes.specs.declared.tag.TheConstants.{HEAD};
 ghost use Rattle.font_tables.specs.Fields.{glyph_count_of};
 ghost use Rattle.font_tables.specs.Outlines.{outline_of};
 ghost use Rattle.font_tables.specs.Tables.{head_of};
-ghost use Rattle.character_map.specs.CharacterMap.{IsCharacterMap};
-ghost use Rattle.character_map.specs.Runs.{IsRun, NoRun};
+ghost use Rattle.codes.specs.CharacterMap.{IsCharacterMap};
+ghost use Rattle.codes.specs.Runs.{IsRun, NoRun};
 ghost use Rattle.font_file.specs.Font.{font_fault};
 ghost use Rattle.font_theory.specs.Content.{content, everything, font_of};
 ghost use Rattle.font_theory.specs.Cut.{IsCut, our_format};
@@ -19,7 +19,7 @@ ghost use Rattle.font_subset.specs.Inside.{AreMarked, IsSeedSet};
 ghost use Rattle.font_subset.specs.ListedRuns.{AreRunsOf};
 
 use crate::cut_forms::CutForm;
-use crate::emit::form_among;
+use crate::emit::form_of_file;
 use font_file::Font;
 use font_glyph::{Marks, close};
 use font_map::{Chart, Pieces, Run, Wanted, run_of};
@@ -29,7 +29,7 @@ use std::alloc::{Allocator, Global};
 use std::marker::Model;
 
 // Recalls for the prover that this font was accepted. Does nothing at run time.
-pub fn accepted(font: &Font<'_>)
+pub fn recall_accepted(font: &Font<'_>)
     ensures { font_fault font.now ≡ None }
 {
     let _tables = font.tables();
@@ -112,7 +112,7 @@ impl<'f, 'a, A: Allocator> Charted<'f, 'a, A> {
         // What opening the font has shown.
         ensures sound { font_fault self.now ≡ None }
     {
-        accepted(self.font);
+        recall_accepted(self.font);
         self.font
     }
 
@@ -191,6 +191,20 @@ fn mark_kept<A: Allocator + Copy>(
     Ok(kept)
 }
 
+// Returns the glyphs that a cut for all codes keeps, by the runs of its font.
+fn mark_listed<A: Allocator + Copy>(
+    alloc: A,
+    font: &Charted<'_, '_, A>,
+    runs: &[Run],
+) -> Result<Marks<A>, NoMemory>
+    requires { AreRunsOf font.now runs.now }
+    ensures { IfOk result (IsKeptSet font.now everything) }
+{
+    let seeds = mark_runs(alloc, font, runs)?;
+    let reached = mark_reached(alloc, font, &seeds)?;
+    Ok(reached)
+}
+
 // Returns the bytes of `head`.
 fn table_head<'a>(directory: &Directory<'a>) -> &'a [u8]
     ensures { result.now ≡ unwrap_or (table_of directory.now (kept_tag HEAD)) [] }
@@ -227,7 +241,7 @@ pub fn outline<'a>(font: &Font<'a>, g: u16) -> &'a [u8]
     ensures outline { result.now ≡ outline_of font.now g }
     ensures small { length result.now ≤ MAX_FILE }
 {
-    accepted(font);
+    recall_accepted(font);
     font.outline(g)
 }
 
@@ -244,7 +258,7 @@ pub struct CutOf<'f, 'a, A: Allocator = Global> {
 // Its value is the file of the font, and the ranges of the wanted codes, where these are not all.
 impl<'f, 'a, A: Allocator> Model for CutOf<'f, 'a, A> {
     ghost use Rattle.std.specs.Prelude.{ℕ, List, Option, option_copied};
-    ghost use Rattle.code_sets.specs.declared.ranges.Range.{Range};
+    ghost use Rattle.codes.specs.declared.ranges.Range.{Range};
     ghost use Rattle.font_subset.specs.Content.{IsKeptSet, codes_wanted};
 
     ghost Value = { List ℕ × Option (List Range) };
@@ -288,8 +302,7 @@ impl<'f, 'a, A: Allocator + Copy> CutOf<'f, 'a, A> {
     {
         let charted = Charted::of(alloc, font)?;
         let runs = charted.runs(alloc)?;
-        let seeds = mark_runs(alloc, &charted, &runs)?;
-        let kept = mark_reached(alloc, &charted, &seeds)?;
+        let kept = mark_listed(alloc, &charted, &runs)?;
         let source = CutOf {
             charted,
             wanted: None,
@@ -318,7 +331,7 @@ impl<'f, 'a, A: Allocator> Source for CutOf<'f, 'a, A> {
 
     ghost content_of = { λ c. content (font_of c.0) (codes_wanted c.1) };
 
-    fn known(&self) {
+    fn recall_laws(&self) {
         let _font = self.charted.font();
     }
 
@@ -390,6 +403,6 @@ impl<'f, 'a, A: Allocator> CutOf<'f, 'a, A> {
         requires { self.now.1 ≡ None }
         ensures { result ≡ cut_form_of self.now.0 }
     {
-        form_among(self, self.file())
+        form_of_file(self, self.file())
     }
 }

@@ -2,20 +2,20 @@
 //! alone, and without names of glyphs. OpenType 1.9, Organization of an OpenType Font.
 ghost use Rattle.std.specs.Prelude.{◌≡◌, ◌≤◌, length, false, true, IfErr, IfOk, IsSome, MatchResult, OnOk};
 ghost use Rattle.sfnt_bytes.specs.declared.directory.TheConstants.{MAX_FILE};
-ghost use Rattle.code_sets.specs.Wanted.{member};
+ghost use Rattle.codes.specs.Wanted.{member};
 ghost use Rattle.font_subset.specs.Cut.{IsCutRefusal, IsWritten, StopsCut};
 ghost use Rattle.font_subset.specs.Lean.{IsLeanSound, lean_cut_of};
-ghost use Rattle.outlet.specs.Outlet.{HasSent, WentOut, broken_of, fresh_of, writer_of};
+ghost use Rattle.streams.specs.Outlet.{HasSent, WentOut, broken_of, fresh_of, writer_of};
 
 use crate::cut_font::{CutError, CutIntoError};
-use crate::cut_source::accepted;
+use crate::cut_source::recall_accepted;
 use crate::emit::{file_in_memory, send_whole};
 use crate::lean_source::LeanOf;
 use font_file::Font;
 use font_map::Wanted;
-use outlet::Outlet;
 use std::alloc::Allocator;
 use std::io::Write;
+use streams::Outlet;
 
 // Returns the lean cut, or the refusal that applies.
 #[tactic(auto, using(crate::proofs::LeanCutLemmas::lean_cut_of_is))]
@@ -39,6 +39,17 @@ fn cut_exactly<A: Allocator + Copy>(
 ///
 /// `NoMemory` where memory is refused, and `TooLarge` where the lean cut would have more than
 /// [`MAX_FILE`](crate::MAX_FILE) bytes.
+///
+/// # Example
+///
+/// From the test `lean_cut_of_aacute` of `cut_tests`:
+///
+/// ```
+/// let font = Font::open(&BASE6)?;
+/// let wanted = wanted_of(rt.alloc(), &[(0xC1, 0xC1)])?;
+/// let made = cut(rt.alloc(), &font, &wanted)?;
+/// assert_eq!(rt; made.as_slice(), LEAN_AACUTE.as_slice());
+/// ```
 pub fn cut<A: Allocator + Copy>(
     alloc: A,
     font: &Font<'_>,
@@ -49,7 +60,7 @@ pub fn cut<A: Allocator + Copy>(
     ensures small { IfOk result (λ v. length v.items ≤ MAX_FILE) }
     ensures sound { IfOk result (λ v. IsLeanSound font.now (member wanted.now) v.items) }
 {
-    accepted(font);
+    recall_accepted(font);
     cut_exactly(alloc, font, wanted)
 }
 
@@ -83,6 +94,18 @@ fn cut_into_exactly<W: Write, A: Allocator + Copy>(
 ///
 /// `NoMemory` and `TooLarge` as those of [`cut`]: nothing was sent. `WriteFault` where a write failed: the
 /// outlet is broken, and a front of the cut went out.
+///
+/// # Example
+///
+/// From the test `sends_the_lean_cut` of `cut_tests`:
+///
+/// ```
+/// let font = Font::open(&BASE6)?;
+/// let wanted = wanted_of(rt.alloc(), &[(0xC1, 0xC1)])?;
+/// let mut outlet = Outlet::new(Vec::new(rt.alloc()));
+/// let answer = cut_into(rt.alloc(), &font, &wanted, &mut outlet);
+/// assert_eq!(rt; outlet.into_inner().as_slice(), LEAN_AACUTE.as_slice());
+/// ```
 pub fn cut_into<W: Write, A: Allocator + Copy>(
     alloc: A,
     font: &Font<'_>,
@@ -102,6 +125,6 @@ pub fn cut_into<W: Write, A: Allocator + Copy>(
     ensures sound { OnOk result
         (IsLeanSound font.now (member wanted.now) (lean_cut_of font.now (member wanted.now))) }
 {
-    accepted(font);
+    recall_accepted(font);
     cut_into_exactly(alloc, font, wanted, out)
 }

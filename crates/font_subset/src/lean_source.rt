@@ -7,12 +7,12 @@ ghost use Rattle.font_file.specs.Font.{font_fault};
 ghost use Rattle.font_tables.specs.Fields.{number_of_h_metrics};
 ghost use Rattle.font_tables.specs.Refusals.{is_bad_hhea, is_bad_hmtx};
 ghost use Rattle.font_theory.specs.Content.{font_of, glyph_count, is_kept};
-ghost use Rattle.font_theory.specs.Lean.{cleared, pairs_in, thin_post};
+ghost use Rattle.font_theory.specs.Lean.{blank, cleared, pairs_in, thin_post};
 ghost use Rattle.font_theory.specs.declared.slots.TheConstants.{POST};
 ghost use Rattle.font_subset.specs.Content.{codes_wanted, lean_content};
 
 use crate::cut_source::CutOf;
-use crate::lean_tables::{POST_LENGTH, cleared_table, unnamed};
+use crate::lean_tables::{POST_LENGTH, blank_table, cleared_table, unnamed};
 use font_file::Font;
 use font_map::{Run, Wanted};
 use font_theory::{POST, VHEA, VMTX};
@@ -21,9 +21,9 @@ use sfnt_bytes::{HHEA, HMTX, NoMemory, be16};
 use std::alloc::{Allocator, Global};
 use std::marker::Model;
 
-// Returns the number of pairs in a table of metrics, 0 where its header does not describe it.
+/// Returns the number of pairs in a table of metrics, 0 where its header does not describe it.
 #[tactic(auto, unfolding(font_tables::specs::Fields::number_of_h_metrics))]
-fn pairs_by(header: &[u8], table: &[u8], count: u16) -> usize
+pub fn pairs_by(header: &[u8], table: &[u8], count: u16) -> usize
     ensures pairs { result ≡ if is_bad_hhea header.now count
         || is_bad_hmtx table.now (number_of_h_metrics header.now) count then 0
         else number_of_h_metrics header.now }
@@ -72,6 +72,34 @@ fn metrics_table<A: Allocator + Copy>(
     }
 }
 
+/// Returns a table of metrics of a content with zeros for the bytes of each glyph: what is left of it in a
+/// lean reading. Where the header does not describe it, that is all of it.
+///
+/// # Errors
+///
+/// `NoMemory` where memory is refused.
+pub fn blank_of<S: Source, A: Allocator>(
+    alloc: A,
+    source: &S,
+    header: usize,
+    slot: usize,
+) -> Result<Option<Vec<u8, A>>, NoMemory>
+    ensures table { IfOk result (λ o. option_map (λ v. v.items) o
+        ≡ option_map (blank (pairs_in (S.content_of source.now).copied header slot)
+        (glyph_count (S.content_of source.now).copied)) ((S.content_of source.now).copied slot)) }
+    ensures small { IfOk result (λ o. length (unwrap_or (option_map (λ v. v.items) o) []) ≤ MAX_FILE) }
+{
+    let count = source.glyph_count();
+    match source.copied(slot) {
+        None => Ok(None),
+        Some(table) => {
+            let pairs = pairs_by(source.copied(header).unwrap_or(&[]), table, count);
+            let bytes = blank_table(alloc, table, pairs, count)?;
+            Ok(Some(bytes))
+        }
+    }
+}
+
 // Returns `post` without names. Where there is none, or it is too short for its fields, a lean cut has what
 // the font has, and none is returned.
 fn post_table<A: Allocator + Copy>(
@@ -110,7 +138,7 @@ pub struct LeanOf<'f, 'a, A: Allocator = Global> {
 impl<'f, 'a, A: Allocator> Model for LeanOf<'f, 'a, A> {
     ghost use Rattle.std.specs.Prelude.{ℕ, List, Option};
     ghost use Rattle.std.specs.Option.{option_map};
-    ghost use Rattle.code_sets.specs.declared.ranges.Range.{Range};
+    ghost use Rattle.codes.specs.declared.ranges.Range.{Range};
     ghost use Rattle.sfnt_bytes.specs.declared.tag.TheConstants.{HMTX};
     ghost use Rattle.font_theory.specs.declared.slots.TheConstants.{POST, VMTX};
     ghost use Rattle.font_subset.specs.Inside.{IsMadeTable};
@@ -176,8 +204,8 @@ impl<'f, 'a, A: Allocator + Copy> LeanOf<'f, 'a, A> {
     }
 }
 
-// Returns the bytes of a vector, where there is one.
-fn bytes_of<A: Allocator>(table: &Option<Vec<u8, A>>) -> Option<&[u8]>
+/// Returns the bytes of a vector, where there is one.
+pub fn bytes_of<A: Allocator>(table: &Option<Vec<u8, A>>) -> Option<&[u8]>
     ensures { MatchOption result (option_map (λ v. v.items) table.now ≡ None)
         (λ b. option_map (λ v. v.items) table.now ≡ Some b.now) }
 {
@@ -197,6 +225,13 @@ impl<'f, 'a, A: Allocator> LeanOf<'f, 'a, A> {
         ensures small { length result.now ≤ MAX_FILE }
     {
         self.cut.file()
+    }
+
+    /// Returns the cut alone.
+    pub fn into_cut(self) -> CutOf<'f, 'a, A>
+        ensures { result ≡ self.entry }
+    {
+        self.cut
     }
 
     // Returns the table of a slot that the lean cut has anew.
@@ -224,7 +259,7 @@ impl<'f, 'a, A: Allocator> Source for LeanOf<'f, 'a, A> {
 
     ghost content_of = { lean_content };
 
-    fn known(&self) {
+    fn recall_laws(&self) {
         let _file = self.cut.file();
     }
 

@@ -80,8 +80,8 @@ fn copy_kept<S: Source>(to: &mut [u8], from: &[u8], source: &S, pairs: usize)
     }
 }
 
-/// Returns a table of so many pairs, and then bearings, with zeros for the bytes of the glyphs that are not
-/// kept. It asks for as many bytes as the table has.
+/// Returns a table of this number of pairs, and then bearings, with zeros for the bytes of the glyphs that
+/// are not kept. It asks for as many bytes as the table has.
 ///
 /// # Errors
 ///
@@ -100,6 +100,32 @@ pub(crate) fn cleared_table<S: Source, A: Allocator>(
 {
     let mut bytes = vec![in alloc; 0u8; table.len()].map_err(|_| NoMemory)?;
     copy_kept(&mut bytes, table, source, pairs);
+    Ok(bytes)
+}
+
+/// Returns a table of this number of pairs, and then bearings, with zeros for the bytes of each glyph. It
+/// asks for as many bytes as the table has.
+///
+/// # Errors
+///
+/// `NoMemory` where memory is refused.
+pub(crate) fn blank_table<A: Allocator>(
+    alloc: A,
+    table: &[u8],
+    pairs: usize,
+    count: u16,
+) -> Result<Vec<u8, A>, NoMemory>
+    requires few { pairs ≤ count }
+    requires room { 0 < pairs → 2 * (pairs + count) ≤ length table.now }
+    ensures { IfOk result (λ v. v.items ≡ blank pairs count table.now) }
+{
+    if pairs == 0 {
+        let whole = table.to_vec(alloc).map_err(|_| NoMemory)?;
+        return Ok(whole);
+    }
+    let size = table.len();
+    let mut bytes = vec![in alloc; 0u8; size].map_err(|_| NoMemory)?;
+    copy_shared(&mut bytes, table, pairs, usize::from(count));
     Ok(bytes)
 }
 

@@ -17,7 +17,7 @@ advance_width hmtx i = u16_at hmtx (4 * i)
 unfoldable pub lsb : List ℕ → ℕ → ℤ
 lsb hmtx i = i16_at hmtx (4 * i + 2)
 
--- leftSideBearings[i], which stand behind h pairs
+-- leftSideBearings[i], which stand after h pairs
 unfoldable pub left_side_bearing : List ℕ → ℕ → ℕ → ℤ
 left_side_bearing hmtx h i = i16_at hmtx (4 * h + 2 * i)
 

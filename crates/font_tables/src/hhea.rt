@@ -16,7 +16,7 @@ pub(crate) fn read_number_of_h_metrics(hhea: &[u8]) -> u16
     be16(hhea, 34)
 }
 
-/// Returns whether the table is refused, in a font of so many glyphs.
+/// Returns whether the table is refused, in a font of this number of glyphs.
 pub(crate) fn has_bad_hhea(hhea: &[u8], glyphs: u16) -> bool
     ensures { result ≡ is_bad_hhea hhea.now glyphs }
 {

@@ -9,7 +9,7 @@ use sfnt_bytes::be16;
 /// How many bytes a pair of `advanceWidth` and `lsb` has.
 const PAIR: usize = 4;
 
-/// How many bytes a bearing behind the pairs has.
+/// How many bytes a bearing after the pairs has.
 const BEARING: usize = 2;
 
 #[tactic(auto, unfolding(crate::specs::Metrics::i16_at))]
@@ -61,7 +61,7 @@ pub(crate) fn read_metric(hmtx: &[u8], pairs: usize, g: usize) -> (u16, i16)
     }
 }
 
-/// Returns whether the table is refused, in a font of so many pairs and glyphs.
+/// Returns whether the table is refused, in a font with this number of pairs and this number of glyphs.
 pub(crate) fn has_bad_hmtx(hmtx: &[u8], pairs: u16, glyphs: u16) -> bool
     requires { pairs ≤ glyphs }
     ensures { result ≡ is_bad_hmtx hmtx.now pairs glyphs }

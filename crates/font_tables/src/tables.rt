@@ -200,7 +200,7 @@ impl<'a> Tables<'a> {
         self.form
     }
 
-    /// Returns the advance width and the left side bearing of a glyph, in font units. A glyph behind the
+    /// Returns the advance width and the left side bearing of a glyph, in font units. A glyph after the
     /// pairs of `hmtx` has the advance width of the last pair.
     #[tactic(auto, unfolding(crate::specs::Metrics::metric_of))]
     pub fn metric(&self, g: u16) -> (u16, i16)

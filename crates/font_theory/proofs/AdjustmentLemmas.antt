@@ -16,7 +16,7 @@ module _ (adjustment : ℕ) (head : List ℕ) (long : 12 ≤ length head) where
   unfolding with_adjustment
   length-with_adjustment = let l = front in omega (arith, length-append (take 8 head) (bytes32 adjustment ++ drop 12 head), length-drop 12 head)
 
-  -- what stands before the field, the field, and what stands behind it
+  -- what stands before the field, the field, and what stands after it
   pub take-with_adjustment : take 8 (with_adjustment adjustment head) ≡ take 8 head
   unfolding with_adjustment
   take-with_adjustment = take_at (take 8 head) (bytes32 adjustment ++ drop 12 head) 8 front
@@ -76,9 +76,9 @@ with_adjustment-cut_head head long =
     λ i. take_at (take 8 head) (bytes32 0 ++ behind) 8 front i ++ (bytes32 0 ++ end i)
 
 pub with_adjustment-zero : (head : List ℕ) → 54 ≤ length head → cut_head head ≡ head → with_adjustment 0 head ≡ head
-with_adjustment-zero head long form = ap (with_adjustment 0) (sym form) ∙ with_adjustment-cut_head head long ∙ form
+with_adjustment-zero head long layout = ap (with_adjustment 0) (sym layout) ∙ with_adjustment-cut_head head long ∙ layout
 
 -- so the field of `head` with an adjustment as zeros gives `head` back
 pub without_field-with_adjustment : (adjustment : ℕ) (head : List ℕ) → 54 ≤ length head → cut_head head ≡ head → without_field (with_adjustment adjustment head) 8 ≡ head
-without_field-with_adjustment adjustment head long form =
-    without_field-head (with_adjustment adjustment head) ∙ with_adjustment-twice adjustment head (omega arith) 0 ∙ with_adjustment-zero head long form
+without_field-with_adjustment adjustment head long layout =
+    without_field-head (with_adjustment adjustment head) ∙ with_adjustment-twice adjustment head (omega arith) 0 ∙ with_adjustment-zero head long layout

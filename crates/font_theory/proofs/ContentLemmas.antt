@@ -5,12 +5,12 @@ use Rattle.std.proofs.Math.Path.{fun_ext}
 use Rattle.std.proofs.lemmas.Bool.{cases_eq, eqb-true}
 use Rattle.std.proofs.lemmas.Bool.Decides.{same_from_decides, Decides-like}
 use Rattle.sfnt_bytes.specs.Lines.{when}
-use Rattle.character_map.specs.CharacterMap.{restricted}
-use Rattle.character_map.proofs.MapLemmas.{restricted-restricted, same_cond}
+use Rattle.codes.specs.CharacterMap.{restricted}
+use Rattle.codes.proofs.MapLemmas.{restricted-restricted, same_cond}
 use Rattle.font_glyph.specs.Reach.{IsComponentOf, Reach}
 use Rattle.font_glyph.specs.Record.{IsRecord}
 use Rattle.font_theory.specs.Bytes.{padded}
-use Rattle.font_theory.specs.Content.{Content, Font, IsClosedContent, IsFont, content, everything, glyph_count, is_kept, is_seed, seen}
+use Rattle.font_theory.specs.Content.{Content, Font, IsClosedContent, IsFont, content, everything, glyph_count, is_kept, is_seed, read_back}
 use Rattle.font_theory.proofs.WantedLemmas.{IsKept, Reach-along, Reach-back, is_kept-decides, is_seed-code, is_seed-more, restricted-below, restricted-past}
 use Rattle.font_theory.proofs.PaddedLemmas.{IsRecord-nil, IsRecord-padded, component-alike, padded-padded}
 
@@ -19,12 +19,12 @@ pub content-path : {K L : Content} → K.copied ≡ L.copied → K.head ≡ L.he
 content-path c h m o = λ i. record { copied = c i; head = h i; map = m i; outline = o i }
 
 -- what is read back of a kept outline is the outline padded
-pub seen-kept : (F : Font) (A : ℕ → Bool) (g : ℕ) → is_kept F A g ≡ true → (seen (content F A)).outline g ≡ padded (F.outline g)
-seen-kept F A g e = ap (λ b. unwrap_or (when b (padded (F.outline g))) []) e
+pub read_back-kept : (F : Font) (A : ℕ → Bool) (g : ℕ) → is_kept F A g ≡ true → (read_back (content F A)).outline g ≡ padded (F.outline g)
+read_back-kept F A g e = ap (λ b. unwrap_or (when b (padded (F.outline g))) []) e
 
 -- what is read back of a cut of a font is a font
-pub IsFont-seen : (F : Font) (A : ℕ → Bool) → IsFont F → IsFont (seen (content F A))
-IsFont-seen F A ok = record {
+pub IsFont-read_back : (F : Font) (A : ℕ → Bool) → IsFont F → IsFont (read_back (content F A))
+IsFont-read_back F A ok = record {
   mapped_below = restricted-below F A ok;
   mapped_codes = restricted-past F A ok;
   records = λ g. elim (is_kept F A g) as (λ b. IsRecord (glyph_count F.copied) (unwrap_or (when b (padded (F.outline g))) [])) [
@@ -80,15 +80,15 @@ module _ (F : Font) (A B : ℕ → Bool) (ok : IsFont F) where
   pub IsKept-less : (g : ℕ) → IsKept F (λ c. A c && B c) g → IsKept F A g
   IsKept-less = Reach-along _ _ _ _ (is_seed-more _ _ (restricted-past F A ok) restricted_less) (λ g h r c. c)
 
-pub seen-reached : (F : Font) (A : ℕ → Bool) → IsFont F → (g : ℕ) → IsKept F A g → (seen (content F A)).outline g ≡ padded (F.outline g)
-seen-reached F A ok g r = seen-kept F A g ((is_kept-decides F A ok g).1 r)
+pub read_back-reached : (F : Font) (A : ℕ → Bool) → IsFont F → (g : ℕ) → IsKept F A g → (read_back (content F A)).outline g ≡ padded (F.outline g)
+read_back-reached F A ok g r = read_back-kept F A g ((is_kept-decides F A ok g).1 r)
 
 -- a cut of a cut is a cut for the codes in both
-pub content-seen : (F : Font) (A B : ℕ → Bool) → IsFont F → content (seen (content F A)) B ≡ content F (λ c. A c && B c)
-content-seen F A B ok =
-    content-same _ _ _ _ (IsFont-seen F A ok) ok refl refl
+pub content-read_back : (F : Font) (A B : ℕ → Bool) → IsFont F → content (read_back (content F A)) B ≡ content F (λ c. A c && B c)
+content-read_back F A B ok =
+    content-same _ _ _ _ (IsFont-read_back F A ok) ok refl refl
     (restricted-restricted B A F.map ∙ ap (λ (w : ℕ → Bool). restricted w F.map) (fun_ext (λ c. and_comm (B c) (A c))))
-    (λ g r. ap padded (seen-reached F A ok g (IsKept-less F A B ok g r)) ∙ padded-padded (F.outline g))
+    (λ g r. ap padded (read_back-reached F A ok g (IsKept-less F A B ok g r)) ∙ padded-padded (F.outline g))
 
 and_everything : (A : ℕ → Bool) → (λ c. A c && everything c) ≡ A
 and_everything A = fun_ext (λ c. and_comm (A c) true)
@@ -96,8 +96,8 @@ and_everything A = fun_ext (λ c. and_comm (A c) true)
 -- each content of a font is closed
 pub IsClosed-content : (F : Font) (A : ℕ → Bool) → IsFont F → IsClosedContent (content F A)
 IsClosed-content F A ok = record {
-  font = IsFont-seen F A ok;
-  closed = content-seen F A everything ok ∙ ap (content F) (and_everything A);
+  font = IsFont-read_back F A ok;
+  closed = content-read_back F A everything ok ∙ ap (content F) (and_everything A);
 }
 
 -- only the wanted codes that are mapped count

@@ -50,7 +50,7 @@ module _ (h : List ℕ) (long : 54 ≤ length h) where
       let end : drop 52 w ≡ e = sym (drop-drop 40 12 w) ∙ ap (drop 40) (rest ∙ sym (append_assoc middle l e)) ∙ drop_at (middle ++ l) e 40 n40 in
       λ i. front i ++ (z ++ (mid i ++ (l ++ end i)))
 
-  -- the bytes behind checksumAdjustment
+  -- the bytes after checksumAdjustment
   behind_adjustment : (i : ℕ) → get_or (cut_head h) (12 + i) 0 ≡ get_or (middle ++ tail) i 0
   unfolding cut_head
   behind_adjustment i =
@@ -82,8 +82,8 @@ module _ (h : List ℕ) (long : 54 ≤ length h) where
       let b : get_or (cut_head h) 51 0 ≡ 1 = behind_adjustment 39 ∙ get_or-append_right middle tail 38 39 0 length-middle (omega arith) in
       rw (a, b) refl
 
-head_test : (long long' magic magic' form : Bool) → long' ≡ false → magic' ≡ magic → form ≡ false → (long || magic) ≡ false → (long' || magic' || form) ≡ false
-head_test long long' magic magic' form a b c h = rw (a, b, c) (go magic (or_parts long magic h).1)
+head_test : (long long' magic magic' layout : Bool) → long' ≡ false → magic' ≡ magic → layout ≡ false → (long || magic) ≡ false → (long' || magic' || layout) ≡ false
+head_test long long' magic magic' layout a b c h = rw (a, b, c) (go magic (or_parts long magic h).1)
   where
     go : (m : Bool) → m ≡ false → (m || false) ≡ false
     go true e = e
@@ -103,7 +103,7 @@ is_bad_head-cut_head h fine =
     (ap (nat_lt 1) (index_to_loc_format-cut_head h long))
     (or_parts _ _ fine).0
 
--- lists of one length, and what stands behind them
+-- lists of one length, and what stands after them
 bytes_eq-append : (a b x y : List ℕ) → length a ≡ length b → bytes_eq (a ++ x) (b ++ y) ≡ (bytes_eq a b && bytes_eq x y)
 bytes_eq-append [] [] x y h = refl
 bytes_eq-append [] (c ∷ b) x y h = absurd (omega arith)

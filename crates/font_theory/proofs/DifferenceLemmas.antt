@@ -6,8 +6,8 @@ use Rattle.std.specs.Str.{bytes_eq}
 use Rattle.std.proofs.lemmas.Bool.{cases_eq, cases_lt, eqb-true, eq-eqb, le-leb, lt-ltb, ltb-true, ne_eqb, not-false, or_right}
 use Rattle.std.proofs.lemmas.Slice.Eq.{bytes_eq-Decides}
 use Rattle.sfnt_bytes.specs.Lines.{first_of_lines}
-use Rattle.member_search.proofs.OrderLemmas.{find_none}
-use Rattle.font_theory.specs.Content.{CODES, Content, IsClosedContent, everything, glyph_count, is_made, seen}
+use Rattle.codes.proofs.OrderLemmas.{find_none}
+use Rattle.font_theory.specs.Content.{CODES, Content, IsClosedContent, everything, glyph_count, is_made, read_back}
 use Rattle.font_theory.specs.Difference.{are_different, difference, is_different_code, is_different_glyph, is_different_table}
 use Rattle.font_theory.specs.Join.{Agree}
 use Rattle.font_theory.specs.declared.Difference.{Difference}
@@ -161,7 +161,7 @@ module _ (K L : Content) (okK : IsClosedContent K) (okL : IsClosedContent L) whe
           | inr past ↦ let none = okK.font.mapped_codes c past in absurd (omega (arith, none, some))
         ];
         outline = λ g a b ea eb.
-            let low : g < glyph_count K.copied = IsKept-below (seen K) everything okK.font g (some-held K okK g a ea) in
+            let low : g < glyph_count K.copied = IsKept-below (read_back K) everything okK.font g (some-held K okK g a ea) in
             same_glyph K L g a b (find-none (is_different_glyph K L) (glyph_count K.copied) g w.2 low) ea eb;
       }
 

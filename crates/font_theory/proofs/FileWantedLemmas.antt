@@ -3,7 +3,7 @@ use Rattle.std.proofs.Common.{◌≡◌, ℕ, ◌<◌, Bool, true, cond, nat_eq,
 use Rattle.std.specs.Bool.{Decides}
 use Rattle.std.proofs.lemmas.Bool.{eqb-true, lt-ltb}
 use Rattle.std.proofs.lemmas.Bool.Decides.{Decides-like}
-use Rattle.character_map.specs.CharacterMap.{restricted}
+use Rattle.codes.specs.CharacterMap.{restricted}
 use Rattle.font_glyph.specs.Reach.{IsComponentOf, Reach}
 use Rattle.font_glyph.specs.Reach.Reach.{seed, part}
 use Rattle.font_tables.specs.Fields.{glyph_count_of}
@@ -11,8 +11,8 @@ use Rattle.font_tables.specs.Outlines.{outline_of}
 use Rattle.font_file.specs.Font.{font_fault, map_of}
 use Rattle.font_file.proofs.FontLemmas.{is_record-accepted}
 use Rattle.font_theory.specs.Bytes.{padded}
-use Rattle.font_theory.specs.Content.{content, font_of, glyph_count, is_kept, is_seed, seen}
-use Rattle.font_theory.proofs.ContentLemmas.{IsKept-wanted, seen-reached, wanted-map}
+use Rattle.font_theory.specs.Content.{content, font_of, glyph_count, is_kept, is_seed, read_back}
+use Rattle.font_theory.proofs.ContentLemmas.{IsKept-wanted, read_back-reached, wanted-map}
 use Rattle.font_theory.proofs.FontLemmas.{IsFont-accepted, glyph_count-file}
 use Rattle.font_theory.proofs.WantedLemmas.{component-below, is_kept-decides, seeds-below}
 
@@ -47,7 +47,7 @@ is_kept-file file wanted accepted g =
     Decides-like _ (λ r. (Reach-file file accepted _ below g r).0) (λ r. (Reach-font file accepted _ below g r).0) (is_kept-decides (font_of file) wanted ok g)
 
 -- a file of which a content of an accepted one is read back
-module _ (file other : List ℕ) (wanted : ℕ → Bool) (accepted : font_fault file ≡ None) (same : font_of other ≡ seen (content (font_of file) wanted)) where
+module _ (file other : List ℕ) (wanted : ℕ → Bool) (accepted : font_fault file ≡ None) (same : font_of other ≡ read_back (content (font_of file) wanted)) where
   pub glyph_count_of-same : glyph_count_of other ≡ glyph_count_of file
   glyph_count_of-same = sym (glyph_count-file other) ∙ ap (λ F. glyph_count F.copied) same ∙ glyph_count-file file
 
@@ -62,5 +62,5 @@ module _ (file other : List ℕ) (wanted : ℕ → Bool) (accepted : font_fault 
       let w = Reach-font file accepted _ below g r in
       sym (outline-file other g (subst (λ (n : ℕ). g < n) (sym glyph_count_of-same) w.1))
       ∙ ap (λ F. F.outline g) same
-      ∙ seen-reached (font_of file) wanted ok g (IsKept-wanted (font_of file) wanted ok c h g w.0)
+      ∙ read_back-reached (font_of file) wanted ok g (IsKept-wanted (font_of file) wanted ok c h g w.0)
       ∙ ap padded (outline-file file g w.1)

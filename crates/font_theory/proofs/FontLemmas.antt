@@ -19,7 +19,7 @@ use Rattle.font_tables.proofs.TableLemmas.{is_measured}
 use Rattle.font_map.specs.Cmap.{chosen_record, subtable_at}
 use Rattle.font_map.specs.Mapping.{listed_glyph, mapping_of}
 use Rattle.font_map.proofs.MappingLemmas.{mapping_of-small}
-use Rattle.character_map.proofs.PieceLemmas.{clipped_past}
+use Rattle.codes.proofs.PieceLemmas.{clipped_past}
 use Rattle.font_file.specs.Font.{cmap_of, font_fault, map_of}
 use Rattle.font_file.specs.declared.font_error.FontError.{FontError}
 use Rattle.font_file.specs.declared.font_error.FontError.TheVariants.{Directory, Tables}

@@ -4,11 +4,11 @@ use Rattle.std.proofs.Math.Bool.{or_self}
 use Rattle.std.proofs.Math.Path.{fun_ext}
 use Rattle.std.proofs.lemmas.Bool.{cases_eq}
 use Rattle.font_theory.specs.Content.{content}
-use Rattle.font_theory.specs.Cut.{CanJoin, Format, IsCurrent, IsCut, IsFormat, Writes, cut, either, joined, whole}
+use Rattle.font_theory.specs.Cut.{CanJoin, Format, IsCurrent, IsCut, IsFormat, Writes, cut, either, joined, content_of_all}
 use Rattle.font_theory.specs.Join.{Agree}
 use Rattle.font_theory.specs.Tree.{Differs, IsOver, IsSmall, JoinTree, Takes, Value, cuts, file_at, grown, union_below, union_in}
 use Rattle.font_theory.specs.Tree.JoinTree.{leaf}
-use Rattle.font_theory.proofs.CutLemmas.{CanJoin-cuts, joined-cuts, whole-cut}
+use Rattle.font_theory.proofs.CutLemmas.{CanJoin-cuts, joined-cuts, content_of_all-cut}
 use Rattle.font_theory.proofs.TreeLemmas.{Differs-clash, Value-current, Value-cut, Value-cuts, Value-file, Value-one, Value-same, Value-small}
 
 -- what one joins with itself stays one set
@@ -26,12 +26,12 @@ module _ (R : Format) (law : IsFormat R) (files : List (List ℕ)) where
       ]
 
   -- no value on the way is too large where the last one is not
-  pub grown-small : (n : ℕ) (v : List ℕ) → Value R (grown files n) v → length v ≤ R.most → IsSmall R (grown files n)
-  grown-small zero v p small = subst (λ (x : List ℕ). length x ≤ R.most) p small
+  pub grown-small : (n : ℕ) (v : List ℕ) → Value R (grown files n) v → length v ≤ R.limit → IsSmall R (grown files n)
+  grown-small zero v p small = subst (λ (x : List ℕ). length x ≤ R.limit) p small
   grown-small (suc n) v p small = (
     grown-small n p.0 p.2 (law.accepted_size p.0 p.4.first.accepted),
-    subst (λ (x : List ℕ). length x ≤ R.most) p.3 (law.accepted_size p.1 p.4.second.accepted),
-    λ w q. subst (λ (x : List ℕ). length x ≤ R.most) (Value-one R law (grown files (suc n)) v w p q) small,
+    subst (λ (x : List ℕ). length x ≤ R.limit) p.3 (law.accepted_size p.1 p.4.second.accepted),
+    λ w q. subst (λ (x : List ℕ). length x ≤ R.limit) (Value-one R law (grown files (suc n)) v w p q) small,
   )
 
   takes-only : (n : ℕ) (x : List ℕ) → Takes (grown files n) x → 0 < length files → n ≤ length files → (k : ℕ) × (k < length files) × (x ≡ file_at files k)
@@ -55,20 +55,21 @@ module _ (R : Format) (law : IsFormat R) (files : List (List ℕ)) where
 
   -- two trees over the same files in cut form that meet no size have values of one content
   pub Value-over : (s t : JoinTree (List ℕ)) (z : List ℕ) → IsOver files s → IsOver files t → ((k : ℕ) → k < length files → IsCut R (file_at files k))
-      → IsSmall R s → IsSmall R t → Value R s z → (v : List ℕ) × Value R t v × (whole R v ≡ whole R z)
+      → IsSmall R s → IsSmall R t → Value R s z → (v : List ℕ) × Value R t v × (content_of_all R v ≡ content_of_all R z)
   Value-over s t z over also forms small small' p =
       Value-same R law s t z small small' (cut-over s over forms)
       (λ x h. let w = over.only x h in subst (Takes t) (sym w.2) (also.each w.0 w.1))
       (λ x h. let w = also.only x h in subst (Takes s) (sym w.2) (over.each w.0 w.1))
       p
 
-  -- each tree over all files that meets no size has a value of the content of the tree that has grown, whose value is the file of it
-  module _ (some : 0 < length files) (z : List ℕ) (p : Value R (grown files (length files)) z) (small : length z ≤ R.most) where
-    value-of_content : (n : ℕ) → n ≡ length files → Value R (grown files n) z → R.file (whole R z) ≡ z
+  -- each tree over all files that meets no size has a value of the content of the tree that has grown, whose
+  -- value is the file of it
+  module _ (some : 0 < length files) (z : List ℕ) (p : Value R (grown files (length files)) z) (small : length z ≤ R.limit) where
+    value-of_content : (n : ℕ) → n ≡ length files → Value R (grown files n) z → R.file (content_of_all R z) ≡ z
     value-of_content zero e q = absurd (omega arith)
     value-of_content (suc n) e q = Value-file R law (grown files n) (leaf (file_at files n)) z (grown-small (suc n) z q small) q
 
-    pub Value-grown : (t : JoinTree (List ℕ)) → IsOver files t → IsSmall R t → (v : List ℕ) × Value R t v × (whole R v ≡ whole R z) × (R.file (whole R v) ≡ z)
+    pub Value-grown : (t : JoinTree (List ℕ)) → IsOver files t → IsSmall R t → (v : List ℕ) × Value R t v × (content_of_all R v ≡ content_of_all R z) × (R.file (content_of_all R v) ≡ z)
     Value-grown t over few =
         let q = Value-over (grown files (length files)) t z (IsOver-grown some) over (grown-cut (length files) z p) (grown-small (length files) z p small) few p in
         (q.0, q.1, q.2, ap R.file q.2 ∙ value-of_content (length files) refl p)
@@ -78,8 +79,8 @@ module _ (R : Format) (law : IsFormat R) (files : List (List ℕ)) where
     Value-grown_same forms t over few =
         let q = Value-grown t over few in
         let each : (x : List ℕ) → Takes t x → IsCurrent R x = λ x h. let w = over.only x h in subst (IsCurrent R) (sym w.2) (forms w.0 w.1) in
-        let form = Value-current R law t q.0 few each q.1 in
-        subst (Value R t) (sym form.written ∙ q.3) q.1
+        let layout = Value-current R law t q.0 few each q.1 in
+        subst (Value R t) (sym layout.written ∙ q.3) q.1
 
     -- a tree over cuts of one font has that same value
     pub Value-grown_cuts : (F : List ℕ) → R.fault F ≡ None → (t : JoinTree (ℕ → Bool)) → IsOver files (cuts R F t) → IsSmall R (cuts R F t) → Value R (cuts R F t) z
@@ -88,32 +89,32 @@ module _ (R : Format) (law : IsFormat R) (files : List (List ℕ)) where
         let v = Value-grown (cuts R F t) over few in
         let e : v.0 ≡ cut R F (union_in t) = Value-one R law (cuts R F t) _ _ v.1 q in
         let s = Value-small R law (cuts R F t) (cut R F (union_in t)) few q in
-        let w = whole-cut R law F h (union_in t) (cut R F (union_in t)) (inl refl) s in
-        subst (Value R (cuts R F t)) (sym (ap R.file w) ∙ ap (λ (x : List ℕ). R.file (whole R x)) (sym e) ∙ v.3) q
+        let w = content_of_all-cut R law F h (union_in t) (cut R F (union_in t)) (inl refl) s in
+        subst (Value R (cuts R F t)) (sym (ap R.file w) ∙ ap (λ (x : List ℕ). R.file (content_of_all R x)) (sym e) ∙ v.3) q
 
   -- a difference met while a tree grows is met in each tree over all files
   pub Differs-grown : ((k : ℕ) → k < length files → IsCut R (file_at files k)) → (k : ℕ) → k < length files
-      → (x : List ℕ) → Value R (grown files k) x → length x ≤ R.most → ¬ Agree (whole R x) (whole R (file_at files k))
+      → (x : List ℕ) → Value R (grown files k) x → length x ≤ R.limit → ¬ Agree (content_of_all R x) (content_of_all R (file_at files k))
       → (t : JoinTree (List ℕ)) → IsOver files t → IsSmall R t → Differs R t
   Differs-grown forms k low x p small apart t over few =
       let some : 0 < length files = omega arith in
       let upto : k ≤ length files = omega arith in
       let to = takes-over t over k some upto in
       let ss = grown-small k x p small in
-      let form = Value-cut R law (grown files k) x ss (λ y h. cut-over t over forms y (to y h)) p in
-      Differs-clash R law (grown files k) t ss few (cut-over t over forms) to x (file_at files k) p (over.each k low) (form, forms k low, apart)
+      let layout = Value-cut R law (grown files k) x ss (λ y h. cut-over t over forms y (to y h)) p in
+      Differs-clash R law (grown files k) t ss few (cut-over t over forms) to x (file_at files k) p (over.each k low) (layout, forms k low, apart)
 
   -- cuts of one font, in any forms, grow to its cut for all their sets
   module _ (F : List ℕ) (h : R.fault F ≡ None) (A : ℕ → ℕ → Bool)
-      (are : (k : ℕ) → k < length files → Writes R (content (R.font F) (A k)) (file_at files k)) (few : (k : ℕ) → k < length files → length (file_at files k) ≤ R.most) where
-    step : (B : ℕ → Bool) (k : ℕ) → k < length files → (x : List ℕ) → Writes R (content (R.font F) B) x → length x ≤ R.most
+      (are : (k : ℕ) → k < length files → Writes R (content (R.font F) (A k)) (file_at files k)) (few : (k : ℕ) → k < length files → length (file_at files k) ≤ R.limit) where
+    step : (B : ℕ → Bool) (k : ℕ) → k < length files → (x : List ℕ) → Writes R (content (R.font F) B) x → length x ≤ R.limit
         → CanJoin R x (file_at files k) × (joined R x (file_at files k) ≡ cut R F (either B (A k)))
     step B k low x w small = (
       CanJoin-cuts R law F h B (A k) x (file_at files k) w (are k low) small (few k low),
       joined-cuts R law F h B (A k) x (file_at files k) w (are k low) small (few k low),
     )
 
-    first_step : 0 < length files → (x : List ℕ) → x ≡ file_at files 0 → length x ≤ R.most
+    first_step : 0 < length files → (x : List ℕ) → x ≡ file_at files 0 → length x ≤ R.limit
         → CanJoin R x (file_at files 0) × (joined R x (file_at files 0) ≡ cut R F (union_below A 1))
     first_step some x p small = let w = step (A 0) 0 some x (subst (Writes R (content (R.font F) (A 0))) (sym p) (are 0 some)) small in (w.0, w.1 ∙ ap (cut R F) (either-once A))
 
@@ -124,7 +125,7 @@ module _ (R : Format) (law : IsFormat R) (files : List (List ℕ)) where
         ∙ (step (union_below A (suc k)) (suc k) low p.0 (inl (sym (grown-cuts k (omega arith) p.0 p.2))) (law.accepted_size p.0 p.4.first.accepted)).1
 
     -- and at each step the two can be joined
-    pub grown-joins : (k : ℕ) → k < length files → (x : List ℕ) → Value R (grown files k) x → length x ≤ R.most
+    pub grown-joins : (k : ℕ) → k < length files → (x : List ℕ) → Value R (grown files k) x → length x ≤ R.limit
         → CanJoin R x (file_at files k) × (joined R x (file_at files k) ≡ cut R F (union_below A (suc k)))
     grown-joins zero low x p small = first_step low x p small
     grown-joins (suc k) low x p small = step (union_below A (suc k)) (suc k) low x (inl (sym (grown-cuts k (omega arith) x p))) small

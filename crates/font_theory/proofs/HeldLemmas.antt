@@ -7,7 +7,7 @@ use Rattle.font_glyph.specs.Reach.{IsComponentOf, Reach}
 use Rattle.font_glyph.specs.Reach.Reach.{seed, part}
 use Rattle.font_glyph.specs.Union.{HoldsComponents}
 use Rattle.font_theory.specs.Bytes.{padded}
-use Rattle.font_theory.specs.Content.{KeepsComponents, Content, IsClosedContent, everything, is_kept, is_seed, seen}
+use Rattle.font_theory.specs.Content.{KeepsComponents, Content, IsClosedContent, everything, is_kept, is_seed, read_back}
 use Rattle.font_theory.proofs.PaddedLemmas.{IsRecord-nil}
 use Rattle.font_theory.proofs.WantedLemmas.{component-below, is_kept-decides, is_seed-code, is_seed-zero}
 
@@ -18,32 +18,32 @@ cases_option (Some a) = inr (a, refl)
 
 -- what a content's own codes reach in it
 abbrev pub IsHeld : Content → ℕ → Type 0
-IsHeld K g = Reach (seen K).outline (is_seed K.map) g
+IsHeld K g = Reach (read_back K).outline (is_seed K.map) g
 
 -- an empty record names nothing
 component-nil : (g : ℕ) → IsComponentOf [] g → ⊥
 component-nil g h = let low = component-below 0 [] g (IsRecord-nil 0) h in absurd (omega (arith, low))
 
 module _ (K : Content) (ok : IsClosedContent K) where
-  pub outline_is : (g : ℕ) → when (is_kept (seen K) everything g) (padded (unwrap_or (K.outline g) [])) ≡ K.outline g
+  pub outline_is : (g : ℕ) → when (is_kept (read_back K) everything g) (padded (unwrap_or (K.outline g) [])) ≡ K.outline g
   outline_is g = ap (λ C. C.outline g) ok.closed
 
   pub held-some : (g : ℕ) → IsHeld K g → (b : List ℕ) × (K.outline g ≡ Some b)
   held-some g r =
-      let e = (is_kept-decides (seen K) everything ok.font g).1 r in
+      let e = (is_kept-decides (read_back K) everything ok.font g).1 r in
       (padded (unwrap_or (K.outline g) []), sym (outline_is g) ∙ ap (λ x. when x (padded (unwrap_or (K.outline g) []))) e)
 
   pub some-held : (g : ℕ) (b : List ℕ) → K.outline g ≡ Some b → IsHeld K g
   some-held g b e =
-      elim (cases_Bool (is_kept (seen K) everything g)) [
-        | inl t ↦ (is_kept-decides (seen K) everything ok.font g).0 t
+      elim (cases_Bool (is_kept (read_back K) everything g)) [
+        | inl t ↦ (is_kept-decides (read_back K) everything ok.font g).0 t
         | inr f ↦
             let n : None ≡ Some b = sym (ap (λ x. when x (padded (unwrap_or (K.outline g) []))) f) ∙ outline_is g ∙ e in cc
       ]
 
   pub some-padded : (g : ℕ) (b : List ℕ) → K.outline g ≡ Some b → padded b ≡ b
   some-padded g b e =
-      let t = (is_kept-decides (seen K) everything ok.font g).1 (some-held g b e) in
+      let t = (is_kept-decides (read_back K) everything ok.font g).1 (some-held g b e) in
       let n : Some (padded b) ≡ Some b =
       sym (ap (λ o. Some (padded (unwrap_or o []))) e) ∙ sym (ap (λ x. when x (padded (unwrap_or (K.outline g) []))) t) ∙ outline_is g ∙ e in cc
 

@@ -5,13 +5,13 @@ use Rattle.std.specs.Option.{option_or}
 use Rattle.std.proofs.lemmas.Bool.{cases_lt, false_from_ne_true}
 use Rattle.std.proofs.lemmas.Bool.Decides.{same_from_decides, Decides-like, Decides-or, nat_tests}
 use Rattle.sfnt_bytes.specs.Lines.{when}
-use Rattle.character_map.specs.CharacterMap.{is_mapped, restricted, united}
-use Rattle.character_map.proofs.MapLemmas.{united-restricted, united-same, united-some, united-swapped}
+use Rattle.codes.specs.CharacterMap.{is_mapped, restricted, united}
+use Rattle.codes.proofs.MapLemmas.{united-restricted, united-same, united-some, united-swapped}
 use Rattle.font_glyph.specs.Reach.{IsComponentOf}
 use Rattle.font_glyph.specs.Reach.Reach.{seed, part}
 use Rattle.font_glyph.specs.Record.{IsRecord}
 use Rattle.font_theory.specs.Bytes.{padded}
-use Rattle.font_theory.specs.Content.{Content, Font, IsClosedContent, IsFont, content, everything, glyph_count, is_kept, is_seed, seen}
+use Rattle.font_theory.specs.Content.{Content, Font, IsClosedContent, IsFont, content, everything, glyph_count, is_kept, is_seed, read_back}
 use Rattle.font_theory.specs.Cut.{either}
 use Rattle.font_theory.specs.Join.{Agree, both}
 use Rattle.font_theory.proofs.ContentLemmas.{content-path, content-same}
@@ -61,14 +61,14 @@ in_left K L g b e = ap (λ o. option_or o (L.outline g)) e
 both-map : (K L : Content) (P : ℕ → Type 0) (c : ℕ) → P (K.map c) → P (L.map c) → P ((both K L).map c)
 both-map K L P c x y = elim (nat_eq (K.map c) 0) as (λ b. P (cond b (L.map c) (K.map c))) [ true ↦ y | false ↦ x ]
 
-pub both-outline : (K L : Content) (P : List ℕ → Type 0) (g : ℕ) → P ((seen K).outline g) → P ((seen L).outline g) → P ((seen (both K L)).outline g)
+pub both-outline : (K L : Content) (P : List ℕ → Type 0) (g : ℕ) → P ((read_back K).outline g) → P ((read_back L).outline g) → P ((read_back (both K L)).outline g)
 both-outline K L P g x y = go (K.outline g) x
   where
     go : (o : Option (List ℕ)) → P (unwrap_or o []) → P (unwrap_or (option_or o (L.outline g)) [])
     go None _ = y
     go (Some b) x' = x'
 
-pub IsFont-both : (K L : Content) → IsClosedContent K → IsClosedContent L → Agree K L → IsFont (seen (both K L))
+pub IsFont-both : (K L : Content) → IsClosedContent K → IsClosedContent L → Agree K L → IsFont (read_back (both K L))
 IsFont-both K L okK okL agree =
     let n : glyph_count L.copied ≡ glyph_count K.copied = sym (ap glyph_count (fun_ext agree.copied)) in
     record {
@@ -90,27 +90,27 @@ restricted-own : (m k : ℕ → ℕ) → restricted (is_mapped m) (united m k) �
 restricted-own m k = fun_ext (λ c. own_code (m c) (k c))
 
 module _ (K L : Content) (okK : IsClosedContent K) (okL : IsClosedContent L) (agree : Agree K L) where
-  seen-left : (g : ℕ) → IsHeld K g → (seen (both K L)).outline g ≡ (seen K).outline g
-  seen-left g r =
+  read_back-left : (g : ℕ) → IsHeld K g → (read_back (both K L)).outline g ≡ (read_back K).outline g
+  read_back-left g r =
       let w = held-some K okK g r in
       ap (λ o. unwrap_or o []) (in_left K L g w.0 w.1) ∙ sym (ap (λ o. unwrap_or o []) w.1)
 
   -- the union gives its first part back
-  pub content-left : content (seen (both K L)) (is_mapped K.map) ≡ K
+  pub content-left : content (read_back (both K L)) (is_mapped K.map) ≡ K
   content-left =
-      content-same _ (seen K) _ everything (IsFont-both K L okK okL agree) okK.font refl refl (restricted-own K.map L.map)
-      (λ g r. ap padded (seen-left g r))
+      content-same _ (read_back K) _ everything (IsFont-both K L okK okL agree) okK.font refl refl (restricted-own K.map L.map)
+      (λ g r. ap padded (read_back-left g r))
       ∙ okK.closed
 
-pub content-right : (K L : Content) → IsClosedContent K → IsClosedContent L → Agree K L → content (seen (both K L)) (is_mapped L.map) ≡ L
+pub content-right : (K L : Content) → IsClosedContent K → IsClosedContent L → Agree K L → content (read_back (both K L)) (is_mapped L.map) ≡ L
 content-right K L okK okL agree =
-    ap (λ C. content (seen C) (is_mapped L.map)) (both-swapped K L agree) ∙ content-left L K okL okK (Agree-sym K L agree)
+    ap (λ C. content (read_back C) (is_mapped L.map)) (both-swapped K L agree) ∙ content-left L K okL okK (Agree-sym K L agree)
 
 IsHeld-left : (K L : Content) → IsClosedContent K → IsClosedContent L → Agree K L → (g : ℕ) → IsHeld K g → IsHeld (both K L) g
 IsHeld-left K L okK okL agree =
     Reach-along _ _ _ _
     (is_seed-more _ _ (IsFont-both K L okK okL agree).mapped_codes (λ c. go c (cases_lt 0 (K.map c))))
-    (λ g h r p. subst (λ (b : List ℕ). IsComponentOf b h) (sym (seen-left K L okK okL agree g r)) p)
+    (λ g h r p. subst (λ (b : List ℕ). IsComponentOf b h) (sym (read_back-left K L okK okL agree g r)) p)
   where
     go : (c : ℕ) → ((0 < K.map c) ⊎ (K.map c ≤ 0)) → (K.map c ≡ 0) ⊎ (K.map c ≡ (both K L).map c)
     go c (inl some) = inr (sym (united-some K.map L.map c some))
@@ -135,10 +135,10 @@ IsHeld-split K L okK okL agree g (seed h) =
     ]
 IsHeld-split K L okK okL agree g (part {s = s} r p) =
     elim (IsHeld-split K L okK okL agree s r) [
-      | inl h ↦ inl (part h (subst (λ (b : List ℕ). IsComponentOf b g) (seen-left K L okK okL agree s h) p))
+      | inl h ↦ inl (part h (subst (λ (b : List ℕ). IsComponentOf b g) (read_back-left K L okK okL agree s h) p))
       | inr h ↦
-          let e : (seen (both K L)).outline s ≡ (seen L).outline s =
-          ap (λ C. (seen C).outline s) (both-swapped K L agree) ∙ seen-left L K okL okK (Agree-sym K L agree) s h in
+          let e : (read_back (both K L)).outline s ≡ (read_back L).outline s =
+          ap (λ C. (read_back C).outline s) (both-swapped K L agree) ∙ read_back-left L K okL okK (Agree-sym K L agree) s h in
           inr (part h (subst (λ (b : List ℕ). IsComponentOf b g) e p))
     ]
 
@@ -175,13 +175,13 @@ module _ (K L : Content) (okK : IsClosedContent K) (okL : IsClosedContent L) (ag
         closed = content-path refl refl refl (fun_ext (λ g. go g (cases_option (union.outline g))));
       }
     where
-      go : (g : ℕ) → ((union.outline g ≡ None) ⊎ ((b : List ℕ) × (union.outline g ≡ Some b))) → when (is_kept (seen union) everything g) (padded (unwrap_or (union.outline g) [])) ≡ union.outline g
+      go : (g : ℕ) → ((union.outline g ≡ None) ⊎ ((b : List ℕ) × (union.outline g ≡ Some b))) → when (is_kept (read_back union) everything g) (padded (unwrap_or (union.outline g) [])) ≡ union.outline g
       go g (inl e) =
-          let f = false_from_ne_true (is_kept (seen union) everything g) (λ t. held-union g ((is_kept-decides (seen union) everything (IsFont-both K L okK okL agree) g).0 t) e) in
+          let f = false_from_ne_true (is_kept (read_back union) everything g) (λ t. held-union g ((is_kept-decides (read_back union) everything (IsFont-both K L okK okL agree) g).0 t) e) in
           ap (λ x. when x (padded (unwrap_or (union.outline g) []))) f ∙ sym e
       go g (inr w) =
           let h = union-held g w.0 w.1 in
-          let t = (is_kept-decides (seen union) everything (IsFont-both K L okK okL agree) g).1 h.0 in
+          let t = (is_kept-decides (read_back union) everything (IsFont-both K L okK okL agree) g).1 h.0 in
           ap (λ x. when x (padded (unwrap_or (union.outline g) []))) t ∙ ap (λ o. Some (padded (unwrap_or o []))) w.1 ∙ ap Some h.1 ∙ sym w.1
 
 -- two contents of one font agree, and their union is its content for the codes of both

@@ -3,13 +3,13 @@ use Rattle.std.proofs.Common.{◌≡◌, ℕ, Bool, true, false, List, None, Som
 use Rattle.std.proofs.Math.Path.{fun_ext}
 use Rattle.sfnt_bytes.specs.Lines.{when}
 use Rattle.font_file.specs.Font.{font_fault}
-use Rattle.font_theory.specs.Content.{Content, Font, IsFont, content, everything, font_of, glyph_count, is_kept, seen, table_in_slot}
-use Rattle.font_theory.specs.Cut.{Arises, whole}
+use Rattle.font_theory.specs.Content.{Content, Font, IsFont, content, everything, font_of, glyph_count, is_kept, read_back, table_in_slot}
+use Rattle.font_theory.specs.Cut.{Arises, content_of_all}
 use Rattle.font_theory.specs.Join.{Agree, both}
 use Rattle.font_theory.specs.Lean.{AgreeLean, either_bytes, spelled_out, lean_format, metrics_at, thin, thin_copied, with_metrics}
 use Rattle.std.specs.Option.{option_map}
 use Rattle.std.proofs.lemmas.Bool.{ne_eqb}
-use Rattle.character_map.specs.CharacterMap.{united}
+use Rattle.codes.specs.CharacterMap.{united}
 use Rattle.font_glyph.specs.Union.{union_of}
 use Rattle.font_theory.proofs.ArisesLemmas.{IsClosed-arises}
 use Rattle.font_theory.proofs.LeanFormatLemmas.{IsLean-arises, lean_format-is}
@@ -69,7 +69,7 @@ module _ (F G : Font) (okF : IsFont F) (okG : IsFont G) where
         sym x.1 ∙ same-records F G okF okG (same_count agree.copied) g (agree.outline g x.0 y.0, agree.metrics g x.0 y.0) ∙ y.1;
   }
 
-pub agree-files : (X Y : List ℕ) → font_fault X ≡ None → font_fault Y ≡ None → (Agree (whole lean_format X) (whole lean_format Y) → AgreeLean (font_of X) (font_of Y)) × (AgreeLean (font_of X) (font_of Y) → Agree (whole lean_format X) (whole lean_format Y))
+pub agree-files : (X Y : List ℕ) → font_fault X ≡ None → font_fault Y ≡ None → (Agree (content_of_all lean_format X) (content_of_all lean_format Y) → AgreeLean (font_of X) (font_of Y)) × (AgreeLean (font_of X) (font_of Y) → Agree (content_of_all lean_format X) (content_of_all lean_format Y))
 unfolding lean_format
 agree-files X Y x y =
     (AgreeLean-from (font_of X) (font_of Y) (IsFont-accepted X x) (IsFont-accepted Y y), AgreeLean-to (font_of X) (font_of Y) (IsFont-accepted X x) (IsFont-accepted Y y))
@@ -79,7 +79,7 @@ agree-both : (K L M N : Content) → K ≡ M → L ≡ N → Agree K L → Agree
 agree-both K L M N p q h = subst (λ C. Agree M C) q (subst (λ C. Agree C L) p h)
 
 pub agree-contents : (K L : Content) → Arises lean_format K → Arises lean_format L
-    → (Agree K L → AgreeLean (seen (spelled_out K)) (seen (spelled_out L))) × (AgreeLean (seen (spelled_out K)) (seen (spelled_out L)) → Agree K L)
+    → (Agree K L → AgreeLean (read_back (spelled_out K)) (read_back (spelled_out L))) × (AgreeLean (read_back (spelled_out K)) (read_back (spelled_out L)) → Agree K L)
 agree-contents K L k l =
     let leanK = IsLean-arises K k in
     let leanL = IsLean-arises L l in
@@ -87,10 +87,10 @@ agree-contents K L k l =
     let closedL = IsClosed-arises lean_format lean_format-is.is_font L l in
     let fontK = IsFont-spelled K closedK.font leanK in
     let fontL = IsFont-spelled L closedL.font leanL in
-    let eK : content (thin (seen (spelled_out K))) everything ≡ K = ap (λ F. content F everything) (thin-spelled K leanK) ∙ closedK.closed in
-    let eL : content (thin (seen (spelled_out L))) everything ≡ L = ap (λ F. content F everything) (thin-spelled L leanL) ∙ closedL.closed in (
-      λ h. AgreeLean-from (seen (spelled_out K)) (seen (spelled_out L)) fontK fontL (agree-both K L _ _ (sym eK) (sym eL) h),
-      λ h. agree-both _ _ K L eK eL (AgreeLean-to (seen (spelled_out K)) (seen (spelled_out L)) fontK fontL h),
+    let eK : content (thin (read_back (spelled_out K))) everything ≡ K = ap (λ F. content F everything) (thin-spelled K leanK) ∙ closedK.closed in
+    let eL : content (thin (read_back (spelled_out L))) everything ≡ L = ap (λ F. content F everything) (thin-spelled L leanL) ∙ closedL.closed in (
+      λ h. AgreeLean-from (read_back (spelled_out K)) (read_back (spelled_out L)) fontK fontL (agree-both K L _ _ (sym eK) (sym eL) h),
+      λ h. agree-both _ _ K L eK eL (AgreeLean-to (read_back (spelled_out K)) (read_back (spelled_out L)) fontK fontL h),
     )
 
 -- and of what is written of both

@@ -10,7 +10,7 @@ use Rattle.font_glyph.specs.Reach.{IsComponentOf}
 use Rattle.font_glyph.specs.Record.{IsRecord}
 use Rattle.font_glyph.specs.Union.{record_in}
 use Rattle.font_theory.specs.Bytes.{padded}
-use Rattle.font_theory.specs.Content.{Content, Font, IsClosedContent, IsFont, content, everything, glyph_count, is_kept, seen}
+use Rattle.font_theory.specs.Content.{Content, Font, IsClosedContent, IsFont, content, everything, glyph_count, is_kept, read_back}
 use Rattle.font_theory.specs.Join.{Agree, both}
 use Rattle.font_theory.specs.Lean.{metrics_at, spelled_out, stripped, thin, thin_copied, with_metrics}
 use Rattle.font_theory.proofs.ContentLemmas.{content-path}
@@ -126,13 +126,13 @@ stripped-words b words =
     ]
 
 module _ (K : Content) (ok : IsClosedContent K) (lean : IsLean K) where
-  fontS : IsFont (seen (spelled_out K))
+  fontS : IsFont (read_back (spelled_out K))
   fontS = IsFont-spelled K ok.font lean
 
   abbrev own : ℕ → List ℕ
   own g = record_in K.outline g
 
-  spelled : (g : ℕ) → (seen (spelled_out K)).outline g ≡ stripped (own g)
+  spelled : (g : ℕ) → (read_back (spelled_out K)).outline g ≡ stripped (own g)
   spelled g = go (K.outline g)
     where
       go : (o : Option (List ℕ)) → unwrap_or (option_map stripped o) [] ≡ stripped (unwrap_or o [])
@@ -168,19 +168,19 @@ module _ (K : Content) (ok : IsClosedContent K) (lean : IsLean K) where
             subst (λ (b : List ℕ). IsComponentOf b h) (sym (ap stripped none ∙ stripped-nil ∙ sym none)) c
       ]
 
-  kept-spelled : (g : ℕ) → is_kept (seen (spelled_out K)) everything g ≡ is_kept (seen K) everything g
+  kept-spelled : (g : ℕ) → is_kept (read_back (spelled_out K)) everything g ≡ is_kept (read_back K) everything g
   kept-spelled g =
-      same_from_decides {P = IsKept (seen K) everything g} _ _
+      same_from_decides {P = IsKept (read_back K) everything g} _ _
       (Decides-like _
       (Reach-along _ _ _ _ (λ _ h. h) (λ s h r c. names_more s h (subst (λ (b : List ℕ). IsComponentOf b h) (spelled s) c)) g)
       (Reach-along _ _ _ _ (λ _ h. h) (λ s h r c. subst (λ (b : List ℕ). IsComponentOf b h) (sym (spelled s)) (names_less s h c)) g)
-      (is_kept-decides (seen (spelled_out K)) everything fontS g))
-      (is_kept-decides (seen K) everything ok.font g)
+      (is_kept-decides (read_back (spelled_out K)) everything fontS g))
+      (is_kept-decides (read_back K) everything ok.font g)
 
-  outline-again : (g : ℕ) → when (is_kept (seen (spelled_out K)) everything g) (padded ((seen (spelled_out K)).outline g)) ≡ option_map stripped (K.outline g)
+  outline-again : (g : ℕ) → when (is_kept (read_back (spelled_out K)) everything g) (padded ((read_back (spelled_out K)).outline g)) ≡ option_map stripped (K.outline g)
   outline-again g =
       (λ i. when (kept-spelled g i) (padded (spelled g i)))
-      ∙ go (is_kept (seen K) everything g) (outline_is K ok g)
+      ∙ go (is_kept (read_back K) everything g) (outline_is K ok g)
     where
       go : (kept : Bool) → when kept (padded (own g)) ≡ K.outline g → when kept (padded (stripped (own g))) ≡ option_map stripped (K.outline g)
       go false e = ap (option_map stripped) e

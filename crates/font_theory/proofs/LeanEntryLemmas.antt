@@ -6,7 +6,7 @@ use Rattle.std.proofs.lemmas.Bool.{and_parts, cases_lt, le-leb, le-ltb, leb-true
 use Rattle.std.proofs.lemmas.Bool.Decides.{nat_tests}
 use Rattle.std.proofs.lemmas.List.{ext_get_or, get_or_past}
 use Rattle.std.proofs.lemmas.List.FromFn.{get_or-map-range_with_len, length-map-range_with_len}
-use Rattle.character_map.proofs.MapLemmas.{same_cond}
+use Rattle.codes.proofs.MapLemmas.{same_cond}
 use Rattle.font_glyph.specs.Union.{Records, record_in}
 use Rattle.font_theory.specs.Lean.{blank, cleared, entry_at, entry_size, holder, is_entry, laid, metric_bytes, within}
 

@@ -3,8 +3,8 @@ use Rattle.std.proofs.Common.{◌≡◌, ◌≢◌, ℕ, ◌<◌, ◌≤◌, ◌
 use Rattle.std.proofs.Math.Bool.{and_comm}
 use Rattle.std.proofs.Math.Path.{fun_ext}
 use Rattle.std.proofs.lemmas.Bool.{eqb-true, ne_eqb}
-use Rattle.character_map.specs.CharacterMap.{restricted, united}
-use Rattle.character_map.proofs.MapLemmas.{restricted-restricted}
+use Rattle.codes.specs.CharacterMap.{restricted, united}
+use Rattle.codes.proofs.MapLemmas.{restricted-restricted}
 use Rattle.sfnt_bytes.specs.Findings.{findings_of}
 use Rattle.sfnt_bytes.specs.declared.directory.TheConstants.{MAX_FILE}
 use Rattle.font_tables.specs.Fields.{glyph_count_of}
@@ -12,15 +12,15 @@ use Rattle.font_tables.specs.Outlines.{outline_of}
 use Rattle.font_file.specs.Font.{font_fault, map_of}
 use Rattle.font_glyph.specs.Reach.{Reach}
 use Rattle.font_theory.specs.Bytes.{padded}
-use Rattle.font_theory.specs.Content.{Content, Font, IsClosedContent, IsFont, content, everything, font_of, glyph_count, is_kept, seen, table_in_slot}
-use Rattle.font_theory.specs.Cut.{Arises, IsCurrent, Writes, cut, our_format, whole}
-use Rattle.font_theory.specs.File.{current_form, file}
+use Rattle.font_theory.specs.Content.{Content, Font, IsClosedContent, IsFont, content, everything, font_of, glyph_count, is_kept, read_back, table_in_slot}
+use Rattle.font_theory.specs.Cut.{Arises, IsCurrent, Writes, cut, our_format, content_of_all}
+use Rattle.font_theory.specs.File.{current_layout, file}
 use Rattle.font_theory.specs.Join.{Agree, both}
 use Rattle.std.specs.Option.{option_map}
 use Rattle.font_theory.proofs.ArisesLemmas.{IsClosed-arises}
 use Rattle.font_theory.proofs.LeanJoinLemmas.{hmtx-both, outline-both, vmtx-both}
 use Rattle.font_theory.specs.Lean.{either_bytes, lean_file, lean_format, metrics_at, spelled_copied, spelled_out, thin, with_metrics}
-use Rattle.font_theory.proofs.ContentLemmas.{IsClosed-content, IsFont-seen, IsKept-less, IsKept-wanted, content-same, seen-reached}
+use Rattle.font_theory.proofs.ContentLemmas.{IsClosed-content, IsFont-read_back, IsKept-less, IsKept-wanted, content-same, read_back-reached}
 use Rattle.font_theory.proofs.CutLemmas.{font-cut}
 use Rattle.font_theory.proofs.FileWantedLemmas.{Reach-font, outline-file}
 use Rattle.font_theory.proofs.FindingLemmas.{findings_of-file}
@@ -56,22 +56,22 @@ module _ (font : List ℕ) (wanted : ℕ → Bool) (accepted : font_fault font �
   cut-lean_file = refl
 
   -- a lean cut is accepted, and what is spelled of the lean content is read of it
-  pub font_of-lean_cut : (made : List ℕ) → made ≡ cut lean_format font wanted → length made ≤ MAX_FILE → (font_fault made ≡ None) × (font_of made ≡ seen (spelled_out lean_content))
+  pub font_of-lean_cut : (made : List ℕ) → made ≡ cut lean_format font wanted → length made ≤ MAX_FILE → (font_fault made ≡ None) × (font_of made ≡ read_back (spelled_out lean_content))
   font_of-lean_cut made is small = reads-spelled lean_content made closed (IsLean-content (font_of font) wanted ok) (sym (is ∙ cut-lean_file)) small
 
   -- nothing is found in it
   pub findings_of-lean : (made : List ℕ) → made ≡ cut lean_format font wanted → findings_of made ≡ []
   findings_of-lean made is =
       ap findings_of (is ∙ cut-lean_file)
-      ∙ findings_of-file current_form (spelled_out lean_content) (IsWritable-closed (spelled_out lean_content) (IsClosed-spelled lean_content closed (IsLean-content (font_of font) wanted ok)))
+      ∙ findings_of-file current_layout (spelled_out lean_content) (IsWritable-closed (spelled_out lean_content) (IsClosed-spelled lean_content closed (IsLean-content (font_of font) wanted ok)))
 
   -- it is no longer than an ordinary cut
   pub length-lean_cut : length (cut lean_format font wanted) ≤ length (cut our_format font wanted)
   unfolding lean_format our_format
-  length-lean_cut = length-lean (font_of font) ok wanted current_form
+  length-lean_cut = length-lean (font_of font) ok wanted current_layout
 
 -- a file of which a lean content of an accepted one is read back
-module _ (font other : List ℕ) (wanted : ℕ → Bool) (accepted : font_fault font ≡ None) (same : font_of other ≡ seen (spelled_out (content (thin (font_of font)) wanted))) where
+module _ (font other : List ℕ) (wanted : ℕ → Bool) (accepted : font_fault font ≡ None) (same : font_of other ≡ read_back (spelled_out (content (thin (font_of font)) wanted))) where
   pub glyph_count_of-lean : glyph_count_of other ≡ glyph_count_of font
   glyph_count_of-lean = sym (glyph_count-file other) ∙ ap (λ F. glyph_count F.copied) same ∙ glyph_count-lean (font_of font) (IsFont-accepted font accepted) wanted ∙ glyph_count-file font
 
@@ -79,7 +79,7 @@ module _ (font other : List ℕ) (wanted : ℕ → Bool) (accepted : font_fault 
   map_of-lean = ap (λ F. F.map) same
 
   -- its outlines are those of the ordinary content
-  pub outline-read : (g : ℕ) → (font_of other).outline g ≡ (seen (content (font_of font) wanted)).outline g
+  pub outline-read : (g : ℕ) → (font_of other).outline g ≡ (read_back (content (font_of font) wanted)).outline g
   outline-read g = ap (λ F. F.outline g) same ∙ ap (λ o. unwrap_or (o g) []) (outline-lean (font_of font) (IsFont-accepted font accepted) wanted)
 
   pub outline_of-lean : (c : ℕ) → wanted c ≡ true → (g : ℕ) → Reach (outline_of font) (nat_eq (map_of font c)) g → outline_of other g ≡ padded (outline_of font g)
@@ -90,24 +90,24 @@ module _ (font other : List ℕ) (wanted : ℕ → Bool) (accepted : font_fault 
       let w = Reach-font font accepted _ below g r in
       sym (outline-file other g (subst (λ (n : ℕ). g < n) (sym glyph_count_of-lean) w.1))
       ∙ outline-read g
-      ∙ seen-reached (font_of font) wanted ok g (IsKept-wanted (font_of font) wanted ok c h g w.0)
+      ∙ read_back-reached (font_of font) wanted ok g (IsKept-wanted (font_of font) wanted ok c h g w.0)
       ∙ ap padded (outline-file font g w.1)
 
 -- the lean content of an ordinary content is that of the font, for the codes in both
 module _ (F : Font) (ok : IsFont F) (A B : ℕ → Bool) where
-  same-outline : (g : ℕ) → IsKept (thin F) (λ c. A c && B c) g → (thin (seen (content F A))).outline g ≡ (thin F).outline g
+  same-outline : (g : ℕ) → IsKept (thin F) (λ c. A c && B c) g → (thin (read_back (content F A))).outline g ≡ (thin F).outline g
   same-outline g r =
       let low = below F ok (λ c. A c && B c) g r in
       let kept : is_kept F (λ c. A c && B c) g ≡ true = sym (is_kept-thin F ok (λ c. A c && B c) g) ∙ (is_kept-decides (thin F) (λ c. A c && B c) (IsFont-thin F ok) g).1 r in
-      let own = seen-reached F A ok g (IsKept-less F A B ok g ((is_kept-decides F (λ c. A c && B c) ok g).0 kept)) in
-      outline-thin (seen (content F A)) (IsFont-seen F A ok) g low
+      let own = read_back-reached F A ok g (IsKept-less F A B ok g ((is_kept-decides F (λ c. A c && B c) ok g).0 kept)) in
+      outline-thin (read_back (content F A)) (IsFont-read_back F A ok) g low
       ∙ ap (λ (o : List ℕ). with_metrics o (metrics_at F.copied g)) own
       ∙ with_metrics-padded (glyph_count F.copied) (F.outline g) (metrics_at F.copied g) (ok.records g)
       ∙ sym (outline-thin F ok g low)
 
-  pub content-thin_seen : content (thin (seen (content F A))) B ≡ content (thin F) (λ c. A c && B c)
+  pub content-thin_seen : content (thin (read_back (content F A))) B ≡ content (thin F) (λ c. A c && B c)
   content-thin_seen =
-      content-same _ _ _ _ (IsFont-thin (seen (content F A)) (IsFont-seen F A ok)) (IsFont-thin F ok) refl refl
+      content-same _ _ _ _ (IsFont-thin (read_back (content F A)) (IsFont-read_back F A ok)) (IsFont-thin F ok) refl refl
       (restricted-restricted B A F.map ∙ ap (λ (w : ℕ → Bool). restricted w F.map) (fun_ext (λ c. and_comm (B c) (A c))))
       (λ g r. ap padded (same-outline g r))
 
@@ -122,16 +122,16 @@ cut-lean_cut font accepted A X w small B =
 -- a file that is a lean cut is an ordinary one too
 pub IsCurrent-ordinary : (X : List ℕ) → IsCurrent lean_format X → IsCurrent our_format X
 unfolding our_format lean_format
-IsCurrent-ordinary X form =
-    let accepted : font_fault X ≡ None = form.accepted in
+IsCurrent-ordinary X layout =
+    let accepted : font_fault X ≡ None = layout.accepted in
     let K : Content = content (thin (font_of X)) everything in
     let ok = IsFont-accepted X accepted in
     let closed = IsClosed-content (thin (font_of X)) everything (IsFont-thin (font_of X) ok) in
     let lean = IsLean-content (font_of X) everything ok in
-    let read = reads-spelled K X closed lean form.written (size-accepted X accepted) in
+    let read = reads-spelled K X closed lean layout.written (size-accepted X accepted) in
     record {
       accepted = accepted;
-      written = ap (λ G. file current_form (content G everything)) read.1 ∙ ap (file current_form) (IsClosed-spelled K closed lean).closed ∙ form.written;
+      written = ap (λ G. file current_layout (content G everything)) read.1 ∙ ap (file current_layout) (IsClosed-spelled K closed lean).closed ∙ layout.written;
     }
 
 -- what accepted files come to is closed once it is spelled
@@ -139,50 +139,50 @@ pub IsClosed-lean : (K : Content) → Arises lean_format K → IsClosedContent (
 IsClosed-lean K arises = IsClosed-spelled K (IsClosed-arises lean_format lean_format-is.is_font K arises) (IsLean-arises K arises)
 
 -- what is read of a file in lean cut form is spelled of its lean content
-pub read-current : (X : List ℕ) → IsCurrent lean_format X → (font_of X ≡ seen (spelled_out (whole lean_format X))) × IsLean (whole lean_format X)
+pub read-current : (X : List ℕ) → IsCurrent lean_format X → (font_of X ≡ read_back (spelled_out (content_of_all lean_format X))) × IsLean (content_of_all lean_format X)
 unfolding lean_format
-read-current X form =
-    let accepted : font_fault X ≡ None = form.accepted in
+read-current X layout =
+    let accepted : font_fault X ≡ None = layout.accepted in
     let ok = IsFont-accepted X accepted in
     let K : Content = content (thin (font_of X)) everything in
     let lean = IsLean-content (font_of X) everything ok in
-    ((reads-spelled K X (IsClosed-content (thin (font_of X)) everything (IsFont-thin (font_of X) ok)) lean form.written (size-accepted X accepted)).1, lean)
+    ((reads-spelled K X (IsClosed-content (thin (font_of X)) everything (IsFont-thin (font_of X) ok)) lean layout.written (size-accepted X accepted)).1, lean)
 
 -- `hmtx` and `vmtx` of a join of lean cuts: those of both, byte by byte
-pub tables-joined : (X Y : List ℕ) → IsCurrent lean_format X → IsCurrent lean_format Y → Agree (whole lean_format X) (whole lean_format Y)
-    → (spelled_copied (both (whole lean_format X) (whole lean_format Y)) HMTX ≡ option_map (λ x. either_bytes x (table_in_slot (font_of Y).copied HMTX)) ((font_of X).copied HMTX))
-    × (spelled_copied (both (whole lean_format X) (whole lean_format Y)) VMTX ≡ option_map (λ x. either_bytes x (table_in_slot (font_of Y).copied VMTX)) ((font_of X).copied VMTX))
+pub tables-joined : (X Y : List ℕ) → IsCurrent lean_format X → IsCurrent lean_format Y → Agree (content_of_all lean_format X) (content_of_all lean_format Y)
+    → (spelled_copied (both (content_of_all lean_format X) (content_of_all lean_format Y)) HMTX ≡ option_map (λ x. either_bytes x (table_in_slot (font_of Y).copied HMTX)) ((font_of X).copied HMTX))
+    × (spelled_copied (both (content_of_all lean_format X) (content_of_all lean_format Y)) VMTX ≡ option_map (λ x. either_bytes x (table_in_slot (font_of Y).copied VMTX)) ((font_of X).copied VMTX))
 tables-joined X Y formX formY agree =
     let x = read-current X formX in
     let y = read-current Y formY in (
-      hmtx-both (whole lean_format X) (whole lean_format Y) agree x.1 ∙ (λ i. option_map (λ t. either_bytes t (table_in_slot (sym y.0 i).copied HMTX)) ((sym x.0 i).copied HMTX)),
-      vmtx-both (whole lean_format X) (whole lean_format Y) agree x.1 ∙ (λ i. option_map (λ t. either_bytes t (table_in_slot (sym y.0 i).copied VMTX)) ((sym x.0 i).copied VMTX)),
+      hmtx-both (content_of_all lean_format X) (content_of_all lean_format Y) agree x.1 ∙ (λ i. option_map (λ t. either_bytes t (table_in_slot (sym y.0 i).copied HMTX)) ((sym x.0 i).copied HMTX)),
+      vmtx-both (content_of_all lean_format X) (content_of_all lean_format Y) agree x.1 ∙ (λ i. option_map (λ t. either_bytes t (table_in_slot (sym y.0 i).copied VMTX)) ((sym x.0 i).copied VMTX)),
     )
 
 -- the other parts of a join
 pub parts-joined : (X Y : List ℕ) → IsCurrent lean_format X → IsCurrent lean_format Y
-    → ((spelled_out (both (whole lean_format X) (whole lean_format Y))).head ≡ (font_of X).head)
-    × ((spelled_out (both (whole lean_format X) (whole lean_format Y))).map ≡ united (font_of X).map (font_of Y).map)
-    × ((spelled_out (both (whole lean_format X) (whole lean_format Y))).outline ≡ union_of (spelled_out (whole lean_format X)).outline (spelled_out (whole lean_format Y)).outline)
+    → ((spelled_out (both (content_of_all lean_format X) (content_of_all lean_format Y))).head ≡ (font_of X).head)
+    × ((spelled_out (both (content_of_all lean_format X) (content_of_all lean_format Y))).map ≡ united (font_of X).map (font_of Y).map)
+    × ((spelled_out (both (content_of_all lean_format X) (content_of_all lean_format Y))).outline ≡ union_of (spelled_out (content_of_all lean_format X)).outline (spelled_out (content_of_all lean_format Y)).outline)
 parts-joined X Y formX formY =
     let x = read-current X formX in
     let y = read-current Y formY in
-    (sym (ap (λ F. F.head) x.0), (λ i. united (sym x.0 i).map (sym y.0 i).map), outline-both (whole lean_format X) (whole lean_format Y))
+    (sym (ap (λ F. F.head) x.0), (λ i. united (sym x.0 i).map (sym y.0 i).map), outline-both (content_of_all lean_format X) (content_of_all lean_format Y))
 
 pub other-joined : (X Y : List ℕ) → IsCurrent lean_format X → IsCurrent lean_format Y → (slot : ℕ) → slot ≢ HMTX → slot ≢ VMTX
-    → (spelled_out (both (whole lean_format X) (whole lean_format Y))).copied slot ≡ (font_of X).copied slot
+    → (spelled_out (both (content_of_all lean_format X) (content_of_all lean_format Y))).copied slot ≡ (font_of X).copied slot
 other-joined X Y formX formY slot a b =
-    let K = whole lean_format X in
+    let K = content_of_all lean_format X in
     let x = read-current X formX in
     let e = ne_eqb slot HMTX a in
     let h = ne_eqb slot VMTX b in
-    spelled_copied-other (both K (whole lean_format Y)) slot e h ∙ sym (spelled_copied-other K slot e h) ∙ sym (ap (λ F. F.copied slot) x.0)
+    spelled_copied-other (both K (content_of_all lean_format Y)) slot e h ∙ sym (spelled_copied-other K slot e h) ∙ sym (ap (λ F. F.copied slot) x.0)
 
 -- the ordinary content of a lean cut is what is spelled of its lean one
-pub whole-ordinary : (X : List ℕ) → IsCurrent lean_format X → whole our_format X ≡ spelled_out (whole lean_format X)
+pub content_of_all-ordinary : (X : List ℕ) → IsCurrent lean_format X → content_of_all our_format X ≡ spelled_out (content_of_all lean_format X)
 unfolding our_format lean_format
-whole-ordinary X form =
-    let accepted : font_fault X ≡ None = form.accepted in
+content_of_all-ordinary X layout =
+    let accepted : font_fault X ≡ None = layout.accepted in
     let ok = IsFont-accepted X accepted in
     let K : Content = content (thin (font_of X)) everything in
-    ap (λ G. content G everything) (read-current X form).0 ∙ (IsClosed-spelled K (IsClosed-content (thin (font_of X)) everything (IsFont-thin (font_of X) ok)) (IsLean-content (font_of X) everything ok)).closed
+    ap (λ G. content G everything) (read-current X layout).0 ∙ (IsClosed-spelled K (IsClosed-content (thin (font_of X)) everything (IsFont-thin (font_of X) ok)) (IsLean-content (font_of X) everything ok)).closed

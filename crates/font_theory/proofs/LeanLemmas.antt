@@ -5,7 +5,7 @@ use Rattle.std.proofs.lemmas.Bool.{cases_lt, le-ltb, lt-ltb}
 use Rattle.std.proofs.lemmas.List.{get_or-append-add, get_or_append_left, length-append}
 use Rattle.font_glyph.specs.Record.{IsRecord}
 use Rattle.font_glyph.specs.Union.{record_in}
-use Rattle.font_theory.specs.Content.{Content, Font, IsFont, glyph_count, seen, table_in_slot}
+use Rattle.font_theory.specs.Content.{Content, Font, IsFont, glyph_count, read_back, table_in_slot}
 use Rattle.font_theory.specs.Lean.{blank, entry_at, metric_bytes, metrics_at, pairs_in, spelled_copied, spelled_out, stripped, thin, thin_copied, with_metrics}
 use Rattle.font_theory.proofs.LeanCopiedLemmas.{IsFont-alike, are_there, glyph_count-alike, pairs_in-across, pairs_in-down, AreAlike-spelled, spelled_copied-hmtx, spelled_copied-vmtx, AreAlike-thin, thin_copied-hmtx, thin_copied-vmtx, thin_copied-spelled}
 use Rattle.font_theory.proofs.LeanEntryLemmas.{AreThere, byte_from, four, four-same, get_or-four, length-metric_bytes, metric_bytes-blank, metric_bytes-is, metric_bytes-laid, entry_size-four}
@@ -107,7 +107,7 @@ record-spelled : (o : Option (List ℕ)) → unwrap_or (option_map stripped o) [
 record-spelled None = sym stripped-nil
 record-spelled (Some b) = refl
 
-outline-spelled : (K : Content) (g : ℕ) → (thin (seen (spelled_out K))).outline g ≡ read_record K.copied (record_in K.outline g) g
+outline-spelled : (K : Content) (g : ℕ) → (thin (read_back (spelled_out K))).outline g ≡ read_record K.copied (record_in K.outline g) g
 outline-spelled K g =
     elim (cases_lt g (glyph_count K.copied)) [
       | inl low ↦
@@ -124,7 +124,7 @@ outline-spelled K g =
     ]
 
 -- what is spelled of a lean content is read as the content
-pub thin-spelled : (K : Content) → IsLean K → thin (seen (spelled_out K)) ≡ seen K
+pub thin-spelled : (K : Content) → IsLean K → thin (read_back (spelled_out K)) ≡ read_back K
 thin-spelled K lean = λ i. record {
   copied = (thin_copied-spelled K ∙ lean.copied) i;
   head = K.head;
@@ -133,9 +133,9 @@ thin-spelled K lean = λ i. record {
 }
 
 -- and is a font
-pub IsFont-spelled : (K : Content) → IsFont (seen K) → IsLean K → IsFont (seen (spelled_out K))
+pub IsFont-spelled : (K : Content) → IsFont (read_back K) → IsLean K → IsFont (read_back (spelled_out K))
 IsFont-spelled K ok lean =
-    IsFont-alike (seen K) (seen (spelled_out K)) ok refl refl (AreAlike-spelled K)
+    IsFont-alike (read_back K) (read_back (spelled_out K)) ok refl refl (AreAlike-spelled K)
     (λ g. subst (IsRecord (glyph_count K.copied)) (sym (record-spelled (K.outline g))) (lean.records g))
 
 -- a lean reader takes a font for a font

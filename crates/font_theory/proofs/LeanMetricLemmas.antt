@@ -7,7 +7,7 @@ use Rattle.font_tables.specs.Fields.{number_of_h_metrics}
 use Rattle.font_tables.specs.Metrics.{advance_width, i16_at, left_side_bearing, lsb, metric_in, metric_of}
 use Rattle.font_file.specs.Font.{font_fault}
 use Rattle.font_glyph.specs.Union.{Records, record_in}
-use Rattle.font_theory.specs.Content.{Content, Font, IsFont, content, font_of, glyph_count, is_kept, metric_count, seen, table_in_slot}
+use Rattle.font_theory.specs.Content.{Content, Font, IsFont, content, font_of, glyph_count, is_kept, metric_count, read_back, table_in_slot}
 use Rattle.font_theory.specs.Lean.{blank, entry_at, entry_size, holder, is_entry, laid, metric_bytes, metrics_at, pairs_in, spelled_copied, spelled_out, thin, thin_copied, within}
 use Rattle.font_theory.proofs.FontLemmas.{IsFont-accepted, hmtx-slot, metric_count-file}
 use Rattle.font_theory.proofs.LeanCopiedLemmas.{are_there, glyph_count-alike, metric_count-alike, pairs_in-across, AreAlike-spelled, spelled_copied-hmtx, AreAlike-thin, thin_copied-hmtx}
@@ -201,7 +201,7 @@ module _ (F : Font) (ok : IsFont F) (A : ℕ → Bool) where
 
 -- a file of which a lean content of an accepted one is read back has the metrics of that one, where a glyph
 -- is kept
-pub metric_of-lean : (file other : List ℕ) (wanted : ℕ → Bool) → font_fault file ≡ None → font_of other ≡ seen (spelled_out (content (thin (font_of file)) wanted))
+pub metric_of-lean : (file other : List ℕ) (wanted : ℕ → Bool) → font_fault file ≡ None → font_of other ≡ read_back (spelled_out (content (thin (font_of file)) wanted))
     → (g : ℕ) → is_kept (font_of file) wanted g ≡ true → metric_of other g ≡ metric_of file g
 metric_of-lean file other wanted accepted same g kept =
     metric_of-tables other g

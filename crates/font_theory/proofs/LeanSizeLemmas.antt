@@ -3,12 +3,12 @@ use Rattle.std.proofs.Common.{◌≡◌, ℕ, zero, suc, ◌+◌, ◌-◌, ◌%�
 use Rattle.std.specs.List.{range_with_len}
 use Rattle.std.specs.Option.{option_map}
 use Rattle.std.proofs.Math.Path.{fun_ext}
-use Rattle.sfnt_bytes.specs.Lines.{present}
-use Rattle.character_map.specs.declared.runs.Run.{Run}
+use Rattle.sfnt_bytes.specs.Lines.{said_lines}
+use Rattle.codes.specs.declared.runs.Run.{Run}
 use Rattle.font_glyph.specs.Union.{record_in}
 use Rattle.font_theory.specs.Bytes.{padded}
 use Rattle.font_theory.specs.Content.{Content, Font, IsFont, content, glyph_count}
-use Rattle.font_theory.specs.File.{Form, file, glyf_bytes, groups_of_content, outlines_of, padded_length, size_of}
+use Rattle.font_theory.specs.File.{Layout, file, glyf_bytes, groups_of_content, outlines_of, padded_length, size_of}
 use Rattle.font_theory.specs.Lean.{blank, laid, pairs_in, spelled_copied, spelled_out, thin, thin_copied, thin_post}
 use Rattle.font_theory.proofs.ContentLemmas.{IsClosed-content}
 use Rattle.font_theory.proofs.LeanContentLemmas.{IsClosed-spelled, IsLean-content}
@@ -18,7 +18,7 @@ use Rattle.font_theory.proofs.LeanEntryLemmas.{length-blank, length-laid}
 use Rattle.font_theory.proofs.LeanLemmas.{IsFont-thin}
 use Rattle.font_theory.proofs.LeanMetricLemmas.{glyph_count-lean}
 use Rattle.font_theory.proofs.PaddingLemmas.{length-padded-is}
-use Rattle.font_theory.proofs.SizeLemmas.{length-file, length-present-total, one_of, sum-map, total}
+use Rattle.font_theory.proofs.SizeLemmas.{length-file, length-said_lines-total, one_of, sum-map, total}
 use Rattle.font_theory.proofs.WritableLemmas.{IsWritable-closed}
 use Rattle.sfnt_bytes.specs.declared.tag.TheConstants.{HHEA, HMTX}
 use Rattle.font_theory.specs.declared.slots.TheConstants.{POST, VHEA, VMTX}
@@ -68,9 +68,9 @@ total-more f g k zero h = omega arith
 total-more f g k (suc n) h = omega (arith, h k, total-more f g (k + 1) n h)
 
 module _ (c d : ℕ → Option (List ℕ)) (each : (slot : ℕ) → IsNoLonger (c slot) (d slot)) where
-  count-all : length (present (map c (range_with_len 0 16))) ≡ length (present (map d (range_with_len 0 16)))
+  count-all : length (said_lines (map c (range_with_len 0 16))) ≡ length (said_lines (map d (range_with_len 0 16)))
   count-all =
-      length-present-total c 0 16 ∙ ap (λ f. total f 0 16) (fun_ext (λ slot. count-same (c slot) (d slot) (each slot))) ∙ sym (length-present-total d 0 16)
+      length-said_lines-total c 0 16 ∙ ap (λ f. total f 0 16) (fun_ext (λ slot. count-same (c slot) (d slot) (each slot))) ∙ sym (length-said_lines-total d 0 16)
 
   bytes-all : sum (map (λ slot. padded_length (c slot)) (range_with_len 0 16)) ≤ sum (map (λ slot. padded_length (d slot)) (range_with_len 0 16))
   bytes-all =
@@ -115,21 +115,21 @@ module _ (F : Font) (ok : IsFont F) (A : ℕ → Bool) where
   unfolding groups_of_content
   groups-lean = refl
 
-  size-lean : (form : Form) → size_of form S ≤ size_of form O
+  size-lean : (layout : Layout) → size_of layout S ≤ size_of layout O
   unfolding size_of
-  size-lean form =
+  size-lean layout =
       let count = count-all S.copied O.copied no_longer in
       let bytes = bytes-all S.copied O.copied no_longer in
       let glyphs = glyph_count-lean F ok A in
       let groups = ap (λ (l : List Run). length l) groups-lean in
-      let front = ap (λ (l : List Run). length (form.front (length l))) groups-lean in
-      let glyf = ap (λ (l : List (List ℕ)). length (padded (glyf_bytes form l))) outlines-lean in
+      let front = ap (λ (l : List Run). length (layout.front (length l))) groups-lean in
+      let glyf = ap (λ (l : List (List ℕ)). length (padded (glyf_bytes layout l))) outlines-lean in
       omega arith
 
-  pub length-lean : (form : Form) → length (file form S) ≤ length (file form O)
-  length-lean form =
+  pub length-lean : (layout : Layout) → length (file layout S) ≤ length (file layout O)
+  length-lean layout =
       let closed = IsClosed-content (thin F) A (IsFont-thin F ok) in
-      let s = length-file form S (IsWritable-closed S (IsClosed-spelled (content (thin F) A) closed (IsLean-content F A ok))) in
-      let o = length-file form O (IsWritable-closed O (IsClosed-content F A ok)) in
-      let size = size-lean form in
+      let s = length-file layout S (IsWritable-closed S (IsClosed-spelled (content (thin F) A) closed (IsLean-content F A ok))) in
+      let o = length-file layout O (IsWritable-closed O (IsClosed-content F A ok)) in
+      let size = size-lean layout in
       omega arith

@@ -10,8 +10,8 @@ pub mod DirectoryLemmas
 pub mod FileWantedLemmas
 pub mod FindingLemmas
 pub mod FontLemmas
-pub mod FormLemmas
-pub mod FormSizeLemmas
+pub mod LayoutLemmas
+pub mod LayoutSizeLemmas
 pub mod FormatLemmas
 pub mod FrontLemmas
 pub mod GrownLemmas

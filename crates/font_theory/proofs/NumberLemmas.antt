@@ -1,4 +1,4 @@
--- Numbers that are written as bytes are read back, also behind other bytes.
+-- Numbers that are written as bytes are read back, also after other bytes.
 use Rattle.std.proofs.Common.{◌≡◌, ℕ, zero, suc, ◌+◌, ◌*◌, ◌/◌, ◌%◌, ◌<◌, List, [], ◌∷◌, ◌++◌, get_or, drop, length, refl, ap, ◌∙◌, sym, arith, flat_map}
 use Rattle.std.proofs.lemmas.List.{get_or-drop}
 use Rattle.sfnt_bytes.specs.Number.{number, u16_at, u32_at}
@@ -15,11 +15,11 @@ pub u32_at-bytes32 : (n : ℕ) (z : List ℕ) → u32_at (bytes32 n ++ z) 0 ≡ 
 unfolding u32_at
 u32_at-bytes32 n z = omega arith
 
--- a byte behind what is left out
+-- a byte after what is left out
 byte-drop : (k at : ℕ) (b : List ℕ) (j : ℕ) → get_or (drop k b) (at + j) 0 ≡ get_or b (k + at + j) 0
 byte-drop k at b j = let same : k + (at + j) ≡ k + at + j = omega arith in get_or-drop k b (at + j) 0 ∙ ap (λ (i : ℕ). get_or b i 0) same
 
--- a number behind what is left out
+-- a number after what is left out
 pub u16_at-drop : (k at : ℕ) (b : List ℕ) → u16_at (drop k b) at ≡ u16_at b (k + at)
 unfolding u16_at
 u16_at-drop k at b = let first = get_or-drop k b at 0 in let second = byte-drop k at b 1 in λ i. first i * 256 + second i

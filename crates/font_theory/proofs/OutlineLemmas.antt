@@ -44,7 +44,7 @@ offset_at-loca_bytes outlines i low =
     ap (λ (b : List ℕ). u32_at b (4 * i)) (sym (append-nil (loca_bytes outlines)))
     ∙ u32_at-flat_map offsets [] i (omega arith) ∙ offsets_from-at outlines 0 i low ∙ zero-add (start_of i outlines)
 
--- an outline stands between its offsets, whatever stands behind the outlines
+-- an outline stands between its offsets, whatever stands after the outlines
 slice_of : (outlines : List (List ℕ)) (g : ℕ) (z : List ℕ) → g < length outlines → slice_range (concat outlines ++ z) (start_of g outlines) (start_of (g + 1) outlines) ≡ get_or outlines g []
 slice_of [] g z inside = absurd (omega arith)
 slice_of (outline ∷ outlines) zero z inside =

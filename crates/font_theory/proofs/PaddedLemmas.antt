@@ -23,7 +23,7 @@ pub padded-nil : padded [] ≡ []
 unfolding padded
 padded-nil = refl
 
--- zeros behind a record leave its list
+-- zeros after a record leave its list
 pub ComponentList-padded : (b : List ℕ) (list : List Component) → ComponentList b list → ComponentList (padded b) list
 unfolding padded
 ComponentList-padded b list (Empty e k) = Empty (ap padded e ∙ padded-nil) k

@@ -27,7 +27,7 @@ take-drop-padded b z =
     ∙ ap (take (padding_of (length b))) (drop_at b (zeros ++ z) (length b) refl)
     ∙ take_at zeros z (padding_of (length b)) (length-replicate (padding_of (length b)) 0)
 
--- zeros behind bytes leave their sum
+-- zeros after bytes leave their sum
 pub sum_words-zeros : (b : List ℕ) (n : ℕ) → sum (words (b ++ replicate n 0)) ≡ sum (words b)
 sum_words-zeros b n =
     let all = sum_words-weighted (b ++ replicate n 0) in

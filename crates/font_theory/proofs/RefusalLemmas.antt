@@ -4,26 +4,26 @@ use Rattle.std.proofs.lemmas.Bool.{both_ways}
 use Rattle.sfnt_bytes.specs.declared.directory.DirError.TheVariants.{FileTooLarge}
 use Rattle.font_file.specs.declared.font_error.FontError.{FontError}
 use Rattle.font_file.specs.declared.font_error.FontError.TheVariants.{Directory}
-use Rattle.font_theory.specs.Cut.{CanJoin, Format, IsFormat, Under, is_cut, whole}
+use Rattle.font_theory.specs.Cut.{CanJoin, Format, IsFormat, Under, is_cut, content_of_all}
 use Rattle.font_theory.specs.Difference.{difference}
 use Rattle.font_theory.proofs.CutLemmas.{Agree-under, IsClosed-whole, IsCut-under, is_cut-of, is_cut-tells}
 use Rattle.font_theory.proofs.DifferenceLemmas.{Agree-from_none, none_from-Agree}
 
 module _ (R : Format) (law : IsFormat R) where
   module _ (X Y : List ℕ) (okX : R.fault X ≡ None) (okY : R.fault Y ≡ None) where
-    pub CanJoin-tested : (is_cut R X ≡ true) × (is_cut R Y ≡ true) × (difference (whole R X) (whole R Y) ≡ None) → CanJoin R X Y
+    pub CanJoin-tested : (is_cut R X ≡ true) × (is_cut R Y ≡ true) × (difference (content_of_all R X) (content_of_all R Y) ≡ None) → CanJoin R X Y
     CanJoin-tested h = record {
       first = is_cut-tells R law X okX h.0;
       second = is_cut-tells R law Y okY h.1;
       agree = Agree-from_none _ _ (IsClosed-whole R law X okX) (IsClosed-whole R law Y okY) h.2;
     }
 
-    pub tested-CanJoin : CanJoin R X Y → (is_cut R X ≡ true) × (is_cut R Y ≡ true) × (difference (whole R X) (whole R Y) ≡ None)
+    pub tested-CanJoin : CanJoin R X Y → (is_cut R X ≡ true) × (is_cut R Y ≡ true) × (difference (content_of_all R X) (content_of_all R Y) ≡ None)
     tested-CanJoin can =
         (is_cut-of R law X can.first, is_cut-of R law Y can.second, none_from-Agree _ _ (IsClosed-whole R law X okX) (IsClosed-whole R law Y okY) can.agree)
 
     -- no file is above two that differ
-    pub different-under : (F : List ℕ) → difference (whole R X) (whole R Y) ≢ None → Under R X F → ¬ Under R Y F
+    pub different-under : (F : List ℕ) → difference (content_of_all R X) (content_of_all R Y) ≢ None → Under R X F → ¬ Under R Y F
     different-under F differ u v =
         differ (none_from-Agree _ _ (IsClosed-whole R law X okX) (IsClosed-whole R law Y okY)
         (Agree-under R law X Y F u v (law.accepted_size X okX) (law.accepted_size Y okY)))

@@ -15,7 +15,7 @@ use Rattle.font_tables.specs.Fields.{glyph_count_of, index_to_loc_format, loca_f
 use Rattle.font_tables.specs.Outlines.{offset_at, outline_of}
 use Rattle.font_tables.specs.Refusals.{is_bad_offset, is_missing, table_fault}
 use Rattle.font_tables.specs.Tables.{cmap_tag, glyf_tag, head_tag, hhea_tag, hmtx_tag, loca_tag, maxp_tag, required_tags, table_or_empty}
-use Rattle.character_map.specs.CharacterMap.{restricted}
+use Rattle.codes.specs.CharacterMap.{restricted}
 use Rattle.font_map.specs.Cmap.{candidate_of, chosen_record, encoding_count, is_candidate, is_malformed, subtable_at}
 use Rattle.cmap_subtables.specs.Format4.{entry_or_zero, glyph_by, segment_count, segment_glyph, segment_in, segments_of}
 use Rattle.font_map.specs.Mapping.{listed_glyph, mapping_of}
@@ -160,7 +160,8 @@ component_of-small s g low h = cases s low (there ∙ (names_decides (font.outli
         ]
     cases (suc (suc (suc (suc k)))) l e = absurd (omega arith)
 
--- what is kept are the glyphs below a number, where seeds and components stay below it and each of them is reached
+-- what is kept are the glyphs below a number, where seeds and components stay below it and each of them is
+-- reached
 kept_below : (wanted : ℕ → Bool) (n : ℕ) → ((g : ℕ) → is_seed (restricted wanted font.map) g ≡ true → g < n) → ((s g : ℕ) → s < n → IsComponentOf (font.outline s) g → g < n)
     → ((g : ℕ) → g < n → IsKept font wanted g) → (g : ℕ) → is_kept font wanted g ≡ nat_lt g n
 kept_below wanted n seeds parts back g =

@@ -2,9 +2,9 @@
 use Rattle.std.proofs.Common.{◌≡◌, ℕ, zero, suc, ◌+◌, ◌-◌, ◌<◌, ◌≤◌, ◌&&◌, cond, eqb, nat_le, Bool, List, [], ◌∷◌, refl, sym, ap, ◌∙◌, arith, inl, inr}
 use Rattle.std.proofs.lemmas.Bool.{and_parts, cases_eq, cond_both, eq-eqb, eqb-true, ne_eqb}
 use Rattle.std.proofs.lemmas.Bool.Decides.{nat_tests}
-use Rattle.character_map.specs.CharacterMap.{clipped}
-use Rattle.character_map.specs.Runs.{groups_among, groups_from, spelled, with_code}
-use Rattle.character_map.specs.declared.runs.Run.{Run}
+use Rattle.codes.specs.CharacterMap.{clipped}
+use Rattle.codes.specs.Runs.{groups_among, groups_from, spelled, with_code}
+use Rattle.codes.specs.declared.runs.Run.{Run}
 use Rattle.font_theory.specs.Content.{CODES, Content, IsWritable, glyph_count}
 use Rattle.font_theory.specs.File.{groups_of_content}
 

@@ -2,11 +2,11 @@
 use Rattle.std.proofs.Common.{◌≡◌, ℕ, ◌≤◌, Bool, true, false, ◌⊎◌, inl, inr, List, length, None, refl, sym, ◌∙◌, ap, subst}
 use Rattle.std.proofs.Math.Path.{fun_ext}
 use Rattle.std.proofs.lemmas.Bool.{or_cases, or_left, or_right}
-use Rattle.font_theory.specs.Cut.{Format, IsCurrent, IsCut, IsFormat, Under, cut, joined, whole}
+use Rattle.font_theory.specs.Cut.{Format, IsCurrent, IsCut, IsFormat, Under, cut, joined, content_of_all}
 use Rattle.font_theory.specs.Join.{Agree}
 use Rattle.font_theory.specs.Tree.{Clash, Differs, IsSmall, JoinTree, Takes, Value, cuts, union_in}
 use Rattle.font_theory.specs.Tree.JoinTree.{leaf, node}
-use Rattle.font_theory.proofs.CutLemmas.{Agree-under, CanJoin-cuts, CanJoin-under, IsClosed-whole, IsCurrent-joined, IsCut-joined, Under-joined_left, Under-joined_right, Under-least, Under-self, Under-through, joined-cuts, whole-joined, whole-mutual}
+use Rattle.font_theory.proofs.CutLemmas.{Agree-under, CanJoin-cuts, CanJoin-under, IsClosed-whole, IsCurrent-joined, IsCut-joined, Under-joined_left, Under-joined_right, Under-least, Under-self, Under-through, joined-cuts, content_of_all-joined, content_of_all-mutual}
 use Rattle.font_theory.proofs.DifferenceLemmas.{Agree-decided}
 
 module _ (R : Format) (law : IsFormat R) where
@@ -15,12 +15,12 @@ module _ (R : Format) (law : IsFormat R) where
   Value-one (node s t) v w p q =
       p.5 ∙ ap (λ x. joined R x p.1) (Value-one s p.0 q.0 p.2 q.2) ∙ ap (joined R q.0) (Value-one t p.1 q.1 p.3 q.3) ∙ sym q.5
 
-  pub Value-small : (t : JoinTree (List ℕ)) (v : List ℕ) → IsSmall R t → Value R t v → length v ≤ R.most
-  Value-small (leaf x) v small p = subst (λ (y : List ℕ). length y ≤ R.most) (sym p) small
+  pub Value-small : (t : JoinTree (List ℕ)) (v : List ℕ) → IsSmall R t → Value R t v → length v ≤ R.limit
+  Value-small (leaf x) v small p = subst (λ (y : List ℕ). length y ≤ R.limit) (sym p) small
   Value-small (node s t) v small p = small.2 v p
 
-  joined-small : (s t : JoinTree (List ℕ)) (v : List ℕ) → IsSmall R (node s t) → (p : Value R (node s t) v) → length (joined R p.0 p.1) ≤ R.most
-  joined-small s t v small p = subst (λ (y : List ℕ). length y ≤ R.most) p.5 (small.2 v p)
+  joined-small : (s t : JoinTree (List ℕ)) (v : List ℕ) → IsSmall R (node s t) → (p : Value R (node s t) v) → length (joined R p.0 p.1) ≤ R.limit
+  joined-small s t v small p = subst (λ (y : List ℕ). length y ≤ R.limit) p.5 (small.2 v p)
 
   pub Value-cut : (t : JoinTree (List ℕ)) (v : List ℕ) → IsSmall R t → ((x : List ℕ) → Takes t x → IsCut R x) → Value R t v → IsCut R v
   Value-cut (leaf x) v small each p = each v p
@@ -58,18 +58,18 @@ module _ (R : Format) (law : IsFormat R) where
   -- two trees over the same files that meet no size have values of one content
   pub Value-same : (s t : JoinTree (List ℕ)) (z : List ℕ) → IsSmall R s → IsSmall R t
       → ((x : List ℕ) → Takes s x → IsCut R x) → ((x : List ℕ) → Takes s x → Takes t x) → ((x : List ℕ) → Takes t x → Takes s x)
-      → Value R s z → (v : List ℕ) × Value R t v × (whole R v ≡ whole R z)
+      → Value R s z → (v : List ℕ) × Value R t v × (content_of_all R v ≡ content_of_all R z)
   Value-same s t z ss st each to from p =
       let up = Value-above s z ss each p in
       let q = Value-exists t z st (λ x h. up x (from x h)) in
       let below = Value-least t q.0 z st (λ x h. up x (from x h)) q.1 in
       let above = Value-least s z q.0 ss (λ x h. Value-above t q.0 st (λ y k. each y (from y k)) q.1 x (to x h)) p in
-      (q.0, q.1, whole-mutual R law q.0 z below above)
+      (q.0, q.1, content_of_all-mutual R law q.0 z below above)
 
   -- the value of a join is the file of its content
-  pub Value-file : (s t : JoinTree (List ℕ)) (v : List ℕ) → IsSmall R (node s t) → Value R (node s t) v → R.file (whole R v) ≡ v
+  pub Value-file : (s t : JoinTree (List ℕ)) (v : List ℕ) → IsSmall R (node s t) → Value R (node s t) v → R.file (content_of_all R v) ≡ v
   Value-file s t v small p =
-      ap (λ (y : List ℕ). R.file (whole R y)) p.5 ∙ ap R.file (whole-joined R law p.0 p.1 p.4 (joined-small s t v small p)) ∙ sym p.5
+      ap (λ (y : List ℕ). R.file (content_of_all R y)) p.5 ∙ ap R.file (content_of_all-joined R law p.0 p.1 p.4 (joined-small s t v small p)) ∙ sym p.5
 
   -- that of a tree over current files is current
   pub Value-current : (t : JoinTree (List ℕ)) (v : List ℕ) → IsSmall R t → ((x : List ℕ) → Takes t x → IsCurrent R x) → Value R t v → IsCurrent R v
@@ -92,7 +92,7 @@ module _ (R : Format) (law : IsFormat R) where
         sym (joined-cuts R law F h (union_in s) (union_in t) _ _ (inl refl) (inl refl) sp sq),
       )
 
-  decide : (x y : List ℕ) → IsCut R x → IsCut R y → Agree (whole R x) (whole R y) ⊎ (¬ Agree (whole R x) (whole R y))
+  decide : (x y : List ℕ) → IsCut R x → IsCut R y → Agree (content_of_all R x) (content_of_all R y) ⊎ (¬ Agree (content_of_all R x) (content_of_all R y))
   decide x y cx cy = Agree-decided _ _ (IsClosed-whole R law x cx.accepted) (IsClosed-whole R law y cy.accepted)
 
   -- a tree that meets no size has a value or meets a difference
@@ -113,7 +113,8 @@ module _ (R : Format) (law : IsFormat R) where
         ]
       ]
 
-  -- where the value of one tree clashes with a file, each tree over at least these files that meets no size meets a difference
+  -- where the value of one tree clashes with a file, each tree over at least these files that meets no size
+  -- meets a difference
   pub Differs-clash : (s t : JoinTree (List ℕ)) → IsSmall R s → IsSmall R t → ((x : List ℕ) → Takes t x → IsCut R x) → ((x : List ℕ) → Takes s x → Takes t x)
       → (x y : List ℕ) → Value R s x → Takes t y → Clash R x y → Differs R t
   Differs-clash s t ss small each to x y p h clash =

@@ -7,7 +7,7 @@ use Rattle.font_tables.specs.Fields.{glyph_count_of, num_glyphs, number_of_h_met
 use Rattle.font_tables.specs.Outlines.{outline_of}
 use Rattle.font_tables.specs.Refusals.{is_bad_head, is_bad_hhea, is_bad_hmtx, is_bad_maxp}
 use Rattle.font_tables.specs.Tables.{head_of}
-use Rattle.character_map.specs.CharacterMap.{restricted}
+use Rattle.codes.specs.CharacterMap.{restricted}
 use Rattle.font_glyph.specs.Reach.{any_below, reached}
 use Rattle.font_glyph.specs.Record.{IsRecord}
 use Rattle.font_glyph.specs.Union.{HoldsComponents, Records, record_in}
@@ -70,8 +70,8 @@ content F wanted = record {
 }
 
 -- what is read of the file of a content
-abbrev pub seen : Content → Font
-seen K = record { copied = K.copied; head = K.head; map = K.map; outline = record_in K.outline }
+abbrev pub read_back : Content → Font
+read_back K = record { copied = K.copied; head = K.head; map = K.map; outline = record_in K.outline }
 
 -- what is read of a file
 abbrev pub font_of : List ℕ → Font
@@ -96,8 +96,8 @@ pub record IsFont (F : Font) : Type 0 where
 
 -- the content of a file in cut form: a font is read of it, of which it is the content for all codes
 pub record IsClosedContent (K : Content) : Type 0 where
-  pub font : IsFont (seen K)
-  pub closed : content (seen K) everything ≡ K
+  pub font : IsFont (read_back K)
+  pub closed : content (read_back K) everything ≡ K
 
 -- what a writer needs of a content
 pub record IsWritable (K : Content) : Type 0 where

@@ -3,15 +3,15 @@ use Rattle.std.specs.Prelude.{◌≡◌, ◌≢◌, ℕ, ◌≤◌, Bool, ◌&&�
 use Rattle.std.specs.Str.{bytes_eq}
 use Rattle.sfnt_bytes.specs.declared.directory.DirError.TheVariants.{FileTooLarge}
 use Rattle.sfnt_bytes.specs.declared.directory.TheConstants.{MAX_FILE}
-use Rattle.character_map.specs.CharacterMap.{is_mapped}
+use Rattle.codes.specs.CharacterMap.{is_mapped}
 use Rattle.font_file.specs.Font.{font_fault}
 use Rattle.font_file.specs.declared.font_error.FontError.{FontError}
 use Rattle.font_file.specs.declared.font_error.FontError.TheVariants.{Directory}
-use Rattle.font_theory.specs.Content.{Content, Font, IsFont, content, everything, font_of, seen}
-use Rattle.font_theory.specs.File.{Form, current_form, file, form_of}
+use Rattle.font_theory.specs.Content.{Content, Font, IsFont, content, everything, font_of, read_back}
+use Rattle.font_theory.specs.File.{Layout, current_layout, file, layout_of}
 use Rattle.font_theory.specs.Join.{Agree, both}
 use Rattle.font_theory.specs.declared.Profile.TheVariants.{First}
-pub use Rattle.code_sets.specs.Wanted.{either}
+pub use Rattle.codes.specs.Wanted.{either}
 
 -- a reader and a writer of files
 pub record Format : Type 0 where
@@ -19,7 +19,7 @@ pub record Format : Type 0 where
   pub font : List ℕ → Font  -- what an accepted file means
   pub file : Content → List ℕ  -- what is written
   pub old : Content → List ℕ  -- what was written before, and is still read as a cut
-  pub most : ℕ  -- the most bytes of a file
+  pub limit : ℕ  -- the most bytes of a file
 
 -- X is a file of K
 abbrev pub Writes : Format → Content → List ℕ → Type 0
@@ -33,9 +33,9 @@ pub data Arises (R : Format) : Content → Type 0 where
 -- what binds a reader and a writer
 pub record IsFormat (R : Format) : Type 0 where
   pub is_font : (X : List ℕ) → R.fault X ≡ None → IsFont (R.font X)
-  pub accepted_size : (X : List ℕ) → R.fault X ≡ None → length X ≤ R.most
-  pub refused_size : (X : List ℕ) (error : FontError) → R.fault X ≡ Some error → error ≢ Directory FileTooLarge → length X ≤ R.most
-  pub reads_back : (K : Content) (X : List ℕ) → Arises R K → Writes R K X → length X ≤ R.most → (R.fault X ≡ None) × (R.font X ≡ seen K)
+  pub accepted_size : (X : List ℕ) → R.fault X ≡ None → length X ≤ R.limit
+  pub refused_size : (X : List ℕ) (error : FontError) → R.fault X ≡ Some error → error ≢ Directory FileTooLarge → length X ≤ R.limit
+  pub reads_back : (K : Content) (X : List ℕ) → Arises R K → Writes R K X → length X ≤ R.limit → (R.fault X ≡ None) × (R.font X ≡ read_back K)
 
 -- the cut of a file for the wanted codes
 abbrev pub cut : Format → List ℕ → (ℕ → Bool) → List ℕ
@@ -46,39 +46,39 @@ abbrev pub old_cut : Format → List ℕ → (ℕ → Bool) → List ℕ
 old_cut R F wanted = R.old (content (R.font F) wanted)
 
 -- the content of a file for all codes
-abbrev pub whole : Format → List ℕ → Content
-whole R X = content (R.font X) everything
+abbrev pub content_of_all : Format → List ℕ → Content
+content_of_all R X = content (R.font X) everything
 
 -- X written anew: its cut for all codes
 abbrev pub renewed : Format → List ℕ → List ℕ
-renewed R X = R.file (whole R X)
+renewed R X = R.file (content_of_all R X)
 
 -- X is in cut form, be it the current one or the old one: accepted, and a file of its own content
 pub record IsCut (R : Format) (X : List ℕ) : Type 0 where
   pub accepted : R.fault X ≡ None
-  pub written : Writes R (whole R X) X
+  pub written : Writes R (content_of_all R X) X
 
 -- an accepted file is in cut form
 unfoldable pub is_cut : Format → List ℕ → Bool
-is_cut R X = bytes_eq (R.file (whole R X)) X || bytes_eq (R.old (whole R X)) X
+is_cut R X = bytes_eq (R.file (content_of_all R X)) X || bytes_eq (R.old (content_of_all R X)) X
 
 -- X is current: accepted, and its own file as it is written
 pub record IsCurrent (R : Format) (X : List ℕ) : Type 0 where
   pub accepted : R.fault X ≡ None
-  pub written : R.file (whole R X) ≡ X
+  pub written : R.file (content_of_all R X) ≡ X
 
 -- an accepted file is current
 unfoldable pub is_current : Format → List ℕ → Bool
-is_current R X = bytes_eq (R.file (whole R X)) X
+is_current R X = bytes_eq (R.file (content_of_all R X)) X
 
 -- X is an old cut: accepted, and its own file as it was written before
 pub record IsOld (R : Format) (X : List ℕ) : Type 0 where
   pub accepted : R.fault X ≡ None
-  pub written : R.old (whole R X) ≡ X
+  pub written : R.old (content_of_all R X) ≡ X
 
 -- an accepted file is an old cut
 unfoldable pub is_old : Format → List ℕ → Bool
-is_old R X = bytes_eq (R.old (whole R X)) X
+is_old R X = bytes_eq (R.old (content_of_all R X)) X
 
 -- the codes that a file maps, none where it is refused
 abbrev pub codes_of : Format → List ℕ → ℕ → Bool
@@ -91,18 +91,18 @@ pub record Under (R : Format) (X Z : List ℕ) : Type 0 where
 
 -- the file of both contents
 abbrev pub joined : Format → List ℕ → List ℕ → List ℕ
-joined R X Y = R.file (both (whole R X) (whole R Y))
+joined R X Y = R.file (both (content_of_all R X) (content_of_all R Y))
 
 -- what two files need to be joined
 pub record CanJoin (R : Format) (X Y : List ℕ) : Type 0 where
   pub first : IsCut R X
   pub second : IsCut R Y
-  pub agree : Agree (whole R X) (whole R Y)
+  pub agree : Agree (content_of_all R X) (content_of_all R Y)
 
 -- the reader of this program, a form that is written, and one that is read as a cut too
-abbrev pub format_of : Form → Form → Format
-format_of form old = record { fault = font_fault; font = font_of; file = file form; old = file old; most = MAX_FILE }
+abbrev pub format_of : Layout → Layout → Format
+format_of layout old = record { fault = font_fault; font = font_of; file = file layout; old = file old; limit = MAX_FILE }
 
 -- the reader and the writer of this program, which reads cuts of the first profile too
 unfoldable pub our_format : Format
-our_format = format_of current_form (form_of First)
+our_format = format_of current_layout (layout_of First)

@@ -3,17 +3,17 @@ use Rattle.std.specs.Prelude.{◌≡◌, ℕ, ◌+◌, ◌*◌, nat_eq, List, []
 use Rattle.std.specs.List.{concat, flat_map, range_with_len}
 use Rattle.std.specs.Option.{option_map, option_map_or}
 use Rattle.sfnt_bytes.specs.Directory.{kept_tag}
-use Rattle.sfnt_bytes.specs.Lines.{present}
+use Rattle.sfnt_bytes.specs.Lines.{said_lines}
 use Rattle.sfnt_bytes.specs.SearchFields.{search_fields_of}
 use Rattle.sfnt_bytes.specs.Sums.{adjustment_of, checksum_of, without_field}
 use Rattle.sfnt_bytes.specs.declared.records.Entry.{Entry}
 use Rattle.sfnt_bytes.specs.declared.tag.Tag.{Tag}
 use Rattle.sfnt_bytes.specs.declared.tag.TheConstants.{CMAP, GLYF, HEAD, LOCA}
-use Rattle.character_map.specs.CharacterMap.{clipped}
+use Rattle.codes.specs.CharacterMap.{clipped}
 use Rattle.font_map.specs.Mapping.{mapping_of}
 use Rattle.font_map.specs.Refusals.{map_fault}
-use Rattle.character_map.specs.Runs.{groups_from, spelled}
-use Rattle.character_map.specs.declared.runs.Run.{Run}
+use Rattle.codes.specs.Runs.{groups_from, spelled}
+use Rattle.codes.specs.declared.runs.Run.{Run}
 use Rattle.font_glyph.specs.Union.{record_in}
 use Rattle.font_theory.specs.Bytes.{bytes16, bytes32, padded, with_adjustment}
 use Rattle.font_theory.specs.Content.{Content, glyph_count}
@@ -54,57 +54,57 @@ abbrev pub subtable_front : ℕ → List ℕ
 subtable_front n = 0x000C0000 ∷ (16 + 12 * n) ∷ 0 ∷ n ∷ []
 
 -- what a profile settles
-pub record Form : Type 0 where
+pub record Layout : Type 0 where
   pub front : ℕ → List ℕ  -- `cmap` up to its n groups, word by word
-  pub zeros : ℕ → ℕ  -- how many zeros stand in `glyf` behind outlines of n bytes
+  pub zeros : ℕ → ℕ  -- how many zeros stand in `glyf` after outlines of n bytes
 
--- the first profile. `cmap`: version 0, and one record, 3/10, of a subtable right behind it
-unfoldable pub first_form : Form
-first_form = record {
+-- the first profile. `cmap`: version 0, and one record, 3/10, of a subtable right after it
+unfoldable pub first_layout : Layout
+first_layout = record {
   front = λ n. 0x00000001 ∷ 0x0003000A ∷ 12 ∷ subtable_front n;
   zeros = λ _. 0;
 }
 
--- the second profile. `cmap`: two records, 0/4 and 3/10, of one subtable right behind them. `glyf` is never
+-- the second profile. `cmap`: two records, 0/4 and 3/10, of one subtable right after them. `glyf` is never
 -- empty
-unfoldable pub second_form : Form
-second_form = record {
+unfoldable pub second_layout : Layout
+second_layout = record {
   front = λ n. 0x00000002 ∷ 0x00000004 ∷ 20 ∷ 0x0003000A ∷ 20 ∷ subtable_front n;
   zeros = λ n. if nat_eq n 0 then 4 else 0;
 }
 
 -- the form of a profile
-unfoldable pub form_of : Profile → Form
-form_of First = first_form
-form_of Second = second_form
+unfoldable pub layout_of : Profile → Layout
+layout_of First = first_layout
+layout_of Second = second_layout
 
 -- what this program writes
 abbrev pub current_profile : Profile
 current_profile = Second
 
-abbrev pub current_form : Form
-current_form = form_of current_profile
+abbrev pub current_layout : Layout
+current_layout = layout_of current_profile
 
 -- `cmap` up to its n groups
-unfoldable pub cmap_front : Form → ℕ → List ℕ
-cmap_front form n = flat_map bytes32 (form.front n)
+unfoldable pub cmap_front : Layout → ℕ → List ℕ
+cmap_front layout n = flat_map bytes32 (layout.front n)
 
 -- `cmap`
-unfoldable pub cmap_bytes : Form → List Run → List ℕ
-cmap_bytes form runs = cmap_front form (length runs) ++ flat_map group_bytes runs
+unfoldable pub cmap_bytes : Layout → List Run → List ℕ
+cmap_bytes layout runs = cmap_front layout (length runs) ++ flat_map group_bytes runs
 
--- what stands in `glyf` behind outlines
-abbrev pub behind : Form → List ℕ → List ℕ
-behind form outlines = replicate (form.zeros (length outlines)) 0
+-- what stands in `glyf` after outlines
+abbrev pub behind : Layout → List ℕ → List ℕ
+behind layout outlines = replicate (layout.zeros (length outlines)) 0
 
 -- `glyf`: the outlines end to end
-abbrev pub glyf_bytes : Form → List (List ℕ) → List ℕ
-glyf_bytes form outlines = concat outlines ++ behind form (concat outlines)
+abbrev pub glyf_bytes : Layout → List (List ℕ) → List ℕ
+glyf_bytes layout outlines = concat outlines ++ behind layout (concat outlines)
 
 -- what is asked of a form: its `cmap` is accepted, and maps by its groups
-pub record IsForm (form : Form) : Type 0 where
-  pub accepted : (runs : List Run) → map_fault (cmap_bytes form runs) ≡ None
-  pub maps : (runs : List Run) (glyphs : ℕ) → mapping_of (cmap_bytes form runs) glyphs ≡ clipped glyphs (spelled runs)
+pub record IsLayout (layout : Layout) : Type 0 where
+  pub accepted : (runs : List Run) → map_fault (cmap_bytes layout runs) ≡ None
+  pub maps : (runs : List Run) (glyphs : ℕ) → mapping_of (cmap_bytes layout runs) glyphs ≡ clipped glyphs (spelled runs)
 
 -- a table that is written
 pub record Table : Type 0 where
@@ -113,10 +113,10 @@ pub record Table : Type 0 where
   pub bytes : List ℕ
 
 -- the bytes of the table in a slot, with this `head`
-unfoldable pub bytes_in_slot : Form → Content → List ℕ → ℕ → Option (List ℕ)
-bytes_in_slot form K head slot =
-    if nat_eq slot CMAP then Some (cmap_bytes form (groups_of_content K))
-    else if nat_eq slot GLYF then Some (glyf_bytes form (outlines_of K))
+unfoldable pub bytes_in_slot : Layout → Content → List ℕ → ℕ → Option (List ℕ)
+bytes_in_slot layout K head slot =
+    if nat_eq slot CMAP then Some (cmap_bytes layout (groups_of_content K))
+    else if nat_eq slot GLYF then Some (glyf_bytes layout (outlines_of K))
     else if nat_eq slot HEAD then Some head
     else if nat_eq slot LOCA then Some (loca_bytes (outlines_of K))
     else K.copied slot
@@ -126,13 +126,13 @@ abbrev pub checksum_in_slot : ℕ → List ℕ → ℕ
 checksum_in_slot slot bytes = if nat_eq slot HEAD then checksum_of (without_field bytes 8) else checksum_of bytes
 
 -- the table in a slot, where there is one
-abbrev pub table_in : Form → Content → List ℕ → ℕ → Option Table
-table_in form K head slot =
-    option_map (λ bytes. record { tag = kept_tag slot; checksum = checksum_in_slot slot bytes; bytes = bytes }) (bytes_in_slot form K head slot)
+abbrev pub table_in : Layout → Content → List ℕ → ℕ → Option Table
+table_in layout K head slot =
+    option_map (λ bytes. record { tag = kept_tag slot; checksum = checksum_in_slot slot bytes; bytes = bytes }) (bytes_in_slot layout K head slot)
 
 -- the tables in n slots from a given one on
-abbrev pub tables_from : Form → Content → List ℕ → ℕ → ℕ → List Table
-tables_from form K head slot n = present (map (table_in form K head) (range_with_len slot n))
+abbrev pub tables_from : Layout → Content → List ℕ → ℕ → ℕ → List Table
+tables_from layout K head slot n = said_lines (map (table_in layout K head) (range_with_len slot n))
 
 -- the records of tables that stand end to end from an offset on, each padded
 abbrev pub entries_at : ℕ → List Table → List Entry
@@ -162,16 +162,16 @@ unfoldable pub file_of : List Table → List ℕ
 file_of tables = header_bytes (length tables) ++ (flat_map entry_bytes (entries_at (12 + 16 * length tables) tables) ++ bodies_of tables)
 
 -- the file of a content with this `head`
-abbrev pub file_with : Form → Content → List ℕ → List ℕ
-file_with form K head = file_of (tables_from form K head 0 16)
+abbrev pub file_with : Layout → Content → List ℕ → List ℕ
+file_with layout K head = file_of (tables_from layout K head 0 16)
 
 -- checksumAdjustment of its file, which is summed with that field 0
-unfoldable pub adjustment_in : Form → Content → ℕ
-adjustment_in form K = adjustment_of (checksum_of (file_with form K K.head))
+unfoldable pub adjustment_in : Layout → Content → ℕ
+adjustment_in layout K = adjustment_of (checksum_of (file_with layout K K.head))
 
 -- the file of a content
-unfoldable pub file : Form → Content → List ℕ
-file form K = file_with form K (with_adjustment (adjustment_in form K) K.head)
+unfoldable pub file : Layout → Content → List ℕ
+file layout K = file_with layout K (with_adjustment (adjustment_in layout K) K.head)
 
 -- the length of the table in a slot, padded
 abbrev pub padded_length : Option (List ℕ) → ℕ
@@ -181,11 +181,11 @@ padded_length bytes = option_map_or (λ b. length (padded b)) bytes 0
 -- and a record for each of k tables; `loca`; and the other tables, padded
 abbrev pub size_with : Content → ℕ → ℕ → ℕ
 size_with K cmap glyf =
-    let k = 4 + length (present (map K.copied (range_with_len 0 16))) in
+    let k = 4 + length (said_lines (map K.copied (range_with_len 0 16))) in
     12 + 16 * k + cmap + glyf + 4 * (glyph_count K.copied + 1)
     + length (padded K.head) + sum (map (λ slot. padded_length (K.copied slot)) (range_with_len 0 16))
 
 -- that with the `cmap` and the `glyf` of a form
-unfoldable pub size_of : Form → Content → ℕ
-size_of form K =
-    size_with K (4 * length (form.front (length (groups_of_content K))) + 12 * length (groups_of_content K)) (length (padded (glyf_bytes form (outlines_of K))))
+unfoldable pub size_of : Layout → Content → ℕ
+size_of layout K =
+    size_with K (4 * length (layout.front (length (groups_of_content K))) + 12 * length (groups_of_content K)) (length (padded (glyf_bytes layout (outlines_of K))))

@@ -1,6 +1,6 @@
 -- Contents that agree, and their union, this project's own.
 use Rattle.std.specs.Prelude.{◌≡◌, ℕ}
-use Rattle.character_map.specs.CharacterMap.{AreCompatible, united}
+use Rattle.codes.specs.CharacterMap.{AreCompatible, united}
 use Rattle.font_glyph.specs.Union.{AreEqualWhereBoth, union_of}
 use Rattle.font_theory.specs.Content.{Content}
 

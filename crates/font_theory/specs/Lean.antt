@@ -8,13 +8,13 @@ use Rattle.sfnt_bytes.specs.declared.directory.TheConstants.{MAX_FILE}
 use Rattle.sfnt_bytes.specs.declared.tag.TheConstants.{HHEA, HMTX}
 use Rattle.font_tables.specs.Fields.{number_of_h_metrics}
 use Rattle.font_tables.specs.Refusals.{is_bad_hhea, is_bad_hmtx}
-use Rattle.character_map.specs.CharacterMap.{AreCompatible}
+use Rattle.codes.specs.CharacterMap.{AreCompatible}
 use Rattle.font_glyph.specs.Union.{Records, record_in}
 use Rattle.font_file.specs.Font.{font_fault}
 use Rattle.font_theory.specs.Bytes.{bytes32, padded}
 use Rattle.font_theory.specs.Content.{Content, Font, everything, font_of, is_kept, glyph_count, table_in_slot}
 use Rattle.font_theory.specs.Cut.{Format}
-use Rattle.font_theory.specs.File.{current_form, file}
+use Rattle.font_theory.specs.File.{current_layout, file}
 use Rattle.font_theory.specs.declared.slots.TheConstants.{POST, VHEA, VMTX}
 
 -- the number of pairs in a table of metrics (OpenType 1.9, hhea, numberOfHMetrics; vhea,
@@ -128,11 +128,11 @@ either_bytes first second = map (λ j. bit_or (slice_index first j) (slice_index
 
 -- the file of a lean content
 abbrev pub lean_file : Content → List ℕ
-lean_file K = file current_form (spelled_out K)
+lean_file K = file current_layout (spelled_out K)
 
 -- the reader and the writer of lean cuts
 unfoldable pub lean_format : Format
-lean_format = record { fault = font_fault; font = λ file. thin (font_of file); file = lean_file; old = lean_file; most = MAX_FILE }
+lean_format = record { fault = font_fault; font = λ file. thin (font_of file); file = lean_file; old = lean_file; limit = MAX_FILE }
 
 -- what two fonts in lean cut form need to be joined: nothing tells them apart in a table without what is of
 -- single glyphs, in a code that both map, and in the outline or the metrics of a glyph that both keep

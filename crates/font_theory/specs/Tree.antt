@@ -1,6 +1,6 @@
 -- Trees of joins, and what they come to, this project's own.
 use Rattle.std.specs.Prelude.{◌≡◌, ℕ, zero, suc, ◌<◌, ◌≤◌, Bool, false, ◌||◌, ◌⊎◌, List, [], length, get_or}
-use Rattle.font_theory.specs.Cut.{CanJoin, Format, IsCut, cut, joined, whole}
+use Rattle.font_theory.specs.Cut.{CanJoin, Format, IsCut, cut, joined, content_of_all}
 use Rattle.font_theory.specs.Join.{Agree}
 
 -- a tree of joins
@@ -15,12 +15,12 @@ Value R (node s t) v = (x : List ℕ) × (y : List ℕ) × Value R s x × Value 
 
 -- no value in the tree is too large
 abbrev pub IsSmall : Format → JoinTree (List ℕ) → Type 0
-IsSmall R (leaf x) = length x ≤ R.most
-IsSmall R (node s t) = IsSmall R s × IsSmall R t × ((v : List ℕ) → Value R (node s t) v → length v ≤ R.most)
+IsSmall R (leaf x) = length x ≤ R.limit
+IsSmall R (node s t) = IsSmall R s × IsSmall R t × ((v : List ℕ) → Value R (node s t) v → length v ≤ R.limit)
 
 -- two files in cut form differ
 abbrev pub Clash : Format → List ℕ → List ℕ → Type 0
-Clash R x y = IsCut R x × IsCut R y × ¬ Agree (whole R x) (whole R y)
+Clash R x y = IsCut R x × IsCut R y × ¬ Agree (content_of_all R x) (content_of_all R y)
 
 -- the tree meets a difference
 abbrev pub Differs : Format → JoinTree (List ℕ) → Type 0

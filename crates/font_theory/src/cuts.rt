@@ -4,14 +4,14 @@ ghost use Rattle.sfnt_bytes.specs.declared.directory.DirError.TheVariants.{FileT
 ghost use Rattle.sfnt_bytes.specs.declared.directory.TheConstants.{MAX_FILE};
 ghost use Rattle.font_tables.specs.Metrics.{metric_of};
 ghost use Rattle.font_tables.specs.Outlines.{outline_of};
-ghost use Rattle.character_map.specs.CharacterMap.{restricted};
+ghost use Rattle.codes.specs.CharacterMap.{restricted};
 ghost use Rattle.font_glyph.specs.Reach.{Reach};
 ghost use Rattle.font_file.specs.Font.{font_fault, map_of};
 ghost use Rattle.font_file.specs.declared.font_error.FontError.{FontError};
 ghost use Rattle.font_file.specs.declared.font_error.FontError.TheVariants.{Directory};
 ghost use Rattle.font_theory.specs.Bytes.{padded};
-ghost use Rattle.font_theory.specs.Content.{Content, Font, IsClosedContent, IsFont, IsWritable, KeepsComponents, content, font_of, is_kept, is_seed, seen};
-ghost use Rattle.font_theory.specs.Cut.{Format, IsCurrent, IsCut, IsFormat, IsOld, Writes, cut, is_current, is_cut, is_old, old_cut, whole};
+ghost use Rattle.font_theory.specs.Content.{Content, Font, IsClosedContent, IsFont, IsWritable, KeepsComponents, content, font_of, is_kept, is_seed, read_back};
+ghost use Rattle.font_theory.specs.Cut.{Format, IsCurrent, IsCut, IsFormat, IsOld, Writes, cut, is_current, is_cut, is_old, old_cut, content_of_all};
 
 /// What an accepted file means is a font.
 pub fn meaning_is_font()
@@ -44,19 +44,19 @@ pub fn closed_keeps()
 
 /// The content of a content is that of the font for the codes in both sets.
 pub fn cut_of_cut()
-    ensures { (F : Font) (A B : ℕ → Bool) → IsFont F → content (seen (content F A)) B ≡ content F
+    ensures { (F : Font) (A B : ℕ → Bool) → IsFont F → content (read_back (content F A)) B ≡ content F
         (λ c. A c && B c) }
 {}
 
 /// A wanted code keeps its glyph, and what that glyph leads to keeps its outline, up to zeros
-/// behind it.
+/// after it.
 pub fn wanted_is_kept()
     ensures { (F : Font) (wanted : ℕ → Bool) → IsFont F
         → ((g : ℕ) → Reach F.outline (is_seed (restricted wanted F.map)) g →
-        (seen (content F wanted)).outline g ≡ padded (F.outline g))
+        (read_back (content F wanted)).outline g ≡ padded (F.outline g))
         × ((c : ℕ) → wanted c ≡ true → ((content F wanted).map c ≡ F.map c)
         × ((g : ℕ) → Reach F.outline (nat_eq (F.map c)) g →
-        (seen (content F wanted)).outline g ≡ padded (F.outline g))) }
+        (read_back (content F wanted)).outline g ≡ padded (F.outline g))) }
 {}
 
 /// What is kept of an accepted file is what its outlines lead to from .notdef and the glyphs of the
@@ -68,10 +68,10 @@ pub fn kept_is_reached()
 {}
 
 /// In a file of which a content of an accepted one is read back, a wanted code has its glyph, and
-/// what that glyph leads to has its outline, up to zeros behind it.
+/// what that glyph leads to has its outline, up to zeros after it.
 pub fn wanted_is_in_file()
     ensures { (file other : List ℕ) (wanted : ℕ → Bool) → font_fault file ≡ None →
-        font_of other ≡ seen (content (font_of file) wanted)
+        font_of other ≡ read_back (content (font_of file) wanted)
         → (c : ℕ) → wanted c ≡ true → (map_of other c ≡ map_of file c)
         × ((g : ℕ) → Reach (outline_of file) (nat_eq (map_of file c)) g →
         outline_of other g ≡ padded (outline_of file g)) }
@@ -80,7 +80,7 @@ pub fn wanted_is_in_file()
 /// A file of which a content of another one is read back has the metrics of that one.
 pub fn metrics_are_kept()
     ensures { (file other : List ℕ) (wanted : ℕ → Bool) →
-        font_of other ≡ seen (content (font_of file) wanted) → (g : ℕ) →
+        font_of other ≡ read_back (content (font_of file) wanted) → (g : ℕ) →
         metric_of other g ≡ metric_of file g }
 {}
 
@@ -88,8 +88,8 @@ pub fn metrics_are_kept()
 /// both sets.
 pub fn cut_is_cut()
     ensures { (R : Format) → IsFormat R → (F : List ℕ) → R.fault F ≡ None → (A : ℕ → Bool) (X : List ℕ) →
-        Writes R (content (R.font F) A) X → length X ≤ R.most
-        → IsCut R X × (R.font X ≡ seen (content (R.font F) A)) × (whole R X ≡ content (R.font F) A)
+        Writes R (content (R.font F) A) X → length X ≤ R.limit
+        → IsCut R X × (R.font X ≡ read_back (content (R.font F) A)) × (content_of_all R X ≡ content (R.font F) A)
         × ((B : ℕ → Bool) → cut R X B ≡ cut R F (λ c. A c && B c)) }
 {}
 
@@ -101,15 +101,15 @@ pub fn cut_form_is_decided()
 /// A cut that is written, and is not too large, is current.
 pub fn cut_is_current()
     ensures { (R : Format) → IsFormat R → (F : List ℕ) → R.fault F ≡ None → (A : ℕ → Bool) →
-        length (cut R F A) ≤ R.most → IsCurrent R (cut R F A) }
+        length (cut R F A) ≤ R.limit → IsCurrent R (cut R F A) }
 {}
 
 /// A cut as it was written before is an old one, where it is not too large, and its content for all codes
 /// is that of the font for the wanted ones.
 pub fn old_cut_is_old()
     ensures { (R : Format) → IsFormat R → (F : List ℕ) → R.fault F ≡ None → (A : ℕ → Bool) →
-        length (old_cut R F A) ≤ R.most → IsOld R (old_cut R F A)
-        × (whole R (old_cut R F A) ≡ content (R.font F) A) }
+        length (old_cut R F A) ≤ R.limit → IsOld R (old_cut R F A)
+        × (content_of_all R (old_cut R F A) ≡ content (R.font F) A) }
 {}
 
 /// A file in cut form is current, or an old cut.

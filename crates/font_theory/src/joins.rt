@@ -5,7 +5,7 @@ ghost use Rattle.sfnt_bytes.specs.declared.directory.DirError.TheVariants.{FileT
 ghost use Rattle.font_file.specs.declared.font_error.FontError.{FontError};
 ghost use Rattle.font_file.specs.declared.font_error.FontError.TheVariants.{Directory};
 ghost use Rattle.font_theory.specs.Content.{Content, Font, IsClosedContent, IsFont, content};
-ghost use Rattle.font_theory.specs.Cut.{CanJoin, Format, IsCurrent, IsCut, IsFormat, Under, Writes, cut, either, is_cut, joined, renewed, whole};
+ghost use Rattle.font_theory.specs.Cut.{CanJoin, Format, IsCurrent, IsCut, IsFormat, Under, Writes, cut, either, is_cut, joined, renewed, content_of_all};
 ghost use Rattle.font_theory.specs.Difference.{difference};
 ghost use Rattle.font_theory.specs.Join.{Agree, both};
 
@@ -27,16 +27,16 @@ pub fn no_difference()
 
 /// A join is current, above both files, and below each file that is above both.
 pub fn least_upper_bound()
-    ensures { (R : Format) → IsFormat R → (X Y : List ℕ) → CanJoin R X Y → length (joined R X Y) ≤ R.most
+    ensures { (R : Format) → IsFormat R → (X Y : List ℕ) → CanJoin R X Y → length (joined R X Y) ≤ R.limit
         → IsCurrent R (joined R X Y) × Under R X (joined R X Y) × Under R Y (joined R X Y)
         × ((F : List ℕ) → Under R X F → Under R Y F → Under R (joined R X Y) F) }
 {}
 
 /// A file under another is in cut form, where it is not too large, and two files under one agree.
 pub fn under_one_file()
-    ensures { (R : Format) → IsFormat R → ((X F : List ℕ) → Under R X F → length X ≤ R.most → IsCut R X)
-        × ((X Y F : List ℕ) → Under R X F → Under R Y F → length X ≤ R.most → length Y ≤ R.most →
-        Agree (whole R X) (whole R Y)) }
+    ensures { (R : Format) → IsFormat R → ((X F : List ℕ) → Under R X F → length X ≤ R.limit → IsCut R X)
+        × ((X Y F : List ℕ) → Under R X F → Under R Y F → length X ≤ R.limit → length Y ≤ R.limit →
+        Agree (content_of_all R X) (content_of_all R Y)) }
 {}
 
 /// Being a cut of a file orders the files in cut form: two under each other have one content, and are one
@@ -44,15 +44,15 @@ pub fn under_one_file()
 pub fn under_is_order()
     ensures { (R : Format) → IsFormat R → ((X : List ℕ) → IsCut R X → Under R X X)
         × ((X Y Z : List ℕ) → Under R X Y → Under R Y Z → Under R X Z)
-        × ((X Z : List ℕ) → Under R X Z → Under R Z X → (whole R X ≡ whole R Z)
+        × ((X Z : List ℕ) → Under R X Z → Under R Z X → (content_of_all R X ≡ content_of_all R Z)
         × (IsCurrent R X → IsCurrent R Z → X ≡ Z)) }
 {}
 
 /// Two cuts of a font can be joined, and give its cut for the codes of either set.
 pub fn join_of_cuts()
     ensures { (R : Format) → IsFormat R → (F : List ℕ) → R.fault F ≡ None → (A B : ℕ → Bool) (X Y : List ℕ)
-        → Writes R (content (R.font F) A) X → Writes R (content (R.font F) B) Y → length X ≤ R.most →
-        length Y ≤ R.most
+        → Writes R (content (R.font F) A) X → Writes R (content (R.font F) B) Y → length X ≤ R.limit →
+        length Y ≤ R.limit
         → CanJoin R X Y × (joined R X Y ≡ cut R F (either A B)) }
 {}
 
@@ -67,7 +67,7 @@ pub fn join_of_one()
 /// found.
 pub fn can_join_is_decided()
     ensures { (R : Format) → IsFormat R → (X Y : List ℕ) → R.fault X ≡ None → R.fault Y ≡ None
-        → ((is_cut R X ≡ true) × (is_cut R Y ≡ true) × (difference (whole R X) (whole R Y) ≡ None)) ↔ CanJoin
+        → ((is_cut R X ≡ true) × (is_cut R Y ≡ true) × (difference (content_of_all R X) (content_of_all R Y) ≡ None)) ↔ CanJoin
         R X Y }
 {}
 
@@ -79,5 +79,5 @@ pub fn true_refusals()
         ¬ Under R X F)
         × ((X F : List ℕ) → R.fault X ≡ None → is_cut R X ≡ false → ¬ Under R X F)
         × ((X Y F : List ℕ) → R.fault X ≡ None → R.fault Y ≡ None →
-        difference (whole R X) (whole R Y) ≢ None → Under R X F → ¬ Under R Y F) }
+        difference (content_of_all R X) (content_of_all R Y) ≢ None → Under R X F → ¬ Under R Y F) }
 {}

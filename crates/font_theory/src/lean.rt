@@ -8,13 +8,13 @@ ghost use Rattle.sfnt_bytes.specs.Lines.{when};
 ghost use Rattle.sfnt_bytes.specs.declared.directory.TheConstants.{MAX_FILE};
 ghost use Rattle.font_tables.specs.Metrics.{metric_of};
 ghost use Rattle.font_tables.specs.Outlines.{outline_of};
-ghost use Rattle.character_map.specs.CharacterMap.{restricted, united};
+ghost use Rattle.codes.specs.CharacterMap.{restricted, united};
 ghost use Rattle.font_glyph.specs.Reach.{Reach};
 ghost use Rattle.font_glyph.specs.Union.{union_of};
 ghost use Rattle.font_file.specs.Font.{font_fault, map_of};
 ghost use Rattle.font_theory.specs.Bytes.{padded};
-ghost use Rattle.font_theory.specs.Content.{Content, Font, IsClosedContent, IsFont, content, font_of, glyph_count, is_kept, seen, table_in_slot};
-ghost use Rattle.font_theory.specs.Cut.{Arises, CanJoin, IsCurrent, IsFormat, Under, Writes, cut, either, joined, our_format, whole};
+ghost use Rattle.font_theory.specs.Content.{Content, Font, IsClosedContent, IsFont, content, font_of, glyph_count, is_kept, read_back, table_in_slot};
+ghost use Rattle.font_theory.specs.Cut.{Arises, CanJoin, IsCurrent, IsFormat, Under, Writes, cut, either, joined, our_format, content_of_all};
 ghost use Rattle.font_theory.specs.Join.{Agree, both};
 ghost use Rattle.font_theory.specs.Lean.{AgreeLean, cleared, either_bytes, lean_file, lean_format, metrics_at, pairs_in, spelled_out, thin, thin_copied, thin_post, with_metrics};
 ghost use Rattle.font_theory.specs.Tree.{IsSmall, JoinTree, Value, cuts, union_in};
@@ -33,7 +33,7 @@ pub fn lean_slots_are()
 pub fn lean_is_a_format()
     ensures { IsFormat lean_format × (lean_format.fault ≡ font_fault)
         × ((file : List ℕ) → lean_format.font file ≡ thin (font_of file))
-        × (lean_format.file ≡ lean_file) × (lean_format.most ≡ MAX_FILE) }
+        × (lean_format.file ≡ lean_file) × (lean_format.limit ≡ MAX_FILE) }
 {}
 
 /// A lean cut of an accepted font that is not too large is accepted, nothing is found in it, and what is
@@ -43,7 +43,7 @@ pub fn lean_cut_is_accepted()
         length (cut lean_format file wanted) ≤ MAX_FILE
         → (font_fault (cut lean_format file wanted) ≡ None) × (findings_of (cut lean_format file wanted) ≡ [])
         × (font_of (cut lean_format file wanted)
-        ≡ seen (spelled_out (content (thin (font_of file)) wanted))) }
+        ≡ read_back (spelled_out (content (thin (font_of file)) wanted))) }
 {}
 
 /// It is no longer than the ordinary cut.
@@ -105,13 +105,13 @@ pub fn lean_is_closed()
 /// metrics.
 pub fn lean_agreement_is()
     ensures { (X Y : List ℕ) → font_fault X ≡ None → font_fault Y ≡ None
-        → Agree (whole lean_format X) (whole lean_format Y) ↔ AgreeLean (font_of X) (font_of Y) }
+        → Agree (content_of_all lean_format X) (content_of_all lean_format Y) ↔ AgreeLean (font_of X) (font_of Y) }
 {}
 
 /// The same of contents that accepted files come to, as a union holds them that grows file by file.
 pub fn lean_contents_agree()
     ensures { (K L : Content) → Arises lean_format K → Arises lean_format L
-        → Agree K L ↔ AgreeLean (seen (spelled_out K)) (seen (spelled_out L)) }
+        → Agree K L ↔ AgreeLean (read_back (spelled_out K)) (read_back (spelled_out L)) }
 {}
 
 /// What the union of two such contents that agree is written of: the head and the tables of the first, its
@@ -135,18 +135,18 @@ pub fn lean_union_is()
 /// the unions of theirs, and its `hmtx` and `vmtx` are theirs byte by byte, where one has 0 the other's.
 pub fn lean_join_is()
     ensures { (X Y : List ℕ) → IsCurrent lean_format X → IsCurrent lean_format Y
-        → Agree (whole lean_format X) (whole lean_format Y)
-        → ((spelled_out (both (whole lean_format X) (whole lean_format Y))).head ≡ (font_of X).head)
-        × ((spelled_out (both (whole lean_format X) (whole lean_format Y))).map
+        → Agree (content_of_all lean_format X) (content_of_all lean_format Y)
+        → ((spelled_out (both (content_of_all lean_format X) (content_of_all lean_format Y))).head ≡ (font_of X).head)
+        × ((spelled_out (both (content_of_all lean_format X) (content_of_all lean_format Y))).map
         ≡ united (font_of X).map (font_of Y).map)
-        × ((spelled_out (both (whole lean_format X) (whole lean_format Y))).outline
-        ≡ union_of (spelled_out (whole lean_format X)).outline (spelled_out (whole lean_format Y)).outline)
+        × ((spelled_out (both (content_of_all lean_format X) (content_of_all lean_format Y))).outline
+        ≡ union_of (spelled_out (content_of_all lean_format X)).outline (spelled_out (content_of_all lean_format Y)).outline)
         × ((slot : ℕ) → slot ≢ HMTX → slot ≢ VMTX →
-        (spelled_out (both (whole lean_format X) (whole lean_format Y))).copied slot
+        (spelled_out (both (content_of_all lean_format X) (content_of_all lean_format Y))).copied slot
         ≡ (font_of X).copied slot)
-        × ((spelled_out (both (whole lean_format X) (whole lean_format Y))).copied HMTX
+        × ((spelled_out (both (content_of_all lean_format X) (content_of_all lean_format Y))).copied HMTX
         ≡ option_map (λ t. either_bytes t (table_in_slot (font_of Y).copied HMTX)) ((font_of X).copied HMTX))
-        × ((spelled_out (both (whole lean_format X) (whole lean_format Y))).copied VMTX
+        × ((spelled_out (both (content_of_all lean_format X) (content_of_all lean_format Y))).copied VMTX
         ≡ option_map (λ t. either_bytes t (table_in_slot (font_of Y).copied VMTX))
         ((font_of X).copied VMTX)) }
 {}
@@ -154,15 +154,15 @@ pub fn lean_join_is()
 /// What is read of a file in lean cut form is what is spelled of its lean content, which is the ordinary one.
 pub fn lean_file_means()
     ensures { (X : List ℕ) → IsCurrent lean_format X
-        → (font_of X ≡ seen (spelled_out (whole lean_format X)))
-        × (whole our_format X ≡ spelled_out (whole lean_format X)) }
+        → (font_of X ≡ read_back (spelled_out (content_of_all lean_format X)))
+        × (content_of_all our_format X ≡ spelled_out (content_of_all lean_format X)) }
 {}
 
 /// In a file of which that is read back a wanted code has its glyph, what that glyph leads to has its
 /// outline, up to zeros after it, and each kept glyph has its metric.
 pub fn wanted_is_in_lean_file()
     ensures { (file other : List ℕ) (wanted : ℕ → Bool) → font_fault file ≡ None →
-        font_of other ≡ seen (spelled_out (content (thin (font_of file)) wanted))
+        font_of other ≡ read_back (spelled_out (content (thin (font_of file)) wanted))
         → ((c : ℕ) → wanted c ≡ true → (map_of other c ≡ map_of file c)
         × ((g : ℕ) → Reach (outline_of file) (nat_eq (map_of file c)) g →
         outline_of other g ≡ padded (outline_of file g)))

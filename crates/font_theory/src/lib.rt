@@ -16,8 +16,8 @@ pub use crate::cuts::{
 };
 pub use crate::files::{
     closed_arises, cut_of_aacute, cut_of_nothing, cut_of_nothing_second, file_has_no_finding,
-    file_is_accepted, file_means, file_size, form_sizes_are_apart, forms_are_apart,
-    forms_are_formats, no_cut_is_both, our_format_is, outlines_size, profiles_are_forms,
+    file_is_accepted, file_means, file_size, layout_sizes_are_apart, layouts_are_apart,
+    layouts_are_formats, no_cut_is_both, our_format_is, outlines_size, profiles_are_layouts,
     second_glyf_has_bytes, size_in_first_profile, size_in_second_profile,
 };
 pub use crate::joins::{

@@ -1,7 +1,7 @@
 //! The laws of trees of joins: the contract of each function is the law.
 ghost use Rattle.std.specs.Prelude.{◌≡◌, ℕ, suc, ◌<◌, ◌≤◌, Bool, List, length, None};
 ghost use Rattle.font_theory.specs.Content.{content};
-ghost use Rattle.font_theory.specs.Cut.{CanJoin, Format, IsCurrent, IsCut, IsFormat, Writes, cut, joined, renewed, whole};
+ghost use Rattle.font_theory.specs.Cut.{CanJoin, Format, IsCurrent, IsCut, IsFormat, Writes, cut, joined, renewed, content_of_all};
 ghost use Rattle.font_theory.specs.Join.{Agree};
 ghost use Rattle.font_theory.specs.Tree.{Differs, IsOver, IsSmall, JoinTree, Takes, Value, cuts, file_at, grown, union_below, union_in};
 
@@ -23,10 +23,10 @@ pub fn grown_cuts()
     ensures { (R : Format) → IsFormat R → (files : List (List ℕ)) (F : List ℕ) → R.fault F ≡ None →
         (A : ℕ → ℕ → Bool)
         → ((k : ℕ) → k < length files → Writes R (content (R.font F) (A k)) (file_at files k)) →
-        ((k : ℕ) → k < length files → length (file_at files k) ≤ R.most)
+        ((k : ℕ) → k < length files → length (file_at files k) ≤ R.limit)
         → (k : ℕ) → k < length files
         → ((v : List ℕ) → Value R (grown files (suc k)) v → v ≡ cut R F (union_below A (suc k)))
-        × ((x : List ℕ) → Value R (grown files k) x → length x ≤ R.most →
+        × ((x : List ℕ) → Value R (grown files k) x → length x ≤ R.limit →
         CanJoin R x (file_at files k) × (joined R x (file_at files k) ≡ cut R F (union_below A (suc k)))) }
 {}
 
@@ -35,23 +35,23 @@ pub fn same_content()
     ensures { (R : Format) → IsFormat R → (files : List (List ℕ)) →
         ((k : ℕ) → k < length files → IsCut R (file_at files k))
         → (s t : JoinTree (List ℕ)) → IsOver files s → IsOver files t → IsSmall R s → IsSmall R t
-        → (z : List ℕ) → Value R s z → (v : List ℕ) × Value R t v × (whole R v ≡ whole R z) }
+        → (z : List ℕ) → Value R s z → (v : List ℕ) × Value R t v × (content_of_all R v ≡ content_of_all R z) }
 {}
 
 /// Where the tree that grows has a value, each tree over all files that meets no size has a value of
 /// the same content, whose file is that value; over current files it is the same value.
 pub fn same_value()
     ensures { (R : Format) → IsFormat R → (files : List (List ℕ)) → 0 < length files → (z : List ℕ) →
-        Value R (grown files (length files)) z → length z ≤ R.most
+        Value R (grown files (length files)) z → length z ≤ R.limit
         → (t : JoinTree (List ℕ)) → IsOver files t → IsSmall R t
-        → ((v : List ℕ) × Value R t v × (whole R v ≡ whole R z) × (renewed R v ≡ z))
+        → ((v : List ℕ) × Value R t v × (content_of_all R v ≡ content_of_all R z) × (renewed R v ≡ z))
         × (((k : ℕ) → k < length files → IsCurrent R (file_at files k)) → Value R t z) }
 {}
 
 /// Each tree over cuts of one font that meets no size has the value of the tree that grows.
 pub fn same_value_of_cuts()
     ensures { (R : Format) → IsFormat R → (files : List (List ℕ)) → 0 < length files → (z : List ℕ) →
-        Value R (grown files (length files)) z → length z ≤ R.most
+        Value R (grown files (length files)) z → length z ≤ R.limit
         → (F : List ℕ) → R.fault F ≡ None → (t : JoinTree (ℕ → Bool)) → IsOver files (cuts R F t) →
         IsSmall R (cuts R F t) → Value R (cuts R F t) z }
 {}
@@ -61,7 +61,7 @@ pub fn same_value_of_cuts()
 pub fn clash_everywhere()
     ensures { (R : Format) → IsFormat R → (files : List (List ℕ)) →
         ((k : ℕ) → k < length files → IsCut R (file_at files k))
-        → (k : ℕ) → k < length files → (x : List ℕ) → Value R (grown files k) x → length x ≤ R.most →
-        ¬ Agree (whole R x) (whole R (file_at files k))
+        → (k : ℕ) → k < length files → (x : List ℕ) → Value R (grown files k) x → length x ≤ R.limit →
+        ¬ Agree (content_of_all R x) (content_of_all R (file_at files k))
         → (t : JoinTree (List ℕ)) → IsOver files t → IsSmall R t → Differs R t }
 {}

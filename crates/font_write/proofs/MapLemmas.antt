@@ -1,6 +1,6 @@
 -- The map of a content that is written.
 use Rattle.std.proofs.Common.{◌≡◌, ℕ, ◌<◌, refl, arith}
-use Rattle.character_map.specs.CharacterMap.{IsCharacterMap}
+use Rattle.codes.specs.CharacterMap.{IsCharacterMap}
 use Rattle.font_theory.specs.Content.{CODES, Content, IsWritable, glyph_count}
 
 codes_are : CODES ≡ 0x110000

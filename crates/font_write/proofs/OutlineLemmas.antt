@@ -8,7 +8,7 @@ use Rattle.std.proofs.lemmas.Grind.{flat_map-append}
 use Rattle.font_glyph.specs.Union.{record_in}
 use Rattle.font_theory.specs.Bytes.{bytes32}
 use Rattle.font_theory.specs.Content.{Content}
-use Rattle.font_theory.specs.File.{Form, behind, loca_bytes, offsets_from, outlines_from}
+use Rattle.font_theory.specs.File.{Layout, behind, loca_bytes, offsets_from, outlines_from}
 use Rattle.sfnt_bytes.specs.Sums.{checksum_of}
 use Rattle.font_theory.proofs.SumLemmas.{checksum_of-append}
 use Rattle.font_write.specs.Parts.{IsNextKept, glyf_to}
@@ -87,7 +87,7 @@ glyf_within K g n lt = within (glyf_to K) (record_in K.outline g) g n lt (glyf_m
 pub loca_within : (K : Content) (g n : ℕ) → g < n → (rest : List ℕ) × (loca_to K g ++ (bytes32 (length (glyf_to K (g + 1))) ++ rest) ≡ loca_to K n)
 loca_within K g n lt = within (loca_to K) (bytes32 (length (glyf_to K (g + 1)))) g n lt (loca_more K g) (loca_front K)
 
--- the offsets behind some glyphs stand within all of them
+-- the offsets after some glyphs stand within all of them
 pub loca_within_all : (K : Content) (g n : ℕ) (chunk : List ℕ) (from : ℕ) → g ≤ n → loca_to K from ++ chunk ≡ loca_to K g → (rest : List ℕ) × (loca_to K from ++ (chunk ++ rest) ≡ loca_to K n)
 loca_within_all K g n chunk from le e =
     let f = loca_front K g (n - g) in
@@ -100,8 +100,8 @@ loca_first K n =
     let z : 0 + n ≡ n = omega arith in
     (f.0, ap (λ (t : List ℕ). t ++ f.0) (sym (loca_start K)) ∙ f.1 ∙ ap (loca_to K) z)
 
-pub length-glyf_in : (form : Form) (K : Content) → length (glyf_in form K) ≡ length (all_outlines K) + form.zeros (length (all_outlines K))
-length-glyf_in form K = omega (arith, length-append (all_outlines K) (behind form (all_outlines K)), length-replicate {A = ℕ} (form.zeros (length (all_outlines K))) 0)
+pub length-glyf_in : (layout : Layout) (K : Content) → length (glyf_in layout K) ≡ length (all_outlines K) + layout.zeros (length (all_outlines K))
+length-glyf_in layout K = omega (arith, length-append (all_outlines K) (behind layout (all_outlines K)), length-replicate {A = ℕ} (layout.zeros (length (all_outlines K))) 0)
 
 -- glyphs that are not kept have no outlines
 glyf_pass : (K : Content) (a n : ℕ) → ((h : ℕ) → a ≤ h → h < a + n → K.outline h ≡ None) → glyf_to K (a + n) ≡ glyf_to K a

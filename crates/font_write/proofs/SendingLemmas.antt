@@ -66,7 +66,7 @@ sends_err t u a b r e h = MatchResult-from_err r (λ _. SentAll t u (a ++ b)) (�
 pub sends_err_at : {A E : Type 0} → (t u : Trace) (a w : List ℕ) (r : Result A E) → (rest : List ℕ) × (a ++ rest ≡ w) → IsErr r → SentFront t u a → Sends t u w r
 sends_err_at t u a w r p e h = subst (λ (x : List ℕ). Sends t u x r) p.1 (sends_err t u a p.0 r e h)
 
--- the exit of a `?` behind what was sent: w is what was sent, the piece that stopped, and a rest
+-- the exit of a `?` after what was sent: w is what was sent, the piece that stopped, and a rest
 pub stops_within : {A E : Type 0} → (t u v : Trace) (a b w : List ℕ) (r : Result A E) → (rest : List ℕ) × (a ++ (b ++ rest) ≡ w) → IsErr r → SentAll t u a → SentFront u v b → Sends t v w r
 stops_within t u v a b w r p e h k = sends_err_at t v (a ++ b) w r (p.0, append_assoc a b p.0 ∙ p.1) e (stopped_then t u v a b h k)
 

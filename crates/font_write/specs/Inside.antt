@@ -1,14 +1,14 @@
 -- Words of private contracts and of proofs: no public clause names them.
 use Rattle.font_theory.specs.Content.{Content, glyph_count}
-use Rattle.font_theory.specs.File.{Form, behind, entries_at, entry_bytes, loca_bytes, outlines_from}
+use Rattle.font_theory.specs.File.{Layout, behind, entries_at, entry_bytes, loca_bytes, outlines_from}
 use Rattle.font_write.specs.Parts.{IsNextKept, tables_to, start_of, glyf_to}
 use Rattle.font_write.specs.declared.made_loca.Walk.{Walk}
 use Rattle.std.specs.List.{flat_map}
 use Rattle.std.specs.Prelude.{◌≡◌, ℕ, ◌++◌, List, length}
 
 -- the records of the tables in the first n slots
-unfoldable pub records_to : Form → Content → ℕ → List ℕ
-records_to form K n = flat_map entry_bytes (entries_at (start_of form K) (tables_to form K n))
+unfoldable pub records_to : Layout → Content → ℕ → List ℕ
+records_to layout K n = flat_map entry_bytes (entries_at (start_of layout K) (tables_to layout K n))
 
 -- the offsets of the outlines of the first n glyphs, with that of their end
 unfoldable pub loca_to : Content → ℕ → List ℕ
@@ -18,8 +18,8 @@ loca_to K n = loca_bytes (outlines_from K 0 n)
 abbrev pub all_outlines : Content → List ℕ
 all_outlines K = glyf_to K (glyph_count K.copied)
 
-abbrev pub glyf_in : Form → Content → List ℕ
-glyf_in form K = all_outlines K ++ behind form (all_outlines K)
+abbrev pub glyf_in : Layout → Content → List ℕ
+glyf_in layout K = all_outlines K ++ behind layout (all_outlines K)
 
 -- all offsets
 abbrev pub all_offsets : Content → List ℕ

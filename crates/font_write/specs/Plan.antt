@@ -2,7 +2,7 @@
 use Rattle.std.specs.Prelude.{◌≡◌, ℕ, ◌≤◌, ◌<◌, List, length, slice_index_or, is_some, false}
 use Rattle.sfnt_bytes.specs.Sums.{checksum_of}
 use Rattle.font_theory.specs.Content.{Content, glyph_count}
-use Rattle.font_theory.specs.File.{Form, adjustment_in, checksum_in_slot, file, form_of, groups_of_content, size_of}
+use Rattle.font_theory.specs.File.{Layout, adjustment_in, checksum_in_slot, file, layout_of, groups_of_content, size_of}
 use Rattle.font_write.specs.Parts.{bytes_at, count_to, glyf_to, groups_bytes, table_at}
 use Rattle.font_write.specs.declared.plan.Measure.{Measure}
 use Rattle.font_write.specs.declared.plan.Plan.{Plan}
@@ -17,32 +17,32 @@ pub record AreCounts (K : Content) (c : Counts) : Type 0 where
   pub small : c.outlines ≤ 0x0001_0000_0000_0000
 
 -- so are the bytes of the file
-pub record IsSize (form : Form) (K : Content) (s : Size) : Type 0 where
+pub record IsSize (layout : Layout) (K : Content) (s : Size) : Type 0 where
   pub counts : AreCounts K s.counts
-  pub bytes : s.bytes ≡ size_of form K
-  pub written : s.bytes ≡ length (file form K)
+  pub bytes : s.bytes ≡ size_of layout K
+  pub written : s.bytes ≡ length (file layout K)
 
 -- whether there is a table in the slot, its length and its checksum
-pub record IsMeasure (form : Form) (K : Content) (slot : ℕ) (m : Measure) : Type 0 where
-  pub there : m.is_there ≡ is_some (table_at form K slot)
-  pub long : m.length ≡ length (bytes_at form K slot)
-  pub summed : m.checksum ≡ checksum_in_slot slot (bytes_at form K slot)
+pub record IsMeasure (layout : Layout) (K : Content) (slot : ℕ) (m : Measure) : Type 0 where
+  pub there : m.is_there ≡ is_some (table_at layout K slot)
+  pub long : m.length ≡ length (bytes_at layout K slot)
+  pub summed : m.checksum ≡ checksum_in_slot slot (bytes_at layout K slot)
 
 -- the measure of a slot
 abbrev pub measure_at : List Measure → ℕ → Measure
 measure_at measures slot = slice_index_or measures slot (record { is_there = false; length = 0; checksum = 0 })
 
 -- the first n slots are measured
-abbrev pub AreMeasures : Form → Content → ℕ → List Measure → Type 0
-AreMeasures form K n measures = (slot : ℕ) → slot < n → IsMeasure form K slot (measure_at measures slot)
+abbrev pub AreMeasures : Layout → Content → ℕ → List Measure → Type 0
+AreMeasures layout K n measures = (slot : ℕ) → slot < n → IsMeasure layout K slot (measure_at measures slot)
 
 -- all slots are measured, and the tables, the groups, the outlines and checksumAdjustment are known
 pub record IsPlan (K : Content) (p : Plan) : Type 0 where
-  pub measures : AreMeasures (form_of p.profile) K 16 p.measures
-  pub count : p.count ≡ count_to (form_of p.profile) K 16
+  pub measures : AreMeasures (layout_of p.profile) K 16 p.measures
+  pub count : p.count ≡ count_to (layout_of p.profile) K 16
   pub counts : AreCounts K p.counts
-  pub adjustment : p.adjustment ≡ adjustment_in (form_of p.profile) K
+  pub adjustment : p.adjustment ≡ adjustment_in (layout_of p.profile) K
 
 -- the file of a content in the profile of a plan
 abbrev pub planned_file : Plan → Content → List ℕ
-planned_file plan K = file (form_of plan.profile) K
+planned_file plan K = file (layout_of plan.profile) K

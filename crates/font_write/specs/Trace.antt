@@ -7,15 +7,15 @@ pub record IsPrefix (xs ys : List ℕ) : Type 0 where
   pub rest : List ℕ
   pub whole : xs ++ rest ≡ ys
 
--- what a sink tells of itself
+-- what a sink says of itself
 pub record Trace : Type 0 where
   pub fixed : List ℕ  -- what no call changes
   pub count : ℕ  -- how many bytes were taken
-  pub taken : Option (List ℕ)  -- which, where they are told
+  pub taken : Option (List ℕ)  -- which, where they are known
   pub shown : Option (List ℕ)  -- those, and one more that was looked at and not taken
   pub stopped : Bool  -- no more are taken
 
--- where the old bytes are told, the new ones are a front of these and some more
+-- where the old bytes are known, the new ones are a front of these and some more
 abbrev pub IsFront : Option (List ℕ) → Option (List ℕ) → List ℕ → Type 0
 IsFront None new bytes = Unit {0}
 IsFront (Some old) new bytes = (front : List ℕ) × (new ≡ Some front) × IsPrefix front (old ++ bytes)
@@ -24,7 +24,7 @@ IsFront (Some old) new bytes = (front : List ℕ) × (new ≡ Some front) × IsP
 pub record SentAll (old new : Trace) (bytes : List ℕ) : Type 0 where
   pub fixed : new.fixed ≡ old.fixed
   pub count : new.count ≡ old.count + length bytes
-  pub taken : Appends old.taken new.taken bytes  -- where the old bytes are told, the new ones are these and the bytes
+  pub taken : Appends old.taken new.taken bytes  -- where the old bytes are known, the new ones are these and the bytes
   pub going : new.stopped ≡ false
 
 -- a front of the bytes was taken, and it stopped

@@ -42,8 +42,8 @@ pub(crate) fn three_words(x: u32, y: u32, z: u32) -> [u8; 12]
     [a, b, c, d, e, f, g, h, i, j, k, l]
 }
 
-/// Numbers that are sent one after the other are gathered in a block of so many bytes first: a sink that is
-/// asked for each of them alone takes several times as long.
+/// Numbers that are sent one after the other are gathered in a block of this number of bytes first: a sink
+/// that is asked for each of them alone takes several times as long.
 pub(crate) const BLOCK: usize = 1024;
 
 /// Puts the bytes of a `u32` into a block.
@@ -70,7 +70,7 @@ fn header_of(count: u16, range: u16, selector: u16, shift: u16) -> [u8; 12]
     [0, 1, 0, 0, a, b, c, d, e, f, g, h]
 }
 
-/// Returns the header of a file of so many tables.
+/// Returns the header of a file of this number of tables.
 pub(crate) fn header(count: u16) -> [u8; 12]
     requires some { 0 < count }
     requires few { count ≤ 16 }

@@ -6,6 +6,7 @@ mod made_cmap;
 mod made_glyf;
 mod made_head;
 mod made_loca;
+mod outlet_sink;
 mod plan;
 mod room;
 mod same;

@@ -14,7 +14,7 @@ use crate::made_glyf::outline_length;
 use crate::sink::{Sink, Stopped};
 use crate::source::Source;
 
-// For so many glyphs a block has room.
+// The number of glyphs that a block has room for.
 const GLYPHS: u16 = 256;
 
 /// Returns the length of `loca`.
@@ -52,7 +52,7 @@ struct Walk {
     next: u16,
 }
 
-// Goes on behind a glyph.
+// Goes on after a glyph.
 fn pass_glyph<S: Source>(source: &S, g: u16, walk: Walk) -> Walk
     requires low { g < 65535 }
     requires walk { IsWalk (S.content_of source.now) g walk }
@@ -69,7 +69,7 @@ fn pass_glyph<S: Source>(source: &S, g: u16, walk: Walk) -> Walk
     }
 }
 
-// Gathers the offsets behind the glyphs from one on up to another at the front of a block: a sink that
+// Gathers the offsets after the glyphs from one on up to another at the front of a block: a sink that
 // is asked for each of them alone takes several times as long. Returns where the walk stands then.
 fn gather_offsets<S: Source>(
     source: &S,

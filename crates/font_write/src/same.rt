@@ -77,7 +77,7 @@ impl<'a> Same<'a> {
     }
 
     // Recalls that the bytes offered so far are not a prefix of the file. Does nothing at run time.
-    fn is_odd(&self)
+    fn recall_odd(&self)
         ensures { self.now.stopped ≡ true → IsOdd self.now.file self.now.taken self.now.odd }
     {
         let _ = &self.at;
@@ -109,7 +109,7 @@ pub fn is_file_of<S: Source>(source: &S, plan: &Plan, file_bytes: &[u8]) -> bool
 {
     let mut same = Same::new(file_bytes);
     if send_file(source, plan, &mut same).is_err() {
-        same.is_odd();
+        same.recall_odd();
         return false;
     }
     same.is_whole()

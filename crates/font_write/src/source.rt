@@ -1,8 +1,8 @@
 //! What a file is written from: this project's own.
 ghost use Rattle.std.specs.Prelude.{◌≡◌, ◌≤◌, ◌<◌, length, None, Some, is_some, IsSome, MatchOption};
 ghost use Rattle.sfnt_bytes.specs.declared.directory.TheConstants.{MAX_FILE};
-ghost use Rattle.character_map.specs.CharacterMap.{IsCharacterMap};
-ghost use Rattle.character_map.specs.Runs.{IsRun, NoRun};
+ghost use Rattle.codes.specs.CharacterMap.{IsCharacterMap};
+ghost use Rattle.codes.specs.Runs.{IsRun, NoRun};
 ghost use Rattle.font_theory.specs.Bytes.{cut_head, padded};
 ghost use Rattle.font_theory.specs.Content.{Content, IsWritable, KeepsComponents, glyph_count};
 ghost use Rattle.font_write.specs.Parts.{IsNextKept};
@@ -18,7 +18,7 @@ pub trait Source {
 
     /// Recalls what holds of the content: a file of it can be written, and it keeps .notdef, the glyph
     /// of each mapped code, and each component of an outline that it keeps. Does nothing at run time.
-    fn known(&self)
+    fn recall_laws(&self)
         ensures writable { IsWritable (content_of self.now) }
         ensures components { KeepsComponents (content_of self.now) };
 
@@ -82,9 +82,9 @@ pub trait Source {
 
 /// Recalls what is known of the map of a source. Does nothing at run time.
 #[tactic(auto, using(crate::proofs::MapLemmas::is_map))]
-pub(crate) fn known_map<S: Source>(source: &S)
+pub(crate) fn recall_map<S: Source>(source: &S)
     ensures { IsCharacterMap (S.content_of source.now).map }
 {
-    source.known();
+    source.recall_laws();
     let _count = source.glyph_count();
 }

@@ -3,7 +3,7 @@
 ghost use Rattle.std.specs.Prelude.{◌≡◌, ◌+◌, ◌≤◌, ◌<◌, length, false};
 ghost use Rattle.sfnt_bytes.specs.declared.directory.TheConstants.{MAX_FILE};
 ghost use Rattle.font_theory.specs.Bytes.{padded};
-ghost use Rattle.font_theory.specs.File.{entry_bytes, form_of};
+ghost use Rattle.font_theory.specs.File.{entry_bytes, layout_of};
 ghost use Rattle.font_write.specs.Parts.{bodies_to, bytes_at, record_at, start_of};
 ghost use Rattle.font_write.specs.Inside.{records_to};
 ghost use Rattle.font_write.specs.Plan.{IsMeasure, IsPlan, planned_file};
@@ -31,10 +31,10 @@ fn send_table<S: Source, K: Sink>(
     requires plan { IsPlan (S.content_of source.now) plan.now }
     requires small { length (planned_file plan.now (S.content_of source.now)) ≤ MAX_FILE }
     requires slot { slot < 16 }
-    requires fits { (K.trace sink.old).count + length (bytes_at (form_of plan.now.profile)
+    requires fits { (K.trace sink.old).count + length (bytes_at (layout_of plan.now.profile)
         (S.content_of source.now) slot) ≤ MAX_FILE }
     ensures { Sends (K.trace sink.old) (K.trace sink.new)
-        (bytes_at (form_of plan.now.profile) (S.content_of source.now) slot) result }
+        (bytes_at (layout_of plan.now.profile) (S.content_of source.now) slot) result }
 {
     if slot == CMAP {
         return send_cmap(source, plan.profile, plan.counts.groups, sink);
@@ -81,14 +81,14 @@ fn send_record<S: Source, K: Sink>(
     sink: &mut K,
 ) -> Result<(), Stopped>
     requires going { (K.trace sink.old).stopped ≡ false }
-    requires measure { IsMeasure (form_of profile) (S.content_of source.now) slot measure }
+    requires measure { IsMeasure (layout_of profile) (S.content_of source.now) slot measure }
     requires slot { slot < 16 }
-    requires offset { offset ≡ start_of (form_of profile) (S.content_of source.now) + length
-        (bodies_to (form_of profile) (S.content_of source.now) slot) }
-    requires fits { (K.trace sink.old).count + length (record_at (form_of profile)
+    requires offset { offset ≡ start_of (layout_of profile) (S.content_of source.now) + length
+        (bodies_to (layout_of profile) (S.content_of source.now) slot) }
+    requires fits { (K.trace sink.old).count + length (record_at (layout_of profile)
         (S.content_of source.now) slot) ≤ MAX_FILE }
     ensures { Sends (K.trace sink.old) (K.trace sink.new)
-        (record_at (form_of profile) (S.content_of source.now) slot) result }
+        (record_at (layout_of profile) (S.content_of source.now) slot) result }
 {
     if measure.is_there {
         return send_entry(KEPT[slot], measure.checksum, offset, measure.length, sink);
@@ -101,10 +101,10 @@ fn send_records<S: Source, K: Sink>(source: &S, plan: &Plan, sink: &mut K) -> Re
     requires going { (K.trace sink.old).stopped ≡ false }
     requires plan { IsPlan (S.content_of source.now) plan.now }
     requires small { length (planned_file plan.now (S.content_of source.now)) ≤ MAX_FILE }
-    requires fits { (K.trace sink.old).count + length (records_to (form_of plan.now.profile)
+    requires fits { (K.trace sink.old).count + length (records_to (layout_of plan.now.profile)
         (S.content_of source.now) 16) ≤ MAX_FILE }
     ensures { Sends (K.trace sink.old) (K.trace sink.new)
-        (records_to (form_of plan.now.profile) (S.content_of source.now) 16) result }
+        (records_to (layout_of plan.now.profile) (S.content_of source.now) 16) result }
 {
     let mut offset = 12 + 16 * u32::from(plan.count);
     for slot in 0..16usize {
@@ -127,9 +127,9 @@ fn send_body<S: Source, K: Sink>(
     requires small { length (planned_file plan.now (S.content_of source.now)) ≤ MAX_FILE }
     requires slot { slot < 16 }
     requires fits { (K.trace sink.old).count + length (padded
-        (bytes_at (form_of plan.now.profile) (S.content_of source.now) slot)) ≤ MAX_FILE }
+        (bytes_at (layout_of plan.now.profile) (S.content_of source.now) slot)) ≤ MAX_FILE }
     ensures { Sends (K.trace sink.old) (K.trace sink.new)
-        (padded (bytes_at (form_of plan.now.profile) (S.content_of source.now) slot)) result }
+        (padded (bytes_at (layout_of plan.now.profile) (S.content_of source.now) slot)) result }
 {
     send_table(source, plan, slot, sink)?;
     send_padding(plan.measures[slot].length as usize, sink)
@@ -140,10 +140,10 @@ fn send_bodies<S: Source, K: Sink>(source: &S, plan: &Plan, sink: &mut K) -> Res
     requires going { (K.trace sink.old).stopped ≡ false }
     requires plan { IsPlan (S.content_of source.now) plan.now }
     requires small { length (planned_file plan.now (S.content_of source.now)) ≤ MAX_FILE }
-    requires fits { (K.trace sink.old).count + length (bodies_to (form_of plan.now.profile)
+    requires fits { (K.trace sink.old).count + length (bodies_to (layout_of plan.now.profile)
         (S.content_of source.now) 16) ≤ MAX_FILE }
     ensures { Sends (K.trace sink.old) (K.trace sink.new)
-        (bodies_to (form_of plan.now.profile) (S.content_of source.now) 16) result }
+        (bodies_to (layout_of plan.now.profile) (S.content_of source.now) 16) result }
 {
     for slot in 0..16usize {
         send_body(source, plan, slot, sink)?;

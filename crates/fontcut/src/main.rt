@@ -2,10 +2,10 @@
 #![tactic(auto)]
 
 ghost use Rattle.std.specs.Prelude.{◌≡◌, true};
-ghost use Rattle.outlet.specs.Outlet.{fresh_of};
+ghost use Rattle.streams.specs.Outlet.{fresh_of};
 
+use font_cmd::{KeepsReason, Reason, System, run_on_system};
 use font_cut::Outlet;
-use program::{Heard, Reason, System, run_words};
 use std::alloc::{AllocError, Global};
 use std::io::{ErrorKind, Write};
 use std::process::ExitCode;
@@ -30,12 +30,12 @@ fn words_of_line(rt: &(impl Env + AllocGlobal), alloc: Global) -> io::Result<Vec
     Ok(words)
 }
 
-// Returns so many zeros. The prover is slow where their number is written out.
+// Returns this number of zeros. The prover is slow where their number is written out.
 fn zeros(alloc: Global, count: usize) -> Result<Vec<u8>, AllocError> {
     vec![in alloc; 0; count]
 }
 
-// Returns the number of the first argument that is not UTF-8, counted from 1 behind the program's name,
+// Returns the number of the first argument that is not UTF-8, counted from 1 after the program's name,
 // where `--verbose` stands before it and memory is not refused.
 fn unreadable_argument(rt: &impl Env, alloc: Global) -> Option<usize> {
     // An array on the stack would be touched at the start of each run.
@@ -78,7 +78,7 @@ fn say_unreadable<W: Write>(alloc: Global, err: &mut Outlet<W>, argument: Option
 fn main(rt: HostRuntime) -> ExitCode {
     let alloc = rt.alloc();
     let reason = Reason::new();
-    let mut out = Outlet::new(Heard::new(rt.stdout(), &reason));
+    let mut out = Outlet::new(KeepsReason::new(rt.stdout(), &reason));
     let mut err = Outlet::new(rt.stderr());
     let system = System {
         files: &rt,
@@ -88,7 +88,7 @@ fn main(rt: HostRuntime) -> ExitCode {
         reason: &reason,
     };
     match words_of_line(&rt, alloc) {
-        Ok(words) => ExitCode::from(run_words(&system, words.as_slice(), &mut out, &mut err)),
+        Ok(words) => ExitCode::from(run_on_system(&system, words.as_slice(), &mut out, &mut err)),
         Err(fault) if fault.kind() == ErrorKind::OutOfMemory => {
             let _ = err.put(b"fontcut: refused 16 no memory\n");
             ExitCode::from(1)

@@ -2,39 +2,54 @@
 use Rattle.std.proofs.Common.{◌≡◌, ◌≤◌, ℕ, List, Bool, ◌++◌, length, drop, ap, sym, ◌∙◌, Option, Some, Result, MatchResult}
 use Rattle.std.proofs.lemmas.Result.{MatchResult-weaker}
 use Rattle.sfnt_bytes.specs.declared.directory.TheConstants.{MAX_FILE}
-use Rattle.code_sets.specs.Wanted.{member}
-use Rattle.code_sets.specs.declared.ranges.Range.{Range}
+use Rattle.codes.specs.Wanted.{member}
+use Rattle.codes.specs.declared.ranges.Range.{Range}
 use Rattle.font_theory.specs.Content.{content, font_of}
-use Rattle.font_theory.specs.File.{current_form, file}
-use Rattle.font_subset.specs.Content.{codes_wanted}
-use Rattle.font_subset.specs.Cut.{cut_of}
+use Rattle.font_theory.specs.File.{current_layout, file}
+use Rattle.font_subset.specs.Content.{codes_wanted, lean_content}
+use Rattle.font_subset.specs.Lean.{lean_cut_of}
 use Rattle.font_subset.proofs.CutLemmas.{cut_of_is}
+use Rattle.font_subset.proofs.LeanCutLemmas.{lean_cut_of_is}
 use Rattle.fontcut_c.specs.Cutting.{IsAccepted, IsCutInRoom, IsCutSize, RefusesCut, RefusesSize, wanted_by}
 use Rattle.fontcut_c.specs.Inside.{IsFileInRoom, IsFileLength, RefusesFile, RefusesFileSize}
+use Rattle.fontcut_c.specs.Kinds.{cut_in}
+use Rattle.fontcut_c.specs.declared.kind.Kind.{Kind}
+use Rattle.fontcut_c.specs.declared.kind.Kind.TheVariants.{Full, Lean}
 use Rattle.fontcut_c.specs.declared.ranges.CodeRange.{CodeRange}
 use Rattle.fontcut_c.specs.declared.refusal.Refusal.{Refusal}
 use Rattle.fontcut_c.specs.declared.refusal.Refusal.TheVariants.{BadRange, Font, NoMemory, SmallRoom, TooLarge}
 
-pub file_of_source : (bytes font : List ℕ) (wanted : List Range) (codes : ℕ → Bool) (source : List ℕ × Option (List Range))
-    → source ≡ (font, Some wanted) → font ≡ bytes → member wanted ≡ codes → file current_form (content (font_of source.0) (codes_wanted source.1)) ≡ cut_of bytes codes
-file_of_source bytes font wanted codes source is same by =
-    ap (λ (s : List ℕ × Option (List Range)). file current_form (content (font_of s.0) (codes_wanted s.1))) is
-    ∙ (ap (λ (f : List ℕ). file current_form (content (font_of f) (member wanted))) same
-    ∙ (ap (λ (w : ℕ → Bool). file current_form (content (font_of bytes) w)) by
-    ∙ sym (cut_of_is bytes codes)))
+-- the files of the sources of either kind
+module _ (kind : Kind) (bytes font : List ℕ) (wanted : List Range) (codes : ℕ → Bool) (source : List ℕ × Option (List Range))
+    (is : source ≡ (font, Some wanted)) (same : font ≡ bytes) (by : member wanted ≡ codes) where
+  pub file_of_source : kind ≡ Full → file current_layout (content (font_of source.0) (codes_wanted source.1)) ≡ cut_in kind bytes codes
+  file_of_source full =
+      ap (λ (s : List ℕ × Option (List Range)). file current_layout (content (font_of s.0) (codes_wanted s.1))) is
+      ∙ (ap (λ (f : List ℕ). file current_layout (content (font_of f) (member wanted))) same
+      ∙ (ap (λ (w : ℕ → Bool). file current_layout (content (font_of bytes) w)) by
+      ∙ (sym (cut_of_is bytes codes)
+      ∙ ap (λ (k : Kind). cut_in k bytes codes) (sym full))))
 
-module _ (font : List ℕ) (ranges : List CodeRange) (made : List ℕ) (accepted : IsAccepted font ranges) (is : made ≡ cut_of font (wanted_by ranges)) where
-  size_of_cut : (size : ℕ) → size ≡ length made → IsCutSize font ranges size
+  pub file_of_lean_source : kind ≡ Lean → file current_layout (lean_content source) ≡ cut_in kind bytes codes
+  file_of_lean_source lean =
+      ap (λ (s : List ℕ × Option (List Range)). file current_layout (lean_content s)) is
+      ∙ (ap (λ (f : List ℕ). file current_layout (lean_content (f, Some wanted))) same
+      ∙ (sym (lean_cut_of_is bytes wanted)
+      ∙ (ap (λ (w : ℕ → Bool). lean_cut_of bytes w) by
+      ∙ ap (λ (k : Kind). cut_in k bytes codes) (sym lean))))
+
+module _ (kind : Kind) (font : List ℕ) (ranges : List CodeRange) (made : List ℕ) (accepted : IsAccepted font ranges) (is : made ≡ cut_in kind font (wanted_by ranges)) where
+  size_of_cut : (size : ℕ) → size ≡ length made → IsCutSize kind font ranges size
   size_of_cut size e = record { accepted = accepted; size_is = e ∙ ap (λ (b : List ℕ). length b) is }
 
-  not_measured : (refusal : Refusal) → RefusesFileSize made refusal → RefusesSize font ranges refusal
+  not_measured : (refusal : Refusal) → RefusesFileSize made refusal → RefusesSize kind font ranges refusal
   not_measured (TooLarge size) h = (size_of_cut size h.0, h.1)
   not_measured NoMemory h = absurd h
   not_measured (SmallRoom size) h = absurd h
   not_measured (Font error) h = absurd h
   not_measured (BadRange k) h = absurd h
 
-  not_written : (room : ℕ) (refusal : Refusal) → RefusesFile made room refusal → RefusesCut font ranges room refusal
+  not_written : (room : ℕ) (refusal : Refusal) → RefusesFile made room refusal → RefusesCut kind font ranges room refusal
   not_written room (TooLarge size) h = (size_of_cut size h.0, h.1)
   not_written room NoMemory h = absurd h
   not_written room (SmallRoom size) h = (size_of_cut size h.0, h.1, h.2)
@@ -42,12 +57,12 @@ module _ (font : List ℕ) (ranges : List CodeRange) (made : List ℕ) (accepted
   not_written room (BadRange k) h = absurd h
 
   pub size_answered : (result : Result ℕ Refusal) → MatchResult result (IsFileLength made) (RefusesFileSize made)
-      → MatchResult result (λ size. IsCutSize font ranges size × (size ≤ MAX_FILE)) (RefusesSize font ranges)
+      → MatchResult result (λ size. IsCutSize kind font ranges size × (size ≤ MAX_FILE)) (RefusesSize kind font ranges)
   size_answered result h = MatchResult-weaker result h (λ n s. (size_of_cut n s.0, s.1)) not_measured
 
   pub cut_answered : (old new : List ℕ) (result : Result ℕ Refusal)
       → MatchResult result (IsFileInRoom made old new) (λ refusal. (new ≡ old) × RefusesFile made (length old) refusal)
-      → MatchResult result (IsCutInRoom font ranges old new) (λ refusal. (new ≡ old) × RefusesCut font ranges (length old) refusal)
+      → MatchResult result (IsCutInRoom kind font ranges old new) (λ refusal. (new ≡ old) × RefusesCut kind font ranges (length old) refusal)
   cut_answered old new result h =
       MatchResult-weaker result h
       (λ n s.

@@ -1,4 +1,6 @@
 mod CutLemmas
 mod FilledLemmas
+mod InfoLemmas
 mod MappedLemmas
+mod RowLemmas
 mod TextLemmas

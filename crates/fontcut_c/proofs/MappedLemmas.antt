@@ -1,7 +1,7 @@
 -- Ranges that are counted, and written one after the other.
 use Rattle.std.proofs.Common.{◌≡◌, ℕ, suc, ◌+◌, ◌<◌, List, [], ◌∷◌, ◌++◌, drop, length, map, set, take, sym, ◌∙◌, ap, subst, arith}
 use Rattle.std.proofs.lemmas.List.{append-nil, append_assoc, take-append-drop, take_more_set}
-use Rattle.code_sets.specs.declared.ranges.Range.{Range}
+use Rattle.codes.specs.declared.ranges.Range.{Range}
 use Rattle.fontcut_c.specs.Mapped.{as_written}
 use Rattle.fontcut_c.specs.declared.ranges.CodeRange.{CodeRange}
 

@@ -8,19 +8,21 @@ use Rattle.font_file.specs.declared.font_error.FontError.{FontError}
 use Rattle.font_file.specs.declared.font_error.FontError.TheVariants.{BadGlyph, Directory, Mapping, Tables}
 use Rattle.font_subset.specs.declared.cut_forms.CutForm.{CutForm}
 use Rattle.font_subset.specs.declared.cut_forms.CutForm.TheVariants.{Current, Not, Old}
-use Rattle.font_cut.specs.declared.join_error.JoinAllError.{JoinAllError}
-use Rattle.font_cut.specs.declared.join_error.JoinAllError.TheVariants.{At, NothingToJoin}
-use Rattle.font_cut.specs.declared.join_error.JoinError.{JoinError}
-use Rattle.font_cut.specs.declared.join_error.JoinError.TheVariants as joins
+use Rattle.font_join.specs.declared.join_error.JoinAllError.{JoinAllError}
+use Rattle.font_join.specs.declared.join_error.JoinAllError.TheVariants.{At, NothingToJoin}
+use Rattle.font_join.specs.declared.join_error.JoinError.{JoinError}
+use Rattle.font_join.specs.declared.join_error.JoinError.TheVariants as joins
 use Rattle.fontcut_c.specs.declared.answer.Answer.{Answer}
 use Rattle.fontcut_c.specs.declared.refusal.JoinRefusal.{JoinRefusal}
 use Rattle.fontcut_c.specs.declared.refusal.JoinRefusal.TheVariants as of_join
+use Rattle.fontcut_c.specs.declared.refusal.LookupRefusal.{LookupRefusal}
+use Rattle.fontcut_c.specs.declared.refusal.LookupRefusal.TheVariants as of_lookup
 use Rattle.fontcut_c.specs.declared.refusal.PairRefusal.{PairRefusal}
 use Rattle.fontcut_c.specs.declared.refusal.PairRefusal.TheVariants as of_pair
 use Rattle.fontcut_c.specs.declared.refusal.Refusal.{Refusal}
 use Rattle.fontcut_c.specs.declared.refusal.Refusal.TheVariants.{BadRange, Font, NoMemory, SmallRoom, TooLarge}
 
--- a call is done, and wrote so many bytes, or ranges
+-- a call is done, and wrote this number of bytes, or ranges
 abbrev pub done : ℕ → Answer
 done size = record { status = 0; detail = 0; size = size; step = 0 }
 
@@ -32,7 +34,11 @@ told detail = record { status = 0; detail = detail; size = 0; step = 0 }
 abbrev pub refused : ℕ → ℕ → Answer
 refused number argument = record { status = number; detail = argument; size = 0; step = 0 }
 
--- a status that tells a size
+-- a number that is no kind's was given for one
+abbrev pub unknown_kind : ℕ → Answer
+unknown_kind number = refused 101 number
+
+-- a status that says a size
 abbrev pub sized : ℕ → ℕ → Answer
 sized status size = record { status = status; detail = 0; size = size; step = 0 }
 
@@ -73,6 +79,12 @@ pair_refusal_answer (of_pair.Cut error) = font_answer error
 pair_refusal_answer (of_pair.Font error) = at_step 1 (font_answer error)
 pair_refusal_answer of_pair.NoMemory = refused 16 0
 
+-- the answer where nothing is looked up
+abbrev pub lookup_refusal_answer : LookupRefusal → Answer
+lookup_refusal_answer (of_lookup.Font error) = font_answer error
+lookup_refusal_answer (of_lookup.NoGlyph index) = refused 102 (as_detail index)
+lookup_refusal_answer (of_lookup.SmallRoom size) = sized 100 size
+
 -- the answer where two files are not joined
 abbrev pub join_error_answer : JoinError → Answer
 join_error_answer (joins.Font which error) = font_answer error
@@ -109,7 +121,7 @@ abbrev pub bool_number : Bool → ℕ
 bool_number true = 1
 bool_number false = 0
 
--- the answer of a call that writes so many bytes, or is refused
+-- the answer of a call that writes this number of bytes, or is refused
 abbrev pub size_answer : Result ℕ Refusal → Answer
 size_answer (Ok size) = done size
 size_answer (Err refusal) = refusal_answer refusal
@@ -118,6 +130,11 @@ size_answer (Err refusal) = refusal_answer refusal
 abbrev pub join_answer : Result ℕ JoinRefusal → Answer
 join_answer (Ok size) = done size
 join_answer (Err refusal) = join_refusal_answer refusal
+
+-- the same of a call that looks numbers up
+abbrev pub lookup_answer : Result ℕ LookupRefusal → Answer
+lookup_answer (Ok size) = done size
+lookup_answer (Err refusal) = lookup_refusal_answer refusal
 
 -- the answer to what form a file has
 abbrev pub form_answer : Result CutForm Refusal → Answer
@@ -129,7 +146,7 @@ abbrev pub belongs_answer : Result Bool PairRefusal → Answer
 belongs_answer (Ok answer) = told (bool_number answer)
 belongs_answer (Err refusal) = pair_refusal_answer refusal
 
--- bytes are at the front of room, and what was behind them is as it was
+-- bytes are at the front of room, and what was after them is as it was
 pub record IsInRoom {X : Type 0} (items old new : List X) (size : ℕ) : Type 0 where
   pub length_is : size ≡ length items
   pub fits : size ≤ length old

@@ -1,11 +1,12 @@
 -- What a call for a cut answers, this project's own: the first refusal, or the cut in the caller's room.
 use Rattle.std.specs.Prelude.{◌≡◌, ℕ, ◌<◌, ◌≤◌, Bool, List, [], ◌∷◌, length, None, Some, Result, MatchResult, slice_index_or}
 use Rattle.sfnt_bytes.specs.declared.directory.TheConstants.{MAX_FILE}
-use Rattle.code_sets.specs.Wanted.{IsBadRange, codes_between, either, no_codes}
+use Rattle.codes.specs.Wanted.{IsBadRange, codes_between, either, no_codes}
 use Rattle.font_file.specs.Font.{font_fault}
-use Rattle.font_subset.specs.Cut.{cut_of}
 use Rattle.fontcut_c.specs.Answers.{IsInRoom, size_answer}
+use Rattle.fontcut_c.specs.Kinds.{cut_in}
 use Rattle.fontcut_c.specs.declared.answer.Answer.{Answer}
+use Rattle.fontcut_c.specs.declared.kind.Kind.{Kind}
 use Rattle.fontcut_c.specs.declared.ranges.CodeRange.{CodeRange}
 use Rattle.fontcut_c.specs.declared.refusal.Refusal.{Refusal}
 use Rattle.fontcut_c.specs.declared.refusal.Refusal.TheVariants.{BadRange, Font, NoMemory, SmallRoom, TooLarge}
@@ -23,7 +24,7 @@ wanted_by ranges = with_ranges no_codes ranges
 abbrev pub range_at : List CodeRange → ℕ → CodeRange
 range_at ranges k = slice_index_or ranges k (record { first = 0; last = 0 })
 
--- the range at an index ends before it begins, or behind the last code point
+-- the range at an index ends before it begins, or after the last code point
 abbrev pub IsBadAt : List CodeRange → ℕ → Type 0
 IsBadAt ranges k = IsBadRange (range_at ranges k).first (range_at ranges k).last
 
@@ -46,41 +47,47 @@ pub record IsAccepted (font : List ℕ) (ranges : List CodeRange) : Type 0 where
   pub unrefused : font_fault font ≡ None
   pub good : AreGood ranges
 
--- so many bytes has the cut
-pub record IsCutSize (font : List ℕ) (ranges : List CodeRange) (size : ℕ) : Type 0 where
+-- the size in bytes of the cut of a font, of a kind
+pub record IsCutSize (kind : Kind) (font : List ℕ) (ranges : List CodeRange) (size : ℕ) : Type 0 where
   pub accepted : IsAccepted font ranges
-  pub size_is : size ≡ length (cut_of font (wanted_by ranges))
+  pub size_is : size ≡ length (cut_in kind font (wanted_by ranges))
 
 -- why the cut is not measured: the font, then the ranges in turn, and then memory or size
-abbrev pub RefusesSize : List ℕ → List CodeRange → Refusal → Type 0
-RefusesSize font ranges (Font error) = font_fault font ≡ Some error
-RefusesSize font ranges (BadRange k) = (font_fault font ≡ None) × IsFirstBad ranges k
-RefusesSize font ranges NoMemory = IsAccepted font ranges
-RefusesSize font ranges (TooLarge size) = IsCutSize font ranges size × (MAX_FILE < size)
-RefusesSize font ranges (SmallRoom size) = ⊥
+abbrev pub RefusesSize : Kind → List ℕ → List CodeRange → Refusal → Type 0
+RefusesSize kind font ranges (Font error) = font_fault font ≡ Some error
+RefusesSize kind font ranges (BadRange k) = (font_fault font ≡ None) × IsFirstBad ranges k
+RefusesSize kind font ranges NoMemory = IsAccepted font ranges
+RefusesSize kind font ranges (TooLarge size) = IsCutSize kind font ranges size × (MAX_FILE < size)
+RefusesSize kind font ranges (SmallRoom size) = ⊥
 
 -- why the cut is not written: as before, and then for the room
-abbrev pub RefusesCut : List ℕ → List CodeRange → ℕ → Refusal → Type 0
-RefusesCut font ranges room (Font error) = RefusesSize font ranges (Font error)
-RefusesCut font ranges room (BadRange k) = RefusesSize font ranges (BadRange k)
-RefusesCut font ranges room NoMemory = RefusesSize font ranges NoMemory
-RefusesCut font ranges room (TooLarge size) = RefusesSize font ranges (TooLarge size)
-RefusesCut font ranges room (SmallRoom size) = IsCutSize font ranges size × (size ≤ MAX_FILE) × (room < size)
+abbrev pub RefusesCut : Kind → List ℕ → List CodeRange → ℕ → Refusal → Type 0
+RefusesCut kind font ranges room (Font error) = RefusesSize kind font ranges (Font error)
+RefusesCut kind font ranges room (BadRange k) = RefusesSize kind font ranges (BadRange k)
+RefusesCut kind font ranges room NoMemory = RefusesSize kind font ranges NoMemory
+RefusesCut kind font ranges room (TooLarge size) = RefusesSize kind font ranges (TooLarge size)
+RefusesCut kind font ranges room (SmallRoom size) =
+    IsCutSize kind font ranges size × (size ≤ MAX_FILE) × (room < size)
 
 -- the cut is in the room
-pub record IsCutInRoom (font : List ℕ) (ranges : List CodeRange) (old new : List ℕ) (size : ℕ) : Type 0 where
+pub record IsCutInRoom (kind : Kind) (font : List ℕ) (ranges : List CodeRange) (old new : List ℕ) (size : ℕ)
+    : Type 0 where
   pub accepted : IsAccepted font ranges
   pub small : size ≤ MAX_FILE
-  pub written : IsInRoom (cut_of font (wanted_by ranges)) old new size
+  pub written : IsInRoom (cut_in kind font (wanted_by ranges)) old new size
 
--- what `fontcut_cut_size` answers
-pub record AnswersCutSize (font : List ℕ) (ranges : List CodeRange) (answer : Answer) : Type 0 where
+-- what a call for the size of a cut of a kind answers
+pub record AnswersCutSize (kind : Kind) (font : List ℕ) (ranges : List CodeRange) (answer : Answer)
+    : Type 0 where
   pub outcome : Result ℕ Refusal
   pub told : answer ≡ size_answer outcome
-  pub holds : MatchResult outcome (λ size. IsCutSize font ranges size × (size ≤ MAX_FILE)) (RefusesSize font ranges)
+  pub holds : MatchResult outcome (λ size. IsCutSize kind font ranges size × (size ≤ MAX_FILE))
+      (RefusesSize kind font ranges)
 
--- what `fontcut_cut` answers: a refusal leaves the room as it was
-pub record AnswersCut (font : List ℕ) (ranges : List CodeRange) (old new : List ℕ) (answer : Answer) : Type 0 where
+-- what a call for a cut of a kind answers: a refusal leaves the room as it was
+pub record AnswersCut (kind : Kind) (font : List ℕ) (ranges : List CodeRange) (old new : List ℕ) (answer : Answer)
+    : Type 0 where
   pub outcome : Result ℕ Refusal
   pub told : answer ≡ size_answer outcome
-  pub holds : MatchResult outcome (IsCutInRoom font ranges old new) (λ refusal. (new ≡ old) × RefusesCut font ranges (length old) refusal)
+  pub holds : MatchResult outcome (IsCutInRoom kind font ranges old new)
+      (λ refusal. (new ≡ old) × RefusesCut kind font ranges (length old) refusal)

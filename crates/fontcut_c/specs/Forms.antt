@@ -1,10 +1,11 @@
 -- What the calls for the form of a cut answer, this project's own.
 use Rattle.std.specs.Prelude.{◌≡◌, ℕ, ◌↔◌, IsTrue, Bool, List, None, Some, Result, MatchResult}
 use Rattle.font_file.specs.Font.{font_fault}
-use Rattle.font_subset.specs.Cut.{IsCutForSome, cut_form_of}
 use Rattle.font_subset.specs.declared.cut_forms.CutForm.{CutForm}
 use Rattle.fontcut_c.specs.Answers.{belongs_answer, form_answer}
+use Rattle.fontcut_c.specs.Kinds.{IsCutIn, form_in}
 use Rattle.fontcut_c.specs.declared.answer.Answer.{Answer}
+use Rattle.fontcut_c.specs.declared.kind.Kind.{Kind}
 use Rattle.fontcut_c.specs.declared.refusal.PairRefusal.{PairRefusal}
 use Rattle.fontcut_c.specs.declared.refusal.PairRefusal.TheVariants as of_pair
 use Rattle.fontcut_c.specs.declared.refusal.Refusal.{Refusal}
@@ -22,20 +23,21 @@ RefusesPair cut font (of_pair.Cut error) = font_fault cut ≡ Some error
 RefusesPair cut font (of_pair.Font error) = (font_fault cut ≡ None) × (font_fault font ≡ Some error)
 RefusesPair cut font of_pair.NoMemory = (font_fault cut ≡ None) × (font_fault font ≡ None)
 
--- whether a file is a cut of a font, both being accepted
-pub record IsBelonging (cut font : List ℕ) (is : Bool) : Type 0 where
+-- whether a file is a cut of a font, of a kind, both being accepted
+pub record IsBelonging (kind : Kind) (cut font : List ℕ) (is : Bool) : Type 0 where
   pub cut_accepted : font_fault cut ≡ None
   pub font_accepted : font_fault font ≡ None
-  pub exact : IsTrue is ↔ IsCutForSome font cut
+  pub exact : IsTrue is ↔ IsCutIn kind font cut
 
--- what `fontcut_is_cut` answers
-pub record AnswersForm (font : List ℕ) (answer : Answer) : Type 0 where
+-- what a call for the form of a font as a cut of a kind answers
+pub record AnswersForm (kind : Kind) (font : List ℕ) (answer : Answer) : Type 0 where
   pub outcome : Result CutForm Refusal
   pub told : answer ≡ form_answer outcome
-  pub holds : MatchResult outcome (λ form. (font_fault font ≡ None) × (form ≡ cut_form_of font)) (RefusesFont font)
+  pub holds : MatchResult outcome (λ form. (font_fault font ≡ None) × (form ≡ form_in kind font))
+      (RefusesFont font)
 
--- what `fontcut_is_cut_of` answers
-pub record AnswersBelonging (cut font : List ℕ) (answer : Answer) : Type 0 where
+-- what a call answers that asks whether a file is a cut of a font, of a kind
+pub record AnswersBelonging (kind : Kind) (cut font : List ℕ) (answer : Answer) : Type 0 where
   pub outcome : Result Bool PairRefusal
   pub told : answer ≡ belongs_answer outcome
-  pub holds : MatchResult outcome (IsBelonging cut font) (RefusesPair cut font)
+  pub holds : MatchResult outcome (IsBelonging kind cut font) (RefusesPair cut font)

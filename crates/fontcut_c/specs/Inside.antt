@@ -2,14 +2,12 @@
 use Rattle.std.specs.Prelude.{◌≡◌, ℕ, ◌<◌, ◌≤◌, Bool, List, [], ◌∷◌, ◌++◌, length, take, None, Some, if◌then◌else◌}
 use Rattle.sfnt_bytes.specs.declared.directory.TheConstants.{MAX_FILE}
 use Rattle.font_file.specs.Font.{font_fault}
-use Rattle.font_theory.specs.Content.{Content}
-use Rattle.font_theory.specs.File.{current_form}
-use Rattle.font_write.specs.Plan.{IsSize}
 use Rattle.font_write.specs.Trace.{Trace}
-use Rattle.font_write.specs.declared.size.Size.{Size}
 use Rattle.fontcut_c.specs.Answers.{IsInRoom}
 use Rattle.fontcut_c.specs.Cutting.{IsFirstBad}
 use Rattle.fontcut_c.specs.declared.ranges.CodeRange.{CodeRange}
+use Rattle.fontcut_c.specs.declared.refusal.JoinRefusal.{JoinRefusal}
+use Rattle.fontcut_c.specs.declared.refusal.JoinRefusal.TheVariants as of_join
 use Rattle.fontcut_c.specs.declared.refusal.Refusal.{Refusal}
 use Rattle.fontcut_c.specs.declared.refusal.Refusal.TheVariants.{BadRange, Font, SmallRoom, TooLarge}
 
@@ -28,14 +26,9 @@ filling name out at odd stopped =
       stopped = stopped;
     }
 
--- so many bytes has a file, no more than it may have
+-- a number of bytes that a file may have
 abbrev pub IsFileLength : List ℕ → ℕ → Type 0
 IsFileLength bytes size = (size ≡ length bytes) × (size ≤ MAX_FILE)
-
--- the file of a content is counted, and not too large
-pub record IsFileSize (K : Content) (size : Size) : Type 0 where
-  pub counted : IsSize current_form K size
-  pub small : size.bytes ≤ MAX_FILE
 
 -- a file is in the room
 pub record IsFileInRoom (bytes old new : List ℕ) (size : ℕ) : Type 0 where
@@ -56,6 +49,15 @@ abbrev pub RefusesFile : List ℕ → ℕ → Refusal → Type 0
 RefusesFile bytes room (TooLarge size) = (size ≡ length bytes) × (MAX_FILE < size)
 RefusesFile bytes room (SmallRoom size) = IsLargerFile bytes room size
 RefusesFile bytes room _ = ⊥
+
+-- a file is no larger than it may be
+abbrev pub IsSmallFile : List ℕ → Type 0
+IsSmallFile bytes = length bytes ≤ MAX_FILE
+
+-- the join of files is larger than the room
+abbrev pub RefusesJoined : List ℕ → ℕ → JoinRefusal → Type 0
+RefusesJoined bytes room (of_join.SmallRoom size) = IsLargerFile bytes room size
+RefusesJoined bytes room _ = ⊥
 
 -- what refuses a request before memory is asked for: the font, and then the first bad range
 abbrev pub RefusesRequest : List ℕ → List CodeRange → Refusal → Type 0

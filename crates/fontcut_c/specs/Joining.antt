@@ -1,34 +1,38 @@
 -- What a call for a join answers, this project's own: the first refusal, or the join in the caller's room.
 use Rattle.std.specs.Prelude.{◌≡◌, ℕ, ◌<◌, ◌≤◌, List, length, Result, MatchResult}
 use Rattle.sfnt_bytes.specs.declared.directory.TheConstants.{MAX_FILE}
-use Rattle.font_cut.specs.JoinList.{IsAllJoined, IsAllRefusal}
+use Rattle.font_theory.specs.Cut.{Format}
+use Rattle.font_join.specs.JoinList.{IsAllJoined, IsAllRefusal}
 use Rattle.fontcut_c.specs.Answers.{IsInRoom, join_answer}
+use Rattle.fontcut_c.specs.Kinds.{format_of}
 use Rattle.fontcut_c.specs.declared.answer.Answer.{Answer}
+use Rattle.fontcut_c.specs.declared.kind.Kind.{Kind}
 use Rattle.fontcut_c.specs.declared.refusal.JoinRefusal.{JoinRefusal}
 use Rattle.fontcut_c.specs.declared.refusal.JoinRefusal.TheVariants.{Join, SmallRoom}
 
--- the join of all files, of which there is one at least, is in the room
-pub record IsJoinInRoom (files : List (List ℕ)) (old new : List ℕ) (size : ℕ) : Type 0 where
+-- the join of all files, of which there is one at least, over a format, is in the room
+pub record IsJoinInRoom (R : Format) (files : List (List ℕ)) (old new : List ℕ) (size : ℕ) : Type 0 where
   pub join : List ℕ
-  pub joined : IsAllJoined files join
+  pub joined : IsAllJoined R files join
   pub small : size ≤ MAX_FILE
   pub written : IsInRoom join old new size
 
--- the join has so many bytes, more than the room
-pub record IsLargerJoin (files : List (List ℕ)) (room size : ℕ) : Type 0 where
+-- the join has this number of bytes, more than the room
+pub record IsLargerJoin (R : Format) (files : List (List ℕ)) (room size : ℕ) : Type 0 where
   pub join : List ℕ
-  pub joined : IsAllJoined files join
+  pub joined : IsAllJoined R files join
   pub size_is : size ≡ length join
   pub small : size ≤ MAX_FILE
   pub over : room < size
 
 -- why the join is not written: a step is refused, or the room is too small
-abbrev pub RefusesJoin : List (List ℕ) → ℕ → JoinRefusal → Type 0
-RefusesJoin files room (Join error) = IsAllRefusal files error
-RefusesJoin files room (SmallRoom size) = IsLargerJoin files room size
+abbrev pub RefusesJoin : Format → List (List ℕ) → ℕ → JoinRefusal → Type 0
+RefusesJoin R files room (Join error) = IsAllRefusal R files error
+RefusesJoin R files room (SmallRoom size) = IsLargerJoin R files room size
 
--- what `fontcut_join_all` answers: a refusal leaves the room as it was
-pub record AnswersJoin (files : List (List ℕ)) (old new : List ℕ) (answer : Answer) : Type 0 where
+-- what a call for a join of a kind answers: a refusal leaves the room as it was
+pub record AnswersJoin (kind : Kind) (files : List (List ℕ)) (old new : List ℕ) (answer : Answer) : Type 0 where
   pub outcome : Result ℕ JoinRefusal
   pub told : answer ≡ join_answer outcome
-  pub holds : MatchResult outcome (IsJoinInRoom files old new) (λ refusal. (new ≡ old) × RefusesJoin files (length old) refusal)
+  pub holds : MatchResult outcome (IsJoinInRoom (format_of kind) files old new)
+      (λ refusal. (new ≡ old) × RefusesJoin (format_of kind) files (length old) refusal)

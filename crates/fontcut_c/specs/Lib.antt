@@ -1,7 +1,10 @@
 pub mod Answers
 pub mod Cutting
 pub mod Forms
+pub mod Glyphs
+pub mod Info
 pub mod Inside
 pub mod Joining
+pub mod Kinds
 pub mod Mapped
 pub mod Text

@@ -1,9 +1,9 @@
 -- What the call for the mapped codes answers, this project's own: the ranges that `codes` prints.
 use Rattle.std.specs.Prelude.{◌≡◌, ℕ, ◌<◌, List, length, map, None, Some, Result, MatchResult}
 use Rattle.font_file.specs.Font.{font_fault}
-use Rattle.code_sets.specs.declared.ranges.Range.{Range}
+use Rattle.codes.specs.declared.ranges.Range.{Range}
 use Rattle.font_cut.specs.Fonts.{cmap_of, glyph_count_of, mapping_of}
-use Rattle.font_cmd.specs.Codes.{code_ranges}
+use Rattle.commands.specs.Codes.{code_ranges}
 use Rattle.fontcut_c.specs.Answers.{IsInRoom, size_answer}
 use Rattle.fontcut_c.specs.declared.answer.Answer.{Answer}
 use Rattle.fontcut_c.specs.declared.ranges.CodeRange.{CodeRange}

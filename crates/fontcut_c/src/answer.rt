@@ -1,17 +1,22 @@
 //! What each call answers.
 ghost use Rattle.std.specs.Prelude.{◌≡◌};
-ghost use Rattle.fontcut_c.specs.Answers.{at_step, done as done_with, refused as refused_with, sized as sized_with, told as told_with};
+ghost use Rattle.fontcut_c.specs.Answers.{at_step, done as done_with, refused as refused_with, sized as sized_with, told as told_with, unknown_kind as unknown_kind_with};
+
+/// The status of a number that was given for a kind of cuts and is none's.
+const UNKNOWN_KIND: u8 = 101;
 
 /// What a call answers. A field that has nothing to tell is 0.
 #[repr(C)]
 #[derive(Clone, Copy, Debug, PartialEq, Eq)]
 pub struct Answer {
-    /// 0 where the call is done, 100 where the room is too small, and else the number of the refusal.
+    /// 0 where the call is done, 100 where the room is too small, 101 where there is no such kind of cuts, 102
+    /// where the font has no such glyph, and else the number of the refusal.
     pub status: u32,
-    /// What a refusal names: a tag as a big-endian number, an index, a glyph or a code; and the answer to a
-    /// question.
+    /// What a refusal names: a tag as a big-endian number, an index, a glyph, a code or the number that is no
+    /// kind's; and the answer to a question.
     pub detail: u32,
-    /// How many bytes, or ranges, were written; and where the status is 100 or 18, how many there are.
+    /// How many bytes, ranges, glyphs or metrics were written; and where the status is 100 or 18, how many there
+    /// are.
     pub size: u64,
     /// Which of several files is refused, or was being joined where memory is refused, counted from 0.
     pub step: u64,
@@ -54,7 +59,14 @@ impl Answer {
         }
     }
 
-    /// Returns a status that tells a size.
+    /// Returns the answer to a number that is no kind's.
+    pub(crate) fn unknown_kind(number: u32) -> Answer
+        ensures { result ≡ unknown_kind_with number }
+    {
+        Answer::refused(UNKNOWN_KIND, number)
+    }
+
+    /// Returns a status that says a size.
     pub(crate) fn sized(status: u32, size: u64) -> Answer
         ensures { result ≡ sized_with status size }
     {

@@ -5,7 +5,7 @@ ghost use Rattle.font_write.specs.Plan.{IsPlan, planned_file};
 
 use font_write::{Plan, Sink, Source, Stopped, send_file};
 
-/// Room, how many bytes of it are filled, and the byte that found no room, behind which it is stopped.
+/// Room, how many bytes of it are filled, and the byte that found no room, after which it is stopped.
 #[derive(Drop)]
 pub(crate) struct Filled<'a> {
     out: &'a mut [u8],

@@ -1,31 +1,56 @@
-//! The join of a list of files, written to the caller's room.
+//! The join of a list of files, of a kind, written to the caller's room.
 ghost use Rattle.std.specs.Prelude.{◌≡◌, MatchResult, length, map};
+ghost use Rattle.font_theory.specs.File.{current_layout, file};
+ghost use Rattle.fontcut_c.specs.Inside.{IsFileInRoom, IsSmallFile, RefusesJoined};
 ghost use Rattle.fontcut_c.specs.Joining.{IsJoinInRoom, RefusesJoin};
+ghost use Rattle.fontcut_c.specs.Kinds.{format_of};
 
+use crate::kind::Kind;
 use crate::refusal::JoinRefusal;
 use crate::room::write_sized;
-use font_cut::{open_first_file, union_of_files};
-use font_theory::Profile;
-use font_write::file_size;
+use font_join::{lean, open_first_file, union_of_files};
+use font_subset::CURRENT;
+use font_write::{Source, file_size};
 use std::alloc::Global;
 
-/// Writes the join of all files to the front of room, and returns its length.
-pub(crate) fn join_to(alloc: Global, files: &[&[u8]], out: &mut [u8]) -> Result<u64, JoinRefusal>
+// Writes the file of a union to the front of room, and returns its length.
+fn write_union<S: Source>(union: &S, out: &mut [u8]) -> Result<u64, JoinRefusal>
+    requires { IsSmallFile (file current_layout (S.content_of union.now)) }
+    ensures { let z = file current_layout (S.content_of union.now) in
+        MatchResult result (IsFileInRoom z out.old out.new)
+        (λ refusal. (out.new ≡ out.old) × RefusesJoined z (length out.old) refusal) }
+{
+    let size = file_size(union, CURRENT);
+    match write_sized(union, size, out) {
+        Ok(size) => Ok(size),
+        Err(size) => Err(JoinRefusal::SmallRoom(size)),
+    }
+}
+
+/// Writes the join of all files, of a kind, to the front of room, and returns its length.
+pub(crate) fn join_to(
+    alloc: Global,
+    kind: Kind,
+    files: &[&[u8]],
+    out: &mut [u8],
+) -> Result<u64, JoinRefusal>
     ensures { let bytes = map (λ f. f.now) files.now in
-        MatchResult result (IsJoinInRoom bytes out.old out.new)
-        (λ refusal. (out.new ≡ out.old) × RefusesJoin bytes (length out.old) refusal) }
+        MatchResult result (IsJoinInRoom (format_of kind) bytes out.old out.new)
+        (λ refusal. (out.new ≡ out.old)
+        × RefusesJoin (format_of kind) bytes (length out.old) refusal) }
 {
     let first = match open_first_file(files) {
         Ok(first) => first,
         Err(error) => return Err(JoinRefusal::Join(error)),
     };
-    let union = match union_of_files(alloc, &first, files) {
-        Ok(union) => union,
-        Err(error) => return Err(JoinRefusal::Join(error)),
-    };
-    let size = file_size(&union, Profile::Second);
-    match write_sized(&union, size, out) {
-        Ok(size) => Ok(size),
-        Err(size) => Err(JoinRefusal::SmallRoom(size)),
+    match kind {
+        Kind::Full => match union_of_files(alloc, &first, files) {
+            Ok(union) => write_union(&union, out),
+            Err(error) => Err(JoinRefusal::Join(error)),
+        },
+        Kind::Lean => match lean::union_of_files(alloc, &first, files) {
+            Ok(union) => write_union(&union, out),
+            Err(error) => Err(JoinRefusal::Join(error)),
+        },
     }
 }

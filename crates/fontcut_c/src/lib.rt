@@ -6,35 +6,50 @@ mod answer;
 mod cutting;
 mod filled;
 mod forms;
+mod glyphs;
+mod info;
 mod joining;
+mod kind;
 mod mapped;
+mod metrics;
 mod ranges;
 mod refusal;
 mod room;
 mod text;
 
-ghost use Rattle.std.specs.Prelude.{◌≡◌, ◌≢◌, map};
+ghost use Rattle.std.specs.Prelude.{◌≡◌, ◌≢◌, None, map};
 ghost use Rattle.font_file.specs.Font.{font_fault};
 ghost use Rattle.font_subset.specs.Cut.{cut_of};
-ghost use Rattle.fontcut_c.specs.Answers.{IsInRoom, check_answer};
+ghost use Rattle.fontcut_c.specs.Answers.{IsInRoom, belongs_answer, check_answer, form_answer, join_answer, lookup_answer, size_answer};
 ghost use Rattle.fontcut_c.specs.Cutting.{AnswersCut, AnswersCutSize, wanted_by};
 ghost use Rattle.fontcut_c.specs.Forms.{AnswersBelonging, AnswersForm};
+ghost use Rattle.fontcut_c.specs.Glyphs.{AnswersGlyphs, AnswersMetrics, glyphs_of, metrics_of};
+ghost use Rattle.fontcut_c.specs.Info.{info_of};
 ghost use Rattle.fontcut_c.specs.Joining.{AnswersJoin};
+ghost use Rattle.fontcut_c.specs.Kinds.{AnswersInKind, HoldsInKind, cut_in};
 ghost use Rattle.fontcut_c.specs.Mapped.{AnswersCodes};
 ghost use Rattle.fontcut_c.specs.Text.{AnswersText};
+ghost use Rattle.fontcut_c.specs.declared.TheConstants.{VERSION};
+ghost use Rattle.fontcut_c.specs.declared.kind.Kind.TheVariants.{Full};
 
 pub use crate::answer::Answer;
 use crate::cutting::{cut_size, cut_to};
 use crate::forms::{belongs, form_of, number_of};
+use crate::glyphs::glyphs_to;
+pub use crate::info::Info;
+use crate::info::info_in;
 use crate::joining::join_to;
+pub use crate::kind::Kind;
 use crate::mapped::codes_to;
+pub use crate::metrics::Metric;
+use crate::metrics::metrics_to;
 pub use crate::ranges::CodeRange;
-pub use crate::refusal::{JoinRefusal, PairRefusal, Refusal};
+pub use crate::refusal::{JoinRefusal, LookupRefusal, PairRefusal, Refusal};
 use crate::text::text_to;
-use font_cut::Font;
+use font_cut::{CutForm, Font};
 use std::alloc::Global;
 
-/// Tells whether a font is accepted: status 0, or the first refusal that applies.
+/// Says whether a font is accepted: status 0, or the first refusal that applies.
 #[unsafe(no_mangle)]
 pub extern "C" fn fontcut_check(font: &[u8]) -> Answer
     ensures { result ≡ check_answer (font_fault font.now) }
@@ -45,19 +60,131 @@ pub extern "C" fn fontcut_check(font: &[u8]) -> Answer
     }
 }
 
-/// Tells how many bytes the cut of a font for the codes of the ranges has. No cut is built.
-#[unsafe(no_mangle)]
-pub extern "C" fn fontcut_cut_size(alloc: Global, font: &[u8], ranges: &[CodeRange]) -> Answer
-    ensures { AnswersCutSize font.now ranges.now result }
+// Returns the answer of a call that measures or writes a cut.
+fn size_answered(outcome: Result<u64, Refusal>) -> Answer
+    ensures { result ≡ size_answer outcome }
 {
-    match cut_size(alloc, font, ranges) {
+    match outcome {
         Ok(size) => Answer::done(size),
         Err(refusal) => refusal.answer(),
     }
 }
 
-/// Writes the cut of a font for the codes of the ranges to the front of `out`. A refusal leaves `out` as it
-/// was.
+// Returns the answer of a call that asks for the form of a font.
+fn form_answered(outcome: Result<CutForm, Refusal>) -> Answer
+    ensures { result ≡ form_answer outcome }
+{
+    match outcome {
+        Ok(form) => Answer::told(number_of(form)),
+        Err(refusal) => refusal.answer(),
+    }
+}
+
+// Returns the answer of a call that asks whether a file is a cut of another.
+fn belonging_answered(outcome: Result<bool, PairRefusal>) -> Answer
+    ensures { result ≡ belongs_answer outcome }
+{
+    match outcome {
+        Ok(yes) => Answer::told(u32::from(yes)),
+        Err(refusal) => refusal.answer(),
+    }
+}
+
+// Returns the answer of a call that looks numbers up.
+fn lookup_answered(outcome: Result<u64, LookupRefusal>) -> Answer
+    ensures { result ≡ lookup_answer outcome }
+{
+    match outcome {
+        Ok(size) => Answer::done(size),
+        Err(refusal) => refusal.answer(),
+    }
+}
+
+// Returns the answer of a call that writes a join.
+fn join_answered(outcome: Result<u64, JoinRefusal>) -> Answer
+    ensures { result ≡ join_answer outcome }
+{
+    match outcome {
+        Ok(size) => Answer::done(size),
+        Err(refusal) => refusal.answer(),
+    }
+}
+
+/// Gives the size in bytes of the cut of a font for the codes of the ranges, of the kind that the number names.
+/// No cut is built. Status 101 where the number names no kind, which is asked before all else.
+#[unsafe(no_mangle)]
+pub extern "C" fn fontcut_subset_size(
+    alloc: Global,
+    kind: u32,
+    font: &[u8],
+    ranges: &[CodeRange],
+) -> Answer
+    ensures { AnswersInKind kind result (λ k. AnswersCutSize k font.now ranges.now result) }
+{
+    match Kind::of(kind) {
+        Some(kind) => size_answered(cut_size(alloc, kind, font, ranges)),
+        None => Answer::unknown_kind(kind),
+    }
+}
+
+/// Writes the cut of a font for the codes of the ranges, of the kind that the number names, to the front of
+/// `out`. A refusal leaves `out` as it was. Status 101 where the number names no kind, which is asked before
+/// all else.
+#[unsafe(no_mangle)]
+pub extern "C" fn fontcut_subset(
+    alloc: Global,
+    kind: u32,
+    font: &[u8],
+    ranges: &[CodeRange],
+    out: &mut [u8],
+) -> Answer
+    ensures exact { AnswersInKind kind result
+        (λ k. AnswersCut k font.now ranges.now out.old out.new result) }
+    ensures done { result.status ≡ 0 → HoldsInKind kind
+        (λ k. IsInRoom (cut_in k font.now (wanted_by ranges.now)) out.old out.new result.size) }
+    ensures untouched { result.status ≢ 0 → out.new ≡ out.old }
+{
+    match Kind::of(kind) {
+        Some(kind) => size_answered(cut_to(alloc, kind, font, ranges, out)),
+        None => Answer::unknown_kind(kind),
+    }
+}
+
+/// Says in which form a font is a cut of the kind that the number names: `detail` is 0 where it is none, 1
+/// where it is current and 2 where it is an old one, which no lean cut is. Status 101 where the number names
+/// no kind, which is asked before all else.
+#[unsafe(no_mangle)]
+pub extern "C" fn fontcut_cut_form(alloc: Global, kind: u32, font: &[u8]) -> Answer
+    ensures { AnswersInKind kind result (λ k. AnswersForm k font.now result) }
+{
+    match Kind::of(kind) {
+        Some(kind) => form_answered(form_of(alloc, kind, font)),
+        None => Answer::unknown_kind(kind),
+    }
+}
+
+/// Says whether `cut` is a cut of `font` for some codes, of the kind that the number names: `detail` is 1 where
+/// it is one, and else 0. Where a file is refused `step` is 0 for `cut` and 1 for `font`. Status 101 where the
+/// number names no kind, which is asked before all else.
+#[unsafe(no_mangle)]
+pub extern "C" fn fontcut_belongs(alloc: Global, kind: u32, cut: &[u8], font: &[u8]) -> Answer
+    ensures { AnswersInKind kind result (λ k. AnswersBelonging k cut.now font.now result) }
+{
+    match Kind::of(kind) {
+        Some(kind) => belonging_answered(belongs(alloc, kind, cut, font)),
+        None => Answer::unknown_kind(kind),
+    }
+}
+
+/// [`fontcut_subset_size`] of an ordinary cut. Deprecated: the next version does not have it.
+#[unsafe(no_mangle)]
+pub extern "C" fn fontcut_cut_size(alloc: Global, font: &[u8], ranges: &[CodeRange]) -> Answer
+    ensures { AnswersCutSize Full font.now ranges.now result }
+{
+    size_answered(cut_size(alloc, Kind::Full, font, ranges))
+}
+
+/// [`fontcut_subset`] of an ordinary cut. Deprecated: the next version does not have it.
 #[unsafe(no_mangle)]
 pub extern "C" fn fontcut_cut(
     alloc: Global,
@@ -65,52 +192,52 @@ pub extern "C" fn fontcut_cut(
     ranges: &[CodeRange],
     out: &mut [u8],
 ) -> Answer
-    ensures exact { AnswersCut font.now ranges.now out.old out.new result }
+    ensures exact { AnswersCut Full font.now ranges.now out.old out.new result }
     ensures done { result.status ≡ 0 →
         IsInRoom (cut_of font.now (wanted_by ranges.now)) out.old out.new result.size }
     ensures untouched { result.status ≢ 0 → out.new ≡ out.old }
 {
-    match cut_to(alloc, font, ranges, out) {
-        Ok(size) => Answer::done(size),
-        Err(refusal) => refusal.answer(),
-    }
+    size_answered(cut_to(alloc, Kind::Full, font, ranges, out))
 }
 
-/// Tells in which form a font is a cut: `detail` is 0 where it is none, 1 where it is current and 2
-/// where it is an old one.
+/// [`fontcut_cut_form`] of an ordinary cut. Deprecated: the next version does not have it.
 #[unsafe(no_mangle)]
 pub extern "C" fn fontcut_is_cut(alloc: Global, font: &[u8]) -> Answer
-    ensures { AnswersForm font.now result }
+    ensures { AnswersForm Full font.now result }
 {
-    match form_of(alloc, font) {
-        Ok(form) => Answer::told(number_of(form)),
-        Err(refusal) => refusal.answer(),
-    }
+    form_answered(form_of(alloc, Kind::Full, font))
 }
 
-/// Tells whether `cut` is a cut of `font` for some codes: `detail` is 1 where it is one, and else 0.
-/// Where a file is refused `step` is 0 for `cut` and 1 for `font`.
+/// [`fontcut_belongs`] of an ordinary cut. Deprecated: the next version does not have it.
 #[unsafe(no_mangle)]
 pub extern "C" fn fontcut_is_cut_of(alloc: Global, cut: &[u8], font: &[u8]) -> Answer
-    ensures { AnswersBelonging cut.now font.now result }
+    ensures { AnswersBelonging Full cut.now font.now result }
 {
-    match belongs(alloc, cut, font) {
-        Ok(yes) => Answer::told(u32::from(yes)),
-        Err(refusal) => refusal.answer(),
+    belonging_answered(belongs(alloc, Kind::Full, cut, font))
+}
+
+/// Writes the join of all files, cuts of the kind that the number names, to the front of `out`. A refusal
+/// leaves `out` as it was, and `step` is the index of the file that is refused. Status 101 where the number
+/// names no kind, which is asked before all else.
+#[unsafe(no_mangle)]
+pub extern "C" fn fontcut_join(alloc: Global, kind: u32, files: &[&[u8]], out: &mut [u8]) -> Answer
+    ensures exact { let bytes = map (λ f. f.now) files.now in
+        AnswersInKind kind result (λ k. AnswersJoin k bytes out.old out.new result) }
+    ensures untouched { result.status ≢ 0 → out.new ≡ out.old }
+{
+    match Kind::of(kind) {
+        Some(kind) => join_answered(join_to(alloc, kind, files, out)),
+        None => Answer::unknown_kind(kind),
     }
 }
 
-/// Writes the join of all files to the front of `out`. A refusal leaves `out` as it was, and `step` is the
-/// index of the file that is refused.
+/// [`fontcut_join`] of ordinary cuts. Deprecated: the next version does not have it.
 #[unsafe(no_mangle)]
 pub extern "C" fn fontcut_join_all(alloc: Global, files: &[&[u8]], out: &mut [u8]) -> Answer
-    ensures exact { let bytes = map (λ f. f.now) files.now in AnswersJoin bytes out.old out.new result }
+    ensures exact { let bytes = map (λ f. f.now) files.now in AnswersJoin Full bytes out.old out.new result }
     ensures untouched { result.status ≢ 0 → out.new ≡ out.old }
 {
-    match join_to(alloc, files, out) {
-        Ok(size) => Answer::done(size),
-        Err(refusal) => refusal.answer(),
-    }
+    join_answered(join_to(alloc, Kind::Full, files, out))
 }
 
 /// Writes the ranges of the codes that a font maps to the front of `out`, ascending, each as long as it
@@ -126,6 +253,46 @@ pub extern "C" fn fontcut_codes(alloc: Global, font: &[u8], out: &mut [CodeRange
     }
 }
 
+/// Writes the glyph of each code to the front of `out`, 0 where the font maps it to none. `size` counts glyphs. A
+/// refusal leaves `out` as it was. It asks for no memory.
+#[unsafe(no_mangle)]
+pub extern "C" fn fontcut_glyphs(font: &[u8], codes: &[u32], out: &mut [u16]) -> Answer
+    ensures exact { AnswersGlyphs font.now codes.now out.old out.new result }
+    ensures done { result.status ≡ 0 → IsInRoom (glyphs_of font.now codes.now) out.old out.new result.size }
+    ensures untouched { result.status ≢ 0 → out.new ≡ out.old }
+{
+    lookup_answered(glyphs_to(font, codes, out))
+}
+
+/// Writes the advance width and the left side bearing of each glyph to the front of `out`, in font units. `size`
+/// counts glyphs. Status 102 where a number is no glyph of the font, and `detail` is the first such index. A refusal
+/// leaves `out` as it was. It asks for no memory.
+#[unsafe(no_mangle)]
+pub extern "C" fn fontcut_metrics(font: &[u8], glyphs: &[u16], out: &mut [Metric]) -> Answer
+    ensures exact { AnswersMetrics font.now glyphs.now out.old out.new result }
+    ensures done { result.status ≡ 0 → IsInRoom (metrics_of font.now glyphs.now) out.old out.new result.size }
+    ensures untouched { result.status ≢ 0 → out.new ≡ out.old }
+{
+    lookup_answered(metrics_to(font, glyphs, out))
+}
+
+/// Writes the numbers of a whole font to `info`, and answers as [`fontcut_check`]. A refusal leaves `info` as it was.
+/// It asks for no memory.
+#[unsafe(no_mangle)]
+pub extern "C" fn fontcut_info(font: &[u8], info: &mut Info) -> Answer
+    ensures answer { result ≡ check_answer (font_fault font.now) }
+    ensures done { font_fault font.now ≡ None → info.new ≡ info_of font.now }
+    ensures untouched { result.status ≢ 0 → info.new ≡ info.old }
+{
+    match Font::open(font) {
+        Ok(font) => {
+            *info = info_in(&font);
+            Answer::done(0)
+        }
+        Err(error) => Refusal::Font(error).answer(),
+    }
+}
+
 /// Writes the text of what another call answered to the front of `out`: the text of its refusal, and
 /// none where that call was done. A refusal leaves `out` as it was.
 #[unsafe(no_mangle)]
@@ -137,4 +304,16 @@ pub extern "C" fn fontcut_refusal_text(alloc: Global, answer: Answer, out: &mut 
         Ok(size) => Answer::done(size),
         Err(refusal) => refusal.answer(),
     }
+}
+
+/// The version of the library, 0.10.0.
+const VERSION: u32 = 0x000A00;
+
+/// Returns the version of the library as one number: 65,536 times its first number, 256 times its second one, and its
+/// third one. It is 0x000A00 for 0.10.0.
+#[unsafe(no_mangle)]
+pub extern "C" fn fontcut_version() -> u32
+    ensures { result ≡ VERSION }
+{
+    VERSION
 }

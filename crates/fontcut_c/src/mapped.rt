@@ -5,7 +5,7 @@ ghost use Rattle.fontcut_c.specs.Mapped.{IsListInRoom, RefusesList, listed};
 
 use crate::ranges::CodeRange;
 use crate::refusal::Refusal;
-use font_cmd::next_range;
+use commands::next_range;
 use font_cut::{Chart, Font};
 use std::alloc::Global;
 

@@ -1,6 +1,6 @@
 //! Ranges of codes, and the set that they want.
 ghost use Rattle.std.specs.Prelude.{◌≡◌, ◌<◌, ℕ, MatchOption, IfOk};
-ghost use Rattle.code_sets.specs.Wanted.{member};
+ghost use Rattle.codes.specs.Wanted.{member};
 ghost use Rattle.fontcut_c.specs.Cutting.{AreGood, IsFirstBad, wanted_by};
 
 use font_cut::{NoMemory, Wanted};

@@ -1,7 +1,7 @@
 //! Why a call is not done, and what it answers then.
 ghost use Rattle.std.specs.Prelude.{◌≡◌};
 ghost use Rattle.sfnt_bytes.specs.Tag.{tag_number};
-ghost use Rattle.fontcut_c.specs.Answers.{as_detail, font_answer, font_argument, join_all_error_answer, join_error_answer, join_refusal_answer, pair_refusal_answer, refusal_answer};
+ghost use Rattle.fontcut_c.specs.Answers.{as_detail, font_answer, font_argument, join_all_error_answer, join_error_answer, join_refusal_answer, lookup_refusal_answer, pair_refusal_answer, refusal_answer};
 
 use crate::answer::Answer;
 use font_cut::{DirError, FontError, JoinAllError, JoinError, TableError};
@@ -9,6 +9,9 @@ use sfnt_bytes::{Tag, be32};
 
 /// The status of a room that is too small.
 const SMALL_ROOM: u32 = 100;
+
+/// The status of a number that is no glyph of the font.
+const NO_GLYPH: u8 = 102;
 
 /// Why a call on one font is not done.
 #[derive(Clone, Copy, Debug, PartialEq, Eq)]
@@ -19,9 +22,9 @@ pub enum Refusal {
     BadRange(usize),
     /// Memory is refused.
     NoMemory,
-    /// The cut would have so many bytes, more than a file may have.
+    /// The cut would have this number of bytes, more than a file may have.
     TooLarge(u64),
-    /// There are so many bytes, or ranges, more than there is room for.
+    /// There is this number of bytes, or of ranges, which is more than there is room for.
     SmallRoom(u64),
 }
 
@@ -36,12 +39,23 @@ pub enum PairRefusal {
     NoMemory,
 }
 
+/// Why nothing is looked up in a font.
+#[derive(Clone, Copy, Debug, PartialEq, Eq)]
+pub enum LookupRefusal {
+    /// The font is refused.
+    Font(FontError),
+    /// The number at this index is no glyph of the font.
+    NoGlyph(usize),
+    /// There is this number of answers, which is more than there is room for.
+    SmallRoom(usize),
+}
+
 /// Why a join is not written.
 #[derive(Clone, Copy, Debug, PartialEq, Eq)]
 pub enum JoinRefusal {
     /// The join is refused.
     Join(JoinAllError),
-    /// The join has so many bytes, more than there is room for.
+    /// The join has this number of bytes, more than there is room for.
     SmallRoom(u64),
 }
 
@@ -110,6 +124,19 @@ impl PairRefusal {
             PairRefusal::Cut(error) => refused_font(error),
             PairRefusal::Font(error) => refused_font(error).at(1),
             PairRefusal::NoMemory => Answer::refused(16, 0),
+        }
+    }
+}
+
+impl LookupRefusal {
+    /// Returns what is answered.
+    pub(crate) fn answer(self) -> Answer
+        ensures { result ≡ lookup_refusal_answer self }
+    {
+        match self {
+            LookupRefusal::Font(error) => refused_font(error),
+            LookupRefusal::NoGlyph(index) => Answer::refused(NO_GLYPH, detail_of(index)),
+            LookupRefusal::SmallRoom(size) => Answer::sized(SMALL_ROOM, size as u64),
         }
     }
 }

@@ -1,34 +1,22 @@
 //! The file of a source at the front of the caller's room.
 ghost use Rattle.std.specs.Prelude.{◌≡◌, MatchResult, length};
-ghost use Rattle.font_theory.specs.File.{current_form, file};
-ghost use Rattle.fontcut_c.specs.Inside.{IsFileInRoom, IsFileLength, IsFileSize, IsLargerFile, RefusesFile, RefusesFileSize};
+ghost use Rattle.font_theory.specs.File.{current_layout, file};
+ghost use Rattle.font_subset.specs.Inside.{IsFileSize};
+ghost use Rattle.fontcut_c.specs.Inside.{IsFileInRoom, IsFileLength, IsLargerFile, RefusesFile, RefusesFileSize};
 
 use crate::filled::fill;
 use crate::refusal::Refusal;
-use font_cut::MAX_FILE;
-use font_theory::Profile;
-use font_write::{Size, Source, file_size, plan_of};
-
-// Returns how much the file of a source has, where that is not too large.
-fn measured<S: Source>(source: &S) -> Result<Size, Refusal>
-    ensures { MatchResult result (IsFileSize (S.content_of source.now))
-        (RefusesFileSize (file current_form (S.content_of source.now))) }
-{
-    let size = file_size(source, Profile::Second);
-    if size.bytes > MAX_FILE {
-        return Err(Refusal::TooLarge(size.bytes));
-    }
-    Ok(size)
-}
+use font_subset::{CURRENT, measured};
+use font_write::{Size, Source, plan_of};
 
 /// Returns how many bytes the file of a source has, where these are not too many.
 pub(crate) fn size_of<S: Source>(source: &S) -> Result<u64, Refusal>
-    ensures { MatchResult result (IsFileLength (file current_form (S.content_of source.now)))
-        (RefusesFileSize (file current_form (S.content_of source.now))) }
+    ensures { MatchResult result (IsFileLength (file current_layout (S.content_of source.now)))
+        (RefusesFileSize (file current_layout (S.content_of source.now))) }
 {
     match measured(source) {
         Ok(size) => Ok(size.bytes),
-        Err(refusal) => Err(refusal),
+        Err(size) => Err(Refusal::TooLarge(size)),
     }
 }
 
@@ -36,27 +24,27 @@ pub(crate) fn size_of<S: Source>(source: &S) -> Result<u64, Refusal>
 /// It asks for no memory. Refused with that length, where there is less room.
 pub(crate) fn write_sized<S: Source>(source: &S, size: Size, out: &mut [u8]) -> Result<u64, u64>
     requires { IsFileSize (S.content_of source.now) size }
-    ensures { MatchResult result (IsFileInRoom (file current_form (S.content_of source.now)) out.old out.new)
+    ensures { MatchResult result (IsFileInRoom (file current_layout (S.content_of source.now)) out.old out.new)
         (λ size. (out.new ≡ out.old)
-        × IsLargerFile (file current_form (S.content_of source.now)) (length out.old) size) }
+        × IsLargerFile (file current_layout (S.content_of source.now)) (length out.old) size) }
 {
     if (out.len() as u64) < size.bytes {
         return Err(size.bytes);
     }
-    let plan = plan_of(source, Profile::Second, size);
+    let plan = plan_of(source, CURRENT, size);
     fill(source, &plan, &mut out[..size.bytes as usize]);
     Ok(size.bytes)
 }
 
 /// Writes the file of a source to the front of room, and returns its length. It asks for no memory.
 pub(crate) fn write_to<S: Source>(source: &S, out: &mut [u8]) -> Result<u64, Refusal>
-    ensures { MatchResult result (IsFileInRoom (file current_form (S.content_of source.now)) out.old out.new)
+    ensures { MatchResult result (IsFileInRoom (file current_layout (S.content_of source.now)) out.old out.new)
         (λ refusal. (out.new ≡ out.old)
-        × RefusesFile (file current_form (S.content_of source.now)) (length out.old) refusal) }
+        × RefusesFile (file current_layout (S.content_of source.now)) (length out.old) refusal) }
 {
     let size = match measured(source) {
         Ok(size) => size,
-        Err(refusal) => return Err(refusal),
+        Err(size) => return Err(Refusal::TooLarge(size)),
     };
     match write_sized(source, size, out) {
         Ok(size) => Ok(size),

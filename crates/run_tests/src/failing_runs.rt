@@ -1,7 +1,7 @@
 //! Each read, write and flush of each run fails in turn, with each kind of error.
-use crate::runs::{Outcome, RUNS, Run, failing, is_done};
+use crate::runs::{Command, Outcome, RUNS, failing, is_done};
+use commands::RunError::{self, Read, Write};
 use fakes::devices::Failure::{self, AtFlush, AtRead, AtWrite, TakesNoneAt};
-use font_cmd::RunError::{self, Read, Write};
 use std::alloc::Global;
 use std::io::ErrorKind::{self, Interrupted, Other, WriteZero};
 
@@ -12,8 +12,8 @@ const KINDS: [ErrorKind; 3] = [Interrupted, Other, WriteZero];
 // More reads and writes than any run makes.
 const MANY: u64 = 500;
 
-// Returns whether a run ended with a failed read after so many bytes, and sent nothing.
-fn is_unread(run: Run, ended: &Outcome, came: u64) -> bool {
+// Returns whether a run ended with a failed read after this number of bytes, and sent nothing.
+fn is_unread(run: Command, ended: &Outcome, came: u64) -> bool {
     ended.answer == Err(Read(came))
         && ended.inlets == run.stopped()
         && ended.is_fresh
@@ -21,7 +21,7 @@ fn is_unread(run: Run, ended: &Outcome, came: u64) -> bool {
 }
 
 // Returns whether a run ended with a failed write, and says how many bytes went out, which are a front.
-fn is_unwritten(run: Run, ended: &Outcome) -> bool {
+fn is_unwritten(run: Command, ended: &Outcome) -> bool {
     let held = ended.writer.held();
     ended.answer == Err(Write(held.len() as u64))
         && ended.inlets == run.read()
@@ -31,34 +31,49 @@ fn is_unwritten(run: Run, ended: &Outcome) -> bool {
 }
 
 // The rows that are worked by hand: how many bytes a call, which call fails, and the error.
-const WORKED: [(Run, usize, Failure, RunError); 23] = [
-    (Run::Subset, 1, AtWrite(101, Interrupted), Write(100)),
-    (Run::Subset, 1, AtWrite(412, Interrupted), Write(411)),
-    (Run::Subset, 1, TakesNoneAt(1), Write(0)),
-    (Run::Subset, 4096, AtWrite(1, Interrupted), Write(0)),
-    (Run::Subset, 4096, AtFlush(Other), Write(412)),
-    (Run::Subset, 4096, AtRead(1, Interrupted), Read(0)),
-    (Run::Subset, 100, AtRead(3, Interrupted), Read(200)),
-    (Run::Subset, 428, AtRead(2, Interrupted), Read(428)),
-    (Run::JoinSecond, 4096, AtRead(1, Interrupted), Read(0)),
-    (Run::JoinSecond, 100, AtRead(2, Interrupted), Read(100)),
-    (Run::JoinSecond, 412, AtRead(2, Interrupted), Read(412)),
-    (Run::JoinSecond, 1, AtWrite(101, Interrupted), Write(100)),
-    (Run::JoinSecond, 1, TakesNoneAt(448), Write(447)),
-    (Run::JoinSecond, 4096, AtWrite(1, Interrupted), Write(0)),
-    (Run::JoinSecond, 4096, AtFlush(Other), Write(448)),
-    (Run::Show, 100, AtRead(3, Interrupted), Read(200)),
-    (Run::Show, 7, AtWrite(4, Interrupted), Write(21)),
-    (Run::Show, 7, AtFlush(Other), Write(169)),
-    (Run::Check, 4096, AtFlush(Other), Write(20)),
-    (Run::BelongsFirst, 100, AtRead(2, Interrupted), Read(100)),
-    (Run::BelongsSecond, 100, AtRead(3, Interrupted), Read(200)),
-    (Run::BelongsFirst, 1, AtWrite(3, Interrupted), Write(2)),
-    (Run::BelongsSecond, 4096, AtFlush(Other), Write(4)),
+const WORKED: [(Command, usize, Failure, RunError); 23] = [
+    (Command::Subset, 1, AtWrite(101, Interrupted), Write(100)),
+    (Command::Subset, 1, AtWrite(412, Interrupted), Write(411)),
+    (Command::Subset, 1, TakesNoneAt(1), Write(0)),
+    (Command::Subset, 4096, AtWrite(1, Interrupted), Write(0)),
+    (Command::Subset, 4096, AtFlush(Other), Write(412)),
+    (Command::Subset, 4096, AtRead(1, Interrupted), Read(0)),
+    (Command::Subset, 100, AtRead(3, Interrupted), Read(200)),
+    (Command::Subset, 428, AtRead(2, Interrupted), Read(428)),
+    (Command::JoinSecond, 4096, AtRead(1, Interrupted), Read(0)),
+    (Command::JoinSecond, 100, AtRead(2, Interrupted), Read(100)),
+    (Command::JoinSecond, 412, AtRead(2, Interrupted), Read(412)),
+    (
+        Command::JoinSecond,
+        1,
+        AtWrite(101, Interrupted),
+        Write(100),
+    ),
+    (Command::JoinSecond, 1, TakesNoneAt(448), Write(447)),
+    (Command::JoinSecond, 4096, AtWrite(1, Interrupted), Write(0)),
+    (Command::JoinSecond, 4096, AtFlush(Other), Write(448)),
+    (Command::Show, 100, AtRead(3, Interrupted), Read(200)),
+    (Command::Show, 7, AtWrite(4, Interrupted), Write(21)),
+    (Command::Show, 7, AtFlush(Other), Write(169)),
+    (Command::Check, 4096, AtFlush(Other), Write(20)),
+    (
+        Command::BelongsFirst,
+        100,
+        AtRead(2, Interrupted),
+        Read(100),
+    ),
+    (
+        Command::BelongsSecond,
+        100,
+        AtRead(3, Interrupted),
+        Read(200),
+    ),
+    (Command::BelongsFirst, 1, AtWrite(3, Interrupted), Write(2)),
+    (Command::BelongsSecond, 4096, AtFlush(Other), Write(4)),
 ];
 
 // Returns whether a run ended with this error, and left inlets, outlet and writer as that says.
-fn has_stopped(run: Run, ended: &Outcome, error: RunError) -> bool {
+fn has_stopped(run: Command, ended: &Outcome, error: RunError) -> bool {
     match error {
         Read(came) => is_unread(run, ended, came),
         _ => ended.answer == Err(error) && is_unwritten(run, ended),
@@ -74,7 +89,7 @@ fn failing_devices(rt: HostRuntime) {
 }
 
 // Returns how many bytes come before the read of this number, and none where no read has that number.
-fn came_before(run: Run, piece: usize, k: u64) -> Option<u64> {
+fn came_before(run: Command, piece: usize, k: u64) -> Option<u64> {
     let length = run.file().len() as u64;
     let came = (piece as u64).saturating_mul(k.saturating_sub(1));
     // the last read finds the end
@@ -87,7 +102,7 @@ fn came_before(run: Run, piece: usize, k: u64) -> Option<u64> {
 
 // Returns whether the run with each read failing in turn is as it should be, up to one that meets no
 // failure.
-fn fails_at_each_read(alloc: Global, run: Run, piece: usize, kind: ErrorKind) -> bool {
+fn fails_at_each_read(alloc: Global, run: Command, piece: usize, kind: ErrorKind) -> bool {
     for k in 1..MANY {
         let ended = failing(alloc, run, piece, AtRead(k, kind));
         match came_before(run, piece, k) {
@@ -99,17 +114,20 @@ fn fails_at_each_read(alloc: Global, run: Run, piece: usize, kind: ErrorKind) ->
     false
 }
 
-// Returns whether so many bytes go out before the write of this number. A report is sent by one call; of
+// Returns whether this number of bytes go out before the write of this number. A report is sent by one call; of
 // a cut it is known where each write takes one byte.
-fn is_count(run: Run, piece: usize, k: u64, written: u64) -> bool {
-    let is_report = !matches!(run, Run::Subset | Run::JoinFirst | Run::JoinSecond);
+fn is_count(run: Command, piece: usize, k: u64, written: u64) -> bool {
+    let is_report = !matches!(
+        run,
+        Command::Subset | Command::JoinFirst | Command::JoinSecond
+    );
     let count = (piece as u64).saturating_mul(k.saturating_sub(1));
     written == count || !(is_report || piece == 1)
 }
 
 // Returns whether the run with each write failing in turn is as it should be, up to one that meets no
 // failure. Where there is no kind of error, the write takes nothing.
-fn fails_at_each_write(alloc: Global, run: Run, piece: usize, kind: Option<ErrorKind>) -> bool {
+fn fails_at_each_write(alloc: Global, run: Command, piece: usize, kind: Option<ErrorKind>) -> bool {
     for k in 1..MANY {
         let failure = match kind {
             Some(kind) => AtWrite(k, kind),

@@ -1,9 +1,9 @@
 //! One inlet or one outlet alone, over readers and writers that fail at each call in turn.
 use fakes::devices::{Failure, Narrow, Pieces};
-use font_cmd::{Inlet, ReadError};
 use font_cut::{BASE6, Outlet, WriteFault};
 use std::alloc::Global;
 use std::io::ErrorKind;
+use streams::{Inlet, ReadError};
 
 // Returns how many bytes of Base6 go by before the call of this number, at most `piece` a call.
 fn bytes_before(call: u64, piece: usize) -> u64 {
@@ -41,7 +41,7 @@ fn short_writer(rt: HostRuntime) {
     }
 }
 
-// Returns whether Base6 is read to its end, which takes so many reads, or up to the read `k`, which
+// Returns whether Base6 is read to its end, which takes this number of reads, or up to the read `k`, which
 // fails.
 fn is_read_up_to(alloc: Global, piece: usize, reads: u64, k: u64) -> bool {
     let failure = Failure::AtRead(k, ErrorKind::Interrupted);

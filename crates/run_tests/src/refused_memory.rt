@@ -1,16 +1,20 @@
 //! Memory that is refused, request by request, up to a call that meets no refusal.
-use crate::runs::{Outcome, RUNS, Run, State, is_done, made};
+use crate::runs::{Command, Outcome, RUNS, State, is_done, made};
+use commands::{RunError, run_join};
 use fakes::Refusing;
 use fakes::devices::{Failure, Narrow, Pieces};
-use font_cmd::{Inlet, ReadError, RunError, run_join};
 use font_cut::{BASE6, JoinAllError, Outlet};
 use std::alloc::Global;
 use std::test::Fail;
+use streams::{Inlet, ReadError};
 
 // Returns whether a run that was refused its request of this number says so, and has sent nothing. A
 // subset and a join ask for memory once before they read.
-fn is_refused(run: Run, ended: &Outcome, k: u64) -> bool {
-    let asks_first = matches!(run, Run::Subset | Run::JoinFirst | Run::JoinSecond);
+fn is_refused(run: Command, ended: &Outcome, k: u64) -> bool {
+    let asks_first = matches!(
+        run,
+        Command::Subset | Command::JoinFirst | Command::JoinSecond
+    );
     let may_be_unread = k == 1 && asks_first;
     ended.answer == Err(RunError::Memory)
         && ended.is_fresh
@@ -21,7 +25,7 @@ fn is_refused(run: Run, ended: &Outcome, k: u64) -> bool {
 
 // Returns whether the run with each request for memory refused in turn is as it should be, up to one
 // that meets no refusal.
-fn is_refused_each(alloc: Global, run: Run) -> bool {
+fn is_refused_each(alloc: Global, run: Command) -> bool {
     for k in 1..200u64 {
         let memory = Refusing::new(alloc, k);
         let reader = Pieces::new(run.file(), 4096, Failure::Nowhere);

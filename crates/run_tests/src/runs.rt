@@ -1,13 +1,12 @@
 //! The runs, each over one reader and one writer of the test's, and what they are to send.
+use commands::{RunError, run_belongs, run_check, run_codes, run_join, run_show, run_subset};
 use fakes::Refusing;
 use fakes::devices::{Failure, Narrow, Pieces};
-use font_cmd::{
-    Inlet, RunError, run_belongs, run_check, run_codes, run_join, run_show, run_subset,
-};
 use font_cut::{BASE6, Outlet, Wanted};
 use sample_fonts::fonts::BASE6_SHOWN;
 use sample_fonts::known_cuts::{A_AND_B, A_B_AACUTE, AACUTE};
 use std::alloc::Global;
+use streams::Inlet;
 
 const CHECKED: &[u8] = b"findings 0\naccepted\n";
 
@@ -15,7 +14,7 @@ const CODES: &[u8] = b"U+20\nU+41-42\nU+C1\n";
 
 /// A run, and of one over more inlets than one which of them has the reader of the test's.
 #[derive(Clone, Copy, Debug, PartialEq, Eq)]
-pub enum Run {
+pub enum Command {
     Check,
     Show,
     Codes,
@@ -27,15 +26,15 @@ pub enum Run {
 }
 
 /// All runs.
-pub const RUNS: [Run; 8] = [
-    Run::Check,
-    Run::Show,
-    Run::Codes,
-    Run::Subset,
-    Run::BelongsFirst,
-    Run::BelongsSecond,
-    Run::JoinFirst,
-    Run::JoinSecond,
+pub const RUNS: [Command; 8] = [
+    Command::Check,
+    Command::Show,
+    Command::Codes,
+    Command::Subset,
+    Command::BelongsFirst,
+    Command::BelongsSecond,
+    Command::JoinFirst,
+    Command::JoinSecond,
 ];
 
 /// How an inlet is after a run.
@@ -46,24 +45,28 @@ pub enum State {
     Broken,
 }
 
-impl Run {
+impl Command {
     /// Returns what the test's reader gives.
     pub fn file(self) -> &'static [u8] {
         match self {
-            Run::Check | Run::Show | Run::Codes | Run::Subset | Run::BelongsSecond => &BASE6,
-            Run::BelongsFirst | Run::JoinFirst | Run::JoinSecond => &AACUTE,
+            Command::Check
+            | Command::Show
+            | Command::Codes
+            | Command::Subset
+            | Command::BelongsSecond => &BASE6,
+            Command::BelongsFirst | Command::JoinFirst | Command::JoinSecond => &AACUTE,
         }
     }
 
     /// Returns what is to be sent.
     pub fn text(self) -> &'static [u8] {
         match self {
-            Run::Check => CHECKED,
-            Run::Show => BASE6_SHOWN,
-            Run::Codes => CODES,
-            Run::Subset => &AACUTE,
-            Run::BelongsFirst | Run::BelongsSecond => b"yes\n",
-            Run::JoinFirst | Run::JoinSecond => &A_B_AACUTE,
+            Command::Check => CHECKED,
+            Command::Show => BASE6_SHOWN,
+            Command::Codes => CODES,
+            Command::Subset => &AACUTE,
+            Command::BelongsFirst | Command::BelongsSecond => b"yes\n",
+            Command::JoinFirst | Command::JoinSecond => &A_B_AACUTE,
         }
     }
 
@@ -71,30 +74,38 @@ impl Run {
     /// the font, and of `show` and `codes` nothing.
     pub fn answer(self) -> u64 {
         match self {
-            Run::Check | Run::BelongsFirst | Run::BelongsSecond => 1,
-            Run::Show | Run::Codes => 0,
-            Run::Subset => 412,
-            Run::JoinFirst | Run::JoinSecond => 448,
+            Command::Check | Command::BelongsFirst | Command::BelongsSecond => 1,
+            Command::Show | Command::Codes => 0,
+            Command::Subset => 412,
+            Command::JoinFirst | Command::JoinSecond => 448,
         }
     }
 
     /// How the inlets are once all were read.
     pub fn read(self) -> [State; 3] {
         match self {
-            Run::Check | Run::Show | Run::Codes | Run::Subset => [
+            Command::Check | Command::Show | Command::Codes | Command::Subset => [
                 State::Read,
                 State::Fresh,
                 State::Fresh,
             ],
-            Run::BelongsFirst | Run::BelongsSecond => [State::Read, State::Read, State::Fresh],
-            Run::JoinFirst | Run::JoinSecond => [State::Read; 3],
+            Command::BelongsFirst | Command::BelongsSecond => [
+                State::Read,
+                State::Read,
+                State::Fresh,
+            ],
+            Command::JoinFirst | Command::JoinSecond => [State::Read; 3],
         }
     }
 
-    /// How the inlets are where the test's reader fails: those behind it are not read.
+    /// How the inlets are where the test's reader fails: those after it are not read.
     pub fn stopped(self) -> [State; 3] {
         match self {
-            Run::BelongsSecond | Run::JoinSecond => [State::Read, State::Broken, State::Fresh],
+            Command::BelongsSecond | Command::JoinSecond => [
+                State::Read,
+                State::Broken,
+                State::Fresh,
+            ],
             _ => [State::Broken, State::Fresh, State::Fresh],
         }
     }
@@ -103,7 +114,7 @@ impl Run {
 /// How a run ended.
 #[derive(Drop)]
 pub struct Outcome {
-    /// What was answered, in numbers as of `Run::answer`.
+    /// What was answered, in numbers as of `Command::answer`.
     pub answer: Result<u64, RunError>,
     /// How the inlets are. Where there is one, the others count as fresh.
     pub inlets: [State; 3],
@@ -139,13 +150,18 @@ fn outcome_of(
 }
 
 // Runs over one inlet. Where the set of wanted codes gets no memory, that is the answer.
-fn run_alone(memory: &Refusing<Global>, run: Run, reader: Pieces<'_>, writer: Narrow) -> Outcome {
+fn run_alone(
+    memory: &Refusing<Global>,
+    run: Command,
+    reader: Pieces<'_>,
+    writer: Narrow,
+) -> Outcome {
     let mut inlet = Inlet::new(reader);
     let mut outlet = Outlet::new(writer);
     let answer = match run {
-        Run::Check => run_check(memory, &mut inlet, &mut outlet).map(u64::from),
-        Run::Show => run_show(memory, &mut inlet, &mut outlet).map(|_| 0),
-        Run::Codes => run_codes(memory, &mut inlet, &mut outlet).map(|_| 0),
+        Command::Check => run_check(memory, &mut inlet, &mut outlet).map(u64::from),
+        Command::Show => run_show(memory, &mut inlet, &mut outlet).map(|_| 0),
+        Command::Codes => run_codes(memory, &mut inlet, &mut outlet).map(|_| 0),
         _ => {
             let mut wanted = Wanted::new(memory);
             match wanted.add(0xC1, 0xC1) {
@@ -207,26 +223,31 @@ fn run_compared(
 }
 
 /// Makes a run. The other readers of a join and of `belongs` give their files at once.
-pub fn made(memory: &Refusing<Global>, run: Run, reader: Pieces<'_>, writer: Narrow) -> Outcome {
+pub fn made(
+    memory: &Refusing<Global>,
+    run: Command,
+    reader: Pieces<'_>,
+    writer: Narrow,
+) -> Outcome {
     match run {
-        Run::BelongsFirst => run_compared(memory, false, reader, writer),
-        Run::BelongsSecond => run_compared(memory, true, reader, writer),
-        Run::JoinFirst => run_joined(memory, false, reader, writer),
-        Run::JoinSecond => run_joined(memory, true, reader, writer),
+        Command::BelongsFirst => run_compared(memory, false, reader, writer),
+        Command::BelongsSecond => run_compared(memory, true, reader, writer),
+        Command::JoinFirst => run_joined(memory, false, reader, writer),
+        Command::JoinSecond => run_joined(memory, true, reader, writer),
         _ => run_alone(memory, run, reader, writer),
     }
 }
 
 /// Makes a run whose reader gives and whose writer takes at most `piece` bytes a call; one of the two
 /// may fail.
-pub fn failing(alloc: Global, run: Run, piece: usize, failure: Failure) -> Outcome {
+pub fn failing(alloc: Global, run: Command, piece: usize, failure: Failure) -> Outcome {
     let memory = Refusing::new(alloc, 0);
     let reader = Pieces::new(run.file(), piece, failure);
     made(&memory, run, reader, Narrow::new(alloc, piece, failure))
 }
 
 /// Returns whether a run has sent all that it is to send, and read all inlets.
-pub fn is_done(run: Run, ended: &Outcome) -> bool {
+pub fn is_done(run: Command, ended: &Outcome) -> bool {
     ended.answer == Ok(run.answer())
         && ended.inlets == run.read()
         && !ended.is_broken

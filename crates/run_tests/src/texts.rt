@@ -1,8 +1,9 @@
 //! The texts of errors, of which the program prints few.
-use font_cmd::{ReadError, RunError};
+use commands::RunError;
 use font_cut::{DirError, FontError, JoinAllError, JoinError, Which, WriteFault};
 use sfnt_bytes::Tag;
 use std::test::Fail;
+use streams::ReadError;
 
 #[test]
 fn texts_of_errors(rt: HostRuntime) -> Result<(), Fail> {

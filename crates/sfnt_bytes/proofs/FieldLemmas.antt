@@ -5,7 +5,7 @@ use Rattle.std.proofs.lemmas.Simd.{chunk-drop}
 use Rattle.sfnt_bytes.specs.Sums.{words, checksum_of, without_field}
 use Rattle.sfnt_bytes.proofs.WordLemmas.{weighted, weighted-append, sum_words-weighted}
 
--- four bytes at a place, and what stands before and behind them
+-- four bytes at a place, and what stands before and after them
 pub sum_words-parts : (front field back : List ℕ) → length field ≡ 4 → sum (words (front ++ (field ++ back))) ≡ weighted 0 front + weighted (length front % 4) field + weighted (length front % 4) back
 sum_words-parts front field back four =
     let all = sum_words-weighted (front ++ (field ++ back)) in

@@ -2,7 +2,7 @@
 use Rattle.std.proofs.Common.{◌≡◌, ℕ, zero, suc, ◌<◌, ◌≤◌, Bool, true, false, List, [], ◌∷◌, ◌++◌, find, get_or, length, map, Option, Some, None, refl, arith}
 use Rattle.std.specs.Option.{option_map, option_or}
 use Rattle.std.proofs.lemmas.Bool.{cond_both}
-use Rattle.sfnt_bytes.specs.Lines.{when, first_of_lines, present}
+use Rattle.sfnt_bytes.specs.Lines.{when, first_of_lines, said_lines}
 
 pub first_of_lines-append : {X : Type 0} (xs ys : List (Option X)) → first_of_lines (xs ++ ys) ≡ option_or (first_of_lines xs) (first_of_lines ys)
 first_of_lines-append [] ys = refl
@@ -38,7 +38,7 @@ find-none_at p (x ∷ xs) (suc k) d h l =
     find-none_at p xs k d (cond_both (p x) (Some x) (find p xs) (λ o. o ≡ None → find p xs ≡ None) (λ t q. cc) (λ f q. q) h) (omega arith)
 
 -- lines say no more than there are of them
-pub length-present : {X : Type 0} (lines : List (Option X)) → length (present lines) ≤ length lines
-length-present [] = omega arith
-length-present (Some x ∷ lines) = let rest = length-present lines in omega arith
-length-present (None ∷ lines) = let rest = length-present lines in omega arith
+pub length-said_lines : {X : Type 0} (lines : List (Option X)) → length (said_lines lines) ≤ length lines
+length-said_lines [] = omega arith
+length-said_lines (Some x ∷ lines) = let rest = length-said_lines lines in omega arith
+length-said_lines (None ∷ lines) = let rest = length-said_lines lines in omega arith

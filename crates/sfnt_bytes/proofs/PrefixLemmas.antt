@@ -27,7 +27,7 @@ nothing_more b = omega arith
 take_nothing : (n : ℕ) (xs : List ℕ) → xs ≡ [] → take n xs ≡ []
 take_nothing n xs e = take_all n xs (omega (arith, ap length e)) ∙ e
 
--- the sum up to a place, and that of the bytes behind it; a multiple of 4
+-- the sum up to a place, and that of the bytes after it; a multiple of 4
 pub checksum-take : (b : List ℕ) (start n : ℕ) → start % 4 ≡ 0 → (checksum_of (take start b) + checksum_of (take n (drop start b))) % 2 ^ 32 ≡ checksum_of (take (start + n) b)
 checksum-take b start n h =
     elim (cases_lt (length b) start) [
@@ -59,7 +59,7 @@ pub nothing_summed : 0 ≡ checksum_of []
 unfolding checksum_of words
 nothing_summed = refl
 
--- a piece of what is left, of so many bytes or of all
+-- a piece of what is left, of this number of bytes or of all
 same_front : (rest : List ℕ) (n w : ℕ) → n ≤ length rest → n ≤ w → (n < w → n ≡ length rest) → take n rest ≡ take w rest
 same_front rest n w a b c =
     elim (cases_lt n w) [
@@ -74,7 +74,7 @@ same_back rest n w a b c =
       | inr x ↦ let e : n ≡ w = omega (arith, x, b) in ap (λ (j : ℕ). drop j rest) e
     ]
 
--- the sum up to the next place, and what is left behind it
+-- the sum up to the next place, and what is left after it
 pub next_sum : (b rest piece : List ℕ) (start next w n s t : ℕ) → start % 4 ≡ 0 → next ≡ start + w → rest ≡ drop start b → piece ≡ take n rest → n ≤ length rest → n ≤ w → (n < w → n ≡ length rest) → s ≡ checksum_of (take start b) → t ≡ checksum_of piece → (s + t) % 2 ^ 32 ≡ checksum_of (take next b)
 next_sum b rest piece start next w n s t h e is_rest is_piece a c d is_s is_t =
     let front : piece ≡ take w (drop start b) = is_piece ∙ same_front rest n w a c d ∙ ap (take w) is_rest in
@@ -92,7 +92,7 @@ more_sums b sums k s l each is j h =
       | inr x ↦ let e : j ≡ k = omega (arith, x, h) in ap (λ (i : ℕ). get_or (set sums k s) i 0) e ∙ get_or-set_same sums k s 0 l ∙ is ∙ ap (λ (i : ℕ). checksum_of (take (i * 65536) b)) (sym e)
     ]
 
--- the sum of a file is that of a front and of what lies behind it
+-- the sum of a file is that of a front and of what lies after it
 pub front_and_rest : (b v f : List ℕ) (end s t : ℕ) → IsPrefixSum b end s → b ≡ v → f ≡ v → t ≡ checksum_of (take (length f - end) (drop end f)) → (s + t) % 2 ^ 32 ≡ checksum_of v
 front_and_rest b v f end s t k is_b is_f is_t =
     let same : f ≡ b = is_f ∙ sym is_b in

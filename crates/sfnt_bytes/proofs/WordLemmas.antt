@@ -5,7 +5,7 @@ use Rattle.std.proofs.lemmas.List.Sums.{sum_by-cons}
 use Rattle.sfnt_bytes.specs.Number.{number, u32_at}
 use Rattle.sfnt_bytes.specs.Sums.{SumOfParts, checksum_of, words}
 
--- the first word, and those of the bytes behind it
+-- the first word, and those of the bytes after it
 pub sum_words-first : (b : List ℕ) → 4 ≤ length b → sum (words b) ≡ u32_at b 0 + sum (words (drop 4 b))
 unfolding words u32_at
 sum_words-first [] h = absurd (omega arith)

@@ -4,7 +4,7 @@ use Rattle.std.specs.Prelude.{ℕ, ◌+◌, ◌-◌, ◌%◌, nat_le, nat_lt, na
 use Rattle.std.specs.List.{flat_map, starts_with}
 use Rattle.std.specs.Option.{option_map_or}
 use Rattle.sfnt_bytes.specs.Number.{u16_at, u32_at}
-use Rattle.sfnt_bytes.specs.Lines.{present, when}
+use Rattle.sfnt_bytes.specs.Lines.{said_lines, when}
 use Rattle.sfnt_bytes.specs.Sums.{adjustment_of, checksum_of, without_field}
 use Rattle.sfnt_bytes.specs.SearchFields.{search_fields_of}
 use Rattle.sfnt_bytes.specs.Tag.{tag_number}
@@ -29,7 +29,7 @@ has_search_fields file =
 abbrev pub padding_of : ℕ → ℕ
 padding_of n = (4 - n % 4) % 4
 
--- right behind the table stand the zeros that fill it to a multiple of 4
+-- right after the table stand the zeros that fill it to a multiple of 4
 unfoldable pub is_padded : List ℕ → Entry → Bool
 is_padded file entry = starts_with nat_eq (drop (entry.offset + entry.length) file) (replicate (padding_of entry.length) 0)
 
@@ -48,7 +48,7 @@ record_lines file entry =
 
 -- the findings of one record
 unfoldable pub entry_findings : List ℕ → Entry → List Finding
-entry_findings file entry = if not (is_within file entry) then OutOfFile entry.tag ∷ [] else present (record_lines file entry)
+entry_findings file entry = if not (is_within file entry) then OutOfFile entry.tag ∷ [] else said_lines (record_lines file entry)
 
 -- the checksumAdjustment at a place is the one of the file
 unfoldable pub has_file_sum : List ℕ → ℕ → Bool
@@ -64,11 +64,11 @@ is_wrong_at file place = option_map_or (λ at. not (has_file_sum file at)) place
 
 -- findings before those of some records, theirs, and one after them
 abbrev pub findings_left : List ℕ → List Finding → List Entry → Option Finding → List Finding
-findings_left file before entries after = before ++ flat_map (entry_findings file) entries ++ present (after ∷ [])
+findings_left file before entries after = before ++ flat_map (entry_findings file) entries ++ said_lines (after ∷ [])
 
 -- all findings: of the directory, of each record in order, and of the sum of the file
 unfoldable pub findings_of : List ℕ → List Finding
 findings_of file = findings_left file
-    (present (when (not (is_ascending (records_of file))) Unsorted ∷ when (not (has_search_fields file)) SearchFields ∷ []))
+    (said_lines (when (not (is_ascending (records_of file))) Unsorted ∷ when (not (has_search_fields file)) SearchFields ∷ []))
     (records_of file)
     (when (has_wrong_file_sum file) FileSum)

@@ -12,7 +12,7 @@ first_of_lines (Some x ∷ lines) = Some x
 first_of_lines (None ∷ lines) = first_of_lines lines
 
 -- all that the lines say, in order
-abbrev pub present : {X : Type 0} → List (Option X) → List X
-present [] = []
-present (Some x ∷ lines) = x ∷ present lines
-present (None ∷ lines) = present lines
+abbrev pub said_lines : {X : Type 0} → List (Option X) → List X
+said_lines [] = []
+said_lines (Some x ∷ lines) = x ∷ said_lines lines
+said_lines (None ∷ lines) = said_lines lines

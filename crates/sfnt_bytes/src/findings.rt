@@ -4,7 +4,7 @@ ghost use Rattle.std.specs.Prelude.{◌≡◌, ◌+◌, ◌<◌, ◌≤◌, ◌^
 ghost use Rattle.std.specs.Iterator.{YieldsFirst, item_count};
 ghost use Rattle.sfnt_bytes.specs.Directory.{HasRecords, is_within, records_of};
 ghost use Rattle.sfnt_bytes.specs.Findings.{entry_findings, findings_of, has_file_sum, has_search_fields, is_ascending, is_padded, is_wrong_at, table_sum, has_wrong_file_sum};
-ghost use Rattle.sfnt_bytes.specs.Lines.{present, when};
+ghost use Rattle.sfnt_bytes.specs.Lines.{said_lines, when};
 ghost use Rattle.sfnt_bytes.specs.Refusals.{is_outside};
 ghost use Rattle.sfnt_bytes.specs.declared.findings.Finding.TheVariants.{FileSum};
 ghost use Rattle.sfnt_bytes.specs.declared.tag.TheConstants.{HEAD_TAG};
@@ -112,12 +112,12 @@ struct Pending {
 
 impl Model for Pending {
     ghost use Rattle.std.specs.Prelude.{List, [], ◌∷◌};
-    ghost use Rattle.sfnt_bytes.specs.Lines.{present};
+    ghost use Rattle.sfnt_bytes.specs.Lines.{said_lines};
     ghost use Rattle.sfnt_bytes.specs.declared.findings.Finding.{Finding};
 
     ghost Value = { List Finding };
 
-    ghost view = { λ f. present (f.first ∷ f.second ∷ f.third ∷ []) };
+    ghost view = { λ f. said_lines (f.first ∷ f.second ∷ f.third ∷ []) };
 }
 
 impl Pending {

@@ -43,7 +43,7 @@ const UNORDERED_GROUPS: [u8; 52] = [
     0x00, 0x00, 0x00, 0x01,
 ];
 
-// Returns whether the chart of a mapping makes so many requests, is refused where one of them is, and is
+// Returns whether the chart of a mapping makes this number of requests, is refused where one of them is, and is
 // there once there is memory. It has this glyph for 0x42, and a run from 0x50 on.
 fn has_requests(alloc: Global, cmap: &[u8], requests: u64, glyph: u16) -> Result<bool, Fail> {
     let mapping = Mapping::choose(cmap, 6)?;

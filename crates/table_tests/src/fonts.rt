@@ -24,7 +24,7 @@ const GLYPHS: [Glyph; 6] = [
     (300, 0, 250, 262),
 ];
 
-// Returns whether a file has this form of `loca`, so many metrics, and these glyphs.
+// Returns whether a file has this form of `loca`, this number of metrics, and these glyphs.
 fn has_glyphs(file: &[u8], form: LocaForm, metrics: u16, glyphs: &[Glyph]) -> Result<bool, Fail> {
     let tables = Tables::open(Directory::read(file)?)?;
     let is_stated = tables.loca_format() == form && tables.metric_count() == metrics;

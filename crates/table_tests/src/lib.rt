@@ -15,4 +15,6 @@ mod closures;
 #[cfg(test)]
 mod fonts;
 #[cfg(test)]
+mod refusals_of_memory;
+#[cfg(test)]
 mod wanted_sets;

@@ -5,7 +5,7 @@ use sfnt_bytes::{BASE6, NoMemory};
 use std::alloc::Allocator;
 use std::test::Fail;
 
-// Returns whether a set has exactly the codes that a list says of the codes from 0 on, and none behind
+// Returns whether a set has exactly the codes that a list says of the codes from 0 on, and none after
 // them.
 fn has_codes<A: Allocator>(wanted: &Wanted<A>, codes: &[bool]) -> bool {
     let mut code = 0u32;

@@ -1,5 +1,5 @@
 use Rattle.std.proofs.Common.{◌≡◌, ◌≤◌, ◌^◌, drop}
-use Rattle.member_search.specs.Order.{AreInOrder}
+use Rattle.codes.specs.Order.{AreInOrder}
 use Rattle.cmap_subtables.specs.Format12.{HasOrderedGroups, group_count, groups_of}
 use Rattle.cmap_subtables.proofs.format12.has_ordered_groups.Given as goal
 

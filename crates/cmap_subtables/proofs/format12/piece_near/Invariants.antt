@@ -1,5 +1,5 @@
 use Rattle.std.proofs.Common.{◌≤◌, ◌-◌}
-use Rattle.character_map.specs.CharacterMap.{IsUnmapped, clipped}
+use Rattle.codes.specs.CharacterMap.{IsUnmapped, clipped}
 use Rattle.cmap_subtables.specs.Format12.{group_glyph}
 use Rattle.cmap_subtables.proofs.format12.piece_near.Given as goal
 

@@ -1,7 +1,7 @@
 use Rattle.std.proofs.Common.{◌≡◌, ℕ, ◌+◌, ap, ◌∙◌, arith}
-use Rattle.character_map.specs.CharacterMap.{clipped}
+use Rattle.codes.specs.CharacterMap.{clipped}
 use Rattle.cmap_subtables.specs.Inside.{glyph_of_segment}
-use Rattle.character_map.proofs.RunLemmas.{code_on}
+use Rattle.codes.proofs.RunLemmas.{code_on}
 use Rattle.cmap_subtables.proofs.SegmentLemmas.{segment_gives}
 use Rattle.cmap_subtables.proofs.format4.along_codes.Goals as goal
 

@@ -1,7 +1,7 @@
 use Rattle.std.proofs.Common.{ℕ, ◌-◌, ◌≤◌}
-use Rattle.character_map.specs.CharacterMap.{clipped}
+use Rattle.codes.specs.CharacterMap.{clipped}
 use Rattle.cmap_subtables.specs.Inside.{glyph_of_segment}
-use Rattle.character_map.specs.Runs.{IsPiece}
+use Rattle.codes.specs.Runs.{IsPiece}
 use Rattle.cmap_subtables.proofs.format4.along_codes.Given as goal
 
 abbrev pub invariant-loop-run : goal.invariant-loop-run

@@ -1,8 +1,8 @@
 use Rattle.std.proofs.Common.{◌≡◌, ℕ, ap, subst, sym, ◌∙◌, arith}
-use Rattle.character_map.specs.CharacterMap.{clipped}
+use Rattle.codes.specs.CharacterMap.{clipped}
 use Rattle.cmap_subtables.specs.Inside.{glyph_of_segment}
-use Rattle.character_map.specs.Runs.{IsPiece}
-use Rattle.character_map.specs.declared.runs.Run.{Run}
+use Rattle.codes.specs.Runs.{IsPiece}
+use Rattle.codes.specs.declared.runs.Run.{Run}
 use Rattle.cmap_subtables.proofs.SegmentLemmas.{piece_of_code, segment_gives}
 use Rattle.cmap_subtables.proofs.format4.clip_codes.Goals as goal
 

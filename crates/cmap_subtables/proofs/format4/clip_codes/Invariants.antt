@@ -1,4 +1,4 @@
-use Rattle.character_map.specs.CharacterMap.{IsUnmapped, clipped}
+use Rattle.codes.specs.CharacterMap.{IsUnmapped, clipped}
 use Rattle.cmap_subtables.specs.Inside.{glyph_of_segment}
 use Rattle.cmap_subtables.proofs.format4.clip_codes.Given as goal
 

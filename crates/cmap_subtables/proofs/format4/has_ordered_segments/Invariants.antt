@@ -1,5 +1,5 @@
 use Rattle.std.proofs.Common.{◌≡◌, ◌≤◌, ◌^◌, drop}
-use Rattle.member_search.specs.Order.{AreInOrder}
+use Rattle.codes.specs.Order.{AreInOrder}
 use Rattle.cmap_subtables.specs.Format4.{HasOrderedSegments, segment_count, segments_of}
 use Rattle.cmap_subtables.proofs.format4.has_ordered_segments.Given as goal
 

@@ -1,5 +1,5 @@
 use Rattle.std.proofs.Common.{arith, sym, ◌≤◌, ◌∙◌, ◌+◌}
-use Rattle.character_map.proofs.PieceLemmas.{holds_of, stretch_none, stretch_same}
+use Rattle.codes.proofs.PieceLemmas.{holds_of, stretch_none, stretch_same}
 use Rattle.cmap_subtables.proofs.SegmentLemmas.{segment_ends, segment_same, segments_none}
 use Rattle.cmap_subtables.proofs.format4.stretch_by.Goals as goal
 

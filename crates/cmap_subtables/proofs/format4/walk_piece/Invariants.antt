@@ -1,5 +1,5 @@
 use Rattle.std.proofs.Common.{ℕ, ◌<◌, ◌≤◌, ◌-◌}
-use Rattle.character_map.specs.CharacterMap.{IsUnmapped, clipped}
+use Rattle.codes.specs.CharacterMap.{IsUnmapped, clipped}
 use Rattle.cmap_subtables.specs.Format4.{segment_count, segment_glyph}
 use Rattle.cmap_subtables.specs.Inside.{segment_end}
 use Rattle.cmap_subtables.proofs.format4.walk_piece.Given as goal

@@ -1,5 +1,5 @@
 use Rattle.std.proofs.Common.{arith}
-use Rattle.character_map.proofs.RunLemmas.{piece_last}
+use Rattle.codes.proofs.RunLemmas.{piece_last}
 use Rattle.cmap_subtables.proofs.SegmentLemmas.{none_above}
 use Rattle.cmap_subtables.proofs.format4.walk_run.Goals as goal
 

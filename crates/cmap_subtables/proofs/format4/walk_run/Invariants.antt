@@ -1,8 +1,8 @@
 use Rattle.std.proofs.Common.{ℕ, ◌<◌, ◌≤◌, ◌+◌, ◌-◌}
-use Rattle.character_map.specs.CharacterMap.{clipped}
+use Rattle.codes.specs.CharacterMap.{clipped}
 use Rattle.cmap_subtables.specs.Format4.{segment_count, segment_glyph}
 use Rattle.cmap_subtables.specs.Inside.{segment_end}
-use Rattle.character_map.specs.Runs.{IsPiece}
+use Rattle.codes.specs.Runs.{IsPiece}
 use Rattle.cmap_subtables.proofs.format4.walk_run.Given as goal
 
 abbrev pub invariant-loop-run : goal.invariant-loop-run

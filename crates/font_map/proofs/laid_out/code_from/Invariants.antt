@@ -1,5 +1,5 @@
 use Rattle.std.proofs.Common.{get_or}
-use Rattle.character_map.specs.CharacterMap.{IsUnmapped}
+use Rattle.codes.specs.CharacterMap.{IsUnmapped}
 use Rattle.font_map.proofs.laid_out.code_from.Given as goal
 
 abbrev pub invariant-loop-code : goal.invariant-loop-code

@@ -1,5 +1,5 @@
 use Rattle.std.proofs.Common.{◌≡◌, ℕ, ◌<◌, ◌≤◌, get_or, length}
-use Rattle.character_map.specs.CharacterMap.{clipped}
+use Rattle.codes.specs.CharacterMap.{clipped}
 use Rattle.cmap_subtables.specs.Format4.{segment_count, segment_glyph}
 use Rattle.cmap_subtables.specs.Inside.{segment_end}
 use Rattle.font_map.proofs.laid_out.lay_segments.Given as goal

@@ -1,4 +1,4 @@
-use Rattle.character_map.proofs.RunLemmas.{canonical}
+use Rattle.codes.proofs.RunLemmas.{canonical}
 use Rattle.font_map.proofs.laws.canonical_groups.Goals as goal
 
 pub returns : goal.returns

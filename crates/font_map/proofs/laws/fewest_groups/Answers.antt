@@ -1,4 +1,4 @@
-use Rattle.character_map.proofs.FewestLemmas.{fewest_groups}
+use Rattle.codes.proofs.FewestLemmas.{fewest_groups}
 use Rattle.font_map.proofs.laws.fewest_groups.Goals as goal
 
 pub returns : goal.returns

@@ -1,4 +1,4 @@
-use Rattle.code_sets.proofs.WordLemmas.{one_range}
+use Rattle.codes.proofs.WordLemmas.{one_range}
 use Rattle.font_map.proofs.laws.one_range_of_word.Goals as goal
 
 pub returns : goal.returns

@@ -1,7 +1,7 @@
 use Rattle.std.proofs.lemmas.Result.{MatchResult-weaker}
-use Rattle.font_subset.proofs.WholeLemmas.{form_told}
+use Rattle.font_subset.proofs.ContentOfAllLemmas.{form_told}
 use Rattle.font_subset.proofs.cut_forms.cut_form.Goals as goal
 
 pub returns-clause-form : goal.returns-clause-form
 returns-clause-form g c =
-    MatchResult-weaker c.form_exactly.result c.form_exactly.ensures (λ form e. form_told form c.args.font.now c.accepted.ensures e) (λ e h. tt)
+    MatchResult-weaker c.form_exactly.result c.form_exactly.ensures (λ form e. form_told form c.args.font.now c.recall_accepted.ensures e) (λ e h. tt)

@@ -1,15 +1,15 @@
 use Rattle.std.proofs.Common.{◌≡◌, true, false, sym}
 use Rattle.font_theory.specs.Cut.{is_current, our_format}
-use Rattle.font_subset.proofs.WholeLemmas.{is_current_in_words, is_not_now, is_now}
+use Rattle.font_subset.proofs.ContentOfAllLemmas.{is_current_in_words, is_not_now, is_now}
 use Rattle.font_subset.proofs.cut_forms.is_cut.Goals as goal
 
 pub returns-in-Current-clause-exact : goal.returns-in-Current-clause-exact
 returns-in-Current-clause-exact g c = sym (is_now c.in_ok-form.form c.args.font.now c.in_ok-form.ensures c.in-Current.is)
 
 pub returns-in-Current-clause-form : goal.returns-in-Current-clause-form
-returns-in-Current-clause-form g c = is_current_in_words true c.args.font.now c.accepted.ensures (returns-in-Current-clause-exact g c)
+returns-in-Current-clause-form g c = is_current_in_words true c.args.font.now c.recall_accepted.ensures (returns-in-Current-clause-exact g c)
 
 pub returns-in_default : goal.returns-in_default
 returns-in_default g c =
     let no : false ≡ is_current our_format c.args.font.now = sym (is_not_now c.in_ok-form.form c.args.font.now c.in_ok-form.ensures c.in_default.not-Current) in
-    record { exact = no; form = is_current_in_words false c.args.font.now c.accepted.ensures no }
+    record { exact = no; form = is_current_in_words false c.args.font.now c.recall_accepted.ensures no }

@@ -1,6 +1,6 @@
 use Rattle.std.proofs.Common.{◌↔◌, ℕ, Bool, IsTrue, List, Option, subst}
-use Rattle.code_sets.specs.declared.ranges.Range.{Range}
-use Rattle.character_map.specs.CharacterMap.{is_mapped}
+use Rattle.codes.specs.declared.ranges.Range.{Range}
+use Rattle.codes.specs.CharacterMap.{is_mapped}
 use Rattle.font_file.specs.Font.{map_of}
 use Rattle.font_theory.specs.Content.{content, font_of}
 use Rattle.font_theory.specs.Cut.{Writes, our_format}

@@ -1,8 +1,8 @@
 use Rattle.std.proofs.Common.{◌≡◌, ℕ, List, ◌∙◌, ap, subst}
 use Rattle.font_file.specs.Font.{map_of}
 use Rattle.font_map.specs.Mapping.{mapping_of}
-use Rattle.character_map.specs.Runs.{IsRun, NoRun}
-use Rattle.code_sets.specs.Wanted.{member}
+use Rattle.codes.specs.Runs.{IsRun, NoRun}
+use Rattle.codes.specs.Wanted.{member}
 use Rattle.font_subset.proofs.UnderLemmas.{mapped_end, mapped_more, mapped_start}
 use Rattle.font_subset.proofs.cut_forms.mapped_set.Goals as goal
 

@@ -1,5 +1,5 @@
 use Rattle.std.proofs.Common.{◌-◌}
-use Rattle.code_sets.specs.Wanted.{member}
+use Rattle.codes.specs.Wanted.{member}
 use Rattle.font_file.specs.Font.{map_of}
 use Rattle.font_subset.specs.Inside.{AreMappedTo}
 use Rattle.font_subset.proofs.cut_forms.mapped_set.Given as goal

@@ -1,5 +1,5 @@
 use Rattle.std.proofs.Common.{◌≡◌, ℕ, suc, ◌+◌, length, ◌∙◌, subst, arith}
-use Rattle.character_map.specs.CharacterMap.{restricted}
+use Rattle.codes.specs.CharacterMap.{restricted}
 use Rattle.font_file.specs.Font.{map_of}
 use Rattle.font_theory.specs.Content.{everything}
 use Rattle.font_subset.specs.Inside.{AreSeedsTo}

@@ -1,5 +1,5 @@
 use Rattle.std.proofs.Common.{option_copied, ℕ, ◌∙◌, arith}
-use Rattle.character_map.specs.CharacterMap.{restricted}
+use Rattle.codes.specs.CharacterMap.{restricted}
 use Rattle.font_subset.specs.Content.{codes_wanted}
 use Rattle.font_file.specs.Font.{map_of}
 use Rattle.font_subset.proofs.SeedLemmas.{run_within, seeds_end, seeds_more, wanted_past}

@@ -1,6 +1,6 @@
 use Rattle.std.proofs.Common.{refl}
 use Rattle.std.proofs.lemmas.Result.{on_ok_weaker}
-use Rattle.code_sets.specs.Wanted.{member}
+use Rattle.codes.specs.Wanted.{member}
 use Rattle.font_subset.specs.Lean.{lean_cut_of}
 use Rattle.font_subset.proofs.LeanCutLemmas.{lean_sound}
 use Rattle.font_subset.proofs.lean_cut.cut_into.Goals as goal
@@ -8,5 +8,5 @@ use Rattle.font_subset.proofs.lean_cut.cut_into.Goals as goal
 pub returns-clause-sound : goal.returns-clause-sound
 returns-clause-sound g c =
     on_ok_weaker c.cut_into_exactly.result
-    (λ small. lean_sound c.args.font.now (lean_cut_of c.args.font.now (member c.args.wanted.now)) (member c.args.wanted.now) c.accepted.ensures (record { is = refl; small = small }))
+    (λ small. lean_sound c.args.font.now (lean_cut_of c.args.font.now (member c.args.wanted.now)) (member c.args.wanted.now) c.recall_accepted.ensures (record { is = refl; small = small }))
     c.cut_into_exactly.ensures.small

@@ -4,8 +4,8 @@ use Rattle.font_subset.proofs.lean_forms.is_cut_of.Goals as goal
 
 pub returns-clause-exact : goal.returns-clause-exact
 returns-clause-exact g c =
-    MatchResult-weaker c.is_cut_for_own_codes.result c.is_cut_for_own_codes.ensures (λ b e. is_under_lean b c.args.cut.now c.args.font.now c.accepted.ensures c.accepted-2.ensures e) (λ e h. tt)
+    MatchResult-weaker c.is_cut_for_own_codes.result c.is_cut_for_own_codes.ensures (λ b e. is_under_lean b c.args.cut.now c.args.font.now c.recall_accepted.ensures c.recall_accepted-2.ensures e) (λ e h. tt)
 
 pub returns-clause-some_codes : goal.returns-clause-some_codes
 returns-clause-some_codes g c =
-    MatchResult-weaker c.is_cut_for_own_codes.result c.is_cut_for_own_codes.ensures (λ b e. is_lean_cut_for_some b c.args.cut.now c.args.font.now c.accepted.ensures c.accepted-2.ensures e) (λ e h. tt)
+    MatchResult-weaker c.is_cut_for_own_codes.result c.is_cut_for_own_codes.ensures (λ b e. is_lean_cut_for_some b c.args.cut.now c.args.font.now c.recall_accepted.ensures c.recall_accepted-2.ensures e) (λ e h. tt)

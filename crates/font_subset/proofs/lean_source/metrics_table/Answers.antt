@@ -1,10 +1,9 @@
-use Rattle.std.proofs.Common.{◌≡◌, ℕ, List, [], length, Option, Some, refl, sym, ◌∙◌, ap, arith}
+use Rattle.std.proofs.Common.{◌≡◌, ℕ, List, [], length, Option, refl, ap, arith}
 use Rattle.std.specs.Option.{is_some, unwrap_or}
 use Rattle.font_theory.specs.Content.{content, font_of, glyph_count, is_kept}
 use Rattle.font_theory.proofs.LeanEntryLemmas.{length-cleared}
 use Rattle.font_subset.specs.Content.{codes_wanted}
 use Rattle.font_subset.proofs.LeanSourceLemmas.{cleared_for, cleared_nowhere, or_empty, some_is_kept}
-use Rattle.font_subset.proofs.SourceLemmas.{glyph_count_is}
 use Rattle.font_subset.proofs.lean_source.metrics_table.Goals as goal
 
 pub returns-then-pairs-eq0-clause-table : goal.returns-then-pairs-eq0-clause-table

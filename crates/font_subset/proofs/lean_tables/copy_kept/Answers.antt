@@ -1,4 +1,4 @@
-use Rattle.std.proofs.Common.{◌≡◌, ◌<◌, ◌≤◌, ℕ, sym, ◌∙◌, arith}
+use Rattle.std.proofs.Common.{◌<◌, ◌≤◌, ◌∙◌, arith}
 use Rattle.font_theory.specs.Content.{Content, glyph_count}
 use Rattle.font_subset.proofs.LeanTableLemmas.{entry_room, filled_end, filled_start, filled_step}
 use Rattle.font_subset.proofs.lean_tables.copy_kept.Goals as goal

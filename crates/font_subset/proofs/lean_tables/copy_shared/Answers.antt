@@ -1,4 +1,3 @@
-use Rattle.std.proofs.Common.{arith}
 use Rattle.font_subset.proofs.LeanTableLemmas.{blank_is}
 use Rattle.font_subset.proofs.lean_tables.copy_shared.Goals as goal
 

@@ -1,7 +1,7 @@
 use Rattle.std.proofs.Common.{◌≡◌, ℕ, ◌+◌, ◌*◌, List, ◌++◌, take, sym, ap, ◌∙◌, refl, arith, append_assoc}
-use Rattle.character_map.specs.Runs.{groups_from}
-use Rattle.character_map.specs.declared.runs.Run.{Run}
-use Rattle.character_map.proofs.RunLemmas.{groups_done}
+use Rattle.codes.specs.Runs.{groups_from}
+use Rattle.codes.specs.declared.runs.Run.{Run}
+use Rattle.codes.proofs.RunLemmas.{groups_done}
 use Rattle.font_theory.specs.Content.{Content}
 use Rattle.font_theory.specs.File.{group_bytes}
 use Rattle.font_write.specs.Parts.{groups_bytes}
@@ -24,14 +24,14 @@ loop-i-preserved g c =
       gathered = ap (λ (k : ℕ). take k c.put_group.new.block ++ rest) at
           ∙ ap (λ (b : List ℕ). b ++ rest) c.put_group.ensures
           ∙ append_assoc (take (12 * i) c.loop-i.block) (group_bytes run) rest
-          ∙ ap (λ (b : List ℕ). take (12 * i) c.loop-i.block ++ b) (sym (groups_bytes-next K.map c.loop-i.at run c.known_map.ensures c.in-Some.ensures))
+          ∙ ap (λ (b : List ℕ). take (12 * i) c.loop-i.block ++ b) (sym (groups_bytes-next K.map c.loop-i.at run c.recall_map.ensures c.in-Some.ensures))
           ∙ c.loop-i.invariant.gathered;
     }
 
 pub returns-in_default-clause-ended : goal.returns-in_default-clause-ended
 returns-in_default-clause-ended g c =
     let K : Content = g.S.Source.content_of c.args.source.now in
-    λ _. groups_done K.map c.loop-i.at c.known_map.ensures c.in_default.ensures
+    λ _. groups_done K.map c.loop-i.at c.recall_map.ensures c.in_default.ensures
 
 pub returns-clause-gathered : goal.returns-clause-gathered
 returns-clause-gathered g c =

@@ -1,5 +1,5 @@
 use Rattle.std.proofs.Common.{◌≡◌, ◌+◌, ◌*◌, ◌≤◌, ◌++◌, take}
-use Rattle.character_map.specs.Runs.{groups_from}
+use Rattle.codes.specs.Runs.{groups_from}
 use Rattle.font_write.specs.Parts.{groups_bytes}
 use Rattle.font_write.proofs.made_cmap.gather_groups.Given as goal
 

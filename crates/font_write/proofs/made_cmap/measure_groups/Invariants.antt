@@ -1,6 +1,6 @@
 use Rattle.std.proofs.Common.{◌≡◌, ◌+◌, ◌-◌, ◌%◌, ◌^◌, flat_map, length, sum}
 use Rattle.sfnt_bytes.specs.Sums.{checksum_of}
-use Rattle.character_map.specs.Runs.{groups_from}
+use Rattle.codes.specs.Runs.{groups_from}
 use Rattle.font_theory.specs.File.{groups_of_content, numbers_of}
 use Rattle.font_write.specs.Parts.{groups_bytes}
 use Rattle.font_write.proofs.made_cmap.measure_groups.Given as goal

@@ -3,7 +3,7 @@ use Rattle.font_cut.specs.Fonts.{mapping_of}
 use Rattle.fontcut_c.specs.Mapped.{listed, listed_from}
 use Rattle.fontcut_c.proofs.mapped.put_ranges.Given as goal
 
--- the ranges that were written, those that are left, and what stands behind them
+-- the ranges that were written, those that are left, and what stands after them
 abbrev pub invariant-loop-range : goal.invariant-loop-range
 invariant-loop-range l =
     let m = mapping_of l.chart.0 l.chart.1 in

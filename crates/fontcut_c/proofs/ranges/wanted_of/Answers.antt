@@ -1,6 +1,6 @@
 use Rattle.std.proofs.Common.{rules, ◌≡◌, ◌+◌, drop, ap, sym, ◌∙◌, slice_index_or}
 use Rattle.std.proofs.lemmas.List.{at_drop_more}
-use Rattle.code_sets.specs.Wanted.{codes_between, either, member}
+use Rattle.codes.specs.Wanted.{codes_between, either, member}
 use Rattle.fontcut_c.specs.Cutting.{with_ranges}
 use Rattle.fontcut_c.proofs.ranges.wanted_of.Goals as goal
 

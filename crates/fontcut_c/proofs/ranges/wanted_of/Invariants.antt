@@ -1,5 +1,5 @@
 use Rattle.std.proofs.Common.{◌≡◌, drop}
-use Rattle.code_sets.specs.Wanted.{member}
+use Rattle.codes.specs.Wanted.{member}
 use Rattle.fontcut_c.specs.Cutting.{wanted_by, with_ranges}
 use Rattle.fontcut_c.proofs.ranges.wanted_of.Given as goal
 

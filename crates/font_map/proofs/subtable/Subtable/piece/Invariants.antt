@@ -1,5 +1,5 @@
 use Rattle.std.proofs.Common.{◌≤◌, ◌-◌}
-use Rattle.character_map.specs.CharacterMap.{IsUnmapped, clipped}
+use Rattle.codes.specs.CharacterMap.{IsUnmapped, clipped}
 use Rattle.font_map.specs.Inside.{subtable_glyph}
 use Rattle.font_map.proofs.subtable.Subtable.piece.Given as goal
 

@@ -1,12 +1,12 @@
 use Rattle.std.proofs.Common.{rules, ◌≡◌, ℕ, ◌+◌, List, [], ◌∷◌, ◌++◌, ap, ◌∙◌, subst, sym}
-use Rattle.character_map.specs.CharacterMap.{IsCharacterMap, restricted}
+use Rattle.codes.specs.CharacterMap.{IsCharacterMap, restricted}
 use Rattle.font_map.specs.Mapping.{mapping_of}
-use Rattle.character_map.specs.Runs.{IsNext, IsPiece, IsRun, NoRun, groups_from}
-use Rattle.character_map.specs.declared.runs.Run.{Run}
+use Rattle.codes.specs.Runs.{IsNext, IsPiece, IsRun, NoRun, groups_from}
+use Rattle.codes.specs.declared.runs.Run.{Run}
 use Rattle.font_file.specs.Font.{map_of}
 use Rattle.font_theory.specs.Content.{everything}
-use Rattle.run_lists.proofs.RunListLemmas.{groups_go_on}
-use Rattle.run_lists.proofs.RunListLemmas.{groups_all}
+use Rattle.map_union.proofs.RunListLemmas.{groups_go_on}
+use Rattle.map_union.proofs.RunListLemmas.{groups_all}
 use Rattle.font_subset.proofs.cut_source.Charted.runs.Goals as goal
 
 pub loop-ahead-preserved : goal.loop-ahead-preserved

@@ -1,6 +1,6 @@
 use Rattle.std.proofs.Common.{◌≡◌, ◌++◌, ◌-◌}
-use Rattle.character_map.specs.CharacterMap.{restricted}
-use Rattle.character_map.specs.Runs.{IsNext, groups_from}
+use Rattle.codes.specs.CharacterMap.{restricted}
+use Rattle.codes.specs.Runs.{IsNext, groups_from}
 use Rattle.font_file.specs.Font.{map_of}
 use Rattle.font_theory.specs.Content.{everything}
 use Rattle.font_subset.proofs.cut_source.Charted.runs.Given as goal

@@ -1,11 +1,11 @@
 use Rattle.std.proofs.Common.{◌≡◌, ℕ, ◌<◌, List, Option, Some, sym, ap, subst, ◌∙◌}
 use Rattle.std.specs.Option.{is_some}
-use Rattle.code_sets.specs.declared.ranges.Range.{Range}
+use Rattle.codes.specs.declared.ranges.Range.{Range}
 use Rattle.font_tables.specs.Fields.{glyph_count_of}
 use Rattle.font_tables.specs.Outlines.{outline_of}
 use Rattle.font_theory.specs.Content.{content, everything, font_of}
 use Rattle.font_subset.specs.Content.{IsKeptSet, codes_wanted}
-use Rattle.font_subset.proofs.WholeLemmas.{written_below, written_is}
+use Rattle.font_subset.proofs.ContentOfAllLemmas.{written_below, written_is}
 use Rattle.font_subset.proofs.cut_source.CutOf.written_outline.Goals as goal
 
 pub outline-requires : goal.outline-requires

@@ -1,5 +1,5 @@
 use Rattle.std.proofs.Common.{ℕ, List, Option, subst, arith}
-use Rattle.code_sets.specs.declared.ranges.Range.{Range}
+use Rattle.codes.specs.declared.ranges.Range.{Range}
 use Rattle.font_subset.specs.Content.{IsKeptSet, codes_wanted}
 use Rattle.font_subset.proofs.SourceLemmas.{glyph_count_is, next_is}
 use Rattle.font_subset.proofs.cut_source.CutOfSource.next_kept.Goals as goal

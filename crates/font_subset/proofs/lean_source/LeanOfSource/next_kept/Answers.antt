@@ -1,5 +1,5 @@
 use Rattle.std.proofs.Common.{ℕ, ◌≤◌, List, Option, subst, sym}
-use Rattle.code_sets.specs.declared.ranges.Range.{Range}
+use Rattle.codes.specs.declared.ranges.Range.{Range}
 use Rattle.font_theory.specs.Content.{glyph_count}
 use Rattle.font_write.specs.Parts.{IsNextKept}
 use Rattle.font_subset.specs.Content.{lean_content}

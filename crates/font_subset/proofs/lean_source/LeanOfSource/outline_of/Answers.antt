@@ -1,6 +1,6 @@
 use Rattle.std.proofs.Common.{◌≡◌, ℕ, List, Option, Some, subst}
 use Rattle.std.specs.Option.{IsSome}
-use Rattle.code_sets.specs.declared.ranges.Range.{Range}
+use Rattle.codes.specs.declared.ranges.Range.{Range}
 use Rattle.font_theory.specs.Bytes.{padded}
 use Rattle.font_subset.specs.Content.{lean_content}
 use Rattle.font_subset.proofs.LeanSourceLemmas.{lean_outline_at}

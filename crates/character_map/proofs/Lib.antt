@@ -1,5 +1,0 @@
-pub mod PieceLemmas
-pub mod CountLemmas
-pub mod MapLemmas
-pub mod RunLemmas
-pub mod FewestLemmas

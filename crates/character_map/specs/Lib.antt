@@ -1,2 +1,0 @@
-pub mod CharacterMap
-pub mod Runs

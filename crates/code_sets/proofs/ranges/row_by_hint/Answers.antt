@@ -1,9 +1,0 @@
-use Rattle.std.proofs.Common.{arith}
-use Rattle.code_sets.proofs.RangeLemmas.{row_none, row_some}
-use Rattle.code_sets.proofs.ranges.row_by_hint.Goals as goal
-
-pub returns-then-i-ranges : goal.returns-then-i-ranges
-returns-then-i-ranges c = row_none _ _ _ c.requires c.place_range-i.ensures (omega arith)
-
-pub returns : goal.returns
-returns c = row_some _ _ _ _ c.requires c.place_range-i.ensures (omega arith) c.max.ensures

@@ -1,4 +1,0 @@
-pub mod Inside
-pub mod Text
-pub mod Wanted
-pub mod Word

@@ -1,0 +1,9 @@
+pub mod OrderLemmas
+pub mod PieceLemmas
+pub mod CountLemmas
+pub mod MapLemmas
+pub mod RunLemmas
+pub mod FewestLemmas
+pub mod RangeLemmas
+pub mod AddingLemmas
+pub mod WordLemmas

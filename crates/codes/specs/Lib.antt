@@ -1,0 +1,7 @@
+pub mod CharacterMap
+pub mod Inside
+pub mod Order
+pub mod Runs
+pub mod Text
+pub mod Wanted
+pub mod Word

@@ -1,0 +1,16 @@
+-- The numbers of refusals of wanted codes and of their words, this project's own.
+use Rattle.std.specs.Prelude.{ℕ}
+use Rattle.codes.specs.declared.wanted.WantedError.{WantedError}
+use Rattle.codes.specs.declared.wanted.WantedError.TheVariants.{BadRange, NoMemory}
+use Rattle.codes.specs.declared.word.WordError.{WordError}
+use Rattle.codes.specs.declared.word.WordError.TheVariants.{BadWord, BadRange as BadRangeOfWord}
+
+-- the number of a refusal of a set
+abbrev pub wanted_error_number : WantedError → ℕ
+wanted_error_number BadRange = 15
+wanted_error_number NoMemory = 16
+
+-- the number of a refusal of a word
+abbrev pub word_error_number : WordError → ℕ
+word_error_number BadWord = 26
+word_error_number BadRangeOfWord = 15

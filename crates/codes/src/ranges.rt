@@ -1,0 +1,159 @@
+//! Sorted ranges of codes, that neither overlap nor touch.
+ghost use Rattle.std.specs.Prelude.{◌≡◌, ◌+◌, ◌≤◌, ◌++◌, ◌∷◌, length, take, drop, MatchOption, OnErr, OnOk};
+ghost use Rattle.codes.specs.Order.{IsFirstReaching};
+ghost use Rattle.codes.specs.Inside.{absorbed, range_end, with_range};
+ghost use Rattle.codes.specs.Wanted.{AreSeparate, IsRow, NoRow, member};
+
+use crate::search::{ANYWHERE, Ends, first_reaching};
+use sfnt_bytes::NoMemory;
+use std::alloc::Allocator;
+
+/// The codes `first` to `last`.
+#[derive(Clone, Copy, Debug, PartialEq, Eq)]
+pub struct Range {
+    /// The first code.
+    pub first: u32,
+    /// The last code.
+    pub last: u32,
+}
+
+/// The ends of ranges.
+#[derive(Drop)]
+struct RangeEnds<'a> {
+    ranges: &'a [Range],
+}
+
+impl<'a> Ends for RangeEnds<'a> {
+    ghost use Rattle.std.specs.Prelude.{length};
+    ghost use Rattle.codes.specs.Inside.{range_end};
+
+    ghost count_of = { λ e. length e.ranges.now };
+
+    ghost end_of = { λ e. range_end e.ranges.now };
+
+    fn count(&self) -> usize {
+        self.ranges.len()
+    }
+
+    fn end_at(&self, i: usize) -> u32 {
+        self.ranges[i].last
+    }
+}
+
+// Returns the place of the first range that ends at the code or above it, which is likely to stand close after
+// the hint.
+#[tactic(auto, using(crate::proofs::RangeLemmas::ranges_ascend))]
+fn place_range(ranges: &[Range], hint: usize, code: u32) -> usize
+    requires { AreSeparate 0 ranges.now }
+    ensures { IsFirstReaching (range_end ranges.now) (length ranges.now) code result }
+{
+    first_reaching(&RangeEnds { ranges }, hint, code)
+}
+
+/// Returns whether a code is in one of the ranges.
+pub(crate) fn has_code(ranges: &[Range], code: u32) -> bool
+    requires { AreSeparate 0 ranges.now }
+    ensures { result ≡ member ranges.now code }
+{
+    let i = place_range(ranges, ANYWHERE, code);
+    if i >= ranges.len() {
+        return false;
+    }
+    if code < ranges[i].first {
+        return false;
+    }
+    true
+}
+
+/// Returns the codes, from `from` on, of the first range that ends at `from` or above it, and the place of that
+/// range, as a hint for the next search.
+pub(crate) fn row_by_hint(ranges: &[Range], hint: usize, from: u32) -> (Option<Range>, usize)
+    requires { AreSeparate 0 ranges.now }
+    ensures { MatchOption result.0 (NoRow (member ranges.now) from) (IsRow (member ranges.now) from) }
+{
+    let i = place_range(ranges, hint, from);
+    if i >= ranges.len() {
+        return (None, i);
+    }
+    let range = ranges[i];
+    let row = Range {
+        first: from.max(range.first),
+        last: range.last,
+    };
+    (Some(row), i)
+}
+
+// Returns how many ranges end before another one, with a gap.
+#[tactic(auto, using(crate::proofs::AddingLemmas::with_range_at))]
+fn count_before(ranges: &[Range], range: Range) -> usize
+    requires { AreSeparate 0 ranges.now }
+    ensures within { result ≤ length ranges.now }
+    ensures rest { with_range range ranges.now ≡ take result ranges.now ++ absorbed range
+        (drop result ranges.now) }
+{
+    // Ranges mostly come in order, so the last one is looked at first.
+    place_range(
+        ranges,
+        ranges.len().saturating_sub(1),
+        range.first.saturating_sub(1),
+    )
+}
+
+// Merges `range` with the ranges from index `i` on that overlap or touch it. Returns the union and the
+// index after the last one merged.
+#[tactic(auto, using(crate::proofs::AddingLemmas::absorbed_on, crate::proofs::AddingLemmas::absorbed_stop, crate::proofs::AddingLemmas::absorbed_end))]
+fn absorb(ranges: &[Range], i: usize, range: Range) -> (Range, usize)
+    requires { i ≤ length ranges.now }
+    ensures order { i ≤ result.1 }
+    ensures within { result.1 ≤ length ranges.now }
+    ensures rest { absorbed range (drop i ranges.now) ≡ result.0 ∷ drop result.1 ranges.now }
+{
+    let mut whole = range;
+    for j in i..ranges.len() {
+        let next = ranges[j];
+        if next.first.saturating_sub(1) > whole.last {
+            return (whole, j);
+        }
+        whole = Range {
+            first: whole.first.min(next.first),
+            last: whole.last.max(next.last),
+        };
+    }
+    (whole, ranges.len())
+}
+
+// Puts a range in the place of those from index `i` to `j`. It asks for memory only where these are
+// none.
+fn replace<A: Allocator>(
+    ranges: &mut Vec<Range, A>,
+    i: usize,
+    j: usize,
+    range: Range,
+) -> Result<(), NoMemory>
+    requires order { i ≤ j }
+    requires within { j ≤ length ranges.old.items }
+    ensures ok { OnOk result (ranges.new.items ≡ take i ranges.old.items ++ range ∷ drop j ranges.old.items) }
+    ensures err { OnErr result (ranges.new.items ≡ ranges.old.items) }
+{
+    if i == j {
+        ranges.insert(i, range).map_err(|_| NoMemory)?;
+        return Ok(());
+    }
+    ranges[i] = range;
+    drop(ranges.drain(i + 1..j));
+    Ok(())
+}
+
+/// Adds a range, in place.
+pub(crate) fn add_range<A: Allocator>(
+    ranges: &mut Vec<Range, A>,
+    range: Range,
+) -> Result<(), NoMemory>
+    requires { AreSeparate 0 ranges.old.items }
+    ensures ok { OnOk result (ranges.new.items ≡ with_range range ranges.old.items) }
+    ensures err { OnErr result (ranges.new.items ≡ ranges.old.items) }
+{
+    let i = count_before(ranges.as_slice(), range);
+    let (whole, j) = absorb(ranges.as_slice(), i, range);
+    replace(ranges, i, j, whole)
+}

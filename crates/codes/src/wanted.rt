@@ -1,0 +1,142 @@
+//! Wanted sets of codes.
+ghost use Rattle.std.specs.Prelude.{◌≡◌, ◌↔◌, Err, IfOk, MatchOption, OnErr, OnOk};
+ghost use Rattle.codes.specs.Text.{wanted_error_number};
+ghost use Rattle.codes.specs.Wanted.{IsBadRange, IsRow, NoRow, all_codes, codes_between, either, member, no_codes};
+ghost use Rattle.codes.specs.declared.wanted.WantedError.TheVariants.{BadRange, NoMemory};
+
+use crate::ranges::{Range, add_range, has_code, row_by_hint};
+use sfnt_bytes::NoMemory;
+use std::alloc::{Allocator, Global};
+use std::cell::Cell;
+use std::marker::Model;
+use thiserror::Error;
+
+/// Why codes are not added to a set.
+#[derive(Clone, Copy, Debug, PartialEq, Eq, Error)]
+pub enum WantedError {
+    /// The first code is above the last, or the last is above 0x10FFFF.
+    #[error("bad range")]
+    BadRange,
+    /// Memory was refused.
+    #[error("no memory")]
+    NoMemory,
+}
+
+impl WantedError {
+    /// Returns the number of the refusal, 15 or 16.
+    pub fn number(&self) -> u8
+        ensures { result ≡ wanted_error_number self.now }
+    {
+        match self {
+            WantedError::BadRange => 15,
+            WantedError::NoMemory => 16,
+        }
+    }
+}
+
+impl From<NoMemory> for WantedError {
+    ghost from_gives = { λ held error. error ≡ NoMemory };
+
+    fn from(_error: NoMemory) -> WantedError {
+        WantedError::NoMemory
+    }
+}
+
+/// A set of codes.
+#[derive(Drop)]
+pub struct Wanted<A: Allocator = Global> {
+    ranges: Vec<Range, A>,
+    // Where the range that was read last stands: a walk over the set goes on from there.
+    hint: Cell<usize>,
+}
+
+// Its value is the list of ranges, which is seen by `member` alone.
+impl<A: Allocator> Model for Wanted<A> {
+    ghost use Rattle.std.specs.Prelude.{List};
+    ghost use Rattle.codes.specs.Wanted.{AreSeparate};
+    ghost use Rattle.codes.specs.declared.ranges.Range.{Range};
+
+    ghost Value = { List Range };
+
+    ghost view = { λ w. w.ranges.items };
+
+    ghost invariant = { λ w. AreSeparate 0 w.ranges.items };
+}
+
+impl<A: Allocator> Wanted<A> {
+    /// Returns the empty set.
+    pub fn new(alloc: A) -> Wanted<A>
+        ensures { member result ≡ no_codes }
+    {
+        Wanted {
+            ranges: Vec::new(alloc),
+            hint: Cell::new(0),
+        }
+    }
+
+    /// Returns the set of all code points, 0 to 0x10FFFF.
+    ///
+    /// # Errors
+    ///
+    /// `NoMemory` where memory is refused.
+    pub fn all(alloc: A) -> Result<Wanted<A>, NoMemory>
+        ensures { IfOk result (λ wanted. member wanted ≡ all_codes) }
+    {
+        let mut ranges = Vec::new(alloc);
+        let range = Range {
+            first: 0,
+            last: 0x10FFFF,
+        };
+        ranges.push(range).map_err(|_| NoMemory)?;
+        Ok(Wanted {
+            ranges,
+            hint: Cell::new(0),
+        })
+    }
+
+    /// Returns whether a code is in the set.
+    pub fn contains(&self, code: u32) -> bool
+        ensures { result ≡ member self.now code }
+    {
+        has_code(self.ranges.as_slice(), code)
+    }
+
+    /// Returns the codes, from `from` on, of the first range of the set that ends at `from` or above it.
+    pub fn row_from(&self, from: u32) -> Option<Range>
+        ensures { MatchOption result (NoRow (member self.now) from) (IsRow (member self.now) from) }
+    {
+        let (row, place) = row_by_hint(self.ranges.as_slice(), self.hint.get(), from);
+        self.hint.set(place);
+        row
+    }
+
+    /// Adds the codes from the first to the last, both included. A refusal leaves the set as it was.
+    ///
+    /// # Errors
+    ///
+    /// `BadRange` where the first code is above the last or the last above 0x10FFFF, and `NoMemory`
+    /// where memory is refused.
+    ///
+    /// # Example
+    ///
+    /// From the test `bad_ranges_leave_the_set` of `table_tests`:
+    ///
+    /// ```
+    /// let mut wanted = Wanted::new(rt.alloc());
+    /// assert_eq!(rt; wanted.add(0x41, 0x42), Ok(()));
+    /// assert_eq!(rt; wanted.add(0x42, 0x41), Err(WantedError::BadRange));
+    /// assert_eq!(rt; wanted.add(0, 0x11_0000), Err(WantedError::BadRange));
+    /// ```
+    #[tactic(auto, using(crate::proofs::AddingLemmas::wanted_separate))]
+    pub fn add(&mut self, first: u32, last: u32) -> Result<(), WantedError>
+        ensures bad_range { (result ≡ Err BadRange) ↔ IsBadRange first last }
+        ensures added { OnOk result (member self.new ≡ either (codes_between first last) (member self.old)) }
+        ensures unchanged { OnErr result (member self.new ≡ member self.old) }
+    {
+        if last < first || 0x10FFFF < last {
+            return Err(WantedError::BadRange);
+        }
+        add_range(&mut self.ranges, Range { first, last })?;
+        Ok(())
+    }
+}

@@ -1,0 +1,6 @@
+pub mod CheckLemmas
+pub mod CodesLemmas
+pub mod JoinRunLemmas
+pub mod LineLemmas
+pub mod ReadEachLemmas
+pub mod RunLemmas

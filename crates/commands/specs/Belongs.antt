@@ -1,0 +1,76 @@
+-- What `belongs` prints of two files, and how it leaves its inlets and its outlet, this project's own.
+use Rattle.std.specs.Prelude.{◌≡◌, ℕ, ◌⊎◌, ◌↔◌, Bool, false, true, IsTrue, List, None, Option, Some, codes, take}
+use Rattle.font_subset.specs.Cut.{IsCutForSome}
+use Rattle.font_subset.specs.Lean.{IsLeanCutForSome}
+use Rattle.font_cut.specs.Fonts.{FontError, font_fault}
+use Rattle.streams.specs.Outlet as outlets
+use Rattle.font_join.specs.declared.join_error.Which.{Which}
+use Rattle.font_join.specs.declared.join_error.Which.TheVariants.{First, Second}
+use Rattle.streams.specs.declared.outlet.Outlet.{Outlet}
+use Rattle.commands.specs.Check.{line}
+use Rattle.streams.specs.Inlet as inlets
+use Rattle.commands.specs.Join.{IsSpent}
+use Rattle.commands.specs.Run.{got}
+use Rattle.streams.specs.declared.inlet.Inlet.{Inlet}
+use Rattle.commands.specs.declared.run_error.RunError.{RunError}
+use Rattle.commands.specs.declared.run_error.RunError.TheVariants.{Font, Join, Memory, OneOf, Read, TooLarge, Write}
+
+-- all that `belongs` prints
+abbrev pub answer_text : Bool → List ℕ
+answer_text true = line (codes "yes")
+answer_text false = line (codes "no")
+
+-- both files are accepted, and the answer says whether the first one is a cut of the second one, as the
+-- relation has it
+pub record AnswersBy (Is : List ℕ → List ℕ → Type 0) (cut font : List ℕ) (answer : Bool) : Type 0 where
+  pub cut_accepted : font_fault cut ≡ None
+  pub font_accepted : font_fault font ≡ None
+  pub is : IsTrue answer ↔ Is font cut
+
+-- the answer says whether the first file is a cut of the second one for some codes, in some form
+abbrev pub Answers : List ℕ → List ℕ → Bool → Type 0
+Answers = AnswersBy IsCutForSome
+
+-- the answer says whether the first file is a lean cut of the second one for some codes
+abbrev pub AnswersLean : List ℕ → List ℕ → Bool → Type 0
+AnswersLean = AnswersBy IsLeanCutForSome
+
+-- the first file is refused as a font, or it is accepted and the second one is refused, by the first refusal
+-- that applies
+abbrev pub RefusesOneOf : List ℕ → List ℕ → Which → FontError → Type 0
+RefusesOneOf cut font First error = font_fault cut ≡ Some error
+RefusesOneOf cut font Second error = (font_fault cut ≡ None) × (font_fault font ≡ Some error)
+
+-- why there is no answer of two files: memory is refused, or one of them is
+abbrev pub IsUnanswered : List ℕ → List ℕ → RunError → Type 0
+IsUnanswered cut font Memory = Unit {0}
+IsUnanswered cut font (OneOf which error) = RefusesOneOf cut font which error
+IsUnanswered cut font _ = ⊥
+
+-- P holds of what came from both readers, where these tell their bytes
+abbrev pub got_both : {R : Type 0} → (R → Option (List ℕ)) → Inlet R → Inlet R → (List ℕ → List ℕ → Type 0) → Type 0
+got_both remaining cut font P = got remaining cut (λ x. got remaining font (λ y. P x y))
+
+-- a read failed after this number of bytes
+abbrev pub BrokeAfter : {R : Type 0} → (R → Option (List ℕ)) → Inlet R → Inlet R → ℕ → Type 0
+BrokeAfter remaining i j count = (inlets.inlet_broken_of j ≡ true) × inlets.Gives remaining i j count
+
+-- how a run that is not done leaves the inlet of CUT, from c to d, that of FONT, from i to j, and its outlet,
+-- from o to p; the relation is the one that is asked for
+abbrev pub BelongsStops : {R W : Type 0} (Is : List ℕ → List ℕ → Type 0) (remaining : R → Option (List ℕ)) (contents : W → Option (List ℕ)) (c d i j : Inlet R) (o p : Outlet W) → RunError → Type 0
+-- nothing was sent: CUT broke, and FONT was not read, or FONT did
+BelongsStops Is remaining contents c d i j o p (Read count) =
+    (p ≡ o) × ((BrokeAfter remaining c d count × (j ≡ i)) ⊎ (IsSpent d × BrokeAfter remaining i j count))
+-- nothing was sent, and FONT was read or not
+BelongsStops Is remaining contents c d i j o p Memory = (p ≡ o) × IsSpent d × ((j ≡ i) ⊎ IsSpent j)
+-- one of both is refused, and nothing was sent
+BelongsStops Is remaining contents c d i j o p (OneOf which error) =
+    (p ≡ o) × IsSpent d × IsSpent j × got_both remaining c i (λ x y. RefusesOneOf x y which error)
+-- the outlet is broken, and this number of bytes of the answer went out
+BelongsStops Is remaining contents c d i j o p (Write count) =
+    IsSpent d × IsSpent j × (outlets.broken_of p ≡ true) × (outlets.written_of p ≡ count)
+    × ((answer : Bool) × got_both remaining c i (λ x y. AnswersBy Is x y answer) × outlets.WentOut contents o p (take count (answer_text answer)))
+-- nothing else stops it
+BelongsStops Is remaining contents c d i j o p (Font error) = ⊥
+BelongsStops Is remaining contents c d i j o p (TooLarge size) = ⊥
+BelongsStops Is remaining contents c d i j o p (Join error) = ⊥

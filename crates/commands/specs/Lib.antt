@@ -1,0 +1,6 @@
+pub mod Belongs
+pub mod Check
+pub mod Codes
+pub mod Join
+pub mod Run
+pub mod Show

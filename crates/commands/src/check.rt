@@ -1,0 +1,114 @@
+//! `check`: the findings of a file, and whether it is accepted.
+ghost use Rattle.std.specs.Prelude.{◌≡◌, ◌↔◌, None, Some, IfOk, IsTrue, [], false, true};
+ghost use Rattle.std.specs.List.{flat_map};
+ghost use Rattle.font_cut.specs.Fonts.{findings_of, font_fault};
+ghost use Rattle.commands.specs.Check.{check_text, finding_line, read_findings, report_text, shown_findings};
+ghost use Rattle.streams.specs.Inlet.{inlet_fresh_of};
+ghost use Rattle.streams.specs.Outlet.{fresh_of};
+ghost use Rattle.commands.specs.Run.{AnyFile, RefusesNone, SendsText, got};
+
+use crate::run_error::{RunError, send};
+use font_cut::{Directory, Finding, Font, FontError, Outlet};
+use std::alloc::{AllocError, Allocator};
+use std::fmt;
+use std::io::{Read, Write};
+use streams::Inlet;
+
+// A line for each finding.
+#[derive(Clone, Copy)]
+struct Lines<'a>(&'a [Finding]);
+
+impl<'a> fmt::Display for Lines<'a> {
+    ghost output = { λ lines. Some (flat_map finding_line lines.0.now) };
+
+    fn fmt<W: fmt::Write>(&self, f: &mut fmt::Formatter<W>) -> fmt::Result {
+        for finding in self.0 {
+            write!(f, "{finding}\n")?;
+        }
+        Ok(())
+    }
+}
+
+// What `check` says of a file.
+#[derive(Drop)]
+struct Report<A: Allocator> {
+    // The findings, where the directory is not refused.
+    findings: Option<Vec<Finding, A>>,
+    // The first refusal that applies.
+    fault: Option<FontError>,
+}
+
+impl<A: Allocator> Report<A> {
+    // It stands apart, for its search for findings has 120 KB on the stack, which no other run is to touch.
+    #[inline(never)]
+    fn of(alloc: A, file: &[u8]) -> Result<Report<A>, AllocError>
+        ensures findings { IfOk result (λ report. shown_findings report ≡ read_findings file.now) }
+        ensures fault { IfOk result (λ report. report.fault ≡ font_fault file.now) }
+    {
+        let findings = match Directory::read(file) {
+            Ok(directory) => Some(directory.findings().collect(alloc)?),
+            Err(_) => None,
+        };
+        Ok(Report {
+            findings,
+            fault: Font::open(file).err(),
+        })
+    }
+
+    // Returns whether the file is accepted without a finding.
+    fn is_clean(&self) -> bool
+        ensures { IsTrue result ↔ (self.now.fault ≡ None) × (shown_findings self.now ≡ Some []) }
+    {
+        match (&self.findings, &self.fault) {
+            (Some(findings), None) => findings.is_empty(),
+            _ => false,
+        }
+    }
+}
+
+impl<A: Allocator> fmt::Display for Report<A> {
+    ghost output = { λ report. Some (report_text (shown_findings report) report.fault) };
+
+    fn fmt<W: fmt::Write>(&self, f: &mut fmt::Formatter<W>) -> fmt::Result {
+        if let Some(findings) = &self.findings {
+            let (lines, count) = (Lines(findings), findings.len());
+            write!(f, "{lines}findings {count}\n")?;
+        }
+        match self.fault {
+            None => f.write_str("accepted\n"),
+            Some(fault) => {
+                let number = fault.number();
+                write!(f, "refused {number} {fault}\n")
+            }
+        }
+    }
+}
+
+/// Reads a file to its end, and sends a line for each finding, their count, and whether the file is
+/// accepted or why it is refused; of a file whose directory is refused the last line alone. Returns
+/// whether the file is accepted and has no finding.
+///
+/// # Errors
+///
+/// `Read` where the reader fails, `Memory` where memory is refused: then nothing was sent. `Write` where
+/// the writer fails.
+#[tactic(auto, using(crate::proofs::CheckLemmas::read_findings_accepted), unfolding(crate::specs::Check::check_text))]
+pub fn run_check<R: Read, W: Write, A: Allocator + Copy>(
+    alloc: A,
+    inlet: &mut Inlet<R>,
+    outlet: &mut Outlet<W>,
+) -> Result<bool, RunError>
+    requires inlet { inlet_fresh_of inlet.old ≡ true }
+    requires outlet { fresh_of outlet.old ≡ true }
+    // `check` reports a refused file on the outlet; it is not an error of the run.
+    ensures sent { SendsText R.remaining W.contents AnyFile check_text RefusesNone
+        inlet.old inlet.new outlet.old outlet.new result }
+    ensures answer { IfOk result (λ clean. got R.remaining inlet.old
+        (λ file. IsTrue clean ↔ (font_fault file ≡ None) × (findings_of file ≡ []))) }
+{
+    let file = inlet.read_all(alloc)?;
+    let report = Report::of(alloc, &file)?;
+    let text = report.to_string(alloc)?;
+    send(outlet, text.as_bytes())?;
+    Ok(report.is_clean())
+}

@@ -1,0 +1,68 @@
+//! `join`: the join of cuts.
+ghost use Rattle.std.specs.Prelude.{◌≡◌, ◌≤◌, ℕ, Bool, List, IfErr, IfOk, MatchResult, OnOk, false, length, map, true};
+ghost use Rattle.font_subset.specs.Cut.{cut_of};
+ghost use Rattle.font_cut.specs.Fonts.{MAX_FILE, our_format, union_below};
+ghost use Rattle.streams.specs.Outlet.{WentOut, broken_of, fresh_of};
+ghost use Rattle.commands.specs.Join.{AreFresh, AreGot, AreSpent, GotCuts, JoinStops, OnlySize, ReadStops, SendsJoin};
+
+use crate::run_error::RunError;
+use font_cut::{Outlet, join_all_into};
+use std::alloc::Allocator;
+use std::io::{Read, Write};
+use streams::Inlet;
+
+/// Reads each inlet to its end, in order.
+///
+/// # Errors
+///
+/// `Read` where a reader fails: its inlet is broken, and no other. `Memory` where memory is refused.
+pub(crate) fn read_each<R: Read, A: Allocator + Copy>(
+    alloc: A,
+    inlets: &mut [Inlet<R>],
+) -> Result<Vec<Vec<u8, A>, A>, RunError>
+    requires { AreFresh inlets.old }
+    ensures got { IfOk result (λ files. AreGot R.remaining inlets.old (map (λ v. v.items) files.items)) }
+    ensures spent { OnOk result (AreSpent inlets.new) }
+    ensures stops { IfErr result (ReadStops R.remaining inlets.old inlets.new) }
+{
+    let mut files = Vec::with_capacity(alloc, inlets.len())?;
+    for k in 0..inlets.len() {
+        let file = inlets[k].read_all(alloc)?;
+        if files.push(file).is_err() {
+            return Err(RunError::Memory);
+        }
+    }
+    Ok(files)
+}
+
+/// Reads cuts to their ends, in order, sends their join, and returns its size in bytes.
+///
+/// # Errors
+///
+/// `Read` where a reader fails: its inlet is broken, and no other. `Memory` where memory is refused, and
+/// `Join` with the first step that is refused, a size that is too large among them. Nothing was sent in
+/// these cases. `Write` where the writer fails.
+pub fn run_join<R: Read, W: Write, A: Allocator + Copy>(
+    alloc: A,
+    inlets: &mut [Inlet<R>],
+    outlet: &mut Outlet<W>,
+) -> Result<u64, RunError>
+    requires inlets { AreFresh inlets.old }
+    requires outlet { fresh_of outlet.old ≡ true }
+
+    ensures sent { IfOk result (SendsJoin our_format R.remaining W.contents inlets.old outlet.old outlet.new) }
+    ensures small { IfOk result (λ size. size ≤ MAX_FILE) }
+    ensures whole { OnOk result (AreSpent inlets.new × (broken_of outlet.new ≡ false)) }
+    ensures cuts { (F : List ℕ) (A : ℕ → ℕ → Bool) → GotCuts our_format R.remaining inlets.old F A →
+        MatchResult result (λ size. let z = cut_of F (union_below A (length inlets.old)) in
+        (size ≡ length z) × WentOut W.contents outlet.old outlet.new z)
+        (OnlySize our_format F A (length inlets.old)) }
+
+    ensures error { IfErr result
+        (JoinStops our_format R.remaining W.contents inlets.old inlets.new outlet.old outlet.new) }
+{
+    let files = read_each(alloc, inlets)?;
+    let size = join_all_into(alloc, &files, outlet)?;
+    outlet.finish()?;
+    Ok(size)
+}

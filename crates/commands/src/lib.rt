@@ -1,0 +1,25 @@
+//! The commands of `fontcut` over readers and writers: the contract of each says what is sent and when it
+//! stops.
+#![tactic(auto)]
+
+mod belongs;
+mod check;
+mod join;
+mod lean_belongs;
+mod lean_join;
+mod lean_subset;
+mod mapped_codes;
+mod run_error;
+mod show;
+mod subset;
+
+pub use crate::belongs::run_belongs;
+pub use crate::check::run_check;
+pub use crate::join::run_join;
+pub use crate::lean_belongs::run_lean_belongs;
+pub use crate::lean_join::run_lean_join;
+pub use crate::lean_subset::run_lean_subset;
+pub use crate::mapped_codes::{RangeLine, codes_laws, next_range, run_codes};
+pub use crate::run_error::RunError;
+pub use crate::show::run_show;
+pub use crate::subset::run_subset;

@@ -1,0 +1,110 @@
+//! `codes`: the mapped codes of a font, as words that `subset` reads.
+ghost use Rattle.std.specs.Prelude.{◌≡◌, ◌+◌, ◌≤◌, ◌∷◌, ℕ, [], MatchOption, Some, true};
+ghost use Rattle.codes.specs.CharacterMap.{IsCharacterMap};
+ghost use Rattle.font_cut.specs.Fonts.{mapping_of};
+ghost use Rattle.streams.specs.Outlet.{fresh_of};
+ghost use Rattle.commands.specs.Codes.{CodesLaws, code_lines, code_ranges, codes_text, range_line, range_of_line};
+ghost use Rattle.streams.specs.Inlet.{inlet_fresh_of};
+ghost use Rattle.commands.specs.Run.{IsAccepted, RefusesFont, SendsText};
+
+use crate::run_error::{RunError, send};
+use font_cut::{Chart, Font, Outlet};
+use std::alloc::{Allocator, Global};
+use std::fmt;
+use std::io::{Read, Write};
+use streams::Inlet;
+
+/// A range of codes, which is printed as its line.
+#[derive(Clone, Copy)]
+pub struct RangeLine {
+    /// The first code.
+    pub first: u32,
+    /// The last code.
+    pub last: u32,
+}
+
+impl fmt::Display for RangeLine {
+    ghost output = { λ line. Some (range_line (range_of_line line)) };
+
+    fn fmt<W: fmt::Write>(&self, f: &mut fmt::Formatter<W>) -> fmt::Result {
+        let (first, last) = (self.first, self.last);
+        if first == last {
+            write!(f, "U+{first:X}\n")
+        } else {
+            write!(f, "U+{first:X}-{last:X}\n")
+        }
+    }
+}
+
+// The mapped codes of a font, by the chart of its mapping, which is quick to walk in whatever order its
+// subtable stands.
+#[derive(Drop)]
+struct Codes<'a, A: Allocator = Global>(Chart<'a, A>);
+
+/// Returns the range of mapped codes that begins at the least one not below `from`, and ends where the next
+/// code is not mapped.
+pub fn next_range<A: Allocator>(chart: &Chart<'_, A>, from: u32) -> Option<RangeLine>
+    ensures range { MatchOption result
+        (code_ranges (mapping_of chart.now.0 chart.now.1) from ≡ [])
+        (λ line. code_ranges (mapping_of chart.now.0 chart.now.1) from
+        ≡ range_of_line line ∷ code_ranges (mapping_of chart.now.0 chart.now.1) (line.last + 1)) }
+    ensures on { MatchOption result (Unit {0}) (λ line. (from ≤ line.last) × (line.last ≤ 0x10FFFF)) }
+{
+    let run = chart.next_run(from)?;
+    let mut line = RangeLine {
+        first: run.first,
+        last: run.last,
+    };
+    while let Some(next) = chart.next_run(line.last + 1) {
+        if next.first != line.last + 1 {
+            break;
+        }
+        line.last = next.last;
+    }
+    Some(line)
+}
+
+// A line for each range.
+impl<'a, A: Allocator> fmt::Display for Codes<'a, A> {
+    ghost output = { λ codes. Some (code_lines (mapping_of codes.0.0 codes.0.1)) };
+
+    #[tactic(auto, unfolding(crate::specs::Codes::code_lines))]
+    fn fmt<W: fmt::Write>(&self, f: &mut fmt::Formatter<W>) -> fmt::Result {
+        let mut from = 0;
+        while let Some(line) = next_range(&self.0, from) {
+            write!(f, "{line}")?;
+            from = line.last + 1;
+        }
+        Ok(())
+    }
+}
+
+/// Reads a font to its end, and sends the codes that it maps, ascending: each range of them, as long as it
+/// can be, is a line, `U+41` or `U+41-5A`.
+///
+/// # Errors
+/// `Read` where the reader fails, `Memory` where memory is refused, `Font` where the font is: then
+/// nothing was sent. `Write` where the writer fails.
+#[tactic(auto, unfolding(crate::specs::Codes::codes_text))]
+pub fn run_codes<R: Read, W: Write, A: Allocator + Copy>(
+    alloc: A,
+    inlet: &mut Inlet<R>,
+    outlet: &mut Outlet<W>,
+) -> Result<(), RunError>
+    requires inlet { inlet_fresh_of inlet.old ≡ true }
+    requires outlet { fresh_of outlet.old ≡ true }
+    ensures { SendsText R.remaining W.contents IsAccepted codes_text (RefusesFont R.remaining inlet.old)
+        inlet.old inlet.new outlet.old outlet.new result }
+{
+    let file = inlet.read_all(alloc)?;
+    let font = Font::open(&file)?;
+    let codes = Codes(Chart::of(alloc, font.mapping())?);
+    let text = codes.to_string(alloc)?;
+    Ok(send(outlet, text.as_bytes())?)
+}
+
+/// The ranges that [`run_codes`] sends have the mapped codes and no others, no two of them could be one, and
+/// each line is a word that is read back as its range.
+pub fn codes_laws()
+    ensures { (m : ℕ → ℕ) → IsCharacterMap m → CodesLaws m }
+{}

@@ -1,8 +1,0 @@
--- The findings of a file that is accepted are those that are read.
-use Rattle.std.proofs.Common.{◌≡◌, ℕ, List, Some, None, refl}
-use Rattle.font_cut.specs.Fonts.{findings_of, font_fault}
-use Rattle.font_subset.proofs.FontLemmas.{directory_fault-accepted}
-use Rattle.font_cmd.specs.Check.{read_findings}
-
-pub read_findings_accepted : (file : List ℕ) → font_fault file ≡ None → read_findings file ≡ Some (findings_of file)
-read_findings_accepted file accepted = rw (directory_fault-accepted file accepted) refl

@@ -1,5 +1,0 @@
-pub mod CheckLemmas
-pub mod CodesLemmas
-pub mod JoinRunLemmas
-pub mod LineLemmas
-pub mod ReadEachLemmas

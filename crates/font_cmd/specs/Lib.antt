@@ -1,7 +1,0 @@
-pub mod Belongs
-pub mod Check
-pub mod Codes
-pub mod Inlet
-pub mod Join
-pub mod Run
-pub mod Show

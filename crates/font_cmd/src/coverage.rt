@@ -1,0 +1,137 @@
+//! What `--report` says of a font: the wanted codes that it lacks, and the tables that a cut of it drops.
+use crate::code_set::{CodeSet, count_of};
+use font_cut::{Chart, Font};
+use std::alloc::{AllocError, Global};
+
+// How many ranges of codes are listed.
+const LISTED: usize = 100;
+
+// What a lean cut leaves out.
+const LEAN_LINES: &str = "without metrics of glyphs that are not kept\nwithout names of glyphs\n";
+
+// What is said first where a strict line is not done.
+const UNWRITTEN: &str = "fontcut: nothing was written: the font lacks wanted codes\n";
+
+// Room for the last line, which is written after the cut is.
+const LAST_LINE: &str = "cut 134217728 bytes\n";
+
+// More than the runs of any map.
+const RUNS: u32 = 0x11_0000;
+
+/// What is said of a font and of the codes that are wanted of it.
+#[derive(Drop)]
+pub(crate) struct Coverage {
+    text: String,
+    is_full: bool,
+}
+
+// Returns the codes that a font maps.
+fn mapped_codes(alloc: Global, font: &Font<'_>) -> Result<CodeSet, AllocError> {
+    let mut codes = CodeSet::new(alloc);
+    let Ok(chart) = Chart::of(alloc, font.mapping()) else {
+        return Err(AllocError);
+    };
+    let mut from: u32 = 0;
+    for _ in 0..RUNS {
+        let Some(run) = chart.next_run(from) else {
+            break;
+        };
+        codes.add_range(run.first, run.last)?;
+        from = run.last.saturating_add(1);
+    }
+    Ok(codes)
+}
+
+// Returns the wanted codes that a font does not map, as ranges.
+fn unmapped_ranges(
+    alloc: Global,
+    font: &Font<'_>,
+    wanted: &CodeSet,
+) -> Result<Vec<(u32, u32)>, AllocError> {
+    let mapped = mapped_codes(alloc, font)?;
+    wanted.without(alloc, &mapped)?.ranges(alloc)
+}
+
+// Returns the number of the codes of a set.
+fn code_count(alloc: Global, codes: &CodeSet) -> Result<u32, AllocError> {
+    Ok(count_of(&codes.ranges(alloc)?))
+}
+
+// Returns the lines that say how many codes are wanted, and how many of them are mapped.
+fn first_lines(alloc: Global, wanted: u32, lacking: u32) -> Result<String, AllocError> {
+    let mapped = wanted.saturating_sub(lacking);
+    format!(in alloc; "wanted {wanted}\nmapped {mapped}\n")
+}
+
+// Adds a line for each range of codes, up to some number, and one that says how many more there are.
+fn add_unmapped(text: &mut String, ranges: &[(u32, u32)]) -> Result<(), AllocError> {
+    for &(first, last) in ranges.iter().take(LISTED) {
+        if first == last {
+            write!(text, "unmapped U+{first:X}\n")?;
+        } else {
+            write!(text, "unmapped U+{first:X}-{last:X}\n")?;
+        }
+    }
+    let more = ranges.len().saturating_sub(LISTED);
+    if more > 0 {
+        write!(text, "unmapped {more} more ranges\n")?;
+    }
+    Ok(())
+}
+
+// Adds a line for each table that is dropped, and one for the bytes of the file.
+fn add_font(text: &mut String, font: &Font<'_>) -> Result<(), AllocError> {
+    let directory = font.tables().directory();
+    for entry in directory.dropped() {
+        let (tag, length) = (entry.tag, entry.length);
+        write!(text, "dropped {tag} {length}\n")?;
+    }
+    let size = directory.file().len();
+    write!(text, "font {size} bytes\n")?;
+    Ok(())
+}
+
+impl Coverage {
+    /// Returns what is said of a font and of the codes that are wanted. All memory that it needs is
+    /// asked for here.
+    pub(crate) fn of(
+        alloc: Global,
+        font: &Font<'_>,
+        wanted: &CodeSet,
+    ) -> Result<Coverage, AllocError> {
+        let unmapped = unmapped_ranges(alloc, font, wanted)?;
+        let (count, lacking) = (code_count(alloc, wanted)?, count_of(&unmapped));
+        let mut text = first_lines(alloc, count, lacking)?;
+        add_unmapped(&mut text, &unmapped)?;
+        add_font(&mut text, font)?;
+        text.reserve(LEAN_LINES.len() + LAST_LINE.len())?;
+        Ok(Coverage {
+            text,
+            is_full: lacking == 0,
+        })
+    }
+
+    /// Returns whether the font maps each code that is wanted.
+    pub(crate) fn is_full(&self) -> bool {
+        self.is_full
+    }
+
+    /// Returns a line that says that nothing was written, and the other lines.
+    ///
+    /// # Errors
+    /// `AllocError` where memory is refused.
+    pub(crate) fn unwritten_text(self, alloc: Global) -> Result<String, AllocError> {
+        let mut text = String::from_str(alloc, UNWRITTEN)?;
+        text.push_str(self.text.as_str())?;
+        Ok(text)
+    }
+
+    /// Returns the lines, those for what a lean cut leaves out, and one for the bytes of the cut.
+    pub(crate) fn with_cut(mut self, size: u64, is_lean: bool) -> Result<String, AllocError> {
+        if is_lean {
+            self.text.push_str(LEAN_LINES)?;
+        }
+        write!(self.text, "cut {size} bytes\n")?;
+        Ok(self.text)
+    }
+}

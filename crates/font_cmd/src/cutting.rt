@@ -1,0 +1,200 @@
+//! The command `subset`: the cut of a font for the wanted codes of a line.
+ghost use Rattle.std.specs.Prelude.{◌≡◌, true};
+ghost use Rattle.streams.specs.Inlet.{inlet_fresh_of};
+
+use crate::code_set::CodeSet;
+use crate::coverage::Coverage;
+use crate::inputs::{opened, sources};
+use crate::listed_word::is_range_word;
+use crate::outcome::Outcome;
+use crate::output::{outlet, placed};
+use crate::report::{Fault, no_memory};
+use crate::system::System;
+use crate::wanted::{add_files, add_lists, codes_of};
+use crate::wanted_files::FileKind;
+use command_line::Subset;
+use commands::{RunError, run_lean_subset, run_subset};
+use font_cut::{Font, Wanted};
+use std::alloc::Global;
+use std::io::{Read, Write};
+use std::rt::Files;
+use streams::Inlet;
+
+// Sends the cut of what an inlet reads to OUT, and answers its size.
+fn send_cut<'a, F: Files, I, O: Write + Copy + Drop, R: Read>(
+    system: &System<'a, F, I, O>,
+    line: &Subset<'a>,
+    inlet: &mut Inlet<R>,
+    wanted: &Wanted,
+) -> Result<u64, Fault<'a>>
+    requires { inlet_fresh_of inlet.old ≡ true }
+{
+    let mut outlet = outlet(system, line.out)?;
+    let sent = if line.is_lean {
+        run_lean_subset(system.alloc, inlet, wanted, &mut outlet)
+    } else {
+        run_subset(system.alloc, inlet, wanted, &mut outlet)
+    };
+    match sent {
+        Ok(size) => {
+            placed(system, outlet, line.out)?;
+            Ok(size)
+        }
+        Err(error) => Err(Fault::of_run(line.font, line.out, error)),
+    }
+}
+
+// Sends the cut for the wanted codes of what an inlet reads to OUT, and answers its size.
+fn cut<'a, F: Files, I, O: Write + Copy + Drop, R: Read>(
+    system: &System<'a, F, I, O>,
+    line: &Subset<'a>,
+    inlet: &mut Inlet<R>,
+    codes: CodeSet,
+) -> Result<u64, Fault<'a>>
+    requires { inlet_fresh_of inlet.old ≡ true }
+{
+    match codes.into_wanted(system.alloc) {
+        Ok(wanted) => send_cut(system, line, inlet, &wanted),
+        Err(_) => Err(no_memory()),
+    }
+}
+
+// Returns what is said of a font, whose path and file these are, and of the codes that are wanted.
+fn covered<'a>(
+    alloc: Global,
+    path: &'a str,
+    file: &[u8],
+    codes: &CodeSet,
+) -> Result<Coverage, Fault<'a>> {
+    let font = match Font::open(file) {
+        Ok(font) => font,
+        Err(error) => {
+            let error = RunError::Font(error);
+            return Err(Fault::RefusedFile { path, error });
+        }
+    };
+    match Coverage::of(alloc, &font, codes) {
+        Ok(coverage) => Ok(coverage),
+        Err(_) => Err(no_memory()),
+    }
+}
+
+// Returns the outcome of a cut of this size, with what is said where that is wanted.
+fn with_report<'a>(line: &Subset<'a>, coverage: Coverage, size: u64) -> Result<Outcome, Fault<'a>> {
+    if !line.reports {
+        return Ok(Outcome::of(true));
+    }
+    match coverage.with_cut(size, line.is_lean) {
+        Ok(text) => Ok(Outcome::saying(true, text)),
+        Err(_) => Err(no_memory()),
+    }
+}
+
+// Cuts a font, whose file this is, for the codes that are wanted, and reports on them.
+fn cut_of_file<'a, F: Files, I, O: Write + Copy + Drop>(
+    system: &System<'a, F, I, O>,
+    line: &Subset<'a>,
+    file: &[u8],
+    codes: CodeSet,
+) -> Result<Outcome, Fault<'a>> {
+    let coverage = covered(system.alloc, line.font, file, &codes)?;
+    if line.is_strict && !coverage.is_full() {
+        return match coverage.unwritten_text(system.alloc) {
+            Ok(text) => Ok(Outcome::saying(false, text)),
+            Err(_) => Err(no_memory()),
+        };
+    }
+    let size = cut(system, line, &mut Inlet::new(file), codes)?;
+    with_report(line, coverage, size)
+}
+
+// Cuts a font, which is held in memory, and says which wanted codes it lacks and what is dropped.
+fn cut_with_report<'a, F: Files, I, O: Write + Copy + Drop, R: Read>(
+    system: &System<'a, F, I, O>,
+    line: &Subset<'a>,
+    inlet: &mut Inlet<R>,
+    codes: CodeSet,
+) -> Result<Outcome, Fault<'a>>
+    requires { inlet_fresh_of inlet.old ≡ true }
+{
+    match inlet.read_all(system.alloc) {
+        Ok(file) => cut_of_file(system, line, &file, codes),
+        Err(error) => Err(Fault::of_run(line.font, line.out, RunError::from(error))),
+    }
+}
+
+// The codes that a line wants, and those that it takes away from them.
+#[derive(Drop)]
+struct Choice {
+    wanted: CodeSet,
+    gone: CodeSet,
+}
+
+impl Choice {
+    // Returns the codes of the arguments of a line, which are looked at before any file.
+    fn of<'a>(alloc: Global, line: &Subset<'a>) -> Result<Choice, Fault<'a>> {
+        let mut choice = Choice {
+            wanted: codes_of(alloc, &line.texts, &line.words)?,
+            gone: CodeSet::new(alloc),
+        };
+        add_lists(alloc, &mut choice.wanted, &line.lists)?;
+        add_lists(alloc, &mut choice.gone, &line.excluded)?;
+        Ok(choice)
+    }
+
+    // Returns the codes that are left.
+    fn left<'a>(self, alloc: Global) -> Result<CodeSet, Fault<'a>> {
+        if self.gone.is_empty() {
+            return Ok(self.wanted);
+        }
+        match self.wanted.without(alloc, &self.gone) {
+            Ok(codes) => Ok(codes),
+            Err(_) => Err(no_memory()),
+        }
+    }
+}
+
+// Adds the codes of the files that a line names, which are all opened before one is read.
+fn add_all_files<'a, F: Files, I: Read + Copy + Drop, O>(
+    system: &System<'a, F, I, O>,
+    line: &Subset<'a>,
+    choice: &mut Choice,
+) -> Result<(), Fault<'a>> {
+    let alloc = system.alloc;
+    let texts = sources(system, &line.text_files)?;
+    let words = sources(system, &line.code_files)?;
+    let excluded = sources(system, &line.excluded_files)?;
+    let wanted = &mut choice.wanted;
+    add_files(alloc, texts, &line.text_files, FileKind::Characters, wanted)?;
+    add_files(alloc, words, &line.code_files, FileKind::Words, wanted)?;
+    add_files(
+        alloc,
+        excluded,
+        &line.excluded_files,
+        FileKind::Words,
+        &mut choice.gone,
+    )
+}
+
+/// Writes the cut of a font for the wanted codes. The words are looked at before the font is opened, and the
+/// font is opened before files of wanted codes.
+///
+/// # Errors
+/// The first fault.
+pub(crate) fn subset<'a, F: Files, I: Read + Copy + Drop, O: Write + Copy + Drop>(
+    system: &System<'a, F, I, O>,
+    line: &Subset<'a>,
+) -> Result<Outcome, Fault<'a>> {
+    if is_range_word(line.out) {
+        return Err(Fault::OutIsWord(line.out));
+    }
+    let mut choice = Choice::of(system.alloc, line)?;
+    let mut inlet = opened(system, line.font)?;
+    add_all_files(system, line, &mut choice)?;
+    let codes = choice.left(system.alloc)?;
+    if line.reports || line.is_strict {
+        return cut_with_report(system, line, &mut inlet, codes);
+    }
+    cut(system, line, &mut inlet, codes)?;
+    Ok(Outcome::of(true))
+}

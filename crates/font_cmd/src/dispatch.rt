@@ -1,0 +1,197 @@
+//! The program's body: it does what a command line asks for, and answers the status.
+ghost use Rattle.std.specs.Prelude.{◌≡◌, true};
+ghost use Rattle.streams.specs.Outlet.{fresh_of};
+
+use crate::cutting::subset;
+use crate::demo::demo_text;
+use crate::inputs::opened;
+use crate::joining::join;
+use crate::outcome::{Details, NO_DETAILS, Outcome, answered, ended, print, report, say};
+use crate::refused_file::refused_kind;
+use crate::report::{Fault, no_memory};
+use crate::system::{Reason, System};
+use command_line::{Belongs, Line, LineError, Task, parse};
+use commands::{RunError, run_belongs, run_check, run_codes, run_lean_belongs, run_show};
+use font_cut::{Outlet, Which};
+use std::alloc::Global;
+use std::io::{Read, Write};
+use std::rt::Files;
+
+fn check<'a, F: Files, I: Read + Copy + Drop, O, W: Write>(
+    system: &System<'a, F, I, O>,
+    font: &'a str,
+    out: &mut Outlet<W>,
+) -> Result<Outcome, Fault<'a>>
+    requires { fresh_of out.old ≡ true }
+{
+    let mut inlet = opened(system, font)?;
+    answered(font, run_check(system.alloc, &mut inlet, out))
+}
+
+fn show<'a, F: Files, I: Read + Copy + Drop, O, W: Write>(
+    system: &System<'a, F, I, O>,
+    font: &'a str,
+    out: &mut Outlet<W>,
+) -> Result<Outcome, Fault<'a>>
+    requires { fresh_of out.old ≡ true }
+{
+    let mut inlet = opened(system, font)?;
+    answered(font, run_show(system.alloc, &mut inlet, out).map(|()| true))
+}
+
+fn codes<'a, F: Files, I: Read + Copy + Drop, O, W: Write>(
+    system: &System<'a, F, I, O>,
+    font: &'a str,
+    out: &mut Outlet<W>,
+) -> Result<Outcome, Fault<'a>>
+    requires { fresh_of out.old ≡ true }
+{
+    let mut inlet = opened(system, font)?;
+    answered(
+        font,
+        run_codes(system.alloc, &mut inlet, out).map(|()| true),
+    )
+}
+
+fn belongs<'a, F: Files, I: Read + Copy + Drop, O, W: Write>(
+    system: &System<'a, F, I, O>,
+    line: &Belongs<'a>,
+    out: &mut Outlet<W>,
+) -> Result<Outcome, Fault<'a>>
+    requires { fresh_of out.old ≡ true }
+{
+    let mut cut_inlet = opened(system, line.cut)?;
+    let mut font_inlet = opened(system, line.font)?;
+    let is_cut = if line.is_lean {
+        run_lean_belongs(system.alloc, &mut cut_inlet, &mut font_inlet, out)
+    } else {
+        run_belongs(system.alloc, &mut cut_inlet, &mut font_inlet, out)
+    };
+    let unread = if cut_inlet.is_broken() {
+        line.cut
+    } else {
+        line.font
+    };
+    match is_cut {
+        Err(RunError::OneOf(which, error)) => {
+            let path = match which {
+                Which::First => line.cut,
+                Which::Second => line.font,
+            };
+            let error = RunError::OneOf(which, error);
+            Err(Fault::RefusedFile { path, error })
+        }
+        is_cut => answered(unread, is_cut),
+    }
+}
+
+fn demo<W: Write>(alloc: Global, out: &mut Outlet<W>) -> Result<Outcome, Fault<'static>>
+    requires { fresh_of out.old ≡ true }
+{
+    match demo_text(alloc) {
+        Ok(text) => print(out, text.as_str()),
+        Err(error) => Err(Fault::Refused(error)),
+    }
+}
+
+// Does what a task asks for.
+fn done<'a, F: Files, I: Read + Copy + Drop, O: Write + Copy + Drop, W: Write>(
+    system: &System<'a, F, I, O>,
+    task: &Task<'a>,
+    out: &mut Outlet<W>,
+) -> Result<Outcome, Fault<'a>>
+    requires { fresh_of out.old ≡ true }
+{
+    match task {
+        Task::Check { font } => check(system, font, out),
+        Task::Show { font } => show(system, font, out),
+        Task::Codes { font } => codes(system, font, out),
+        Task::Belongs(line) => belongs(system, line, out),
+        Task::Subset(line) => subset(system, line),
+        Task::Join(line) => join(system, line),
+        Task::Demo => demo(system.alloc, out),
+    }
+}
+
+// Does what a line asks for, and answers the status.
+fn run_line<'a, F: Files, I: Read + Copy + Drop, O: Write + Copy + Drop, W: Write, V: Write>(
+    system: &System<'a, F, I, O>,
+    line: &Line<'a>,
+    out: &mut Outlet<W>,
+    err: &mut Outlet<V>,
+) -> u8
+    requires out { fresh_of out.old ≡ true }
+    requires err { fresh_of err.old ≡ true }
+{
+    let outcome = done(system, &line.task, out);
+    let reason = system.reason.number();
+    let kind = match &outcome {
+        Err(fault) if line.is_verbose => refused_kind(system, fault),
+        _ => None,
+    };
+    let details = Details {
+        is_wanted: line.is_verbose,
+        reason,
+        kind,
+    };
+    ended(system.alloc, err, outcome, details)
+}
+
+/// Does what the arguments of a command line ask for, the program's own name not among them, and returns
+/// the status: 0 where it is done; 1 where a file is refused or has a finding, a code is not mapped that a
+/// strict line wants, or memory was refused; 2 where the line or a file of wanted codes is at fault; 3 where
+/// a file cannot be read or an output cannot be written.
+///
+/// Reports and help go to `out`, a cut or join whose OUT is `-` to the output of `system`; what is wrong, and
+/// what `--report` says, to `err`.
+pub fn run_on_system<'a, F, I, O, W, V>(
+    system: &System<'a, F, I, O>,
+    words: &'a [String],
+    out: &mut Outlet<W>,
+    err: &mut Outlet<V>,
+) -> u8
+where
+    F: Files,
+    I: Read + Copy + Drop,
+    O: Write + Copy + Drop,
+    W: Write,
+    V: Write,
+    requires out { fresh_of out.old ≡ true }
+    requires err { fresh_of err.old ≡ true }
+{
+    let alloc = system.alloc;
+    match parse(alloc, words) {
+        Ok(line) => run_line(system, &line, out, err),
+        Err(LineError::NoMemory) => report(alloc, err, no_memory(), NO_DETAILS),
+        Err(LineError::InputTwice) => report(alloc, err, Fault::InputTwice, NO_DETAILS),
+        Err(LineError::Help(text)) => ended(alloc, err, print(out, text.as_str()), NO_DETAILS),
+        Err(LineError::Words(text)) => {
+            let _said = say(err, text.as_str());
+            2
+        }
+    }
+}
+
+/// Does what the arguments of a command line ask for, as [`run_on_system`] does, with the standard input and
+/// the standard output of a program, and returns the status. What is wrong, and what `--report` says, goes to
+/// `err`, but for the system's reasons where `out` cannot be written.
+pub fn run_words<W: Write, V: Write>(
+    rt: &HostRuntime,
+    alloc: Global,
+    words: &[String],
+    out: &mut Outlet<W>,
+    err: &mut Outlet<V>,
+) -> u8
+    requires out { fresh_of out.old ≡ true }
+    requires err { fresh_of err.old ≡ true }
+{
+    let reason = Reason::new();
+    let system = System {
+        files: rt,
+        alloc,
+        input: rt.stdin(),
+        output: rt.stdout(),
+        reason: &reason,
+    };
+    run_on_system(&system, words, out, err)
+}

@@ -1,0 +1,121 @@
+//! Files that are read, and standard input.
+ghost use Rattle.std.specs.Prelude.{◌≡◌, IfOk, true};
+ghost use Rattle.streams.specs.Inlet.{inlet_fresh_of};
+ghost use Rattle.commands.specs.Join.{AreFresh};
+
+use crate::report::{Fault, no_memory};
+use crate::system::{KeepsReason, System};
+use command_line::STANDARD;
+use std::alloc::AllocError;
+use std::fs::File;
+use std::io;
+use std::io::Read;
+use std::rt::Files;
+use streams::Inlet;
+
+/// A file that was opened, or standard input.
+#[derive(Drop)]
+pub(crate) enum Input<H, I> {
+    File(H),
+    Standard(I),
+}
+
+impl<H: Read, I: Read> Read for Input<H, I> {
+    fn read(&mut self, bytes: &mut [u8]) -> io::Result<usize> {
+        match self {
+            Input::File(file) => file.read(bytes),
+            Input::Standard(input) => input.read(bytes),
+        }
+    }
+}
+
+/// Returns what messages call the input at a path.
+pub(crate) fn input_name(path: &str) -> &str {
+    if path == STANDARD {
+        "standard input"
+    } else {
+        path
+    }
+}
+
+/// Opens the file at a path, or standard input, of which nothing is read yet.
+///
+/// # Errors
+/// `Unread` where it cannot be opened.
+pub(crate) fn source<'a, F: Files, I: Read + Copy + Drop, O>(
+    system: &System<'a, F, I, O>,
+    path: &'a str,
+) -> Result<KeepsReason<'a, Input<F::File, I>>, Fault<'a>> {
+    if path == STANDARD {
+        return Ok(KeepsReason::new(Input::Standard(system.input), system.reason));
+    }
+    match File::open(system.files, path) {
+        Ok(file) => Ok(KeepsReason::new(Input::File(file), system.reason)),
+        Err(error) => {
+            system.reason.keep(error);
+            Err(Fault::Unread(path))
+        }
+    }
+}
+
+/// Opens the files at some paths, none of which is read before all are open.
+///
+/// # Errors
+/// `Unread` with the first path whose file cannot be opened, `Refused` where memory is.
+pub(crate) fn sources<'a, F: Files, I: Read + Copy + Drop, O>(
+    system: &System<'a, F, I, O>,
+    paths: &[&'a str],
+) -> Result<Vec<KeepsReason<'a, Input<F::File, I>>>, Fault<'a>> {
+    let mut opened = Vec::new(system.alloc);
+    for &path in paths {
+        let file = source(system, path)?;
+        if opened.push(file).is_err() {
+            return Err(no_memory());
+        }
+    }
+    Ok(opened)
+}
+
+/// Opens the file at a path for a run.
+///
+/// # Errors
+/// `Unread` where it cannot be opened.
+pub(crate) fn opened<'a, F: Files, I: Read + Copy + Drop, O>(
+    system: &System<'a, F, I, O>,
+    path: &'a str,
+) -> Result<Inlet<KeepsReason<'a, Input<F::File, I>>>, Fault<'a>>
+    ensures { IfOk result (λ inlet. inlet_fresh_of inlet ≡ true) }
+{
+    Ok(Inlet::new(source(system, path)?))
+}
+
+// Puts an inlet after others, all of which are fresh.
+fn push_fresh<R: Read + Drop>(inlets: &mut Vec<Inlet<R>>, reader: R) -> Result<(), AllocError>
+    requires { AreFresh inlets.old.items }
+    ensures { AreFresh inlets.new.items }
+{
+    match inlets.push(Inlet::new(reader)) {
+        Ok(()) => Ok(()),
+        Err(_) => Err(AllocError),
+    }
+}
+
+/// Opens the files at some paths for a run. None is read before all are open.
+///
+/// # Errors
+/// `Unread` with the first path whose file cannot be opened, `Refused` where memory is.
+pub(crate) fn opened_each<'a, F: Files, I: Read + Copy + Drop, O>(
+    system: &System<'a, F, I, O>,
+    paths: &[&'a str],
+) -> Result<Vec<Inlet<KeepsReason<'a, Input<F::File, I>>>>, Fault<'a>>
+    ensures { IfOk result (λ inlets. AreFresh inlets.items) }
+{
+    let mut inlets = Vec::new(system.alloc);
+    for &path in paths {
+        let file = source(system, path)?;
+        if push_fresh(&mut inlets, file).is_err() {
+            return Err(no_memory());
+        }
+    }
+    Ok(inlets)
+}

@@ -1,0 +1,70 @@
+//! The command `join`: the join of the files of a line.
+ghost use Rattle.std.specs.Prelude.{◌≡◌, true};
+ghost use Rattle.commands.specs.Join.{AreFresh};
+
+use crate::inputs::opened_each;
+use crate::outcome::Outcome;
+use crate::output::{outlet, placed};
+use crate::report::{Fault, refused_join};
+use crate::system::System;
+use command_line::Join;
+use commands::{RunError, run_join, run_lean_join};
+use std::io::{Read, Write};
+use std::rt::Files;
+use streams::Inlet;
+
+// Returns the path of the inlet whose reader has failed.
+fn broken_path<'a, R: Read>(inlets: &[Inlet<R>], paths: &[&'a str]) -> Option<&'a str> {
+    for (inlet, &path) in inlets.iter().zip(paths) {
+        if inlet.is_broken() {
+            return Some(path);
+        }
+    }
+    None
+}
+
+// Returns why a join is not done.
+fn join_fault<'a, R: Read>(line: &Join<'a>, inlets: &[Inlet<R>], error: RunError) -> Fault<'a> {
+    match error {
+        RunError::Join(_) => refused_join(error, &line.files, line.is_lean),
+        error => {
+            let font = broken_path(inlets, &line.files).unwrap_or("");
+            Fault::of_run(font, line.out, error)
+        }
+    }
+}
+
+// Sends the join of what inlets read to OUT.
+fn send_join<'a, F: Files, I, O: Write + Copy + Drop, R: Read>(
+    system: &System<'a, F, I, O>,
+    line: &Join<'a>,
+    inlets: &mut [Inlet<R>],
+) -> Result<Outcome, Fault<'a>>
+    requires { AreFresh inlets.old }
+{
+    let mut outlet = outlet(system, line.out)?;
+    let sent = if line.is_lean {
+        run_lean_join(system.alloc, inlets, &mut outlet)
+    } else {
+        run_join(system.alloc, inlets, &mut outlet)
+    };
+    match sent {
+        Ok(_) => {
+            placed(system, outlet, line.out)?;
+            Ok(Outcome::of(true))
+        }
+        Err(error) => Err(join_fault(line, inlets, error)),
+    }
+}
+
+/// Writes the join of files.
+///
+/// # Errors
+/// The first fault.
+pub(crate) fn join<'a, F: Files, I: Read + Copy + Drop, O: Write + Copy + Drop>(
+    system: &System<'a, F, I, O>,
+    line: &Join<'a>,
+) -> Result<Outcome, Fault<'a>> {
+    let mut inlets = opened_each(system, &line.files)?;
+    send_join(system, line, &mut inlets)
+}

@@ -1,0 +1,64 @@
+//! The outlet to OUT, a file or standard output.
+ghost use Rattle.std.specs.Prelude.{◌≡◌, IfOk, true};
+ghost use Rattle.streams.specs.Outlet.{fresh_of};
+
+use crate::out_file::{OutFile, Target};
+use crate::report::{Fault, no_memory};
+use crate::system::{KeepsReason, System};
+use command_line::STANDARD;
+use font_cut::Outlet;
+use std::io::{BufWriter, Write};
+use std::rt::Files;
+
+// The bytes that are gathered for one write of a file: a cut is made of many short pieces.
+const BLOCK: usize = 16 * 1024;
+
+// Returns the file at a path, or standard output. Nothing is made before the first write.
+fn target<'a, F: Files, I, O: Write + Copy + Drop>(
+    system: &System<'a, F, I, O>,
+    path: &'a str,
+) -> Result<KeepsReason<'a, Target<'a, F, O>>, Fault<'a>> {
+    if path == STANDARD {
+        return Ok(KeepsReason::new(Target::Standard(system.output), system.reason));
+    }
+    match OutFile::new(system.files, system.alloc, path) {
+        Ok(file) => Ok(KeepsReason::new(Target::File(file), system.reason)),
+        Err(_) => Err(no_memory()),
+    }
+}
+
+/// Returns an outlet to OUT, which gathers a block of bytes for each write.
+///
+/// # Errors
+/// The fault for refused memory.
+pub(crate) fn outlet<'a, F: Files, I, O: Write + Copy + Drop>(
+    system: &System<'a, F, I, O>,
+    path: &'a str,
+) -> Result<Outlet<BufWriter<KeepsReason<'a, Target<'a, F, O>>>>, Fault<'a>>
+    ensures { IfOk result (λ outlet. fresh_of outlet ≡ true) }
+{
+    let target = target(system, path)?;
+    match BufWriter::with_capacity(system.alloc, BLOCK, target) {
+        Ok(block) => Ok(Outlet::new(block)),
+        Err(_) => Err(no_memory()),
+    }
+}
+
+/// Moves the finished file to OUT. Its outlet was flushed.
+///
+/// # Errors
+/// `Unwritten` where the system refuses that.
+pub(crate) fn placed<'a, F: Files, I, O: Write + Copy + Drop>(
+    system: &System<'a, F, I, O>,
+    outlet: Outlet<BufWriter<KeepsReason<'a, Target<'a, F, O>>>>,
+    path: &'a str,
+) -> Result<(), Fault<'a>> {
+    let (target, _) = outlet.into_inner().into_parts();
+    match target.into_inner().place() {
+        Ok(()) => Ok(()),
+        Err(error) => {
+            system.reason.keep(error);
+            Err(Fault::Unwritten(path))
+        }
+    }
+}

@@ -1,0 +1,223 @@
+//! Why the program does not do what a line asks for.
+use crate::inputs::input_name;
+use crate::shown::Shown;
+use command_line::STANDARD;
+use commands::RunError;
+use font_cut::{JoinAllError, JoinError, Which};
+use std::fmt;
+
+/// Why what a line asks for is not done.
+#[derive(Debug, Drop)]
+pub(crate) enum Fault<'a> {
+    /// Standard input is named more than once.
+    InputTwice,
+    /// This word names no range of codes.
+    BadWord(&'a str),
+    /// A list has this word, which names no range of codes.
+    BadListed {
+        word: Option<String>,
+    },
+    /// OUT is this word, which names a range of codes.
+    OutIsWord(&'a str),
+    /// A line of the file at this path is not UTF-8, or has this word, which names no range.
+    BadLine {
+        path: &'a str,
+        line: u64,
+        word: Option<String>,
+    },
+    /// The file at this path cannot be read.
+    Unread(&'a str),
+    /// The file at this path, or standard output, cannot be written.
+    Unwritten(&'a str),
+    /// Memory was refused, or the file to be written is too large.
+    Refused(RunError),
+    /// The file at this path is refused.
+    RefusedFile {
+        path: &'a str,
+        error: RunError,
+    },
+    /// The cut at this path does not join with those before it, the first of which is at `first`.
+    NotJoined {
+        path: &'a str,
+        first: &'a str,
+        error: RunError,
+    },
+    /// The file at this path is refused, for it is no lean cut.
+    NotLean {
+        path: &'a str,
+        error: RunError,
+    },
+}
+
+impl<'a> Fault<'a> {
+    /// Returns why a run is not done that reads the file at `font` and writes OUT at `out`.
+    pub(crate) fn of_run(font: &'a str, out: &'a str, error: RunError) -> Fault<'a> {
+        match error {
+            RunError::Read(_) => Fault::Unread(font),
+            RunError::Write(_) => Fault::Unwritten(out),
+            RunError::Font(_) => Fault::RefusedFile { path: font, error },
+            error => Fault::Refused(error),
+        }
+    }
+
+    /// Returns the status of the program: 1 where a file is refused or memory was, 2 where a word is at
+    /// fault, 3 where a file cannot be read or written.
+    pub(crate) fn status(&self) -> u8 {
+        match self {
+            Fault::Refused(_)
+            | Fault::RefusedFile { .. }
+            | Fault::NotJoined { .. }
+            | Fault::NotLean { .. } => 1,
+            Fault::InputTwice
+            | Fault::BadWord(_)
+            | Fault::BadListed { .. }
+            | Fault::OutIsWord(_)
+            | Fault::BadLine { .. } => 2,
+            Fault::Unread(_) | Fault::Unwritten(_) => 3,
+        }
+    }
+}
+
+// Returns why files at some paths are not joined, where a step is refused, and the path of the file of that step.
+fn refused_step<'e, 'a>(
+    error: &'e RunError,
+    paths: &[&'a str],
+) -> Option<(&'e JoinError, &'a str)> {
+    match error {
+        RunError::Join(JoinAllError::At { step, error }) => match paths.get(*step) {
+            Some(&path) => Some((error, path)),
+            None => None,
+        },
+        _ => None,
+    }
+}
+
+// Returns whether a refusal of a join is a difference.
+fn is_difference(error: &JoinError) -> bool {
+    matches!(
+        error,
+        JoinError::DifferentTable(_) | JoinError::DifferentMapping(_) | JoinError::DifferentGlyph(_)
+    )
+}
+
+/// Returns why the files at some paths, lean cuts or ordinary ones, are not joined.
+pub(crate) fn refused_join<'a>(error: RunError, paths: &[&'a str], is_lean: bool) -> Fault<'a> {
+    let (is_cut, differs, path) = match refused_step(&error, paths) {
+        Some((refusal, path)) => (
+            !matches!(refusal, JoinError::NotACut(_)),
+            is_difference(refusal),
+            path,
+        ),
+        None => return Fault::Refused(error),
+    };
+    let first = paths.first().copied().unwrap_or(path);
+    if differs {
+        return Fault::NotJoined { path, first, error };
+    }
+    if is_lean && !is_cut {
+        return Fault::NotLean { path, error };
+    }
+    Fault::RefusedFile { path, error }
+}
+
+/// The fault for refused memory.
+pub(crate) fn no_memory() -> Fault<'static> {
+    Fault::Refused(RunError::Memory)
+}
+
+// Returns what messages call the output at a path.
+fn output_name(path: &str) -> &str {
+    if path == STANDARD {
+        "standard output"
+    } else {
+        path
+    }
+}
+
+// Returns the place of one of two files, counted from one.
+fn place_of(which: Which) -> u8 {
+    match which {
+        Which::First => 1,
+        Which::Second => 2,
+    }
+}
+
+// Writes that a line of a file is at fault, which has this word or is not UTF-8.
+fn write_bad_line<W: fmt::Write>(
+    f: &mut fmt::Formatter<W>,
+    path: &str,
+    line: u64,
+    word: &Option<String>,
+) -> fmt::Result {
+    let name = Shown(input_name(path));
+    match word {
+        Some(word) => {
+            let word = Shown(word.as_str());
+            write!(f, "{name}: line {line}: bad word {word}")
+        }
+        None => write!(f, "{name}: line {line}: not UTF-8"),
+    }
+}
+
+// Writes that a list has this word, or bytes that are no word.
+fn write_bad_listed<W: fmt::Write>(
+    f: &mut fmt::Formatter<W>,
+    word: &Option<String>,
+) -> fmt::Result {
+    match word {
+        Some(word) => {
+            let word = Shown(word.as_str());
+            write!(f, "bad word {word}")
+        }
+        None => f.write_str("not UTF-8"),
+    }
+}
+
+// Writes the refusal of a file, which is named by its place where there are several.
+fn write_refusal<W: fmt::Write>(f: &mut fmt::Formatter<W>, error: &RunError) -> fmt::Result {
+    match error {
+        RunError::OneOf(which, error) => {
+            let (file, number) = (place_of(*which), error.number());
+            write!(f, "file {file}: refused {number} {error}")
+        }
+        RunError::Join(JoinAllError::At { step, error }) => {
+            // Files are counted from one.
+            let (file, number) = (step.saturating_add(1), error.number());
+            write!(f, "file {file}: refused {number} {error}")
+        }
+        error => {
+            let number = error.number();
+            write!(f, "refused {number} {error}")
+        }
+    }
+}
+
+impl fmt::Display for Fault<'_> {
+    fn fmt<W: fmt::Write>(&self, f: &mut fmt::Formatter<W>) -> fmt::Result {
+        match self {
+            Fault::InputTwice => f.write_str("standard input is named more than once"),
+            Fault::BadWord(word) => {
+                let word = Shown(word);
+                write!(f, "bad word {word}")
+            }
+            Fault::BadListed { word } => write_bad_listed(f, word),
+            Fault::OutIsWord(out) => {
+                let out = Shown(out);
+                write!(f, "OUT is a range word: {out} (write ./{out} for the file)")
+            }
+            Fault::BadLine { path, line, word } => write_bad_line(f, path, *line, word),
+            Fault::Unread(path) => {
+                let name = Shown(input_name(path));
+                write!(f, "cannot read {name}")
+            }
+            Fault::Unwritten(path) => {
+                let name = Shown(output_name(path));
+                write!(f, "cannot write {name}")
+            }
+            Fault::Refused(error)
+            | Fault::RefusedFile { error, .. }
+            | Fault::NotJoined { error, .. }
+            | Fault::NotLean { error, .. } => write_refusal(f, error),
+        }
+    }
+}

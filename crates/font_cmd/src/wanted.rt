@@ -1,0 +1,94 @@
+//! The wanted codes of a command line: the ranges of its words and files, and the characters of its texts.
+use crate::code_set::CodeSet;
+use crate::report::{Fault, no_memory};
+use crate::wanted_files::{FileFault, FileKind, add_listed};
+use font_cut::read_word;
+use std::alloc::{AllocError, Global};
+use std::io::Read;
+
+// Adds the ranges of words, up to the first one that is no word.
+fn add_words<'a>(codes: &mut CodeSet, words: &[&'a str]) -> Result<(), Fault<'a>> {
+    for &word in words {
+        match read_word(word) {
+            Ok((first, last)) if codes.add_range(first, last).is_err() => return Err(no_memory()),
+            Ok(_) => {}
+            Err(_) => return Err(Fault::BadWord(word)),
+        }
+    }
+    Ok(())
+}
+
+fn add_text(codes: &mut CodeSet, text: &str) -> Result<(), AllocError> {
+    for letter in text.chars() {
+        codes.add(letter as u32)?;
+    }
+    Ok(())
+}
+
+/// Returns the codes of words and of the characters of texts.
+///
+/// # Errors
+/// `BadWord` with the first word that names no range, `Refused` where memory is.
+pub(crate) fn codes_of<'a>(
+    alloc: Global,
+    texts: &[&str],
+    words: &[&'a str],
+) -> Result<CodeSet, Fault<'a>> {
+    let mut codes = CodeSet::new(alloc);
+    add_words(&mut codes, words)?;
+    for &text in texts {
+        if add_text(&mut codes, text).is_err() {
+            return Err(no_memory());
+        }
+    }
+    Ok(codes)
+}
+
+// Adds the codes of one list.
+fn add_list<'a>(alloc: Global, codes: &mut CodeSet, list: &str) -> Result<(), Fault<'a>> {
+    match add_listed(alloc, &mut list.as_bytes(), FileKind::Words, codes) {
+        Ok(()) => Ok(()),
+        Err(FileFault::BadLine { word, .. }) => Err(Fault::BadListed { word }),
+        Err(_) => Err(no_memory()),
+    }
+}
+
+/// Adds the codes of lists of ranges.
+///
+/// # Errors
+/// `BadListed` with the first word that names no range, `Refused` where memory is.
+pub(crate) fn add_lists<'a>(
+    alloc: Global,
+    codes: &mut CodeSet,
+    lists: &[&'a str],
+) -> Result<(), Fault<'a>> {
+    for &list in lists {
+        add_list(alloc, codes, list)?;
+    }
+    Ok(())
+}
+
+/// Adds the codes that files list, whose paths these are.
+///
+/// # Errors
+/// `Unread` with the first path whose file cannot be read, `BadLine` with the first line that is not as
+/// it should be, `Refused` where memory is.
+pub(crate) fn add_files<'a, R: Read + Drop>(
+    alloc: Global,
+    files: Vec<R>,
+    paths: &[&'a str],
+    kind: FileKind,
+    codes: &mut CodeSet,
+) -> Result<(), Fault<'a>> {
+    for (mut file, &path) in files.into_iter().zip(paths) {
+        match add_listed(alloc, &mut file, kind, codes) {
+            Ok(()) => {}
+            Err(FileFault::Unread) => return Err(Fault::Unread(path)),
+            Err(FileFault::BadLine { line, word }) => {
+                return Err(Fault::BadLine { path, line, word });
+            }
+            Err(FileFault::NoMemory) => return Err(no_memory()),
+        }
+    }
+    Ok(())
+}

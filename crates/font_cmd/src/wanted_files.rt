@@ -1,0 +1,251 @@
+//! Files of wanted characters, and of words that name ranges of wanted codes. They are read in pieces.
+use crate::code_set::CodeSet;
+use crate::listed_word::read_listed;
+use crate::utf8::Utf8;
+use std::alloc::{AllocError, Global};
+use std::io::Read;
+
+// The most bytes of one read.
+const PIECE: usize = 16 * 1024;
+
+// The longest word that is held. A word of a list has at most 17 letters.
+const LONGEST: usize = 64;
+
+// What stands before the ranges in a style sheet.
+const DESCRIPTOR: &str = "unicode-range";
+
+// A byte order mark, which is no character where a file begins with it.
+const MARK: char = '\u{FEFF}';
+
+/// What a file lists.
+#[derive(Clone, Copy, Debug, PartialEq, Eq)]
+pub enum FileKind {
+    /// Characters. Control characters, line ends among them, are none of them.
+    Characters,
+    /// Words of lists, with blanks, line ends, commas or semicolons between them, so that a `unicode-range` of
+    /// a style sheet can stand there. What follows `#` in a line is a comment.
+    Words,
+}
+
+/// Why a file is not read to its end.
+#[derive(Debug, Drop)]
+pub enum FileFault {
+    /// A read failed.
+    Unread,
+    /// A line is not UTF-8, or has this word, which names no range.
+    BadLine { line: u64, word: Option<String> },
+    /// Memory was refused.
+    NoMemory,
+}
+
+impl From<AllocError> for FileFault {
+    fn from(_: AllocError) -> FileFault {
+        FileFault::NoMemory
+    }
+}
+
+// What is known of a file between two bytes.
+#[derive(Drop)]
+struct Reading<'a> {
+    alloc: Global,
+    kind: FileKind,
+    codes: &'a mut CodeSet,
+    utf8: Utf8,
+    line: u64,
+    // Whether no character has come.
+    is_new: bool,
+    is_comment: bool,
+    // The word so far. It has room for the longest one.
+    word: String,
+}
+
+// Returns whether a byte of a file of words stands between words.
+fn parts_words(byte: u8) -> bool {
+    // Most bytes of a word are above all of these.
+    byte <= b';' && matches!(byte, b'\n' | b'\r' | b'\t' | b' ' | b',' | b';' | b'#')
+}
+
+impl<'a> Reading<'a> {
+    fn new(
+        alloc: Global,
+        kind: FileKind,
+        codes: &'a mut CodeSet,
+    ) -> Result<Reading<'a>, AllocError> {
+        Ok(Reading {
+            alloc,
+            kind,
+            codes,
+            utf8: Utf8::new(),
+            line: 1,
+            is_new: true,
+            is_comment: false,
+            word: String::with_capacity(alloc, LONGEST)?,
+        })
+    }
+
+    // Returns that the line which is read is at fault.
+    fn bad_line(&self, word: Option<String>) -> FileFault {
+        FileFault::BadLine {
+            line: self.line,
+            word,
+        }
+    }
+
+    // Returns that the word which was read is at fault.
+    fn bad_word(&self) -> FileFault {
+        match String::from_str(self.alloc, self.word.as_str()) {
+            Ok(word) => self.bad_line(Some(word)),
+            Err(_) => FileFault::NoMemory,
+        }
+    }
+
+    // Adds the range of the word that has ended, if there is one.
+    fn end_word(&mut self) -> Result<(), FileFault> {
+        if self.word.is_empty() {
+            return Ok(());
+        }
+        match read_listed(self.word.as_str()) {
+            Ok((first, last)) => {
+                self.word.clear();
+                Ok(self.codes.add_range(first, last)?)
+            }
+            Err(_) => Err(self.bad_word()),
+        }
+    }
+
+    fn add_letter(&mut self, letter: char) -> Result<(), FileFault> {
+        if self.is_comment {
+            return Ok(());
+        }
+        if LONGEST < self.word.len().saturating_add(4) {
+            return Err(self.bad_word());
+        }
+        Ok(self.word.push(letter)?)
+    }
+
+    fn take_of_words(&mut self, letter: char) -> Result<(), FileFault> {
+        match letter {
+            '\n' => {
+                self.end_word()?;
+                self.is_comment = false;
+                Ok(())
+            }
+            ' ' | '\t' | '\r' | ',' | ';' => self.end_word(),
+            ':' if self.word.as_str() == DESCRIPTOR => {
+                self.word.clear();
+                Ok(())
+            }
+            '#' => {
+                self.end_word()?;
+                self.is_comment = true;
+                Ok(())
+            }
+            letter => self.add_letter(letter),
+        }
+    }
+
+    fn take_letter(&mut self, letter: char) -> Result<(), FileFault> {
+        let is_mark = self.is_new && letter == MARK;
+        self.is_new = false;
+        match self.kind {
+            _ if is_mark => {}
+            FileKind::Words => self.take_of_words(letter)?,
+            FileKind::Characters if letter.is_control() => {}
+            FileKind::Characters => self.codes.add(letter as u32)?,
+        }
+        if letter == '\n' {
+            self.line = self.line.saturating_add(1);
+        }
+        Ok(())
+    }
+
+    // Adds the range of the word that begins at a place of a text, where it stands there whole and names
+    // one, and returns how many bytes are done with, its line end among them. Else none is.
+    fn take_whole_word(&mut self, text: &str, at: usize) -> Result<usize, FileFault> {
+        let is_inside = self.is_comment || self.utf8.is_inside() || !self.word.is_empty();
+        let rest = text.as_bytes().get(at..).unwrap_or(&[]);
+        if is_inside || rest.first() != Some(&b'U') {
+            return Ok(0);
+        }
+        let Some(length) = rest
+            .iter()
+            .take(LONGEST)
+            .position(|&byte| parts_words(byte))
+        else {
+            return Ok(0);
+        };
+        let Some(word) = text.get(at..at.saturating_add(length)) else {
+            return Ok(0);
+        };
+        let Ok((first, last)) = read_listed(word) else {
+            return Ok(0);
+        };
+        self.is_new = false;
+        self.codes.add_range(first, last)?;
+        if rest.get(length) != Some(&b'\n') {
+            return Ok(length);
+        }
+        self.line = self.line.saturating_add(1);
+        Ok(length.saturating_add(1))
+    }
+
+    fn take_byte(&mut self, byte: u8) -> Result<(), FileFault> {
+        match self.utf8.take(byte) {
+            Ok(Some(letter)) => self.take_letter(letter),
+            Ok(None) => Ok(()),
+            Err(_) => Err(self.bad_line(None)),
+        }
+    }
+
+    fn take(&mut self, bytes: &[u8]) -> Result<(), FileFault> {
+        // Bytes that end within a character go letter by letter, as all do of a file of characters.
+        let text = match self.kind {
+            FileKind::Words => str::from_utf8(bytes).unwrap_or(""),
+            FileKind::Characters => "",
+        };
+        let mut at: usize = 0;
+        for _ in 0..bytes.len() {
+            let Some(&byte) = bytes.get(at) else {
+                break;
+            };
+            let mut done = self.take_whole_word(text, at)?;
+            if done == 0 {
+                self.take_byte(byte)?;
+                done = 1;
+            }
+            at = at.saturating_add(done);
+        }
+        Ok(())
+    }
+
+    // Takes the end of the file.
+    fn end(&mut self) -> Result<(), FileFault> {
+        if self.utf8.is_inside() {
+            return Err(self.bad_line(None));
+        }
+        self.end_word()
+    }
+}
+
+/// Adds the codes that a file lists.
+///
+/// # Errors
+/// `Unread` where a read fails, `BadLine` with the first line that is not as it should be, `NoMemory`
+/// where memory is refused.
+pub fn add_listed<R: Read>(
+    alloc: Global,
+    file: &mut R,
+    kind: FileKind,
+    codes: &mut CodeSet,
+) -> Result<(), FileFault> {
+    let mut reading = Reading::new(alloc, kind, codes)?;
+    let mut piece = [0u8; PIECE];
+    for _ in 0..u64::MAX {
+        match file.read(&mut piece) {
+            Ok(0) => return reading.end(),
+            Ok(count) => reading.take(&piece[..count])?,
+            Err(_) => return Err(FileFault::Unread),
+        }
+    }
+    Ok(())
+}

@@ -1,9 +1,0 @@
-pub mod CodeDifferenceLemmas
-pub mod FirstLemmas
-pub mod JoinListLemmas
-pub mod JoinLemmas
-pub mod TableDifferenceLemmas
-pub mod UnionLemmas
-pub mod UnionSizeLemmas
-pub mod OutlineListLemmas
-pub mod AddLemmas

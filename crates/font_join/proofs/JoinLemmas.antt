@@ -1,0 +1,248 @@
+-- The first refusal of a join of cuts of one kind, and what its answers tell.
+use Rattle.std.proofs.Common.{◌≡◌, ℕ, ◌<◌, ◌≤◌, ◌⊎◌, inl, inr, Bool, true, false, not, nat_lt, List, [], ◌∷◌, length, refl, sym, ◌∙◌, ap, subst, arith, Option, Some, None}
+use Rattle.std.specs.Option.{option_map}
+use Rattle.std.proofs.lemmas.Bool.{le-ltb, lt-ltb, ltb-false, ltb-true}
+use Rattle.sfnt_bytes.specs.Lines.{first_of_lines, when}
+use Rattle.sfnt_bytes.specs.declared.directory.TheConstants.{MAX_FILE}
+use Rattle.font_file.specs.Font.{font_fault}
+use Rattle.font_file.specs.declared.font_error.FontError.{FontError}
+use Rattle.font_theory.specs.Content.{Content, content, everything}
+use Rattle.font_theory.specs.Cut.{CanJoin, Format, IsCut, Under, Writes, cut, either, is_cut, joined, renewed, content_of_all}
+use Rattle.font_theory.specs.Difference.{difference}
+use Rattle.font_theory.specs.File.{file, current_layout}
+use Rattle.font_theory.specs.Join.{both}
+use Rattle.font_theory.specs.declared.Difference.{Difference}
+use Rattle.font_theory.specs.declared.Difference.TheVariants.{AtCode, AtGlyph, AtTable}
+use Rattle.font_theory.proofs.CutLemmas.{CanJoin-cuts, CanJoin-self, IsCurrent-joined, Under-joined_left, Under-joined_right, Under-least, joined-cuts, joined-self}
+use Rattle.font_theory.proofs.FontLemmas.{size-accepted}
+use Rattle.font_theory.proofs.RefusalLemmas.{CanJoin-tested, different-under, no_cut-under, refused-under, tested-CanJoin}
+use Rattle.font_subset.specs.Cut.{IsTooLarge, IsWritten}
+use Rattle.font_join.specs.Inside.{IsKind}
+use Rattle.font_join.specs.Join.{IsForSize, IsJoin, IsJoinRefusal, IsLeastUpper, RefusalIsRight, IsUnionRefusal, different, join_fault, union_fault}
+use Rattle.font_join.specs.declared.join_error.JoinError.{JoinError}
+use Rattle.font_join.specs.declared.join_error.JoinError.TheVariants.{DifferentGlyph, DifferentMapping, DifferentTable, Font, NoMemory, NotACut, TooLarge}
+use Rattle.font_join.specs.declared.join_error.Which.TheVariants.{First, Second}
+
+-- the lines, at what they test
+abbrev lines_at : Option FontError → Option FontError → Bool → Bool → Option Difference → Bool → ℕ → Option JoinError
+lines_at fx fy cx cy d big size =
+    first_of_lines (option_map (Font First) fx ∷ option_map (Font Second) fy ∷ when (not cx) (NotACut First) ∷ when (not cy) (NotACut Second)
+    ∷ option_map different d ∷ when big (TooLarge size) ∷ [])
+
+abbrev union_at : Bool → Bool → Option Difference → Option JoinError
+union_at cx cy d = first_of_lines (when (not cx) (NotACut First) ∷ when (not cy) (NotACut Second) ∷ option_map different d ∷ [])
+
+last_line : (big : Bool) (size : ℕ) → lines_at None None true true None big size ≡ when big (TooLarge size)
+last_line true size = refl
+last_line false size = refl
+
+-- a refusal of the union is one of the join
+union_first : (cx cy : Bool) (d : Option Difference) (big : Bool) (size : ℕ) (error : JoinError) → union_at cx cy d ≡ Some error → lines_at None None cx cy d big size ≡ Some error
+union_first false cy d big size error h = h
+union_first true false d big size error h = h
+union_first true true (Some d) big size error h = h
+union_first true true None big size error h = cc
+
+-- where there is none, the size is left
+size_last : (cx cy : Bool) (d : Option Difference) (big : Bool) (size : ℕ) → union_at cx cy d ≡ None → lines_at None None cx cy d big size ≡ when big (TooLarge size)
+size_last false cy d big size h = cc
+size_last true false d big size h = cc
+size_last true true (Some d) big size h = cc
+size_last true true None big size h = last_line big size
+
+module _ (R : Format) (x y : List ℕ) where
+  pub first_refused : (error : FontError) → font_fault x ≡ Some error → join_fault R x y ≡ Some (Font First error)
+  unfolding join_fault
+  first_refused error h =
+      λ i. lines_at (h i) (font_fault y) (is_cut R x) (is_cut R y) (difference (content_of_all R x) (content_of_all R y)) (nat_lt MAX_FILE (length (joined R x y))) (length (joined R x y))
+
+  pub second_refused : (error : FontError) → font_fault x ≡ None → font_fault y ≡ Some error → join_fault R x y ≡ Some (Font Second error)
+  unfolding join_fault
+  second_refused error e h =
+      λ i. lines_at (e i) (h i) (is_cut R x) (is_cut R y) (difference (content_of_all R x) (content_of_all R y)) (nat_lt MAX_FILE (length (joined R x y))) (length (joined R x y))
+
+module _ {R : Format} {spelled : Content → Content} (kind : IsKind R spelled) where
+  module _ (x y : List ℕ) where
+    -- what is left where both are accepted
+    accepted_lines : font_fault x ≡ None → font_fault y ≡ None
+        → join_fault R x y ≡ lines_at None None (is_cut R x) (is_cut R y) (difference (content_of_all R x) (content_of_all R y)) (nat_lt MAX_FILE (length (joined R x y))) (length (joined R x y))
+    unfolding join_fault
+    accepted_lines e f =
+        λ i. lines_at (e i) (f i) (is_cut R x) (is_cut R y) (difference (content_of_all R x) (content_of_all R y)) (nat_lt MAX_FILE (length (joined R x y))) (length (joined R x y))
+
+    fault_before : font_fault x ≡ None → font_fault y ≡ None → (error : JoinError) → union_fault R x y ≡ Some error → join_fault R x y ≡ Some error
+    unfolding union_fault
+    fault_before e f error h = accepted_lines e f ∙ union_first (is_cut R x) (is_cut R y) (difference (content_of_all R x) (content_of_all R y)) _ _ error h
+
+    pub union_refused : font_fault x ≡ None → font_fault y ≡ None → (error : JoinError) → IsUnionRefusal R x y error → IsJoinRefusal R x y error
+    union_refused e f NoMemory h = (e, f)
+    union_refused e f (Font which error) h = fault_before e f _ h
+    union_refused e f (NotACut which) h = fault_before e f _ h
+    union_refused e f (DifferentTable tag) h = fault_before e f _ h
+    union_refused e f (DifferentMapping code) h = fault_before e f _ h
+    union_refused e f (DifferentGlyph g) h = fault_before e f _ h
+    union_refused e f (TooLarge s) h = fault_before e f _ h
+
+    fault_after : font_fault x ≡ None → font_fault y ≡ None → union_fault R x y ≡ None → join_fault R x y ≡ when (nat_lt MAX_FILE (length (joined R x y))) (TooLarge (length (joined R x y)))
+    unfolding union_fault
+    fault_after e f h = accepted_lines e f ∙ size_last (is_cut R x) (is_cut R y) (difference (content_of_all R x) (content_of_all R y)) _ _ h
+
+    -- the file of what is spelled of both contents
+    joined-spelled : (C : Content) → C ≡ spelled (both (content_of_all R x) (content_of_all R y)) → file current_layout C ≡ joined R x y
+    joined-spelled C is = ap (file current_layout) is ∙ sym (kind.writes (both (content_of_all R x) (content_of_all R y)))
+
+    pub is_join : font_fault x ≡ None → font_fault y ≡ None → union_fault R x y ≡ None → (C : Content) → C ≡ spelled (both (content_of_all R x) (content_of_all R y)) → (z : List ℕ)
+        → IsWritten (file current_layout C) z → IsJoin R x y z
+    is_join e f h C spells z w =
+        let is : z ≡ joined R x y = w.is ∙ joined-spelled C spells in
+        let small : nat_lt MAX_FILE (length (joined R x y)) ≡ false = subst (λ (b : List ℕ). nat_lt MAX_FILE (length b) ≡ false) is (le-ltb MAX_FILE (length z) w.small) in
+        record { unrefused = fault_after e f h ∙ ap (λ (b : Bool). when b (TooLarge (length (joined R x y)))) small; is = is }
+
+    pub is_too_large : font_fault x ≡ None → font_fault y ≡ None → union_fault R x y ≡ None → (C : Content) → C ≡ spelled (both (content_of_all R x) (content_of_all R y)) → (s : ℕ)
+        → IsTooLarge (file current_layout C) s → join_fault R x y ≡ Some (TooLarge s)
+    is_too_large e f h C spells s w =
+        let is : s ≡ length (joined R x y) = w.0 ∙ ap length (joined-spelled C spells) in
+        let big : nat_lt MAX_FILE (length (joined R x y)) ≡ true = lt-ltb MAX_FILE _ (subst (λ (n : ℕ). MAX_FILE < n) is w.1) in
+        fault_after e f h ∙ ap (λ (b : Bool). when b (TooLarge (length (joined R x y)))) big ∙ ap (λ (n : ℕ). Some (TooLarge n)) (sym is)
+
+    -- what follows where there is no refusal
+    pub joinable : join_fault R x y ≡ None → CanJoin R x y × (length (joined R x y) ≤ MAX_FILE)
+    unfolding join_fault
+    joinable h = go (font_fault x) (font_fault y) (is_cut R x) (is_cut R y) (difference (content_of_all R x) (content_of_all R y)) (nat_lt MAX_FILE (length (joined R x y))) refl refl refl refl refl refl h
+      where
+        go : (fx fy : Option FontError) (cx cy : Bool) (d : Option Difference) (big : Bool)
+            → font_fault x ≡ fx → font_fault y ≡ fy → is_cut R x ≡ cx → is_cut R y ≡ cy → difference (content_of_all R x) (content_of_all R y) ≡ d → nat_lt MAX_FILE (length (joined R x y)) ≡ big
+            → lines_at fx fy cx cy d big (length (joined R x y)) ≡ None → CanJoin R x y × (length (joined R x y) ≤ MAX_FILE)
+        go (Some f) fy cx cy d big a b e f' g k h = cc
+        go None (Some f) cx cy d big a b e f' g k h = cc
+        go None None false cy d big a b e f' g k h = cc
+        go None None true false d big a b e f' g k h = cc
+        go None None true true (Some d) big a b e f' g k h = cc
+        go None None true true None true a b e f' g k h = cc
+        go None None true true None false a b e f' g k h =
+            (CanJoin-tested R kind.law x y (kind.fault x ∙ a) (kind.fault y ∙ b) (e, f', g), ltb-false _ _ k)
+
+    -- two that can be joined are refused for the size of their join alone
+    fault_joinable : CanJoin R x y → join_fault R x y ≡ when (nat_lt MAX_FILE (length (joined R x y))) (TooLarge (length (joined R x y)))
+    fault_joinable can =
+        let okx = can.first.accepted in
+        let oky = can.second.accepted in
+        let w = tested-CanJoin R kind.law x y okx oky can in
+        accepted_lines (sym (kind.fault x) ∙ okx) (sym (kind.fault y) ∙ oky)
+        ∙ (λ i. lines_at None None (w.0 i) (w.1 i) (w.2 i) (nat_lt MAX_FILE (length (joined R x y))) (length (joined R x y)))
+        ∙ last_line (nat_lt MAX_FILE (length (joined R x y))) (length (joined R x y))
+
+    -- a refusal is refused memory, or the first line that applies
+    pub refusal_cases : (error : JoinError) → IsJoinRefusal R x y error → (error ≡ NoMemory) ⊎ (join_fault R x y ≡ Some error)
+    refusal_cases NoMemory h = inl refl
+    refusal_cases (Font which error) h = inr h
+    refusal_cases (NotACut which) h = inr h
+    refusal_cases (DifferentTable tag) h = inr h
+    refusal_cases (DifferentMapping code) h = inr h
+    refusal_cases (DifferentGlyph g) h = inr h
+    refusal_cases (TooLarge s) h = inr h
+
+    pub only_size : CanJoin R x y → (error : JoinError) → IsJoinRefusal R x y error → IsForSize (length (joined R x y)) error
+    only_size can error h = elim (refusal_cases error h) [
+      | inl m ↦ subst (IsForSize (length (joined R x y))) (sym m) tt
+      | inr r ↦ go (nat_lt MAX_FILE (length (joined R x y))) refl (sym (fault_joinable can) ∙ r)
+    ]
+      where
+        go : (b : Bool) → nat_lt MAX_FILE (length (joined R x y)) ≡ b → when b (TooLarge (length (joined R x y))) ≡ Some error → IsForSize (length (joined R x y)) error
+        go true k q = let q' : TooLarge (length (joined R x y)) ≡ error = cc in subst (IsForSize (length (joined R x y))) q' (refl, ltb-true _ _ k)
+        go false k q = cc
+
+    pub small_join : (z : List ℕ) → IsJoin R x y z → length z ≤ MAX_FILE
+    small_join z ok = subst (λ (b : List ℕ). length b ≤ MAX_FILE) (sym ok.is) (joinable ok.unrefused).1
+
+    -- the join is the least file of which both are cuts
+    pub least_upper : (z : List ℕ) → IsJoin R x y z → IsLeastUpper R x y z
+    least_upper z ok =
+        let w = joinable ok.unrefused in
+        let small : length (joined R x y) ≤ R.limit = subst (λ (n : ℕ). length (joined R x y) ≤ n) (sym kind.limit) w.1 in
+        subst (IsLeastUpper R x y) (sym ok.is) (record {
+          cut_form = IsCurrent-joined R kind.law x y w.0 small;
+          first = Under-joined_left R kind.law x y w.0 small;
+          second = Under-joined_right R kind.law x y w.0 small;
+          least = λ F u v. Under-least R kind.law x y F w.0 small u v;
+        })
+
+    -- a refusal is a true one
+    pub true_refusal : (error : JoinError) → IsJoinRefusal R x y error → RefusalIsRight R x y error
+    unfolding join_fault
+    true_refusal error h = elim (refusal_cases error h) [
+      | inl m ↦ subst (RefusalIsRight R x y) (sym m) tt
+      | inr r ↦ at_line error r
+    ]
+      where
+        different_both : (d : Difference) → font_fault x ≡ None → font_fault y ≡ None → difference (content_of_all R x) (content_of_all R y) ≡ Some d → (F : List ℕ) → Under R x F → Under R y F → ⊥
+        different_both d a b g F u v =
+            different-under R kind.law x y (kind.fault x ∙ a) (kind.fault y ∙ b) F (λ e. let n : None ≡ Some d = sym e ∙ g in cc) u v
+
+        at_line : (error : JoinError) → join_fault R x y ≡ Some error → RefusalIsRight R x y error
+        at_line error h = go (font_fault x) (font_fault y) (is_cut R x) (is_cut R y) (difference (content_of_all R x) (content_of_all R y)) (nat_lt MAX_FILE (length (joined R x y))) refl refl refl refl refl refl h
+          where
+            at : (d : JoinError) → RefusalIsRight R x y d → Some d ≡ Some error → RefusalIsRight R x y error
+            at d t q = let q' : d ≡ error = cc in subst (RefusalIsRight R x y) q' t
+
+            go : (fx fy : Option FontError) (cx cy : Bool) (d : Option Difference) (big : Bool)
+                → font_fault x ≡ fx → font_fault y ≡ fy → is_cut R x ≡ cx → is_cut R y ≡ cy → difference (content_of_all R x) (content_of_all R y) ≡ d → nat_lt MAX_FILE (length (joined R x y)) ≡ big
+                → lines_at fx fy cx cy d big (length (joined R x y)) ≡ Some error → RefusalIsRight R x y error
+            go (Some f) fy cx cy d big a b c c' g k h = at (Font First f) (λ other F u v. refused-under R kind.law x F f (kind.fault x ∙ a) other u) h
+            go None (Some f) cx cy d big a b c c' g k h = at (Font Second f) (λ other F u v. refused-under R kind.law y F f (kind.fault y ∙ b) other v) h
+            go None None false cy d big a b c c' g k h = at (NotACut First) (λ F u v. no_cut-under R kind.law x F (kind.fault x ∙ a) c u) h
+            go None None true false d big a b c c' g k h = at (NotACut Second) (λ F u v. no_cut-under R kind.law y F (kind.fault y ∙ b) c' v) h
+            go None None true true (Some (AtTable s)) big a b c c' g k h = at (different (AtTable s)) (different_both (AtTable s) a b g) h
+            go None None true true (Some (AtCode s)) big a b c c' g k h = at (different (AtCode s)) (different_both (AtCode s) a b g) h
+            go None None true true (Some (AtGlyph s)) big a b c c' g k h = at (different (AtGlyph s)) (different_both (AtGlyph s) a b g) h
+            go None None true true None true a b c c' g k h =
+                at (TooLarge (length (joined R x y)))
+                ((CanJoin-tested R kind.law x y (kind.fault x ∙ a) (kind.fault y ∙ b) (c, c', g)).agree, refl, ltb-true _ _ k) h
+            go None None true true None false a b c c' g k h = cc
+
+  -- cuts of one font
+  module _ (F : List ℕ) (A B : ℕ → Bool) (x y : List ℕ) (accepted : font_fault F ≡ None) (ex : Writes R (content (R.font F) A) x) (ey : Writes R (content (R.font F) B) y) (sx : length x ≤ MAX_FILE) (sy : length y ≤ MAX_FILE) where
+    pub can_join_cuts : CanJoin R x y
+    can_join_cuts = CanJoin-cuts R kind.law F (kind.fault F ∙ accepted) A B x y ex ey
+        (subst (λ (n : ℕ). length x ≤ n) (sym kind.limit) sx) (subst (λ (n : ℕ). length y ≤ n) (sym kind.limit) sy)
+
+    is_union : joined R x y ≡ cut R F (either A B)
+    is_union = joined-cuts R kind.law F (kind.fault F ∙ accepted) A B x y ex ey
+        (subst (λ (n : ℕ). length x ≤ n) (sym kind.limit) sx) (subst (λ (n : ℕ). length y ≤ n) (sym kind.limit) sy)
+
+    pub cuts_joined : (z : List ℕ) → IsJoin R x y z → z ≡ cut R F (either A B)
+    cuts_joined z ok = ok.is ∙ is_union
+
+    pub cuts_refused : (error : JoinError) → IsJoinRefusal R x y error → IsForSize (length (cut R F (either A B))) error
+    cuts_refused error r = subst (λ (b : List ℕ). IsForSize (length b) error) is_union (only_size x y can_join_cuts error r)
+
+  -- a file in cut form and itself, which is written anew
+  module _ (x : List ℕ) (form : IsCut R x) where
+    pub renewed_joined : (z : List ℕ) → IsJoin R x x z → z ≡ renewed R x
+    renewed_joined z ok = ok.is ∙ joined-self R x
+
+    pub renewed_refused : (error : JoinError) → IsJoinRefusal R x x error → IsForSize (length (renewed R x)) error
+    renewed_refused error r = subst (λ (b : List ℕ). IsForSize (length b) error) (joined-self R x) (only_size x x (CanJoin-self R x form) error r)
+
+  -- a current file and itself
+  module _ (x : List ℕ) (accepted : font_fault x ≡ None) (form : cut R x everything ≡ x) where
+    same_join : joined R x x ≡ x
+    same_join = joined-self R x ∙ form
+
+    pub self_joined : (z : List ℕ) → IsJoin R x x z → z ≡ x
+    self_joined z ok = ok.is ∙ same_join
+
+    pub self_refused : (error : JoinError) → IsJoinRefusal R x x error → error ≡ NoMemory
+    self_refused error r = go error (only_size x x (CanJoin-self R x (record { accepted = kind.fault x ∙ accepted; written = inl form })) error r)
+      where
+        small : length (joined R x x) ≤ MAX_FILE
+        small = subst (λ (b : List ℕ). length b ≤ MAX_FILE) (sym same_join) (size-accepted x accepted)
+
+        go : (error : JoinError) → IsForSize (length (joined R x x)) error → error ≡ NoMemory
+        go NoMemory o = refl
+        go (TooLarge s) o = let b = o.1 in let c = small in absurd (omega arith)
+        go (Font which f) o = absurd o
+        go (NotACut which) o = absurd o
+        go (DifferentTable tag) o = absurd o
+        go (DifferentMapping code) o = absurd o
+        go (DifferentGlyph g) o = absurd o

@@ -1,0 +1,14 @@
+pub mod CodeDifferenceLemmas
+pub mod FirstLemmas
+pub mod JoinListLemmas
+pub mod JoinLemmas
+pub mod TableDifferenceLemmas
+pub mod UnionLemmas
+pub mod UnionSizeLemmas
+pub mod OutlineListLemmas
+pub mod AddLemmas
+pub mod AddFaultLemmas
+pub mod TurnLemmas
+pub mod LeanGlyphLemmas
+pub mod LeanMergeLemmas
+pub mod LeanTableLemmas

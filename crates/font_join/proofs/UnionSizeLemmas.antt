@@ -1,0 +1,65 @@
+-- How many bytes a union has, and how many of them are its groups.
+use Rattle.std.proofs.Common.{◌≡◌, ℕ, ◌+◌, ◌*◌, ◌≤◌, List, Option, length, refl, sym, ap, ◌∙◌, arith}
+use Rattle.sfnt_bytes.specs.declared.directory.TheConstants.{MAX_FILE}
+use Rattle.sfnt_bytes.specs.Sums.{checksum_of}
+use Rattle.codes.specs.Runs.{groups_from}
+use Rattle.codes.specs.declared.runs.Run.{Run}
+use Rattle.codes.proofs.RunLemmas.{groups_done}
+use Rattle.font_theory.specs.Content.{Content, IsWritable, KeepsComponents, glyph_count}
+use Rattle.font_theory.specs.File.{current_layout, file, layout_of, groups_of_content, outlines_of, second_layout, size_of}
+use Rattle.font_theory.proofs.SizeLemmas.{length-file}
+use Rattle.font_write.specs.Parts.{glyf_to, groups_bytes}
+use Rattle.font_write.specs.Plan.{AreCounts}
+use Rattle.font_write.proofs.ChecksumLemmas.{checksum_of-nil}
+use Rattle.font_write.proofs.GroupLemmas.{groups_bytes-nil}
+use Rattle.font_write.specs.declared.size.Counts.{Counts}
+use Rattle.font_join.specs.Union.{AreCounted, listed_outline, outlines_length}
+use Rattle.font_join.specs.Inside.{without_codes}
+use Rattle.font_join.proofs.OutlineListLemmas.{length-glyf_to, outlines_length-most}
+use Rattle.map_union.proofs.UnionMapLemmas.{no_codes}
+
+-- the outlines of a content that has those of a list are counted
+module _ (K : Content) (outlines : List (Option (List ℕ))) (bytes : ℕ) (is : K.outline ≡ listed_outline outlines) (all : length outlines ≡ glyph_count K.copied) (counted : AreCounted outlines bytes) where
+  pub outlines_counted : bytes ≡ length (glyf_to K (glyph_count K.copied))
+  outlines_counted = counted.counted ∙ sym (length-glyf_to K outlines is) ∙ ap (λ (n : ℕ). length (glyf_to K n)) all
+
+  pub outlines_few : bytes ≤ 0x0001_0000_0000_0000
+  outlines_few =
+      let small : outlines_length outlines ≤ MAX_FILE * length outlines = outlines_length-most outlines counted.small in
+      omega (arith, counted.counted, small, counted.few)
+
+-- a content without its codes
+module _ (K : Content) where
+  pub writable_without : IsWritable K → IsWritable (without_codes K)
+  writable_without ok =
+      record {
+        mapped_below = λ c. let some = ok.mapped_below c in omega (arith, some);
+        mapped_codes = λ c x. refl;
+        slots = ok.slots;
+        head_form = ok.head_form;
+        head_size = ok.head_size;
+        past = ok.past;
+      }
+
+  pub components_without : KeepsComponents K → KeepsComponents (without_codes K)
+  components_without h = record { notdef = h.notdef; mapped = λ c. h.notdef; components = h.components }
+
+  no_groups : length (groups_from (without_codes K).map 0) ≡ 0
+  no_groups = ap length (groups_done (without_codes K).map 0 no_codes (λ c x. refl))
+
+  no_sum : checksum_of (groups_bytes (groups_from (without_codes K).map 0)) ≡ 0
+  no_sum = ap (λ (runs : List Run). checksum_of (groups_bytes runs)) (groups_done (without_codes K).map 0 no_codes (λ c x. refl)) ∙ ap checksum_of groups_bytes-nil ∙ checksum_of-nil
+
+  pub counts_without : (counts : Counts) → counts.groups ≡ 0 → counts.group_sum ≡ 0 → counts.outlines ≡ length (glyf_to K (glyph_count K.copied)) → counts.outlines ≤ 0x0001_0000_0000_0000 → AreCounts (without_codes K) counts
+  unfolding groups_of_content glyf_to
+  counts_without counts groups group_sum outlines small = record { groups = groups ∙ sym no_groups; group_sum = group_sum ∙ sym no_sum; outlines = outlines; small = small }
+
+  size_apart : size_of current_layout K ≡ size_of current_layout (without_codes K) + 12 * length (groups_from K.map 0)
+  unfolding size_of layout_of second_layout groups_of_content outlines_of
+  size_apart = omega (arith, no_groups)
+
+  pub size_without : IsWritable K → length (file current_layout K) ≡ length (file current_layout (without_codes K)) + 12 * length (groups_from K.map 0)
+  size_without ok =
+      let whole = length-file current_layout K ok in
+      let rest = length-file current_layout (without_codes K) (writable_without ok) in
+      omega (arith, whole, rest, size_apart)

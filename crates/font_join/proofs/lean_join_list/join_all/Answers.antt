@@ -1,0 +1,23 @@
+use Rattle.std.proofs.Common.{◌≡◌, map, refl}
+use Rattle.std.proofs.lemmas.Result.{MatchResult-weaker}
+use Rattle.font_join.specs.JoinList.{IsForSizeOf}
+use Rattle.font_theory.specs.Lean.{lean_format}
+use Rattle.font_join.specs.Kinds.{lean_kind}
+use Rattle.font_join.proofs.JoinListLemmas.{clash_differs, cuts_refused_in_turn, laws_of_join, small_joined}
+use Rattle.font_join.proofs.lean_join_list.join_all.Goals as goal
+
+pub returns-clause-small : goal.returns-clause-small
+returns-clause-small g c =
+    let bytes = map (λ v. v.items) c.args.files.now in
+    MatchResult-weaker c.join_in_turn.result c.join_in_turn.ensures (λ z all. small_joined lean_kind bytes z.items all) (λ e r. tt)
+
+pub returns-clause-laws : goal.returns-clause-laws
+returns-clause-laws g c =
+    let bytes = map (λ v. v.items) c.args.files.now in
+    laws_of_join lean_kind bytes c.join_in_turn.result (λ z v. v.items ≡ z) (IsForSizeOf lean_format)
+    (MatchResult-weaker c.join_in_turn.result c.join_in_turn.ensures (λ z all. (z.items, all, refl)) (λ e r F A are. cuts_refused_in_turn lean_kind bytes F A are e r))
+
+pub returns-clause-clash : goal.returns-clause-clash
+returns-clause-clash g c =
+    let bytes = map (λ v. v.items) c.args.files.now in
+    MatchResult-weaker c.join_in_turn.result c.join_in_turn.ensures (λ z all. tt) (λ e r forms t over few d. clash_differs lean_kind bytes e r d forms t over few)

@@ -1,0 +1,28 @@
+use Rattle.std.proofs.Common.{◌≤◌, ℕ, List, Result, IfErr, length, map, sym, subst}
+use Rattle.std.proofs.lemmas.Result.{MatchResult-weaker}
+use Rattle.sfnt_bytes.specs.declared.directory.TheConstants.{MAX_FILE}
+use Rattle.font_theory.specs.Lean.{lean_format}
+use Rattle.font_join.specs.JoinList.{IsForSizeInto, IsSentAs, StopsJoin}
+use Rattle.font_join.specs.declared.join_error.JoinAllIntoError.{JoinAllIntoError}
+use Rattle.font_join.specs.Kinds.{lean_kind}
+use Rattle.font_join.proofs.JoinListLemmas.{clash_differs, cuts_refused_into, laws_of_join, result_cases, small_joined}
+use Rattle.font_join.proofs.lean_join_list.join_all_into.Goals as goal
+
+pub returns-clause-small : goal.returns-clause-small
+returns-clause-small g c =
+    let bytes = map (λ v. v.items) c.args.files.now in
+    MatchResult-weaker c.send_in_turn.result c.send_in_turn.ensures.sends (λ size s. subst (λ (n : ℕ). n ≤ MAX_FILE) (sym s.sent.size_is) (small_joined lean_kind bytes s.file s.joined)) (λ e r. tt)
+
+pub returns-clause-laws : goal.returns-clause-laws
+returns-clause-laws g c =
+    let bytes = map (λ v. v.items) c.args.files.now in
+    laws_of_join lean_kind bytes c.send_in_turn.result (IsSentAs g.W.Write.contents c.args.out.now c.send_in_turn.new.out) (IsForSizeInto lean_format)
+    (MatchResult-weaker c.send_in_turn.result (result_cases _ _ c.send_in_turn.result c.send_in_turn.ensures.sends c.send_in_turn.ensures.stops)
+    (λ size s. (s.file, s.joined, s.sent))
+    (λ e r F A are. cuts_refused_into lean_kind bytes F A are g.W.Write.contents c.args.out.now c.send_in_turn.new.out e r))
+
+pub returns-clause-clash : goal.returns-clause-clash
+returns-clause-clash g c = λ error e forms t over few d.
+    let bytes = map (λ v. v.items) c.args.files.now in
+    let stops = subst (λ (r : Result ℕ JoinAllIntoError). IfErr r (StopsJoin lean_format g.W.Write.contents c.args.out.now c.send_in_turn.new.out bytes)) e c.send_in_turn.ensures.stops in
+    clash_differs lean_kind bytes error stops.1 d forms t over few

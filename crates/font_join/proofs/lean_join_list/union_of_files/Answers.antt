@@ -1,0 +1,16 @@
+use Rattle.std.proofs.Common.{map}
+use Rattle.std.proofs.lemmas.Result.{MatchResult-weaker}
+use Rattle.font_join.specs.LeanUnion.{lean_in}
+use Rattle.font_join.specs.Kinds.{lean_kind}
+use Rattle.font_join.proofs.TurnLemmas.{union_joined, union_small}
+use Rattle.font_join.proofs.lean_join_list.union_of_files.Goals as goal
+
+pub returns-clause-exact : goal.returns-clause-exact
+returns-clause-exact g c =
+    let bytes = map (λ f. f.now) c.args.files.now in
+    MatchResult-weaker c.union_of_all.result c.union_of_all.ensures (λ u. union_joined lean_kind bytes (lean_in u)) (λ e r. r)
+
+pub returns-clause-small : goal.returns-clause-small
+returns-clause-small g c =
+    let bytes = map (λ f. f.now) c.args.files.now in
+    MatchResult-weaker c.union_of_all.result c.union_of_all.ensures (λ u. union_small lean_kind bytes (lean_in u)) (λ e r. tt)

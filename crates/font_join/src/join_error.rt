@@ -1,0 +1,119 @@
+//! Why files are not joined.
+ghost use Rattle.std.specs.Prelude.{◌≡◌, Some};
+ghost use Rattle.font_join.specs.JoinText.{join_all_error_number, join_all_into_error_number, join_error_number, which_text};
+
+use font_file::FontError;
+use sfnt_bytes::Tag;
+use std::fmt;
+use thiserror::Error;
+
+/// One of the two files of a join.
+#[derive(Clone, Copy, Debug, PartialEq, Eq)]
+pub enum Which {
+    /// The first file.
+    First,
+    /// The second file.
+    Second,
+}
+
+impl fmt::Display for Which {
+    ghost output = { λ which. Some (which_text which) };
+
+    fn fmt<W: fmt::Write>(&self, f: &mut fmt::Formatter<W>) -> fmt::Result {
+        match self {
+            Which::First => write!(f, "first"),
+            Which::Second => write!(f, "second"),
+        }
+    }
+}
+
+/// Why two files are not joined: the first refusal that applies, in this order. Memory may be refused at
+/// any time after the refusals of both fonts.
+#[derive(Clone, Copy, Debug, PartialEq, Eq, Error)]
+pub enum JoinError {
+    /// One file is no font that is accepted.
+    #[error("{1}")]
+    Font(Which, FontError),
+    /// One file is no cut in any form.
+    #[error("not a cut: {0}")]
+    NotACut(Which),
+    /// One file lacks this table, the least such one, or its bytes are others.
+    #[error("different table {0}")]
+    DifferentTable(Tag),
+    /// Both files map this code, the least such one, to two glyphs.
+    #[error("different mapping U+{0:04X}")]
+    DifferentMapping(u32),
+    /// Both files keep this glyph, the least such one, with two outlines.
+    #[error("different glyph {0}")]
+    DifferentGlyph(u16),
+    /// The joined file would have this number of bytes, more than [`MAX_FILE`](crate::MAX_FILE).
+    #[error("too large {0}")]
+    TooLarge(u64),
+    /// Memory was refused.
+    #[error("no memory")]
+    NoMemory,
+}
+
+impl JoinError {
+    /// Returns the number of the refusal: that of the font's refusal, 20 to 23, 18 or 16.
+    pub fn number(&self) -> u8
+        ensures { result ≡ join_error_number self.now }
+    {
+        match self {
+            JoinError::Font(_, error) => error.number(),
+            JoinError::NotACut(_) => 20,
+            JoinError::DifferentTable(_) => 21,
+            JoinError::DifferentMapping(_) => 22,
+            JoinError::DifferentGlyph(_) => 23,
+            JoinError::TooLarge(_) => 18,
+            JoinError::NoMemory => 16,
+        }
+    }
+}
+
+/// Why the files of a list are not joined.
+#[derive(Clone, Copy, Debug, PartialEq, Eq, Error)]
+pub enum JoinAllError {
+    /// The list is empty.
+    #[error("nothing to join")]
+    NothingToJoin,
+    /// The join of all files before this one with this one was refused. `step` is its index in the list;
+    /// step 0 joins the first file with itself.
+    #[error("{error}")]
+    At { step: usize, error: JoinError },
+}
+
+impl JoinAllError {
+    /// Returns the number of the refusal: 24, or that of the join.
+    pub fn number(&self) -> u8
+        ensures { result ≡ join_all_error_number self.now }
+    {
+        match self {
+            JoinAllError::NothingToJoin => 24,
+            JoinAllError::At { step: _, error } => error.number(),
+        }
+    }
+}
+
+/// Why the join of a list of files is not sent.
+#[derive(Clone, Copy, Debug, PartialEq, Eq, Error)]
+pub enum JoinAllIntoError {
+    /// The files are not joined. Nothing was sent.
+    #[error("{0}")]
+    NotJoined(JoinAllError),
+    /// A write failed after this number of bytes.
+    #[error("write fault after {0}")]
+    WriteFault(u64),
+}
+
+impl JoinAllIntoError {
+    /// Returns the number of the refusal: that of the join, or 19.
+    pub fn number(&self) -> u8
+        ensures { result ≡ join_all_into_error_number self.now }
+    {
+        match self {
+            JoinAllIntoError::NotJoined(error) => error.number(),
+            JoinAllIntoError::WriteFault(_) => 19,
+        }
+    }
+}

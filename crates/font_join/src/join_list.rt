@@ -1,0 +1,189 @@
+//! Joins of a list of files, one after the other. They are this project's own, and in no standard.
+ghost use Rattle.std.specs.Prelude.{◌≡◌, ◌≤◌, ℕ, List, length, map, false, true, Err, IfErr, IfOk, IsSome, MatchResult, OnOk};
+ghost use Rattle.sfnt_bytes.specs.declared.directory.TheConstants.{MAX_FILE};
+ghost use Rattle.font_theory.specs.Cut.{Format, our_format};
+ghost use Rattle.font_theory.specs.File.{current_layout, file};
+ghost use Rattle.streams.specs.Outlet.{HasSent, broken_of, fresh_of, writer_of};
+ghost use Rattle.font_join.specs.JoinList.{EveryTreeDiffers, IsAllJoined, IsAllRefusal, IsFirst, IsForSizeInto, IsForSizeOf, IsSentAs, JoinLaws, SendsAll, StopsJoin};
+ghost use Rattle.font_join.specs.Inside.{IsUnited};
+ghost use Rattle.font_join.specs.Union.{content_in};
+ghost use Rattle.font_join.specs.declared.join_error.JoinAllIntoError.TheVariants.{NotJoined};
+
+use crate::in_turn::{InMemory, open_first, union_from};
+use crate::join_error::{JoinAllError, JoinAllIntoError, JoinError};
+use crate::union::Union;
+use font_file::Font;
+use font_subset::{file_in_memory, send_whole};
+use std::alloc::Allocator;
+use std::io::Write;
+use streams::Outlet;
+
+// Returns the union of all files, of which the first is open, or the first refusal.
+fn union_of_all<'f, 'a, A: Allocator + Copy, F: InMemory>(
+    alloc: A,
+    first: &'f Font<'a>,
+    files: &'a [F],
+) -> Result<Union<'f, 'a, A>, JoinAllError>
+    requires { IsFirst (map F.bytes_of files.now) first.now }
+    ensures { let bytes = map F.bytes_of files.now in
+        MatchResult result (λ union. IsUnited our_format (λ K. K) bytes (content_in union))
+        (IsAllRefusal our_format bytes) }
+{
+    match Union::of_first(alloc, first) {
+        Ok(one) => union_from(alloc, one, files),
+        Err(error) => Err(JoinAllError::At { step: 0, error }),
+    }
+}
+
+// Returns the join of all files, or the first refusal.
+fn join_in_turn<A: Allocator + Copy>(
+    alloc: A,
+    files: &[Vec<u8, A>],
+) -> Result<Vec<u8, A>, JoinAllError>
+    ensures { let bytes = map (λ v. v.items) files.now in
+        MatchResult result (λ z. IsAllJoined our_format bytes z.items) (IsAllRefusal our_format bytes) }
+{
+    let first = match open_first(files) {
+        Ok(first) => first,
+        Err(error) => return Err(error),
+    };
+    let all = match union_of_all(alloc, &first, files) {
+        Ok(all) => all,
+        Err(error) => return Err(error),
+    };
+    match file_in_memory(alloc, &all) {
+        Ok(file) => Ok(file),
+        Err(_) => Err(JoinAllError::At {
+            step: files.len() - 1,
+            error: JoinError::NoMemory,
+        }),
+    }
+}
+
+/// Returns the first file joined with itself, and then the join so far with each next file in turn. Cuts
+/// of one font give its cut for the codes of all of them, in whatever order and in whichever forms they
+/// come. Each tree of joins over the same files gives the same file, written anew where it is an old
+/// one. The first step writes an old file anew, so it is refused where that is too large.
+///
+/// # Errors
+///
+/// `NothingToJoin` for an empty list, and else the first step that is refused.
+///
+/// # Example
+///
+/// From the test `join_of_many` of `cut_tests`:
+///
+/// ```
+/// let files = copies(rt.alloc(), rt.alloc(), &[&AACUTE, &A_AND_B, &AACUTE])?;
+/// let joined = join_all(rt.alloc(), &files)?;
+/// assert_eq!(rt; joined.as_slice(), A_B_AACUTE.as_slice());
+/// ```
+pub fn join_all<A: Allocator + Copy>(
+    alloc: A,
+    files: &[Vec<u8, A>],
+) -> Result<Vec<u8, A>, JoinAllError>
+    ensures exact { let bytes = map (λ v. v.items) files.now in
+        MatchResult result (λ z. IsAllJoined our_format bytes z.items) (IsAllRefusal our_format bytes) }
+    ensures small { IfOk result (λ z. length z.items ≤ MAX_FILE) }
+    ensures laws { let bytes = map (λ v. v.items) files.now in
+        JoinLaws our_format bytes result (λ z v. v.items ≡ z) (IsForSizeOf our_format) }
+    ensures clash { let bytes = map (λ v. v.items) files.now in
+        IfErr result (EveryTreeDiffers our_format bytes) }
+{
+    join_in_turn(alloc, files)
+}
+
+/// Opens the first of a list of files, with which [`union_of_files`] begins, of either kind.
+///
+/// # Errors
+///
+/// `NothingToJoin` for an empty list, and step 0 where the first file is no font that is accepted.
+pub fn open_first_file<'a>(files: &'a [&'a [u8]]) -> Result<Font<'a>, JoinAllError>
+    ensures { let bytes = map (λ f. f.now) files.now in
+        MatchResult result (IsFirst bytes) (λ error. (R : Format) → IsAllRefusal R bytes error) }
+{
+    open_first(files)
+}
+
+/// Returns the union of a list of files, of which the first is open: what [`join_all`] makes its file
+/// of, so that the join can be measured, and then sent to any sink. All memory that the join needs is
+/// asked for here.
+///
+/// # Errors
+///
+/// The first step that is refused, as [`join_all`] answers it.
+pub fn union_of_files<'f, 'a, A: Allocator + Copy>(
+    alloc: A,
+    first: &'f Font<'a>,
+    files: &'a [&'a [u8]],
+) -> Result<Union<'f, 'a, A>, JoinAllError>
+    requires { IsFirst (map (λ f. f.now) files.now) first.now }
+    ensures exact { let bytes = map (λ f. f.now) files.now in
+        MatchResult result (λ union. IsAllJoined our_format bytes (file current_layout (content_in union)))
+        (IsAllRefusal our_format bytes) }
+    ensures small { IfOk result (λ union. length (file current_layout (content_in union)) ≤ MAX_FILE) }
+{
+    union_of_all(alloc, first, files)
+}
+
+// Sends the join of all files, or returns the first refusal.
+fn send_in_turn<A: Allocator + Copy, W: Write>(
+    alloc: A,
+    files: &[Vec<u8, A>],
+    out: &mut Outlet<W>,
+) -> Result<u64, JoinAllIntoError>
+    requires { fresh_of out.old ≡ true }
+    ensures sends { let bytes = map (λ v. v.items) files.now in
+        IfOk result (SendsAll our_format W.contents out.old out.new bytes) }
+    ensures unbroken { OnOk result (broken_of out.new ≡ false) }
+    ensures stops { let bytes = map (λ v. v.items) files.now in
+        IfErr result (StopsJoin our_format W.contents out.old out.new bytes) }
+{
+    let first = match open_first(files) {
+        Ok(first) => first,
+        Err(error) => return Err(JoinAllIntoError::NotJoined(error)),
+    };
+    let all = match union_of_all(alloc, &first, files) {
+        Ok(all) => all,
+        Err(error) => return Err(JoinAllIntoError::NotJoined(error)),
+    };
+    match send_whole(&all, out) {
+        Ok(size) => Ok(size),
+        // A join that is too large was refused before, and sending asks for no memory.
+        Err(_) => Err(JoinAllIntoError::WriteFault(out.written())),
+    }
+}
+
+/// Sends the join of a list of files, and returns how many bytes it has. All memory is asked for before
+/// the first write: a mark and a place for each glyph, and the groups of the union, but none for the
+/// join itself. It is sent in short pieces, so a writer that costs something at each call should gather
+/// them.
+///
+/// # Errors
+///
+/// `NotJoined` with the refusal of [`join_all`]: nothing was sent. `WriteFault` where a write failed:
+/// the outlet is broken, and a front of the join went out.
+pub fn join_all_into<A: Allocator + Copy, W: Write>(
+    alloc: A,
+    files: &[Vec<u8, A>],
+    out: &mut Outlet<W>,
+) -> Result<u64, JoinAllIntoError>
+    requires { fresh_of out.old ≡ true }
+    ensures exact { let bytes = map (λ v. v.items) files.now in
+        IfOk result (SendsAll our_format W.contents out.old out.new bytes) }
+    ensures small { IfOk result (λ size. size ≤ MAX_FILE) }
+    ensures sent { let bytes = map (λ v. v.items) files.now in
+        IfOk result (λ size. IsSome (W.contents (writer_of out.old)) →
+        (z : List ℕ) × IsAllJoined our_format bytes z × HasSent W.contents out.new z) }
+    ensures unbroken { OnOk result (broken_of out.new ≡ false) }
+    ensures stops { let bytes = map (λ v. v.items) files.now in
+        IfErr result (StopsJoin our_format W.contents out.old out.new bytes) }
+
+    // The laws of `join_all`, of the bytes that went out.
+    ensures laws { let bytes = map (λ v. v.items) files.now in
+        JoinLaws our_format bytes result (IsSentAs W.contents out.old out.new) (IsForSizeInto our_format) }
+    ensures clash { let bytes = map (λ v. v.items) files.now in
+        (error : JoinAllError) → result ≡ Err (NotJoined error) → EveryTreeDiffers our_format bytes error }
+{
+    send_in_turn(alloc, files, out)
+}

@@ -1,0 +1,168 @@
+-- What a font holds for all codes, and whether its file is the file of that.
+use Rattle.std.proofs.Common.{◌≡◌, ℕ, ◌<◌, Some, Bool, true, false, ◌||◌, if◌then◌else◌, List, None, IsTrue, ◌↔◌, inl, inr, refl, sym, ◌∙◌, ap}
+use Rattle.std.specs.Option.{is_some}
+use Rattle.std.specs.Str.{bytes_eq}
+use Rattle.std.proofs.lemmas.Slice.Eq.{bytes_eq-Decides}
+use Rattle.std.proofs.lemmas.Bool.{false_from_ne_true}
+use Rattle.font_file.specs.Font.{font_fault}
+use Rattle.font_theory.specs.Content.{Content, content, everything, font_of}
+use Rattle.font_theory.specs.Cut.{IsCurrent, IsCut, IsOld, is_current, is_cut, is_old, our_format, content_of_all}
+use Rattle.font_theory.specs.declared.Profile.TheVariants.{First}
+use Rattle.font_theory.proofs.CutLemmas.{IsCut-cases, IsCut-current, IsCut-old, is_current-of, is_current-tells, is_cut-tells, is_old-of, is_old-tells, outline-whole}
+use Rattle.font_theory.proofs.LayoutLemmas.{layouts_apart, no_cut-both}
+use Rattle.font_subset.specs.Cut.{IsFormOf, cut_form_of}
+use Rattle.font_subset.specs.Inside.{IsFileIn}
+use Rattle.font_subset.specs.declared.cut_forms.CutForm.{CutForm}
+use Rattle.font_subset.specs.declared.cut_forms.CutForm.TheVariants.{Current, Not, Old}
+use Rattle.font_theory.proofs.OurFormatLemmas.{our_format-is}
+use Rattle.font_theory.specs.File.{file, layout_of, current_layout}
+use Rattle.font_theory.proofs.FileWantedLemmas.{outline-file}
+use Rattle.font_tables.specs.Fields.{glyph_count_of}
+use Rattle.font_tables.specs.Outlines.{outline_of}
+use Rattle.font_subset.specs.Content.{IsKeptSet}
+use Rattle.font_subset.proofs.SourceLemmas.{kept_below, kept_is}
+
+-- what this program reads of a file, and why it refuses one
+pub our_format-fault : (X : List ℕ) → our_format.fault X ≡ font_fault X
+unfolding our_format
+our_format-fault X = refl
+
+pub our_format-whole : (X : List ℕ) → content_of_all our_format X ≡ content (font_of X) everything
+unfolding our_format
+our_format-whole X = refl
+
+-- the tests of both forms, of the files of the content
+is_current_is : (X : List ℕ) → is_current our_format X ≡ bytes_eq (file current_layout (content (font_of X) everything)) X
+unfolding is_current our_format
+is_current_is X = refl
+
+is_old_is : (X : List ℕ) → is_old our_format X ≡ bytes_eq (file (layout_of First) (content (font_of X) everything)) X
+unfolding is_old our_format
+is_old_is X = refl
+
+is_cut_is : (X : List ℕ) → is_cut our_format X ≡ (is_current our_format X || is_old our_format X)
+unfolding is_cut is_current is_old
+is_cut_is X = refl
+
+passes : (file X : List ℕ) → X ≡ file → bytes_eq file X ≡ true
+passes file X e = (bytes_eq-Decides file X).1 (sym e)
+
+fails : (file X : List ℕ) → (X ≡ file → ⊥) → bytes_eq file X ≡ false
+fails file X n = false_from_ne_true (bytes_eq file X) (λ t. n (sym ((bytes_eq-Decides file X).0 t)))
+
+-- the form of a file is that in which it is the file of its content
+pub form_by : (form : CutForm) (X : List ℕ) → IsFileIn (content (font_of X) everything) X form → form ≡ cut_form_of X
+unfolding cut_form_of
+form_by Current X h = rw (is_current_is X ∙ passes _ X h) refl
+form_by Old X h =
+    let K : Content = content (font_of X) everything in
+    let current : is_current our_format X ≡ false = is_current_is X ∙ fails (file current_layout K) X (λ e. layouts_apart K K (sym h ∙ e)) in
+    rw (current, is_old_is X ∙ passes _ X h) refl
+form_by Not X h = rw (is_current_is X ∙ fails _ X h.0, is_old_is X ∙ fails _ X h.1) refl
+
+-- what a form says of the tests
+abbrev pub is_current_form : CutForm → Bool
+is_current_form Current = true
+is_current_form _ = false
+
+abbrev pub is_some_form : CutForm → Bool
+is_some_form Not = false
+is_some_form _ = true
+
+pub is_current_by : (form : CutForm) (X : List ℕ) → form ≡ cut_form_of X → is_current_form form ≡ is_current our_format X
+unfolding cut_form_of
+is_current_by form X e = ap is_current_form e ∙ go (is_current our_format X) (is_old our_format X)
+  where
+    go : (b c : Bool) → is_current_form (if b then Current else if c then Old else Not) ≡ b
+    go true c = refl
+    go false true = refl
+    go false false = refl
+
+pub is_cut_by : (form : CutForm) (X : List ℕ) → form ≡ cut_form_of X → is_some_form form ≡ is_cut our_format X
+unfolding cut_form_of
+is_cut_by form X e = ap is_some_form e ∙ go (is_current our_format X) (is_old our_format X) ∙ sym (is_cut_is X)
+  where
+    go : (b c : Bool) → is_some_form (if b then Current else if c then Old else Not) ≡ (b || c)
+    go true c = refl
+    go false true = refl
+    go false false = refl
+
+pub is_no_cut : (form : CutForm) (X : List ℕ) → form ≡ cut_form_of X → form ≡ Not → is_cut our_format X ≡ false
+is_no_cut form X e h = sym (is_cut_by form X e) ∙ ap is_some_form h
+
+pub is_some_cut : (form : CutForm) (X : List ℕ) → form ≡ cut_form_of X → (form ≡ Not → ⊥) → is_cut our_format X ≡ true
+is_some_cut form X e n = sym (is_cut_by form X e) ∙ go form n
+  where
+    go : (form : CutForm) → (form ≡ Not → ⊥) → is_some_form form ≡ true
+    go Not n = absurd (n refl)
+    go Old n = refl
+    go Current n = refl
+
+pub is_now : (form : CutForm) (X : List ℕ) → form ≡ cut_form_of X → form ≡ Current → is_current our_format X ≡ true
+is_now form X e h = sym (is_current_by form X e) ∙ ap is_current_form h
+
+pub is_not_now : (form : CutForm) (X : List ℕ) → form ≡ cut_form_of X → (form ≡ Current → ⊥) → is_current our_format X ≡ false
+is_not_now form X e n = sym (is_current_by form X e) ∙ go form n
+  where
+    go : (form : CutForm) → (form ≡ Current → ⊥) → is_current_form form ≡ false
+    go Current n = absurd (n refl)
+    go Not n = refl
+    go Old n = refl
+
+pub form_told : (form : CutForm) (X : List ℕ) → font_fault X ≡ None → form ≡ cut_form_of X → IsFormOf X form
+unfolding cut_form_of
+form_told form X accepted e = go (is_current our_format X) (is_old our_format X) refl refl e
+  where
+    ok : our_format.fault X ≡ None
+    ok = our_format-fault X ∙ accepted
+
+    other : (a b : CutForm) → form ≡ a → form ≡ b → (a ≡ b → ⊥) → ⊥
+    other a b p q n = n (sym p ∙ q)
+
+    go : (b c : Bool) → is_current our_format X ≡ b → is_old our_format X ≡ c → form ≡ (if b then Current else if c then Old else Not) → IsFormOf X form
+    go true c p q e =
+        let is = is_current-tells our_format X ok p in
+        record {
+          current = (λ h. is, λ h. e);
+          old = (λ h. absurd (other Current Old e h (λ n. cc)), λ old. absurd (no_cut-both X is old));
+          neither = (λ h. absurd (other Current Not e h (λ n. cc)), λ no. absurd (no (IsCut-current our_format X is)));
+        }
+    go false true p q e =
+        let is = is_old-tells our_format X ok q in
+        record {
+          current = (λ h. absurd (other Old Current e h (λ n. cc)), λ current. absurd (no_cut-both X current is));
+          old = (λ h. is, λ h. e);
+          neither = (λ h. absurd (other Old Not e h (λ n. cc)), λ no. absurd (no (IsCut-old our_format X is)));
+        }
+    go false false p q e =
+        let no_current : IsCurrent our_format X → ⊥ = λ h. both_false (is_current our_format X) p (is_current-of our_format X h) in
+        let no_old : IsOld our_format X → ⊥ = λ h. both_false (is_old our_format X) q (is_old-of our_format X h) in
+        record {
+          current = (λ h. absurd (other Not Current e h (λ n. cc)), λ h. absurd (no_current h));
+          old = (λ h. absurd (other Not Old e h (λ n. cc)), λ h. absurd (no_old h));
+          neither = (λ h cut. elim (IsCut-cases our_format X cut) [ inl a ↦ no_current a | inr b ↦ no_old b ], λ h. e);
+        }
+      where
+        both_false : (b : Bool) → b ≡ false → b ≡ true → ⊥
+        both_false b f t = let n : false ≡ true = sym f ∙ t in cc
+
+-- in words
+pub is_current_in_words : (b : Bool) (X : List ℕ) → font_fault X ≡ None → b ≡ is_current our_format X → IsTrue b ↔ IsCurrent our_format X
+is_current_in_words b X accepted e =
+    let ok : our_format.fault X ≡ None = our_format-fault X ∙ accepted in
+    (λ t. is_current-tells our_format X ok (sym e ∙ t), λ is. e ∙ is_current-of our_format X is)
+
+pub is_cut_tells : (b : Bool) (X : List ℕ) → font_fault X ≡ None → b ≡ is_cut our_format X → IsTrue b → IsCut our_format X
+is_cut_tells b X accepted e t = is_cut-tells our_format our_format-is X (our_format-fault X ∙ accepted) (sym e ∙ t)
+
+-- an outline that is kept is one of the font, and in a file in cut form has its zeros
+module _ (file : List ℕ) (marks : List Bool) (kept : IsKeptSet file everything marks) where
+  pub written_below : (g : ℕ) (b : Bool) → b ≡ is_some ((content (font_of file) everything).outline g) → b ≡ true → g < glyph_count_of file
+  written_below g b is t = kept_below file everything marks kept g (sym is ∙ t)
+
+  pub written_is : IsCut our_format file → (g : ℕ) (b : Bool) → b ≡ is_some ((content (font_of file) everything).outline g) → b ≡ true
+      → (content (font_of file) everything).outline g ≡ Some (outline_of file g)
+  unfolding our_format
+  written_is form g b is t =
+      outline-whole our_format our_format-is file form g (sym (kept.kept g) ∙ kept_is file everything marks kept g ∙ sym is ∙ t)
+      ∙ ap (λ (x : List ℕ). Some x) (outline-file file g (written_below g b is t))

@@ -1,0 +1,35 @@
+//! The glyphs to which a font maps codes, written to the caller's room. OpenType 1.9, cmap: Character to Glyph Index
+//! Mapping Table.
+ghost use Rattle.std.specs.Prelude.{◌≡◌, ◌≤◌, ◌++◌, MatchResult, drop, length};
+ghost use Rattle.fontcut_c.specs.Glyphs.{AreGlyphsInRoom, RefusesGlyphs, glyphs_of};
+
+use crate::refusal::LookupRefusal;
+use font_cut::Font;
+
+// Writes the glyph of each code to the front of room that has a place for each.
+#[tactic(auto, using(crate::proofs::RowLemmas::row_more, crate::proofs::RowLemmas::row_all))]
+fn put_glyphs(font: &Font<'_>, codes: &[u32], out: &mut [u16])
+    requires { length codes.now ≤ length out.old }
+    ensures { out.new ≡ glyphs_of font.now codes.now ++ drop (length codes.now) out.old }
+{
+    for index in 0..codes.len() {
+        out[index] = font.glyph(codes[index]);
+    }
+}
+
+/// Writes the glyph of each code to the front of room, 0 where the font maps it to none, and returns how many
+/// they are. It asks for no memory.
+pub(crate) fn glyphs_to(file: &[u8], codes: &[u32], out: &mut [u16]) -> Result<u64, LookupRefusal>
+    ensures { MatchResult result (AreGlyphsInRoom file.now codes.now out.old out.new)
+        (λ refusal. (out.new ≡ out.old) × RefusesGlyphs file.now codes.now (length out.old) refusal) }
+{
+    let font = match Font::open(file) {
+        Ok(font) => font,
+        Err(error) => return Err(LookupRefusal::Font(error)),
+    };
+    if out.len() < codes.len() {
+        return Err(LookupRefusal::SmallRoom(codes.len()));
+    }
+    put_glyphs(&font, codes, out);
+    Ok(codes.len() as u64)
+}

@@ -1,0 +1,293 @@
+//! The runs of the union of two maps. OpenType 1.9, cmap, Format 12: Segmented coverage.
+ghost use Rattle.std.specs.Prelude.{◌≡◌, ◌+◌, ◌<◌, ◌≤◌, ◌++◌, ℕ, List, [], length, IfOk, IsTrue, MatchOption, OnOk};
+ghost use Rattle.codes.specs.CharacterMap.{IsCharacterMap, united};
+ghost use Rattle.codes.specs.Runs.{IsNext, IsPiece, IsRun, spelled};
+ghost use Rattle.codes.specs.declared.runs.Run.{Run};
+ghost use Rattle.map_union.specs.RunLists.{AreMapRuns};
+ghost use Rattle.map_union.specs.Inside.{AreLeftAlone, IsDone, IsPast, IsPlace, LeavesAlone, run_at};
+
+use crate::run_list::{place_by_guess, run_from};
+use codes::Run;
+use sfnt_bytes::NoMemory;
+use std::alloc::Allocator;
+
+// How many codes there are. No map has more runs.
+const CODES: usize = 0x110000;
+
+// Returns the place of the first run that ends at a code or above it, where the runs before a place are
+// known to end below the code.
+#[tactic(auto, using(crate::proofs::RunListLemmas::past_more))]
+fn place_after(runs: &[Run], place: usize, from: u32) -> usize
+    requires { IsPast runs.now from place }
+    ensures { IsPlace runs.now from result }
+{
+    let mut at = place;
+    while at < runs.len() && runs[at].last < from {
+        at += 1;
+    }
+    at
+}
+
+/// Returns the first piece of the union of two maps, where the first pieces of both are known: one of them,
+/// up to where the first map goes on.
+pub fn first_piece(a: Option<Run>, b: Option<Run>) -> Option<Run>
+    ensures { (m k : ℕ → ℕ) (from : ℕ) → IsNext m from a → IsNext k from b → IsNext (united m k) from result }
+{
+    let Some(a) = a else {
+        return b;
+    };
+    let Some(b) = b else {
+        return Some(a);
+    };
+    if a.first <= b.first {
+        return Some(a);
+    }
+    Some(Run {
+        first: b.first,
+        last: b.last.min(a.first - 1),
+        glyph: b.glyph,
+    })
+}
+
+// Returns the first piece of both from a code on, and the places that it was found at.
+#[tactic(auto, using(crate::proofs::RunListLemmas::next_of, crate::proofs::RunListLemmas::past_on))]
+fn piece_of_both(
+    a: &[Run],
+    b: &[Run],
+    places: (usize, usize),
+    from: u32,
+) -> (Option<Run>, (usize, usize))
+    requires first { AreMapRuns a.now }
+    requires second { AreMapRuns b.now }
+    requires first_past { IsPast a.now from places.0 }
+    requires second_past { IsPast b.now from places.1 }
+    ensures piece { IsNext (united (spelled a.now) (spelled b.now)) from result.0 }
+    ensures first_past { IsPast a.now from result.1.0 }
+    ensures second_past { IsPast b.now from result.1.1 }
+{
+    let i = place_after(a, places.0, from);
+    let j = place_after(b, places.1, from);
+    (
+        first_piece(run_from(a, i, from), run_from(b, j, from)),
+        (i, j),
+    )
+}
+
+// Returns the run that begins with a piece, the first piece after it, and the places that it was found at.
+fn run_of_both(
+    a: &[Run],
+    b: &[Run],
+    places: (usize, usize),
+    piece: Run,
+) -> (Run, Option<Run>, (usize, usize))
+    requires first { AreMapRuns a.now }
+    requires second { AreMapRuns b.now }
+    requires order { piece.first ≤ piece.last }
+    requires small { piece.last ≤ 0x10FFFF }
+    requires first_past { IsPast a.now (piece.last + 1) places.0 }
+    requires second_past { IsPast b.now (piece.last + 1) places.1 }
+    ensures run { (from : ℕ) → IsPiece (united (spelled a.now) (spelled b.now)) from piece →
+        IsRun (united (spelled a.now) (spelled b.now)) from result.0 }
+    ensures small { result.0.last ≤ 0x10FFFF }
+    ensures behind { IsNext (united (spelled a.now) (spelled b.now)) (result.0.last + 1) result.1 }
+    ensures first_past { IsPast a.now (result.0.last + 1) result.2.0 }
+    ensures second_past { IsPast b.now (result.0.last + 1) result.2.1 }
+{
+    let mut run = piece;
+    let (mut ahead, mut at) = piece_of_both(a, b, places, piece.last + 1);
+    while let Some(next) = ahead {
+        if next.first != run.last + 1 {
+            return (run, ahead, at);
+        }
+        if u32::from(next.glyph) != u32::from(run.glyph) + (next.first - run.first) {
+            return (run, ahead, at);
+        }
+        run.last = next.last;
+        (ahead, at) = piece_of_both(a, b, at, next.last + 1);
+    }
+    (run, ahead, at)
+}
+
+// Returns whether the run at a place leaves a run alone, which begins at a code or above it: it begins
+// after that run and does not go on with it. So does the end of the list.
+fn leaves_alone(runs: &[Run], place: usize, run: Run) -> bool
+    requires runs { AreMapRuns runs.now }
+    requires order { run.first ≤ run.last }
+    requires small { run.last ≤ 0x10FFFF }
+    requires some { 0 < run.glyph }
+    ensures { (from : ℕ) → IsPast runs.now from place → from ≤ run.first → IsTrue result →
+        LeavesAlone (spelled runs.now) from run }
+{
+    if place >= runs.len() {
+        return true;
+    }
+    let next = runs[place];
+    if next.first <= run.last {
+        return false;
+    }
+    let goes_on = u32::from(run.glyph) + (run.last - run.first) + 1;
+    if next.first == run.last + 1 && u32::from(next.glyph) == goes_on {
+        return false;
+    }
+    true
+}
+
+// Returns the place after the runs of `a` from place `i` on that `b` leaves alone, whose next run is at
+// place `j`: those that end below that run, but for the last one where that run goes on with it. The run at
+// place `i` is one of them in any case. They are likely to be `count` runs.
+#[tactic(auto, using(crate::proofs::StretchLemmas::each_sound))]
+fn end_of_stretch(a: &[Run], i: usize, b: &[Run], j: usize, count: usize) -> usize
+    requires first { AreMapRuns a.now }
+    requires second { AreMapRuns b.now }
+    requires there { i < length a.now }
+    ensures order { i < result }
+    ensures within { result ≤ length a.now }
+    ensures alone { (from : ℕ) → IsPast b.now from j → from ≤ (run_at a.now i).first →
+        AreLeftAlone a.now i result (spelled b.now) from }
+{
+    if j >= b.len() {
+        return a.len();
+    }
+    let next = b[j].first;
+    if next <= a[i].last {
+        return i + 1;
+    }
+    let end = place_by_guess(a, i + 1, i.saturating_add(count), next);
+    if end == i + 1 || leaves_alone(b, j, a[end - 1]) {
+        return end;
+    }
+    end - 1
+}
+
+// Returns the runs of one of both from a code on that begin there and are left alone by the other list, the
+// places after them, and the code after them. They are likely to be `count` runs.
+fn next_apart<'r>(
+    a: &'r [Run],
+    b: &'r [Run],
+    places: (usize, usize),
+    count: usize,
+    from: u32,
+) -> Option<(&'r [Run], (usize, usize), u32)>
+    requires first { AreMapRuns a.now }
+    requires second { AreMapRuns b.now }
+    requires first_past { IsPast a.now from places.0 }
+    requires second_past { IsPast b.now from places.1 }
+    ensures done { MatchOption result Unit (λ found. (runs : List Run) →
+        IsDone (united (spelled a.now) (spelled b.now)) runs from →
+        IsDone (united (spelled a.now) (spelled b.now)) (runs ++ found.0.now) found.2) }
+    ensures first_past { MatchOption result Unit (λ found. IsPast a.now found.2 found.1.0) }
+    ensures second_past { MatchOption result Unit (λ found. IsPast b.now found.2 found.1.1) }
+    ensures order { MatchOption result Unit (λ found. (from < found.2) × (found.2 ≤ 0x110000)) }
+{
+    let (i, j) = places;
+    if i < a.len() && from <= a[i].first && leaves_alone(b, j, a[i]) {
+        let end = end_of_stretch(a, i, b, j, count);
+        return Some((&a[i..end], (end, j), a[end - 1].last + 1));
+    }
+    if j < b.len() && from <= b[j].first && leaves_alone(a, i, b[j]) {
+        let end = end_of_stretch(b, j, a, i, count);
+        return Some((&b[j..end], (i, end), b[end - 1].last + 1));
+    }
+    None
+}
+
+// Adds a stretch of runs. For one run a copy of a slice costs more than the run.
+#[tactic(auto, using(crate::proofs::StretchLemmas::one_run))]
+fn push_stretch<A: Allocator>(runs: &mut Vec<Run, A>, stretch: &[Run]) -> Result<(), NoMemory>
+    ensures { OnOk result (runs.new.items ≡ runs.old.items ++ stretch.now) }
+{
+    if stretch.len() == 1 {
+        if runs.push(stretch[0]).is_err() {
+            return Err(NoMemory);
+        }
+        return Ok(());
+    }
+    if runs.extend_from_slice(stretch).is_err() {
+        return Err(NoMemory);
+    }
+    Ok(())
+}
+
+// Adds the runs of both from a code on that are left alone by the other list, up to one that is not. Returns
+// the places and the code after the last one.
+fn push_apart<A: Allocator>(
+    a: &[Run],
+    b: &[Run],
+    places: (usize, usize),
+    from: u32,
+    runs: &mut Vec<Run, A>,
+) -> Result<((usize, usize), u32), NoMemory>
+    requires first { AreMapRuns a.now }
+    requires second { AreMapRuns b.now }
+    requires first_past { IsPast a.now from places.0 }
+    requires second_past { IsPast b.now from places.1 }
+    requires small { from ≤ 0x110000 }
+    requires done { IsDone (united (spelled a.now) (spelled b.now)) runs.old.items from }
+    ensures done { IfOk result (λ next. IsDone (united (spelled a.now) (spelled b.now)) runs.new.items next.1) }
+    ensures first_past { IfOk result (λ next. IsPast a.now next.1 next.0.0) }
+    ensures second_past { IfOk result (λ next. IsPast b.now next.1 next.0.1) }
+    ensures order { IfOk result (λ next. (from ≤ next.1) × (next.1 ≤ 0x110000)) }
+{
+    let mut at = places;
+    let mut code = from;
+    // The lists mostly take turns, and each goes on in stretches of one length.
+    let mut counts = (1, 1);
+    while let Some((stretch, places_behind, behind)) = next_apart(a, b, at, counts.0, code) {
+        push_stretch(runs, stretch)?;
+        at = places_behind;
+        code = behind;
+        counts = (counts.1, stretch.len());
+    }
+    Ok((at, code))
+}
+
+// Returns an empty list with room for this number of runs: that of a list whose runs go, where it has enough.
+// Else it gets room for twice as many, since the lists that follow are longer, and memory costs nothing until
+// it is written. It is not made to grow, for that would copy runs that nobody needs.
+fn empty_list<A: Allocator + Copy>(
+    alloc: A,
+    room: Vec<Run, A>,
+    count: usize,
+) -> Result<Vec<Run, A>, NoMemory>
+    ensures { IfOk result (λ runs. runs.items ≡ []) }
+{
+    let mut runs = room;
+    runs.clear();
+    let mut wanted = count;
+    if runs.capacity() < count {
+        runs = Vec::new(alloc);
+        wanted = count.saturating_add(count).min(CODES).max(count);
+    }
+    if runs.reserve(wanted).is_err() {
+        return Err(NoMemory);
+    }
+    Ok(runs)
+}
+
+/// Lists the runs of the union of two maps, in the memory of `room` if that is enough. The runs of `room` go.
+pub fn runs_of_both<A: Allocator + Copy>(
+    alloc: A,
+    room: Vec<Run, A>,
+    a: &[Run],
+    b: &[Run],
+) -> Result<Vec<Run, A>, NoMemory>
+    requires first { AreMapRuns a.now }
+    requires second { AreMapRuns b.now }
+    ensures spelled { IfOk result (λ v. spelled v.items ≡ united (spelled a.now) (spelled b.now)) }
+    ensures runs { IfOk result (λ v. AreMapRuns v.items) }
+{
+    // As many as there can be where the maps agree: without them the list is copied as it grows.
+    let mut runs = empty_list(alloc, room, a.len().saturating_add(b.len()))?;
+    let (mut ahead, mut places) = piece_of_both(a, b, (0, 0), 0);
+    let mut from = 0;
+    while let Some(piece) = ahead {
+        let (run, _, at) = run_of_both(a, b, places, piece);
+        if runs.push(run).is_err() {
+            return Err(NoMemory);
+        }
+        let (behind, code) = push_apart(a, b, at, run.last + 1, &mut runs)?;
+        from = code;
+        (ahead, places) = piece_of_both(a, b, behind, code);
+    }
+    Ok(runs)
+}

@@ -1,9 +1,0 @@
-use Rattle.std.proofs.Common.{◌-◌}
-use Rattle.member_search.proofs.OrderLemmas.{Halves}
-use Rattle.member_search.proofs.search.searched.Given as goal
-
-abbrev pub invariant-loop-low : goal.invariant-loop-low
-invariant-loop-low g l = Halves (g.E.Ends.end_of l.ends) (g.E.Ends.count_of l.ends) l.code l.low l.high
-
-abbrev pub decreases-loop-low : goal.decreases-loop-low
-decreases-loop-low g l = l.high - l.low

@@ -1,2 +1,0 @@
-pub mod OutletLemmas
-pub mod SinkLemmas

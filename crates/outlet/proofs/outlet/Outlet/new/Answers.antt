@@ -1,6 +1,0 @@
-use Rattle.std.proofs.Common.{refl}
-use Rattle.outlet.proofs.OutletLemmas.{sent_none}
-use Rattle.outlet.proofs.outlet.Outlet.new.Goals as goal
-
-pub returns-clause-sent : goal.returns-clause-sent
-returns-clause-sent g c told = sent_none (g.W.Write.contents c.args.writer) 0 refl told

@@ -1,0 +1,2 @@
+pub mod Inlet
+pub mod Outlet

@@ -1,0 +1,8 @@
+//! Where bytes come from and go to: a reader, a writer, and what is known of each, this project's own.
+#![tactic(auto)]
+
+mod inlet;
+mod outlet;
+
+pub use crate::inlet::{Inlet, ReadError};
+pub use crate::outlet::{Outlet, WriteFault};

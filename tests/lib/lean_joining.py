@@ -1,0 +1,108 @@
+"""A small join of lean cuts, apart from the program: the bytes that `fontcut join --lean` has to write, or why it writes
+none.
+
+It follows docs/FORMAT.md and the definition of lean cuts: of `hmtx` and `vmtx` two files share what belongs to no
+single glyph, and what belongs to a glyph is compared and united with its outline.
+"""
+from font_cutting import assembled, cmap_table, cut_size, glyf_and_loca, groups_of, outlines, whole_map
+from font_joining import copied, different, file_refusal, kept
+from font_reading import KEPT, MAX_FILE, tables_of, tag_text
+from lean_cutting import cleared, entry, is_lean_cut, pairs_in, without_names
+
+METRICS = ((b"hhea", b"hmtx"), (b"vhea", b"vmtx"))
+
+
+def shared(file):
+    """By tag what two lean cuts of one font have in common of their copied tables."""
+    tables, glyphs = copied(file), len(outlines(file))
+    for header, name in METRICS:
+        if name in tables:
+            tables[name] = cleared(tables[name], pairs_in(tables, header, name, glyphs), glyphs, ())
+    if b"post" in tables:
+        tables[b"post"] = without_names(tables[b"post"])
+    return tables
+
+
+def kept_with_metrics(file):
+    """By number the outlines of the kept glyphs, each with what the tables of metrics have of that glyph alone."""
+    tables, glyphs = tables_of(file), len(outlines(file))
+    found = {glyph: [outline] for glyph, outline in kept(file).items()}
+    for header, name in METRICS:
+        pairs = pairs_in(tables, header, name, glyphs)
+        for glyph in found if pairs else ():
+            place, size = entry(pairs, glyph)
+            found[glyph].append(tables[name][place:place + size])
+    return found
+
+
+def different_table(first, second):
+    """The least tag of a table of which two lean cuts do not share what they should, or None."""
+    first, second = shared(first), shared(second)
+    return next((tag for tag in KEPT if first.get(tag) != second.get(tag)), None)
+
+
+def difference_refusal(first, second):
+    """The number and text of what tells two lean cuts apart first, or None."""
+    tag = different_table(first, second)
+    if tag is not None:
+        return 21, f"different table {tag_text(tag)}"
+    code = different(whole_map(first), whole_map(second))
+    if code is not None:
+        return 22, f"different mapping U+{code:04X}"
+    glyph = different(kept_with_metrics(first), kept_with_metrics(second))
+    return None if glyph is None else (23, f"different glyph {glyph}")
+
+
+def with_metrics(table, other, pairs, glyphs):
+    """A table of metrics with what another one has of these glyphs."""
+    made = bytearray(table)
+    for glyph in glyphs if pairs else ():
+        place, size = entry(pairs, glyph)
+        made[place:place + size] = other[place:place + size]
+    return bytes(made)
+
+
+def joined_tables(first, second):
+    """The tables of the join of two lean cuts that nothing tells apart, by tag."""
+    tables, others, glyphs = tables_of(first), tables_of(second), len(outlines(first))
+    for header, name in METRICS:
+        if name in tables:
+            pairs = pairs_in(tables, header, name, glyphs)
+            tables[name] = with_metrics(tables[name], others[name], pairs, kept(second))
+    tables[b"cmap"] = cmap_table(groups_of({**whole_map(first), **whole_map(second)}))
+    records = {**kept(first), **kept(second)}
+    tables[b"glyf"], tables[b"loca"] = glyf_and_loca([records.get(glyph, b"") for glyph in range(glyphs)],
+                                                     records.keys())
+    return tables
+
+
+def join_refusal(first, second):
+    """The number and text of the first refusal of a join of two files that applies, or None."""
+    refused = file_refusal(first) or file_refusal(second)
+    if refused:
+        return refused
+    for name, file in ("first", first), ("second", second):
+        if not is_lean_cut(file):
+            return 20, f"not a cut: {name}"
+    refused = difference_refusal(first, second)
+    if refused:
+        return refused
+    size = cut_size(joined_tables(first, second))
+    return (18, f"too large {size}") if size > MAX_FILE else None
+
+
+def join(first, second):
+    """The join of two lean cuts that is not refused."""
+    return assembled(joined_tables(first, second))
+
+
+def join_all(files):
+    """The join of one file or more, and no line; or none, and the line that says why. The first file is joined with
+    itself, and what comes of it with each next one."""
+    joined = files[0]
+    for step, file in enumerate(files):
+        refused = join_refusal(joined, file)
+        if refused:
+            return None, "fontcut: file {}: refused {} {}\n".format(step + 1, *refused)
+        joined = join(joined, file)
+    return joined, None
