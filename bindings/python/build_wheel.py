@@ -1,0 +1,135 @@
+"""Builds the wheel, with the library inside: the build backend that pyproject.toml names (PEP 517).
+
+The library is the file that the variable FONTCUT_LIBRARY names; where that is not set, it is what `bindings/c/build` of
+the checkout makes. The platform in the wheel's name is the oldest one that has what the library needs (PEP 600). With
+SOURCE_DATE_EPOCH as the time of all files, the same files give the same bytes. It needs Python 3.11, for `tomllib`, and
+`objdump`.
+"""
+import base64
+import hashlib
+import os
+import re
+import subprocess
+import time
+import tomllib
+import zipfile
+
+HERE = os.path.dirname(os.path.abspath(__file__))
+# A module of one file cannot say that it has types (PEP 561), so each becomes a package in the wheel.
+MODULES = ["fontcut", "fontcut_pdf"]
+# What `python3 -m` runs of a package whose module is a program.
+PROGRAM = '"""Runs the program of this package."""\nimport sys\n\nfrom . import main\n\nsys.exit(main())\n'
+# No installer knows a platform of an older C library by its number.
+OLDEST = 17
+# 1980, where the time of files in a zip begins.
+FIRST_TIME = 315532800
+
+
+class UnsupportedOperation(Exception):
+    """What a backend raises that makes no archive of sources (PEP 517)."""
+
+
+def text_of(name):
+    with open(os.path.join(HERE, name), encoding="utf-8") as opened:
+        return opened.read()
+
+
+def library():
+    """The path of the shared library."""
+    named = os.environ.get("FONTCUT_LIBRARY")
+    if named:
+        return named
+    build = os.path.join(HERE, "..", "c", "build")
+    return subprocess.run([build], check=True, stdout=subprocess.PIPE, text=True).stdout.splitlines()[1]
+
+
+def platform_of(path):
+    """The platform that a library asks for: its processor, and the greatest version of the C library among those that it
+    needs."""
+    told = subprocess.run(["objdump", "-f", "-p", path], check=True, stdout=subprocess.PIPE, text=True,
+                          env={**os.environ, "LC_ALL": "C"}).stdout
+    needed = set(re.findall(r"^ +NEEDED +(\S+)$", told, re.M))
+    versions = re.findall(r"^ +0x[0-9a-f]+ 0x[0-9a-f]+ \d+ (\S+)$", told, re.M)
+    wanted = [re.fullmatch(r"GLIBC_2\.(\d+)(?:\.\d+)?", version) for version in versions]
+    if "elf64-x86-64" not in told or not needed <= {"libc.so.6"} or not all(wanted):
+        raise ValueError(f"{path}: no tag of a platform is known for {sorted(needed)}, {sorted(set(versions))}")
+    return f"manylinux_2_{max([OLDEST, *(int(version[1]) for version in wanted)])}_x86_64"
+
+
+def project():
+    """What pyproject.toml says of the project, and its version."""
+    said = tomllib.loads(text_of("pyproject.toml"))["project"]
+    return {**said, "version": re.search(r'^__version__ = "(.*)"$', text_of("fontcut.py"), re.M)[1]}
+
+
+def metadata(said):
+    """The file METADATA of the wheel."""
+    lines = ["Metadata-Version: 2.1", f"Name: {said['name']}", f"Version: {said['version']}",
+             f"Summary: {said['description']}", f"Requires-Python: {said['requires-python']}"]
+    lines += [f"Classifier: {name}" for name in said["classifiers"]]
+    for extra, packages in said["optional-dependencies"].items():
+        lines += [f"Provides-Extra: {extra}", *(f"Requires-Dist: {package}; extra == '{extra}'" for package in packages)]
+    return "\n".join([*lines, "Description-Content-Type: text/markdown", "", text_of(said["readme"])])
+
+
+def packages():
+    """The packages of the modules that are there: a path and bytes for each file."""
+    held = {}
+    for name in MODULES:
+        if os.path.exists(os.path.join(HERE, f"{name}.py")):
+            text = text_of(f"{name}.py")
+            held[f"{name}/__init__.py"], held[f"{name}/py.typed"] = text.encode(), b""
+            if "\nif __name__ == " in text:
+                held[f"{name}/__main__.py"] = PROGRAM.encode()
+    return held
+
+
+def files(said, tag, shared):
+    """What the wheel holds but for its list of files, in the order in which it stands, and the path of that list."""
+    held, info = packages(), f"{said['name']}-{said['version']}.dist-info"
+    scripts = [f"{name} = {call}\n" for name, call in said["scripts"].items()
+               if f"{call.partition(':')[0]}/__init__.py" in held]
+    with open(shared, "rb") as opened:
+        held["fontcut/libfontcut.so.0"] = opened.read()
+    held = dict(sorted(held.items()))
+    held[f"{info}/METADATA"] = metadata(said).encode()
+    held[f"{info}/WHEEL"] = f"Wheel-Version: 1.0\nGenerator: fontcut\nRoot-Is-Purelib: false\nTag: {tag}\n".encode()
+    if scripts:
+        held[f"{info}/entry_points.txt"] = "".join(["[console_scripts]\n", *scripts]).encode()
+    return held, f"{info}/RECORD"
+
+
+def record(held, path):
+    """The list of files, with the sum and the length of each."""
+    rows = []
+    for name, data in held.items():
+        digest = base64.urlsafe_b64encode(hashlib.sha256(data).digest()).rstrip(b"=").decode()
+        rows.append(f"{name},sha256={digest},{len(data)}\n")
+    return "".join([*rows, f"{path},,\n"]).encode()
+
+
+def put(archive, name, data):
+    """Adds a file, whose time and mode are not those of a file on the disk."""
+    epoch = max(FIRST_TIME, int(os.environ.get("SOURCE_DATE_EPOCH", time.time())))
+    entry = zipfile.ZipInfo(name, time.gmtime(epoch)[:6])
+    entry.create_system = 3
+    entry.external_attr = (0o100755 if name.endswith(".so.0") else 0o100644) << 16
+    entry.compress_type = zipfile.ZIP_DEFLATED
+    archive.writestr(entry, data)
+
+
+def build_wheel(wheel_directory, config_settings=None, metadata_directory=None):
+    """Makes the wheel in a folder, and returns its name (PEP 517)."""
+    shared, said = library(), project()
+    tag = f"py3-none-{platform_of(shared)}"
+    held, listed = files(said, tag, shared)
+    name = f"{said['name']}-{said['version']}-{tag}.whl"
+    with zipfile.ZipFile(os.path.join(wheel_directory, name), "w") as archive:
+        for path, data in {**held, listed: record(held, listed)}.items():
+            put(archive, path, data)
+    return name
+
+
+def build_sdist(sdist_directory, config_settings=None):
+    """Refuses: the library is built from the checkout, by its own toolchain."""
+    raise UnsupportedOperation("the library is built from the checkout of fontcut, not from an archive of this folder")

@@ -1,0 +1,118 @@
+//! The calls of `fontcut.h`, as the header declares them.
+use crate::numbers::{Info, Metric};
+
+#[repr(C)]
+#[derive(Clone, Copy, Debug, PartialEq, Eq)]
+pub(crate) struct Range {
+    pub(crate) first: u32,
+    pub(crate) last: u32,
+}
+
+#[repr(C)]
+#[derive(Clone, Copy)]
+pub(crate) struct Bytes {
+    pub(crate) at: *const u8,
+    pub(crate) length: usize,
+}
+
+#[repr(C)]
+#[derive(Clone, Copy, Debug)]
+pub(crate) struct Answer {
+    pub(crate) status: u32,
+    pub(crate) detail: u32,
+    pub(crate) size: u64,
+    pub(crate) step: u64,
+}
+
+pub(crate) const DONE: u32 = 0;
+pub(crate) const SMALL_ROOM: u32 = 100;
+pub(crate) const NO_GLYPH: u32 = 102;
+
+extern "C" {
+    pub(crate) fn fontcut_check(font: *const u8, font_length: usize) -> Answer;
+    pub(crate) fn fontcut_subset_size(
+        kind: u32,
+        font: *const u8,
+        font_length: usize,
+        ranges: *const Range,
+        range_count: usize,
+    ) -> Answer;
+    pub(crate) fn fontcut_subset(
+        kind: u32,
+        font: *const u8,
+        font_length: usize,
+        ranges: *const Range,
+        range_count: usize,
+        out: *mut u8,
+        room: usize,
+    ) -> Answer;
+    pub(crate) fn fontcut_cut_form(kind: u32, font: *const u8, font_length: usize) -> Answer;
+    pub(crate) fn fontcut_belongs(
+        kind: u32,
+        cut: *const u8,
+        cut_length: usize,
+        font: *const u8,
+        font_length: usize,
+    ) -> Answer;
+    pub(crate) fn fontcut_join(
+        kind: u32,
+        files: *const Bytes,
+        file_count: usize,
+        out: *mut u8,
+        room: usize,
+    ) -> Answer;
+    pub(crate) fn fontcut_codes(
+        font: *const u8,
+        font_length: usize,
+        out: *mut Range,
+        room: usize,
+    ) -> Answer;
+    pub(crate) fn fontcut_glyphs(
+        font: *const u8,
+        font_length: usize,
+        codes: *const u32,
+        code_count: usize,
+        out: *mut u16,
+        room: usize,
+    ) -> Answer;
+    pub(crate) fn fontcut_metrics(
+        font: *const u8,
+        font_length: usize,
+        glyphs: *const u16,
+        glyph_count: usize,
+        out: *mut Metric,
+        room: usize,
+    ) -> Answer;
+    pub(crate) fn fontcut_info(font: *const u8, font_length: usize, info: *mut Info) -> Answer;
+    pub(crate) fn fontcut_version() -> u32;
+    pub(crate) fn fontcut_refusal_text(answer: Answer, out: *mut u8, room: usize) -> Answer;
+}
+
+/// Fills a vector by a call that writes to a room and says how much it wrote, or needs.
+///
+/// # Safety
+///
+/// Where it is given a place and a room, `call` writes to no more than so many elements from that place on, and
+/// where it answers `DONE` it has written the first `size` of them.
+pub(crate) unsafe fn filled<T>(
+    room: usize,
+    call: impl Fn(*mut T, usize) -> Answer,
+) -> Result<Vec<T>, Answer> {
+    let mut out: Vec<T> = Vec::with_capacity(room);
+    let mut answer = call(out.as_mut_ptr(), out.capacity());
+    if answer.status == SMALL_ROOM {
+        out = Vec::with_capacity(length(answer.size));
+        answer = call(out.as_mut_ptr(), out.capacity());
+    }
+    if answer.status != DONE {
+        return Err(answer);
+    }
+    // SAFETY: the call has written so many elements, as its caller here promises.
+    unsafe { out.set_len(length(answer.size)) };
+    Ok(out)
+}
+
+/// A size that the library has told, which is never above that of a file.
+pub(crate) fn length(size: u64) -> usize {
+    usize::try_from(size).expect("a file has fewer than 2^31 bytes")
+}

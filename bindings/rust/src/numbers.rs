@@ -1,0 +1,56 @@
+//! Numbers of a font, and of its glyphs.
+use std::error::Error;
+use std::fmt;
+
+/// The metrics of a glyph, in font units.
+#[repr(C)]
+#[derive(Clone, Copy, Debug, Default, PartialEq, Eq, Hash)]
+pub struct Metric {
+    /// The advance width.
+    pub advance: u16,
+    /// The left side bearing.
+    pub bearing: i16,
+}
+
+/// The numbers of a whole font, as its `maxp`, `head` and `hhea` have them. All but the first two are in font units.
+#[repr(C)]
+#[derive(Clone, Copy, Debug, Default, PartialEq, Eq, Hash)]
+pub struct Info {
+    /// How many glyphs there are, 1 at least: their numbers are those below it.
+    pub glyph_count: u16,
+    /// How many font units an em has.
+    pub units_per_em: u16,
+    /// The left side of the box that holds all outlines.
+    pub x_min: i16,
+    /// The lower side of that box.
+    pub y_min: i16,
+    /// The right side of that box.
+    pub x_max: i16,
+    /// The upper side of that box.
+    pub y_max: i16,
+    /// How far a line goes above its baseline.
+    pub ascender: i16,
+    /// How far a line goes below its baseline, as a number below 0 in most fonts.
+    pub descender: i16,
+}
+
+/// A number was given for a glyph that is none of the font's.
+#[derive(Clone, Copy, Debug, PartialEq, Eq, Hash)]
+pub struct NoGlyph {
+    /// Where it stands among those that were given, from 0.
+    pub index: usize,
+    /// The number.
+    pub glyph: u16,
+}
+
+impl fmt::Display for NoGlyph {
+    fn fmt(&self, f: &mut fmt::Formatter<'_>) -> fmt::Result {
+        write!(
+            f,
+            "item {}: the font has no glyph {}",
+            self.index, self.glyph
+        )
+    }
+}
+
+impl Error for NoGlyph {}

@@ -1,0 +1,135 @@
+//! The calls over DejaVu Sans, where it is there: cuts of both kinds, their forms, joins and refusals.
+use fontcut::{join, version, Argument, Error, Font, Form, Kind, NoGlyph, Ranges};
+
+const DEJAVU: &str = "/usr/share/fonts/truetype/dejavu/DejaVuSans.ttf";
+
+fn letters(text: &str) -> Ranges {
+    text.chars().collect()
+}
+
+fn dejavu() -> Option<Vec<u8>> {
+    std::fs::read(DEJAVU).ok()
+}
+
+#[test]
+fn cuts_and_joins() -> Result<(), Error> {
+    let file = match dejavu() {
+        Some(file) => file,
+        None => return Ok(()),
+    };
+    let font = Font::new(&file)?;
+    for kind in [Kind::Full, Kind::Lean] {
+        let (one, two) = (
+            font.cut(kind, &letters("Hello"))?,
+            font.cut(kind, &letters("world"))?,
+        );
+        assert_eq!(font.cut_size(kind, &letters("Hello"))?, one.len() as u64);
+        let both = join(kind, [&two, &one])?;
+        assert_eq!(
+            both,
+            font.cut(
+                kind,
+                &letters("Hello world")
+                    .iter()
+                    .filter(|it| *it.start() != 0x20)
+                    .collect()
+            )?
+        );
+        let cut = Font::new(&both)?;
+        assert_eq!((both.kind(), both.font().bytes()), (kind, cut.bytes()));
+        assert_eq!(Vec::from(both.clone()), both.clone().into_bytes());
+        assert_eq!(cut.form(kind)?, Some(Form::Current));
+        assert!(cut.is_cut_of(kind, &font)?);
+        assert!(!font.is_cut_of(kind, &cut)?);
+        assert_eq!(cut.codes()?, letters("Helowrd"));
+    }
+    assert_eq!(font.form(Kind::Full)?, None);
+    Ok(())
+}
+
+#[test]
+fn a_lean_cut_joins_with_lean_cuts_alone() -> Result<(), Error> {
+    let file = match dejavu() {
+        Some(file) => file,
+        None => return Ok(()),
+    };
+    let font = Font::new(&file)?;
+    let (lean, full) = (
+        font.cut(Kind::Lean, &letters("a"))?,
+        font.cut(Kind::Full, &letters("b"))?,
+    );
+    let refused = join(Kind::Lean, [&lean, &full]).unwrap_err();
+    assert_eq!(
+        (refused.number(), refused.text(), refused.file()),
+        (20, "not a cut: second", Some(1))
+    );
+    assert_eq!(refused.to_string(), "file 1: not a cut: second");
+    let refused = join(Kind::Full, [&lean, &full]).unwrap_err();
+    assert_eq!(
+        (refused.number(), refused.argument()),
+        (21, Argument::Table(*b"hmtx"))
+    );
+    Ok(())
+}
+
+#[test]
+fn refusals() {
+    let refused = Font::new(b"no font").unwrap_err();
+    assert_eq!(
+        (refused.number(), refused.text(), refused.argument()),
+        (2, "truncated", Argument::File)
+    );
+    let refused = join(Kind::Full, Vec::<Vec<u8>>::new()).unwrap_err();
+    assert_eq!(
+        (refused.number(), refused.text(), refused.file()),
+        (24, "nothing to join", None)
+    );
+}
+
+#[test]
+fn numbers_of_a_font_and_its_glyphs() -> Result<(), Box<dyn std::error::Error>> {
+    let file = match dejavu() {
+        Some(file) => file,
+        None => return Ok(()),
+    };
+    let font = Font::new(&file)?;
+    let count = font.info().glyph_count;
+    let last = font.metrics(&[count - 1])?;
+    assert_eq!(font.metrics(&[count - 1, 0])?[0], last[0]);
+    for (given, index) in [(vec![count], 0), (vec![0, u16::MAX, count], 1)] {
+        let glyph = given[index];
+        assert_eq!(font.metrics(&given).unwrap_err(), NoGlyph { index, glyph });
+    }
+    assert_eq!(
+        NoGlyph { index: 1, glyph: 9 }.to_string(),
+        "item 1: the font has no glyph 9"
+    );
+    assert!(font.glyphs(Vec::<char>::new()).is_empty());
+    assert_eq!(font.metrics(&[])?, []);
+    assert_eq!(font.glyphs([u32::MAX, 0xD800, 0x11_0000]), [0, 0, 0]);
+    Ok(())
+}
+
+#[test]
+fn the_version_is_that_of_the_crate() {
+    let (first, second, third) = version();
+    assert_eq!(
+        format!("{first}.{second}.{third}"),
+        env!("CARGO_PKG_VERSION")
+    );
+}
+
+#[test]
+fn sets_of_codes() {
+    let mut set = letters("acb");
+    assert_eq!(set.iter().collect::<Vec<_>>(), [0x61..=0x63]);
+    set.insert(0x65..=0x70);
+    set.insert(0x64..=0x64);
+    assert_eq!(set.to_string(), "U+61-70");
+    set.insert(0x10_FFF0..=u32::MAX);
+    assert!(set.contains(0x10_FFFF) && set.contains(0x70) && !set.contains(0x71));
+    assert_eq!(Ranges::all().iter().collect::<Vec<_>>(), [0..=0x10_FFFF]);
+    #[allow(clippy::reversed_empty_ranges)]
+    set.insert(9..=1);
+    assert_eq!(set.to_string(), "U+61-70, U+10FFF0-10FFFF");
+}

@@ -1,0 +1,80 @@
+# Completion of the command line of fontcut for fish. It needs no other file.
+
+set -g __fontcut_commands check show codes belongs subset join demo help
+
+# Prints the options of a command; those of every command where it has no other.
+function __fontcut_options
+    switch "$argv[1]"
+        case ''
+            printf '%s\n' --verbose --version --help
+        case subset
+            printf '%s\n' --text --text-file --codes-file --unicodes --exclude --exclude-file
+            printf '%s\n' --report --strict --lean --verbose --help
+        case belongs join
+            printf '%s\n' --lean --verbose --help
+        case '*'
+            printf '%s\n' --verbose --help
+    end
+end
+
+# Prints what the operand may be that has this number behind a command, counted from 1.
+function __fontcut_operand -a name number word
+    switch $name
+        case join
+            __fish_complete_path $word
+        case belongs
+            test $number -le 2; and __fish_complete_path $word
+        case subset
+            if test $number -le 2
+                __fish_complete_path $word
+            else
+                echo all
+            end
+        case check show codes
+            test $number = 1; and __fish_complete_path $word
+        case help
+            test $number = 1; and printf '%s\n' $__fontcut_commands
+    end
+end
+
+# Prints what the word may be that is completed.
+function __fontcut_complete
+    set -l words (commandline -opc)
+    set -l word (commandline -ct)
+    set -l name ''
+    set -l option ''
+    set -l number 1
+    set -l ended false
+    # The words before that one: the command, how many operands follow it, and the option whose value comes next.
+    for before in $words[2..-1]
+        if test -n "$option"
+            set option ''
+        else if test $ended = false -a "$before" = --
+            set ended true
+        else if test $ended = false; and string match -q -r -- '^--(text|(text|codes|exclude)-file|unicodes|exclude)$' $before
+            set option $before
+        else if test $ended = false; and string match -q -- '-?*' $before
+            continue
+        else if test -z "$name"
+            set name $before
+        else
+            set number (math $number + 1)
+        end
+    end
+    if contains -- "$option" --text --unicodes --exclude
+        return
+    else if test -n "$option"
+        __fish_complete_path $word
+    else if test $ended = false; and string match -q -r -- '^--(text|codes|exclude)-file=' $word
+        set -l parts (string split -m 1 = -- $word)
+        printf '%s\n' $parts[1]=(__fish_complete_path $parts[2])
+    else if test $ended = false; and string match -q -- '-*' $word
+        __fontcut_options $name
+    else if test -z "$name"
+        printf '%s\n' $__fontcut_commands
+    else
+        __fontcut_operand $name $number $word
+    end
+end
+
+complete -c fontcut -f -a '(__fontcut_complete)'
