@@ -1,0 +1,127 @@
+#!/usr/bin/env python3
+"""Joins cuts of one font at the workers of a cluster that Dask runs:
+
+    merge.py [--lean] [--group N] SCHEDULER OUT CUTS..
+
+A task reads and joins at most N files, or joins what as many tasks gave back, until one join is left. Workers
+find each file by the same path as this machine. OUT is replaced when the join is complete. Statuses, as of
+`fontcut join`: 0 done; 1 refused, or memory was refused; 2 the command line is at fault; 3 a file cannot be
+read or written, or the cluster does not answer.
+"""
+import argparse
+import functools
+import logging
+import os
+import sys
+import tempfile
+from typing import Callable, List, NamedTuple, Sequence, Tuple, Union
+
+import fontcut
+from distributed import Client, Future
+
+# What a task gives back: a cut, or the status and the text of why there is none. Where several tasks have
+# none, the first in the order of CUTS is passed on; of exceptions it would be whichever came first.
+Part = Union[bytes, Tuple[int, str]]
+
+
+class Node(NamedTuple):
+    """A task of the tree: the first and the last of its files, and what it will give back."""
+
+    first: str
+    last: str
+    part: Future
+
+    def name(self) -> str:
+        return self.first if self.first == self.last else f"{self.first} to {self.last}"
+
+
+def join_parts(names: Sequence[str], parts: Sequence[Part], lean: bool) -> Part:
+    """The join of parts, or the first of them that is no cut. The names say of which files each is made."""
+    for part in parts:
+        if not isinstance(part, bytes):
+            return part
+    try:
+        return fontcut.join(parts, lean=lean)
+    except fontcut.Refused as refused:
+        return 1, f"{names[refused.file]}: refused {refused.number} {refused.text}"
+    except MemoryError:
+        return 1, "no memory"
+
+
+def read(path: str) -> Part:
+    try:
+        with open(path, "rb") as file:
+            return file.read()
+    except OSError as error:
+        return 3, f"cannot read {path}: {error.strerror}"
+
+
+def join_files(paths: Sequence[str], lean: bool) -> Part:
+    """The join of files, which the worker reads."""
+    return join_parts(paths, [read(path) for path in paths], lean)
+
+
+def grouped(items: Sequence, size: int) -> List[Sequence]:
+    return [items[at:at + size] for at in range(0, len(items), size)]
+
+
+def merged(submit: Callable[..., Future], paths: Sequence[str], lean: bool, size: int) -> Future:
+    """What the last task of a tree gives back, the part of all files. Each task is handed to `submit`."""
+    nodes = [Node(some[0], some[-1], submit(join_files, some, lean)) for some in grouped(paths, size)]
+    while len(nodes) > 1:
+        nodes = [Node(some[0].first, some[-1].last,
+                      submit(join_parts, [node.name() for node in some], [node.part for node in some], lean))
+                 for some in grouped(nodes, size)]
+    return nodes[0].part
+
+
+def replace(out: str, data: bytes) -> None:
+    """Gives OUT these bytes: a file beside it takes its name when all of them are written."""
+    folder = os.path.dirname(os.path.abspath(out))
+    with tempfile.TemporaryDirectory(prefix=".merge-", dir=folder) as beside:
+        made = os.path.join(beside, "made")
+        with open(made, "wb") as file:
+            file.write(data)
+        os.replace(made, out)
+
+
+def connected(scheduler: str) -> Client:
+    """A client of the scheduler."""
+    # Or asyncio writes to standard error, now and then, what Dask did not wait for when it closed a client.
+    logging.getLogger("asyncio").setLevel(logging.CRITICAL)
+    return Client(scheduler, set_as_default=False)
+
+
+def parsed() -> argparse.Namespace:
+    parser = argparse.ArgumentParser(prog="merge.py", fromfile_prefix_chars="@")
+    parser.add_argument("--lean", action="store_true", help="CUTS are lean cuts")
+    parser.add_argument("--group", type=int, default=50, help="how many cuts a task joins at most: 2 or more")
+    parser.add_argument("scheduler", metavar="SCHEDULER", help="its address, such as tcp://10.0.0.1:8786")
+    parser.add_argument("out", metavar="OUT")
+    parser.add_argument("cuts", metavar="CUTS", nargs="+", help="@LIST stands for the lines of the file LIST")
+    words = parser.parse_args()
+    if words.group < 2:
+        parser.error("a task joins 2 cuts or more")
+    return words
+
+
+def main() -> int:
+    words = parsed()
+    paths = [os.path.abspath(path) for path in words.cuts]
+    try:
+        with connected(words.scheduler) as client:
+            # A file may have changed since the last run, so no task is taken for one of an earlier run.
+            submit = functools.partial(client.submit, pure=False)
+            part = merged(submit, paths, words.lean, words.group).result()
+        if isinstance(part, bytes):
+            replace(words.out, part)
+            return 0
+        status, text = part
+    except Exception as error:  # of this system, or one of the cluster's own
+        status, text = 3, f"{type(error).__name__}: {error}"
+    print("merge.py:", text.replace("\n", " "), file=sys.stderr)
+    return status
+
+
+if __name__ == "__main__":
+    sys.exit(main())

@@ -1,0 +1,139 @@
+"""Serves cuts of the fonts of a folder: a WSGI application over the module `fontcut` and the standard library.
+
+    GET /NAME.ttf?unicodes=U+20-7E,U+A0    the cut of the font NAME.ttf for these code points
+    GET /NAME.ttf?text=Hello               for these characters
+    GET /NAME.ttf?unicodes=U+20-7E&lean=1  the lean cut
+
+The variable FONTS names the folder. Each worker maps its fonts when it starts, and tests each once. What is asked for
+names a font among those; no path from outside is opened. An answer is decided by the font's bytes, the kind and the
+set, so its ETag is made of these, and caches may keep it for ever.
+"""
+import hashlib
+import mmap
+import os
+import re
+import urllib.parse
+from typing import Dict, Iterable, List, NamedTuple, Optional, Tuple
+
+import fontcut
+
+LONGEST_QUERY = 8192
+RANGE = re.compile(r"[Uu]\+([0-9A-Fa-f]{1,6})(?:-([0-9A-Fa-f]{1,6}))?")
+FOREVER = ("Cache-Control", "public, max-age=31536000, immutable")
+
+Range = Tuple[int, int]
+
+
+class Font(NamedTuple):
+    """The bytes of a font, their digest, and why it is refused, if it is."""
+
+    data: mmap.mmap
+    digest: str
+    refusal: Optional[str]
+
+
+class Answer(Exception):
+    """An answer that is no cut: its status and its text."""
+
+    def __init__(self, status: str, text: str):
+        super().__init__(text)
+        self.status = status
+        self.text = text
+
+
+def opened(path: str) -> Font:
+    with open(path, "rb") as file:
+        data = mmap.mmap(file.fileno(), 0, access=mmap.ACCESS_READ)
+    try:
+        fontcut.check(data)
+        refusal = None
+    except fontcut.Refused as refused:
+        refusal = refused.text
+    return Font(data, hashlib.sha256(data).hexdigest(), refusal)
+
+
+def fonts_of(folder: str) -> Dict[str, Font]:
+    """The fonts of a folder by their names."""
+    return {entry.name: opened(entry.path) for entry in os.scandir(folder)
+            if entry.is_file() and entry.name.endswith(".ttf") and entry.stat().st_size}
+
+
+def merged(ranges: Iterable[Range]) -> List[Range]:
+    """The same set as ranges in ascending order, none of which touch."""
+    made: List[Range] = []
+    for first, last in sorted(ranges):
+        if made and first <= made[-1][1] + 1:
+            made[-1] = made[-1][0], max(last, made[-1][1])
+        else:
+            made.append((first, last))
+    return made
+
+
+def range_of(word: str) -> Range:
+    found = RANGE.fullmatch(word)
+    first, last = (int(found[1], 16), int(found[2] or found[1], 16)) if found else (1, 0)
+    if not first <= last <= 0x10FFFF:
+        raise Answer("400 Bad Request", f"bad word {word}")
+    return first, last
+
+
+def wanted_by(query: str) -> Tuple[List[Range], bool]:
+    """The set that a query asks for, and whether as a lean cut."""
+    if len(query) > LONGEST_QUERY:
+        raise Answer("414 URI Too Long", f"a query has {LONGEST_QUERY} characters at most")
+    try:
+        # In a query, a plus sign that is not written as %2B stands for a blank.
+        asked = urllib.parse.parse_qs(query, keep_blank_values=True, strict_parsing=bool(query), errors="strict",
+                                      max_num_fields=8)
+    except ValueError:
+        raise Answer("400 Bad Request", "bad query") from None
+    if not asked.keys() <= {"unicodes", "text", "lean"} or not asked.keys() & {"unicodes", "text"}:
+        raise Answer("400 Bad Request", "a query has unicodes or text, and may have lean")
+    words = [re.sub(r"^([Uu]) ", r"\1+", word.strip()) for value in asked.get("unicodes", ())
+             for word in value.split(",") if word.strip()]
+    letters = {ord(letter) for value in asked.get("text", ()) for letter in value}
+    return merged([*map(range_of, words), *((code, code) for code in letters)]), asked.get("lean", ["0"])[-1] == "1"
+
+
+class Application:
+    """The WSGI application."""
+
+    def __init__(self, folder: str):
+        self.fonts = fonts_of(folder)
+
+    def __call__(self, environ, start_response):
+        head = environ["REQUEST_METHOD"] == "HEAD"
+        try:
+            status, headers, body = self.answer(environ)
+        except Answer as answer:
+            status, body = answer.status, (answer.text + "\n").encode()
+            headers = [("Content-Type", "text/plain; charset=utf-8"), ("Cache-Control", "no-store")]
+        if body is not None:
+            headers.append(("Content-Length", str(len(body))))
+        start_response(status, headers)
+        return [] if head or body is None else [body]
+
+    def answer(self, environ):
+        """The status, headers and body of an answer; of a cut that the client has, no body."""
+        if environ["REQUEST_METHOD"] not in ("GET", "HEAD"):
+            raise Answer("405 Method Not Allowed", "GET and HEAD are answered")
+        font = self.fonts.get(environ.get("PATH_INFO", "").lstrip("/"))
+        if font is None:
+            raise Answer("404 Not Found", "there is no such font")
+        wanted, lean = wanted_by(environ.get("QUERY_STRING", ""))
+        if font.refusal:
+            raise Answer("502 Bad Gateway", f"the font is refused: {font.refusal}")
+        tag = hashlib.sha256(f"{font.digest} {lean} {wanted}".encode()).hexdigest()
+        headers = [("ETag", f'"{tag}"'), FOREVER, ("Content-Type", "font/ttf"), ("Access-Control-Allow-Origin", "*")]
+        if f'"{tag}"' in environ.get("HTTP_IF_NONE_MATCH", ""):
+            return "304 Not Modified", headers, None
+        try:
+            return "200 OK", headers, fontcut.cut(font.data, wanted, lean=lean)
+        except fontcut.Refused as refused:
+            raise Answer("502 Bad Gateway", f"the cut is refused: {refused.text}") from None
+        except MemoryError:
+            raise Answer("503 Service Unavailable", "no memory") from None
+
+
+if "FONTS" in os.environ:
+    application = Application(os.environ["FONTS"])
