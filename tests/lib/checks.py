@@ -113,8 +113,9 @@ def built_library(*words):
 
 
 def run(*words, **how):
-    """Runs a program: its status, standard output and standard error."""
-    how = {"stdin": subprocess.DEVNULL, "timeout": 60, **how}
+    """Runs a program: its status, standard output and standard error. One that still runs after minutes is stuck, on a
+    busy machine too."""
+    how = {"stdin": subprocess.DEVNULL, "timeout": 300, **how}
     ran = subprocess.run(words, capture_output=True, check=False, **how)
     return ran.returncode, ran.stdout, ran.stderr
 

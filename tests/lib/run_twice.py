@@ -8,7 +8,7 @@ import sys
 
 import merge
 
-SECONDS = 60
+SECONDS = 300  # until a task counts as stuck, on a busy machine too
 
 
 def agreed(one, other):
