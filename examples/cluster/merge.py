@@ -4,14 +4,15 @@
     merge.py [--lean] [--group N] SCHEDULER OUT CUTS..
 
 A task reads and joins at most N files, or joins what as many tasks gave back, until one join is left. Workers
-find each file by the same path as this machine. OUT is replaced when the join is complete. Statuses, as of
-`fontcut join`: 0 done; 1 refused, or memory was refused; 2 the command line is at fault; 3 a file cannot be
+find each file by the same path as this machine. OUT is replaced when the join is complete, and keeps its mode; a
+link is followed, and a device or a pipe is written to. Statuses, as of `fontcut join`: 0 done; 1 refused, or memory was refused; 2 the command line is at fault; 3 a file cannot be
 read or written, or the cluster does not answer.
 """
 import argparse
 import functools
 import logging
 import os
+import shutil
 import sys
 import tempfile
 from typing import Callable, List, NamedTuple, Sequence, Tuple, Union
@@ -54,6 +55,8 @@ def read(path: str) -> Part:
             return file.read()
     except OSError as error:
         return 3, f"cannot read {path}: {error.strerror}"
+    except MemoryError:
+        return 1, "no memory"
 
 
 def join_files(paths: Sequence[str], lean: bool) -> Part:
@@ -75,14 +78,24 @@ def merged(submit: Callable[..., Future], paths: Sequence[str], lean: bool, size
     return nodes[0].part
 
 
+def write(path: str, data: bytes) -> None:
+    with open(path, "wb") as file:
+        file.write(data)
+
+
 def replace(out: str, data: bytes) -> None:
-    """Gives OUT these bytes: a file beside it takes its name when all of them are written."""
-    folder = os.path.dirname(os.path.abspath(out))
-    with tempfile.TemporaryDirectory(prefix=".merge-", dir=folder) as beside:
+    """Gives OUT these bytes: a file beside it takes its name when all of them are written. In the place of a device no
+    file may stand, so it is written to."""
+    if os.path.exists(out) and not os.path.isfile(out):
+        write(out, data)
+        return
+    path = os.path.realpath(out)
+    with tempfile.TemporaryDirectory(prefix=".merge-", dir=os.path.dirname(path)) as beside:
         made = os.path.join(beside, "made")
-        with open(made, "wb") as file:
-            file.write(data)
-        os.replace(made, out)
+        write(made, data)
+        if os.path.exists(path):
+            shutil.copymode(path, made)
+        os.replace(made, path)
 
 
 def connected(scheduler: str) -> Client:
