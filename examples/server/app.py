@@ -6,7 +6,7 @@
 
 The variable FONTS names the folder. Each worker maps its fonts when it starts, and tests each once. What is asked for
 names a font among those; no path from outside is opened. An answer is decided by the font's bytes, the kind and the
-set, so its ETag is made of these, and caches may keep it for ever.
+set, so its ETag is made of these. Caches may keep it for ever: a font that changes gets another name.
 """
 import hashlib
 import mmap
@@ -43,7 +43,8 @@ class Answer(Exception):
 
 def opened(path: str) -> Font:
     with open(path, "rb") as file:
-        data = mmap.mmap(file.fileno(), 0, access=mmap.ACCESS_READ)
+        # Bytes that may not be written the module copies for each call. These may be, though nothing writes to them.
+        data = mmap.mmap(file.fileno(), 0, access=mmap.ACCESS_COPY)
     try:
         fontcut.check(data)
         refusal = None
@@ -82,9 +83,9 @@ def wanted_by(query: str) -> Tuple[List[Range], bool]:
     if len(query) > LONGEST_QUERY:
         raise Answer("414 URI Too Long", f"a query has {LONGEST_QUERY} characters at most")
     try:
-        # In a query, a plus sign that is not written as %2B stands for a blank.
-        asked = urllib.parse.parse_qs(query, keep_blank_values=True, strict_parsing=bool(query), errors="strict",
-                                      max_num_fields=8)
+        # WSGI has each byte as a character. A plus sign that is not written as %2B stands for a blank.
+        asked = urllib.parse.parse_qs(query.encode("latin-1").decode(), keep_blank_values=True,
+                                      strict_parsing=bool(query), errors="strict", max_num_fields=8)
     except ValueError:
         raise Answer("400 Bad Request", "bad query") from None
     if not asked.keys() <= {"unicodes", "text", "lean"} or not asked.keys() & {"unicodes", "text"}:
@@ -117,7 +118,7 @@ class Application:
         """The status, headers and body of an answer; of a cut that the client has, no body."""
         if environ["REQUEST_METHOD"] not in ("GET", "HEAD"):
             raise Answer("405 Method Not Allowed", "GET and HEAD are answered")
-        font = self.fonts.get(environ.get("PATH_INFO", "").lstrip("/"))
+        font = self.fonts.get(os.fsdecode(environ.get("PATH_INFO", "").encode("latin-1")).lstrip("/"))
         if font is None:
             raise Answer("404 Not Found", "there is no such font")
         wanted, lean = wanted_by(environ.get("QUERY_STRING", ""))
