@@ -400,7 +400,9 @@ class _Font:
 
     @property
     def name(self) -> str:
-        return str(self.object.get("/BaseFont", "/?"))[1:]
+        """The name as it stands in a file: it may have any bytes, and those that are no letters stand as `#0A`."""
+        name = self.object.get("/BaseFont")
+        return name.unparse()[1:].decode() if isinstance(name, Name) else "?"
 
     @property
     def descendant(self) -> Object:
