@@ -20,6 +20,7 @@ from __future__ import annotations
 
 import argparse
 import hashlib
+import io
 import logging
 import os
 import re
@@ -34,7 +35,7 @@ from contextlib import ExitStack, contextmanager
 from dataclasses import dataclass, field
 from decimal import Decimal
 from functools import cached_property
-from typing import BinaryIO, Callable, Dict, Iterable, Iterator, List, NamedTuple, Optional, Sequence, Set, Tuple, Union
+from typing import Callable, Dict, Iterable, Iterator, List, NamedTuple, Optional, Sequence, Set, Tuple, Union
 
 import pikepdf
 from pikepdf import Array, ContentStreamInlineImage, Dictionary, Name, Object, Pdf, Stream, String
@@ -903,24 +904,31 @@ def merge(sources: Sequence[Pdf]) -> Tuple[Pdf, List[Outcome]]:
 # The command.
 
 
-def _write(path: str, write: Callable[[BinaryIO], object]) -> None:
-    """Replaces a file by what is written, when all of it is written. An error names the file."""
+def _saved(pdf: Pdf, **how: object) -> bytes:
+    """The bytes of a file. pikepdf ends the process where it cannot write to a file itself."""
+    made = io.BytesIO()
+    pdf.save(made, **how)
+    return made.getvalue()
+
+
+def _write(path: str, data: bytes) -> None:
+    """Replaces a file by bytes, when all of them are written. An error names the file."""
     try:
-        _replace(os.path.realpath(path), write)
+        if os.path.exists(path) and not os.path.isfile(path):
+            # A device and a pipe stay what they are, and a folder raises an error.
+            with open(path, "wb") as out:
+                out.write(data)
+        else:
+            _replace(os.path.realpath(path), data)
     except OSError as error:
         raise OSError(error.errno, error.strerror, path) from error
 
 
-def _replace(path: str, write: Callable[[BinaryIO], object]) -> None:
-    if os.path.exists(path) and not os.path.isfile(path):
-        # A device stays where it is, and a folder raises an error.
-        with open(path, "wb") as out:
-            write(out)
-        return
-    handle, new = tempfile.mkstemp(prefix=f".{os.path.basename(path)}.", dir=os.path.dirname(path))
+def _replace(path: str, data: bytes) -> None:
+    handle, new = tempfile.mkstemp(prefix=".fontcut-", dir=os.path.dirname(path))
     try:
         with os.fdopen(handle, "wb") as out:
-            write(out)
+            out.write(data)
         if os.path.exists(path):
             shutil.copymode(path, new)
         else:
@@ -933,10 +941,9 @@ def _replace(path: str, write: Callable[[BinaryIO], object]) -> None:
         raise
 
 
-def _copy(source: str, path: str) -> None:
-    with open(source, "rb") as file:
-        data = file.read()
-    _write(path, lambda out: out.write(data))
+def _bytes_of(path: str) -> bytes:
+    with open(path, "rb") as file:
+        return file.read()
 
 
 def _say(outcome: Outcome, file: str, page: int) -> str:
@@ -948,10 +955,8 @@ def _run_shrink(given: argparse.Namespace) -> None:
     before = os.path.getsize(given.source)
     with _named(given.source), opened(given.source) as pdf:
         outcomes = shrink(pdf)
-        if any(outcome.after is not None for outcome in outcomes):
-            _write(given.out, pdf.save)
-        else:
-            _copy(given.source, given.out)
+        is_changed = any(outcome.after is not None for outcome in outcomes)
+        _write(given.out, _saved(pdf) if is_changed else _bytes_of(given.source))
     for outcome in outcomes:
         if given.report:
             print(_say(outcome, given.source, outcome.page))
@@ -973,8 +978,7 @@ def _run_merge(given: argparse.Namespace) -> None:
             pages += [(path, number) for number in range(1, len(sources[-1].pages) + 1)]
         pdf, outcomes = merge(sources)
         version = max(source.pdf_version for source in sources)
-        _write(given.out, lambda out: pdf.save(
-            out, min_version=version, object_stream_mode=pikepdf.ObjectStreamMode.generate))
+        _write(given.out, _saved(pdf, min_version=version, object_stream_mode=pikepdf.ObjectStreamMode.generate))
     if given.report:
         for outcome in outcomes:
             print(_say(outcome, *pages[outcome.page - 1]))
