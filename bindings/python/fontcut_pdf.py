@@ -13,8 +13,8 @@ the encoding Identity-H, over a CIDFontType2 whose CIDToGIDMap is Identity. In s
 numbers, and every cut keeps these, so that no page is changed. All other fonts stay as they are.
 
 OUT is replaced only by a complete file. Statuses: 0 done; 1 a file is refused, and nothing was written: it is damaged
-or encrypted, or has no embedded font, or for a merge layers that may be hidden; 2 the command line is at fault; 3 a
-file cannot be read or written.
+or encrypted, or has no embedded font, or for a merge layers that may be hidden, or memory was refused; 2 the command
+line is at fault; 3 a file cannot be read or written.
 """
 from __future__ import annotations
 
@@ -35,7 +35,7 @@ from contextlib import ExitStack, contextmanager
 from dataclasses import dataclass, field
 from decimal import Decimal
 from functools import cached_property
-from typing import Callable, Dict, Iterable, Iterator, List, NamedTuple, Optional, Sequence, Set, Tuple, Union
+from typing import BinaryIO, Callable, Dict, Iterable, Iterator, List, NamedTuple, Optional, Sequence, Set, Tuple, Union
 
 import pikepdf
 from pikepdf import Array, ContentStreamInlineImage, Dictionary, Name, Object, Pdf, Stream, String
@@ -52,7 +52,11 @@ _OPERATORS = frozenset("""b B b* B* BDC BMC BT BX c cm CS cs d d0 d1 Do DP EMC E
 
 # What pikepdf and readings of malformed objects raise.
 _MALFORMED = (pikepdf.PdfError, pikepdf.DataDecodingError, struct.error, AttributeError, IndexError, KeyError,
-              NotImplementedError, OverflowError, TypeError, UserWarning, ValueError)
+              OverflowError, RuntimeError, TypeError, UserWarning, ValueError)
+
+
+# How many nodes of the page tree may stand below each other. In files of this world they are less than ten.
+_DEEPEST = 100
 
 
 class Refused(Exception):
@@ -258,7 +262,7 @@ def _values(holder: Object, key: str) -> List[Object]:
 def _resources_of_page(page: pikepdf.Page) -> Object:
     """The resources of a page, which may be those of a node of the page tree (ISO 32000-1, 7.7.3.4)."""
     node = page.obj
-    for _ in range(100):
+    for _ in range(_DEEPEST):
         if "/Resources" in node or "/Parent" not in node:
             break
         node = node.Parent
@@ -602,20 +606,42 @@ def _line(error: object) -> str:
 def opened(path: str) -> Iterator[Pdf]:
     """A PDF file that is neither damaged nor encrypted. Raises `Refused` for others, and `OSError` where it cannot be
     read. What qpdf would mend is refused too, for other programs may mend it in another way."""
-    try:
-        pdf = Pdf.open(path, attempt_recovery=False)
-    except pikepdf.PasswordError as error:
-        raise Refused("it is encrypted") from error
-    except _MALFORMED as error:
-        # qpdf begins with the path, which is said already.
-        raise Refused(f"it is damaged: {_line(error).removeprefix(path).lstrip(': ')}") from error
-    with pdf:
-        if pdf.is_encrypted:
-            raise Refused("it is encrypted")
-        told = [*_warned(pdf), *_checked(pdf)]
+    # pikepdf takes no path that is no text, but the file.
+    with open(path, "rb") as file, ExitStack() as stack:
+        try:
+            pdf = stack.enter_context(Pdf.open(file, attempt_recovery=False, inherit_page_attributes=False))
+            if pdf.is_encrypted:
+                raise Refused("it is encrypted")
+            _refuse_deep_pages(pdf)
+            told = [*_warned(pdf), *_checked(pdf)]
+        except pikepdf.PasswordError as error:
+            raise Refused("it is encrypted") from error
+        except _MALFORMED as error:
+            raise Refused(_damage(file, error)) from error
         if told:
-            raise Refused(f"it is damaged: {_line(told[0])}")
+            raise Refused(_damage(file, told[0]))
         yield pdf
+
+
+def _damage(file: BinaryIO, error: object) -> str:
+    """What is wrong in a file. qpdf begins with its name, which is said already."""
+    return f"it is damaged: {_line(error).removeprefix(_line(file)).lstrip(': ')}"
+
+
+def _refuse_deep_pages(pdf: Pdf) -> None:
+    """qpdf calls itself for each node of the page tree below another (ISO 32000-1, 7.7.3), so that a very deep tree ends
+    the process. The nodes are looked at in the order in which qpdf does it."""
+    waiting: List[Tuple[Object, int]] = [(pdf.Root.get("/Pages"), 0)]
+    seen: Set[Tuple[int, int]] = set()
+    while waiting:
+        node, depth = waiting.pop()
+        kids = node.get("/Kids") if isinstance(node, Dictionary) else None
+        if depth > _DEEPEST:
+            raise Refused("its page tree is too deep")
+        if isinstance(kids, Array) and node.objgen not in seen:
+            # What stands in another object has no number of its own, and cannot hold itself.
+            seen.update([node.objgen] if node.is_indirect else [])
+            waiting += [(kid, depth + 1) for kid in reversed(list(kids))]
 
 
 def _checked(pdf: Pdf) -> List[str]:
@@ -946,6 +972,18 @@ def _bytes_of(path: str) -> bytes:
         return file.read()
 
 
+def _print(line: str) -> None:
+    """Prints a line at once, the bytes of a path that are no text as `\\udcff`. Raises `OSError` where that fails."""
+    encoding = sys.stdout.encoding or "utf-8"
+    try:
+        print(line.encode(encoding, "backslashreplace").decode(encoding), flush=True)
+    except OSError as error:
+        # Python would try it again when it ends, and say so.
+        with open(os.devnull, "wb") as nowhere:
+            os.dup2(nowhere.fileno(), sys.stdout.fileno())
+        raise OSError(error.errno, error.strerror, "standard output") from error
+
+
 def _say(outcome: Outcome, file: str, page: int) -> str:
     size = f"{outcome.before} bytes" if outcome.after is None else f"{outcome.before} bytes, now {outcome.after}"
     return f"{file}: page {page}: {outcome.name}: {size}: {outcome.said}"
@@ -959,11 +997,11 @@ def _run_shrink(given: argparse.Namespace) -> None:
         _write(given.out, _saved(pdf) if is_changed else _bytes_of(given.source))
     for outcome in outcomes:
         if given.report:
-            print(_say(outcome, given.source, outcome.page))
+            _print(_say(outcome, given.source, outcome.page))
         elif outcome.expected:
             print(f"fontcut-pdf: {_say(outcome, given.source, outcome.page)}", file=sys.stderr)
     if given.report:
-        print(f"{given.out}: {os.path.getsize(given.out)} bytes of {before}")
+        _print(f"{given.out}: {os.path.getsize(given.out)} bytes of {before}")
 
 
 def _run_merge(given: argparse.Namespace) -> None:
@@ -981,14 +1019,14 @@ def _run_merge(given: argparse.Namespace) -> None:
         _write(given.out, _saved(pdf, min_version=version, object_stream_mode=pikepdf.ObjectStreamMode.generate))
     if given.report:
         for outcome in outcomes:
-            print(_say(outcome, *pages[outcome.page - 1]))
-        print(f"{given.out}: {os.path.getsize(given.out)} bytes of {before}")
+            _print(_say(outcome, *pages[outcome.page - 1]))
+        _print(f"{given.out}: {os.path.getsize(given.out)} bytes of {before}")
 
 
 def _run_fonts(given: argparse.Namespace) -> None:
     with _named(given.file), opened(given.file) as pdf:
         for outcome in fonts(pdf):
-            print(f"page {outcome.page}: {outcome.name}: {outcome.before} bytes: {outcome.said}")
+            _print(f"page {outcome.page}: {outcome.name}: {outcome.before} bytes: {outcome.said}")
 
 
 @contextmanager
@@ -1030,6 +1068,9 @@ def main(words: Optional[Sequence[str]] = None) -> int:
         return 1
     except (pikepdf.PdfError, pikepdf.DataDecodingError) as error:
         print(f"fontcut-pdf: {_line(error)}", file=sys.stderr)
+        return 1
+    except MemoryError:
+        print("fontcut-pdf: no memory", file=sys.stderr)
         return 1
     except OSError as error:
         print(f"fontcut-pdf: {f'{error.filename}: {error.strerror}' if error.filename else error}", file=sys.stderr)
