@@ -142,6 +142,12 @@ def _program(pdf: Pdf, data: bytes) -> Stream:
     return stream
 
 
+def _written(number: Number) -> Number:
+    """A number as it is written to a file, where none has an exponent (ISO 32000-1, 7.3.3): Python writes very small ones
+    with one, and the 0 of 0.0000000 too."""
+    return round(number, 6) if isinstance(number, Decimal) and number.as_tuple().exponent < -6 else number
+
+
 def _written_widths(widths: Dict[int, Number]) -> Tuple[Array, Number]:
     """W and DW (ISO 32000-1, 9.7.4.3): DW is the width that most glyphs have, and W has those of the others."""
     usual = Counter(widths.values()).most_common(1)[0][0] if widths else 1000
@@ -152,7 +158,7 @@ def _written_widths(widths: Dict[int, Number]) -> Tuple[Array, Number]:
                 rows[-1][1].append(width)
             else:
                 rows.append((glyph, [width]))
-    return Array([part for first, row in rows for part in (first, Array(row))]), usual
+    return Array([part for first, row in rows for part in (first, Array(map(_written, row)))]), _written(usual)
 
 
 def _to_unicode(pdf: Pdf, texts: Dict[int, Optional[bytes]]) -> Optional[Stream]:
@@ -269,9 +275,14 @@ def _resources_of_page(page: pikepdf.Page) -> Object:
     return node.get("/Resources", Dictionary())
 
 
+def _annotations(page: pikepdf.Page) -> List[Object]:
+    """The annotations of a page. One that is not in the file is null."""
+    return [annotation for annotation in page.obj.get("/Annots", ()) if annotation is not None]
+
+
 def _looks(page: pikepdf.Page) -> Iterator[Stream]:
     """The streams that draw the annotations of a page (ISO 32000-1, 12.5.5)."""
-    for annotation in page.obj.get("/Annots", ()):
+    for annotation in _annotations(page):
         for look in _values(annotation, "/AP"):
             states = [look] if isinstance(look, Stream) else [state for _, state in look.items()]
             yield from (state for state in states if isinstance(state, Stream))
@@ -309,14 +320,14 @@ def _scopes(page: pikepdf.Page) -> List[Tuple[Union[pikepdf.Page, Stream], Objec
 
 def _strings(operator: str, operands: Sequence[Object]) -> Iterator[bytes]:
     """The strings that an operator shows."""
+    if len(operands) != (3 if operator == '"' else 1):
+        raise _Unclear(f"{operator} has {len(operands)} operands")
     parts = list(operands[0]) if operator == "TJ" and isinstance(operands[0], Array) else operands[-1:]
     for part in parts:
         if isinstance(part, String):
             yield bytes(part)
         elif operator != "TJ" or not _is_number(part):
             raise _Unclear(f"{operator} has an operand that it should not have")
-    if len(operands) != (3 if operator == '"' else 1):
-        raise _Unclear(f"{operator} has {len(operands)} operands")
 
 
 def _warned(pdf: Pdf) -> List[str]:
@@ -495,7 +506,7 @@ def _is_number(thing: object) -> bool:
 def _rows(parts: List[Object]) -> Iterator[Tuple[int, List[Number]]]:
     """The rows of W: the first glyph of each, and widths from there on. A row is a glyph and an array of widths, or the
     first and the last glyph of a range and its width."""
-    at = 0
+    at = count = 0
     while at < len(parts):
         row = parts[at:at + 3]
         length = 2 if len(row) > 1 and isinstance(row[1], Array) else 3
@@ -504,8 +515,12 @@ def _rows(parts: List[Object]) -> Iterator[Tuple[int, List[Number]]]:
             raise _Unclear("W is malformed")
         if not 0 <= glyphs[0] <= glyphs[-1] <= 0xFFFF:
             raise _Unclear("W has widths of no glyph")
-        yield row[0], list(row[1]) if length == 2 else [row[2]] * (row[1] - row[0] + 1)
-        at += length
+        widths = list(row[1]) if length == 2 else [row[2]] * (row[1] - row[0] + 1)
+        yield row[0], widths
+        at, count = at + length, count + len(widths)
+        if count > 2 * 0x10000:
+            # A short file can state them all again and again.
+            raise _Unclear("W has more widths than there are glyphs")
 
 
 def _texts_in(operator: str, operands: Sequence[Object]) -> Iterator[Tuple[int, bytes]]:
@@ -849,7 +864,7 @@ def _classes(members: Sequence[_Member], of: Callable[[_Member], Optional[Dict]]
 def _box(members: Sequence[_Member]) -> Array:
     """A box around the boxes of all descriptors."""
     left, bottom, right, top = zip(*(member.box for member in members))
-    return Array([min(left), min(bottom), max(right), max(top)])
+    return Array(map(_written, (min(left), min(bottom), max(right), max(top))))
 
 
 def _unite(members: Sequence[_Member], joined: bytes) -> Name:
