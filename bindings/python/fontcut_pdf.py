@@ -682,14 +682,21 @@ def _decode(stream: Stream) -> None:
         pass
 
 
+@contextmanager
+def _refusing() -> Iterator[None]:
+    """Within it, what readings of a malformed file raise refuses the file."""
+    try:
+        yield
+    except _MALFORMED as error:
+        raise Refused(f"it is malformed: {_line(error)}") from error
+
+
 def _surveyed(pdf: Pdf) -> List[_Font]:
     """The embedded fonts of a file, which has one at least. Their programs are read."""
-    try:
+    with _refusing():
         found = _Survey(pdf).embedded()
         for font in found:
             len(font.program)
-    except _MALFORMED as error:
-        raise Refused(f"it is malformed: {_line(error)}") from error
     if not found:
         raise Refused("it has no embedded font")
     return found
@@ -918,14 +925,54 @@ def join_fonts(pdf: Pdf) -> List[Outcome]:
     return sorted(outcomes, key=lambda outcome: (outcome.page, outcome.name))
 
 
+def _dictionaries(pdf: Pdf) -> Iterator[Object]:
+    """All dictionaries of a file, those too that stand in other things."""
+    waiting = list(pdf.objects)
+    while waiting:
+        thing = waiting.pop()
+        if isinstance(thing, Dictionary):
+            yield thing
+        parts = [part for _, part in thing.items()] if isinstance(thing, (Dictionary, Stream)) else (
+            list(thing) if isinstance(thing, Array) else [])
+        waiting += [part for part in parts if isinstance(part, Object) and not part.is_indirect]
+
+
+def _may_hide(thing: Object) -> bool:
+    """Whether a dictionary hides something where layers are shown (ISO 32000-1, 8.11.2.2)."""
+    return thing.get("/Type") == Name.OCMD and ("/VE" in thing or thing.get("/P") in (Name.AllOff, Name.AnyOff))
+
+
 def _refuse_layers(pdf: Pdf) -> None:
     """Which layers are hidden stands in what belongs to a file as a whole (ISO 32000-1, 8.11.4), which a merge does
     not keep, so that their text would be shown."""
-    layers = pdf.Root.get("/OCProperties", Dictionary(D=Dictionary()))
-    shown = layers.get("/D") if isinstance(layers, Dictionary) else None
-    if not isinstance(shown, Dictionary) or "/OFF" in shown or "/AS" in shown or shown.get(
-            "/BaseState", Name.ON) != Name.ON:
-        raise Refused("it has layers that may be hidden")
+    if "/OCProperties" not in pdf.Root:
+        return
+    with _refusing():
+        shown = pdf.Root.OCProperties.get("/D", Dictionary(OFF=Array()))
+        if "/OFF" in shown or "/AS" in shown or shown.get("/BaseState", Name.ON) != Name.ON or any(
+                map(_may_hide, _dictionaries(pdf))):
+            raise Refused("it has layers that may be hidden")
+
+
+def _places(page: pikepdf.Page) -> Iterator[Array]:
+    """The places to which links of a page lead, as far as these name a page themselves (ISO 32000-1, 12.3.2)."""
+    for annotation in _annotations(page):
+        for holder, key in ((annotation, "/Dest"), (annotation.get("/A"), "/D")):
+            place = holder.get(key) if isinstance(holder, Dictionary) else None
+            if isinstance(place, Array) and len(place) > 0:
+                yield place
+
+
+def _add_pages(pdf: Pdf, source: Pdf) -> None:
+    """Adds the pages of a file. What a page names is copied with it, but for pages: those that come later would be null
+    where a link leads to them."""
+    first, pages = len(pdf.pages), list(source.pages)
+    pdf.pages.extend(pages)
+    copies = {page.obj.objgen: copy.obj for page, copy in zip(pages, list(pdf.pages)[first:])}
+    for page in pages:
+        for place, copy in zip(_places(page), _places(pikepdf.Page(copies[page.obj.objgen]))):
+            if isinstance(place[0], Dictionary) and place[0].objgen in copies:
+                copy[0] = copies[place[0].objgen]
 
 
 def merge(sources: Sequence[Pdf]) -> Tuple[Pdf, List[Outcome]]:
@@ -933,12 +980,14 @@ def merge(sources: Sequence[Pdf]) -> Tuple[Pdf, List[Outcome]]:
     The files have to stay open until it is saved. Raises `Refused` where there is no embedded font, or a layer that may
     be hidden.
 
-    Pages keep what they have, their annotations too. What belongs to a file as a whole is not kept: outlines, labels of
-    pages, names that links lead to, fields of forms, tags, attachments, output intents and metadata."""
+    Pages keep what they have, their annotations too, with links to other pages of their file. What belongs to a file as
+    a whole is not kept: outlines, labels of pages, names that links lead to, fields of forms, tags, attachments, output
+    intents and metadata."""
     pdf = Pdf.new()
     for source in sources:
         _refuse_layers(source)
-        pdf.pages.extend(source.pages)
+        with _refusing():
+            _add_pages(pdf, source)
     return pdf, join_fonts(pdf)
 
 
