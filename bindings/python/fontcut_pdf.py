@@ -50,9 +50,10 @@ Number = Union[int, float, Decimal]
 _OPERATORS = frozenset("""b B b* B* BDC BMC BT BX c cm CS cs d d0 d1 Do DP EMC ET EX f F f* G g gs h i j J K k l m M MP
     n q Q re RG rg ri s S SC sc SCN scn sh T* Tc Td TD Tf Tj TJ TL Tm Tr Ts Tw Tz v w W W* y ' \"""".split())
 
-# What pikepdf and readings of malformed objects raise.
+# What pikepdf and readings of malformed objects raise. Where pikepdf warns in its own code, and warnings are errors, Python
+# raises a SystemError, whose cause is the warning.
 _MALFORMED = (pikepdf.PdfError, pikepdf.DataDecodingError, struct.error, AttributeError, IndexError, KeyError,
-              OverflowError, RuntimeError, TypeError, UserWarning, ValueError)
+              OverflowError, RuntimeError, SystemError, TypeError, UserWarning, ValueError)
 
 
 # How many nodes of the page tree may stand below each other. In files of this world they are less than ten.
@@ -348,7 +349,7 @@ def _strictly(pdf: Pdf) -> Iterator[None]:
             warnings.simplefilter("error", UserWarning)
             yield
     except _MALFORMED as error:
-        raise _Unclear(_line(error)) from error
+        raise _Unclear(_line(error.__cause__ or error)) from error
     told = _warned(pdf)
     if told:
         raise _Unclear(told[0])
@@ -640,7 +641,7 @@ def opened(path: str) -> Iterator[Pdf]:
 
 def _damage(file: BinaryIO, error: object) -> str:
     """What is wrong in a file. qpdf begins with its name, which is said already."""
-    return f"it is damaged: {_line(error).removeprefix(_line(file)).lstrip(': ')}"
+    return f"it is damaged: {_line(error).removeprefix('WARNING: ').removeprefix(_line(file)).lstrip(': ')}"
 
 
 def _refuse_deep_pages(pdf: Pdf) -> None:
