@@ -1,6 +1,9 @@
 mod CutLemmas
+mod CutListLemmas
+mod FileListLemmas
 mod FilledLemmas
 mod InfoLemmas
 mod MappedLemmas
 mod RowLemmas
+mod SetLemmas
 mod TextLemmas

@@ -13,6 +13,8 @@ use Rattle.font_join.specs.declared.join_error.JoinAllError.TheVariants.{At, Not
 use Rattle.font_join.specs.declared.join_error.JoinError.{JoinError}
 use Rattle.font_join.specs.declared.join_error.JoinError.TheVariants as joins
 use Rattle.fontcut_c.specs.declared.answer.Answer.{Answer}
+use Rattle.fontcut_c.specs.declared.refusal.CutsRefusal.{CutsRefusal}
+use Rattle.fontcut_c.specs.declared.refusal.CutsRefusal.TheVariants as of_cuts
 use Rattle.fontcut_c.specs.declared.refusal.JoinRefusal.{JoinRefusal}
 use Rattle.fontcut_c.specs.declared.refusal.JoinRefusal.TheVariants as of_join
 use Rattle.fontcut_c.specs.declared.refusal.LookupRefusal.{LookupRefusal}
@@ -73,6 +75,11 @@ refusal_answer NoMemory = refused 16 0
 refusal_answer (TooLarge size) = sized 18 size
 refusal_answer (SmallRoom size) = sized 100 size
 
+-- the answer where the cuts for many sets are not written
+abbrev pub cuts_refusal_answer : CutsRefusal → Answer
+cuts_refusal_answer of_cuts.BadCounts = refused 103 0
+cuts_refusal_answer (of_cuts.Cut refusal) = refusal_answer refusal
+
 -- the answer at a refusal of the first or the second of two files
 abbrev pub pair_refusal_answer : PairRefusal → Answer
 pair_refusal_answer (of_pair.Cut error) = font_answer error
@@ -125,6 +132,11 @@ bool_number false = 0
 abbrev pub size_answer : Result ℕ Refusal → Answer
 size_answer (Ok size) = done size
 size_answer (Err refusal) = refusal_answer refusal
+
+-- the same of the cuts for many sets
+abbrev pub cuts_answer : Result ℕ CutsRefusal → Answer
+cuts_answer (Ok size) = done size
+cuts_answer (Err refusal) = cuts_refusal_answer refusal
 
 -- the same of a join
 abbrev pub join_answer : Result ℕ JoinRefusal → Answer

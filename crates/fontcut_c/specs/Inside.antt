@@ -1,15 +1,21 @@
 -- Words of private contracts and of proofs: no public clause names them.
-use Rattle.std.specs.Prelude.{◌≡◌, ℕ, ◌<◌, ◌≤◌, Bool, List, [], ◌∷◌, ◌++◌, length, take, None, Some, if◌then◌else◌}
+use Rattle.std.specs.Prelude.{◌≡◌, ℕ, ◌+◌, ◌<◌, ◌≤◌, Bool, List, [], ◌∷◌, ◌++◌, drop, length, map, sum, take, None, Some, if◌then◌else◌}
+use Rattle.std.specs.List.{concat}
 use Rattle.sfnt_bytes.specs.declared.directory.TheConstants.{MAX_FILE}
 use Rattle.font_file.specs.Font.{font_fault}
+use Rattle.font_theory.specs.Content.{Content}
+use Rattle.font_theory.specs.File.{current_layout, file}
 use Rattle.font_write.specs.Trace.{Trace}
 use Rattle.fontcut_c.specs.Answers.{IsInRoom}
-use Rattle.fontcut_c.specs.Cutting.{IsFirstBad}
+use Rattle.fontcut_c.specs.Cuts.{AddUp, AreSmall, AreSmallTo, IsFirstLarge, sets_of, size_of_all}
+use Rattle.fontcut_c.specs.Cutting.{IsFirstBad, wanted_by}
 use Rattle.fontcut_c.specs.declared.ranges.CodeRange.{CodeRange}
+use Rattle.fontcut_c.specs.declared.refusal.CutsRefusal.{CutsRefusal}
+use Rattle.fontcut_c.specs.declared.refusal.CutsRefusal.TheVariants as of_cuts
 use Rattle.fontcut_c.specs.declared.refusal.JoinRefusal.{JoinRefusal}
 use Rattle.fontcut_c.specs.declared.refusal.JoinRefusal.TheVariants as of_join
 use Rattle.fontcut_c.specs.declared.refusal.Refusal.{Refusal}
-use Rattle.fontcut_c.specs.declared.refusal.Refusal.TheVariants.{BadRange, Font, SmallRoom, TooLarge}
+use Rattle.fontcut_c.specs.declared.refusal.Refusal.TheVariants.{BadRange, Font, NoMemory, SmallRoom, TooLarge}
 
 -- what was shown to room: what is filled, or, where it is stopped, all of it and the byte that found no room
 abbrev pub shown_to : List ℕ → ℕ → ℕ → Bool → List ℕ
@@ -64,3 +70,42 @@ abbrev pub RefusesRequest : List ℕ → List CodeRange → Refusal → Type 0
 RefusesRequest font ranges (Font error) = font_fault font ≡ Some error
 RefusesRequest font ranges (BadRange k) = (font_fault font ≡ None) × IsFirstBad ranges k
 RefusesRequest font ranges _ = ⊥
+
+-- what refuses a request for sets before memory is asked for: their counts, the font, and then the first bad range
+abbrev pub RefusesRequestForSets : List ℕ → List CodeRange → List ℕ → ℕ → CutsRefusal → Type 0
+RefusesRequestForSets font ranges counts places of_cuts.BadCounts = ¬ AddUp counts ranges places
+RefusesRequestForSets font ranges counts places (of_cuts.Cut refusal) =
+    AddUp counts ranges places × RefusesRequest font ranges refusal
+
+-- the codes of the first n sets, and where the ranges of the others begin
+pub record AreSetsTo (counts : List ℕ) (ranges : List CodeRange) (n from : ℕ) (codes : List (ℕ → Bool)) : Type 0 where
+  pub left : from + sum (drop n counts) ≡ length ranges
+  pub codes_are : codes ++ map wanted_by (sets_of (drop n counts) (drop from ranges))
+      ≡ map wanted_by (sets_of counts ranges)
+
+-- the files of sources, by their contents
+abbrev pub files_of : {S : Type 0} → (S → Content) → List S → List (List ℕ)
+files_of content_of sources = map (λ source. file current_layout (content_of source)) sources
+
+-- the first n files are counted, and none of them is too large
+pub record AreCounted (files : List (List ℕ)) (n total : ℕ) : Type 0 where
+  pub small : AreSmallTo files n
+  pub total_is : total ≡ size_of_all (take n files)
+
+-- bytes stand in room from a place on, and the rest of it is as it was
+pub record IsPutAt (bytes : List ℕ) (at : ℕ) (old new : List ℕ) (size : ℕ) : Type 0 where
+  pub size_is : size ≡ length bytes
+  pub put : new ≡ take at old ++ (bytes ++ drop size (drop at old))
+
+-- the first n files stand in room before a place, end to end, and their sizes are told
+pub record ArePut (files : List (List ℕ)) (n at : ℕ) (old new sizes : List ℕ) : Type 0 where
+  pub at_is : at ≡ length (concat (take n files))
+  pub front : new ≡ concat (take n files) ++ drop at old
+  pub sizes_are : take n sizes ≡ map (λ bytes. length bytes) (take n files)
+
+-- why files are not written: memory, the first of them that is too large, or the room
+abbrev pub RefusesFiles : List (List ℕ) → ℕ → Refusal → Type 0
+RefusesFiles files room NoMemory = Unit {0}
+RefusesFiles files room (TooLarge size) = IsFirstLarge files size
+RefusesFiles files room (SmallRoom size) = AreSmall files × (size ≡ size_of_all files) × (room < size)
+RefusesFiles files room _ = ⊥

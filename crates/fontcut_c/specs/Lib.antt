@@ -1,4 +1,5 @@
 pub mod Answers
+pub mod Cuts
 pub mod Cutting
 pub mod Forms
 pub mod Glyphs

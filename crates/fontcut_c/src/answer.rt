@@ -10,7 +10,7 @@ const UNKNOWN_KIND: u8 = 101;
 #[derive(Clone, Copy, Debug, PartialEq, Eq)]
 pub struct Answer {
     /// 0 where the call is done, 100 where the room is too small, 101 where there is no such kind of cuts, 102
-    /// where the font has no such glyph, and else the number of the refusal.
+    /// where the font has no such glyph, 103 where counts do not add up, and else the number of the refusal.
     pub status: u32,
     /// What a refusal names: a tag as a big-endian number, an index, a glyph, a code or the number that is no
     /// kind's; and the answer to a question.

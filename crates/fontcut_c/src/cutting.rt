@@ -11,8 +11,8 @@ use crate::room::{size_of, write_to};
 use font_cut::{CutOf, Font, lean};
 use std::alloc::Global;
 
-// Opens a font of which codes are wanted, or returns the first of what refuses that.
-fn opened<'a>(file: &'a [u8], ranges: &[CodeRange]) -> Result<Font<'a>, Refusal>
+/// Opens a font of which codes are wanted, or returns the first of what refuses that.
+pub(crate) fn opened<'a>(file: &'a [u8], ranges: &[CodeRange]) -> Result<Font<'a>, Refusal>
     ensures { MatchResult result (λ font. (font ≡ file.now) × IsAccepted file.now ranges.now)
         (RefusesRequest file.now ranges.now) }
 {

@@ -3,6 +3,7 @@
 #![tactic(auto)]
 
 mod answer;
+mod cuts;
 mod cutting;
 mod filled;
 mod forms;
@@ -17,10 +18,12 @@ mod refusal;
 mod room;
 mod text;
 
-ghost use Rattle.std.specs.Prelude.{◌≡◌, ◌≢◌, None, map};
+ghost use Rattle.std.specs.Prelude.{◌≡◌, ◌≢◌, None, length, map};
+ghost use Rattle.std.specs.List.{concat};
 ghost use Rattle.font_file.specs.Font.{font_fault};
 ghost use Rattle.font_subset.specs.Cut.{cut_of};
-ghost use Rattle.fontcut_c.specs.Answers.{IsInRoom, belongs_answer, check_answer, form_answer, join_answer, lookup_answer, size_answer};
+ghost use Rattle.fontcut_c.specs.Answers.{IsInRoom, belongs_answer, check_answer, cuts_answer, form_answer, join_answer, lookup_answer, size_answer};
+ghost use Rattle.fontcut_c.specs.Cuts.{AnswersCuts, cuts_for};
 ghost use Rattle.fontcut_c.specs.Cutting.{AnswersCut, AnswersCutSize, wanted_by};
 ghost use Rattle.fontcut_c.specs.Forms.{AnswersBelonging, AnswersForm};
 ghost use Rattle.fontcut_c.specs.Glyphs.{AnswersGlyphs, AnswersMetrics, glyphs_of, metrics_of};
@@ -33,6 +36,7 @@ ghost use Rattle.fontcut_c.specs.declared.TheConstants.{VERSION};
 ghost use Rattle.fontcut_c.specs.declared.kind.Kind.TheVariants.{Full};
 
 pub use crate::answer::Answer;
+use crate::cuts::cuts_to;
 use crate::cutting::{cut_size, cut_to};
 use crate::forms::{belongs, form_of, number_of};
 use crate::glyphs::glyphs_to;
@@ -44,7 +48,7 @@ use crate::mapped::codes_to;
 pub use crate::metrics::Metric;
 use crate::metrics::metrics_to;
 pub use crate::ranges::CodeRange;
-pub use crate::refusal::{JoinRefusal, LookupRefusal, PairRefusal, Refusal};
+pub use crate::refusal::{CutsRefusal, JoinRefusal, LookupRefusal, PairRefusal, Refusal};
 use crate::text::text_to;
 use font_cut::{CutForm, Font};
 use std::alloc::Global;
@@ -63,6 +67,16 @@ pub extern "C" fn fontcut_check(font: &[u8]) -> Answer
 // Returns the answer of a call that measures or writes a cut.
 fn size_answered(outcome: Result<u64, Refusal>) -> Answer
     ensures { result ≡ size_answer outcome }
+{
+    match outcome {
+        Ok(size) => Answer::done(size),
+        Err(refusal) => refusal.answer(),
+    }
+}
+
+// Returns the answer of the call that writes the cuts for many sets.
+fn cuts_answered(outcome: Result<u64, CutsRefusal>) -> Answer
+    ensures { result ≡ cuts_answer outcome }
 {
     match outcome {
         Ok(size) => Answer::done(size),
@@ -146,6 +160,36 @@ pub extern "C" fn fontcut_subset(
 {
     match Kind::of(kind) {
         Some(kind) => size_answered(cut_to(alloc, kind, font, ranges, out)),
+        None => Answer::unknown_kind(kind),
+    }
+}
+
+/// Writes the cuts of a font for many sets of codes, of the kind that the number names, to the front of `out`, end to
+/// end in the order of the sets, and the length of each to `sizes`. `ranges` has the ranges of the first set, then
+/// those of the next one, and so on, and `counts` how many each set has. A refusal leaves `out` and `sizes` as they
+/// were. Status 101 where the number names no kind, which is asked before all else, and then 103 where `counts` do not
+/// add up to the number of ranges, or `sizes` has more places or fewer than there are sets.
+#[unsafe(no_mangle)]
+pub extern "C" fn fontcut_cuts(
+    alloc: Global,
+    kind: u32,
+    font: &[u8],
+    ranges: &[CodeRange],
+    counts: &[u64],
+    out: &mut [u8],
+    sizes: &mut [u64],
+) -> Answer
+    ensures exact { AnswersInKind kind result
+        (λ k. AnswersCuts k font.now ranges.now counts.now out.old out.new sizes.old sizes.new result) }
+    ensures done { result.status ≡ 0 → HoldsInKind kind
+        (λ k. IsInRoom (concat (cuts_for k font.now ranges.now counts.now)) out.old out.new result.size) }
+    ensures sizes_done { result.status ≡ 0 → HoldsInKind kind
+        (λ k. sizes.new ≡ map (λ cut. length cut) (cuts_for k font.now ranges.now counts.now)) }
+    ensures untouched { result.status ≢ 0 → out.new ≡ out.old }
+    ensures sizes_untouched { result.status ≢ 0 → sizes.new ≡ sizes.old }
+{
+    match Kind::of(kind) {
+        Some(kind) => cuts_answered(cuts_to(alloc, kind, font, ranges, counts, out, sizes)),
         None => Answer::unknown_kind(kind),
     }
 }

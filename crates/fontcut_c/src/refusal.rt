@@ -1,7 +1,7 @@
 //! Why a call is not done, and what it answers then.
 ghost use Rattle.std.specs.Prelude.{◌≡◌};
 ghost use Rattle.sfnt_bytes.specs.Tag.{tag_number};
-ghost use Rattle.fontcut_c.specs.Answers.{as_detail, font_answer, font_argument, join_all_error_answer, join_error_answer, join_refusal_answer, lookup_refusal_answer, pair_refusal_answer, refusal_answer};
+ghost use Rattle.fontcut_c.specs.Answers.{as_detail, cuts_refusal_answer, font_answer, font_argument, join_all_error_answer, join_error_answer, join_refusal_answer, lookup_refusal_answer, pair_refusal_answer, refusal_answer};
 
 use crate::answer::Answer;
 use font_cut::{DirError, FontError, JoinAllError, JoinError, TableError};
@@ -12,6 +12,9 @@ const SMALL_ROOM: u32 = 100;
 
 /// The status of a number that is no glyph of the font.
 const NO_GLYPH: u8 = 102;
+
+/// The status of counts of sets that do not add up.
+const BAD_COUNTS: u8 = 103;
 
 /// Why a call on one font is not done.
 #[derive(Clone, Copy, Debug, PartialEq, Eq)]
@@ -26,6 +29,16 @@ pub enum Refusal {
     TooLarge(u64),
     /// There is this number of bytes, or of ranges, which is more than there is room for.
     SmallRoom(u64),
+}
+
+/// Why the cuts for many sets are not written.
+#[derive(Clone, Copy, Debug, PartialEq, Eq)]
+pub enum CutsRefusal {
+    /// The counts of the sets do not add up to the number of ranges, or there is another number of sizes than of
+    /// sets.
+    BadCounts,
+    /// The cuts are refused.
+    Cut(Refusal),
 }
 
 /// Why a call on a cut and a font is not done.
@@ -111,6 +124,18 @@ impl Refusal {
             Refusal::NoMemory => Answer::refused(16, 0),
             Refusal::TooLarge(size) => Answer::sized(18, size),
             Refusal::SmallRoom(size) => Answer::sized(SMALL_ROOM, size),
+        }
+    }
+}
+
+impl CutsRefusal {
+    /// Returns what is answered.
+    pub(crate) fn answer(self) -> Answer
+        ensures { result ≡ cuts_refusal_answer self }
+    {
+        match self {
+            CutsRefusal::BadCounts => Answer::refused(BAD_COUNTS, 0),
+            CutsRefusal::Cut(refusal) => refusal.answer(),
         }
     }
 }

@@ -1,13 +1,13 @@
 //! The file of a source at the front of the caller's room.
-ghost use Rattle.std.specs.Prelude.{◌≡◌, MatchResult, length};
+ghost use Rattle.std.specs.Prelude.{◌≡◌, ◌+◌, ◌≤◌, MatchResult, length};
 ghost use Rattle.font_theory.specs.File.{current_layout, file};
 ghost use Rattle.font_subset.specs.Inside.{IsFileSize};
-ghost use Rattle.fontcut_c.specs.Inside.{IsFileInRoom, IsFileLength, IsLargerFile, RefusesFile, RefusesFileSize};
+ghost use Rattle.fontcut_c.specs.Inside.{IsFileInRoom, IsFileLength, IsLargerFile, IsPutAt, IsSmallFile, RefusesFile, RefusesFileSize};
 
 use crate::filled::fill;
 use crate::refusal::Refusal;
 use font_subset::{CURRENT, measured};
-use font_write::{Size, Source, plan_of};
+use font_write::{Size, Source, file_size, plan_of};
 
 /// Returns how many bytes the file of a source has, where these are not too many.
 pub(crate) fn size_of<S: Source>(source: &S) -> Result<u64, Refusal>
@@ -50,4 +50,18 @@ pub(crate) fn write_to<S: Source>(source: &S, out: &mut [u8]) -> Result<u64, Ref
         Ok(size) => Ok(size),
         Err(size) => Err(Refusal::SmallRoom(size)),
     }
+}
+
+/// Writes the file of a source, which is not too large, to room from a place on, and returns its length. It asks for
+/// no memory.
+pub(crate) fn fill_at<S: Source>(source: &S, at: usize, out: &mut [u8]) -> usize
+    requires small { IsSmallFile (file current_layout (S.content_of source.now)) }
+    requires room { at + length (file current_layout (S.content_of source.now)) ≤ length out.old }
+    ensures { IsPutAt (file current_layout (S.content_of source.now)) at out.old out.new result }
+{
+    let size = file_size(source, CURRENT);
+    let plan = plan_of(source, CURRENT, size);
+    let end = at + size.bytes as usize;
+    fill(source, &plan, &mut out[at..end]);
+    size.bytes as usize
 }
