@@ -3,6 +3,7 @@
     import fontcut
     cut = fontcut.cut(font, "Hello")            # bytes: the font, for these characters
     both = fontcut.join([cut, other_cut])       # bytes: the cut for the characters of both
+    parts = fontcut.slices(font, ["abc", "xyz"])    # a list of bytes: a cut for each of the sets
     fontcut.belongs(both, font)                 # True
     lean = fontcut.cut(font, "Hello", lean=True)
 
@@ -28,6 +29,7 @@ from __future__ import annotations
 
 import ctypes
 import functools
+import itertools
 import operator
 import os
 import re
@@ -44,7 +46,7 @@ Bytes = Union[bytes, bytearray, memoryview]
 Codes = Union[str, Iterable[Union[int, Tuple[int, int]]]]
 
 __all__ += ["FontcutError", "Info", "LibraryMissing", "NoGlyph", "advances", "glyphs", "info", "metrics", "missing",
-            "ranges"]
+            "ranges", "slices"]
 
 _NO_MEMORY, _TOO_LARGE, _NOTHING_TO_JOIN, _SMALL_ROOM, _NO_GLYPH = 16, 18, 24, 100, 102
 _OF_TAGS, _OF_NUMBERS = (5, 6, 7, 21), (12, 15, 17, 22, 23)
@@ -160,7 +162,8 @@ _LIST = [ctypes.c_void_p, ctypes.c_size_t]
 _ROOM = [ctypes.c_void_p, ctypes.c_size_t]
 _KIND = [ctypes.c_uint32]
 _CALLS = {"check": _FILE, "subset_size": _KIND + _FILE + _RANGES, "subset": _KIND + _FILE + _RANGES + _ROOM,
-          "cut_form": _KIND + _FILE, "belongs": _KIND + _FILE + _FILE,
+          "cuts": _KIND + _FILE + _RANGES + _LIST + _ROOM + _LIST, "cut_form": _KIND + _FILE,
+          "belongs": _KIND + _FILE + _FILE,
           "join": [ctypes.c_uint32, ctypes.POINTER(_Bytes), ctypes.c_size_t] + _ROOM, "codes": _FILE + _RANGES,
           "glyphs": _FILE + _LIST + _ROOM, "metrics": _FILE + _LIST + _ROOM, "info": _FILE + [ctypes.POINTER(_Info)],
           "refusal_text": [_Answer] + _ROOM}
@@ -349,15 +352,43 @@ def join(cuts: Sequence[Bytes], *, lean: bool = False) -> bytes:
     return _written(sum(one.length for one in files) + 4096, made, several=True)
 
 
-def _written(room: int, call, several: bool = False) -> bytes:
-    """What a call writes to room for so many bytes, or to as much as it then says that it needs."""
+def slices(font: Bytes, sets: Iterable[Codes], *, lean: bool = False) -> List[bytes]:
+    """The cuts of a font for many sets of wanted characters, or the lean cuts: what `cut` makes for each set, in the order
+    of the sets. The font is looked through once for all of them.
+
+    Raises what `cut` raises."""
+    if isinstance(sets, str):
+        raise TypeError("sets are given as a list of them, and not as one str")
+    file, wanted = _File(font), [_ranges(one) for one in _items(sets, "set")]
+    ranges, count = [one for each in wanted for one in each], len(wanted)
+    given, room_for_sizes = _in_c(ranges), ctypes.c_uint64 * max(1, count)
+    counts, sizes = room_for_sizes(*map(len, wanted)), room_for_sizes()
+
+    def made(room, size):
+        return _library().fontcut_cuts(_kind(lean), file.at, file.length, given, len(ranges), counts, count, room, size,
+                                       sizes, count)
+
+    # A guess would seldom serve: each cut repeats the tables that it copies, and the font alone says how long they are. So
+    # the first call has no room. It measures the cuts, and the second one has room for just all of them.
+    out, _ = _filled(0, made)
+    ends = itertools.accumulate(sizes[:count])
+    return [ctypes.string_at(ctypes.byref(out, end - size), size) for end, size in zip(ends, sizes)]
+
+
+def _filled(room: int, call, several: bool = False) -> Tuple[ctypes.Array, int]:
+    """Room for so many bytes, or for as many as a call then says that it needs, and how many bytes the call wrote to it."""
     out = ctypes.create_string_buffer(room)
     answer = call(out, room)
     if answer.status == _SMALL_ROOM:
         room = answer.size
         out = ctypes.create_string_buffer(room)
         answer = call(out, room)
-    return ctypes.string_at(out, _done(answer, several).size)
+    return out, _done(answer, several).size
+
+
+def _written(room: int, call, several: bool = False) -> bytes:
+    """What a call writes to such room."""
+    return ctypes.string_at(*_filled(room, call, several))
 
 
 def _form(font: Bytes, lean: bool) -> Form:

@@ -37,6 +37,25 @@ class Cutting(unittest.TestCase):
             self.assertEqual(fontcut.cut(BASE6, wanted, lean=True), lean)
             self.assertEqual(fontcut.cut_size(BASE6, wanted, lean=True), len(lean))
 
+    def test_slices_are_cuts(self):
+        for lean in (False, True):
+            for sets in ([LETTERS, ACCENTED, ALL, [], "A", range(0x41, 0x43), ALL], [[]], [],
+                         [[(code, code)] for code in range(300)]):
+                cuts = [fontcut.cut(BASE6, wanted, lean=lean) for wanted in sets]
+                self.assertEqual(fontcut.slices(BASE6, sets, lean=lean), cuts)
+                self.assertEqual(fontcut.slices(BASE6, iter(sets), lean=lean), cuts)
+
+    def test_slices_refused(self):
+        for font, number in ((b"", 2), (b"ttcf" + bytes(8), 3)):
+            for sets in ([], [ALL]):
+                with self.assertRaises(fontcut.Refused) as caught:
+                    fontcut.slices(font, sets)
+                self.assertEqual((caught.exception.number, caught.exception.file), (number, None))
+        for sets, error in (("AB", TypeError), (b"AB", TypeError), ([65], TypeError), (None, TypeError),
+                            ([["A"]], TypeError), ([ALL, [(2, 1)]], ValueError), ([ALL, [0x110000]], ValueError)):
+            with self.assertRaises(error):
+                fontcut.slices(BASE6, sets)
+
     def test_wanted_characters_in_each_form(self):
         cut = fontcut.cut(BASE6, LETTERS)
         for wanted in ("AB", "BAAB", [0x42, 0x41], range(0x41, 0x43), [(0x41, 0x41), 0x42], iter([0x41, 0x42])):
