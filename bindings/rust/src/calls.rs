@@ -46,6 +46,19 @@ extern "C" {
         out: *mut u8,
         room: usize,
     ) -> Answer;
+    pub(crate) fn fontcut_cuts(
+        kind: u32,
+        font: *const u8,
+        font_length: usize,
+        ranges: *const Range,
+        range_count: usize,
+        counts: *const u64,
+        set_count: usize,
+        out: *mut u8,
+        room: usize,
+        sizes: *mut u64,
+        sizes_length: usize,
+    ) -> Answer;
     pub(crate) fn fontcut_cut_form(kind: u32, font: *const u8, font_length: usize) -> Answer;
     pub(crate) fn fontcut_belongs(
         kind: u32,

@@ -34,7 +34,7 @@ pub use error::{Argument, Error};
 pub use numbers::{Info, Metric, NoGlyph};
 pub use ranges::Ranges;
 
-use calls::{filled, Answer, Bytes, DONE, NO_GLYPH};
+use calls::{filled, length, Answer, Bytes, DONE, NO_GLYPH};
 
 /// A kind of cuts. Cuts join with cuts of their own kind.
 #[derive(Clone, Copy, Debug, PartialEq, Eq, Hash)]
@@ -105,6 +105,68 @@ impl<'a> Font<'a> {
         };
         made.map(|bytes| Cut::new(kind, bytes))
             .map_err(Error::of_one_file)
+    }
+
+    /// The cuts of a kind for many sets of wanted characters: what [`Font::cut`] makes for each set, in the order of the
+    /// sets. The font is looked through once for all of them.
+    ///
+    /// # Errors
+    ///
+    /// 16 where memory is refused, and 18 with the size of the first cut that would be too large for a file.
+    ///
+    /// ```
+    /// # fn main() -> Result<(), Box<dyn std::error::Error>> {
+    /// # let path = "/usr/share/fonts/truetype/dejavu/DejaVuSans.ttf";
+    /// # let file = match std::fs::read(path) { Ok(file) => file, Err(_) => return Ok(()) };
+    /// use fontcut::{Font, Kind, Ranges};
+    ///
+    /// let font = Font::new(&file)?;
+    /// let slices: Vec<Ranges> = ["abc", "xyz"].iter().map(|text| text.chars().collect()).collect();
+    /// let cuts = font.cuts(Kind::Lean, &slices)?;
+    /// assert_eq!(cuts, [font.cut(Kind::Lean, &slices[0])?, font.cut(Kind::Lean, &slices[1])?]);
+    /// # Ok(())
+    /// # }
+    /// ```
+    pub fn cuts<'s, I>(&self, kind: Kind, sets: I) -> Result<Vec<Cut>, Error>
+    where
+        I: IntoIterator<Item = &'s Ranges>,
+    {
+        let (mut ranges, mut counts) = (Vec::new(), Vec::new());
+        for set in sets {
+            ranges.extend_from_slice(set.as_slice());
+            counts.push(set.as_slice().len() as u64);
+        }
+        let (font, mut sizes) = (self.bytes, vec![0; counts.len()]);
+        let (places, place_count) = (sizes.as_mut_ptr(), sizes.len());
+        // How long the cuts are cannot be guessed, for each repeats the tables that it copies: the first call has no room
+        // and says it.
+        // SAFETY: the places and lengths are those of slices; the call writes to its room and to `sizes` alone, which are
+        // vectors' own, and to the front of its room as many bytes as it says.
+        let made = unsafe {
+            filled(0, |out, room| {
+                calls::fontcut_cuts(
+                    kind as u32,
+                    font.as_ptr(),
+                    font.len(),
+                    ranges.as_ptr(),
+                    ranges.len(),
+                    counts.as_ptr(),
+                    counts.len(),
+                    out,
+                    room,
+                    places,
+                    place_count,
+                )
+            })
+        };
+        let made = made.map_err(Error::of_one_file)?;
+        let mut rest = made.as_slice();
+        let cuts = sizes.into_iter().map(|size| {
+            let (cut, others) = rest.split_at(length(size));
+            rest = others;
+            Cut::new(kind, cut.to_vec())
+        });
+        Ok(cuts.collect())
     }
 
     /// How many bytes the cut of a kind for the wanted characters has. No cut is made.

@@ -48,6 +48,30 @@ fn cuts_and_joins() -> Result<(), Error> {
 }
 
 #[test]
+fn cuts_for_many_sets() -> Result<(), Error> {
+    let file = match dejavu() {
+        Some(file) => file,
+        None => return Ok(()),
+    };
+    let font = Font::new(&file)?;
+    let sets = [
+        letters("Hello"),
+        letters(""),
+        Ranges::all(),
+        letters("Hello"),
+    ];
+    for kind in [Kind::Full, Kind::Lean] {
+        let cuts = font.cuts(kind, &sets)?;
+        for (set, cut) in sets.iter().zip(&cuts) {
+            assert_eq!(*cut, font.cut(kind, set)?);
+        }
+        assert_eq!(cuts.len(), sets.len());
+        assert_eq!(font.cuts(kind, [])?, []);
+    }
+    Ok(())
+}
+
+#[test]
 fn a_lean_cut_joins_with_lean_cuts_alone() -> Result<(), Error> {
     let file = match dejavu() {
         Some(file) => file,
