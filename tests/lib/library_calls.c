@@ -3,6 +3,10 @@
  *     check FONT
  *     size KIND FONT RANGES..         KIND is a number; a range is FIRST-LAST, in hexadecimal digits
  *     cut KIND FONT OUT ROOM RANGES.. ROOM is a number of bytes, or - for just as many as are needed
+ *     cuts KIND FONT OUT ROOM PLACES SETS..
+ *                                     a set is the word + and its ranges; +N gives it a count that is N larger than that;
+ *                                     PLACES is a number of sizes, or - for just as many as there are sets; OUT gets the
+ *                                     sizes, as numbers of 64 bits, and then the cuts
  *     form KIND FONT
  *     belongs KIND CUT FONT
  *     join KIND OUT ROOM FILES..
@@ -170,6 +174,56 @@ static void do_cut(int is_first, char **words, int count)
     if (is_first)
         write_file(words[3], out, written);
     free(out - GUARD);
+    free(font.at);
+}
+
+/* Reads sets, as many as are returned: their ranges and how many each of them has. Ranges before the first set are of
+ * none. */
+static size_t sets_of(char **words, int count, fontcut_range *ranges, size_t *given, uint64_t *counts)
+{
+    size_t sets = 0;
+    int i;
+    *given = 0;
+    for (i = 0; i < count; i++)
+        if (words[i][0] == '+')
+            counts[sets++] = strtoull(words[i] + 1, NULL, 10);
+        else {
+            *given += ranges_of(words + i, 1, ranges + *given);
+            if (sets)
+                counts[sets - 1]++;
+        }
+    return sets;
+}
+
+static void do_cuts(int is_first, char **words, int count)
+{
+    fontcut_range ranges[WORDS];
+    uint64_t counts[WORDS];
+    uint32_t kind = kind_of(words[1]);
+    file font = read_file(words[2]);
+    size_t given, sets = sets_of(words + 6, count - 6, ranges, &given, counts);
+    size_t places = (size_t)room_of(words[5], sets), told = places * sizeof(uint64_t), room, written;
+    uint8_t *sizes = guarded(told), *out = guarded(0), *both;
+    fontcut_answer answer = fontcut_cuts(kind, font.at, font.length, ranges, given, counts, sets, out, 0,
+                                         (uint64_t *)(void *)sizes, places);
+    int is_whole = is_untouched(out, 0, 0) && is_untouched(sizes, 0, told);
+    free(out - GUARD);
+    room = room_of(words[4], answer.size);
+    out = guarded(room);
+    answer = fontcut_cuts(kind, font.at, font.length, ranges, given, counts, sets, out, room, (uint64_t *)(void *)sizes,
+                          places);
+    written = answer.status ? 0 : (size_t)answer.size;
+    told = answer.status ? 0 : told;
+    is_whole = is_whole && is_untouched(out, written, room) && is_untouched(sizes, told, places * sizeof(uint64_t));
+    say(is_first, answer, is_whole);
+    both = (uint8_t *)got(told + written);
+    memcpy(both, sizes, told);
+    memcpy(both + told, out, written);
+    if (is_first)
+        write_file(words[3], both, told + written);
+    free(both);
+    free(out - GUARD);
+    free(sizes - GUARD);
     free(font.at);
 }
 
@@ -351,6 +405,8 @@ static void do_line(int is_first, char **words, int count)
         do_size(is_first, words, count);
     else if (!strcmp(words[0], "cut"))
         do_cut(is_first, words, count);
+    else if (!strcmp(words[0], "cuts"))
+        do_cuts(is_first, words, count);
     else if (!strcmp(words[0], "join"))
         do_join(is_first, words, count);
     else if (!strcmp(words[0], "codes"))

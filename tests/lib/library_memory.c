@@ -9,7 +9,7 @@
 #include <stdlib.h>
 #include <string.h>
 
-enum { ROOM = 4 * 1024 * 1024, FILL = 0xA5, MOST = 1000 };
+enum { ROOM = 4 * 1024 * 1024, SETS = 3, FILL = 0xA5, MOST = 1000 };
 
 void *__real_malloc(size_t size);
 void *__real_realloc(void *at, size_t size);
@@ -35,9 +35,12 @@ void *__wrap_realloc(void *at, size_t size)
 }
 
 static uint8_t room[ROOM];
+static uint64_t sizes[SETS];
 static fontcut_bytes files[3]; /* a font, a cut of it and a lean cut */
 
 static const fontcut_range RANGES[] = {{0x41, 0x43}, {0x61, 0x61}, {0x100, 0x200}};
+
+static const uint64_t COUNTS[SETS] = {2, 0, 1};
 
 static const uint32_t CODES[] = {0x41, 0x62, 0x10FFFF};
 
@@ -45,17 +48,17 @@ static const uint16_t GLYPHS[] = {2, 0, 1};
 
 static const char *const NAMES[] = {
     "subset_size", "lean_subset_size", "subset",    "lean_subset",
-    "cut_form",    "lean_cut_form",    "belongs",   "lean_belongs",
-    "cut_size",    "cut",              "is_cut",    "is_cut_of",
-    "join",        "lean_join",        "join_all",  "codes",
-    "check",       "glyphs",           "metrics",   "info",
-    "refusal_text",
+    "cuts",        "lean_cuts",        "cut_form",  "lean_cut_form",
+    "belongs",     "lean_belongs",     "cut_size",  "cut",
+    "is_cut",      "is_cut_of",        "join",      "lean_join",
+    "join_all",    "codes",            "check",     "glyphs",
+    "metrics",     "info",             "refusal_text",
 };
 
 static fontcut_answer do_call(int call)
 {
     const fontcut_bytes font = files[0], cut = files[1];
-    const uint32_t kind = call % 2 ? FONTCUT_LEAN : FONTCUT_FULL; /* of the first eight */
+    const uint32_t kind = call % 2 ? FONTCUT_LEAN : FONTCUT_FULL; /* of the first ten */
     fontcut_answer told = {FONTCUT_BAD_GLYPH, 7, 0, 0};
     fontcut_bytes cuts[2];
     cuts[0] = cuts[1] = cut;
@@ -68,35 +71,38 @@ static fontcut_answer do_call(int call)
         return fontcut_subset(kind, font.at, font.length, RANGES, 3, room, ROOM);
     case 4:
     case 5:
-        return fontcut_cut_form(kind, cut.at, cut.length);
+        return fontcut_cuts(kind, font.at, font.length, RANGES, 3, COUNTS, SETS, room, ROOM, sizes, SETS);
     case 6:
     case 7:
-        return fontcut_belongs(kind, cut.at, cut.length, font.at, font.length);
+        return fontcut_cut_form(kind, cut.at, cut.length);
     case 8:
-        return fontcut_cut_size(font.at, font.length, RANGES, 3);
     case 9:
-        return fontcut_cut(font.at, font.length, RANGES, 3, room, ROOM);
+        return fontcut_belongs(kind, cut.at, cut.length, font.at, font.length);
     case 10:
-        return fontcut_is_cut(cut.at, cut.length);
+        return fontcut_cut_size(font.at, font.length, RANGES, 3);
     case 11:
-        return fontcut_is_cut_of(cut.at, cut.length, font.at, font.length);
+        return fontcut_cut(font.at, font.length, RANGES, 3, room, ROOM);
     case 12:
-        return fontcut_join(FONTCUT_FULL, cuts, 2, room, ROOM);
+        return fontcut_is_cut(cut.at, cut.length);
     case 13:
+        return fontcut_is_cut_of(cut.at, cut.length, font.at, font.length);
+    case 14:
+        return fontcut_join(FONTCUT_FULL, cuts, 2, room, ROOM);
+    case 15:
         cuts[0] = cuts[1] = files[2];
         return fontcut_join(FONTCUT_LEAN, cuts, 2, room, ROOM);
-    case 14:
-        return fontcut_join_all(cuts, 2, room, ROOM);
-    case 15:
-        return fontcut_codes(font.at, font.length, (fontcut_range *)(void *)room, ROOM / sizeof(fontcut_range));
     case 16:
-        return fontcut_check(font.at, font.length);
+        return fontcut_join_all(cuts, 2, room, ROOM);
     case 17:
-        return fontcut_glyphs(font.at, font.length, CODES, 3, (uint16_t *)(void *)room, ROOM / sizeof(uint16_t));
+        return fontcut_codes(font.at, font.length, (fontcut_range *)(void *)room, ROOM / sizeof(fontcut_range));
     case 18:
+        return fontcut_check(font.at, font.length);
+    case 19:
+        return fontcut_glyphs(font.at, font.length, CODES, 3, (uint16_t *)(void *)room, ROOM / sizeof(uint16_t));
+    case 20:
         return fontcut_metrics(font.at, font.length, GLYPHS, 3, (fontcut_metric *)(void *)room,
                                ROOM / sizeof(fontcut_metric));
-    case 19:
+    case 21:
         return fontcut_info(font.at, font.length, (fontcut_font_info *)(void *)room);
     default:
         return fontcut_refusal_text(told, room, ROOM);
@@ -126,6 +132,9 @@ static int is_untouched(void)
     for (i = 0; i < ROOM; i++)
         if (room[i] != FILL)
             return 0;
+    for (i = 0; i < sizeof sizes; i++)
+        if (((const uint8_t *)sizes)[i] != FILL)
+            return 0;
     return 1;
 }
 
@@ -142,6 +151,7 @@ int main(int count, char **words)
         for (request = 0; request < MOST; request++) {
             fontcut_answer answer;
             memset(room, FILL, ROOM);
+            memset(sizes, FILL, sizeof sizes);
             left = request;
             answer = do_call(call);
             left = -1;
