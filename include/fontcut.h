@@ -121,8 +121,8 @@ typedef enum fontcut_status {
     FONTCUT_SMALL_ROOM = 100,        /* the room is too small; size: what is needed */
     FONTCUT_UNKNOWN_KIND = 101,      /* the number is no fontcut_kind, which is asked before all else; detail: it */
     FONTCUT_NO_GLYPH = 102,          /* a number is no glyph of the font; detail: the least index of such a one */
-    FONTCUT_BAD_COUNTS = 103         /* the counts of the sets do not add up to the number of ranges, or there are not as
-                                      * many places for sizes as sets */
+    FONTCUT_BAD_COUNTS = 103         /* the counts of the sets do not add up to the number of ranges, or there are
+                                      * more places for sizes than sets, or fewer */
 } fontcut_status;
 
 /* What `detail` of fontcut_cut_form says. A lean cut is never old. */
@@ -150,13 +150,14 @@ fontcut_answer fontcut_subset_size(uint32_t kind, const uint8_t *font, size_t fo
 fontcut_answer fontcut_subset(uint32_t kind, const uint8_t *font, size_t font_length, const fontcut_range *ranges,
                               size_t range_count, uint8_t *out, size_t room);
 
-/* Writes the cuts of a font for many sets of codes, of a fontcut_kind, to the front of `out`, end to end in the order of
- * the sets, and the length of each in bytes to `sizes`; size: the bytes of all. `ranges` has the ranges of all sets, those
- * of the first set first, and counts[i] says how many of them are of the set i. There is just one place in `sizes` for each
- * set. The font is looked through once, and all cuts are measured before the first of them is written. How much they need is
- * hard to guess, for each has the tables that it copies: a call with a room of 0 says it and writes nothing. Statuses: 101,
- * 103; those of fontcut_check, then 15, whose detail is the index in all ranges, 16, 18, with the size of the first cut that
- * is too large, and 100, with what all need. */
+/* Writes the cuts of a font for many sets of codes, of a fontcut_kind, to the front of `out`, end to end in the order
+ * of the sets, and the length of each in bytes to `sizes`; size: the bytes of all. `ranges` has the ranges of all
+ * sets, those of the first set first, and counts[i] says how many of them are of the set i. `sizes` has just one
+ * place for each set. The font is looked through once. All cuts are measured before the first is written, and what
+ * they are made of is kept until then: a byte for each glyph and set, and for lean cuts tables of metrics. How long
+ * they are is hard to guess, since each repeats the tables that it copies: a call with a room of 0 says it, and
+ * writes nothing. Statuses: 101, 103; those of fontcut_check, then 15, whose detail is an index in all ranges, 16,
+ * 18, with the size of the first cut that is too large, and 100, with the bytes that all cuts need. */
 fontcut_answer fontcut_cuts(uint32_t kind, const uint8_t *font, size_t font_length, const fontcut_range *ranges,
                             size_t range_count, const uint64_t *counts, size_t set_count, uint8_t *out, size_t room,
                             uint64_t *sizes, size_t sizes_length);
