@@ -9,26 +9,26 @@ use Rattle.codes.specs.Wanted.{AreSeparate, codes_between, either, member}
 use Rattle.codes.specs.declared.ranges.Range.{Range}
 use Rattle.codes.proofs.RangeLemmas.{range_nth}
 
-abbrev has : Range → ℕ → Bool
+abbrev pub has : Range → ℕ → Bool
 has r c = codes_between r.first r.last c
 
-le_yes : (a b : ℕ) → a ≤ b → nat_le a b ≡ true
+pub le_yes : (a b : ℕ) → a ≤ b → nat_le a b ≡ true
 le_yes a b h = grind (arith, nat_tests)
 
-le_no : (a b : ℕ) → b < a → nat_le a b ≡ false
+pub le_no : (a b : ℕ) → b < a → nat_le a b ≡ false
 le_no a b h = grind (arith, nat_tests)
 
-lt_yes : (a b : ℕ) → a < b → nat_lt a b ≡ true
+pub lt_yes : (a b : ℕ) → a < b → nat_lt a b ≡ true
 lt_yes a b h = grind (arith, nat_tests)
 
-lt_no : (a b : ℕ) → b ≤ a → nat_lt a b ≡ false
+pub lt_no : (a b : ℕ) → b ≤ a → nat_lt a b ≡ false
 lt_no a b h = grind (arith, nat_tests)
 
 -- a code is in the hull of two ranges that overlap or touch where it is in one of them
 hull_has : (r s : Range) (c : ℕ) → r.first ≤ r.last → s.first ≤ s.last → s.first ≤ r.last + 1 → r.first ≤ s.last + 1 → has (hull r s) c ≡ (has r c || has s c)
 hull_has r s c a b h k = grind (arith, nat_tests)
 
-or_assoc : (a b c : Bool) → ((a || b) || c) ≡ (a || (b || c))
+pub or_assoc : (a b c : Bool) → ((a || b) || c) ≡ (a || (b || c))
 or_assoc true b c = refl
 or_assoc false b c = refl
 
@@ -39,7 +39,7 @@ or_swap false true c = refl
 or_swap false false c = refl
 
 -- a lower bound may be lowered
-separate_lower : (a b : ℕ) (rs : List Range) → b ≤ a → AreSeparate a rs → AreSeparate b rs
+pub separate_lower : (a b : ℕ) (rs : List Range) → b ≤ a → AreSeparate a rs → AreSeparate b rs
 separate_lower a b [] h o = tt
 separate_lower a b (r ∷ rs) h o = (omega (arith, o.0), o.1, o.2)
 

@@ -6,4 +6,5 @@ pub mod RunLemmas
 pub mod FewestLemmas
 pub mod RangeLemmas
 pub mod AddingLemmas
+pub mod RemovingLemmas
 pub mod WordLemmas

@@ -1,23 +1,21 @@
 -- Look-ups in sorted ranges.
-use Rattle.std.proofs.Common.{◌≡◌, ℕ, zero, suc, ◌+◌, ◌<◌, ◌≤◌, ◌⊎◌, ◌||◌, Bool, true, false, List, [], ◌∷◌, length, get_or, max, ap, subst, ◌∙◌, refl, arith, inl, inr}
+use Rattle.std.proofs.Common.{◌≡◌, ℕ, zero, suc, ◌+◌, ◌<◌, ◌≤◌, ◌⊎◌, ◌||◌, Bool, true, false, List, [], ◌∷◌, length, max, ap, subst, ◌∙◌, refl, arith, inl, inr}
 use Rattle.std.proofs.lemmas.Bool.{cases_lt}
 use Rattle.std.proofs.lemmas.Bool.Decides.{nat_tests}
 use Rattle.codes.specs.Order.{Ascends, IsFirstReaching}
+pub use Rattle.codes.specs.Inside.{range_nth}
 use Rattle.codes.specs.Inside.{range_end}
 use Rattle.codes.specs.Wanted.{AreSeparate, IsRow, NoRow, codes_between, member}
 use Rattle.codes.specs.declared.ranges.Range.{Range}
 
-abbrev pub range_nth : List Range → ℕ → Range
-range_nth ranges i = get_or ranges i (record { first = 0; last = 0 })
-
 -- each range has a code, and is not below the bound
-separate_above : (low : ℕ) (rs : List Range) → AreSeparate low rs → (j : ℕ) → j < length rs → (low ≤ (range_nth rs j).first) × ((range_nth rs j).first ≤ (range_nth rs j).last)
+pub separate_above : (low : ℕ) (rs : List Range) → AreSeparate low rs → (j : ℕ) → j < length rs → (low ≤ (range_nth rs j).first) × ((range_nth rs j).first ≤ (range_nth rs j).last)
 separate_above low [] o j l = absurd (omega (arith, l))
 separate_above low (r ∷ rs) o zero l = (o.0, o.1)
 separate_above low (r ∷ rs) o (suc j) l = let k = separate_above (r.last + 2) rs o.2 j (omega (arith, l)) in (omega (arith, k.0, o.0, o.1), k.1)
 
 -- a range ends before the ones after it begin
-separate_pair : (low : ℕ) (rs : List Range) → AreSeparate low rs → (i j : ℕ) → i < j → j < length rs → (range_nth rs i).last < (range_nth rs j).first
+pub separate_pair : (low : ℕ) (rs : List Range) → AreSeparate low rs → (i j : ℕ) → i < j → j < length rs → (range_nth rs i).last < (range_nth rs j).first
 separate_pair low [] o i j h l = absurd (omega (arith, l))
 separate_pair low (r ∷ rs) o i zero h l = absurd (omega (arith, h))
 separate_pair low (r ∷ rs) o zero (suc j) h l = omega (arith, (separate_above (r.last + 2) rs o.2 j (omega (arith, l))).0)

@@ -1,6 +1,10 @@
 -- Words of private contracts and of proofs: no public clause names them.
 use Rattle.codes.specs.declared.ranges.Range.{Range}
-use Rattle.std.specs.Prelude.{ℕ, ◌+◌, nat_le, List, slice_index_or, if◌then◌else◌, nat_lt, [], ◌∷◌, min, max}
+use Rattle.std.specs.Prelude.{◌≡◌, ◌<◌, ◌≤◌, length, ℕ, ◌+◌, ◌-◌, nat_le, List, slice_index_or, if◌then◌else◌, nat_lt, [], ◌∷◌, ◌++◌, min, max}
+
+-- the range at a place
+abbrev pub range_nth : List Range → ℕ → Range
+range_nth ranges i = slice_index_or ranges i (record { first = 0; last = 0 })
 
 -- the end of the range at a place
 abbrev pub range_end : List Range → ℕ → ℕ
@@ -19,3 +23,28 @@ absorbed a (b ∷ ranges) = if nat_le b.first (a.last + 1) then absorbed (hull a
 abbrev pub with_range : Range → List Range → List Range
 with_range a [] = a ∷ []
 with_range a (b ∷ ranges) = if nat_lt (b.last + 1) a.first then b ∷ with_range a ranges else absorbed a (b ∷ ranges)
+
+-- what of a range lies below another one
+abbrev pub part_below : Range → Range → List Range
+part_below a b = if nat_lt b.first a.first then record { first = b.first; last = min b.last (a.first - 1) } ∷ [] else []
+
+-- what of a range lies above another one
+abbrev pub part_above : Range → Range → List Range
+part_above a b = if nat_lt a.last b.last then record { first = max b.first (a.last + 1); last = b.last } ∷ [] else []
+
+-- ranges without the codes of one
+abbrev pub without_range : Range → List Range → List Range
+without_range a [] = []
+without_range a (b ∷ ranges) = part_below a b ++ part_above a b ++ without_range a ranges
+
+-- what of the range at a place lies below another one
+pub record IsPartBelow (ranges : List Range) (i : ℕ) (a below : Range) : Type 0 where
+  pub there : i < length ranges
+  pub less : (range_nth ranges i).first < a.first
+  pub part : below ≡ record { first = (range_nth ranges i).first; last = a.first - 1 }
+
+-- what of the range at a place lies above another one, of which it has a code
+pub record IsPartAbove (ranges : List Range) (j : ℕ) (a above : Range) : Type 0 where
+  pub there : j < length ranges
+  pub meets : (range_nth ranges j).first ≤ a.last
+  pub part : above ≡ record { first = a.last + 1; last = (range_nth ranges j).last }

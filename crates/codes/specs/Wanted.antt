@@ -1,5 +1,5 @@
 -- Sets of codes, this project's own: whether a code is in a set, and the sorted ranges that hold it.
-use Rattle.std.specs.Prelude.{◌≡◌, ℕ, ◌+◌, ◌<◌, ◌≤◌, ◌⊎◌, nat_le, Bool, true, false, ◌&&◌, ◌||◌, List, [], ◌∷◌}
+use Rattle.std.specs.Prelude.{◌≡◌, ℕ, ◌+◌, ◌<◌, ◌≤◌, ◌⊎◌, nat_le, Bool, true, false, ◌&&◌, ◌||◌, if◌then◌else◌, List, [], ◌∷◌}
 use Rattle.codes.specs.declared.ranges.Range.{Range}
 
 -- no code
@@ -17,6 +17,10 @@ codes_between first last c = nat_le first c && nat_le c last
 -- the codes of either set
 abbrev pub either : (ℕ → Bool) → (ℕ → Bool) → ℕ → Bool
 either v w c = v c || w c
+
+-- the codes of a set that are not in another one
+abbrev pub but_for : (ℕ → Bool) → (ℕ → Bool) → ℕ → Bool
+but_for gone w c = if gone c then false else w c
 
 -- first above last, or last above the last code point
 abbrev pub IsBadRange : ℕ → ℕ → Type 0

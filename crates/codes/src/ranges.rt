@@ -1,7 +1,7 @@
 //! Sorted ranges of codes, that neither overlap nor touch.
-ghost use Rattle.std.specs.Prelude.{◌≡◌, ◌+◌, ◌≤◌, ◌++◌, ◌∷◌, length, take, drop, MatchOption, OnErr, OnOk};
+ghost use Rattle.std.specs.Prelude.{◌≡◌, ◌+◌, ◌<◌, ◌≤◌, ◌++◌, ◌∷◌, length, take, drop, MatchOption, OnErr, OnOk};
 ghost use Rattle.codes.specs.Order.{IsFirstReaching};
-ghost use Rattle.codes.specs.Inside.{absorbed, range_end, with_range};
+ghost use Rattle.codes.specs.Inside.{IsPartAbove, IsPartBelow, absorbed, range_end, range_nth, with_range, without_range};
 ghost use Rattle.codes.specs.Wanted.{AreSeparate, IsRow, NoRow, member};
 
 use crate::search::{ANYWHERE, Ends, first_reaching};
@@ -134,6 +134,7 @@ fn replace<A: Allocator>(
     requires within { j ≤ length ranges.old.items }
     ensures ok { OnOk result (ranges.new.items ≡ take i ranges.old.items ++ range ∷ drop j ranges.old.items) }
     ensures err { OnErr result (ranges.new.items ≡ ranges.old.items) }
+    ensures granted { OnErr result (i ≡ j) }
 {
     if i == j {
         ranges.insert(i, range).map_err(|_| NoMemory)?;
@@ -156,4 +157,82 @@ pub(crate) fn add_range<A: Allocator>(
     let i = count_before(ranges.as_slice(), range);
     let (whole, j) = absorb(ranges.as_slice(), i, range);
     replace(ranges, i, j, whole)
+}
+
+// Puts two ranges in the place of those from index `i` to `j`, which are one at least. It asks for memory before
+// anything is changed.
+#[tactic(auto, using(crate::proofs::RemovingLemmas::two_in_place))]
+fn replace_by_two<A: Allocator>(
+    ranges: &mut Vec<Range, A>,
+    i: usize,
+    j: usize,
+    below: Range,
+    above: Range,
+) -> Result<(), NoMemory>
+    requires order { i < j }
+    requires within { j ≤ length ranges.old.items }
+    ensures ok { OnOk result
+        (ranges.new.items ≡ take i ranges.old.items ++ below ∷ above ∷ drop j ranges.old.items) }
+    ensures err { OnErr result (ranges.new.items ≡ ranges.old.items) }
+{
+    replace(ranges, i, i, below)?;
+    replace(ranges, i + 1, j + 1, above)
+}
+
+// Returns what of the range at an index lies below another one, where there is such a range.
+fn part_below_at(ranges: &[Range], i: usize, range: Range) -> Option<Range>
+    ensures { MatchOption result
+        (i < length ranges.now → range.first ≤ (range_nth ranges.now i).first)
+        (λ below. IsPartBelow ranges.now i range below) }
+{
+    if i < ranges.len() && ranges[i].first < range.first {
+        return Some(Range {
+            first: ranges[i].first,
+            last: range.first - 1,
+        });
+    }
+    None
+}
+
+// Returns what of the range at an index lies above another one, where the two have a code in common.
+fn part_above_at(ranges: &[Range], j: usize, range: Range) -> Option<Range>
+    requires { range.last ≤ 0x10FFFF }
+    ensures { MatchOption result
+        (j < length ranges.now → range.last < (range_nth ranges.now j).first)
+        (λ above. IsPartAbove ranges.now j range above) }
+{
+    if j < ranges.len() && ranges[j].first <= range.last {
+        return Some(Range {
+            first: range.last + 1,
+            last: ranges[j].last,
+        });
+    }
+    None
+}
+
+/// Takes the codes of a range away, in place.
+#[tactic(auto, using(crate::proofs::RemovingLemmas::none_left, crate::proofs::RemovingLemmas::below_left, crate::proofs::RemovingLemmas::above_left, crate::proofs::RemovingLemmas::both_left))]
+pub(crate) fn remove_range<A: Allocator>(
+    ranges: &mut Vec<Range, A>,
+    range: Range,
+) -> Result<(), NoMemory>
+    requires separate { AreSeparate 0 ranges.old.items }
+    requires order { range.first ≤ range.last }
+    requires within { range.last ≤ 0x10FFFF }
+    ensures ok { OnOk result (ranges.new.items ≡ without_range range ranges.old.items) }
+    ensures err { OnErr result (ranges.new.items ≡ ranges.old.items) }
+{
+    let i = place_range(ranges.as_slice(), ANYWHERE, range.first);
+    let j = place_range(ranges.as_slice(), i, range.last + 1);
+    let below = part_below_at(ranges.as_slice(), i, range);
+    let above = part_above_at(ranges.as_slice(), j, range);
+    match (below, above) {
+        (None, None) => {
+            drop(ranges.drain(i..j));
+            Ok(())
+        }
+        (Some(below), None) => replace(ranges, i, j, below),
+        (None, Some(above)) => replace(ranges, i, j + 1, above),
+        (Some(below), Some(above)) => replace_by_two(ranges, i, j + 1, below, above),
+    }
 }

@@ -1,10 +1,10 @@
 //! Wanted sets of codes.
 ghost use Rattle.std.specs.Prelude.{◌≡◌, ◌↔◌, Err, IfOk, MatchOption, OnErr, OnOk};
 ghost use Rattle.codes.specs.Text.{wanted_error_number};
-ghost use Rattle.codes.specs.Wanted.{IsBadRange, IsRow, NoRow, all_codes, codes_between, either, member, no_codes};
+ghost use Rattle.codes.specs.Wanted.{IsBadRange, IsRow, NoRow, all_codes, but_for, codes_between, either, member, no_codes};
 ghost use Rattle.codes.specs.declared.wanted.WantedError.TheVariants.{BadRange, NoMemory};
 
-use crate::ranges::{Range, add_range, has_code, row_by_hint};
+use crate::ranges::{Range, add_range, has_code, remove_range, row_by_hint};
 use sfnt_bytes::NoMemory;
 use std::alloc::{Allocator, Global};
 use std::cell::Cell;
@@ -138,5 +138,24 @@ impl<A: Allocator> Wanted<A> {
         }
         add_range(&mut self.ranges, Range { first, last })?;
         Ok(())
+    }
+
+    /// Takes the codes from the first to the last away, both included. A refusal leaves the set as it was.
+    ///
+    /// # Errors
+    ///
+    /// `BadRange` where the first code is above the last or the last above 0x10FFFF, and `NoMemory`
+    /// where memory is refused: it is asked for only where codes stay below the first and above the last.
+    #[tactic(auto, using(crate::proofs::RemovingLemmas::wanted_separate))]
+    pub fn remove(&mut self, first: u32, last: u32) -> Result<(), WantedError>
+        ensures bad_range { (result ≡ Err BadRange) ↔ IsBadRange first last }
+        ensures removed { OnOk result (member self.new ≡ but_for (codes_between first last) (member self.old)) }
+        ensures unchanged { OnErr result (member self.new ≡ member self.old) }
+    {
+        if first <= last && last <= 0x10FFFF {
+            remove_range(&mut self.ranges, Range { first, last })?;
+            return Ok(());
+        }
+        Err(WantedError::BadRange)
     }
 }

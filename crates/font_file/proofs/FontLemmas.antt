@@ -17,6 +17,7 @@ use Rattle.font_tables.specs.Outlines.{outline_of}
 use Rattle.font_glyph.specs.Record.{IsRecord}
 use Rattle.font_file.proofs.RecordLemmas.{is_record-tells}
 use Rattle.font_map.specs.Refusals.{map_fault, map_lines}
+use Rattle.font_map.specs.declared.mapping.MapError.{MapError}
 use Rattle.font_file.specs.Font.{cmap_of, font_fault, glyph_lines, is_bad_glyph}
 use Rattle.font_file.specs.declared.font_error.FontError.{FontError}
 use Rattle.font_file.specs.declared.font_error.FontError.TheVariants.{BadGlyph, Directory, Mapping, Tables}
@@ -72,6 +73,30 @@ no_table (Some error) tables rest h = cc
 
 pub table_fault-accepted : (file : List ℕ) → font_fault file ≡ None → table_fault file ≡ None
 table_fault-accepted file accepted = no_table (option_map Directory (directory_fault file)) (table_fault file) _ (sym (font_fault_is file) ∙ accepted)
+
+-- nor is its mapping
+no_map : (directory tables : Option FontError) (mapping : Option MapError) (rest : Option FontError) → option_or directory (option_or tables (option_or (option_map Mapping mapping) rest)) ≡ None → mapping ≡ None
+no_map None None None rest h = refl
+no_map None None (Some error) rest h = cc
+no_map None (Some error) mapping rest h = cc
+no_map (Some error) tables mapping rest h = cc
+
+map_fault-accepted : (file : List ℕ) → font_fault file ≡ None → map_fault (cmap_of file) ≡ None
+map_fault-accepted file accepted = no_map (option_map Directory (directory_fault file)) (option_map Tables (table_fault file)) (map_fault (cmap_of file)) (glyph_fault file) (sym (font_fault_is file) ∙ accepted)
+
+-- nothing refuses a part of an accepted font
+pub record IsAccepted (file : List ℕ) : Type 0 where
+  pub directory : directory_fault file ≡ None
+  pub tables : table_fault file ≡ None
+  pub mapping : map_fault (cmap_of file) ≡ None
+
+pub is_accepted : (file : List ℕ) → font_fault file ≡ None → IsAccepted file
+is_accepted file accepted =
+    record {
+      directory = directory_fault-accepted file accepted;
+      tables = table_fault-accepted file accepted;
+      mapping = map_fault-accepted file accepted;
+    }
 
 -- an accepted font has a glyph
 pub has_glyph : (file value : List ℕ) → file ≡ value → font_fault file ≡ None → 0 < glyph_count_of value

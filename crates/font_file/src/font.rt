@@ -103,6 +103,26 @@ impl<'a> Font<'a> {
         Ok(Font { tables, mapping })
     }
 
+    /// Opens the font of a file that [`Font::open`] has accepted before, or of another one of the same bytes. It asks for no
+    /// memory, and tests neither the offsets of `loca` nor the records of glyphs, so that it takes the same time for a font
+    /// of any size.
+    ///
+    /// The value is the one that `open` gives.
+    #[tactic(auto, using(crate::proofs::FontLemmas::is_accepted))]
+    pub fn open_checked(file: &'a [u8]) -> Font<'a>
+        requires { font_fault file.now ≡ None }
+        ensures { result ≡ file.now }
+    {
+        let Ok(directory) = Directory::read(file) else {
+            unreachable!()
+        };
+        let tables = Tables::open_checked(directory);
+        let Ok(mapping) = Mapping::choose(cmap(tables.directory()), tables.glyph_count()) else {
+            unreachable!()
+        };
+        Font { tables, mapping }
+    }
+
     /// Returns the tables of the font.
     pub fn tables(&self) -> &Tables<'a>
         ensures tables { result.now ≡ self.now }

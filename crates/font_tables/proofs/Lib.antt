@@ -1,3 +1,4 @@
+pub mod LengthLemmas
 pub mod OffsetLemmas
 pub mod SlotLemmas
 pub mod TableLemmas

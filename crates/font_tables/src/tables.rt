@@ -156,6 +156,37 @@ impl<'a> Tables<'a> {
         })
     }
 
+    /// Reads the tables of a directory that [`Tables::open`] has accepted before, or another one of the same bytes. It
+    /// tests nothing: no offset of `loca` is looked at.
+    #[tactic(auto, using(crate::proofs::SlotLemmas::are_slots, crate::proofs::LengthLemmas::head_has, crate::proofs::LengthLemmas::maxp_has, crate::proofs::LengthLemmas::hhea_has), unfolding(crate::specs::Fields::glyph_count_of, crate::specs::Fields::units_per_em_of, crate::specs::Fields::metric_count_of, crate::specs::Fields::loca_form_of))]
+    pub fn open_checked(checked: Directory<'a>) -> Tables<'a>
+        requires { table_fault checked ≡ None }
+        ensures { result ≡ checked.entry }
+    {
+        let (head, maxp, hhea) = (
+            table(&checked, HEAD),
+            table(&checked, MAXP),
+            table(&checked, HHEA),
+        );
+        let (hmtx, loca, glyf) = (
+            table(&checked, HMTX),
+            table(&checked, LOCA),
+            table(&checked, GLYF),
+        );
+        // Recalls for the prover that the directory is readable.
+        let _file = checked.file();
+        Tables {
+            directory: checked,
+            hmtx,
+            loca,
+            glyf,
+            glyph_count: read_num_glyphs(maxp),
+            units_per_em: read_units_per_em(head),
+            metric_count: read_number_of_h_metrics(hhea),
+            form: read_loca_form(head),
+        }
+    }
+
     /// Returns the directory that the tables were read from.
     pub fn directory(&self) -> &Directory<'a>
         ensures directory { result.now ≡ self.now }

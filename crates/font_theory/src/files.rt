@@ -15,7 +15,8 @@ ghost use Rattle.font_theory.specs.WorkedFiles.{aacute_file, nothing_file, nothi
 
 /// What is read of the file of a content is the content.
 pub fn file_means()
-    ensures { (layout : Layout) → IsLayout layout → (K : Content) → IsWritable K → font_of (file layout K) ≡ read_back K }
+    ensures { (layout : Layout) → IsLayout layout → (K : Content) → IsWritable K
+        → font_of (file layout K) ≡ read_back K }
 {}
 
 /// How many bytes the file of a content has.
@@ -46,8 +47,8 @@ pub fn size_in_second_profile()
 
 /// The file of a closed content is accepted, where it is not too large.
 pub fn file_is_accepted()
-    ensures { (layout : Layout) → IsLayout layout → (K : Content) → IsClosedContent K → length (file layout K) ≤ MAX_FILE →
-        font_fault (file layout K) ≡ None }
+    ensures { (layout : Layout) → IsLayout layout → (K : Content) → IsClosedContent K →
+        length (file layout K) ≤ MAX_FILE → font_fault (file layout K) ≡ None }
 {}
 
 /// Nothing is found in the file of a closed content.

@@ -85,11 +85,11 @@ next_rest b rest behind start next w n e is_rest is_behind a c d =
     is_behind ∙ same_back rest n w a c d ∙ ap (drop w) is_rest ∙ drop-drop w start b ∙ ap (λ (j : ℕ). drop j b) (sym e)
 
 -- one more sum is kept
-pub more_sums : (b sums : List ℕ) (k s : ℕ) → k < length sums → ((j : ℕ) → j < k → get_or sums j 0 ≡ checksum_of (take (j * 65536) b)) → s ≡ checksum_of (take (k * 65536) b) → (j : ℕ) → j < k + 1 → get_or (set sums k s) j 0 ≡ checksum_of (take (j * 65536) b)
+pub more_sums : (b sums : List ℕ) (k s : ℕ) → k < length sums → ((j : ℕ) → j < k → get_or sums j 0 ≡ checksum_of (take (j * 262144) b)) → s ≡ checksum_of (take (k * 262144) b) → (j : ℕ) → j < k + 1 → get_or (set sums k s) j 0 ≡ checksum_of (take (j * 262144) b)
 more_sums b sums k s l each is j h =
     elim (cases_lt j k) [
       | inl x ↦ get_or-set_other sums k j s 0 (λ e. omega (arith, x, e)) ∙ each j x
-      | inr x ↦ let e : j ≡ k = omega (arith, x, h) in ap (λ (i : ℕ). get_or (set sums k s) i 0) e ∙ get_or-set_same sums k s 0 l ∙ is ∙ ap (λ (i : ℕ). checksum_of (take (i * 65536) b)) (sym e)
+      | inr x ↦ let e : j ≡ k = omega (arith, x, h) in ap (λ (i : ℕ). get_or (set sums k s) i 0) e ∙ get_or-set_same sums k s 0 l ∙ is ∙ ap (λ (i : ℕ). checksum_of (take (i * 262144) b)) (sym e)
     ]
 
 -- the sum of a file is that of a front and of what lies after it

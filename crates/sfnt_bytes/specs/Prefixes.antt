@@ -4,8 +4,8 @@ use Rattle.sfnt_bytes.specs.Sums.{checksum_of}
 
 -- number k is the sum of the bytes up to k times 65,536
 pub record ArePrefixes (bytes sums : List ℕ) : Type 0 where
-  pub count : length sums ≡ 2048
-  pub each : (k : ℕ) → k < 2048 → slice_index sums k ≡ checksum_of (take (k * 65536) bytes)
+  pub count : length sums ≡ 512
+  pub each : (k : ℕ) → k < 512 → slice_index sums k ≡ checksum_of (take (k * 262144) bytes)
 
 -- the bytes of a file from each of its first four places on
 pub record ArePlaces (at_0 at_1 at_2 at_3 : List ℕ) : Type 0 where

@@ -10,10 +10,10 @@ use crate::sums::word_sum;
 use std::marker::Model;
 
 /// How many bytes lie between two places up to which the sum is kept.
-const STRIDE: usize = 65_536;
+const STRIDE: usize = 262_144;
 
 /// How many sums are kept: for all bytes of the largest file that is read.
-const COUNT: usize = 2_048;
+const COUNT: usize = 512;
 
 // Returns the sums up to each multiple of the stride.
 fn prefixes_of(bytes: &[u8]) -> [u32; COUNT]

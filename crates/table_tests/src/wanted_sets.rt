@@ -49,6 +49,34 @@ fn bad_ranges_leave_the_set(rt: HostRuntime) -> Result<(), Fail> {
     Ok(())
 }
 
+// Ranges of a set, a range that is taken away, and the codes of 0x40 to 0x4F that stay.
+#[test]
+fn removed_ranges(rt: HostRuntime) -> Result<(), Fail> {
+    for (first, last, left) in [
+        (0x44, 0x45, " 123  6789A  DE "),
+        (0x41, 0x4E, "                "),
+        (0x46, 0x46, " 12345 789A  DE "),
+        (0x43, 0x48, " 12      9A  DE "),
+        (0x40, 0x40, " 123456789A  DE "),
+        (0x4B, 0x4C, " 123456789A  DE "),
+        (0x49, 0x4D, " 12345678     E "),
+        (0, 0x10_FFFF, "                "),
+    ] {
+        let mut wanted = Wanted::new(rt.alloc());
+        wanted.add(0x41, 0x4A)?;
+        wanted.add(0x4D, 0x4E)?;
+        assert_eq!(rt; wanted.remove(first, last), Ok(()));
+        for (code, letter) in (0x40..0x50).zip(left.chars()) {
+            assert_eq!(rt; wanted.contains(code), letter != ' ', "{first:X} {code:X}");
+        }
+        assert_eq!(rt;
+            wanted.remove(last, first.saturating_sub(1)),
+            Err(WantedError::BadRange)
+        );
+    }
+    Ok(())
+}
+
 #[test]
 fn texts_of_set_refusals(rt: HostRuntime) -> Result<(), Fail> {
     let alloc = rt.alloc();
