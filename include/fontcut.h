@@ -162,6 +162,20 @@ fontcut_answer fontcut_cuts(uint32_t kind, const uint8_t *font, size_t font_leng
                             size_t range_count, const uint64_t *counts, size_t set_count, uint8_t *out, size_t room,
                             uint64_t *sizes, size_t sizes_length);
 
+/* The calls whose names end in _checked do what the calls without that ending do, and do not test the font again: of a
+ * small cut of a large font that is most of the time. They are for who cuts one font many times. The caller holds that
+ * fontcut_check, or another call, has accepted just these bytes, and that they have not been changed since; of other
+ * bytes nothing is promised, and a call may read or write where it should not. Statuses: those of the other call, but
+ * for those of fontcut_check. */
+fontcut_answer fontcut_subset_size_checked(uint32_t kind, const uint8_t *font, size_t font_length,
+                                           const fontcut_range *ranges, size_t range_count);
+fontcut_answer fontcut_subset_checked(uint32_t kind, const uint8_t *font, size_t font_length,
+                                      const fontcut_range *ranges, size_t range_count, uint8_t *out, size_t room);
+fontcut_answer fontcut_glyphs_checked(const uint8_t *font, size_t font_length, const uint32_t *codes,
+                                      size_t code_count, uint16_t *out, size_t room);
+fontcut_answer fontcut_metrics_checked(const uint8_t *font, size_t font_length, const uint16_t *glyphs,
+                                       size_t glyph_count, fontcut_metric *out, size_t room);
+
 /* Says whether a font is a cut of a fontcut_kind, and in which form; detail: a fontcut_form. A font that is a lean
  * cut is a full cut too. Statuses: 101; those of fontcut_check, 16. */
 fontcut_answer fontcut_cut_form(uint32_t kind, const uint8_t *font, size_t font_length);

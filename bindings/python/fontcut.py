@@ -4,6 +4,7 @@
     cut = fontcut.cut(font, "Hello")            # bytes: the font, for these characters
     both = fontcut.join([cut, other_cut])       # bytes: the cut for the characters of both
     parts = fontcut.slices(font, ["abc", "xyz"])    # a list of bytes: a cut for each of the sets
+    opened = fontcut.Font(font)                 # tested once, and taken in the place of the bytes
     fontcut.belongs(both, font)                 # True
     lean = fontcut.cut(font, "Hello", lean=True)
 
@@ -45,7 +46,7 @@ __version__ = "0.10.0"
 Bytes = Union[bytes, bytearray, memoryview]
 Codes = Union[str, Iterable[Union[int, Tuple[int, int]]]]
 
-__all__ += ["FontcutError", "Info", "LibraryMissing", "NoGlyph", "advances", "glyphs", "info", "metrics", "missing",
+__all__ += ["Font", "FontcutError", "Info", "LibraryMissing", "NoGlyph", "advances", "glyphs", "info", "metrics", "missing",
             "ranges", "slices"]
 
 _NO_MEMORY, _TOO_LARGE, _NOTHING_TO_JOIN, _SMALL_ROOM, _NO_GLYPH = 16, 18, 24, 100, 102
@@ -165,7 +166,10 @@ _CALLS = {"check": _FILE, "subset_size": _KIND + _FILE + _RANGES, "subset": _KIN
           "cuts": _KIND + _FILE + _RANGES + _LIST + _ROOM + _LIST, "cut_form": _KIND + _FILE,
           "belongs": _KIND + _FILE + _FILE,
           "join": [ctypes.c_uint32, ctypes.POINTER(_Bytes), ctypes.c_size_t] + _ROOM, "codes": _FILE + _RANGES,
-          "glyphs": _FILE + _LIST + _ROOM, "metrics": _FILE + _LIST + _ROOM, "info": _FILE + [ctypes.POINTER(_Info)],
+          "glyphs": _FILE + _LIST + _ROOM, "metrics": _FILE + _LIST + _ROOM,
+          "subset_size_checked": _KIND + _FILE + _RANGES, "subset_checked": _KIND + _FILE + _RANGES + _ROOM,
+          "glyphs_checked": _FILE + _LIST + _ROOM, "metrics_checked": _FILE + _LIST + _ROOM,
+          "info": _FILE + [ctypes.POINTER(_Info)],
           "refusal_text": [_Answer] + _ROOM}
 
 
@@ -198,7 +202,9 @@ def _library() -> ctypes.CDLL:
 class _File:
     """The bytes of a file where they stand, without a copy where the object allows that."""
 
-    def __init__(self, data: Bytes):
+    def __init__(self, data: Union[Bytes, Font]):
+        if isinstance(data, Font):
+            data = data.data
         if isinstance(data, (str, os.PathLike)):
             raise TypeError(f"a font is given as its bytes, and not as the path {data!r}")
         view = memoryview(data).cast("B")
@@ -314,26 +320,44 @@ def check(font: Bytes) -> None:
     _done(_library().fontcut_check(file.at, file.length))
 
 
+class Font:
+    """A font that is accepted, as `check` says, and tested once: `cut`, `cut_size`, `glyphs`, `metrics` and what stands on
+    these take it in the place of the bytes, and do not test it again. Every other call takes it too.
+
+    `data` has its bytes: those that were given, or a copy where these could change. Raises `Refused`."""
+
+    def __init__(self, data: Bytes):
+        if isinstance(data, (str, os.PathLike)):
+            raise TypeError(f"a font is given as its bytes, and not as the path {data!r}")
+        self.data = data if isinstance(data, bytes) else bytes(memoryview(data).cast("B"))
+        check(self.data)
+
+
+def _call(name: str, font: Union[Bytes, Font]):
+    """A call of the library, or that of its name for a font which was tested before."""
+    return getattr(_library(), f"fontcut_{name}_checked" if isinstance(font, Font) else f"fontcut_{name}")
+
+
 def _kind(lean: bool) -> int:
     return _LEAN if lean else _FULL
 
 
-def cut_size(font: Bytes, wanted: Codes, *, lean: bool = False) -> int:
+def cut_size(font: Union[Bytes, Font], wanted: Codes, *, lean: bool = False) -> int:
     """The length in bytes of the cut of a font for the wanted characters, or of the lean cut, of which none is made."""
     file, ranges = _File(font), _ranges(wanted)
-    answer = _library().fontcut_subset_size(_kind(lean), file.at, file.length, _in_c(ranges), len(ranges))
+    answer = _call("subset_size", font)(_kind(lean), file.at, file.length, _in_c(ranges), len(ranges))
     return _done(answer).size
 
 
-def cut(font: Bytes, wanted: Codes, *, lean: bool = False) -> bytes:
+def cut(font: Union[Bytes, Font], wanted: Codes, *, lean: bool = False) -> bytes:
     """The cut of a font for the wanted characters, or the lean cut. Those that the font does not map are passed over.
 
     Raises `Refused` where the font is refused, or its cut too large for a file; `ValueError` for what is no range."""
     file, ranges = _File(font), _ranges(wanted)
-    given = _in_c(ranges)
+    given, call = _in_c(ranges), _call("subset", font)
 
     def made(room, size):
-        return _library().fontcut_subset(_kind(lean), file.at, file.length, given, len(ranges), room, size)
+        return call(_kind(lean), file.at, file.length, given, len(ranges), room, size)
 
     return _written(file.length + 4096, made)
 
@@ -352,7 +376,7 @@ def join(cuts: Sequence[Bytes], *, lean: bool = False) -> bytes:
     return _written(sum(one.length for one in files) + 4096, made, several=True)
 
 
-def slices(font: Bytes, sets: Iterable[Codes], *, lean: bool = False) -> List[bytes]:
+def slices(font: Union[Bytes, Font], sets: Iterable[Codes], *, lean: bool = False) -> List[bytes]:
     """The cuts of a font for many sets of wanted characters, or the lean cuts: what `cut` makes for each set, in the order
     of the sets. The font is looked through once for all of them.
 
@@ -411,7 +435,7 @@ def is_cut(font: Bytes, *, lean: bool = False) -> bool:
     return _form(font, lean) is Form.CURRENT
 
 
-def belongs(cut: Bytes, font: Bytes, *, lean: bool = False) -> bool:
+def belongs(cut: Bytes, font: Union[Bytes, Font], *, lean: bool = False) -> bool:
     """Whether a file is a cut of a font for some characters, in either form, or a lean cut of it. Raises `Refused`
     where one of the two is no font: the file 0 is the cut, and 1 the font."""
     first, second = _File(cut), _File(font)
@@ -425,7 +449,7 @@ def is_cut_of(cut: Bytes, font: Bytes) -> bool:
     return belongs(cut, font)
 
 
-def codes(font: Bytes) -> List[Range]:
+def codes(font: Union[Bytes, Font]) -> List[Range]:
     """The code points that a font maps, as the least number of ranges, in ascending order."""
     file, room = _File(font), 1024
     out = (_Range * room)()
@@ -437,44 +461,44 @@ def codes(font: Bytes) -> List[Range]:
     return [Range(one.first, one.last) for one in out[:_done(answer).size]]
 
 
-def glyphs(font: Bytes, wanted: Union[str, Iterable[int]]) -> List[int]:
+def glyphs(font: Union[Bytes, Font], wanted: Union[str, Iterable[int]]) -> List[int]:
     """The number of the glyph to which a font maps each character, 0 where it maps one to none: in the order of the
     text, or of the code points."""
     file = _File(font)
     numbers = _characters(wanted) if isinstance(wanted, str) else _numbers(wanted, "code point", _LAST_CODE)
     count = len(numbers)
     given, out = (ctypes.c_uint32 * max(1, count))(*numbers), (ctypes.c_uint16 * max(1, count))()
-    _done(_library().fontcut_glyphs(file.at, file.length, given, count, out, count))
+    _done(_call("glyphs", font)(file.at, file.length, given, count, out, count))
     return out[:count]
 
 
-def metrics(font: Bytes, glyphs: Iterable[int]) -> List[Tuple[int, int]]:
+def metrics(font: Union[Bytes, Font], glyphs: Iterable[int]) -> List[Tuple[int, int]]:
     """The advance width and the left side bearing of each glyph, in font units and in the order of the glyphs.
 
     Raises `NoGlyph` where a number is no glyph of the font."""
     file, numbers = _File(font), _numbers(glyphs, "glyph", _LAST_GLYPH)
     count = len(numbers)
     given, out = (ctypes.c_uint16 * max(1, count))(*numbers), (_Metric * max(1, count))()
-    answer = _library().fontcut_metrics(file.at, file.length, given, count, out, count)
+    answer = _call("metrics", font)(file.at, file.length, given, count, out, count)
     if answer.status == _NO_GLYPH:
         raise NoGlyph(answer.detail, numbers[answer.detail])
     _done(answer)
     return [(one.advance, one.bearing) for one in out[:count]]
 
 
-def advances(font: Bytes, glyphs: Iterable[int]) -> List[int]:
+def advances(font: Union[Bytes, Font], glyphs: Iterable[int]) -> List[int]:
     """The advance width of each glyph, in font units and in the order of the glyphs: the first of its `metrics`."""
     return [advance for advance, _ in metrics(font, glyphs)]
 
 
-def info(font: Bytes) -> Info:
+def info(font: Union[Bytes, Font]) -> Info:
     """The numbers of a whole font: how many glyphs it has, its units, its box, and how high its lines are."""
     file, out = _File(font), _Info()
     _done(_library().fontcut_info(file.at, file.length, ctypes.byref(out)))
     return Info(*(getattr(out, name) for name in Info._fields))
 
 
-def missing(font: Bytes, text: Codes) -> List[int]:
+def missing(font: Union[Bytes, Font], text: Codes) -> List[int]:
     """The code points of a text, or of code points and ranges, that the font maps to no glyph: ascending, each once."""
     wanted = [code for first, last in _ranges(text) for code in range(first, last + 1)]
     return [code for code, glyph in zip(wanted, glyphs(font, wanted)) if glyph == 0]

@@ -45,6 +45,30 @@ class Cutting(unittest.TestCase):
                 self.assertEqual(fontcut.slices(BASE6, sets, lean=lean), cuts)
                 self.assertEqual(fontcut.slices(BASE6, iter(sets), lean=lean), cuts)
 
+    def test_fonts_that_are_tested_once(self):
+        for data in (BASE6, bytearray(BASE6), memoryview(BASE6)):
+            font = fontcut.Font(data)
+            for wanted in (LETTERS, ACCENTED, ALL, []):
+                for lean in (False, True):
+                    self.assertEqual(fontcut.cut(font, wanted, lean=lean), fontcut.cut(BASE6, wanted, lean=lean))
+                    self.assertEqual(fontcut.cut_size(font, wanted, lean=lean), fontcut.cut_size(BASE6, wanted, lean=lean))
+            self.assertEqual(fontcut.glyphs(font, "AB\u00c1?"), [1, 5, 3, 0])
+            self.assertEqual(fontcut.metrics(font, range(6)), font_reading.metrics(BASE6))
+            self.assertEqual(fontcut.missing(font, "AB?"), [0x3F])
+            self.assertEqual(fontcut.codes(font), fontcut.codes(BASE6))
+            self.assertEqual(fontcut.slices(font, ["A", "B"]), fontcut.slices(BASE6, ["A", "B"]))
+            self.assertTrue(fontcut.belongs(fontcut.cut(font, "A"), font))
+            with self.assertRaises(fontcut.NoGlyph):
+                fontcut.metrics(font, [6])
+        changed = bytearray(BASE6)
+        font = fontcut.Font(changed)
+        changed[:] = bytes(len(changed))
+        self.assertEqual(fontcut.cut(font, "A"), fontcut.cut(BASE6, "A"))
+        with self.assertRaises(fontcut.Refused):
+            fontcut.Font(BASE6[:11])
+        with self.assertRaises(TypeError):
+            fontcut.Font("font.ttf")
+
     def test_slices_refused(self):
         for font, number in ((b"", 2), (b"ttcf" + bytes(8), 3)):
             for sets in ([], [ALL]):

@@ -136,6 +136,12 @@ static uint32_t kind_of(const char *word)
     return (uint32_t)strtoul(word, NULL, 10);
 }
 
+/* Whether a font is accepted, so that the calls for fonts that were checked may be called. */
+static int is_accepted(file font)
+{
+    return fontcut_check(font.at, font.length).status == FONTCUT_DONE;
+}
+
 static void do_size(int is_first, char **words, int count)
 {
     fontcut_range ranges[WORDS];
@@ -143,6 +149,9 @@ static void do_size(int is_first, char **words, int count)
     file font = read_file(words[2]);
     size_t given = ranges_of(words + 3, count - 3, ranges);
     fontcut_answer answer = fontcut_subset_size(kind, font.at, font.length, ranges, given);
+    if (is_first && is_accepted(font) &&
+        !is_same(answer, fontcut_subset_size_checked(kind, font.at, font.length, ranges, given)))
+        printf("otherwise checked ");
     say_both(is_first, answer, kind ? answer : fontcut_cut_size(font.at, font.length, ranges, given));
     free(font.at);
 }
@@ -153,6 +162,17 @@ static int is_old_cut_same(file font, const fontcut_range *ranges, size_t given,
 {
     uint8_t *other = guarded(room);
     int same = is_same(answer, fontcut_cut(font.at, font.length, ranges, given, other, room)) &&
+               !memcmp(out - GUARD, other - GUARD, room + 2 * GUARD);
+    free(other - GUARD);
+    return same;
+}
+
+/* Whether the call for a font that was checked answers and writes the same. */
+static int is_checked_cut_same(uint32_t kind, file font, const fontcut_range *ranges, size_t given,
+                               fontcut_answer answer, const uint8_t *out, size_t room)
+{
+    uint8_t *other = guarded(room);
+    int same = is_same(answer, fontcut_subset_checked(kind, font.at, font.length, ranges, given, other, room)) &&
                !memcmp(out - GUARD, other - GUARD, room + 2 * GUARD);
     free(other - GUARD);
     return same;
@@ -170,6 +190,8 @@ static void do_cut(int is_first, char **words, int count)
     size_t written = answer.status ? 0 : (size_t)answer.size;
     if (is_first && kind == FONTCUT_FULL && !is_old_cut_same(font, ranges, given, answer, out, room))
         printf("otherwise ");
+    if (is_first && is_accepted(font) && !is_checked_cut_same(kind, font, ranges, given, answer, out, room))
+        printf("otherwise checked ");
     say(is_first, answer, is_untouched(out, written, room));
     if (is_first)
         write_file(words[3], out, written);
@@ -322,10 +344,15 @@ static void say_filled(int is_first, fontcut_answer answer, const char *path, co
 static void do_glyphs(int is_first, char **words)
 {
     file font = read_file(words[1]), codes = read_file(words[2]);
-    size_t room = (size_t)strtoull(words[4], NULL, 10);
-    uint8_t *out = guarded(room * sizeof(uint16_t));
-    fontcut_answer answer = fontcut_glyphs(font.at, font.length, (const uint32_t *)(const void *)codes.at,
-                                           codes.length / sizeof(uint32_t), (uint16_t *)(void *)out, room);
+    size_t room = (size_t)strtoull(words[4], NULL, 10), count = codes.length / sizeof(uint32_t);
+    uint8_t *out = guarded(room * sizeof(uint16_t)), *other = guarded(room * sizeof(uint16_t));
+    const uint32_t *given = (const uint32_t *)(const void *)codes.at;
+    fontcut_answer answer = fontcut_glyphs(font.at, font.length, given, count, (uint16_t *)(void *)out, room);
+    if (is_first && is_accepted(font) &&
+        (!is_same(answer, fontcut_glyphs_checked(font.at, font.length, given, count, (uint16_t *)(void *)other, room)) ||
+         memcmp(out - GUARD, other - GUARD, room * sizeof(uint16_t) + 2 * GUARD)))
+        printf("otherwise checked ");
+    free(other - GUARD);
     say_filled(is_first, answer, words[3], out, sizeof(uint16_t), room);
     free(out - GUARD);
     free(codes.at);
@@ -335,10 +362,16 @@ static void do_glyphs(int is_first, char **words)
 static void do_metrics(int is_first, char **words)
 {
     file font = read_file(words[1]), glyphs = read_file(words[2]);
-    size_t room = (size_t)strtoull(words[4], NULL, 10);
-    uint8_t *out = guarded(room * sizeof(fontcut_metric));
-    fontcut_answer answer = fontcut_metrics(font.at, font.length, (const uint16_t *)(const void *)glyphs.at,
-                                            glyphs.length / sizeof(uint16_t), (fontcut_metric *)(void *)out, room);
+    size_t room = (size_t)strtoull(words[4], NULL, 10), count = glyphs.length / sizeof(uint16_t);
+    uint8_t *out = guarded(room * sizeof(fontcut_metric)), *other = guarded(room * sizeof(fontcut_metric));
+    const uint16_t *given = (const uint16_t *)(const void *)glyphs.at;
+    fontcut_answer answer = fontcut_metrics(font.at, font.length, given, count, (fontcut_metric *)(void *)out, room);
+    if (is_first && is_accepted(font) &&
+        (!is_same(answer,
+                  fontcut_metrics_checked(font.at, font.length, given, count, (fontcut_metric *)(void *)other, room)) ||
+         memcmp(out - GUARD, other - GUARD, room * sizeof(fontcut_metric) + 2 * GUARD)))
+        printf("otherwise checked ");
+    free(other - GUARD);
     say_filled(is_first, answer, words[3], out, sizeof(fontcut_metric), room);
     free(out - GUARD);
     free(glyphs.at);

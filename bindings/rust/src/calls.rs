@@ -30,14 +30,14 @@ pub(crate) const NO_GLYPH: u32 = 102;
 
 extern "C" {
     pub(crate) fn fontcut_check(font: *const u8, font_length: usize) -> Answer;
-    pub(crate) fn fontcut_subset_size(
+    pub(crate) fn fontcut_subset_size_checked(
         kind: u32,
         font: *const u8,
         font_length: usize,
         ranges: *const Range,
         range_count: usize,
     ) -> Answer;
-    pub(crate) fn fontcut_subset(
+    pub(crate) fn fontcut_subset_checked(
         kind: u32,
         font: *const u8,
         font_length: usize,
@@ -80,7 +80,7 @@ extern "C" {
         out: *mut Range,
         room: usize,
     ) -> Answer;
-    pub(crate) fn fontcut_glyphs(
+    pub(crate) fn fontcut_glyphs_checked(
         font: *const u8,
         font_length: usize,
         codes: *const u32,
@@ -88,7 +88,7 @@ extern "C" {
         out: *mut u16,
         room: usize,
     ) -> Answer;
-    pub(crate) fn fontcut_metrics(
+    pub(crate) fn fontcut_metrics_checked(
         font: *const u8,
         font_length: usize,
         glyphs: *const u16,

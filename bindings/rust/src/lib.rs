@@ -87,12 +87,13 @@ impl<'a> Font<'a> {
         let (font, ranges) = (self.bytes, wanted.as_slice());
         // A cut is seldom longer than its font; where it is, the call says how long.
         let room = font.len().saturating_add(4096);
-        // SAFETY: the places and lengths are those of slices; the call writes to its room alone, which is a vector's
-        // own, and to the front of it as many bytes as it says.
+        // SAFETY: `new` has accepted these bytes, which nobody changes while they are borrowed. The places and lengths are
+        // those of slices; the call writes to its room alone, which is a vector's own, and to the front of it as many
+        // bytes as it says.
         let made = unsafe {
             filled(room, |out, room| {
                 let (first, count) = (ranges.as_ptr(), ranges.len());
-                calls::fontcut_subset(
+                calls::fontcut_subset_checked(
                     kind as u32,
                     font.as_ptr(),
                     font.len(),
@@ -179,7 +180,7 @@ impl<'a> Font<'a> {
         // SAFETY: the places and lengths are those of slices, which the call reads.
         let answer = unsafe {
             let (first, count) = (ranges.as_ptr(), ranges.len());
-            calls::fontcut_subset_size(
+            calls::fontcut_subset_size_checked(
                 kind as u32,
                 self.bytes.as_ptr(),
                 self.bytes.len(),
@@ -264,10 +265,11 @@ impl<'a> Font<'a> {
     {
         let codes: Vec<u32> = codes.into_iter().map(Into::into).collect();
         let mut glyphs = vec![0; codes.len()];
-        // SAFETY: the places and lengths are those of slices; the call writes to `glyphs` alone.
+        // SAFETY: `new` has accepted these bytes; the places and lengths are those of slices; the call writes to `glyphs`
+        // alone.
         let answer = unsafe {
             let (first, count) = (codes.as_ptr(), codes.len());
-            calls::fontcut_glyphs(
+            calls::fontcut_glyphs_checked(
                 self.bytes.as_ptr(),
                 self.bytes.len(),
                 first,
@@ -303,11 +305,12 @@ impl<'a> Font<'a> {
     /// ```
     pub fn metrics(&self, glyphs: &[u16]) -> Result<Vec<Metric>, NoGlyph> {
         let mut metrics = vec![Metric::default(); glyphs.len()];
-        // SAFETY: the places and lengths are those of slices; the call writes to `metrics` alone, and a metric of C has
+        // SAFETY: `new` has accepted these bytes; the places and lengths are those of slices; the call writes to
+        // `metrics` alone, and a metric of C has
         // two numbers of 16 bits, as ours has.
         let answer = unsafe {
             let (first, count) = (glyphs.as_ptr(), glyphs.len());
-            calls::fontcut_metrics(
+            calls::fontcut_metrics_checked(
                 self.bytes.as_ptr(),
                 self.bytes.len(),
                 first,

@@ -1,5 +1,6 @@
 //! The cut of a font, of either kind, measured, and written to the caller's room.
-ghost use Rattle.std.specs.Prelude.{◌≡◌, ◌≤◌, MatchResult, length};
+ghost use Rattle.std.specs.Prelude.{◌≡◌, ◌≤◌, MatchResult, None, length};
+ghost use Rattle.font_file.specs.Font.{font_fault};
 ghost use Rattle.sfnt_bytes.specs.declared.directory.TheConstants.{MAX_FILE};
 ghost use Rattle.fontcut_c.specs.Cutting.{IsAccepted, IsCutInRoom, IsCutSize, RefusesCut, RefusesSize};
 ghost use Rattle.fontcut_c.specs.Inside.{RefusesRequest};
@@ -26,6 +27,74 @@ pub(crate) fn opened<'a>(file: &'a [u8], ranges: &[CodeRange]) -> Result<Font<'a
     }
 }
 
+// Opens a font that is accepted, of which codes are wanted, or returns the first bad range.
+fn opened_checked<'a>(file: &'a [u8], ranges: &[CodeRange]) -> Result<Font<'a>, Refusal>
+    requires { font_fault file.now ≡ None }
+    ensures { MatchResult result (λ font. (font ≡ file.now) × IsAccepted file.now ranges.now)
+        (RefusesRequest file.now ranges.now) }
+{
+    match first_bad(ranges) {
+        Some(index) => Err(Refusal::BadRange(index)),
+        None => Ok(Font::open_checked(file)),
+    }
+}
+
+// Returns how many bytes the cut of an opened font has.
+fn measure_cut(
+    alloc: Global,
+    kind: Kind,
+    font: &Font<'_>,
+    ranges: &[CodeRange],
+) -> Result<u64, Refusal>
+    requires { IsAccepted font.now ranges.now }
+    ensures { MatchResult result (λ size. IsCutSize kind font.now ranges.now size × (size ≤ MAX_FILE))
+        (RefusesSize kind font.now ranges.now) }
+{
+    let wanted = match wanted_of(alloc, ranges) {
+        Ok(wanted) => wanted,
+        Err(_) => return Err(Refusal::NoMemory),
+    };
+    match kind {
+        Kind::Full => match CutOf::new(alloc, font, &wanted) {
+            Ok(source) => size_of(&source),
+            Err(_) => Err(Refusal::NoMemory),
+        },
+        Kind::Lean => match lean::CutOf::new(alloc, font, &wanted) {
+            Ok(source) => size_of(&source),
+            Err(_) => Err(Refusal::NoMemory),
+        },
+    }
+}
+
+// Writes the cut of an opened font to the front of room, and returns its length.
+fn write_cut(
+    alloc: Global,
+    kind: Kind,
+    font: &Font<'_>,
+    ranges: &[CodeRange],
+    out: &mut [u8],
+) -> Result<u64, Refusal>
+    requires { IsAccepted font.now ranges.now }
+    ensures { MatchResult result (IsCutInRoom kind font.now ranges.now out.old out.new)
+        (λ refusal. (out.new ≡ out.old)
+        × RefusesCut kind font.now ranges.now (length out.old) refusal) }
+{
+    let wanted = match wanted_of(alloc, ranges) {
+        Ok(wanted) => wanted,
+        Err(_) => return Err(Refusal::NoMemory),
+    };
+    match kind {
+        Kind::Full => match CutOf::new(alloc, font, &wanted) {
+            Ok(source) => write_to(&source, out),
+            Err(_) => Err(Refusal::NoMemory),
+        },
+        Kind::Lean => match lean::CutOf::new(alloc, font, &wanted) {
+            Ok(source) => write_to(&source, out),
+            Err(_) => Err(Refusal::NoMemory),
+        },
+    }
+}
+
 /// Returns how many bytes the cut of a font has, of a kind. No cut is built.
 pub(crate) fn cut_size(
     alloc: Global,
@@ -36,23 +105,26 @@ pub(crate) fn cut_size(
     ensures { MatchResult result (λ size. IsCutSize kind file.now ranges.now size × (size ≤ MAX_FILE))
         (RefusesSize kind file.now ranges.now) }
 {
-    let font = match opened(file, ranges) {
-        Ok(font) => font,
-        Err(refusal) => return Err(refusal),
-    };
-    let wanted = match wanted_of(alloc, ranges) {
-        Ok(wanted) => wanted,
-        Err(_) => return Err(Refusal::NoMemory),
-    };
-    match kind {
-        Kind::Full => match CutOf::new(alloc, &font, &wanted) {
-            Ok(source) => size_of(&source),
-            Err(_) => Err(Refusal::NoMemory),
-        },
-        Kind::Lean => match lean::CutOf::new(alloc, &font, &wanted) {
-            Ok(source) => size_of(&source),
-            Err(_) => Err(Refusal::NoMemory),
-        },
+    match opened(file, ranges) {
+        Ok(font) => measure_cut(alloc, kind, &font, ranges),
+        Err(refusal) => Err(refusal),
+    }
+}
+
+/// Returns the same of a font that is accepted, which is not tested again.
+pub(crate) fn checked_cut_size(
+    alloc: Global,
+    kind: Kind,
+    file: &[u8],
+    ranges: &[CodeRange],
+) -> Result<u64, Refusal>
+    requires { font_fault file.now ≡ None }
+    ensures { MatchResult result (λ size. IsCutSize kind file.now ranges.now size × (size ≤ MAX_FILE))
+        (RefusesSize kind file.now ranges.now) }
+{
+    match opened_checked(file, ranges) {
+        Ok(font) => measure_cut(alloc, kind, &font, ranges),
+        Err(refusal) => Err(refusal),
     }
 }
 
@@ -68,22 +140,27 @@ pub(crate) fn cut_to(
         (λ refusal. (out.new ≡ out.old)
         × RefusesCut kind file.now ranges.now (length out.old) refusal) }
 {
-    let font = match opened(file, ranges) {
-        Ok(font) => font,
-        Err(refusal) => return Err(refusal),
-    };
-    let wanted = match wanted_of(alloc, ranges) {
-        Ok(wanted) => wanted,
-        Err(_) => return Err(Refusal::NoMemory),
-    };
-    match kind {
-        Kind::Full => match CutOf::new(alloc, &font, &wanted) {
-            Ok(source) => write_to(&source, out),
-            Err(_) => Err(Refusal::NoMemory),
-        },
-        Kind::Lean => match lean::CutOf::new(alloc, &font, &wanted) {
-            Ok(source) => write_to(&source, out),
-            Err(_) => Err(Refusal::NoMemory),
-        },
+    match opened(file, ranges) {
+        Ok(font) => write_cut(alloc, kind, &font, ranges, out),
+        Err(refusal) => Err(refusal),
+    }
+}
+
+/// Writes the same of a font that is accepted, which is not tested again.
+pub(crate) fn checked_cut_to(
+    alloc: Global,
+    kind: Kind,
+    file: &[u8],
+    ranges: &[CodeRange],
+    out: &mut [u8],
+) -> Result<u64, Refusal>
+    requires { font_fault file.now ≡ None }
+    ensures { MatchResult result (IsCutInRoom kind file.now ranges.now out.old out.new)
+        (λ refusal. (out.new ≡ out.old)
+        × RefusesCut kind file.now ranges.now (length out.old) refusal) }
+{
+    match opened_checked(file, ranges) {
+        Ok(font) => write_cut(alloc, kind, &font, ranges, out),
+        Err(refusal) => Err(refusal),
     }
 }

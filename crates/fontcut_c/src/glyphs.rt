@@ -1,6 +1,7 @@
 //! The glyphs to which a font maps codes, written to the caller's room. OpenType 1.9, cmap: Character to Glyph Index
 //! Mapping Table.
-ghost use Rattle.std.specs.Prelude.{◌≡◌, ◌≤◌, ◌++◌, MatchResult, drop, length};
+ghost use Rattle.std.specs.Prelude.{◌≡◌, ◌≤◌, ◌++◌, MatchResult, None, drop, length};
+ghost use Rattle.font_file.specs.Font.{font_fault};
 ghost use Rattle.fontcut_c.specs.Glyphs.{AreGlyphsInRoom, RefusesGlyphs, glyphs_of};
 
 use crate::refusal::LookupRefusal;
@@ -17,19 +18,40 @@ fn put_glyphs(font: &Font<'_>, codes: &[u32], out: &mut [u16])
     }
 }
 
+// Writes the glyph of each code to the front of room, and returns how many they are.
+fn glyphs_in(font: &Font<'_>, codes: &[u32], out: &mut [u16]) -> Result<u64, LookupRefusal>
+    requires { font_fault font.now ≡ None }
+    ensures { MatchResult result (AreGlyphsInRoom font.now codes.now out.old out.new)
+        (λ refusal. (out.new ≡ out.old) × RefusesGlyphs font.now codes.now (length out.old) refusal) }
+{
+    if out.len() < codes.len() {
+        return Err(LookupRefusal::SmallRoom(codes.len()));
+    }
+    put_glyphs(font, codes, out);
+    Ok(codes.len() as u64)
+}
+
 /// Writes the glyph of each code to the front of room, 0 where the font maps it to none, and returns how many
 /// they are. It asks for no memory.
 pub(crate) fn glyphs_to(file: &[u8], codes: &[u32], out: &mut [u16]) -> Result<u64, LookupRefusal>
     ensures { MatchResult result (AreGlyphsInRoom file.now codes.now out.old out.new)
         (λ refusal. (out.new ≡ out.old) × RefusesGlyphs file.now codes.now (length out.old) refusal) }
 {
-    let font = match Font::open(file) {
-        Ok(font) => font,
-        Err(error) => return Err(LookupRefusal::Font(error)),
-    };
-    if out.len() < codes.len() {
-        return Err(LookupRefusal::SmallRoom(codes.len()));
+    match Font::open(file) {
+        Ok(font) => glyphs_in(&font, codes, out),
+        Err(error) => Err(LookupRefusal::Font(error)),
     }
-    put_glyphs(&font, codes, out);
-    Ok(codes.len() as u64)
+}
+
+/// Does the same for a font that is accepted, which is not tested again.
+pub(crate) fn checked_glyphs_to(
+    file: &[u8],
+    codes: &[u32],
+    out: &mut [u16],
+) -> Result<u64, LookupRefusal>
+    requires { font_fault file.now ≡ None }
+    ensures { MatchResult result (AreGlyphsInRoom file.now codes.now out.old out.new)
+        (λ refusal. (out.new ≡ out.old) × RefusesGlyphs file.now codes.now (length out.old) refusal) }
+{
+    glyphs_in(&Font::open_checked(file), codes, out)
 }

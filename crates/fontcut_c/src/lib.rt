@@ -37,16 +37,16 @@ ghost use Rattle.fontcut_c.specs.declared.kind.Kind.TheVariants.{Full};
 
 pub use crate::answer::Answer;
 use crate::cuts::cuts_to;
-use crate::cutting::{cut_size, cut_to};
+use crate::cutting::{checked_cut_size, checked_cut_to, cut_size, cut_to};
 use crate::forms::{belongs, form_of, number_of};
-use crate::glyphs::glyphs_to;
+use crate::glyphs::{checked_glyphs_to, glyphs_to};
 pub use crate::info::Info;
 use crate::info::info_in;
 use crate::joining::join_to;
 pub use crate::kind::Kind;
 use crate::mapped::codes_to;
 pub use crate::metrics::Metric;
-use crate::metrics::metrics_to;
+use crate::metrics::{checked_metrics_to, metrics_to};
 pub use crate::ranges::CodeRange;
 pub use crate::refusal::{CutsRefusal, JoinRefusal, LookupRefusal, PairRefusal, Refusal};
 use crate::text::text_to;
@@ -160,6 +160,47 @@ pub extern "C" fn fontcut_subset(
 {
     match Kind::of(kind) {
         Some(kind) => size_answered(cut_to(alloc, kind, font, ranges, out)),
+        None => Answer::unknown_kind(kind),
+    }
+}
+
+/// Gives what [`fontcut_subset_size`] gives, of a font that [`fontcut_check`] has accepted: these bytes, or others that
+/// are the same. The font is not tested again.
+#[unsafe(no_mangle)]
+pub extern "C" fn fontcut_subset_size_checked(
+    alloc: Global,
+    kind: u32,
+    font: &[u8],
+    ranges: &[CodeRange],
+) -> Answer
+    requires { font_fault font.now ≡ None }
+    ensures { AnswersInKind kind result (λ k. AnswersCutSize k font.now ranges.now result) }
+{
+    match Kind::of(kind) {
+        Some(kind) => size_answered(checked_cut_size(alloc, kind, font, ranges)),
+        None => Answer::unknown_kind(kind),
+    }
+}
+
+/// Does what [`fontcut_subset`] does, with a font that [`fontcut_check`] has accepted: these bytes, or others that are
+/// the same. The font is not tested again.
+#[unsafe(no_mangle)]
+pub extern "C" fn fontcut_subset_checked(
+    alloc: Global,
+    kind: u32,
+    font: &[u8],
+    ranges: &[CodeRange],
+    out: &mut [u8],
+) -> Answer
+    requires { font_fault font.now ≡ None }
+    ensures exact { AnswersInKind kind result
+        (λ k. AnswersCut k font.now ranges.now out.old out.new result) }
+    ensures done { result.status ≡ 0 → HoldsInKind kind
+        (λ k. IsInRoom (cut_in k font.now (wanted_by ranges.now)) out.old out.new result.size) }
+    ensures untouched { result.status ≢ 0 → out.new ≡ out.old }
+{
+    match Kind::of(kind) {
+        Some(kind) => size_answered(checked_cut_to(alloc, kind, font, ranges, out)),
         None => Answer::unknown_kind(kind),
     }
 }
@@ -318,6 +359,30 @@ pub extern "C" fn fontcut_metrics(font: &[u8], glyphs: &[u16], out: &mut [Metric
     ensures untouched { result.status ≢ 0 → out.new ≡ out.old }
 {
     lookup_answered(metrics_to(font, glyphs, out))
+}
+
+/// Does what [`fontcut_glyphs`] does, with a font that [`fontcut_check`] has accepted: these bytes, or others that are
+/// the same. The font is not tested again.
+#[unsafe(no_mangle)]
+pub extern "C" fn fontcut_glyphs_checked(font: &[u8], codes: &[u32], out: &mut [u16]) -> Answer
+    requires { font_fault font.now ≡ None }
+    ensures exact { AnswersGlyphs font.now codes.now out.old out.new result }
+    ensures done { result.status ≡ 0 → IsInRoom (glyphs_of font.now codes.now) out.old out.new result.size }
+    ensures untouched { result.status ≢ 0 → out.new ≡ out.old }
+{
+    lookup_answered(checked_glyphs_to(font, codes, out))
+}
+
+/// Does what [`fontcut_metrics`] does, with a font that [`fontcut_check`] has accepted: these bytes, or others that are
+/// the same. The font is not tested again.
+#[unsafe(no_mangle)]
+pub extern "C" fn fontcut_metrics_checked(font: &[u8], glyphs: &[u16], out: &mut [Metric]) -> Answer
+    requires { font_fault font.now ≡ None }
+    ensures exact { AnswersMetrics font.now glyphs.now out.old out.new result }
+    ensures done { result.status ≡ 0 → IsInRoom (metrics_of font.now glyphs.now) out.old out.new result.size }
+    ensures untouched { result.status ≢ 0 → out.new ≡ out.old }
+{
+    lookup_answered(checked_metrics_to(font, glyphs, out))
 }
 
 /// Writes the numbers of a whole font to `info`, and answers as [`fontcut_check`]. A refusal leaves `info` as it was.

@@ -1,5 +1,6 @@
 //! The metrics of glyphs, written to the caller's room. OpenType 1.9, `hmtx`.
-ghost use Rattle.std.specs.Prelude.{◌≡◌, ◌<◌, ◌≤◌, ◌++◌, MatchOption, MatchResult, drop, length};
+ghost use Rattle.std.specs.Prelude.{◌≡◌, ◌<◌, ◌≤◌, ◌++◌, MatchOption, MatchResult, None, drop, length};
+ghost use Rattle.font_file.specs.Font.{font_fault};
 ghost use Rattle.font_tables.specs.Fields.{glyph_count_of};
 ghost use Rattle.fontcut_c.specs.Glyphs.{AreGlyphs, AreMetricsInRoom, IsFirstNoGlyph, RefusesMetrics, metric_in, metrics_of};
 
@@ -50,6 +51,22 @@ fn put_metrics(font: &Font<'_>, glyphs: &[u16], out: &mut [Metric])
     }
 }
 
+// Writes the metrics of each glyph to the front of room, and returns how many they are.
+fn metrics_in(font: &Font<'_>, glyphs: &[u16], out: &mut [Metric]) -> Result<u64, LookupRefusal>
+    requires { font_fault font.now ≡ None }
+    ensures { MatchResult result (AreMetricsInRoom font.now glyphs.now out.old out.new)
+        (λ refusal. (out.new ≡ out.old) × RefusesMetrics font.now glyphs.now (length out.old) refusal) }
+{
+    if let Some(index) = first_no_glyph(font, glyphs) {
+        return Err(LookupRefusal::NoGlyph(index));
+    }
+    if out.len() < glyphs.len() {
+        return Err(LookupRefusal::SmallRoom(glyphs.len()));
+    }
+    put_metrics(font, glyphs, out);
+    Ok(glyphs.len() as u64)
+}
+
 /// Writes the metrics of each glyph to the front of room, and returns how many they are. It asks for no memory.
 pub(crate) fn metrics_to(
     file: &[u8],
@@ -59,16 +76,21 @@ pub(crate) fn metrics_to(
     ensures { MatchResult result (AreMetricsInRoom file.now glyphs.now out.old out.new)
         (λ refusal. (out.new ≡ out.old) × RefusesMetrics file.now glyphs.now (length out.old) refusal) }
 {
-    let font = match Font::open(file) {
-        Ok(font) => font,
-        Err(error) => return Err(LookupRefusal::Font(error)),
-    };
-    if let Some(index) = first_no_glyph(&font, glyphs) {
-        return Err(LookupRefusal::NoGlyph(index));
+    match Font::open(file) {
+        Ok(font) => metrics_in(&font, glyphs, out),
+        Err(error) => Err(LookupRefusal::Font(error)),
     }
-    if out.len() < glyphs.len() {
-        return Err(LookupRefusal::SmallRoom(glyphs.len()));
-    }
-    put_metrics(&font, glyphs, out);
-    Ok(glyphs.len() as u64)
+}
+
+/// Does the same for a font that is accepted, which is not tested again.
+pub(crate) fn checked_metrics_to(
+    file: &[u8],
+    glyphs: &[u16],
+    out: &mut [Metric],
+) -> Result<u64, LookupRefusal>
+    requires { font_fault file.now ≡ None }
+    ensures { MatchResult result (AreMetricsInRoom file.now glyphs.now out.old out.new)
+        (λ refusal. (out.new ≡ out.old) × RefusesMetrics file.now glyphs.now (length out.old) refusal) }
+{
+    metrics_in(&Font::open_checked(file), glyphs, out)
 }
