@@ -9,6 +9,8 @@ _fontcut_options() {
         echo '--text --text-file --codes-file --unicodes --exclude --exclude-file'
         echo '--report --strict --lean --verbose --help'
         ;;
+    codes) echo '--glyphs --verbose --help' ;;
+    slice) echo '--slices --css --lean --verbose --help' ;;
     belongs | join) echo '--lean --verbose --help' ;;
     *) echo '--verbose --help' ;;
     esac
@@ -31,7 +33,7 @@ _fontcut_operand() {
     local command=$1 number=$2 word=$3
     case $command in
     join) _fontcut_files "$word" ;;
-    belongs) if [ "$number" -le 2 ]; then _fontcut_files "$word"; fi ;;
+    belongs | slice) if [ "$number" -le 2 ]; then _fontcut_files "$word"; fi ;;
     subset) if [ "$number" -le 2 ]; then _fontcut_files "$word"; else _fontcut_words all "$word"; fi ;;
     check | show | codes) if [ "$number" = 1 ]; then _fontcut_files "$word"; fi ;;
     help) if [ "$number" = 1 ]; then _fontcut_words "$commands" "$word"; fi ;;
@@ -39,7 +41,7 @@ _fontcut_operand() {
 }
 
 _fontcut() {
-    local commands='check show codes belongs subset join demo help'
+    local commands='check show codes belongs subset slice join demo help'
     local word='' option='' command='' number=1 ended=false at
     COMPREPLY=()
     # The words before the one that is completed: the command, how many operands follow it, and the option
@@ -52,7 +54,7 @@ _fontcut() {
             option=''
         elif ! $ended && [ "$word" = -- ]; then
             ended=true
-        elif ! $ended && [[ $word =~ ^--(text|(text|codes|exclude)-file|unicodes|exclude)$ ]]; then
+        elif ! $ended && [[ $word =~ ^--(text|(text|codes|exclude)-file|unicodes|exclude|slices|css)$ ]]; then
             option=$word
         elif ! $ended && [[ $word == -?* ]]; then
             :
@@ -66,8 +68,8 @@ _fontcut() {
     word=${COMP_WORDS[COMP_CWORD]}
     [ "$word" != = ] || word=''
     case $option in
-    --text | --unicodes | --exclude) ;;
-    --text-file | --codes-file | --exclude-file) _fontcut_files "$word" ;;
+    --text | --unicodes | --exclude | --css) ;;
+    --text-file | --codes-file | --exclude-file | --slices) _fontcut_files "$word" ;;
     *)
         if [[ $word == -* ]] && ! $ended; then
             _fontcut_words "$(_fontcut_options "$command")" "$word"

@@ -1,6 +1,6 @@
 # Completion of the command line of fontcut for fish. It needs no other file.
 
-set -g __fontcut_commands check show codes belongs subset join demo help
+set -g __fontcut_commands check show codes belongs subset slice join demo help
 
 # Prints the options of a command; those of every command where it has no other.
 function __fontcut_options
@@ -10,6 +10,10 @@ function __fontcut_options
         case subset
             printf '%s\n' --text --text-file --codes-file --unicodes --exclude --exclude-file
             printf '%s\n' --report --strict --lean --verbose --help
+        case codes
+            printf '%s\n' --glyphs --verbose --help
+        case slice
+            printf '%s\n' --slices --css --lean --verbose --help
         case belongs join
             printf '%s\n' --lean --verbose --help
         case '*'
@@ -22,7 +26,7 @@ function __fontcut_operand -a name number word
     switch $name
         case join
             __fish_complete_path $word
-        case belongs
+        case belongs slice
             test $number -le 2; and __fish_complete_path $word
         case subset
             if test $number -le 2
@@ -51,7 +55,7 @@ function __fontcut_complete
             set option ''
         else if test $ended = false -a "$before" = --
             set ended true
-        else if test $ended = false; and string match -q -r -- '^--(text|(text|codes|exclude)-file|unicodes|exclude)$' $before
+        else if test $ended = false; and string match -q -r -- '^--(text|(text|codes|exclude)-file|unicodes|exclude|slices|css)$' $before
             set option $before
         else if test $ended = false; and string match -q -- '-?*' $before
             continue
@@ -61,11 +65,11 @@ function __fontcut_complete
             set number (math $number + 1)
         end
     end
-    if contains -- "$option" --text --unicodes --exclude
+    if contains -- "$option" --text --unicodes --exclude --css
         return
     else if test -n "$option"
         __fish_complete_path $word
-    else if test $ended = false; and string match -q -r -- '^--(text|codes|exclude)-file=' $word
+    else if test $ended = false; and string match -q -r -- '^--((text|codes|exclude)-file|slices)=' $word
         set -l parts (string split -m 1 = -- $word)
         printf '%s\n' $parts[1]=(__fish_complete_path $parts[2])
     else if test $ended = false; and string match -q -- '-*' $word

@@ -13,9 +13,15 @@ pub const VERSION: &str = "0.10.0";
 /// The word that stands for standard input where a file is read, and for standard output as OUT.
 pub const STANDARD: &str = "-";
 
+// What `clap` says before the option that it suggests for an unknown one.
+const SUGGESTION: &str = "  tip: a similar argument exists: '--";
+
+// How many letters a suggestion has in common with the unknown option at their beginnings.
+const ALIKE: usize = 3;
+
 // The names of the subcommands, in the order in which help lists them.
-const SUBCOMMANDS: [&str; 7] = [
-    "check", "show", "codes", "belongs", "subset", "join", "demo",
+const SUBCOMMANDS: [&str; 8] = [
+    "check", "show", "codes", "belongs", "subset", "slice", "join", "demo",
 ];
 
 /// A command line.
@@ -34,12 +40,15 @@ pub enum Task<'a> {
     Check { font: &'a str },
     /// Print the numbers and tables of the font at the path `font`.
     Show { font: &'a str },
-    /// Print the mapped codes of the font at the path `font`.
-    Codes { font: &'a str },
+    /// Print the mapped codes of the font at the path `font`, each with its glyph and advance width where
+    /// `with_glyphs` is set.
+    Codes { font: &'a str, with_glyphs: bool },
     /// Print whether the file at the path `cut` is a cut of the font at the path `font`.
     Belongs(Belongs<'a>),
     /// Write the cut of a font to a file.
     Subset(Subset<'a>),
+    /// Write the cuts of a font for several sets of characters to the files of a folder.
+    Slice(Slices<'a>),
     /// Write the join of cuts to a file.
     Join(Join<'a>),
     /// Print what is found in the font that the program carries.
@@ -83,6 +92,23 @@ pub struct Subset<'a> {
     /// Whether nothing is written where a wanted code is not mapped.
     pub is_strict: bool,
     /// Whether the lean cut is written.
+    pub is_lean: bool,
+    /// Whether a report shows characters beside their codes.
+    pub shows_characters: bool,
+}
+
+/// What `slice` asks for.
+#[derive(Debug, Drop)]
+pub struct Slices<'a> {
+    /// The path of the font.
+    pub font: &'a str,
+    /// The path of the folder that the cuts are written to.
+    pub folder: &'a str,
+    /// The path of the file that names the slices and lists their codes.
+    pub slices: &'a str,
+    /// The name of the family in the rules of a style sheet, where these are printed.
+    pub family: Option<&'a str>,
+    /// Whether lean cuts are written.
     pub is_lean: bool,
 }
 
@@ -139,6 +165,10 @@ fn flag<'a>(alloc: Global, long: &'a str, help: &'a str) -> Arg<'a> {
         .help(help)
 }
 
+fn codes_command<'a>(alloc: Global) -> Result<Command<'a>, AllocError> {
+    over_font(alloc, "codes", texts::CODES)?.arg(flag(alloc, "glyphs", texts::GLYPHS))
+}
+
 fn belongs_command<'a>(alloc: Global) -> Result<Command<'a>, AllocError> {
     Command::new(alloc, "belongs")
         .about(texts::BELONGS)
@@ -169,6 +199,23 @@ fn subset_command<'a>(alloc: Global) -> Result<Command<'a>, AllocError> {
         .arg(words)
 }
 
+fn slice_command<'a>(alloc: Global) -> Result<Command<'a>, AllocError> {
+    let slices = Arg::new(alloc, "slices")
+        .long("slices")
+        .value_name("FILE")
+        .required(true)
+        .help(texts::SLICES);
+    let css = Arg::new(alloc, "css")
+        .long("css")
+        .value_name("FAMILY")
+        .help(texts::CSS);
+    over_font(alloc, "slice", texts::SLICE)?
+        .arg(required(alloc, "FOLDER").help(texts::FOLDER))?
+        .arg(slices)?
+        .arg(css)?
+        .arg(flag(alloc, "lean", texts::LEAN_SLICES))
+}
+
 fn join_command<'a>(alloc: Global) -> Result<Command<'a>, AllocError> {
     let files = Arg::new(alloc, "FILES")
         .num_args(1..)
@@ -191,9 +238,10 @@ fn subcommand<'a>(alloc: Global, name: &str) -> Result<Option<Command<'a>>, Allo
     Ok(Some(match name {
         "check" => over_font(alloc, "check", texts::CHECK)?.after_help(texts::AFTER_CHECK),
         "show" => over_font(alloc, "show", texts::SHOW)?.after_help(texts::AFTER_SHOW),
-        "codes" => over_font(alloc, "codes", texts::CODES)?.after_help(texts::AFTER_CODES),
+        "codes" => codes_command(alloc)?.after_help(texts::AFTER_CODES),
         "belongs" => belongs_command(alloc)?.after_help(texts::AFTER_BELONGS),
         "subset" => subset_command(alloc)?.after_help(texts::AFTER_SUBSET),
+        "slice" => slice_command(alloc)?.after_help(texts::AFTER_SLICE),
         "join" => join_command(alloc)?.after_help(texts::AFTER_JOIN),
         "demo" => demo_command(alloc).after_help(texts::AFTER_DEMO),
         _ => return Ok(None),
@@ -223,13 +271,32 @@ fn whole_command<'a>(alloc: Global) -> Result<Command<'a>, AllocError> {
     Ok(command)
 }
 
+// Returns a text of `clap` without its suggestion of another option, where that does not begin as the unknown one
+// does: `--text-file` is none for `--output-file`.
+fn without_suggestion(alloc: Global, text: String) -> Result<String, AllocError> {
+    let Some((before, tip)) = text.split_once(SUGGESTION) else {
+        return Ok(text);
+    };
+    let (suggested, after) = tip.split_once("'\n\n").unwrap_or((tip, ""));
+    let unknown = before.split_once("'--").map_or("", |(_, word)| word);
+    if unknown.as_bytes().get(..ALIKE) == suggested.as_bytes().get(..ALIKE) {
+        return Ok(text);
+    }
+    let mut kept = String::from_str(alloc, before)?;
+    kept.push_str(after)?;
+    Ok(kept)
+}
+
 // Returns what an error of `clap` comes to, by which it also answers a call for help or the version.
 fn explained(alloc: Global, fault: &Error) -> LineError {
     if fault.kind() == ErrorKind::OutOfMemory {
         return LineError::NoMemory;
     }
     match fault.to_string(alloc) {
-        Ok(text) if fault.use_stderr() => LineError::Words(text),
+        Ok(text) if fault.use_stderr() => match without_suggestion(alloc, text) {
+            Ok(text) => LineError::Words(text),
+            Err(_) => LineError::NoMemory,
+        },
         Ok(text) => LineError::Help(text),
         Err(_) => LineError::NoMemory,
     }
@@ -247,6 +314,7 @@ fn values_of<'a>(
 fn subset_task<'a>(
     alloc: Global,
     matches: &ArgMatches<'a>,
+    is_verbose: bool,
 ) -> Result<Option<Task<'a>>, AllocError> {
     let (Some(font), Some(out)) = (matches.get_str("FONT"), matches.get_str("OUT")) else {
         return Ok(None);
@@ -264,7 +332,15 @@ fn subset_task<'a>(
         reports: matches.get_flag("report"),
         is_strict: matches.get_flag("strict"),
         is_lean: matches.get_flag("lean"),
+        shows_characters: is_verbose,
     })))
+}
+
+fn codes_task<'a>(matches: &ArgMatches<'a>) -> Option<Task<'a>> {
+    Some(Task::Codes {
+        font: matches.get_str("FONT")?,
+        with_glyphs: matches.get_flag("glyphs"),
+    })
 }
 
 fn belongs_task<'a>(matches: &ArgMatches<'a>) -> Option<Task<'a>> {
@@ -274,6 +350,16 @@ fn belongs_task<'a>(matches: &ArgMatches<'a>) -> Option<Task<'a>> {
     Some(Task::Belongs(Belongs {
         cut,
         font,
+        is_lean: matches.get_flag("lean"),
+    }))
+}
+
+fn slice_task<'a>(matches: &ArgMatches<'a>) -> Option<Task<'a>> {
+    Some(Task::Slice(Slices {
+        font: matches.get_str("FONT")?,
+        folder: matches.get_str("FOLDER")?,
+        slices: matches.get_str("slices")?,
+        family: matches.get_str("css"),
         is_lean: matches.get_flag("lean"),
     }))
 }
@@ -293,13 +379,15 @@ fn task_of<'a>(
     alloc: Global,
     name: &str,
     matches: &ArgMatches<'a>,
+    is_verbose: bool,
 ) -> Result<Option<Task<'a>>, AllocError> {
     Ok(match name {
         "check" => matches.get_str("FONT").map(|font| Task::Check { font }),
         "show" => matches.get_str("FONT").map(|font| Task::Show { font }),
-        "codes" => matches.get_str("FONT").map(|font| Task::Codes { font }),
+        "codes" => codes_task(matches),
         "belongs" => belongs_task(matches),
-        "subset" => subset_task(alloc, matches)?,
+        "subset" => subset_task(alloc, matches, is_verbose)?,
+        "slice" => slice_task(matches),
         "join" => join_task(alloc, matches)?,
         "demo" => Some(Task::Demo),
         _ => None,
@@ -312,7 +400,7 @@ fn line_of<'a>(alloc: Global, matches: &ArgMatches<'a>) -> Result<Option<Line<'a
         return Ok(None);
     };
     let is_verbose = matches.get_flag("verbose") || inner.get_flag("verbose");
-    match task_of(alloc, name, inner)? {
+    match task_of(alloc, name, inner, is_verbose)? {
         Some(task) => Ok(Some(Line { task, is_verbose })),
         None => Ok(None),
     }
@@ -358,6 +446,7 @@ fn reads_input_twice(task: &Task<'_>) -> bool {
             .saturating_add(standard_count(&line.excluded_files)),
         Task::Join(line) => standard_count(&line.files),
         Task::Belongs(line) => standard_count(&[line.cut, line.font]),
+        Task::Slice(line) => standard_count(&[line.font, line.slices]),
         _ => 0,
     };
     1 < count

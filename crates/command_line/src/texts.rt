@@ -35,11 +35,16 @@ Statuses: 0 shown; 1 the font is refused; 2 words; 3 files";
 pub(crate) const CODES: &str =
     "Prints the codes that FONT maps, ascending: a range word a line, as subset --codes-file reads them";
 
+pub(crate) const GLYPHS: &str =
+    "Prints a line for each code: the code, the number of its glyph, and its advance width";
+
 pub(crate) const AFTER_CODES: &str = "\
-A range is as long as it can be: U+41 for one code, U+41-5A for those from U+41 to U+5A.
+A range is as long as it can be: U+41 for one code, U+41-5A for those from U+41 to U+5A. With --glyphs the
+lines are like U+41 36 1401, in font units; subset --codes-file reads these too, and takes their codes.
 
 Examples:
   fontcut codes font.ttf
+  fontcut codes font.ttf --glyphs
   fontcut codes small.ttf | fontcut subset large.ttf cut.ttf --codes-file -
 
 Statuses: 0 printed; 1 the font is refused; 2 words; 3 files";
@@ -107,6 +112,29 @@ Examples:
   fontcut subset font.ttf cut.ttf --unicodes 'U+4??, U+20AC' --exclude 450-45F
 
 Statuses: 0 done; 1 the font is refused, or --strict and a code is not mapped; 2 words; 3 files";
+
+pub(crate) const SLICE: &str =
+    "Cuts FONT for each slice of a file: writes FOLDER/NAME.ttf for each, and overwrites what is there";
+
+pub(crate) const FOLDER: &str = "The path of a folder, which is made where there is none";
+
+pub(crate) const SLICES: &str =
+    "The file of slices: in each line a name and a list as that of --unicodes; # starts a comment";
+
+pub(crate) const CSS: &str =
+    "Prints the rules of a style sheet for the slices, as parts of the family FAMILY";
+
+pub(crate) const LEAN_SLICES: &str = "Writes lean cuts, as subset --lean does";
+
+pub(crate) const AFTER_SLICE: &str = "\
+A line of the file of slices: latin U+20-7E,U+A0-FF. The font is tested once for all slices. A rule lists
+those codes of its slice that the font maps; a slice of none has no rule.
+
+Examples:
+  fontcut slice font.ttf slices --slices slices.txt --lean
+  fontcut slice font.ttf slices --slices slices.txt --lean --css 'My Font' >slices/font.css
+
+Statuses: 0 done; 1 the font is refused; 2 words, or a line of the file of slices; 3 files";
 
 pub(crate) const JOIN: &str =
     "Joins FILES, cuts of one font, into OUT: the cut for all their characters. OUT comes first and \

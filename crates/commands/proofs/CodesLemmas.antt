@@ -97,10 +97,10 @@ member_below low (range ∷ ranges) c o x =
     ap (λ (t : Bool). t || member ranges c) (between_below range.first range.last c (omega (arith, o.0, x)))
     ∙ member_below (range.last + 2) ranges c o.2 (omega (arith, o.0, o.1, x))
 
-mapped_no : (m : ℕ → ℕ) (c : ℕ) → m c ≡ 0 → is_mapped m c ≡ false
+pub mapped_no : (m : ℕ → ℕ) (c : ℕ) → m c ≡ 0 → is_mapped m c ≡ false
 mapped_no m c e = ap (nat_lt 0) e
 
-run-mapped : (m : ℕ → ℕ) (from : ℕ) (run : Run) → IsRun m from run → (c : ℕ) → run.first ≤ c → c ≤ run.last → is_mapped m c ≡ true
+pub run-mapped : (m : ℕ → ℕ) (from : ℕ) (run : Run) → IsRun m from run → (c : ℕ) → run.first ≤ c → c ≤ run.last → is_mapped m c ≡ true
 run-mapped m from run h c x y =
     let some : 0 < m c = omega (arith, run_gives m from run h c x y, h.piece.mapped) in
     grind (arith, nat_tests)
@@ -173,7 +173,7 @@ digits-spell n h =
     }
 
 -- the word of a range names it
-word-reads : (range : Range) → range.first ≤ range.last → range.last ≤ 0x10FFFF → IsReadBack range
+pub word-reads : (range : Range) → range.first ≤ range.last → range.last ≤ 0x10FFFF → IsReadBack range
 word-reads range o w =
     let first = digits-spell range.first (omega (arith, o, w)) in
     let last = digits-spell range.last w in

@@ -1,5 +1,6 @@
 pub mod CheckLemmas
 pub mod CodesLemmas
+pub mod GlyphsLemmas
 pub mod JoinRunLemmas
 pub mod LineLemmas
 pub mod ReadEachLemmas

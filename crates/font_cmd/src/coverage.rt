@@ -1,5 +1,6 @@
 //! What `--report` says of a font: the wanted codes that it lacks, and the tables that a cut of it drops.
 use crate::code_set::{CodeSet, count_of};
+use crate::shown::shown_character;
 use font_cut::{Chart, Font};
 use std::alloc::{AllocError, Global};
 
@@ -25,8 +26,11 @@ pub(crate) struct Coverage {
     is_full: bool,
 }
 
-// Returns the codes that a font maps.
-fn mapped_codes(alloc: Global, font: &Font<'_>) -> Result<CodeSet, AllocError> {
+/// Returns the codes that a font maps.
+///
+/// # Errors
+/// `AllocError` where memory is refused.
+pub(crate) fn mapped_codes(alloc: Global, font: &Font<'_>) -> Result<CodeSet, AllocError> {
     let mut codes = CodeSet::new(alloc);
     let Ok(chart) = Chart::of(alloc, font.mapping()) else {
         return Err(AllocError);
@@ -63,14 +67,31 @@ fn first_lines(alloc: Global, wanted: u32, lacking: u32) -> Result<String, Alloc
     format!(in alloc; "wanted {wanted}\nmapped {mapped}\n")
 }
 
+// Adds the characters of the first and the last code of a range, where both can be shown.
+fn add_characters(text: &mut String, first: u32, last: u32) -> Result<(), AllocError> {
+    match (shown_character(first), shown_character(last)) {
+        (Some(character), Some(_)) if first == last => write!(text, " {character}")?,
+        (Some(from), Some(to)) => write!(text, " {from}-{to}")?,
+        _ => {}
+    }
+    Ok(())
+}
+
 // Adds a line for each range of codes, up to some number, and one that says how many more there are.
-fn add_unmapped(text: &mut String, ranges: &[(u32, u32)]) -> Result<(), AllocError> {
+fn add_unmapped(
+    text: &mut String,
+    ranges: &[(u32, u32)],
+    shows_characters: bool,
+) -> Result<(), AllocError> {
     for &(first, last) in ranges.iter().take(LISTED) {
-        if first == last {
-            write!(text, "unmapped U+{first:X}\n")?;
-        } else {
-            write!(text, "unmapped U+{first:X}-{last:X}\n")?;
+        write!(text, "unmapped U+{first:X}")?;
+        if first != last {
+            write!(text, "-{last:X}")?;
         }
+        if shows_characters {
+            add_characters(text, first, last)?;
+        }
+        text.push('\n')?;
     }
     let more = ranges.len().saturating_sub(LISTED);
     if more > 0 {
@@ -92,17 +113,19 @@ fn add_font(text: &mut String, font: &Font<'_>) -> Result<(), AllocError> {
 }
 
 impl Coverage {
-    /// Returns what is said of a font and of the codes that are wanted. All memory that it needs is
+    /// Returns what is said of a font and of the codes that are wanted, with the characters of those that it
+    /// lacks where they are to be shown. All memory that it needs is
     /// asked for here.
     pub(crate) fn of(
         alloc: Global,
         font: &Font<'_>,
         wanted: &CodeSet,
+        shows_characters: bool,
     ) -> Result<Coverage, AllocError> {
         let unmapped = unmapped_ranges(alloc, font, wanted)?;
         let (count, lacking) = (code_count(alloc, wanted)?, count_of(&unmapped));
         let mut text = first_lines(alloc, count, lacking)?;
-        add_unmapped(&mut text, &unmapped)?;
+        add_unmapped(&mut text, &unmapped, shows_characters)?;
         add_font(&mut text, font)?;
         text.reserve(LEAN_LINES.len() + LAST_LINE.len())?;
         Ok(Coverage {

@@ -4,6 +4,7 @@ ghost use Rattle.streams.specs.Inlet.{inlet_fresh_of};
 
 use crate::code_set::CodeSet;
 use crate::coverage::Coverage;
+use crate::held_files::HeldFiles;
 use crate::inputs::{opened, sources};
 use crate::listed_word::is_range_word;
 use crate::outcome::Outcome;
@@ -17,11 +18,10 @@ use commands::{RunError, run_lean_subset, run_subset};
 use font_cut::{Font, Wanted};
 use std::alloc::Global;
 use std::io::{Read, Write};
-use std::rt::Files;
 use streams::Inlet;
 
 // Sends the cut of what an inlet reads to OUT, and answers its size.
-fn send_cut<'a, F: Files, I, O: Write + Copy + Drop, R: Read>(
+fn send_cut<'a, F: HeldFiles, I, O: Write + Copy + Drop, R: Read>(
     system: &System<'a, F, I, O>,
     line: &Subset<'a>,
     inlet: &mut Inlet<R>,
@@ -45,7 +45,7 @@ fn send_cut<'a, F: Files, I, O: Write + Copy + Drop, R: Read>(
 }
 
 // Sends the cut for the wanted codes of what an inlet reads to OUT, and answers its size.
-fn cut<'a, F: Files, I, O: Write + Copy + Drop, R: Read>(
+fn cut<'a, F: HeldFiles, I, O: Write + Copy + Drop, R: Read>(
     system: &System<'a, F, I, O>,
     line: &Subset<'a>,
     inlet: &mut Inlet<R>,
@@ -59,21 +59,21 @@ fn cut<'a, F: Files, I, O: Write + Copy + Drop, R: Read>(
     }
 }
 
-// Returns what is said of a font, whose path and file these are, and of the codes that are wanted.
+// Returns what is said of a font, whose file this is, and of the codes that are wanted.
 fn covered<'a>(
     alloc: Global,
-    path: &'a str,
+    line: &Subset<'a>,
     file: &[u8],
     codes: &CodeSet,
 ) -> Result<Coverage, Fault<'a>> {
     let font = match Font::open(file) {
         Ok(font) => font,
         Err(error) => {
-            let error = RunError::Font(error);
+            let (path, error) = (line.font, RunError::Font(error));
             return Err(Fault::RefusedFile { path, error });
         }
     };
-    match Coverage::of(alloc, &font, codes) {
+    match Coverage::of(alloc, &font, codes, line.shows_characters) {
         Ok(coverage) => Ok(coverage),
         Err(_) => Err(no_memory()),
     }
@@ -91,13 +91,13 @@ fn with_report<'a>(line: &Subset<'a>, coverage: Coverage, size: u64) -> Result<O
 }
 
 // Cuts a font, whose file this is, for the codes that are wanted, and reports on them.
-fn cut_of_file<'a, F: Files, I, O: Write + Copy + Drop>(
+fn cut_of_file<'a, F: HeldFiles, I, O: Write + Copy + Drop>(
     system: &System<'a, F, I, O>,
     line: &Subset<'a>,
     file: &[u8],
     codes: CodeSet,
 ) -> Result<Outcome, Fault<'a>> {
-    let coverage = covered(system.alloc, line.font, file, &codes)?;
+    let coverage = covered(system.alloc, line, file, &codes)?;
     if line.is_strict && !coverage.is_full() {
         return match coverage.unwritten_text(system.alloc) {
             Ok(text) => Ok(Outcome::saying(false, text)),
@@ -109,7 +109,7 @@ fn cut_of_file<'a, F: Files, I, O: Write + Copy + Drop>(
 }
 
 // Cuts a font, which is held in memory, and says which wanted codes it lacks and what is dropped.
-fn cut_with_report<'a, F: Files, I, O: Write + Copy + Drop, R: Read>(
+fn cut_with_report<'a, F: HeldFiles, I, O: Write + Copy + Drop, R: Read>(
     system: &System<'a, F, I, O>,
     line: &Subset<'a>,
     inlet: &mut Inlet<R>,
@@ -155,7 +155,7 @@ impl Choice {
 }
 
 // Adds the codes of the files that a line names, which are all opened before one is read.
-fn add_all_files<'a, F: Files, I: Read + Copy + Drop, O>(
+fn add_all_files<'a, F: HeldFiles, I: Read + Copy + Drop, O>(
     system: &System<'a, F, I, O>,
     line: &Subset<'a>,
     choice: &mut Choice,
@@ -181,7 +181,7 @@ fn add_all_files<'a, F: Files, I: Read + Copy + Drop, O>(
 ///
 /// # Errors
 /// The first fault.
-pub(crate) fn subset<'a, F: Files, I: Read + Copy + Drop, O: Write + Copy + Drop>(
+pub(crate) fn subset<'a, F: HeldFiles, I: Read + Copy + Drop, O: Write + Copy + Drop>(
     system: &System<'a, F, I, O>,
     line: &Subset<'a>,
 ) -> Result<Outcome, Fault<'a>> {

@@ -4,20 +4,23 @@ ghost use Rattle.streams.specs.Outlet.{fresh_of};
 
 use crate::cutting::subset;
 use crate::demo::demo_text;
+use crate::held_files::HeldFiles;
 use crate::inputs::opened;
 use crate::joining::join;
 use crate::outcome::{Details, NO_DETAILS, Outcome, answered, ended, print, report, say};
 use crate::refused_file::refused_kind;
 use crate::report::{Fault, no_memory};
+use crate::slicing::slice;
 use crate::system::{Reason, System};
 use command_line::{Belongs, Line, LineError, Task, parse};
-use commands::{RunError, run_belongs, run_check, run_codes, run_lean_belongs, run_show};
+use commands::{
+    RunError, run_belongs, run_check, run_codes, run_glyphs, run_lean_belongs, run_show,
+};
 use font_cut::{Outlet, Which};
 use std::alloc::Global;
 use std::io::{Read, Write};
-use std::rt::Files;
 
-fn check<'a, F: Files, I: Read + Copy + Drop, O, W: Write>(
+fn check<'a, F: HeldFiles, I: Read + Copy + Drop, O, W: Write>(
     system: &System<'a, F, I, O>,
     font: &'a str,
     out: &mut Outlet<W>,
@@ -28,7 +31,7 @@ fn check<'a, F: Files, I: Read + Copy + Drop, O, W: Write>(
     answered(font, run_check(system.alloc, &mut inlet, out))
 }
 
-fn show<'a, F: Files, I: Read + Copy + Drop, O, W: Write>(
+fn show<'a, F: HeldFiles, I: Read + Copy + Drop, O, W: Write>(
     system: &System<'a, F, I, O>,
     font: &'a str,
     out: &mut Outlet<W>,
@@ -39,21 +42,24 @@ fn show<'a, F: Files, I: Read + Copy + Drop, O, W: Write>(
     answered(font, run_show(system.alloc, &mut inlet, out).map(|()| true))
 }
 
-fn codes<'a, F: Files, I: Read + Copy + Drop, O, W: Write>(
+fn codes<'a, F: HeldFiles, I: Read + Copy + Drop, O, W: Write>(
     system: &System<'a, F, I, O>,
     font: &'a str,
+    with_glyphs: bool,
     out: &mut Outlet<W>,
 ) -> Result<Outcome, Fault<'a>>
     requires { fresh_of out.old ≡ true }
 {
     let mut inlet = opened(system, font)?;
-    answered(
-        font,
-        run_codes(system.alloc, &mut inlet, out).map(|()| true),
-    )
+    let sent = if with_glyphs {
+        run_glyphs(system.alloc, &mut inlet, out)
+    } else {
+        run_codes(system.alloc, &mut inlet, out)
+    };
+    answered(font, sent.map(|()| true))
 }
 
-fn belongs<'a, F: Files, I: Read + Copy + Drop, O, W: Write>(
+fn belongs<'a, F: HeldFiles, I: Read + Copy + Drop, O, W: Write>(
     system: &System<'a, F, I, O>,
     line: &Belongs<'a>,
     out: &mut Outlet<W>,
@@ -95,7 +101,7 @@ fn demo<W: Write>(alloc: Global, out: &mut Outlet<W>) -> Result<Outcome, Fault<'
 }
 
 // Does what a task asks for.
-fn done<'a, F: Files, I: Read + Copy + Drop, O: Write + Copy + Drop, W: Write>(
+fn done<'a, F: HeldFiles, I: Read + Copy + Drop, O: Write + Copy + Drop, W: Write>(
     system: &System<'a, F, I, O>,
     task: &Task<'a>,
     out: &mut Outlet<W>,
@@ -105,16 +111,17 @@ fn done<'a, F: Files, I: Read + Copy + Drop, O: Write + Copy + Drop, W: Write>(
     match task {
         Task::Check { font } => check(system, font, out),
         Task::Show { font } => show(system, font, out),
-        Task::Codes { font } => codes(system, font, out),
+        Task::Codes { font, with_glyphs } => codes(system, font, *with_glyphs, out),
         Task::Belongs(line) => belongs(system, line, out),
         Task::Subset(line) => subset(system, line),
         Task::Join(line) => join(system, line),
+        Task::Slice(line) => slice(system, line, out),
         Task::Demo => demo(system.alloc, out),
     }
 }
 
 // Does what a line asks for, and answers the status.
-fn run_line<'a, F: Files, I: Read + Copy + Drop, O: Write + Copy + Drop, W: Write, V: Write>(
+fn run_line<'a, F: HeldFiles, I: Read + Copy + Drop, O: Write + Copy + Drop, W: Write, V: Write>(
     system: &System<'a, F, I, O>,
     line: &Line<'a>,
     out: &mut Outlet<W>,
@@ -151,7 +158,7 @@ pub fn run_on_system<'a, F, I, O, W, V>(
     err: &mut Outlet<V>,
 ) -> u8
 where
-    F: Files,
+    F: HeldFiles,
     I: Read + Copy + Drop,
     O: Write + Copy + Drop,
     W: Write,

@@ -2,6 +2,7 @@
 ghost use Rattle.std.specs.Prelude.{◌≡◌, true};
 ghost use Rattle.commands.specs.Join.{AreFresh};
 
+use crate::held_files::HeldFiles;
 use crate::inputs::opened_each;
 use crate::outcome::Outcome;
 use crate::output::{outlet, placed};
@@ -10,7 +11,6 @@ use crate::system::System;
 use command_line::Join;
 use commands::{RunError, run_join, run_lean_join};
 use std::io::{Read, Write};
-use std::rt::Files;
 use streams::Inlet;
 
 // Returns the path of the inlet whose reader has failed.
@@ -35,7 +35,7 @@ fn join_fault<'a, R: Read>(line: &Join<'a>, inlets: &[Inlet<R>], error: RunError
 }
 
 // Sends the join of what inlets read to OUT.
-fn send_join<'a, F: Files, I, O: Write + Copy + Drop, R: Read>(
+fn send_join<'a, F: HeldFiles, I, O: Write + Copy + Drop, R: Read>(
     system: &System<'a, F, I, O>,
     line: &Join<'a>,
     inlets: &mut [Inlet<R>],
@@ -61,7 +61,7 @@ fn send_join<'a, F: Files, I, O: Write + Copy + Drop, R: Read>(
 ///
 /// # Errors
 /// The first fault.
-pub(crate) fn join<'a, F: Files, I: Read + Copy + Drop, O: Write + Copy + Drop>(
+pub(crate) fn join<'a, F: HeldFiles, I: Read + Copy + Drop, O: Write + Copy + Drop>(
     system: &System<'a, F, I, O>,
     line: &Join<'a>,
 ) -> Result<Outcome, Fault<'a>> {

@@ -1,18 +1,21 @@
 //! Files that are written. A regular file is replaced whole: its bytes are gathered in a new file beside it.
 //! This project's own.
+use crate::held_files::HeldFiles;
 use std::alloc::{AllocError, Global};
-use std::fs::OpenOptions;
+use std::fs::{OpenFile, OpenOptions, TryLockError};
 use std::io::{ErrorKind, Write};
 use std::os::unix::fs::{MetadataExt, OpenOptionsExt, chown};
 use std::path::PathBuf;
-use std::rt::Files;
 use std::{fs, io};
 
 // How many links a path is followed through, as many as Linux follows.
 const LINKS: usize = 40;
 
-// How many names are tried for the file beside OUT: killed processes may have left some there.
+// How many names are tried for the file beside OUT: one for each process that writes in its folder at a time.
 const NAMES: u32 = 1_000_000;
+
+// The number of the error that a file is there already, EEXIST.
+const FILE_EXISTS: i32 = 17;
 
 // The longest name of the file beside OUT.
 const LONGEST: &str = ".fontcut-999999";
@@ -25,7 +28,7 @@ const HANDLES: [&str; 2] = ["/proc/", "/dev/fd/"];
 /// Where a regular file or none stands at the path, a new file beside it takes the bytes, and `place`
 /// gives it the path's name. It is removed where it is dropped before that. A device, a pipe, and a file
 /// in a folder that takes no new file are written to directly.
-pub struct OutFile<'a, F: Files> {
+pub struct OutFile<'a, F: HeldFiles> {
     files: &'a F,
     // The path with the links at its end followed.
     path: PathBuf,
@@ -50,7 +53,7 @@ fn is_handle(path: &PathBuf) -> bool {
 }
 
 // Follows the links at the end of a path, also where the last one leads nowhere.
-fn followed<F: Files>(files: &F, alloc: Global, path: &str) -> Result<PathBuf, AllocError> {
+fn followed<F: HeldFiles>(files: &F, alloc: Global, path: &str) -> Result<PathBuf, AllocError> {
     let mut path = PathBuf::from_str(alloc, path)?;
     for _ in 0..LINKS {
         if is_handle(&path) {
@@ -79,7 +82,7 @@ fn longest_beside(alloc: Global, path: &PathBuf) -> Result<PathBuf, AllocError> 
     Ok(beside)
 }
 
-impl<'a, F: Files> OutFile<'a, F> {
+impl<'a, F: HeldFiles> OutFile<'a, F> {
     /// Returns the file at a path, at which nothing is changed yet. All memory that it needs is asked
     /// for here.
     ///
@@ -97,22 +100,71 @@ impl<'a, F: Files> OutFile<'a, F> {
         })
     }
 
-    // Makes the file beside the path, by a name that is free.
+    // Puts a number into the name of the file beside the path.
+    fn name_beside(&mut self, number: u32) -> io::Result<()> {
+        self.name.clear();
+        write!(self.name, ".fontcut-{number}")?;
+        Ok(self.beside.set_file_name(self.name.as_str())?)
+    }
+
+    // Returns whether an open file is the one that has the name beside the path: another process may have
+    // moved it to its OUT, or removed it.
+    fn is_beside_path(&self, file: &F::File) -> io::Result<bool> {
+        let opened = file.metadata()?;
+        match fs::symlink_metadata(self.files, self.beside.as_path()) {
+            Ok(stands) => Ok(opened.ino() == stands.ino() && opened.dev() == stands.dev()),
+            Err(error) if error.kind() == ErrorKind::NotFound => Ok(false),
+            Err(error) => Err(error),
+        }
+    }
+
+    // Makes a file by the name beside the path and holds it, or returns none where a file has that name. Another
+    // process may take the new file for one that is left, before it is held.
+    fn create_named(&mut self, how: &OpenOptions) -> io::Result<Option<F::File>> {
+        let file = match how.open(self.files, self.beside.as_path()) {
+            Ok(file) => file,
+            Err(error) if error.kind() == ErrorKind::AlreadyExists => return Ok(None),
+            Err(error) => return Err(error),
+        };
+        match self.files.hold(&file) {
+            Err(TryLockError::WouldBlock) => Ok(None),
+            // A file system that has no locks still takes the file.
+            _ if self.is_beside_path(&file)? => Ok(Some(file)),
+            _ => Ok(None),
+        }
+    }
+
+    // Removes the file of the name beside the path where no process holds it, and returns whether it did.
+    fn remove_left(&self) -> io::Result<bool> {
+        let stands = fs::symlink_metadata(self.files, self.beside.as_path())?;
+        if !stands.is_file() {
+            return Ok(false);
+        }
+        let file = OpenOptions::new()
+            .write(true)
+            .open(self.files, self.beside.as_path())?;
+        if self.files.hold(&file).is_err() || !self.is_beside_path(&file)? {
+            return Ok(false);
+        }
+        fs::remove_file(self.files, self.beside.as_path())?;
+        Ok(true)
+    }
+
+    // Makes the file beside the path, by the first name that is free or that a process which was killed has
+    // left.
     fn create_beside(&mut self, how: &OpenOptions) -> io::Result<F::File> {
         for number in 0..NAMES {
-            self.name.clear();
-            write!(self.name, ".fontcut-{number}")?;
-            self.beside.set_file_name(self.name.as_str())?;
-            match how.open(self.files, self.beside.as_path()) {
-                Ok(file) => {
-                    self.is_beside = true;
-                    return Ok(file);
-                }
-                Err(error) if error.kind() == ErrorKind::AlreadyExists => {}
-                Err(error) => return Err(error),
+            self.name_beside(number)?;
+            let mut made = self.create_named(how)?;
+            if made.is_none() && self.remove_left().unwrap_or(false) {
+                made = self.create_named(how)?;
+            }
+            if let Some(file) = made {
+                self.is_beside = true;
+                return Ok(file);
             }
         }
-        Err(io::Error::from(ErrorKind::AlreadyExists))
+        Err(io::Error::from_raw_os_error(FILE_EXISTS))
     }
 
     // Makes the file beside the path, or else opens the file at the path where its folder takes no new one.
@@ -159,16 +211,17 @@ impl<'a, F: Files> OutFile<'a, F> {
     /// # Errors
     /// That of the system; then the path is as it was.
     pub fn place(mut self) -> io::Result<()> {
-        self.opened = None;
+        // It is held until it has its new name.
         if self.is_beside {
             fs::rename(self.files, self.beside.as_path(), self.path.as_path())?;
             self.is_beside = false;
         }
+        self.opened = None;
         Ok(())
     }
 }
 
-impl<F: Files> Write for OutFile<'_, F> {
+impl<F: HeldFiles> Write for OutFile<'_, F> {
     fn write(&mut self, bytes: &[u8]) -> io::Result<usize> {
         if self.opened.is_none() {
             self.opened = Some(self.open()?);
@@ -189,14 +242,14 @@ impl<F: Files> Write for OutFile<'_, F> {
 
 /// What OUT is: a file, or standard output.
 #[derive(Drop)]
-pub enum Target<'a, F: Files, O> {
+pub enum Target<'a, F: HeldFiles, O> {
     /// The file at a path.
     File(OutFile<'a, F>),
     /// Standard output.
     Standard(O),
 }
 
-impl<F: Files, O: Write + Drop> Target<'_, F, O> {
+impl<F: HeldFiles, O: Write + Drop> Target<'_, F, O> {
     /// Moves the finished file to the path, where there is one.
     ///
     /// # Errors
@@ -209,7 +262,7 @@ impl<F: Files, O: Write + Drop> Target<'_, F, O> {
     }
 }
 
-impl<F: Files, O: Write> Write for Target<'_, F, O> {
+impl<F: HeldFiles, O: Write> Write for Target<'_, F, O> {
     fn write(&mut self, bytes: &[u8]) -> io::Result<usize> {
         match self {
             Target::File(file) => file.write(bytes),
@@ -225,18 +278,20 @@ impl<F: Files, O: Write> Write for Target<'_, F, O> {
     }
 }
 
-impl<F: Files> Drop for OutFile<'_, F> {
+impl<F: HeldFiles> Drop for OutFile<'_, F> {
     fn drop(self) {
         let OutFile {
             files,
             path: _,
             beside,
             name: _,
-            opened: _,
+            opened,
             is_beside,
         } = self;
+        // It is held until it is gone.
         if is_beside {
             let _ = fs::remove_file(files, beside.as_path());
         }
+        drop(opened);
     }
 }

@@ -4,9 +4,9 @@ ghost use Rattle.streams.specs.Outlet.{fresh_of};
 
 use crate::inputs::input_name;
 use crate::report::{Fault, no_memory};
-use crate::shown::Shown;
+use crate::shown::{Shown, shown_character};
 use commands::RunError;
-use font_cut::Outlet;
+use font_cut::{JoinAllError, JoinError, Outlet};
 use std::alloc::{AllocError, Global};
 use std::io;
 use std::io::Write;
@@ -17,9 +17,23 @@ pub(crate) const STANDARD_OUTPUT: &str = "standard output";
 // The status where a report cannot be written.
 const UNWRITTEN: u8 = 3;
 
+// The number of the system's error that a process has as many files open as it may, EMFILE.
+const TOO_MANY_FILES: i32 = 24;
+
+// What to do then.
+const IN_SEVERAL_CALLS: &str = "\
+fontcut: this is the limit of open files, which ulimit -n shows; cuts can be joined in several calls, and
+fontcut: these joins in one more
+";
+
 // How ranges are written.
 const RANGES: &str =
     "fontcut: a range is written U+41, U+41-5A or all; in lists 41-5A and U+4?? too\n";
+
+// What names slices have.
+const NAMES: &str = "\
+fontcut: the name of a slice has letters and digits of ASCII, and -, _ and . after the first; each stands once
+";
 
 /// What a task comes to where nothing is at fault.
 #[derive(Drop)]
@@ -91,21 +105,43 @@ fn add_refused(
     Ok(())
 }
 
+// Adds the character that two files map differently.
+fn add_character(text: &mut String, error: &RunError) -> Result<(), AllocError> {
+    let RunError::Join(
+        JoinAllError::At {
+            step: _,
+            error: JoinError::DifferentMapping(code),
+        },
+    ) = error
+    else {
+        return Ok(());
+    };
+    if let Some(character) = shown_character(*code) {
+        write!(text, "fontcut: U+{code:04X} is {character}\n")?;
+    }
+    Ok(())
+}
+
 // Adds what is known beyond the first line of a message.
 fn add_details(text: &mut String, fault: &Fault<'_>, details: Details) -> Result<(), AllocError> {
     if !details.is_wanted {
         return Ok(());
     }
     match (fault, details.reason) {
-        (Fault::Unread(_) | Fault::Unwritten(_), Some(number)) => {
+        (Fault::Unread(_) | Fault::Unwritten(_) | Fault::UnwrittenIn { .. }, Some(number)) => {
             let error = io::Error::from_raw_os_error(number);
             write!(text, "fontcut: {error}\n")?;
+            if number == TOO_MANY_FILES {
+                text.push_str(IN_SEVERAL_CALLS)?;
+            }
         }
         (Fault::BadWord(_) | Fault::BadListed { .. } | Fault::BadLine { word: Some(_), .. }, _) => {
             text.push_str(RANGES)?;
         }
+        (Fault::BadName { .. }, _) => text.push_str(NAMES)?,
         (Fault::RefusedFile { path, .. }, _) => add_refused(text, path, details.kind)?,
-        (Fault::NotJoined { path, first, .. }, _) => {
+        (Fault::NotJoined { path, first, error }, _) => {
+            add_character(text, error)?;
             let (path, first) = (Shown(path), Shown(first));
             write!(text, "fontcut: {path} is no cut of the font of {first}\n")?;
         }
@@ -175,7 +211,7 @@ pub(crate) fn answered(font: &str, is_well: Result<bool, RunError>) -> Result<Ou
     }
 }
 
-//// Says what was done or what is at fault, and answers the status.
+/// Says what was done or what is at fault, and answers the status.
 pub(crate) fn ended<V: Write>(
     alloc: Global,
     err: &mut Outlet<V>,

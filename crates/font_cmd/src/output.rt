@@ -2,22 +2,22 @@
 ghost use Rattle.std.specs.Prelude.{◌≡◌, IfOk, true};
 ghost use Rattle.streams.specs.Outlet.{fresh_of};
 
+use crate::held_files::HeldFiles;
 use crate::out_file::{OutFile, Target};
 use crate::report::{Fault, no_memory};
 use crate::system::{KeepsReason, System};
 use command_line::STANDARD;
 use font_cut::Outlet;
 use std::io::{BufWriter, Write};
-use std::rt::Files;
 
 // The bytes that are gathered for one write of a file: a cut is made of many short pieces.
 const BLOCK: usize = 16 * 1024;
 
 // Returns the file at a path, or standard output. Nothing is made before the first write.
-fn target<'a, F: Files, I, O: Write + Copy + Drop>(
+fn target<'a, 'p, F: HeldFiles, I, O: Write + Copy + Drop>(
     system: &System<'a, F, I, O>,
-    path: &'a str,
-) -> Result<KeepsReason<'a, Target<'a, F, O>>, Fault<'a>> {
+    path: &'p str,
+) -> Result<KeepsReason<'a, Target<'a, F, O>>, Fault<'p>> {
     if path == STANDARD {
         return Ok(KeepsReason::new(Target::Standard(system.output), system.reason));
     }
@@ -31,10 +31,10 @@ fn target<'a, F: Files, I, O: Write + Copy + Drop>(
 ///
 /// # Errors
 /// The fault for refused memory.
-pub(crate) fn outlet<'a, F: Files, I, O: Write + Copy + Drop>(
+pub(crate) fn outlet<'a, 'p, F: HeldFiles, I, O: Write + Copy + Drop>(
     system: &System<'a, F, I, O>,
-    path: &'a str,
-) -> Result<Outlet<BufWriter<KeepsReason<'a, Target<'a, F, O>>>>, Fault<'a>>
+    path: &'p str,
+) -> Result<Outlet<BufWriter<KeepsReason<'a, Target<'a, F, O>>>>, Fault<'p>>
     ensures { IfOk result (λ outlet. fresh_of outlet ≡ true) }
 {
     let target = target(system, path)?;
@@ -48,11 +48,11 @@ pub(crate) fn outlet<'a, F: Files, I, O: Write + Copy + Drop>(
 ///
 /// # Errors
 /// `Unwritten` where the system refuses that.
-pub(crate) fn placed<'a, F: Files, I, O: Write + Copy + Drop>(
+pub(crate) fn placed<'a, 'p, F: HeldFiles, I, O: Write + Copy + Drop>(
     system: &System<'a, F, I, O>,
     outlet: Outlet<BufWriter<KeepsReason<'a, Target<'a, F, O>>>>,
-    path: &'a str,
-) -> Result<(), Fault<'a>> {
+    path: &'p str,
+) -> Result<(), Fault<'p>> {
     let (target, _) = outlet.into_inner().into_parts();
     match target.into_inner().place() {
         Ok(()) => Ok(()),

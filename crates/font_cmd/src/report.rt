@@ -25,10 +25,20 @@ pub(crate) enum Fault<'a> {
         line: u64,
         word: Option<String>,
     },
+    /// A line of the file of slices at this path has this name, which no slice can have, or another one has.
+    BadName {
+        path: &'a str,
+        line: u64,
+        name: String,
+    },
     /// The file at this path cannot be read.
     Unread(&'a str),
     /// The file at this path, or standard output, cannot be written.
     Unwritten(&'a str),
+    /// The file at this path in a folder cannot be written.
+    UnwrittenIn {
+        path: String,
+    },
     /// Memory was refused, or the file to be written is too large.
     Refused(RunError),
     /// The file at this path is refused.
@@ -72,8 +82,9 @@ impl<'a> Fault<'a> {
             | Fault::BadWord(_)
             | Fault::BadListed { .. }
             | Fault::OutIsWord(_)
-            | Fault::BadLine { .. } => 2,
-            Fault::Unread(_) | Fault::Unwritten(_) => 3,
+            | Fault::BadLine { .. }
+            | Fault::BadName { .. } => 2,
+            Fault::Unread(_) | Fault::Unwritten(_) | Fault::UnwrittenIn { .. } => 3,
         }
     }
 }
@@ -206,6 +217,14 @@ impl fmt::Display for Fault<'_> {
                 write!(f, "OUT is a range word: {out} (write ./{out} for the file)")
             }
             Fault::BadLine { path, line, word } => write_bad_line(f, path, *line, word),
+            Fault::BadName { path, line, name } => {
+                let (path, name) = (Shown(input_name(path)), Shown(name.as_str()));
+                write!(f, "{path}: line {line}: bad name {name}")
+            }
+            Fault::UnwrittenIn { path } => {
+                let name = Shown(path.as_str());
+                write!(f, "cannot write {name}")
+            }
             Fault::Unread(path) => {
                 let name = Shown(input_name(path));
                 write!(f, "cannot read {name}")

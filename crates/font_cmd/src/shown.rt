@@ -18,3 +18,20 @@ impl fmt::Display for Shown<'_> {
         Ok(())
     }
 }
+
+// Returns whether a character is seen where it is printed, and changes nothing of the text around it. Those that only
+// change how text runs, those for private use and those beyond the planes of characters are not. Unicode, chapter 23.
+fn is_seen(letter: char) -> bool {
+    !letter.is_control()
+        && !letter.is_whitespace()
+        && !matches!(
+            letter as u32,
+            0xAD | 0x200B..=0x200F | 0x2028..=0x202E | 0x2060..=0x206F | 0xE000..=0xF8FF | 0xFE00..=0xFE0F
+                | 0xFEFF | 0xFFF0..=0xFFFF | 0xE_0000..=0x10_FFFF
+        )
+}
+
+/// Returns the character of a code where a message can show it.
+pub(crate) fn shown_character(code: u32) -> Option<char> {
+    char::from_u32(code).filter(|letter| is_seen(*letter))
+}

@@ -46,7 +46,7 @@ pub(crate) fn codes_of<'a>(
 
 // Adds the codes of one list.
 fn add_list<'a>(alloc: Global, codes: &mut CodeSet, list: &str) -> Result<(), Fault<'a>> {
-    match add_listed(alloc, &mut list.as_bytes(), FileKind::Words, codes) {
+    match add_listed(alloc, &mut list.as_bytes(), FileKind::List, codes) {
         Ok(()) => Ok(()),
         Err(FileFault::BadLine { word, .. }) => Err(Fault::BadListed { word }),
         Err(_) => Err(no_memory()),

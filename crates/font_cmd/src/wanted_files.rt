@@ -1,5 +1,6 @@
 //! Files of wanted characters, and of words that name ranges of wanted codes. They are read in pieces.
 use crate::code_set::CodeSet;
+use crate::glyph_columns::{GlyphColumns, Named};
 use crate::listed_word::read_listed;
 use crate::utf8::Utf8;
 use std::alloc::{AllocError, Global};
@@ -24,6 +25,8 @@ pub enum FileKind {
     Characters,
     /// Words of lists, with blanks, line ends, commas or semicolons between them, so that a `unicode-range` of
     /// a style sheet can stand there. What follows `#` in a line is a comment.
+    List,
+    /// The same, and lines that `codes --glyphs` prints, each of which names its code.
     Words,
 }
 
@@ -57,6 +60,7 @@ struct Reading<'a> {
     is_comment: bool,
     // The word so far. It has room for the longest one.
     word: String,
+    columns: GlyphColumns,
 }
 
 // Returns whether a byte of a file of words stands between words.
@@ -80,6 +84,7 @@ impl<'a> Reading<'a> {
             is_new: true,
             is_comment: false,
             word: String::with_capacity(alloc, LONGEST)?,
+            columns: GlyphColumns::new(kind == FileKind::Words),
         })
     }
 
@@ -99,18 +104,33 @@ impl<'a> Reading<'a> {
         }
     }
 
-    // Adds the range of the word that has ended, if there is one.
-    fn end_word(&mut self) -> Result<(), FileFault> {
+    // Adds codes that words name.
+    fn add_named(&mut self, named: Named) -> Result<(), AllocError> {
+        for (first, last) in named.into_iter().flatten() {
+            self.codes.add_range(first, last)?;
+        }
+        Ok(())
+    }
+
+    // Takes the word that has ended with this character after it, if there is one.
+    fn end_word(&mut self, after: char) -> Result<(), FileFault> {
         if self.word.is_empty() {
             return Ok(());
         }
-        match read_listed(self.word.as_str()) {
-            Ok((first, last)) => {
-                self.word.clear();
-                Ok(self.codes.add_range(first, last)?)
-            }
-            Err(_) => Err(self.bad_word()),
-        }
+        let Ok(codes) = read_listed(self.word.as_str()) else {
+            return Err(self.bad_word());
+        };
+        let named = self.columns.take(self.word.as_str(), codes, after);
+        self.word.clear();
+        Ok(self.add_named(named)?)
+    }
+
+    // Takes the end of a line.
+    fn end_line(&mut self) -> Result<(), FileFault> {
+        self.end_word('\n')?;
+        self.is_comment = false;
+        let named = self.columns.end_line();
+        Ok(self.add_named(named)?)
     }
 
     fn add_letter(&mut self, letter: char) -> Result<(), FileFault> {
@@ -125,18 +145,14 @@ impl<'a> Reading<'a> {
 
     fn take_of_words(&mut self, letter: char) -> Result<(), FileFault> {
         match letter {
-            '\n' => {
-                self.end_word()?;
-                self.is_comment = false;
-                Ok(())
-            }
-            ' ' | '\t' | '\r' | ',' | ';' => self.end_word(),
+            '\n' => self.end_line(),
+            ' ' | '\t' | '\r' | ',' | ';' => self.end_word(letter),
             ':' if self.word.as_str() == DESCRIPTOR => {
                 self.word.clear();
                 Ok(())
             }
             '#' => {
-                self.end_word()?;
+                self.end_word(letter)?;
                 self.is_comment = true;
                 Ok(())
             }
@@ -149,7 +165,7 @@ impl<'a> Reading<'a> {
         self.is_new = false;
         match self.kind {
             _ if is_mark => {}
-            FileKind::Words => self.take_of_words(letter)?,
+            FileKind::List | FileKind::Words => self.take_of_words(letter)?,
             FileKind::Characters if letter.is_control() => {}
             FileKind::Characters => self.codes.add(letter as u32)?,
         }
@@ -159,8 +175,8 @@ impl<'a> Reading<'a> {
         Ok(())
     }
 
-    // Adds the range of the word that begins at a place of a text, where it stands there whole and names
-    // one, and returns how many bytes are done with, its line end among them. Else none is.
+    // Takes the word that begins at a place of a text, where it stands there whole and names codes. Returns how many
+    // bytes are done with, its line end among them; else none is.
     fn take_whole_word(&mut self, text: &str, at: usize) -> Result<usize, FileFault> {
         let is_inside = self.is_comment || self.utf8.is_inside() || !self.word.is_empty();
         let rest = text.as_bytes().get(at..).unwrap_or(&[]);
@@ -177,14 +193,17 @@ impl<'a> Reading<'a> {
         let Some(word) = text.get(at..at.saturating_add(length)) else {
             return Ok(0);
         };
-        let Ok((first, last)) = read_listed(word) else {
+        let Ok(codes) = read_listed(word) else {
             return Ok(0);
         };
         self.is_new = false;
-        self.codes.add_range(first, last)?;
-        if rest.get(length) != Some(&b'\n') {
+        let after = rest.get(length).map_or('\n', |&byte| char::from(byte));
+        let named = self.columns.take(word, codes, after);
+        self.add_named(named)?;
+        if after != '\n' {
             return Ok(length);
         }
+        self.end_line()?;
         self.line = self.line.saturating_add(1);
         Ok(length.saturating_add(1))
     }
@@ -200,7 +219,7 @@ impl<'a> Reading<'a> {
     fn take(&mut self, bytes: &[u8]) -> Result<(), FileFault> {
         // Bytes that end within a character go letter by letter, as all do of a file of characters.
         let text = match self.kind {
-            FileKind::Words => str::from_utf8(bytes).unwrap_or(""),
+            FileKind::List | FileKind::Words => str::from_utf8(bytes).unwrap_or(""),
             FileKind::Characters => "",
         };
         let mut at: usize = 0;
@@ -223,7 +242,7 @@ impl<'a> Reading<'a> {
         if self.utf8.is_inside() {
             return Err(self.bad_line(None));
         }
-        self.end_word()
+        self.end_line()
     }
 }
 

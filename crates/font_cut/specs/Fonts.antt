@@ -8,13 +8,14 @@ pub use Rattle.sfnt_bytes.specs.declared.findings.Finding.{Finding}
 pub use Rattle.sfnt_bytes.specs.declared.records.Entry.{Entry}
 pub use Rattle.sfnt_bytes.specs.declared.tag.Tag.{Tag}
 pub use Rattle.font_tables.specs.Fields.{glyph_count_of, loca_form_of, metric_count_of, units_per_em_of}
+pub use Rattle.font_tables.specs.Metrics.{metric_of}
 pub use Rattle.font_tables.specs.declared.loca.LocaForm.{LocaForm}
 pub use Rattle.font_tables.specs.declared.loca.LocaForm.TheVariants.{Long, Short}
 pub use Rattle.codes.specs.CharacterMap.{mapped_codes}
 pub use Rattle.font_map.specs.Cmap.{chosen_of}
 pub use Rattle.font_map.specs.Mapping.{mapping_of}
 pub use Rattle.codes.specs.Wanted.{member}
-pub use Rattle.font_file.specs.Font.{cmap_of, font_fault}
+pub use Rattle.font_file.specs.Font.{cmap_of, font_fault, map_of}
 pub use Rattle.font_file.specs.Text.{error_number, error_text}
 pub use Rattle.font_file.specs.declared.font_error.FontError.{FontError}
 pub use Rattle.font_theory.specs.Cut.{Format, cut, our_format}

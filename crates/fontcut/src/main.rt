@@ -7,16 +7,36 @@ ghost use Rattle.streams.specs.Outlet.{fresh_of};
 use font_cmd::{KeepsReason, Reason, System, run_on_system};
 use font_cut::Outlet;
 use std::alloc::{AllocError, Global};
+use std::fs::OpenOptions;
 use std::io::{ErrorKind, Write};
+use std::os::fd::AsRawFd;
 use std::process::ExitCode;
 use std::rt::Env;
-use std::{env, io};
+use std::{env, io, mem};
 
 // What is said where an argument is not UTF-8.
 const UNREADABLE: &str = "fontcut: a word of the line is not UTF-8\n";
 
 // Linux passes no longer argument on.
 const LONGEST: usize = 128 * 1024;
+
+// The last of the descriptors of standard input, output and error, which are 0 to 2.
+const LAST_STANDARD: i32 = 2;
+
+// Opens `/dev/null` for those of standard input, output and error that are closed. The next files to be opened would
+// take their numbers, and what is printed would go there. What is written to these fails, as before.
+fn fill_standard(rt: &HostRuntime) {
+    for _ in 0..=LAST_STANDARD {
+        let Ok(file) = OpenOptions::new().read(true).open(rt, "/dev/null") else {
+            return;
+        };
+        if LAST_STANDARD < file.as_raw_fd() {
+            return;
+        }
+        // It stays open until the program ends.
+        mem::forget(file);
+    }
+}
 
 // Returns the words after the program's own name, or `demo` where there is none.
 fn words_of_line(rt: &(impl Env + AllocGlobal), alloc: Global) -> io::Result<Vec<String>> {
@@ -76,6 +96,7 @@ fn say_unreadable<W: Write>(alloc: Global, err: &mut Outlet<W>, argument: Option
 }
 
 fn main(rt: HostRuntime) -> ExitCode {
+    fill_standard(&rt);
     let alloc = rt.alloc();
     let reason = Reason::new();
     let mut out = Outlet::new(KeepsReason::new(rt.stdout(), &reason));

@@ -1,0 +1,118 @@
+//! Files of slices: in each line the name of a slice and the list of its codes. This project's own.
+use crate::code_set::CodeSet;
+use crate::report::{Fault, no_memory};
+use crate::wanted_files::{FileFault, FileKind, add_listed};
+use std::alloc::Global;
+use std::collections::BTreeSet;
+
+/// A slice: the name of its file, but for `.ttf`, and its codes.
+#[derive(Drop)]
+pub(crate) struct Slice<'t> {
+    pub(crate) name: &'t str,
+    pub(crate) codes: CodeSet,
+}
+
+// Returns whether a name is one that a file can have in each folder and in a style sheet as it stands.
+fn is_name(name: &str) -> bool {
+    let begins = name
+        .bytes()
+        .next()
+        .is_some_and(|byte| byte.is_ascii_alphanumeric());
+    begins
+        && name.bytes().all(|byte| byte.is_ascii_alphanumeric()
+            || matches!(byte, b'-' | b'_' | b'.'))
+}
+
+// Returns the fault that a line has this name.
+fn bad_name<'a>(alloc: Global, path: &'a str, line: u64, name: &str) -> Fault<'a> {
+    match String::from_str(alloc, name) {
+        Ok(name) => Fault::BadName { path, line, name },
+        Err(_) => no_memory(),
+    }
+}
+
+// Returns the codes of the list in a line.
+fn codes_of_list<'a>(
+    alloc: Global,
+    path: &'a str,
+    line: u64,
+    list: &str,
+) -> Result<CodeSet, Fault<'a>> {
+    let mut codes = CodeSet::new(alloc);
+    match add_listed(alloc, &mut list.as_bytes(), FileKind::List, &mut codes) {
+        Ok(()) => Ok(codes),
+        Err(FileFault::BadLine { word, .. }) => Err(Fault::BadLine { path, line, word }),
+        Err(_) => Err(no_memory()),
+    }
+}
+
+// Returns the slice of a line, which has none where it is empty or a comment.
+fn slice_of<'t, 'a>(
+    alloc: Global,
+    path: &'a str,
+    line: u64,
+    text: &'t str,
+) -> Result<Option<Slice<'t>>, Fault<'a>> {
+    let text = match text.split_once('#') {
+        Some((before, _comment)) => before.trim(),
+        None => text.trim(),
+    };
+    if text.is_empty() {
+        return Ok(None);
+    }
+    let (name, list) = text
+        .split_once(|letter: char| letter.is_whitespace())
+        .unwrap_or((text, ""));
+    if !is_name(name) {
+        return Err(bad_name(alloc, path, line, name));
+    }
+    let codes = codes_of_list(alloc, path, line, list)?;
+    Ok(Some(Slice { name, codes }))
+}
+
+// Returns the number of the line of a byte, counted from one.
+fn line_of(bytes: &[u8], at: usize) -> u64 {
+    let before = bytes.get(..at).unwrap_or(bytes);
+    let ends = before.iter().filter(|byte| **byte == b'\n').count();
+    (ends as u64).saturating_add(1)
+}
+
+/// Returns the slices of a file, whose path and bytes these are.
+///
+/// # Errors
+/// `BadLine` with the first line that is not UTF-8 or has a word that names no range, `BadName` with the first one
+/// whose name is none or stands twice, `Refused` where memory is.
+pub(crate) fn slices_of<'t, 'a>(
+    alloc: Global,
+    path: &'a str,
+    bytes: &'t [u8],
+) -> Result<Vec<Slice<'t>>, Fault<'a>> {
+    let text = match str::from_utf8(bytes) {
+        Ok(text) => text,
+        Err(fault) => {
+            let line = line_of(bytes, fault.valid_up_to());
+            return Err(Fault::BadLine {
+                path,
+                line,
+                word: None,
+            });
+        }
+    };
+    let (mut slices, mut names) = (Vec::new(alloc), BTreeSet::new(alloc));
+    let mut number: u64 = 0;
+    for line in text.lines() {
+        number = number.saturating_add(1);
+        let Some(slice) = slice_of(alloc, path, number, line)? else {
+            continue;
+        };
+        match names.insert(slice.name) {
+            Ok(true) => {}
+            Ok(false) => return Err(bad_name(alloc, path, number, slice.name)),
+            Err(_) => return Err(no_memory()),
+        }
+        if slices.push(slice).is_err() {
+            return Err(no_memory());
+        }
+    }
+    Ok(slices)
+}
