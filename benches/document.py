@@ -80,9 +80,9 @@ def mean_row(what, limit, ratios, wanted):
     return held_row(what, limit, mean([value for value, _ in pairs]), f"{ratio(most)} ({name})")
 
 
-def most_row(what, limit, ratios):
+def most_row(what, limit, ratios, wanted=SETS):
     """A row for the largest of all ratios."""
-    pairs = column(ratios, SETS)
+    pairs = column(ratios, wanted)
     if not pairs:
         return [what, ratio(limit), "–", "–", "not measured"]
     most, name = max(pairs)
@@ -124,6 +124,7 @@ def held(found):
     """What was set, and what was measured."""
     calls, programs = found["calls"], found["programs"]
     hb, copy = ratios_of(calls, "cut", "hb"), ratios_of(calls, "cut", "copy")
+    kept = ratios_of(calls, "checked", "kept")
     floor = ratios_of(programs, "fontcut", "floor", "median")
     tool = ratios_of(programs, "fontcut", "hb-subset", "median")
     peak, where = beside_font(programs, "fontcut")
@@ -132,6 +133,9 @@ def held(found):
         mean_row("the same, 3,000 ideographs", 0.5, hb, ["3,000 ideographs"]),
         mean_row("the same, all", 0.2, hb, ["all"]),
         most_row("the same, the largest of any font and set", 2.5, hb),
+        mean_row("`cut` of an accepted font : `hb_subset_or_fail` of a kept face, ASCII", 0.35, kept, ["ASCII"]),
+        mean_row("the same, 3,000 ideographs", 0.3, kept, ["3,000 ideographs"]),
+        most_row("the same, the largest of any font, ASCII and ideographs", 1, kept, SETS[:2]),
         mean_row("`cut` : copy and sum, all", 1.3, copy, ["all"]),
         mean_row("lean cut : `cut`, all fonts and sets", 1.05, ratios_of(calls, "lean", "cut"), SETS),
         lean_memory_row(12, calls),

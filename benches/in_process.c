@@ -1,9 +1,12 @@
-/* Times four ways to the bytes of a cut, all in memory and in one process, in turn:
+/* Times six ways to the bytes of a cut, all in memory and in one process, in turn:
 
        cut     fontcut_subset into a room that is kept, of the full kind
        lean    the same of the lean kind
+       checked fontcut_subset_checked, of a font that was accepted before
        hb      hb_subset_or_fail, and the blob of what it makes; the face and the input are made for each call,
                as a cut begins with the same bytes and ranges each time
+       kept    the same of a face that was made once, and made ready by hb_subset_preprocess; the input is made for
+               each call
        copy    copying as many bytes as the cut has into that room, and summing their words once
 
    Words: the font, a file with a line FIRST-LAST in hexadecimal digits for each range of wanted codes, the
@@ -27,7 +30,7 @@
 #include "copy_and_sum.h"
 #include "fontcut.h"
 
-enum { WAYS = 4, RANGES = 65536, CALLS = 20000, MORE = 1 << 20 };
+enum { WAYS = 6, RANGES = 65536, CALLS = 20000, MORE = 1 << 20 };
 
 typedef struct way {
     const char *name;
@@ -100,6 +103,13 @@ static size_t call_lean(void)
     return call_subset(FONTCUT_LEAN);
 }
 
+static size_t call_checked(void)
+{
+    fontcut_answer answer =
+        fontcut_subset_checked(FONTCUT_FULL, font, font_length, ranges, range_count, room, room_length);
+    return answer.status == FONTCUT_DONE ? (size_t)answer.size : 0;
+}
+
 static size_t call_copy(void)
 {
     last_sum = copy_and_sum(room, cut_length, font, font_length);
@@ -129,9 +139,9 @@ static hb_subset_input_t *input_of_ranges(void)
     return input;
 }
 
-static size_t call_hb(void)
+/* Cuts a face, and returns the bytes of what it makes. */
+static size_t cut_face(hb_face_t *face)
 {
-    hb_face_t *face = face_of_font();
     hb_subset_input_t *input = input_of_ranges();
     hb_face_t *made = hb_subset_or_fail(face, input);
     size_t size = 0;
@@ -142,8 +152,29 @@ static size_t call_hb(void)
         hb_face_destroy(made);
     }
     hb_subset_input_destroy(input);
+    return size;
+}
+
+static size_t call_hb(void)
+{
+    hb_face_t *face = face_of_font();
+    size_t size = cut_face(face);
     hb_face_destroy(face);
     return size;
+}
+
+static hb_face_t *ready_face;
+
+static size_t call_kept(void)
+{
+    return cut_face(ready_face);
+}
+
+static void make_ready(void)
+{
+    hb_face_t *face = face_of_font();
+    ready_face = hb_subset_preprocess(face);
+    hb_face_destroy(face);
 }
 #endif
 
@@ -240,9 +271,14 @@ int main(int count, char **words)
     ways[used++].call = call_cut;
     ways[used].name = "lean";
     ways[used++].call = call_lean;
+    ways[used].name = "checked";
+    ways[used++].call = call_checked;
 #ifndef NO_HARFBUZZ
+    make_ready();
     ways[used].name = "hb";
     ways[used++].call = call_hb;
+    ways[used].name = "kept";
+    ways[used++].call = call_kept;
 #endif
     ways[used].name = "copy";
     ways[used++].call = call_copy;
