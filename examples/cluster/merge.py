@@ -5,8 +5,9 @@
 
 A task reads and joins at most N files, or joins what as many tasks gave back, until one join is left. Workers
 find each file by the same path as this machine. OUT is replaced when the join is complete, and keeps its mode; a
-link is followed, and a device or a pipe is written to. Statuses, as of `fontcut join`: 0 done; 1 refused, or memory was refused; 2 the command line is at fault; 3 a file cannot be
-read or written, or the cluster does not answer.
+link is followed, and a device or a pipe is written to. Statuses, as of `fontcut join`: 0 done; 1 refused, or
+memory was refused; 2 the command line is at fault; 3 a file cannot be read or written, or the cluster does not
+answer.
 """
 import argparse
 import functools
