@@ -50,8 +50,8 @@ Number = Union[int, float, Decimal]
 _OPERATORS = frozenset("""b B b* B* BDC BMC BT BX c cm CS cs d d0 d1 Do DP EMC ET EX f F f* G g gs h i j J K k l m M MP
     n q Q re RG rg ri s S SC sc SCN scn sh T* Tc Td TD Tf Tj TJ TL Tm Tr Ts Tw Tz v w W W* y ' \"""".split())
 
-# What pikepdf and readings of malformed objects raise. Where pikepdf warns in its own code, and warnings are errors, Python
-# raises a SystemError, whose cause is the warning.
+# What pikepdf and readings of malformed objects raise. Where pikepdf warns in code of its own, and warnings are errors,
+# Python raises a SystemError, whose cause is the warning.
 _MALFORMED = (pikepdf.PdfError, pikepdf.DataDecodingError, struct.error, AttributeError, IndexError, KeyError,
               OverflowError, RuntimeError, SystemError, TypeError, UserWarning, ValueError)
 
@@ -143,12 +143,6 @@ def _program(pdf: Pdf, data: bytes) -> Stream:
     return stream
 
 
-def _written(number: Number) -> Number:
-    """A number as it is written to a file, where none has an exponent (ISO 32000-1, 7.3.3): Python writes very small ones
-    with one, and the 0 of 0.0000000 too."""
-    return round(number, 6) if isinstance(number, Decimal) and number.as_tuple().exponent < -6 else number
-
-
 def _written_widths(widths: Dict[int, Number]) -> Tuple[Array, Number]:
     """W and DW (ISO 32000-1, 9.7.4.3): DW is the width that most glyphs have, and W has those of the others."""
     usual = Counter(widths.values()).most_common(1)[0][0] if widths else 1000
@@ -159,7 +153,7 @@ def _written_widths(widths: Dict[int, Number]) -> Tuple[Array, Number]:
                 rows[-1][1].append(width)
             else:
                 rows.append((glyph, [width]))
-    return Array([part for first, row in rows for part in (first, Array(map(_written, row)))]), _written(usual)
+    return Array([part for first, row in rows for part in (first, Array(row))]), usual
 
 
 def _to_unicode(pdf: Pdf, texts: Dict[int, Optional[bytes]]) -> Optional[Stream]:
@@ -452,6 +446,14 @@ class _Font:
                 and self.descendant.get("/CIDToGIDMap", Name.Identity) == Name.Identity
                 and "/FontFile2" in self.descriptor)
 
+    @property
+    def is_of_no_collection(self) -> bool:
+        """Whether its numbers are those of no collection of characters (ISO 32000-1, 9.7.3), by which programs would
+        read them, and it says so, without which some draw nothing."""
+        system = self.descendant.get("/CIDSystemInfo")
+        return isinstance(system, Dictionary) and (system.get("/Registry"), system.get("/Ordering")) == (
+            String("Adobe"), String("Identity"))
+
     def glyphs(self) -> Dict[int, int]:
         """The first page that shows each glyph, of a font by glyph numbers."""
         found: Dict[int, int] = {}
@@ -471,16 +473,16 @@ class _Font:
                 if stated.setdefault(glyph, width) != width:
                     raise _Unclear(f"W has two widths of glyph {glyph}")
         found = {**dict.fromkeys(glyphs, self.descendant.get("/DW", 1000)), **stated}
-        if not all(0 <= glyph <= 0xFFFF and _is_number(width) for glyph, width in found.items()):
+        if not all(0 <= glyph <= 0xFFFF and _is_written(width) for glyph, width in found.items()):
             raise _Unclear("W is malformed")
-        return found
+        return {glyph: width or 0 for glyph, width in found.items()}
 
     def box(self) -> List[Number]:
         """The box of the descriptor."""
         sides = list(self.descriptor.get("/FontBBox", ()))
-        if len(sides) != 4 or not all(map(_is_number, sides)):
+        if len(sides) != 4 or not all(map(_is_written, sides)):
             raise _Unclear("FontBBox is malformed")
-        return sides
+        return [side or 0 for side in sides]
 
     def texts(self, glyphs: Iterable[int]) -> Optional[Dict[int, Optional[bytes]]]:
         """The texts that ToUnicode has of glyphs, in UTF-16, and None for each of these glyphs that it does not have
@@ -488,20 +490,21 @@ class _Font:
         found: Dict[int, Optional[bytes]] = dict.fromkeys(glyphs)
         if "/ToUnicode" not in self.object:
             return found
-        stated: Dict[int, bytes] = {}
         try:
             with _strictly(self.pdf):
-                for instruction in pikepdf.parse_content_stream(self.object.ToUnicode):
-                    for glyph, text in _texts_in(str(instruction.operator), list(instruction.operands)):
-                        if stated.setdefault(glyph, text) != text:
-                            raise _Unclear(f"ToUnicode has two texts of glyph {glyph}")
+                return {**found, **_stated_texts(self.object.ToUnicode)}
         except _Unclear:
             return None
-        return {**found, **stated}
 
 
 def _is_number(thing: object) -> bool:
     return isinstance(thing, (int, float, Decimal)) and not isinstance(thing, bool)
+
+
+def _is_written(thing: object) -> bool:
+    """Whether it is a number that can be written to a file, where none has an exponent (ISO 32000-1, 7.3.3), as Python
+    writes very small and very large ones, and the 0 of 0.0000000 too, for which 0 is written."""
+    return _is_number(thing) and abs(thing) < 10 ** 9 and (thing == 0 or "E" not in str(thing))
 
 
 def _rows(parts: List[Object]) -> Iterator[Tuple[int, List[Number]]]:
@@ -522,6 +525,16 @@ def _rows(parts: List[Object]) -> Iterator[Tuple[int, List[Number]]]:
         if count > 2 * 0x10000:
             # A short file can state them all again and again.
             raise _Unclear("W has more widths than there are glyphs")
+
+
+def _stated_texts(to_unicode: Object) -> Dict[int, bytes]:
+    """The text that ToUnicode states for each glyph."""
+    stated: Dict[int, bytes] = {}
+    for instruction in pikepdf.parse_content_stream(to_unicode):
+        for glyph, text in _texts_in(str(instruction.operator), list(instruction.operands)):
+            if stated.setdefault(glyph, text) != text:
+                raise _Unclear(f"ToUnicode has two texts of glyph {glyph}")
+    return stated
 
 
 def _texts_in(operator: str, operands: Sequence[Object]) -> Iterator[Tuple[int, bytes]]:
@@ -630,6 +643,8 @@ def opened(path: str) -> Iterator[Pdf]:
                 raise Refused("it is encrypted")
             _refuse_deep_pages(pdf)
             told = [*_warned(pdf), *_checked(pdf)]
+            if pdf.Root.Pages.get("/Count") != len(pdf.pages):
+                told.append("the page tree does not have as many pages as it says")
         except pikepdf.PasswordError as error:
             raise Refused("it is encrypted") from error
         except _MALFORMED as error:
@@ -665,9 +680,8 @@ def _checked(pdf: Pdf) -> List[str]:
     try:
         with warnings.catch_warnings():
             warnings.simplefilter("error", UserWarning)
-            for thing in pdf.objects:
-                if isinstance(thing, Stream):
-                    _decode(thing)
+            for stream in (thing for thing in pdf.objects if isinstance(thing, Stream)):
+                _decode(stream)
             return pdf.check()
     except _MALFORMED as error:
         return [_line(error)]
@@ -827,6 +841,8 @@ def _member(font: _Font) -> _Member:
         raise _Unclear(f"{kind}, and not by glyph numbers")
     if kind not in ("lean cut", "cut"):
         raise _Unclear(kind)
+    if not font.is_of_no_collection:
+        raise _Unclear("its CIDSystemInfo is not Adobe-Identity")
     if font.unclear:
         raise _Unclear(font.unclear)
     cut, shown = font.program, font.glyphs()
@@ -872,7 +888,7 @@ def _classes(members: Sequence[_Member], of: Callable[[_Member], Optional[Dict]]
 def _box(members: Sequence[_Member]) -> Array:
     """A box around the boxes of all descriptors."""
     left, bottom, right, top = zip(*(member.box for member in members))
-    return Array(map(_written, (min(left), min(bottom), max(right), max(top))))
+    return Array([min(left), min(bottom), max(right), max(top)])
 
 
 def _unite(members: Sequence[_Member], joined: bytes) -> Name:

@@ -25,6 +25,7 @@ pub(crate) struct Answer {
 }
 
 pub(crate) const DONE: u32 = 0;
+pub(crate) const NO_MEMORY: u32 = 16;
 pub(crate) const SMALL_ROOM: u32 = 100;
 pub(crate) const NO_GLYPH: u32 = 102;
 
@@ -101,6 +102,21 @@ extern "C" {
     pub(crate) fn fontcut_refusal_text(answer: Answer, out: *mut u8, room: usize) -> Answer;
 }
 
+/// An empty vector with room for so many elements, or the answer that memory is refused. A vector that asks for its room
+/// by itself ends the process where it is refused.
+fn with_room<T>(room: usize) -> Result<Vec<T>, Answer> {
+    let mut out = Vec::new();
+    match out.try_reserve_exact(room) {
+        Ok(()) => Ok(out),
+        Err(_) => Err(Answer {
+            status: NO_MEMORY,
+            detail: 0,
+            size: 0,
+            step: 0,
+        }),
+    }
+}
+
 /// Fills a vector by a call that writes to a room and says how much it wrote, or needs.
 ///
 /// # Safety
@@ -111,10 +127,10 @@ pub(crate) unsafe fn filled<T>(
     room: usize,
     call: impl Fn(*mut T, usize) -> Answer,
 ) -> Result<Vec<T>, Answer> {
-    let mut out: Vec<T> = Vec::with_capacity(room);
+    let mut out: Vec<T> = with_room(room)?;
     let mut answer = call(out.as_mut_ptr(), out.capacity());
     if answer.status == SMALL_ROOM {
-        out = Vec::with_capacity(length(answer.size));
+        out = with_room(length(answer.size))?;
         answer = call(out.as_mut_ptr(), out.capacity());
     }
     if answer.status != DONE {
@@ -128,4 +144,24 @@ pub(crate) unsafe fn filled<T>(
 /// A size that the library has told, which is never above that of a file.
 pub(crate) fn length(size: u64) -> usize {
     usize::try_from(size).expect("a file has fewer than 2^31 bytes")
+}
+
+#[cfg(test)]
+mod tests {
+    use super::*;
+
+    #[test]
+    fn room_that_is_refused_is_answered() {
+        let small = Answer {
+            status: SMALL_ROOM,
+            detail: 0,
+            size: u64::MAX,
+            step: 0,
+        };
+        for room in [usize::MAX, 1] {
+            // SAFETY: the call writes nothing, and does not answer `DONE`.
+            let refused = unsafe { filled::<u8>(room, |_, _| small) }.unwrap_err();
+            assert_eq!(refused.status, NO_MEMORY);
+        }
+    }
 }

@@ -67,7 +67,7 @@ impl Error {
     }
 
     pub(crate) fn of_several_files(answer: Answer) -> Error {
-        let is_of_file = !matches!(answer.status, 24);
+        let is_of_file = !matches!(answer.status, 16 | 24);
         let file = usize::try_from(answer.step).ok().filter(|_| is_of_file);
         Error {
             file,
