@@ -3,7 +3,7 @@ use Rattle.std.specs.Prelude.{ℕ, List, [], ◌∷◌, ◌++◌, codes, decimal
 use Rattle.std.specs.List.{flat_map, range_with_len}
 use Rattle.std.specs.Option.{option_copied, option_map_or}
 use Rattle.font_subset.specs.Cut.{cut_form_of}
-use Rattle.font_cut.specs.Fonts.{Entry, LocaForm, Long, Short, Tag, chosen_of, cmap_of, dropped_of, glyph_count_of, kept_tag, loca_form_of, mapped_codes, mapping_of, metric_count_of, table_of, tag_text, units_per_em_of}
+use Rattle.font_cut.specs.Fonts.{Entry, LocaForm, Long, SLOTS, Short, Tag, chosen_of, cmap_of, dropped_of, glyph_count_of, kept_tag, loca_form_of, mapped_codes, mapping_of, metric_count_of, table_of, tag_text, units_per_em_of}
 use Rattle.font_subset.specs.declared.cut_forms.CutForm.{CutForm}
 use Rattle.font_subset.specs.declared.cut_forms.CutForm.TheVariants.{Current, Not, Old}
 use Rattle.commands.specs.Check.{line}
@@ -28,7 +28,7 @@ kept_line file slot = table_line (kept_tag slot) (table_of file (kept_tag slot))
 
 -- a line for each table that a cut keeps, in order of tag
 abbrev pub kept_text : List ℕ → List ℕ
-kept_text file = flat_map (kept_line file) (range_with_len 0 16)
+kept_text file = flat_map (kept_line file) (range_with_len 0 SLOTS)
 
 -- the line of a table that a cut drops
 abbrev pub dropped_line : Entry → List ℕ

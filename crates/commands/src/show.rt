@@ -1,6 +1,6 @@
 //! `show`: what a person asks of a font, and what a cut of it keeps and drops.
 ghost use Rattle.std.specs.Prelude.{◌≡◌, ◌<◌, None, Some, IfOk, true};
-ghost use Rattle.font_cut.specs.Fonts.{cmap_of, glyph_count_of, mapped_codes, mapping_of};
+ghost use Rattle.font_cut.specs.Fonts.{SLOTS, cmap_of, glyph_count_of, mapped_codes, mapping_of};
 ghost use Rattle.streams.specs.Inlet.{inlet_fresh_of};
 ghost use Rattle.streams.specs.Outlet.{fresh_of};
 ghost use Rattle.commands.specs.Run.{IsAccepted, RefusesFont, SendsText};
@@ -8,8 +8,8 @@ ghost use Rattle.commands.specs.Show.{cut_text, dropped_line, dropped_text, font
 
 use crate::run_error::{RunError, send};
 use font_cut::{
-    Chart, CutForm, Directory, Entry, Font, KEPT, LocaForm, Mapping, NoMemory, Outlet, Tables, Tag,
-    cut_form,
+    Chart, CutForm, Directory, Entry, Font, KEPT, LocaForm, Mapping, NoMemory, Outlet, SLOTS,
+    Tables, Tag, cut_form,
 };
 use std::alloc::Allocator;
 use std::fmt;
@@ -26,7 +26,7 @@ struct KeptLine<'a> {
 impl<'a> KeptLine<'a> {
     #[tactic(auto, unfolding(font_cut::specs::Fonts::kept_tag))]
     fn of(directory: &Directory<'a>, slot: usize) -> KeptLine<'a>
-        requires { slot < 16 }
+        requires { slot < SLOTS }
         ensures { kept_table_line result ≡ kept_line directory.now slot }
     {
         KeptLine {
@@ -58,7 +58,7 @@ impl<'a> fmt::Display for Kept<'a> {
     ghost output = { λ kept. Some (kept_text kept.0.now) };
 
     fn fmt<W: fmt::Write>(&self, f: &mut fmt::Formatter<W>) -> fmt::Result {
-        for slot in 0..16usize {
+        for slot in 0..SLOTS {
             let line = KeptLine::of(self.0, slot);
             write!(f, "{line}")?;
         }

@@ -7,6 +7,7 @@ pub use Rattle.sfnt_bytes.specs.declared.directory.TheConstants.{MAX_FILE}
 pub use Rattle.sfnt_bytes.specs.declared.findings.Finding.{Finding}
 pub use Rattle.sfnt_bytes.specs.declared.records.Entry.{Entry}
 pub use Rattle.sfnt_bytes.specs.declared.tag.Tag.{Tag}
+pub use Rattle.sfnt_bytes.specs.declared.tag.TheConstants.{SLOTS}
 pub use Rattle.font_tables.specs.Fields.{glyph_count_of, loca_form_of, metric_count_of, units_per_em_of}
 pub use Rattle.font_tables.specs.Metrics.{metric_of}
 pub use Rattle.font_tables.specs.declared.loca.LocaForm.{LocaForm}

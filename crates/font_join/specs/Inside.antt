@@ -17,6 +17,7 @@ use Rattle.font_theory.specs.declared.Difference.TheVariants.{AtCode, AtTable}
 use Rattle.font_theory.specs.Tree.{file_at}
 use Rattle.sfnt_bytes.specs.Lines.{first_of_lines, when}
 use Rattle.sfnt_bytes.specs.declared.directory.TheConstants.{MAX_FILE}
+use Rattle.sfnt_bytes.specs.declared.tag.TheConstants.{SLOTS}
 use Rattle.std.specs.List.{range_with_len}
 use Rattle.std.specs.Option.{option_map}
 use Rattle.std.specs.Prelude.{◌≡◌, ℕ, ◌<◌, ◌≤◌, true, List, length, Option, None, Some, [], false, not, find, ◌∷◌}
@@ -72,7 +73,7 @@ IsFormRefusal R which x error = (is_cut R x ≡ false) × (error ≡ NotACut whi
 -- the first table or code that tells two contents apart
 unfoldable pub early_difference : Content → Content → Option Difference
 early_difference K L = first_of_lines
-    (option_map AtTable (find (is_different_table K L) (range_with_len 0 16))
+    (option_map AtTable (find (is_different_table K L) (range_with_len 0 SLOTS))
     ∷ option_map AtCode (find (is_different_code K L) (range_with_len 0 CODES))
     ∷ [])
 

@@ -7,6 +7,7 @@ ghost use Rattle.font_theory.specs.Bytes.{cut_head};
 ghost use Rattle.font_theory.specs.Content.{CODES, Content};
 ghost use Rattle.font_theory.specs.Difference.{is_different_code, is_different_table};
 ghost use Rattle.sfnt_bytes.specs.Directory.{kept_tag};
+ghost use Rattle.sfnt_bytes.specs.declared.tag.TheConstants.{SLOTS};
 ghost use Rattle.font_join.specs.Join.{different};
 ghost use Rattle.font_join.specs.Inside.{early_difference};
 
@@ -14,7 +15,7 @@ use crate::join_error::JoinError;
 use font_map::Pieces;
 use font_theory::Difference;
 use font_write::Source;
-use sfnt_bytes::{HEAD, KEPT, Tag};
+use sfnt_bytes::{HEAD, KEPT, SLOTS, Tag};
 
 /// Returns whether two slices hold the same bytes.
 pub(crate) fn is_same(a: &[u8], b: &[u8]) -> bool
@@ -56,9 +57,9 @@ fn is_other_table<K: Source, L: Source>(k: &K, l: &L, slot: usize) -> bool
 #[tactic(auto, using(crate::proofs::FirstLemmas::first_found, font_file::proofs::FontLemmas::find_step, crate::proofs::FirstLemmas::first_end))]
 fn different_table<K: Source, L: Source>(k: &K, l: &L) -> Option<u8>
     ensures { result ≡ find (is_different_table (K.content_of k.now) (L.content_of l.now))
-        (range_with_len 0 16) }
+        (range_with_len 0 SLOTS) }
 {
-    for slot in 0..16u8 {
+    for slot in 0..SLOTS as u8 {
         if is_other_table(k, l, usize::from(slot)) {
             return Some(slot);
         }
@@ -111,7 +112,7 @@ pub(crate) fn early_difference<K: Source, P: Pieces, L: Source>(
 // Returns the tag of a slot.
 #[tactic(auto, unfolding(sfnt_bytes::specs::Directory::kept_tag))]
 fn tag_of(slot: u8) -> Tag
-    requires { slot < 16 }
+    requires { slot < SLOTS }
     ensures { result ≡ kept_tag slot }
 {
     KEPT[usize::from(slot)]
@@ -119,7 +120,7 @@ fn tag_of(slot: u8) -> Tag
 
 /// Returns the refusal for a difference.
 pub(crate) fn refusal_of(difference: Difference) -> JoinError
-    requires { (slot : ℕ) → difference ≡ Difference.AtTable slot → slot < 16 }
+    requires { (slot : ℕ) → difference ≡ Difference.AtTable slot → slot < SLOTS }
     ensures { result ≡ different difference }
 {
     match difference {

@@ -24,7 +24,7 @@ use font_file::Font;
 use font_glyph::{Marks, close};
 use font_map::{Chart, Pieces, Run, Wanted, run_of};
 use font_write::Source;
-use sfnt_bytes::{CMAP, Directory, GLYF, HEAD, LOCA, NoMemory};
+use sfnt_bytes::{CMAP, Directory, GLYF, HEAD, LOCA, NoMemory, SLOTS};
 use std::alloc::{Allocator, Global};
 use std::marker::Model;
 
@@ -228,7 +228,7 @@ pub fn copied<'a>(font: &Font<'a>, slot: usize) -> Option<&'a [u8]>
     ensures table { option_copied result ≡ (font_of font.now).copied slot }
     ensures small { MatchOption result Unit (λ b. length b.now ≤ MAX_FILE) }
 {
-    if slot == CMAP || slot == GLYF || slot == HEAD || slot == LOCA || 16 <= slot {
+    if slot == CMAP || slot == GLYF || slot == HEAD || slot == LOCA || SLOTS <= slot {
         return None;
     }
     font.tables().directory().table(slot)

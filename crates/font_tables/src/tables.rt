@@ -3,6 +3,7 @@
 ghost use Rattle.std.specs.Prelude.{◌≡◌, ℕ, ◌<◌, ◌≤◌, None, Some, MatchResult, find, length, map, slice_index};
 ghost use Rattle.sfnt_bytes.specs.Directory.{kept_tag};
 ghost use Rattle.sfnt_bytes.specs.Refusals.{directory_fault};
+ghost use Rattle.sfnt_bytes.specs.declared.tag.TheConstants.{SLOTS};
 ghost use Rattle.font_tables.specs.Fields.{glyph_count_of, loca_form_of, metric_count_of, units_per_em_of};
 ghost use Rattle.font_tables.specs.Metrics.{metric_of};
 ghost use Rattle.font_tables.specs.Outlines.{outline_of};
@@ -40,7 +41,7 @@ pub enum TableError {
 
 #[tactic(auto, unfolding(crate::specs::Refusals::is_missing))]
 fn is_without(directory: &Directory<'_>, slot: usize) -> bool
-    requires { slot < 16 }
+    requires { slot < SLOTS }
     ensures { result ≡ is_missing directory.now (kept_tag slot) }
 {
     directory.table(slot).is_none()
@@ -49,7 +50,7 @@ fn is_without(directory: &Directory<'_>, slot: usize) -> bool
 // Returns the tag of the first of the slots that has no table.
 #[tactic(auto, unfolding(sfnt_bytes::specs::Directory::kept_tag))]
 fn first_missing(directory: &Directory<'_>, slots: &[usize]) -> Option<Tag>
-    requires { (k : ℕ) → k < length slots.now → slice_index slots.now k < 16 }
+    requires { (k : ℕ) → k < length slots.now → slice_index slots.now k < SLOTS }
     ensures { result ≡ find (is_missing directory.now) (map kept_tag slots.now) }
 {
     for slot in slots {
@@ -70,7 +71,7 @@ fn missing_table(directory: &Directory<'_>) -> Option<Tag>
 // Returns the table of a slot, empty where it is missing.
 #[tactic(auto, unfolding(crate::specs::Tables::table_or_empty))]
 fn table<'a>(directory: &Directory<'a>, slot: usize) -> &'a [u8]
-    requires { slot < 16 }
+    requires { slot < SLOTS }
     ensures { result.now ≡ table_or_empty directory.now (kept_tag slot) }
 {
     directory.table(slot).unwrap_or(&[])

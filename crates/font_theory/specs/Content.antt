@@ -2,7 +2,7 @@
 use Rattle.std.specs.Prelude.{◌≡◌, ℕ, ◌<◌, ◌≤◌, nat_eq, nat_le, nat_lt, Bool, true, false, ◌||◌, List, [], length, if◌then◌else◌, Option, None, IsSome, unwrap_or}
 use Rattle.sfnt_bytes.specs.Directory.{kept_tag, table_of}
 use Rattle.sfnt_bytes.specs.Lines.{when}
-use Rattle.sfnt_bytes.specs.declared.tag.TheConstants.{CMAP, GLYF, HEAD, LOCA}
+use Rattle.sfnt_bytes.specs.declared.tag.TheConstants.{CMAP, GLYF, HEAD, LOCA, SLOTS}
 use Rattle.font_tables.specs.Fields.{glyph_count_of, num_glyphs, number_of_h_metrics}
 use Rattle.font_tables.specs.Outlines.{outline_of}
 use Rattle.font_tables.specs.Refusals.{is_bad_head, is_bad_hhea, is_bad_hmtx, is_bad_maxp}
@@ -34,7 +34,7 @@ pub record Content : Type 0 where
 
 -- `cmap`, `glyf`, `head` and `loca`, which a cut makes anew, and what is no slot
 abbrev pub is_made : ℕ → Bool
-is_made slot = nat_eq slot CMAP || nat_eq slot GLYF || nat_eq slot HEAD || nat_eq slot LOCA || nat_le 16 slot
+is_made slot = nat_eq slot CMAP || nat_eq slot GLYF || nat_eq slot HEAD || nat_eq slot LOCA || nat_le SLOTS slot
 
 -- the table in a slot, empty where there is none
 abbrev pub table_in_slot : (ℕ → Option (List ℕ)) → ℕ → List ℕ

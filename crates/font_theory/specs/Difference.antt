@@ -4,7 +4,7 @@ use Rattle.std.specs.List.{range_with_len}
 use Rattle.std.specs.Option.{option_eq, option_map}
 use Rattle.std.specs.Str.{bytes_eq}
 use Rattle.sfnt_bytes.specs.Lines.{first_of_lines}
-use Rattle.sfnt_bytes.specs.declared.tag.TheConstants.{HEAD}
+use Rattle.sfnt_bytes.specs.declared.tag.TheConstants.{HEAD, SLOTS}
 use Rattle.font_theory.specs.Content.{CODES, Content, glyph_count}
 use Rattle.font_theory.specs.declared.Difference.{Difference}
 use Rattle.font_theory.specs.declared.Difference.TheVariants.{AtCode, AtGlyph, AtTable}
@@ -29,7 +29,7 @@ is_different_glyph K L g = are_different (K.outline g) (L.outline g)
 -- the least slot, else the least code, else the least glyph
 unfoldable pub difference : Content → Content → Option Difference
 difference K L = first_of_lines
-    (option_map AtTable (find (is_different_table K L) (range_with_len 0 16))
+    (option_map AtTable (find (is_different_table K L) (range_with_len 0 SLOTS))
     ∷ option_map AtCode (find (is_different_code K L) (range_with_len 0 CODES))
     ∷ option_map AtGlyph (find (is_different_glyph K L) (range_with_len 0 (glyph_count K.copied)))
     ∷ [])

@@ -8,7 +8,7 @@ use Rattle.sfnt_bytes.specs.SearchFields.{search_fields_of}
 use Rattle.sfnt_bytes.specs.Sums.{adjustment_of, checksum_of, without_field}
 use Rattle.sfnt_bytes.specs.declared.records.Entry.{Entry}
 use Rattle.sfnt_bytes.specs.declared.tag.Tag.{Tag}
-use Rattle.sfnt_bytes.specs.declared.tag.TheConstants.{CMAP, GLYF, HEAD, LOCA}
+use Rattle.sfnt_bytes.specs.declared.tag.TheConstants.{CMAP, GLYF, HEAD, LOCA, SLOTS}
 use Rattle.codes.specs.CharacterMap.{clipped}
 use Rattle.font_map.specs.Mapping.{mapping_of}
 use Rattle.font_map.specs.Refusals.{map_fault}
@@ -163,7 +163,7 @@ file_of tables = header_bytes (length tables) ++ (flat_map entry_bytes (entries_
 
 -- the file of a content with this `head`
 abbrev pub file_with : Layout → Content → List ℕ → List ℕ
-file_with layout K head = file_of (tables_from layout K head 0 16)
+file_with layout K head = file_of (tables_from layout K head 0 SLOTS)
 
 -- checksumAdjustment of its file, which is summed with that field 0
 unfoldable pub adjustment_in : Layout → Content → ℕ
@@ -181,9 +181,9 @@ padded_length bytes = option_map_or (λ b. length (padded b)) bytes 0
 -- and a record for each of k tables; `loca`; and the other tables, padded
 abbrev pub size_with : Content → ℕ → ℕ → ℕ
 size_with K cmap glyf =
-    let k = 4 + length (said_lines (map K.copied (range_with_len 0 16))) in
+    let k = 4 + length (said_lines (map K.copied (range_with_len 0 SLOTS))) in
     12 + 16 * k + cmap + glyf + 4 * (glyph_count K.copied + 1)
-    + length (padded K.head) + sum (map (λ slot. padded_length (K.copied slot)) (range_with_len 0 16))
+    + length (padded K.head) + sum (map (λ slot. padded_length (K.copied slot)) (range_with_len 0 SLOTS))
 
 -- that with the `cmap` and the `glyf` of a form
 unfoldable pub size_of : Layout → Content → ℕ

@@ -1,6 +1,7 @@
 -- What is counted and measured of the tables of a file before they are sent, this project's own.
 use Rattle.std.specs.Prelude.{◌≡◌, ℕ, ◌≤◌, ◌<◌, List, length, slice_index_or, is_some, false}
 use Rattle.sfnt_bytes.specs.Sums.{checksum_of}
+use Rattle.sfnt_bytes.specs.declared.tag.TheConstants.{SLOTS}
 use Rattle.font_theory.specs.Content.{Content, glyph_count}
 use Rattle.font_theory.specs.File.{Layout, adjustment_in, checksum_in_slot, file, layout_of, groups_of_content, size_of}
 use Rattle.font_write.specs.Parts.{bytes_at, count_to, glyf_to, groups_bytes, table_at}
@@ -38,8 +39,8 @@ AreMeasures layout K n measures = (slot : ℕ) → slot < n → IsMeasure layout
 
 -- all slots are measured, and the tables, the groups, the outlines and checksumAdjustment are known
 pub record IsPlan (K : Content) (p : Plan) : Type 0 where
-  pub measures : AreMeasures (layout_of p.profile) K 16 p.measures
-  pub count : p.count ≡ count_to (layout_of p.profile) K 16
+  pub measures : AreMeasures (layout_of p.profile) K SLOTS p.measures
+  pub count : p.count ≡ count_to (layout_of p.profile) K SLOTS
   pub counts : AreCounts K p.counts
   pub adjustment : p.adjustment ≡ adjustment_in (layout_of p.profile) K
 

@@ -2,6 +2,7 @@
 ghost use Rattle.std.specs.Prelude.{◌≡◌, ◌+◌, ◌<◌, ◌≤◌, ◌++◌, length, take, false, replicate};
 ghost use Rattle.sfnt_bytes.specs.Findings.{padding_of};
 ghost use Rattle.sfnt_bytes.specs.declared.directory.TheConstants.{MAX_FILE};
+ghost use Rattle.sfnt_bytes.specs.declared.tag.TheConstants.{SLOTS};
 ghost use Rattle.font_theory.specs.Bytes.{bytes16, bytes32, padded};
 ghost use Rattle.font_theory.specs.File.{header_bytes};
 ghost use Rattle.font_write.specs.Trace.{Sends};
@@ -73,7 +74,7 @@ fn header_of(count: u16, range: u16, selector: u16, shift: u16) -> [u8; 12]
 /// Returns the header of a file of this number of tables.
 pub(crate) fn header(count: u16) -> [u8; 12]
     requires some { 0 < count }
-    requires few { count ≤ 16 }
+    requires few { count ≤ SLOTS }
     ensures { result ≡ header_bytes count }
 {
     let (range, selector, shift) = search_fields(count).unwrap_or((0, 0, 0));

@@ -14,7 +14,7 @@ use crate::made_glyf::{glyf_length, outlines_size};
 use crate::made_loca::loca_length;
 use crate::source::Source;
 use font_theory::Profile;
-use sfnt_bytes::{CMAP, GLYF, HEAD, LOCA};
+use sfnt_bytes::{CMAP, GLYF, HEAD, LOCA, SLOTS};
 
 /// How many groups a map has, what their words sum to, and how many bytes all outlines have.
 #[derive(Clone, Copy, Debug, PartialEq, Eq)]
@@ -103,7 +103,7 @@ pub fn counted_size<S: Source>(source: &S, profile: Profile, counts: Counts) -> 
 {
     source.recall_laws();
     let mut bytes: u64 = 12;
-    for slot in 0..16usize {
+    for slot in 0..SLOTS {
         bytes += slot_size(source, profile, counts, slot);
     }
     Size { counts, bytes }

@@ -2,6 +2,7 @@
 //! Organization of an OpenType Font.
 ghost use Rattle.std.specs.Prelude.{◌≡◌, ◌+◌, ◌≤◌, ◌<◌, length, false};
 ghost use Rattle.sfnt_bytes.specs.declared.directory.TheConstants.{MAX_FILE};
+ghost use Rattle.sfnt_bytes.specs.declared.tag.TheConstants.{SLOTS};
 ghost use Rattle.font_theory.specs.Bytes.{padded};
 ghost use Rattle.font_theory.specs.File.{entry_bytes, layout_of};
 ghost use Rattle.font_write.specs.Parts.{bodies_to, bytes_at, record_at, start_of};
@@ -18,7 +19,7 @@ use crate::plan::{Measure, Plan};
 use crate::sink::{Sink, Stopped};
 use crate::source::Source;
 use font_theory::Profile;
-use sfnt_bytes::{CMAP, GLYF, HEAD, KEPT, LOCA, Tag};
+use sfnt_bytes::{CMAP, GLYF, HEAD, KEPT, LOCA, SLOTS, Tag};
 
 // Sends the table in a slot, where there is one.
 fn send_table<S: Source, K: Sink>(
@@ -30,7 +31,7 @@ fn send_table<S: Source, K: Sink>(
     requires going { (K.trace sink.old).stopped ≡ false }
     requires plan { IsPlan (S.content_of source.now) plan.now }
     requires small { length (planned_file plan.now (S.content_of source.now)) ≤ MAX_FILE }
-    requires slot { slot < 16 }
+    requires slot { slot < SLOTS }
     requires fits { (K.trace sink.old).count + length (bytes_at (layout_of plan.now.profile)
         (S.content_of source.now) slot) ≤ MAX_FILE }
     ensures { Sends (K.trace sink.old) (K.trace sink.new)
@@ -82,7 +83,7 @@ fn send_record<S: Source, K: Sink>(
 ) -> Result<(), Stopped>
     requires going { (K.trace sink.old).stopped ≡ false }
     requires measure { IsMeasure (layout_of profile) (S.content_of source.now) slot measure }
-    requires slot { slot < 16 }
+    requires slot { slot < SLOTS }
     requires offset { offset ≡ start_of (layout_of profile) (S.content_of source.now) + length
         (bodies_to (layout_of profile) (S.content_of source.now) slot) }
     requires fits { (K.trace sink.old).count + length (record_at (layout_of profile)
@@ -102,12 +103,12 @@ fn send_records<S: Source, K: Sink>(source: &S, plan: &Plan, sink: &mut K) -> Re
     requires plan { IsPlan (S.content_of source.now) plan.now }
     requires small { length (planned_file plan.now (S.content_of source.now)) ≤ MAX_FILE }
     requires fits { (K.trace sink.old).count + length (records_to (layout_of plan.now.profile)
-        (S.content_of source.now) 16) ≤ MAX_FILE }
+        (S.content_of source.now) SLOTS) ≤ MAX_FILE }
     ensures { Sends (K.trace sink.old) (K.trace sink.new)
-        (records_to (layout_of plan.now.profile) (S.content_of source.now) 16) result }
+        (records_to (layout_of plan.now.profile) (S.content_of source.now) SLOTS) result }
 {
     let mut offset = 12 + 16 * u32::from(plan.count);
-    for slot in 0..16usize {
+    for slot in 0..SLOTS {
         let measure = plan.measures[slot];
         send_record(source, plan.profile, measure, slot, offset, sink)?;
         offset += measure.length + padding(measure.length as usize) as u32;
@@ -125,7 +126,7 @@ fn send_body<S: Source, K: Sink>(
     requires going { (K.trace sink.old).stopped ≡ false }
     requires plan { IsPlan (S.content_of source.now) plan.now }
     requires small { length (planned_file plan.now (S.content_of source.now)) ≤ MAX_FILE }
-    requires slot { slot < 16 }
+    requires slot { slot < SLOTS }
     requires fits { (K.trace sink.old).count + length (padded
         (bytes_at (layout_of plan.now.profile) (S.content_of source.now) slot)) ≤ MAX_FILE }
     ensures { Sends (K.trace sink.old) (K.trace sink.new)
@@ -141,11 +142,11 @@ fn send_bodies<S: Source, K: Sink>(source: &S, plan: &Plan, sink: &mut K) -> Res
     requires plan { IsPlan (S.content_of source.now) plan.now }
     requires small { length (planned_file plan.now (S.content_of source.now)) ≤ MAX_FILE }
     requires fits { (K.trace sink.old).count + length (bodies_to (layout_of plan.now.profile)
-        (S.content_of source.now) 16) ≤ MAX_FILE }
+        (S.content_of source.now) SLOTS) ≤ MAX_FILE }
     ensures { Sends (K.trace sink.old) (K.trace sink.new)
-        (bodies_to (layout_of plan.now.profile) (S.content_of source.now) 16) result }
+        (bodies_to (layout_of plan.now.profile) (S.content_of source.now) SLOTS) result }
 {
-    for slot in 0..16usize {
+    for slot in 0..SLOTS {
         send_body(source, plan, slot, sink)?;
     }
     Ok(())

@@ -1,6 +1,7 @@
 //! The numbers of a whole font. OpenType 1.9, `head`, `hhea` and `maxp`.
 ghost use Rattle.std.specs.Prelude.{◌≡◌, ◌+◌, ◌<◌, ◌≤◌, None, length};
 ghost use Rattle.sfnt_bytes.specs.Directory.{kept_tag};
+ghost use Rattle.sfnt_bytes.specs.declared.tag.TheConstants.{SLOTS};
 ghost use Rattle.font_tables.specs.Metrics.{i16_at};
 ghost use Rattle.font_tables.specs.Refusals.{table_fault};
 ghost use Rattle.font_tables.specs.Tables.{head_of, hhea_of, table_or_empty};
@@ -43,7 +44,7 @@ fn signed_at(bytes: &[u8], at: usize) -> i16
 // Returns the table of a slot, empty where it is missing.
 #[tactic(auto, unfolding(font_tables::specs::Tables::table_or_empty))]
 fn table<'a>(font: &Font<'a>, slot: usize) -> &'a [u8]
-    requires { slot < 16 }
+    requires { slot < SLOTS }
     ensures table { result.now ≡ table_or_empty font.now (kept_tag slot) }
 
     // Keeps the fact that `Font::open` proved.

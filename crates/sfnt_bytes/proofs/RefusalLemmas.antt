@@ -5,7 +5,7 @@ use Rattle.std.proofs.lemmas.Bool.{not-false, or_parts, ltb-false, leb-true}
 use Rattle.sfnt_bytes.specs.Directory.{HasRecords, table_entry, is_within, kept_tag}
 use Rattle.sfnt_bytes.specs.Refusals.{directory_lines, directory_fault, is_truetype, is_outside, is_duplicate}
 use Rattle.sfnt_bytes.specs.declared.tag.Tag.{Tag}
-use Rattle.sfnt_bytes.specs.declared.tag.TheConstants.{KEPT}
+use Rattle.sfnt_bytes.specs.declared.tag.TheConstants.{KEPT, SLOTS}
 use Rattle.sfnt_bytes.specs.declared.records.Entry.{Entry}
 use Rattle.sfnt_bytes.specs.declared.directory.DirError.TheVariants.{FileTooLarge, Truncated, NotTrueType, DuplicateTable, TableOutOfFile}
 use Rattle.sfnt_bytes.specs.declared.directory.TheConstants.{MAX_FILE}
@@ -40,7 +40,7 @@ is_readable file no_fault =
     }
 
 -- no kept table lies outside
-pub kept_not_outside : (file : List ℕ) (slot : ℕ) → directory_fault file ≡ None → slot < 16 → is_outside file (kept_tag slot) ≡ false
+pub kept_not_outside : (file : List ℕ) (slot : ℕ) → directory_fault file ≡ None → slot < SLOTS → is_outside file (kept_tag slot) ≡ false
 unfolding kept_tag
 kept_not_outside file slot no_fault low = find-none_at (is_outside file) KEPT slot (record { 0 = [] }) (is_readable file no_fault).inside low
 

@@ -53,7 +53,7 @@ table_entry file tag = find (has_tag tag) (records_of file)
 unfoldable pub table_of : List ℕ → Tag → Option (List ℕ)
 table_of file tag = option_map (table_bytes file) (table_entry file tag)
 
--- the kept tag of a slot below 16
+-- the kept tag of a slot
 unfoldable pub kept_tag : ℕ → Tag
 kept_tag slot = slice_index_or KEPT slot (record { 0 = [] })
 

@@ -4,6 +4,7 @@ ghost use Rattle.sfnt_bytes.specs.Directory.{HasRecords, dropped_of, kept_tag, r
 ghost use Rattle.sfnt_bytes.specs.Findings.{findings_of};
 ghost use Rattle.sfnt_bytes.specs.Refusals.{directory_fault, is_duplicate, is_outside};
 ghost use Rattle.sfnt_bytes.specs.SearchFields.{search_fields_of};
+ghost use Rattle.sfnt_bytes.specs.declared.tag.TheConstants.{SLOTS};
 
 use crate::findings::{Findings, findings_in};
 use crate::number::{be16, be32};
@@ -191,7 +192,7 @@ impl<'a> Directory<'a> {
 
     /// Returns the table of the tag `KEPT[slot]`, without its padding, where there is one.
     pub fn table(&self, slot: usize) -> Option<&'a [u8]>
-        requires { slot < 16 }
+        requires { slot < SLOTS }
         ensures { option_copied result ≡ table_of self.now (kept_tag slot) }
     {
         let entry = find_entry(self.file, KEPT[slot])?;

@@ -10,8 +10,11 @@ use crate::number::be32;
 #[derive(Clone, Copy, Debug, PartialEq, Eq)]
 pub struct Tag(pub [u8; 4]);
 
+/// How many slots there are.
+pub const SLOTS: usize = 16;
+
 /// The tables that a cut keeps, ascending by tag. A *slot* is a place in this list.
-pub const KEPT: [Tag; 16] = [
+pub const KEPT: [Tag; SLOTS] = [
     Tag(*b"OS/2"),
     Tag(*b"cmap"),
     Tag(*b"cvt "),

@@ -1,7 +1,7 @@
 //! The items of `sfnt_bytes`.
 use sfnt_bytes::{
-    BASE6, DirError, Directory, Dropped, Entry, Finding, Findings, KEPT, MAX_FILE, Records, Tag,
-    be16, be32, search_fields, word_sum,
+    BASE6, DirError, Directory, Dropped, Entry, Finding, Findings, KEPT, MAX_FILE, Records, SLOTS,
+    Tag, be16, be32, search_fields, word_sum,
 };
 
 /// Reads numbers and sums of bytes.
@@ -10,7 +10,7 @@ pub fn numbers(b: &[u8]) -> u64 {
     let second: u32 = if 4 <= b.len() { be32(b, 0) } else { 0 };
     let sum: u32 = word_sum(b);
     let fields: Option<(u16, u16, u16)> = search_fields(first);
-    let kept: [Tag; 16] = KEPT;
+    let kept: [Tag; SLOTS] = KEPT;
     let name: [u8; 4] = kept[0].0;
     let small: [u8; 428] = BASE6;
     let limit: u64 = MAX_FILE;

@@ -4,8 +4,8 @@ ghost use Rattle.streams.specs.Outlet.{fresh_of};
 
 use font_cut::{
     Component, Components, CutError, CutIntoError, CutOf, Font, FontError, JoinAllError, JoinError,
-    Joined, Mapping, NoMemory, Outlet, Source, Tables, Wanted, WriteFault, cut, cut_into, is_cut,
-    join, join_all,
+    Joined, Mapping, NoMemory, Outlet, SLOTS, Source, Tables, Wanted, WriteFault, cut, cut_into,
+    is_cut, join, join_all,
 };
 use std::alloc::Global;
 use std::io::Write;
@@ -55,7 +55,7 @@ pub fn made_cuts<W: Write>(
 /// Looks at a source.
 pub fn looked_at<S: Source>(source: &S, slot: usize, g: u16) -> bool {
     let count: u16 = source.glyph_count();
-    let table: Option<&[u8]> = if slot < 16 { source.copied(slot) } else { None };
+    let table: Option<&[u8]> = if slot < SLOTS { source.copied(slot) } else { None };
     let glyph: u16 = source.glyph(0x41);
     let keeps: bool = g < count && source.keeps(g);
     let outline: &[u8] = if g < count { source.outline_of(g) } else { &[] };
