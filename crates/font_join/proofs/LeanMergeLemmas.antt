@@ -8,7 +8,7 @@ use Rattle.std.proofs.lemmas.Bool.{cases_eq, cases_lt}
 use Rattle.std.proofs.lemmas.List.{get_or-set_other, get_or-set_same, get_or_past, length-set}
 use Rattle.std.proofs.lemmas.List.FromFn.{fill_by_all, length-map-range_with_len}
 use Rattle.sfnt_bytes.specs.declared.directory.TheConstants.{MAX_FILE}
-use Rattle.sfnt_bytes.specs.declared.tag.TheConstants.{HMTX}
+use Rattle.sfnt_bytes.specs.declared.tag.TheConstants.{HMTX, VMTX}
 use Rattle.font_tables.specs.Fields.{glyph_count_of}
 use Rattle.codes.specs.CharacterMap.{AreCompatible, united}
 use Rattle.font_glyph.specs.Union.{union_of}
@@ -20,7 +20,6 @@ use Rattle.font_theory.specs.Difference.{difference}
 use Rattle.font_theory.specs.Join.{Agree, both}
 use Rattle.font_theory.specs.Lean.{either_bytes, lean_format, spelled_copied, spelled_out}
 use Rattle.font_theory.specs.declared.Difference.TheVariants.{AtGlyph}
-use Rattle.font_theory.specs.declared.slots.TheConstants.{VMTX}
 use Rattle.font_theory.proofs.ArisesLemmas.{IsClosed-arises}
 use Rattle.font_theory.proofs.CutLemmas.{IsCut-current, is_current-tells}
 use Rattle.font_theory.proofs.DifferenceLemmas.{Agree-from_none}

@@ -6,7 +6,7 @@ use Rattle.std.proofs.Math.Path.{fun_ext}
 use Rattle.std.proofs.lemmas.Bool.{cases_eq, ne_eqb}
 use Rattle.std.proofs.lemmas.Slice.Eq.{bytes_eq-Decides}
 use Rattle.sfnt_bytes.specs.Lines.{first_of_lines}
-use Rattle.sfnt_bytes.specs.declared.tag.TheConstants.{HHEA, HMTX}
+use Rattle.sfnt_bytes.specs.declared.tag.TheConstants.{HHEA, HMTX, MAXP, POST, SLOTS, VHEA, VMTX}
 use Rattle.font_tables.specs.Fields.{num_glyphs, number_of_h_metrics}
 use Rattle.font_tables.specs.Refusals.{is_bad_hhea, is_bad_hmtx}
 use Rattle.font_theory.specs.Content.{Content, IsClosedContent, IsWritable, KeepsComponents, glyph_count, is_made, table_in_slot}
@@ -14,7 +14,6 @@ use Rattle.font_theory.specs.Difference.{is_different_code, is_different_table}
 use Rattle.font_theory.specs.Lean.{entry_at, entry_size, lean_format, metric_bytes, metrics_at, pairs_in, spelled_copied, spelled_out, thin_copied}
 use Rattle.font_theory.specs.declared.Difference.{Difference}
 use Rattle.font_theory.specs.declared.Difference.TheVariants.{AtTable}
-use Rattle.font_theory.specs.declared.slots.TheConstants.{POST, VHEA, VMTX}
 use Rattle.font_theory.proofs.LeanCopiedLemmas.{thin_copied-other, thin_copied-spelled}
 use Rattle.font_theory.proofs.LeanFileLemmas.{IsClosed-lean}
 use Rattle.font_theory.proofs.LeanFormatLemmas.{IsLean-arises}
@@ -151,8 +150,8 @@ pub same_count : (K L : Content) → early_difference K L ≡ None → glyph_cou
 unfolding early_difference is_different_table glyph_count
 same_count K L h =
     let none = mapped_none _ (first_of_none _ _ h) in
-    let ten : is_different_table K L 10 ≡ false = find-none (is_different_table K L) 16 10 none (omega arith) in
-    let e : K.copied 10 ≡ L.copied 10 = option_same _ _ (not_false _ ten) in
+    let same : is_different_table K L MAXP ≡ false = find-none (is_different_table K L) SLOTS MAXP none (omega arith) in
+    let e : K.copied MAXP ≡ L.copied MAXP = option_same _ _ (not_false _ same) in
     ap (λ o. num_glyphs (unwrap_or o [])) e
 
 -- what is written of a lean content is closed

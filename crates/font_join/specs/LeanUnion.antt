@@ -1,8 +1,7 @@
 -- The union of many lean cuts, this project's own: what is held of it, and its content as it is written.
 use Rattle.std.specs.Prelude.{ℕ, nat_eq, List, if◌then◌else◌, Option}
-use Rattle.sfnt_bytes.specs.declared.tag.TheConstants.{HMTX}
+use Rattle.sfnt_bytes.specs.declared.tag.TheConstants.{HMTX, VMTX}
 use Rattle.font_theory.specs.Content.{Content, font_of}
-use Rattle.font_theory.specs.declared.slots.TheConstants.{VMTX}
 use Rattle.map_union.specs.RunLists.{map_in}
 use Rattle.font_join.specs.Union.{Held, listed_outline}
 

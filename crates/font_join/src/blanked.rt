@@ -2,15 +2,13 @@
 //! with another. OpenType 1.9, hmtx; vmtx.
 ghost use Rattle.std.specs.Prelude.{◌≡◌, ◌≤◌, length, None, Some, IfOk, MatchOption};
 ghost use Rattle.sfnt_bytes.specs.declared.directory.TheConstants.{MAX_FILE};
-ghost use Rattle.sfnt_bytes.specs.declared.tag.TheConstants.{HHEA, HMTX};
-ghost use Rattle.font_theory.specs.declared.slots.TheConstants.{VHEA, VMTX};
+ghost use Rattle.sfnt_bytes.specs.declared.tag.TheConstants.{HHEA, HMTX, VHEA, VMTX};
 ghost use Rattle.font_join.specs.LeanInside.{AreBlanks, blank_in};
 
 use font_map::Run;
 use font_subset::{blank_of, bytes_of};
-use font_theory::{VHEA, VMTX};
 use font_write::Source;
-use sfnt_bytes::{HHEA, HMTX, NoMemory};
+use sfnt_bytes::{HHEA, HMTX, NoMemory, VHEA, VMTX};
 use std::alloc::Allocator;
 use std::marker::Model;
 

@@ -28,10 +28,9 @@ use crate::without_codes::size_if_too_large;
 use font_file::Font;
 use font_map::Run;
 use font_subset::{bytes_of, copied, head, recall_accepted};
-use font_theory::VMTX;
 use font_write::Source;
 use map_union::UnionMap;
-use sfnt_bytes::{HMTX, NoMemory};
+use sfnt_bytes::{HMTX, NoMemory, VMTX};
 use std::alloc::{Allocator, Global};
 use std::marker::Model;
 

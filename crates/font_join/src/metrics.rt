@@ -8,9 +8,8 @@ ghost use Rattle.font_join.specs.LeanInside.{has_other_metrics, metrics_by};
 
 use crate::difference::is_same;
 use font_subset::pairs_by;
-use font_theory::{VHEA, VMTX};
 use font_write::Source;
-use sfnt_bytes::{HHEA, HMTX};
+use sfnt_bytes::{HHEA, HMTX, VHEA, VMTX};
 use std::marker::Model;
 
 // Returns a byte of a table, 0 past its end.

@@ -4,7 +4,7 @@ use Rattle.std.specs.Option.{IsSome, is_some, option_map, option_or, unwrap_or}
 use Rattle.std.proofs.Math.Path.{fun_ext}
 use Rattle.std.proofs.lemmas.Bool.{lt-ltb}
 use Rattle.sfnt_bytes.specs.declared.directory.TheConstants.{MAX_FILE}
-use Rattle.sfnt_bytes.specs.declared.tag.TheConstants.{HHEA, HMTX}
+use Rattle.sfnt_bytes.specs.declared.tag.TheConstants.{HHEA, HMTX, POST, VHEA, VMTX}
 use Rattle.sfnt_bytes.specs.Lines.{when}
 use Rattle.codes.specs.declared.ranges.Range.{Range}
 use Rattle.font_tables.specs.Fields.{number_of_h_metrics}
@@ -13,7 +13,6 @@ use Rattle.font_file.specs.Font.{font_fault}
 use Rattle.font_theory.specs.Bytes.{padded}
 use Rattle.font_theory.specs.Content.{Content, IsClosedContent, IsWritable, KeepsComponents, content, font_of, glyph_count, is_kept}
 use Rattle.font_theory.specs.Lean.{blank, cleared, pairs_in, thin, thin_post}
-use Rattle.font_theory.specs.declared.slots.TheConstants.{POST, VHEA, VMTX}
 use Rattle.font_theory.proofs.ContentLemmas.{IsClosed-content}
 use Rattle.font_theory.proofs.FontLemmas.{IsFont-accepted}
 use Rattle.font_theory.proofs.HeldLemmas.{KeepsComponents-closed}

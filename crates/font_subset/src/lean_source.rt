@@ -8,16 +8,15 @@ ghost use Rattle.font_tables.specs.Fields.{number_of_h_metrics};
 ghost use Rattle.font_tables.specs.Refusals.{is_bad_hhea, is_bad_hmtx};
 ghost use Rattle.font_theory.specs.Content.{font_of, glyph_count, is_kept};
 ghost use Rattle.font_theory.specs.Lean.{blank, cleared, pairs_in, thin_post};
-ghost use Rattle.font_theory.specs.declared.slots.TheConstants.{POST};
+ghost use Rattle.sfnt_bytes.specs.declared.tag.TheConstants.{POST};
 ghost use Rattle.font_subset.specs.Content.{codes_wanted, lean_content};
 
 use crate::cut_source::CutOf;
 use crate::lean_tables::{POST_LENGTH, blank_table, cleared_table, unnamed};
 use font_file::Font;
 use font_map::{Run, Wanted};
-use font_theory::{POST, VHEA, VMTX};
 use font_write::Source;
-use sfnt_bytes::{HHEA, HMTX, NoMemory, be16};
+use sfnt_bytes::{HHEA, HMTX, NoMemory, POST, VHEA, VMTX, be16};
 use std::alloc::{Allocator, Global};
 use std::marker::Model;
 
@@ -139,8 +138,7 @@ impl<'f, 'a, A: Allocator> Model for LeanOf<'f, 'a, A> {
     ghost use Rattle.std.specs.Prelude.{ℕ, List, Option};
     ghost use Rattle.std.specs.Option.{option_map};
     ghost use Rattle.codes.specs.declared.ranges.Range.{Range};
-    ghost use Rattle.sfnt_bytes.specs.declared.tag.TheConstants.{HMTX};
-    ghost use Rattle.font_theory.specs.declared.slots.TheConstants.{POST, VMTX};
+    ghost use Rattle.sfnt_bytes.specs.declared.tag.TheConstants.{HMTX, POST, VMTX};
     ghost use Rattle.font_subset.specs.Inside.{IsMadeTable};
 
     ghost Value = { List ℕ × Option (List Range) };

@@ -18,8 +18,7 @@ use Rattle.font_theory.proofs.LeanLemmas.{IsFont-spelled, thin-spelled}
 use Rattle.font_theory.proofs.FontLemmas.{IsFont-accepted}
 use Rattle.font_theory.proofs.LeanCopiedLemmas.{glyph_count-alike, spelled_copied-other, AreAlike-thin}
 use Rattle.font_theory.proofs.LeanCutLemmas.{outline-records, records-same, same-records}
-use Rattle.sfnt_bytes.specs.declared.tag.TheConstants.{HMTX}
-use Rattle.font_theory.specs.declared.slots.TheConstants.{VMTX}
+use Rattle.sfnt_bytes.specs.declared.tag.TheConstants.{HMTX, VMTX}
 
 when-parts : (b : Bool) (x a : List ℕ) → when b x ≡ Some a → (b ≡ true) × (x ≡ a)
 when-parts true x a h = (refl, cc)

@@ -11,8 +11,7 @@ use Rattle.font_theory.specs.Bytes.{bytes32, cut_head}
 use Rattle.font_theory.specs.Content.{Content, Font, IsFont, content, glyph_count, is_made, metric_count, table_in_slot}
 use Rattle.font_theory.specs.Lean.{blank, laid, pairs_in, spelled_copied, thin, thin_copied, thin_post}
 use Rattle.font_theory.proofs.LeanEntryLemmas.{AreThere, blank-blank, blank-laid, length-blank, length-laid}
-use Rattle.sfnt_bytes.specs.declared.tag.TheConstants.{HHEA, HMTX, MAXP}
-use Rattle.font_theory.specs.declared.slots.TheConstants.{POST, VHEA, VMTX}
+use Rattle.sfnt_bytes.specs.declared.tag.TheConstants.{HHEA, HMTX, MAXP, POST, VHEA, VMTX}
 
 abbrev Tables : Type 0
 Tables = ℕ → Option (List ℕ)

@@ -37,8 +37,7 @@ use Rattle.font_theory.proofs.LeanSizeLemmas.{length-lean}
 use Rattle.font_theory.proofs.OurFormatLemmas.{our_format-is}
 use Rattle.font_theory.proofs.WantedLemmas.{IsKept, is_kept-decides}
 use Rattle.font_theory.proofs.WritableLemmas.{IsWritable-closed}
-use Rattle.sfnt_bytes.specs.declared.tag.TheConstants.{HMTX}
-use Rattle.font_theory.specs.declared.slots.TheConstants.{VMTX}
+use Rattle.sfnt_bytes.specs.declared.tag.TheConstants.{HMTX, VMTX}
 
 module _ (font : List ℕ) (wanted : ℕ → Bool) (accepted : font_fault font ≡ None) where
   ok : IsFont (font_of font)

@@ -13,8 +13,7 @@ use Rattle.font_theory.specs.Lean.{blank, either_bytes, holder, is_entry, laid, 
 use Rattle.font_theory.proofs.LeanCopiedLemmas.{thin_copied-hmtx, thin_copied-vmtx}
 use Rattle.font_theory.proofs.LeanEntryLemmas.{get_or-blank, get_or-laid, length-laid}
 use Rattle.font_theory.proofs.LeanLemmas.{IsLean}
-use Rattle.sfnt_bytes.specs.declared.tag.TheConstants.{HHEA, HMTX}
-use Rattle.font_theory.specs.declared.slots.TheConstants.{VHEA, VMTX}
+use Rattle.sfnt_bytes.specs.declared.tag.TheConstants.{HHEA, HMTX, VHEA, VMTX}
 
 length-either_bytes : (x y : List ℕ) → length (either_bytes x y) ≡ length x
 unfolding either_bytes

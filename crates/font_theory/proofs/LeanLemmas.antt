@@ -11,8 +11,7 @@ use Rattle.font_theory.proofs.LeanCopiedLemmas.{IsFont-alike, are_there, glyph_c
 use Rattle.font_theory.proofs.LeanEntryLemmas.{AreThere, byte_from, four, four-same, get_or-four, length-metric_bytes, metric_bytes-blank, metric_bytes-is, metric_bytes-laid, entry_size-four}
 use Rattle.font_theory.proofs.LeanRecordLemmas.{IsRecord-with_metrics, get_or-append_end, stripped-nil, zeros}
 use Rattle.font_theory.proofs.PaddedLemmas.{IsRecord-nil}
-use Rattle.sfnt_bytes.specs.declared.tag.TheConstants.{HHEA, HMTX}
-use Rattle.font_theory.specs.declared.slots.TheConstants.{VHEA, VMTX}
+use Rattle.sfnt_bytes.specs.declared.tag.TheConstants.{HHEA, HMTX, VHEA, VMTX}
 
 abbrev Tables : Type 0
 Tables = ℕ → Option (List ℕ)

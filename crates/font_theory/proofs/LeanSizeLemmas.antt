@@ -20,8 +20,7 @@ use Rattle.font_theory.proofs.LeanMetricLemmas.{glyph_count-lean}
 use Rattle.font_theory.proofs.PaddingLemmas.{length-padded-is}
 use Rattle.font_theory.proofs.SizeLemmas.{length-file, length-said_lines-total, one_of, sum-map, total}
 use Rattle.font_theory.proofs.WritableLemmas.{IsWritable-closed}
-use Rattle.sfnt_bytes.specs.declared.tag.TheConstants.{HHEA, HMTX}
-use Rattle.font_theory.specs.declared.slots.TheConstants.{POST, VHEA, VMTX}
+use Rattle.sfnt_bytes.specs.declared.tag.TheConstants.{HHEA, HMTX, POST, VHEA, VMTX}
 
 -- one table is there where the other is, and is no longer
 abbrev IsNoLonger : Option (List ℕ) → Option (List ℕ) → Type 0

@@ -10,8 +10,7 @@ use Rattle.font_theory.proofs.LeanCutLemmas.{kept-low, metrics_at-dropped, metri
 use Rattle.font_theory.proofs.LeanEntryLemmas.{AreThere, entry-some, get_or-cleared, get_or-four, is_place, laid-other, length-blank, length-cleared, length-laid, metric_bytes-is, entry_size-four}
 use Rattle.font_theory.proofs.LeanLemmas.{get_or-metrics_second}
 use Rattle.font_theory.proofs.LeanMetricLemmas.{get_or-metrics_at, get_or-lean, glyph_count-lean, hmtx-lean, pairs_in-lean}
-use Rattle.sfnt_bytes.specs.declared.tag.TheConstants.{HHEA, HMTX}
-use Rattle.font_theory.specs.declared.slots.TheConstants.{VHEA, VMTX}
+use Rattle.sfnt_bytes.specs.declared.tag.TheConstants.{HHEA, HMTX, VHEA, VMTX}
 
 module _ (keeps : ℕ → Bool) (k n : ℕ) (t t' : List ℕ) (there : AreThere k n t) (size : length t' ≡ length t)
     (kept : (g : ℕ) → keeps g ≡ true → (i : ℕ) → i < entry_size k g → get_or t' (entry_at k g + i) 0 ≡ get_or t (entry_at k g + i) 0)

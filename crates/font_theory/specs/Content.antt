@@ -2,7 +2,7 @@
 use Rattle.std.specs.Prelude.{◌≡◌, ℕ, ◌<◌, ◌≤◌, nat_eq, nat_le, nat_lt, Bool, true, false, ◌||◌, List, [], length, if◌then◌else◌, Option, None, IsSome, unwrap_or}
 use Rattle.sfnt_bytes.specs.Directory.{kept_tag, table_of}
 use Rattle.sfnt_bytes.specs.Lines.{when}
-use Rattle.sfnt_bytes.specs.declared.tag.TheConstants.{CMAP, GLYF, HEAD, LOCA, SLOTS}
+use Rattle.sfnt_bytes.specs.declared.tag.TheConstants.{CMAP, GLYF, HEAD, HHEA, HMTX, LOCA, MAXP, SLOTS}
 use Rattle.font_tables.specs.Fields.{glyph_count_of, num_glyphs, number_of_h_metrics}
 use Rattle.font_tables.specs.Outlines.{outline_of}
 use Rattle.font_tables.specs.Refusals.{is_bad_head, is_bad_hhea, is_bad_hmtx, is_bad_maxp}
@@ -42,11 +42,11 @@ table_in_slot copied slot = unwrap_or (copied slot) []
 
 -- numGlyphs of `maxp`
 unfoldable pub glyph_count : (ℕ → Option (List ℕ)) → ℕ
-glyph_count copied = num_glyphs (table_in_slot copied 10)
+glyph_count copied = num_glyphs (table_in_slot copied MAXP)
 
 -- numberOfHMetrics of `hhea`
 unfoldable pub metric_count : (ℕ → Option (List ℕ)) → ℕ
-metric_count copied = number_of_h_metrics (table_in_slot copied 7)
+metric_count copied = number_of_h_metrics (table_in_slot copied HHEA)
 
 -- all codes
 abbrev pub everything : ℕ → Bool
@@ -90,9 +90,9 @@ pub record IsFont (F : Font) : Type 0 where
   pub slots : (slot : ℕ) → is_made slot ≡ true → F.copied slot ≡ None
   pub head_form : cut_head F.head ≡ F.head
   pub head : is_bad_head F.head ≡ false
-  pub maxp : is_bad_maxp (table_in_slot F.copied 10) ≡ false
-  pub hhea : is_bad_hhea (table_in_slot F.copied 7) (glyph_count F.copied) ≡ false
-  pub hmtx : is_bad_hmtx (table_in_slot F.copied 8) (metric_count F.copied) (glyph_count F.copied) ≡ false
+  pub maxp : is_bad_maxp (table_in_slot F.copied MAXP) ≡ false
+  pub hhea : is_bad_hhea (table_in_slot F.copied HHEA) (glyph_count F.copied) ≡ false
+  pub hmtx : is_bad_hmtx (table_in_slot F.copied HMTX) (metric_count F.copied) (glyph_count F.copied) ≡ false
 
 -- the content of a file in cut form: a font is read of it, of which it is the content for all codes
 pub record IsClosedContent (K : Content) : Type 0 where

@@ -5,7 +5,7 @@ use Rattle.std.specs.List.{range_with_len}
 use Rattle.std.specs.Option.{option_map}
 use Rattle.std.specs.Str.{bytes_eq}
 use Rattle.sfnt_bytes.specs.declared.directory.TheConstants.{MAX_FILE}
-use Rattle.sfnt_bytes.specs.declared.tag.TheConstants.{HHEA, HMTX}
+use Rattle.sfnt_bytes.specs.declared.tag.TheConstants.{HHEA, HMTX, POST, VHEA, VMTX}
 use Rattle.font_tables.specs.Fields.{number_of_h_metrics}
 use Rattle.font_tables.specs.Refusals.{is_bad_hhea, is_bad_hmtx}
 use Rattle.codes.specs.CharacterMap.{AreCompatible}
@@ -15,7 +15,6 @@ use Rattle.font_theory.specs.Bytes.{bytes32, padded}
 use Rattle.font_theory.specs.Content.{Content, Font, everything, font_of, is_kept, glyph_count, table_in_slot}
 use Rattle.font_theory.specs.Cut.{Format}
 use Rattle.font_theory.specs.File.{current_layout, file}
-use Rattle.font_theory.specs.declared.slots.TheConstants.{POST, VHEA, VMTX}
 
 -- the number of pairs in a table of metrics (OpenType 1.9, hhea, numberOfHMetrics; vhea,
 -- numOfLongVerMetrics), or 0 where the header does not describe the table

@@ -18,8 +18,7 @@ ghost use Rattle.font_theory.specs.Cut.{Arises, CanJoin, IsCurrent, IsFormat, Un
 ghost use Rattle.font_theory.specs.Join.{Agree, both};
 ghost use Rattle.font_theory.specs.Lean.{AgreeLean, cleared, either_bytes, lean_file, lean_format, metrics_at, pairs_in, spelled_out, thin, thin_copied, thin_post, with_metrics};
 ghost use Rattle.font_theory.specs.Tree.{IsSmall, JoinTree, Value, cuts, union_in};
-ghost use Rattle.sfnt_bytes.specs.declared.tag.TheConstants.{HHEA, HMTX};
-ghost use Rattle.font_theory.specs.declared.slots.TheConstants.{POST, VHEA, VMTX};
+ghost use Rattle.sfnt_bytes.specs.declared.tag.TheConstants.{HHEA, HMTX, POST, VHEA, VMTX};
 
 /// The slots that lean cuts look into are those of the tables after which they are named.
 pub fn lean_slots_are()

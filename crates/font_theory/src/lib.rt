@@ -5,7 +5,6 @@ mod cuts;
 mod files;
 mod joins;
 mod lean;
-mod slots;
 mod trees;
 
 pub use crate::cuts::{
@@ -31,7 +30,6 @@ pub use crate::lean::{
     lean_metrics_are, lean_records_are, lean_slots_are, lean_tables_are, lean_union_is,
     trees_of_lean_cuts, wanted_is_in_lean_file,
 };
-pub use crate::slots::{POST, VHEA, VMTX};
 pub use crate::trees::{
     clash_everywhere, grown_cuts, same_content, same_union, same_value, same_value_of_cuts,
     trees_of_cuts,

@@ -20,4 +20,6 @@ pub use crate::laws::sum_of_parts;
 pub use crate::number::{be16, be32};
 pub use crate::records::{Dropped, Entry, Records};
 pub use crate::sums::{adjustment, word_sum};
-pub use crate::tag::{CMAP, GLYF, HEAD, HHEA, HMTX, KEPT, LOCA, MAXP, SLOTS, Tag};
+pub use crate::tag::{
+    CMAP, GLYF, HEAD, HHEA, HMTX, KEPT, LOCA, MAXP, POST, SLOTS, Tag, VHEA, VMTX,
+};

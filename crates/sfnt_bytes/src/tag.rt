@@ -54,6 +54,15 @@ pub const LOCA: usize = 9;
 /// The slot of `maxp`.
 pub const MAXP: usize = 10;
 
+/// The slot of `post`.
+pub const POST: usize = 12;
+
+/// The slot of `vhea`.
+pub const VHEA: usize = 14;
+
+/// The slot of `vmtx`.
+pub const VMTX: usize = 15;
+
 /// The table whose checksum leaves a field out.
 pub(crate) const HEAD_TAG: Tag = Tag(*b"head");
 

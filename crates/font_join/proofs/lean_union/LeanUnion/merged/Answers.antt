@@ -1,6 +1,6 @@
 use Rattle.std.proofs.Common.{◌≡◌, ℕ, List, [], None, Some, unwrap_or, sym, ap, ◌∙◌, subst}
 use Rattle.std.specs.Option.{option_map}
-use Rattle.sfnt_bytes.specs.declared.tag.TheConstants.{HMTX}
+use Rattle.sfnt_bytes.specs.declared.tag.TheConstants.{HMTX, VMTX}
 use Rattle.codes.specs.CharacterMap.{AreCompatible, united}
 use Rattle.font_tables.specs.Fields.{glyph_count_of}
 use Rattle.font_theory.specs.Content.{Content, content, everything, font_of}
@@ -9,7 +9,6 @@ use Rattle.font_theory.specs.Difference.{difference}
 use Rattle.font_theory.specs.Join.{Agree}
 use Rattle.font_theory.specs.Lean.{either_bytes, lean_format, spelled_out}
 use Rattle.font_theory.specs.declared.Difference.TheVariants.{AtGlyph}
-use Rattle.font_theory.specs.declared.slots.TheConstants.{VMTX}
 use Rattle.font_theory.proofs.CutLemmas.{IsCut-current, is_cut-of}
 use Rattle.font_theory.proofs.LeanFormatLemmas.{lean_format-is}
 use Rattle.map_union.specs.RunLists.{map_in}

@@ -1,12 +1,11 @@
 use Rattle.std.proofs.Common.{◌≡◌, ◌≤◌, ℕ, List, [], Option, None, length, unwrap_or, sym, subst, ◌∙◌}
 use Rattle.std.specs.Option.{option_map}
 use Rattle.sfnt_bytes.specs.declared.directory.TheConstants.{MAX_FILE}
-use Rattle.sfnt_bytes.specs.declared.tag.TheConstants.{HMTX}
+use Rattle.sfnt_bytes.specs.declared.tag.TheConstants.{HMTX, VMTX}
 use Rattle.font_tables.specs.Fields.{glyph_count_of}
 use Rattle.font_theory.specs.Content.{Content, content, everything, font_of}
 use Rattle.font_theory.specs.Cut.{IsCurrent, IsCut, our_format, content_of_all}
 use Rattle.font_theory.specs.Lean.{lean_format, spelled_out}
-use Rattle.font_theory.specs.declared.slots.TheConstants.{VMTX}
 use Rattle.font_theory.proofs.CutLemmas.{IsCut-current}
 use Rattle.font_subset.specs.ListedRuns.{AreRunsOf}
 use Rattle.font_join.specs.Inside.{AreTaken, Spells}
