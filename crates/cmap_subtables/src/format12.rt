@@ -7,8 +7,9 @@ ghost use Rattle.cmap_subtables.specs.Format12.{Decides, HasGroups, HasOrderedGr
 ghost use Rattle.codes.specs.Order.{IsFirstReaching};
 ghost use Rattle.cmap_subtables.specs.Inside.{group_end, group_nth};
 ghost use Rattle.codes.specs.Runs.{IsNext, IsPiece, NoRun};
+ghost use Rattle.codes.specs.declared.code_points.TheConstants.{CODES};
 
-use codes::{ANYWHERE, Ends, Run, first_reaching};
+use codes::{ANYWHERE, CODES, Ends, LAST_CODE, Run, first_reaching};
 use sfnt_bytes::be32;
 use std::marker::Model;
 
@@ -130,7 +131,7 @@ fn clip_group(group: ListedGroup, from: u32, glyphs: u16) -> Option<Run>
     ensures { MatchOption result (NoRun (clipped glyphs (glyph_of_group group)) from)
         (IsPiece (clipped glyphs (glyph_of_group group)) from) }
 {
-    let end = group.last.min(0x10FFFF);
+    let end = group.last.min(LAST_CODE);
     let mut first = from.max(group.first);
     if end < first {
         return None;
@@ -162,16 +163,16 @@ fn reach_at(s: &[u8], i: usize, from: u32) -> (Option<ListedGroup>, u32)
     requires room { HasGroups s.now }
     requires order { HasOrderedGroups s.now }
     requires place { IsFirstReaching (group_end s.now) (group_count s.now) from i }
-    requires low { from < 0x110000 }
+    requires low { from < CODES }
     ensures order { from < result.1 }
-    ensures small { result.1 ≤ 0x110000 }
+    ensures small { result.1 ≤ CODES }
     ensures found { Decides s.now from result.0 result.1 }
 {
     if i >= count_groups(s) {
-        return (None, 0x110000);
+        return (None, CODES);
     }
     let group = group_at(s, i);
-    let last = group.last.min(0x10FFFF);
+    let last = group.last.min(LAST_CODE);
     (Some(ListedGroup { last, ..group }), last + 1)
 }
 
@@ -179,13 +180,13 @@ fn reach_at(s: &[u8], i: usize, from: u32) -> (Option<ListedGroup>, u32)
 // its first code on.
 fn walk_reach(s: &[u8], from: u32) -> (Option<ListedGroup>, u32)
     requires room { HasGroups s.now }
-    requires low { from < 0x110000 }
+    requires low { from < CODES }
     ensures order { from < result.1 }
-    ensures small { result.1 ≤ 0x110000 }
+    ensures small { result.1 ≤ CODES }
     ensures found { Decides s.now from result.0 result.1 }
 {
     let count = count_groups(s);
-    let mut stop = 0x110000;
+    let mut stop = CODES;
     for i in 0..count {
         let group = group_at(s, i);
         if group.first <= from && from <= group.last {
@@ -290,9 +291,9 @@ impl<'a> ListedGroups<'a> {
     // stop.
     #[tactic(auto, using(crate::proofs::GroupLemmas::group_ascends))]
     fn reach(&self, from: u32) -> (Option<ListedGroup>, u32)
-        requires low { from < 0x110000 }
+        requires low { from < CODES }
         ensures order { from < result.1 }
-        ensures small { result.1 ≤ 0x110000 }
+        ensures small { result.1 ≤ CODES }
         ensures found { Decides self.now from result.0 result.1 }
     {
         if self.ordered {
@@ -303,9 +304,9 @@ impl<'a> ListedGroups<'a> {
 
     /// Returns a piece of the map from a code on, or none up to a stop; and the stop.
     pub fn stretch(&self, glyphs: u16, from: u32) -> (Option<Run>, u32)
-        requires low { from < 0x110000 }
+        requires low { from < CODES }
         ensures order { from < result.1 }
-        ensures small { result.1 ≤ 0x110000 }
+        ensures small { result.1 ≤ CODES }
         ensures found { MatchOption result.0
             (IsUnmapped (clipped glyphs (group_glyph self.now)) from result.1)
             (IsPiece (clipped glyphs (group_glyph self.now)) from) }
@@ -362,7 +363,7 @@ fn piece_near(
     let s = groups.bytes();
     let mut at = from;
     let mut place = hint;
-    while at < 0x110000 {
+    while at < CODES {
         place = first_reaching(groups, place, at);
         let (found, stop) = reach_at(s, place, at);
         if let Some(run) = stretch_by_group(s, found, stop, glyphs, at) {

@@ -8,8 +8,9 @@ ghost use Rattle.cmap_subtables.specs.Format4.{HasOrderedSegments, HasSegments, 
 ghost use Rattle.codes.specs.Order.{IsFirstReaching};
 ghost use Rattle.cmap_subtables.specs.Inside.{glyph_by_delta, glyph_of_segment, segment_end, segment_nth};
 ghost use Rattle.codes.specs.Runs.{IsNext, IsPiece, IsRun, NoRun};
+ghost use Rattle.codes.specs.declared.code_points.TheConstants.{CODES};
 
-use codes::{ANYWHERE, Ends, Run, clip, first_reaching};
+use codes::{ANYWHERE, CODES, Ends, Run, clip, first_reaching};
 use sfnt_bytes::be16;
 use std::marker::Model;
 
@@ -248,7 +249,7 @@ fn stretch_by(s: &[u8], found: Option<Segment>, glyphs: u16, from: u32) -> (Opti
     requires near { IfSome found (λ segment. segment.place ≤ length s.now) }
     requires ends { IfSome found (λ segment. from ≤ segment.last) }
     ensures order { from < result.1 }
-    ensures small { result.1 ≤ 0x110000 }
+    ensures small { result.1 ≤ CODES }
     ensures found { MatchOption result.0 (IsUnmapped (clipped glyphs (segment_glyph s.now)) from result.1)
         (IsPiece (clipped glyphs (segment_glyph s.now)) from) }
 {
@@ -257,7 +258,7 @@ fn stretch_by(s: &[u8], found: Option<Segment>, glyphs: u16, from: u32) -> (Opti
             clip_segment(s, segment, from, glyphs),
             u32::from(segment.last) + 1,
         ),
-        None => (None, 0x110000),
+        None => (None, CODES),
     }
 }
 
@@ -396,15 +397,15 @@ impl<'a> Segments<'a> {
 
     /// Returns a piece of the map from a code on, or none up to a stop; and the stop.
     pub fn stretch(&self, glyphs: u16, from: u32) -> (Option<Run>, u32)
-        requires low { from < 0x110000 }
+        requires low { from < CODES }
         ensures order { from < result.1 }
-        ensures small { result.1 ≤ 0x110000 }
+        ensures small { result.1 ≤ CODES }
         ensures found { MatchOption result.0
             (IsUnmapped (clipped glyphs (segment_glyph self.now)) from result.1)
             (IsPiece (clipped glyphs (segment_glyph self.now)) from) }
     {
         if from > 0xFFFF {
-            return (None, 0x110000);
+            return (None, CODES);
         }
         stretch_by(self.bytes, self.find(from), glyphs, from)
     }

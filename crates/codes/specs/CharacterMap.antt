@@ -1,10 +1,11 @@
 -- Character maps: functions from a code point to its glyph, where 0 is "not mapped" (OpenType 1.9, cmap).
 use Rattle.std.specs.Prelude.{◌≡◌, ℕ, ◌<◌, ◌≤◌, nat_lt, nat_le, nat_eq, Bool, ◌&&◌, ◌||◌, count_by, if◌then◌else◌}
 use Rattle.std.specs.List.{range_with_len}
+use Rattle.codes.specs.declared.code_points.TheConstants.{CODES, LAST_CODE}
 
 -- a map of code points, which end at 0x10FFFF, to glyph numbers, which have 16 bits
 pub record IsCharacterMap (m : ℕ → ℕ) : Type 0 where
-  pub codes : (c : ℕ) → 0x110000 ≤ c → m c ≡ 0
+  pub codes : (c : ℕ) → CODES ≤ c → m c ≡ 0
   pub glyphs : (c : ℕ) → m c < 65536
 
 -- no code from a given one on up to a stop is mapped
@@ -17,7 +18,7 @@ AreSame m k from stop = (c : ℕ) → from ≤ c → c < stop → m c ≡ k c
 
 -- a map to the glyphs below n, of the codes up to 0x10FFFF
 abbrev pub clipped : ℕ → (ℕ → ℕ) → ℕ → ℕ
-clipped n m c = if nat_lt (m c) n && nat_le c 0x10FFFF then m c else 0
+clipped n m c = if nat_lt (m c) n && nat_le c LAST_CODE then m c else 0
 
 -- a map on the codes of a set
 abbrev pub restricted : (ℕ → Bool) → (ℕ → ℕ) → ℕ → ℕ
@@ -41,7 +42,7 @@ mapped_among m from n = count_by (is_mapped m) (range_with_len from n)
 
 -- how many codes are mapped
 unfoldable pub mapped_codes : (ℕ → ℕ) → ℕ
-mapped_codes m = mapped_among m 0 0x110000
+mapped_codes m = mapped_among m 0 CODES
 
 -- restrictions and unions are character maps, and follow from each other as those of sets do
 pub record MapLaws : Type 0 where

@@ -2,6 +2,7 @@
 use Rattle.std.specs.Prelude.{◌≡◌, ◌≢◌, ℕ, zero, suc, ◌+◌, ◌-◌, ◌<◌, ◌≤◌, nat_le, nat_eq, ◌&&◌, List, [], ◌∷◌, Bool, if◌then◌else◌, length, Option, MatchOption}
 use Rattle.std.specs.List.{slice_get}
 use Rattle.codes.specs.CharacterMap.{IsCharacterMap, restricted}
+use Rattle.codes.specs.declared.code_points.TheConstants.{CODES, LAST_CODE}
 use Rattle.codes.specs.declared.runs.Run.{Run}
 
 -- no code from `from` on is mapped
@@ -13,7 +14,7 @@ pub record IsPiece (m : ℕ → ℕ) (from : ℕ) (run : Run) : Type 0 where
   pub from_on : from ≤ run.first
   pub least : (c : ℕ) → from ≤ c → c < run.first → m c ≡ 0
   pub order : run.first ≤ run.last
-  pub within : run.last ≤ 0x10FFFF
+  pub within : run.last ≤ LAST_CODE
   pub mapped : 0 < run.glyph
   pub small : run.glyph + (run.last - run.first) < 65536
   pub along : (c : ℕ) → run.first ≤ c → c ≤ run.last → m c + run.first ≡ run.glyph + c
@@ -48,7 +49,7 @@ groups_among m c (suc n) = with_code c (m c) (groups_among m (c + 1) n)
 
 -- the groups of a map on the codes from a given one on
 unfoldable pub groups_from : (ℕ → ℕ) → ℕ → List Run
-groups_from m from = groups_among m from (0x110000 - from)
+groups_from m from = groups_among m from (CODES - from)
 
 -- the glyph that groups give a code
 abbrev pub spelled : List Run → ℕ → ℕ

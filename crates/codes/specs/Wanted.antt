@@ -1,6 +1,7 @@
 -- Sets of codes, this project's own: whether a code is in a set, and the sorted ranges that hold it.
 use Rattle.std.specs.Prelude.{◌≡◌, ℕ, ◌+◌, ◌<◌, ◌≤◌, ◌⊎◌, nat_le, Bool, true, false, ◌&&◌, ◌||◌, if◌then◌else◌, List, [], ◌∷◌}
 use Rattle.codes.specs.declared.ranges.Range.{Range}
+use Rattle.codes.specs.declared.code_points.TheConstants.{LAST_CODE}
 
 -- no code
 abbrev pub no_codes : ℕ → Bool
@@ -8,7 +9,7 @@ no_codes c = false
 
 -- all code points
 abbrev pub all_codes : ℕ → Bool
-all_codes c = nat_le c 0x10FFFF
+all_codes c = nat_le c LAST_CODE
 
 -- the codes from one to another
 abbrev pub codes_between : ℕ → ℕ → ℕ → Bool
@@ -24,7 +25,7 @@ but_for gone w c = if gone c then false else w c
 
 -- first above last, or last above the last code point
 abbrev pub IsBadRange : ℕ → ℕ → Type 0
-IsBadRange first last = (last < first) ⊎ (0x10FFFF < last)
+IsBadRange first last = (last < first) ⊎ (LAST_CODE < last)
 
 -- a code is in one of the ranges
 abbrev pub member : List Range → ℕ → Bool

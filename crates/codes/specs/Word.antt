@@ -4,6 +4,7 @@ use Rattle.std.specs.Char.{digit_value}
 use Rattle.std.specs.List.{list_all}
 use Rattle.std.specs.Str.Parse.{digits_value}
 use Rattle.codes.specs.Wanted.{IsBadRange}
+use Rattle.codes.specs.declared.code_points.TheConstants.{LAST_CODE}
 use Rattle.codes.specs.declared.word.WordError.{WordError}
 use Rattle.codes.specs.declared.word.WordError.TheVariants.{BadRange, BadWord}
 
@@ -38,7 +39,7 @@ pub record IsCodeWord (text : List ℕ) (first last : ℕ) : Type 0 where
 
 -- a word for the codes from one to another: `all` or `U+` and codes
 abbrev pub IsWord : List ℕ → ℕ → ℕ → Type 0
-IsWord text first last = ((text ≡ codes "all") × (first ≡ 0) × (last ≡ 0x10FFFF)) ⊎ IsCodeWord text first last
+IsWord text first last = ((text ≡ codes "all") × (first ≡ 0) × (last ≡ LAST_CODE)) ⊎ IsCodeWord text first last
 
 -- why a text is refused: it is no word, or one of a bad range
 abbrev pub IsRefused : List ℕ → WordError → Type 0

@@ -3,12 +3,14 @@
 //! OpenType 1.9, cmap: Character to Glyph Index Mapping Table, formats 4 and 12; this project's own.
 #![tactic(auto)]
 
+mod code_points;
 mod ranges;
 mod runs;
 mod search;
 mod wanted;
 mod word;
 
+pub use crate::code_points::{CODES, LAST_CODE};
 pub use crate::runs::{Pieces, Run, clip, mapped_count, next_run, run_of};
 pub use crate::search::{ANYWHERE, Ends, first_reaching};
 pub use crate::wanted::{Wanted, WantedError};

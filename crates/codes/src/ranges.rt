@@ -3,6 +3,7 @@ ghost use Rattle.std.specs.Prelude.{◌≡◌, ◌+◌, ◌<◌, ◌≤◌, ◌+
 ghost use Rattle.codes.specs.Order.{IsFirstReaching};
 ghost use Rattle.codes.specs.Inside.{IsPartAbove, IsPartBelow, absorbed, range_end, range_nth, with_range, without_range};
 ghost use Rattle.codes.specs.Wanted.{AreSeparate, IsRow, NoRow, member};
+ghost use Rattle.codes.specs.declared.code_points.TheConstants.{LAST_CODE};
 
 use crate::search::{ANYWHERE, Ends, first_reaching};
 use sfnt_bytes::NoMemory;
@@ -196,7 +197,7 @@ fn part_below_at(ranges: &[Range], i: usize, range: Range) -> Option<Range>
 
 // Returns what of the range at an index lies above another one, where the two have a code in common.
 fn part_above_at(ranges: &[Range], j: usize, range: Range) -> Option<Range>
-    requires { range.last ≤ 0x10FFFF }
+    requires { range.last ≤ LAST_CODE }
     ensures { MatchOption result
         (j < length ranges.now → range.last < (range_nth ranges.now j).first)
         (λ above. IsPartAbove ranges.now j range above) }
@@ -218,7 +219,7 @@ pub(crate) fn remove_range<A: Allocator>(
 ) -> Result<(), NoMemory>
     requires separate { AreSeparate 0 ranges.old.items }
     requires order { range.first ≤ range.last }
-    requires within { range.last ≤ 0x10FFFF }
+    requires within { range.last ≤ LAST_CODE }
     ensures ok { OnOk result (ranges.new.items ≡ without_range range ranges.old.items) }
     ensures err { OnErr result (ranges.new.items ≡ ranges.old.items) }
 {

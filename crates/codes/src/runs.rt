@@ -3,6 +3,9 @@
 ghost use Rattle.std.specs.Prelude.{◌≡◌, ◌+◌, ◌≤◌, ℕ, MatchOption};
 ghost use Rattle.codes.specs.CharacterMap.{clipped, mapped_codes};
 ghost use Rattle.codes.specs.Runs.{IsNext, IsPiece, IsRun, NoRun};
+ghost use Rattle.codes.specs.declared.code_points.TheConstants.{LAST_CODE};
+
+use crate::code_points::LAST_CODE;
 
 /// The codes `first` to `last`, which lie on `glyph` and the glyphs after it.
 #[derive(Clone, Copy, Debug, PartialEq, Eq)]
@@ -42,10 +45,10 @@ pub trait Pieces {
 /// piece searches none twice.
 pub fn run_of<P: Pieces>(pieces: &P, piece: Run) -> (Run, Option<Run>)
     requires order { piece.first ≤ piece.last }
-    requires small { piece.last ≤ 0x10FFFF }
+    requires small { piece.last ≤ LAST_CODE }
     ensures run { (from : ℕ) → IsPiece (P.map_of pieces.now) from piece →
         IsRun (P.map_of pieces.now) from result.0 }
-    ensures small { result.0.last ≤ 0x10FFFF }
+    ensures small { result.0.last ≤ LAST_CODE }
     ensures behind { IsNext (P.map_of pieces.now) (result.0.last + 1) result.1 }
 {
     let mut run = piece;
@@ -87,7 +90,7 @@ pub fn mapped_count<P: Pieces>(pieces: &P) -> u32
 pub fn clip(glyph: u64, glyphs: u16, code: u32) -> u16
     ensures { result ≡ clipped glyphs (λ _. glyph) code }
 {
-    if glyph < u64::from(glyphs) && code <= 0x10FFFF {
+    if glyph < u64::from(glyphs) && code <= LAST_CODE {
         glyph as u16
     } else {
         0

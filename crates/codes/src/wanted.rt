@@ -4,6 +4,7 @@ ghost use Rattle.codes.specs.Text.{wanted_error_number};
 ghost use Rattle.codes.specs.Wanted.{IsBadRange, IsRow, NoRow, all_codes, but_for, codes_between, either, member, no_codes};
 ghost use Rattle.codes.specs.declared.wanted.WantedError.TheVariants.{BadRange, NoMemory};
 
+use crate::code_points::LAST_CODE;
 use crate::ranges::{Range, add_range, has_code, remove_range, row_by_hint};
 use sfnt_bytes::NoMemory;
 use std::alloc::{Allocator, Global};
@@ -85,7 +86,7 @@ impl<A: Allocator> Wanted<A> {
         let mut ranges = Vec::new(alloc);
         let range = Range {
             first: 0,
-            last: 0x10FFFF,
+            last: LAST_CODE,
         };
         ranges.push(range).map_err(|_| NoMemory)?;
         Ok(Wanted {
@@ -133,7 +134,7 @@ impl<A: Allocator> Wanted<A> {
         ensures added { OnOk result (member self.new ≡ either (codes_between first last) (member self.old)) }
         ensures unchanged { OnErr result (member self.new ≡ member self.old) }
     {
-        if last < first || 0x10FFFF < last {
+        if last < first || LAST_CODE < last {
             return Err(WantedError::BadRange);
         }
         add_range(&mut self.ranges, Range { first, last })?;
@@ -152,7 +153,7 @@ impl<A: Allocator> Wanted<A> {
         ensures removed { OnOk result (member self.new ≡ but_for (codes_between first last) (member self.old)) }
         ensures unchanged { OnErr result (member self.new ≡ member self.old) }
     {
-        if first <= last && last <= 0x10FFFF {
+        if first <= last && last <= LAST_CODE {
             remove_range(&mut self.ranges, Range { first, last })?;
             return Ok(());
         }

@@ -4,6 +4,7 @@ ghost use Rattle.codes.specs.Text.{word_error_number};
 ghost use Rattle.codes.specs.Wanted.{IsBadRange};
 ghost use Rattle.codes.specs.Word.{IsRefused, IsWord, SpellsCode, WritesCodes};
 
+use crate::code_points::LAST_CODE;
 use thiserror::Error;
 
 /// Why a text names no range of codes.
@@ -82,7 +83,7 @@ pub fn read_word(word: &str) -> Result<(u32, u32), WordError>
         (IsRefused word.now) }
 {
     if word == "all" {
-        return Ok((0, 0x10FFFF));
+        return Ok((0, LAST_CODE));
     }
     let Some(text) = word.strip_prefix("U+") else {
         return Err(WordError::BadWord);
@@ -90,7 +91,7 @@ pub fn read_word(word: &str) -> Result<(u32, u32), WordError>
     let Some((first, last)) = read_codes(text) else {
         return Err(WordError::BadWord);
     };
-    if last < first || 0x10FFFF < last {
+    if last < first || LAST_CODE < last {
         return Err(WordError::BadRange);
     }
     Ok((first, last))

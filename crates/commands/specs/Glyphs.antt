@@ -2,6 +2,7 @@
 use Rattle.std.specs.Prelude.{ℕ, ◌-◌, List, ◌∷◌, ◌++◌, decimal, filter}
 use Rattle.std.specs.List.{flat_map, range_with_len}
 use Rattle.codes.specs.CharacterMap.{is_mapped}
+use Rattle.codes.specs.declared.code_points.TheConstants.{CODES}
 use Rattle.font_cut.specs.Fonts.{map_of, metric_of}
 use Rattle.commands.specs.Check.{line}
 use Rattle.commands.specs.Codes.{code_word}
@@ -16,7 +17,7 @@ glyph_line file code = glyph_text code (map_of file code) (metric_of file (map_o
 
 -- the mapped codes from a given one on, ascending
 unfoldable pub mapped_from : (ℕ → ℕ) → ℕ → List ℕ
-mapped_from m from = filter (is_mapped m) (range_with_len from (0x110000 - from))
+mapped_from m from = filter (is_mapped m) (range_with_len from (CODES - from))
 
 -- all that `codes --glyphs` prints of a font that is accepted
 unfoldable pub glyphs_text : List ℕ → List ℕ

@@ -1,6 +1,7 @@
 //! `codes`: the mapped codes of a font, as words that `subset` reads.
 ghost use Rattle.std.specs.Prelude.{◌≡◌, ◌+◌, ◌≤◌, ◌∷◌, ℕ, [], MatchOption, Some, true};
 ghost use Rattle.codes.specs.CharacterMap.{IsCharacterMap};
+ghost use Rattle.codes.specs.declared.code_points.TheConstants.{LAST_CODE};
 ghost use Rattle.font_cut.specs.Fonts.{mapping_of};
 ghost use Rattle.streams.specs.Outlet.{fresh_of};
 ghost use Rattle.commands.specs.Codes.{CodesLaws, code_lines, code_ranges, codes_text, range_line, range_of_line};
@@ -48,7 +49,7 @@ pub fn next_range<A: Allocator>(chart: &Chart<'_, A>, from: u32) -> Option<Range
         (code_ranges (mapping_of chart.now.0 chart.now.1) from ≡ [])
         (λ line. code_ranges (mapping_of chart.now.0 chart.now.1) from
         ≡ range_of_line line ∷ code_ranges (mapping_of chart.now.0 chart.now.1) (line.last + 1)) }
-    ensures on { MatchOption result (Unit {0}) (λ line. (from ≤ line.last) × (line.last ≤ 0x10FFFF)) }
+    ensures on { MatchOption result (Unit {0}) (λ line. (from ≤ line.last) × (line.last ≤ LAST_CODE)) }
 {
     let run = chart.next_run(from)?;
     let mut line = RangeLine {

@@ -1,8 +1,6 @@
 //! Sets of codes that come range by range or code by code, in any order, from words and texts of any length.
-use font_cut::Wanted;
+use font_cut::{LAST_CODE, Wanted};
 use std::alloc::{AllocError, Global};
-
-const LAST_CODE: u32 = 0x10_FFFF;
 
 /// A set of codes: the ranges that came in rising order, and a bit for each code up to the greatest of the
 /// others. Most sets are given in rising order, and need no bits. A range that goes between others moves
@@ -55,7 +53,7 @@ fn reach(bits: &mut Vec<u32>, code: u32) -> Result<(), AllocError> {
     Ok(())
 }
 
-// Sets the bits of the codes from the first to the last, which is at most 0x10FFFF.
+// Sets the bits of the codes from the first to the last, which is at most the last code point.
 fn set_bits(bits: &mut Vec<u32>, first: u32, last: u32) -> Result<(), AllocError> {
     reach(bits, last)?;
     for at in first / 32..last / 32 + 1 {

@@ -1,7 +1,7 @@
 //! What `--report` says of a font: the wanted codes that it lacks, and the tables that a cut of it drops.
 use crate::code_set::{CodeSet, count_of};
 use crate::shown::shown_character;
-use font_cut::{Chart, Font};
+use font_cut::{CODES, Chart, Font};
 use std::alloc::{AllocError, Global};
 
 // How many ranges of codes are listed.
@@ -15,9 +15,6 @@ const UNWRITTEN: &str = "fontcut: nothing was written: the font lacks wanted cod
 
 // Room for the last line, which is written after the cut is.
 const LAST_LINE: &str = "cut 134217728 bytes\n";
-
-// More than the runs of any map.
-const RUNS: u32 = 0x11_0000;
 
 /// What is said of a font and of the codes that are wanted of it.
 #[derive(Drop)]
@@ -36,7 +33,8 @@ pub(crate) fn mapped_codes(alloc: Global, font: &Font<'_>) -> Result<CodeSet, Al
         return Err(AllocError);
     };
     let mut from: u32 = 0;
-    for _ in 0..RUNS {
+    // No map has more runs than there are code points.
+    for _ in 0..CODES {
         let Some(run) = chart.next_run(from) else {
             break;
         };

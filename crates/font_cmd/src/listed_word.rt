@@ -1,11 +1,9 @@
 //! The words of lists of ranges: range words, and the forms that other subsetters and style sheets have beside
 //! them. CSS Fonts Module Level 4, "Character range: the unicode-range descriptor".
-use font_cut::{WordError, read_word};
+use font_cut::{LAST_CODE, WordError, read_word};
 
 // The most digits of a code, and of a code whose last digits are question marks.
 const DIGITS: usize = 6;
-
-const LAST_CODE: u32 = 0x10_FFFF;
 
 // Returns what follows `U+` or `u+`, which may be left out.
 fn without_prefix(word: &[u8]) -> &[u8] {

@@ -4,6 +4,7 @@
 
 pub mod lean;
 
+pub use codes::{CODES, LAST_CODE};
 pub use font_file::{Font, FontError};
 pub use font_glyph::{Component, Components};
 pub use font_join::{

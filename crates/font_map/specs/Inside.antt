@@ -1,5 +1,6 @@
 -- Words of private contracts and of proofs: no public clause names them.
 use Rattle.codes.specs.CharacterMap.{clipped}
+use Rattle.codes.specs.declared.code_points.TheConstants.{CODES}
 use Rattle.font_map.specs.Cmap.{chosen_record, subtable_at}
 use Rattle.cmap_subtables.specs.Format12.{groups_of, group_glyph, holds}
 use Rattle.cmap_subtables.specs.Format4.{segment_glyph}
@@ -16,7 +17,7 @@ NoneFree glyphs from stop = (c : ℕ) → from ≤ c → c < stop → slice_inde
 
 -- how many blocks of 16 codes from each block on are known to have no free code, 0 where nothing is known
 pub record IsSkip (glyphs skip : List ℕ) : Type 0 where
-  pub codes : length glyphs ≡ 0x110000
+  pub codes : length glyphs ≡ CODES
   pub blocks : length skip ≡ 0x11001
   pub within : (b : ℕ) → b < 0x11001 → b + slice_index skip b < 0x11001
   pub taken : (b : ℕ) → NoneFree glyphs (16 * b) (16 * (b + slice_index skip b))

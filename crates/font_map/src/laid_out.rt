@@ -6,11 +6,12 @@ ghost use Rattle.cmap_subtables.specs.Format12.{HasGroups, group_count, group_gl
 ghost use Rattle.cmap_subtables.specs.Format4.{HasSegments, segment_glyph};
 ghost use Rattle.font_map.specs.Mapping.{mapping_of};
 ghost use Rattle.codes.specs.Runs.{IsPiece, NoRun};
+ghost use Rattle.codes.specs.declared.code_points.TheConstants.{CODES};
 ghost use Rattle.font_map.specs.Inside.{NoneFree, IsFirstFree, IsLaid, IsSkip};
 
 use crate::mapping::Mapping;
 use cmap_subtables::{count_groups, glyph_at, group_at, walk_place};
-use codes::{Pieces, Run, clip};
+use codes::{CODES, LAST_CODE, Pieces, Run, clip};
 use sfnt_bytes::NoMemory;
 use std::alloc::{Allocator, Global};
 use std::marker::Model;
@@ -44,11 +45,11 @@ fn free_below(glyphs: &[u16], from: u32, stop: u32) -> u32
 fn pass_taken(glyphs: &[u16], skip: &mut [u32], at: u32, stop: u32) -> u32
     requires skips { IsSkip glyphs.now skip.old }
     requires below { at < stop }
-    requires within { stop ≤ 0x110000 }
+    requires within { stop ≤ CODES }
     requires taken { slice_index glyphs.now at ≢ 0xFFFF }
     ensures skips { IsSkip glyphs.now skip.new }
     ensures above { at < result }
-    ensures small { result ≤ 0x110000 }
+    ensures small { result ≤ CODES }
     ensures taken { NoneFree glyphs.now at result }
 {
     let block = at / BLOCK;
@@ -69,7 +70,7 @@ fn pass_taken(glyphs: &[u16], skip: &mut [u32], at: u32, stop: u32) -> u32
 // a code above it.
 fn free_from(glyphs: &[u16], skip: &mut [u32], from: u32, stop: u32) -> u32
     requires skips { IsSkip glyphs.now skip.old }
-    requires within { stop ≤ 0x110000 }
+    requires within { stop ≤ CODES }
     ensures skips { IsSkip glyphs.now skip.new }
     ensures first { IsFirstFree glyphs.now from stop result }
 {
@@ -90,7 +91,7 @@ fn lay_group(s: &[u8], i: usize, count: u16, glyphs: &mut [u16], skip: &mut [u32
     ensures skips { IsSkip glyphs.new skip.new }
 {
     let group = group_at(s, i);
-    let stop = group.last.min(0x10FFFF) + 1;
+    let stop = group.last.min(LAST_CODE) + 1;
     let mut code = free_from(glyphs, skip, group.first, stop);
     while code < stop {
         glyphs[code as usize] = clip(group.glyph_along(code), count, code);
@@ -100,13 +101,13 @@ fn lay_group(s: &[u8], i: usize, count: u16, glyphs: &mut [u16], skip: &mut [u32
 
 // Takes the codes that are still free, and gives them no glyph.
 fn unmap_free(glyphs: &mut [u16])
-    requires codes { length glyphs.old ≡ 0x110000 }
-    ensures codes { length glyphs.new ≡ 0x110000 }
+    requires codes { length glyphs.old ≡ CODES }
+    ensures codes { length glyphs.new ≡ CODES }
     ensures free { (c : ℕ) → slice_index glyphs.old c ≡ 0xFFFF → slice_index glyphs.new c ≡ 0 }
     ensures taken { (c : ℕ) → slice_index glyphs.old c ≢ 0xFFFF →
         slice_index glyphs.new c ≡ slice_index glyphs.old c }
 {
-    for code in 0..0x110000usize {
+    for code in 0..CODES as usize {
         if glyphs[code] == FREE {
             glyphs[code] = 0;
         }
@@ -116,10 +117,10 @@ fn unmap_free(glyphs: &mut [u16])
 // Gives each code its glyph, group by group in the order listed.
 pub(crate) fn lay_groups(s: &[u8], count: u16, glyphs: &mut [u16], skip: &mut [u32])
     requires room { HasGroups s.now }
-    requires codes { length glyphs.old ≡ 0x110000 }
+    requires codes { length glyphs.old ≡ CODES }
     requires blocks { length skip.old ≡ 0x11001 }
     requires unknown { (b : ℕ) → slice_index skip.old b ≡ 0 }
-    ensures codes { length glyphs.new ≡ 0x110000 }
+    ensures codes { length glyphs.new ≡ CODES }
     ensures map { (c : ℕ) → slice_index glyphs.new c ≡ clipped count (group_glyph s.now) c }
 {
     glyphs.fill(FREE);
@@ -133,9 +134,9 @@ pub(crate) fn lay_groups(s: &[u8], count: u16, glyphs: &mut [u16], skip: &mut [u
 // comes earlier for a later code, so each segment is passed once.
 pub(crate) fn lay_segments(s: &[u8], count: u16, glyphs: &mut [u16])
     requires room { HasSegments s.now }
-    requires codes { length glyphs.old ≡ 0x110000 }
+    requires codes { length glyphs.old ≡ CODES }
     requires unmapped { (c : ℕ) → slice_index glyphs.old c ≡ 0 }
-    ensures codes { length glyphs.new ≡ 0x110000 }
+    ensures codes { length glyphs.new ≡ CODES }
     ensures map { (c : ℕ) → slice_index glyphs.new c ≡ clipped count (segment_glyph s.now) c }
 {
     let mut place = 0;
@@ -164,11 +165,11 @@ pub(crate) fn no_skips<A: Allocator>(alloc: A, count: usize) -> Result<Vec<u32, 
 // Returns the least mapped code from `from` on, as a run of its own: one that went on to the end of its
 // run would be walked again for each wanted range inside that run.
 fn code_from(glyphs: &[u16], from: u32) -> Option<Run>
-    requires { length glyphs.now ≡ 0x110000 }
+    requires { length glyphs.now ≡ CODES }
     ensures { MatchOption result (NoRun (slice_index glyphs.now) from)
         (IsPiece (slice_index glyphs.now) from) }
 {
-    for code in from..0x110000 {
+    for code in from..CODES {
         let glyph = glyphs[code as usize];
         if glyph != 0 {
             return Some(Run::of_code(code, glyph));
@@ -189,12 +190,13 @@ pub(crate) struct LaidOut<A: Allocator = Global> {
 // Its value is the list of glyphs of all codes, 0 for a code that is not mapped.
 impl<A: Allocator> Model for LaidOut<A> {
     ghost use Rattle.std.specs.Prelude.{◌≡◌, ℕ, List, length};
+    ghost use Rattle.codes.specs.declared.code_points.TheConstants.{CODES};
 
     ghost Value = { List ℕ };
 
     ghost view = { λ l. l.glyphs.items };
 
-    ghost invariant = { λ l. length l.glyphs.items ≡ 0x110000 };
+    ghost invariant = { λ l. length l.glyphs.items ≡ CODES };
 }
 
 impl<A: Allocator> LaidOut<A> {
@@ -202,7 +204,7 @@ impl<A: Allocator> LaidOut<A> {
     pub(crate) fn glyph(&self, code: u32) -> u16
         ensures { result ≡ slice_index self.now code }
     {
-        if code <= 0x10FFFF {
+        if code <= LAST_CODE {
             self.glyphs[code as usize]
         } else {
             0
@@ -215,7 +217,7 @@ impl<A: Allocator + Copy> LaidOut<A> {
     pub(crate) fn of(alloc: A, mapping: &Mapping<'_>) -> Result<LaidOut<A>, NoMemory>
         ensures { IfOk result (λ laid_out. slice_index laid_out ≡ mapping_of mapping.now.0 mapping.now.1) }
     {
-        let mut glyphs = unmapped(alloc, 0x110000)?;
+        let mut glyphs = unmapped(alloc, CODES as usize)?;
         mapping.lay_out(alloc, &mut glyphs)?;
         Ok(LaidOut { glyphs })
     }

@@ -7,6 +7,7 @@ ghost use Rattle.font_map.specs.Mapping.{mapping_of};
 ghost use Rattle.font_map.specs.Refusals.{map_fault};
 ghost use Rattle.codes.specs.Runs.{IsNext, IsPiece, IsRun, NoRun};
 ghost use Rattle.codes.specs.Wanted.{member};
+ghost use Rattle.codes.specs.declared.code_points.TheConstants.{CODES};
 
 use crate::cmap::{HEADER, RECORD, choose_record, subtable_at};
 use crate::laid_out::{lay_groups, lay_segments, no_skips};
@@ -133,9 +134,9 @@ impl<'a> Mapping<'a> {
 
     /// Gives each code its glyph. Errors where memory is refused, which format 12 alone asks for.
     pub(crate) fn lay_out<A: Allocator>(&self, alloc: A, glyphs: &mut [u16]) -> Result<(), NoMemory>
-        requires codes { length glyphs.old ≡ 0x110000 }
+        requires codes { length glyphs.old ≡ CODES }
         requires unmapped { (c : ℕ) → slice_index glyphs.old c ≡ 0 }
-        ensures codes { length glyphs.new ≡ 0x110000 }
+        ensures codes { length glyphs.new ≡ CODES }
         ensures map { OnOk result (slice_index glyphs.new ≡ mapping_of self.now.0 self.now.1) }
     {
         match &self.subtable {

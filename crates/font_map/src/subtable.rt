@@ -6,10 +6,11 @@ ghost use Rattle.font_map.specs.Cmap.{is_malformed};
 ghost use Rattle.font_map.specs.Inside.{subtable_glyph};
 ghost use Rattle.font_map.specs.Mapping.{listed_glyph};
 ghost use Rattle.codes.specs.Runs.{IsNext, IsPiece, NoRun};
+ghost use Rattle.codes.specs.declared.code_points.TheConstants.{CODES};
 
 use crate::cmap::SEGMENTS;
 use cmap_subtables::{ListedGroups, Segments, count_groups, count_segments};
-use codes::Run;
+use codes::{CODES, Run};
 use sfnt_bytes::be16;
 
 /// A subtable, by its format.
@@ -64,9 +65,9 @@ impl<'a> Subtable<'a> {
 
     // Returns a piece of the map from a code on, or none up to a stop; and the stop.
     fn stretch(&self, glyphs: u16, from: u32) -> (Option<Run>, u32)
-        requires low { from < 0x110000 }
+        requires low { from < CODES }
         ensures order { from < result.1 }
-        ensures small { result.1 ≤ 0x110000 }
+        ensures small { result.1 ≤ CODES }
         ensures found { MatchOption result.0
             (IsUnmapped (clipped glyphs (subtable_glyph self.now)) from result.1)
             (IsPiece (clipped glyphs (subtable_glyph self.now)) from) }
@@ -83,7 +84,7 @@ impl<'a> Subtable<'a> {
             (IsPiece (clipped glyphs (subtable_glyph self.now)) from) }
     {
         let mut at = from;
-        while at < 0x110000 {
+        while at < CODES {
             let (found, stop) = self.stretch(glyphs, at);
             if let Some(run) = found {
                 return Some(run);

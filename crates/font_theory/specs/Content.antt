@@ -8,6 +8,7 @@ use Rattle.font_tables.specs.Outlines.{outline_of}
 use Rattle.font_tables.specs.Refusals.{is_bad_head, is_bad_hhea, is_bad_hmtx, is_bad_maxp}
 use Rattle.font_tables.specs.Tables.{head_of}
 use Rattle.codes.specs.CharacterMap.{restricted}
+use Rattle.codes.specs.declared.code_points.TheConstants as points
 use Rattle.font_glyph.specs.Reach.{any_below, reached}
 use Rattle.font_glyph.specs.Record.{IsRecord}
 use Rattle.font_glyph.specs.Union.{HoldsComponents, Records, record_in}
@@ -16,7 +17,7 @@ use Rattle.font_theory.specs.Bytes.{cut_head, padded}
 
 -- how many code points there are: 0 to 0x10FFFF
 unfoldable pub CODES : ℕ
-CODES = 0x110000
+CODES = points.CODES
 
 -- what an accepted font means to a cut
 pub record Font : Type 0 where

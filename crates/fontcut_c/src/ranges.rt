@@ -3,7 +3,7 @@ ghost use Rattle.std.specs.Prelude.{◌≡◌, ◌<◌, ℕ, MatchOption, IfOk};
 ghost use Rattle.codes.specs.Wanted.{member};
 ghost use Rattle.fontcut_c.specs.Cutting.{AreGood, IsFirstBad, wanted_by};
 
-use font_cut::{NoMemory, Wanted};
+use font_cut::{LAST_CODE, NoMemory, Wanted};
 use std::alloc::Global;
 
 /// The codes from the first to the last.
@@ -22,7 +22,7 @@ pub(crate) fn first_bad(ranges: &[CodeRange]) -> Option<usize>
 {
     for index in 0..ranges.len() {
         let range = ranges[index];
-        if range.last < range.first || 0x10FFFF < range.last {
+        if range.last < range.first || LAST_CODE < range.last {
             return Some(index);
         }
     }

@@ -2,17 +2,15 @@
 ghost use Rattle.std.specs.Prelude.{◌≡◌, ◌+◌, ◌<◌, ◌≤◌, ◌++◌, ℕ, List, [], length, IfOk, IsTrue, MatchOption, OnOk};
 ghost use Rattle.codes.specs.CharacterMap.{IsCharacterMap, united};
 ghost use Rattle.codes.specs.Runs.{IsNext, IsPiece, IsRun, spelled};
+ghost use Rattle.codes.specs.declared.code_points.TheConstants.{CODES, LAST_CODE};
 ghost use Rattle.codes.specs.declared.runs.Run.{Run};
 ghost use Rattle.map_union.specs.RunLists.{AreMapRuns};
 ghost use Rattle.map_union.specs.Inside.{AreLeftAlone, IsDone, IsPast, IsPlace, LeavesAlone, run_at};
 
 use crate::run_list::{place_by_guess, run_from};
-use codes::Run;
+use codes::{CODES, Run};
 use sfnt_bytes::NoMemory;
 use std::alloc::Allocator;
-
-// How many codes there are. No map has more runs.
-const CODES: usize = 0x110000;
 
 // Returns the place of the first run that ends at a code or above it, where the runs before a place are
 // known to end below the code.
@@ -83,12 +81,12 @@ fn run_of_both(
     requires first { AreMapRuns a.now }
     requires second { AreMapRuns b.now }
     requires order { piece.first ≤ piece.last }
-    requires small { piece.last ≤ 0x10FFFF }
+    requires small { piece.last ≤ LAST_CODE }
     requires first_past { IsPast a.now (piece.last + 1) places.0 }
     requires second_past { IsPast b.now (piece.last + 1) places.1 }
     ensures run { (from : ℕ) → IsPiece (united (spelled a.now) (spelled b.now)) from piece →
         IsRun (united (spelled a.now) (spelled b.now)) from result.0 }
-    ensures small { result.0.last ≤ 0x10FFFF }
+    ensures small { result.0.last ≤ LAST_CODE }
     ensures behind { IsNext (united (spelled a.now) (spelled b.now)) (result.0.last + 1) result.1 }
     ensures first_past { IsPast a.now (result.0.last + 1) result.2.0 }
     ensures second_past { IsPast b.now (result.0.last + 1) result.2.1 }
@@ -113,7 +111,7 @@ fn run_of_both(
 fn leaves_alone(runs: &[Run], place: usize, run: Run) -> bool
     requires runs { AreMapRuns runs.now }
     requires order { run.first ≤ run.last }
-    requires small { run.last ≤ 0x10FFFF }
+    requires small { run.last ≤ LAST_CODE }
     requires some { 0 < run.glyph }
     ensures { (from : ℕ) → IsPast runs.now from place → from ≤ run.first → IsTrue result →
         LeavesAlone (spelled runs.now) from run }
@@ -177,7 +175,7 @@ fn next_apart<'r>(
         IsDone (united (spelled a.now) (spelled b.now)) (runs ++ found.0.now) found.2) }
     ensures first_past { MatchOption result Unit (λ found. IsPast a.now found.2 found.1.0) }
     ensures second_past { MatchOption result Unit (λ found. IsPast b.now found.2 found.1.1) }
-    ensures order { MatchOption result Unit (λ found. (from < found.2) × (found.2 ≤ 0x110000)) }
+    ensures order { MatchOption result Unit (λ found. (from < found.2) × (found.2 ≤ CODES)) }
 {
     let (i, j) = places;
     if i < a.len() && from <= a[i].first && leaves_alone(b, j, a[i]) {
@@ -221,12 +219,12 @@ fn push_apart<A: Allocator>(
     requires second { AreMapRuns b.now }
     requires first_past { IsPast a.now from places.0 }
     requires second_past { IsPast b.now from places.1 }
-    requires small { from ≤ 0x110000 }
+    requires small { from ≤ CODES }
     requires done { IsDone (united (spelled a.now) (spelled b.now)) runs.old.items from }
     ensures done { IfOk result (λ next. IsDone (united (spelled a.now) (spelled b.now)) runs.new.items next.1) }
     ensures first_past { IfOk result (λ next. IsPast a.now next.1 next.0.0) }
     ensures second_past { IfOk result (λ next. IsPast b.now next.1 next.0.1) }
-    ensures order { IfOk result (λ next. (from ≤ next.1) × (next.1 ≤ 0x110000)) }
+    ensures order { IfOk result (λ next. (from ≤ next.1) × (next.1 ≤ CODES)) }
 {
     let mut at = places;
     let mut code = from;
@@ -256,7 +254,8 @@ fn empty_list<A: Allocator + Copy>(
     let mut wanted = count;
     if runs.capacity() < count {
         runs = Vec::new(alloc);
-        wanted = count.saturating_add(count).min(CODES).max(count);
+        // No map has more runs than there are code points.
+        wanted = count.saturating_add(count).min(CODES as usize).max(count);
     }
     if runs.reserve(wanted).is_err() {
         return Err(NoMemory);

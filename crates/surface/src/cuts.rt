@@ -3,9 +3,9 @@ ghost use Rattle.std.specs.Prelude.{◌≡◌, true};
 ghost use Rattle.streams.specs.Outlet.{fresh_of};
 
 use font_cut::{
-    Component, Components, CutError, CutIntoError, CutOf, Font, FontError, JoinAllError, JoinError,
-    Joined, Mapping, NoMemory, Outlet, SLOTS, Source, Tables, Wanted, WriteFault, cut, cut_into,
-    is_cut, join, join_all,
+    CODES, Component, Components, CutError, CutIntoError, CutOf, Font, FontError, JoinAllError,
+    JoinError, Joined, LAST_CODE, Mapping, NoMemory, Outlet, SLOTS, Source, Tables, Wanted,
+    WriteFault, cut, cut_into, is_cut, join, join_all,
 };
 use std::alloc::Global;
 use std::io::Write;
@@ -19,7 +19,8 @@ pub fn font(file: &[u8], code: u32) -> Result<u16, FontError> {
     let tables: &Tables<'_> = font.tables();
     let mapping: &Mapping<'_> = font.mapping();
     let count: u32 = mapping.mapped_count();
-    let g: u16 = font.glyph(code);
+    let (last, codes): (u32, u32) = (LAST_CODE, CODES);
+    let g: u16 = font.glyph(code.min(last));
     if g < tables.glyph_count() {
         let (advance, _bearing): (u16, i16) = font.metric(g);
         let outline: &[u8] = font.outline(g);
@@ -31,7 +32,7 @@ pub fn font(file: &[u8], code: u32) -> Result<u16, FontError> {
             g
         });
     }
-    Ok(if count == 0 { 0 } else { g })
+    Ok(if count == 0 || count == codes { 0 } else { g })
 }
 
 /// Makes cuts, in memory and to an outlet.
@@ -55,7 +56,11 @@ pub fn made_cuts<W: Write>(
 /// Looks at a source.
 pub fn looked_at<S: Source>(source: &S, slot: usize, g: u16) -> bool {
     let count: u16 = source.glyph_count();
-    let table: Option<&[u8]> = if slot < SLOTS { source.copied(slot) } else { None };
+    let table: Option<&[u8]> = if slot < SLOTS {
+        source.copied(slot)
+    } else {
+        None
+    };
     let glyph: u16 = source.glyph(0x41);
     let keeps: bool = g < count && source.keeps(g);
     let outline: &[u8] = if g < count { source.outline_of(g) } else { &[] };
