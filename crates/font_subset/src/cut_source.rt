@@ -23,8 +23,8 @@ use crate::emit::form_of_file;
 use font_file::Font;
 use font_glyph::{Marks, close};
 use font_map::{Chart, Pieces, Run, Wanted, run_of};
-use font_write::Source;
-use sfnt_bytes::{CMAP, Directory, GLYF, HEAD, LOCA, NoMemory, SLOTS};
+use font_write::{Source, made_in};
+use sfnt_bytes::{Directory, HEAD, NoMemory, SLOTS};
 use std::alloc::{Allocator, Global};
 use std::marker::Model;
 
@@ -223,12 +223,12 @@ pub fn head<'a>(font: &Font<'a>) -> &'a [u8]
 }
 
 // Returns the table of a slot, where a cut copies it.
-#[tactic(auto, using(crate::proofs::SourceLemmas::table_small))]
+#[tactic(auto, using(crate::proofs::SourceLemmas::table_small, font_write::proofs::SlotLemmas::made_or_past))]
 pub fn copied<'a>(font: &Font<'a>, slot: usize) -> Option<&'a [u8]>
     ensures table { option_copied result ≡ (font_of font.now).copied slot }
     ensures small { MatchOption result Unit (λ b. length b.now ≤ MAX_FILE) }
 {
-    if slot == CMAP || slot == GLYF || slot == HEAD || slot == LOCA || SLOTS <= slot {
+    if made_in(slot).is_some() || SLOTS <= slot {
         return None;
     }
     font.tables().directory().table(slot)

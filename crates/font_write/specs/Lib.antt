@@ -1,5 +1,6 @@
 pub mod Comparing
 pub mod Inside
+pub mod Made
 pub mod Parts
 pub mod Plan
 pub mod Trace

@@ -2,6 +2,7 @@
 #![tactic(auto)]
 
 mod bytes;
+mod made;
 mod made_cmap;
 mod made_glyf;
 mod made_head;
@@ -15,6 +16,7 @@ mod size;
 mod source;
 mod writer;
 
+pub use crate::made::{Made, made_in};
 pub use crate::plan::{Measure, Plan, plan_of};
 pub use crate::room::{Room, write_file};
 pub use crate::same::{Same, is_file_of};

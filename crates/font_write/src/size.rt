@@ -9,12 +9,13 @@ ghost use Rattle.font_write.specs.Parts.{table_at};
 ghost use Rattle.font_write.specs.Plan.{AreCounts, IsSize};
 
 use crate::bytes::padding;
+use crate::made::{Made, made_in};
 use crate::made_cmap::{cmap_length, measure_groups};
 use crate::made_glyf::{glyf_length, outlines_size};
 use crate::made_loca::loca_length;
 use crate::source::Source;
 use font_theory::Profile;
-use sfnt_bytes::{CMAP, GLYF, HEAD, LOCA, SLOTS};
+use sfnt_bytes::SLOTS;
 
 /// How many groups a map has, what their words sum to, and how many bytes all outlines have.
 #[derive(Clone, Copy, Debug, PartialEq, Eq)]
@@ -43,21 +44,15 @@ pub(crate) fn table_length<S: Source>(
         (table_at (layout_of profile) (S.content_of source.now) slot) }
     ensures small { MatchOption result Unit (λ n. n ≤ 0x0001_0000_0000_0004) }
 {
-    if slot == CMAP {
-        return Some(u64::from(cmap_length(source, profile, counts.groups)));
-    }
-    if slot == GLYF {
-        return Some(glyf_length(source, profile, counts.outlines));
-    }
-    if slot == HEAD {
-        return Some(source.head().len() as u64);
-    }
-    if slot == LOCA {
-        return Some(u64::from(loca_length(source)));
-    }
-    match source.copied(slot) {
-        Some(bytes) => Some(bytes.len() as u64),
-        None => None,
+    match made_in(slot) {
+        Some(Made::Cmap) => Some(u64::from(cmap_length(source, profile, counts.groups))),
+        Some(Made::Glyf) => Some(glyf_length(source, profile, counts.outlines)),
+        Some(Made::Head) => Some(source.head().len() as u64),
+        Some(Made::Loca) => Some(u64::from(loca_length(source))),
+        None => match source.copied(slot) {
+            Some(bytes) => Some(bytes.len() as u64),
+            None => None,
+        },
     }
 }
 

@@ -11,6 +11,7 @@ ghost use Rattle.font_write.specs.Plan.{IsMeasure, IsPlan, planned_file};
 ghost use Rattle.font_write.specs.Trace.{Sends};
 
 use crate::bytes::{header, padding, send_padding, three_words};
+use crate::made::{Made, made_in};
 use crate::made_cmap::send_cmap;
 use crate::made_glyf::send_glyf;
 use crate::made_head::send_head;
@@ -19,7 +20,7 @@ use crate::plan::{Measure, Plan};
 use crate::sink::{Sink, Stopped};
 use crate::source::Source;
 use font_theory::Profile;
-use sfnt_bytes::{CMAP, GLYF, HEAD, KEPT, LOCA, SLOTS, Tag};
+use sfnt_bytes::{KEPT, SLOTS, Tag};
 
 // Sends the table in a slot, where there is one.
 fn send_table<S: Source, K: Sink>(
@@ -37,21 +38,15 @@ fn send_table<S: Source, K: Sink>(
     ensures { Sends (K.trace sink.old) (K.trace sink.new)
         (bytes_at (layout_of plan.now.profile) (S.content_of source.now) slot) result }
 {
-    if slot == CMAP {
-        return send_cmap(source, plan.profile, plan.counts.groups, sink);
-    }
-    if slot == GLYF {
-        return send_glyf(source, plan.profile, plan.counts.outlines, sink);
-    }
-    if slot == HEAD {
-        return send_head(source, plan.profile, plan.adjustment, sink);
-    }
-    if slot == LOCA {
-        return send_loca(source, sink);
-    }
-    match source.copied(slot) {
-        Some(bytes) => sink.take(bytes),
-        None => Ok(()),
+    match made_in(slot) {
+        Some(Made::Cmap) => send_cmap(source, plan.profile, plan.counts.groups, sink),
+        Some(Made::Glyf) => send_glyf(source, plan.profile, plan.counts.outlines, sink),
+        Some(Made::Head) => send_head(source, plan.profile, plan.adjustment, sink),
+        Some(Made::Loca) => send_loca(source, sink),
+        None => match source.copied(slot) {
+            Some(bytes) => sink.take(bytes),
+            None => Ok(()),
+        },
     }
 }
 
