@@ -1,8 +1,10 @@
 -- Words of private contracts and of proofs: no public clause names them.
 use Rattle.font_theory.specs.Content.{Content, glyph_count}
-use Rattle.font_theory.specs.File.{Layout, behind, entries_at, entry_bytes, loca_bytes, outlines_from}
-use Rattle.font_write.specs.Parts.{IsNextKept, tables_to, start_of, glyf_to}
+use Rattle.font_theory.specs.File.{Layout, behind, entries_at, entry_bytes, layout_of, loca_bytes, outlines_from}
+use Rattle.font_write.specs.Parts.{IsNextKept, bodies_to, bytes_at, tables_to, start_of, glyf_to}
 use Rattle.font_write.specs.declared.made_loca.Walk.{Walk}
+use Rattle.font_write.specs.declared.plan.Plan.{Plan}
+use Rattle.sfnt_bytes.specs.declared.tag.TheConstants.{SLOTS}
 use Rattle.std.specs.List.{flat_map}
 use Rattle.std.specs.Prelude.{◌≡◌, ℕ, ◌++◌, List, length}
 
@@ -29,3 +31,13 @@ all_offsets K = loca_to K (glyph_count K.copied)
 pub record IsWalk (K : Content) (g : ℕ) (walk : Walk) : Type 0 where
   pub offset : walk.offset ≡ length (glyf_to K g)
   pub next : IsNextKept K g walk.next
+
+-- the bytes of the table in a slot, in the profile of a plan; all records, and all tables, each padded
+abbrev pub planned_table : Plan → Content → ℕ → List ℕ
+planned_table plan K slot = bytes_at (layout_of plan.profile) K slot
+
+abbrev pub planned_records : Plan → Content → List ℕ
+planned_records plan K = records_to (layout_of plan.profile) K SLOTS
+
+abbrev pub planned_bodies : Plan → Content → List ℕ
+planned_bodies plan K = bodies_to (layout_of plan.profile) K SLOTS

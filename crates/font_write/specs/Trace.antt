@@ -1,6 +1,7 @@
 -- What a sink has taken, and what a call adds to that, this project's own.
-use Rattle.std.specs.Prelude.{◌≡◌, ℕ, ◌+◌, Bool, true, false, List, ◌++◌, length, Option, Some, None, Result, MatchResult}
+use Rattle.std.specs.Prelude.{◌≡◌, ℕ, ◌+◌, ◌≤◌, Bool, true, false, List, ◌++◌, length, Option, Some, None, Result, MatchResult}
 use Rattle.std.specs.Io.KnownBytes.{Appends}
+use Rattle.sfnt_bytes.specs.declared.directory.TheConstants.{MAX_FILE}
 
 -- xs is a front of ys
 pub record IsPrefix (xs ys : List ℕ) : Type 0 where
@@ -14,6 +15,11 @@ pub record Trace : Type 0 where
   pub taken : Option (List ℕ)  -- which, where they are known
   pub shown : Option (List ℕ)  -- those, and one more that was looked at and not taken
   pub stopped : Bool  -- no more are taken
+
+-- nothing has stopped, and n bytes more are no more than a file may have
+pub record HasRoom (trace : Trace) (n : ℕ) : Type 0 where
+  pub going : trace.stopped ≡ false
+  pub fits : trace.count + n ≤ MAX_FILE
 
 -- where the old bytes are known, the new ones are a front of these and some more
 abbrev pub IsFront : Option (List ℕ) → Option (List ℕ) → List ℕ → Type 0

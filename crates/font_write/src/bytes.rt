@@ -1,11 +1,10 @@
 //! Numbers and padding as bytes. OpenType 1.9, Data Types; Organization of an OpenType Font.
-ghost use Rattle.std.specs.Prelude.{◌≡◌, ◌+◌, ◌<◌, ◌≤◌, ◌++◌, length, take, false, replicate};
+ghost use Rattle.std.specs.Prelude.{◌≡◌, ◌+◌, ◌<◌, ◌≤◌, ◌++◌, length, take, replicate};
 ghost use Rattle.sfnt_bytes.specs.Findings.{padding_of};
-ghost use Rattle.sfnt_bytes.specs.declared.directory.TheConstants.{MAX_FILE};
 ghost use Rattle.sfnt_bytes.specs.declared.tag.TheConstants.{SLOTS};
 ghost use Rattle.font_theory.specs.Bytes.{bytes16, bytes32, padded};
 ghost use Rattle.font_theory.specs.File.{header_bytes};
-ghost use Rattle.font_write.specs.Trace.{Sends};
+ghost use Rattle.font_write.specs.Trace.{HasRoom, Sends};
 ghost use Rattle.font_write.specs.declared.bytes.TheConstants.{BLOCK};
 
 use crate::sink::{Sink, Stopped};
@@ -83,8 +82,7 @@ pub(crate) fn header(count: u16) -> [u8; 12]
 
 /// Sends the bytes of a `u32`.
 pub(crate) fn send_word<K: Sink>(x: u32, sink: &mut K) -> Result<(), Stopped>
-    requires going { (K.trace sink.old).stopped ≡ false }
-    requires fits { (K.trace sink.old).count + 4 ≤ MAX_FILE }
+    requires { HasRoom (K.trace sink.old) 4 }
     ensures { Sends (K.trace sink.old) (K.trace sink.new) (bytes32 x) result }
 {
     sink.take(&word(x))
@@ -92,8 +90,7 @@ pub(crate) fn send_word<K: Sink>(x: u32, sink: &mut K) -> Result<(), Stopped>
 
 /// Sends the zeros that fill a length.
 pub(crate) fn send_padding<K: Sink>(length: usize, sink: &mut K) -> Result<(), Stopped>
-    requires going { (K.trace sink.old).stopped ≡ false }
-    requires fits { (K.trace sink.old).count + padding_of length ≤ MAX_FILE }
+    requires { HasRoom (K.trace sink.old) (padding_of length) }
     ensures { Sends (K.trace sink.old) (K.trace sink.new) (replicate (padding_of length) 0) result }
 {
     sink.take(&[0; 4][..padding(length)])
@@ -101,8 +98,7 @@ pub(crate) fn send_padding<K: Sink>(length: usize, sink: &mut K) -> Result<(), S
 
 /// Sends bytes, and the zeros that fill them.
 pub(crate) fn send_padded<K: Sink>(bytes: &[u8], sink: &mut K) -> Result<(), Stopped>
-    requires going { (K.trace sink.old).stopped ≡ false }
-    requires fits { (K.trace sink.old).count + length (padded bytes.now) ≤ MAX_FILE }
+    requires { HasRoom (K.trace sink.old) (length (padded bytes.now)) }
     ensures { Sends (K.trace sink.old) (K.trace sink.new) (padded bytes.now) result }
 {
     sink.take(bytes)?;

@@ -1,5 +1,5 @@
 //! `loca`: where each outline begins, and where the last one ends. OpenType 1.9, loca.
-ghost use Rattle.std.specs.Prelude.{◌≡◌, ◌+◌, ◌-◌, ◌*◌, ◌<◌, ◌≤◌, ◌++◌, length, take, false};
+ghost use Rattle.std.specs.Prelude.{◌≡◌, ◌+◌, ◌-◌, ◌*◌, ◌<◌, ◌≤◌, ◌++◌, length, take};
 ghost use Rattle.sfnt_bytes.specs.Sums.{checksum_of};
 ghost use Rattle.sfnt_bytes.specs.declared.directory.TheConstants.{MAX_FILE};
 ghost use Rattle.font_theory.specs.Bytes.{bytes32};
@@ -7,7 +7,7 @@ ghost use Rattle.font_theory.specs.Content.{glyph_count};
 ghost use Rattle.font_write.specs.Parts.{glyf_to};
 ghost use Rattle.font_write.specs.Inside.{IsWalk, all_offsets, all_outlines, loca_to};
 ghost use Rattle.font_write.specs.declared.bytes.TheConstants.{BLOCK};
-ghost use Rattle.font_write.specs.Trace.{Sends};
+ghost use Rattle.font_write.specs.Trace.{HasRoom, Sends};
 
 use crate::bytes::{BLOCK, put_word, send_word};
 use crate::made_glyf::outline_length;
@@ -97,8 +97,7 @@ fn gather_offsets<S: Source>(
 
 /// Sends `loca`.
 pub(crate) fn send_loca<S: Source, K: Sink>(source: &S, sink: &mut K) -> Result<(), Stopped>
-    requires going { (K.trace sink.old).stopped ≡ false }
-    requires fits { (K.trace sink.old).count + length (all_offsets (S.content_of source.now)) ≤ MAX_FILE }
+    requires room { HasRoom (K.trace sink.old) (length (all_offsets (S.content_of source.now))) }
     requires small { length (all_outlines (S.content_of source.now)) ≤ MAX_FILE }
     ensures { Sends (K.trace sink.old) (K.trace sink.new) (all_offsets (S.content_of source.now)) result }
 {

@@ -1,14 +1,14 @@
 //! The file of a source, sent piece by piece: its header, its records and its tables. OpenType 1.9,
 //! Organization of an OpenType Font.
-ghost use Rattle.std.specs.Prelude.{◌≡◌, ◌+◌, ◌≤◌, ◌<◌, length, false};
+ghost use Rattle.std.specs.Prelude.{◌≡◌, ◌+◌, ◌≤◌, ◌<◌, length};
 ghost use Rattle.sfnt_bytes.specs.declared.directory.TheConstants.{MAX_FILE};
 ghost use Rattle.sfnt_bytes.specs.declared.tag.TheConstants.{SLOTS};
 ghost use Rattle.font_theory.specs.Bytes.{padded};
 ghost use Rattle.font_theory.specs.File.{entry_bytes, layout_of};
-ghost use Rattle.font_write.specs.Parts.{bodies_to, bytes_at, record_at, start_of};
-ghost use Rattle.font_write.specs.Inside.{records_to};
+ghost use Rattle.font_write.specs.Parts.{bodies_to, record_at, start_of};
+ghost use Rattle.font_write.specs.Inside.{planned_bodies, planned_records, planned_table};
 ghost use Rattle.font_write.specs.Plan.{IsMeasure, IsPlan, planned_file};
-ghost use Rattle.font_write.specs.Trace.{Sends};
+ghost use Rattle.font_write.specs.Trace.{HasRoom, Sends};
 
 use crate::bytes::{header, padding, send_padding, three_words};
 use crate::made::{Made, made_in};
@@ -29,14 +29,13 @@ fn send_table<S: Source, K: Sink>(
     slot: usize,
     sink: &mut K,
 ) -> Result<(), Stopped>
-    requires going { (K.trace sink.old).stopped ≡ false }
     requires plan { IsPlan (S.content_of source.now) plan.now }
     requires small { length (planned_file plan.now (S.content_of source.now)) ≤ MAX_FILE }
     requires slot { slot < SLOTS }
-    requires fits { (K.trace sink.old).count + length (bytes_at (layout_of plan.now.profile)
-        (S.content_of source.now) slot) ≤ MAX_FILE }
+    requires room { HasRoom (K.trace sink.old)
+        (length (planned_table plan.now (S.content_of source.now) slot)) }
     ensures { Sends (K.trace sink.old) (K.trace sink.new)
-        (bytes_at (layout_of plan.now.profile) (S.content_of source.now) slot) result }
+        (planned_table plan.now (S.content_of source.now) slot) result }
 {
     match made_in(slot) {
         Some(Made::Cmap) => send_cmap(source, plan.profile, plan.counts.groups, sink),
@@ -58,8 +57,7 @@ fn send_entry<K: Sink>(
     length: u32,
     sink: &mut K,
 ) -> Result<(), Stopped>
-    requires going { (K.trace sink.old).stopped ≡ false }
-    requires fits { (K.trace sink.old).count + 16 ≤ MAX_FILE }
+    requires { HasRoom (K.trace sink.old) 16 }
     ensures { Sends (K.trace sink.old) (K.trace sink.new)
         (entry_bytes (record { tag = tag; checksum = checksum; offset = offset; length = length })) result }
 {
@@ -76,13 +74,12 @@ fn send_record<S: Source, K: Sink>(
     offset: u32,
     sink: &mut K,
 ) -> Result<(), Stopped>
-    requires going { (K.trace sink.old).stopped ≡ false }
     requires measure { IsMeasure (layout_of profile) (S.content_of source.now) slot measure }
     requires slot { slot < SLOTS }
     requires offset { offset ≡ start_of (layout_of profile) (S.content_of source.now) + length
         (bodies_to (layout_of profile) (S.content_of source.now) slot) }
-    requires fits { (K.trace sink.old).count + length (record_at (layout_of profile)
-        (S.content_of source.now) slot) ≤ MAX_FILE }
+    requires room { HasRoom (K.trace sink.old)
+        (length (record_at (layout_of profile) (S.content_of source.now) slot)) }
     ensures { Sends (K.trace sink.old) (K.trace sink.new)
         (record_at (layout_of profile) (S.content_of source.now) slot) result }
 {
@@ -94,13 +91,11 @@ fn send_record<S: Source, K: Sink>(
 
 // Sends all records.
 fn send_records<S: Source, K: Sink>(source: &S, plan: &Plan, sink: &mut K) -> Result<(), Stopped>
-    requires going { (K.trace sink.old).stopped ≡ false }
     requires plan { IsPlan (S.content_of source.now) plan.now }
     requires small { length (planned_file plan.now (S.content_of source.now)) ≤ MAX_FILE }
-    requires fits { (K.trace sink.old).count + length (records_to (layout_of plan.now.profile)
-        (S.content_of source.now) SLOTS) ≤ MAX_FILE }
+    requires room { HasRoom (K.trace sink.old) (length (planned_records plan.now (S.content_of source.now))) }
     ensures { Sends (K.trace sink.old) (K.trace sink.new)
-        (records_to (layout_of plan.now.profile) (S.content_of source.now) SLOTS) result }
+        (planned_records plan.now (S.content_of source.now)) result }
 {
     let mut offset = 12 + 16 * u32::from(plan.count);
     for slot in 0..SLOTS {
@@ -118,14 +113,13 @@ fn send_body<S: Source, K: Sink>(
     slot: usize,
     sink: &mut K,
 ) -> Result<(), Stopped>
-    requires going { (K.trace sink.old).stopped ≡ false }
     requires plan { IsPlan (S.content_of source.now) plan.now }
     requires small { length (planned_file plan.now (S.content_of source.now)) ≤ MAX_FILE }
     requires slot { slot < SLOTS }
-    requires fits { (K.trace sink.old).count + length (padded
-        (bytes_at (layout_of plan.now.profile) (S.content_of source.now) slot)) ≤ MAX_FILE }
+    requires room { HasRoom (K.trace sink.old)
+        (length (padded (planned_table plan.now (S.content_of source.now) slot))) }
     ensures { Sends (K.trace sink.old) (K.trace sink.new)
-        (padded (bytes_at (layout_of plan.now.profile) (S.content_of source.now) slot)) result }
+        (padded (planned_table plan.now (S.content_of source.now) slot)) result }
 {
     send_table(source, plan, slot, sink)?;
     send_padding(plan.measures[slot].length as usize, sink)
@@ -133,13 +127,11 @@ fn send_body<S: Source, K: Sink>(
 
 // Sends all tables, each padded.
 fn send_bodies<S: Source, K: Sink>(source: &S, plan: &Plan, sink: &mut K) -> Result<(), Stopped>
-    requires going { (K.trace sink.old).stopped ≡ false }
     requires plan { IsPlan (S.content_of source.now) plan.now }
     requires small { length (planned_file plan.now (S.content_of source.now)) ≤ MAX_FILE }
-    requires fits { (K.trace sink.old).count + length (bodies_to (layout_of plan.now.profile)
-        (S.content_of source.now) SLOTS) ≤ MAX_FILE }
+    requires room { HasRoom (K.trace sink.old) (length (planned_bodies plan.now (S.content_of source.now))) }
     ensures { Sends (K.trace sink.old) (K.trace sink.new)
-        (bodies_to (layout_of plan.now.profile) (S.content_of source.now) SLOTS) result }
+        (planned_bodies plan.now (S.content_of source.now)) result }
 {
     for slot in 0..SLOTS {
         send_body(source, plan, slot, sink)?;
@@ -150,10 +142,8 @@ fn send_bodies<S: Source, K: Sink>(source: &S, plan: &Plan, sink: &mut K) -> Res
 /// Sends the file of a source: its header, its records, and its tables, each padded. It stops where
 /// the sink does.
 pub fn send_file<S: Source, K: Sink>(source: &S, plan: &Plan, sink: &mut K) -> Result<(), Stopped>
-    requires going { (K.trace sink.old).stopped ≡ false }
     requires plan { IsPlan (S.content_of source.now) plan.now }
-    requires fits { (K.trace sink.old).count + length (planned_file plan.now (S.content_of source.now))
-        ≤ MAX_FILE }
+    requires room { HasRoom (K.trace sink.old) (length (planned_file plan.now (S.content_of source.now))) }
     ensures { Sends (K.trace sink.old) (K.trace sink.new)
         (planned_file plan.now (S.content_of source.now)) result }
 {

@@ -7,10 +7,10 @@ use Rattle.font_write.proofs.SendingLemmas.{sends_err_at, stops_within}
 use Rattle.font_write.proofs.OutlineLemmas.{length_loca, loca_first, loca_start, loca_within_all, walk_start}
 use Rattle.font_write.proofs.made_loca.send_loca.Goals as goal
 
-pub send_word-requires-clause-fits : goal.send_word-requires-clause-fits
-send_word-requires-clause-fits g c =
+pub send_word-requires : goal.send_word-requires
+send_word-requires g c =
     let K : Content = g.S.Source.content_of c.args.source.now in
-    omega (arith, c.requires.fits, length_loca K (glyph_count K.copied))
+    record { going = c.requires.room.going; fits = omega (arith, c.requires.room.fits, length_loca K (glyph_count K.copied)) }
 
 pub returns-in_err-send_word : goal.returns-in_err-send_word
 returns-in_err-send_word g c =
@@ -33,7 +33,7 @@ take-requires-clause-fits g c =
     let chunk : List ℕ = take (4 * (to - c.loop-from.from)) c.gather_offsets-walk.new.block in
     let to_end : to ≤ glyph_count K.copied = omega (arith, c.glyph_count-count.ensures, c.min.ensures, c.loop-from.invariant.within) in
     let long : length (loca_to K c.loop-from.from ++ chunk) ≡ length (loca_to K to) = ap length c.gather_offsets-walk.ensures.gathered in
-    omega (arith, c.requires.fits, c.loop-from.invariant.sent.count, length_loca K (glyph_count K.copied), length_loca K c.loop-from.from, length_loca K to, length-append (loca_to K c.loop-from.from) chunk, long, to_end)
+    omega (arith, c.requires.room.fits, c.loop-from.invariant.sent.count, length_loca K (glyph_count K.copied), length_loca K c.loop-from.from, length_loca K to, length-append (loca_to K c.loop-from.from) chunk, long, to_end)
 
 pub returns-in_err-take : goal.returns-in_err-take
 returns-in_err-take g c =
