@@ -4,6 +4,7 @@
 #![tactic(auto)]
 
 mod code_points;
+mod code_range;
 mod ranges;
 mod runs;
 mod search;
@@ -11,6 +12,7 @@ mod wanted;
 mod word;
 
 pub use crate::code_points::{CODES, LAST_CODE};
+pub use crate::code_range::CodeRange;
 pub use crate::runs::{Pieces, Run, clip, mapped_count, next_run, run_of};
 pub use crate::search::{ANYWHERE, Ends, first_reaching};
 pub use crate::wanted::{Wanted, WantedError};

@@ -11,7 +11,8 @@ pub use font_join::{
     JoinAllError, JoinAllIntoError, JoinError, Joined, Which, join, join_all, join_all_into,
 };
 pub use font_map::{
-    Chart, Group, Groups, MapError, Mapping, Run, Wanted, WantedError, WordError, read_word,
+    Chart, CodeRange, Group, Groups, MapError, Mapping, Run, Wanted, WantedError, WordError,
+    read_word,
 };
 pub use font_subset::{
     CutError, CutForm, CutIntoError, CutOf, cut, cut_form, cut_into, is_cut, is_cut_of,

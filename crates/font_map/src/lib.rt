@@ -18,4 +18,6 @@ pub use crate::laws::{
     canonical_groups, fewest_groups, map_laws, one_range_of_word, run_is_first_group,
 };
 pub use crate::mapping::{MapError, Mapping};
-pub use codes::{Pieces, Run, Wanted, WantedError, WordError, next_run, read_word, run_of};
+pub use codes::{
+    CodeRange, Pieces, Run, Wanted, WantedError, WordError, next_run, read_word, run_of,
+};

@@ -1,5 +1,7 @@
 //! The items of `font_map`.
-use font_map::{Group, Groups, MapError, Mapping, Run, Wanted, WantedError, WordError, read_word};
+use font_map::{
+    CodeRange, Group, Groups, MapError, Mapping, Run, Wanted, WantedError, WordError, read_word,
+};
 use sfnt_bytes::NoMemory;
 use std::alloc::Global;
 
@@ -37,5 +39,6 @@ pub fn wanted_sets(alloc: Global, first: u32, last: u32) -> Result<bool, WantedE
         Err(_) => false,
     };
     let word: Result<(u32, u32), WordError> = read_word("U+41-5A");
-    Ok(is_all && word.is_ok() && wanted.contains(first))
+    let range: Result<CodeRange, WordError> = "U+41-5A".parse();
+    Ok(is_all && word.is_ok() && range.is_ok() && wanted.contains(first))
 }

@@ -1,6 +1,6 @@
 //! Wanted sets, that they stay right where memory is refused, and the runs of a mapping on one.
 use fakes::Refusing;
-use font_map::{Groups, Mapping, Run, Wanted, WantedError, WordError};
+use font_map::{CodeRange, Groups, Mapping, Run, Wanted, WantedError, WordError};
 use sfnt_bytes::{BASE6, NoMemory};
 use std::alloc::Allocator;
 use std::test::Fail;
@@ -46,6 +46,30 @@ fn bad_ranges_leave_the_set(rt: HostRuntime) -> Result<(), Fail> {
     let all = Wanted::all(rt.alloc())?;
     assert!(rt; all.contains(0) && all.contains(0xFFFF) && all.contains(0x10_FFFF));
     assert!(rt; !all.contains(0x11_0000) && !all.contains(u32::MAX));
+    Ok(())
+}
+
+#[test]
+fn ranges_of_texts(rt: HostRuntime) -> Result<(), Fail> {
+    let range: CodeRange = "U+41-5A".parse()?;
+    assert_eq!(rt; (range.first, range.last), (0x41, 0x5A));
+    let all = CodeRange {
+        first: 0,
+        last: 0x10_FFFF,
+    };
+    for word in ["all", "U+0-10FFFF"] {
+        assert_eq!(rt; word.parse(), Ok::<CodeRange, WordError>(all));
+    }
+    for (word, error) in [
+        ("U+110000", WordError::BadRange),
+        ("U+42-41", WordError::BadRange),
+        ("", WordError::BadWord),
+        ("U+", WordError::BadWord),
+        ("u+41", WordError::BadWord),
+        ("U+41-U+42", WordError::BadWord),
+    ] {
+        assert_eq!(rt; word.parse::<CodeRange>(), Err(error));
+    }
     Ok(())
 }
 
