@@ -12,6 +12,11 @@ pub record IsPast (runs : List Run) (from at : ℕ) : Type 0 where
   pub within : at ≤ length runs
   pub before : (k : ℕ) → k < at → (run_at runs k).last < from
 
+-- that of a place in each of two lists
+pub record ArePast (a b : List Run) (from i j : ℕ) : Type 0 where
+  pub first : IsPast a from i
+  pub second : IsPast b from j
+
 -- the runs before a place end below a code; another place, not before it, is after all runs, or its run does
 -- not end below the code
 pub record IsBetween (runs : List Run) (from low high : ℕ) : Type 0 where

@@ -1,16 +1,37 @@
 //! The runs of the union of two maps. OpenType 1.9, cmap, Format 12: Segmented coverage.
-ghost use Rattle.std.specs.Prelude.{◌≡◌, ◌+◌, ◌<◌, ◌≤◌, ◌++◌, ℕ, List, [], length, IfOk, IsTrue, MatchOption, OnOk};
+ghost use Rattle.std.specs.Prelude.{◌≡◌, ◌+◌, ◌<◌, ◌≤◌, ◌++◌, ℕ, List, [], length, IfOk, IfSome, IsTrue, OnOk};
 ghost use Rattle.codes.specs.CharacterMap.{IsCharacterMap, united};
 ghost use Rattle.codes.specs.Runs.{IsNext, IsPiece, IsRun, spelled};
 ghost use Rattle.codes.specs.declared.code_points.TheConstants.{CODES, LAST_CODE};
 ghost use Rattle.codes.specs.declared.runs.Run.{Run};
 ghost use Rattle.map_union.specs.RunLists.{AreMapRuns};
-ghost use Rattle.map_union.specs.Inside.{AreLeftAlone, IsDone, IsPast, IsPlace, LeavesAlone, run_at};
+ghost use Rattle.map_union.specs.Inside.{AreLeftAlone, ArePast, IsDone, IsPast, IsPlace, LeavesAlone, run_at};
 
 use crate::run_list::{place_by_guess, run_from};
 use codes::{CODES, Run};
 use sfnt_bytes::NoMemory;
 use std::alloc::Allocator;
+
+// The places in two lists of runs at which a walk over both of them stands.
+#[derive(Clone, Copy)]
+struct Places {
+    first: usize,
+    second: usize,
+}
+
+// Where that walk stands, and the code before which all runs are listed.
+#[derive(Clone, Copy)]
+struct Position {
+    places: Places,
+    code: u32,
+}
+
+// Runs of one list that the other one leaves alone, and where the walk stands after them.
+#[derive(Clone, Copy)]
+struct Stretch<'r> {
+    runs: &'r [Run],
+    end: Position,
+}
 
 // Returns the place of the first run that ends at a code or above it, where the runs before a place are
 // known to end below the code.
@@ -49,61 +70,44 @@ pub fn first_piece(a: Option<Run>, b: Option<Run>) -> Option<Run>
 
 // Returns the first piece of both from a code on, and the places that it was found at.
 #[tactic(auto, using(crate::proofs::RunListLemmas::next_of, crate::proofs::RunListLemmas::past_on))]
-fn piece_of_both(
-    a: &[Run],
-    b: &[Run],
-    places: (usize, usize),
-    from: u32,
-) -> (Option<Run>, (usize, usize))
+fn piece_of_both(a: &[Run], b: &[Run], places: Places, from: u32) -> (Option<Run>, Places)
     requires first { AreMapRuns a.now }
     requires second { AreMapRuns b.now }
-    requires first_past { IsPast a.now from places.0 }
-    requires second_past { IsPast b.now from places.1 }
+    requires past { ArePast a.now b.now from places.first places.second }
     ensures piece { IsNext (united (spelled a.now) (spelled b.now)) from result.0 }
-    ensures first_past { IsPast a.now from result.1.0 }
-    ensures second_past { IsPast b.now from result.1.1 }
+    ensures past { ArePast a.now b.now from result.1.first result.1.second }
 {
-    let i = place_after(a, places.0, from);
-    let j = place_after(b, places.1, from);
-    (
-        first_piece(run_from(a, i, from), run_from(b, j, from)),
-        (i, j),
-    )
+    let first = place_after(a, places.first, from);
+    let second = place_after(b, places.second, from);
+    let piece = first_piece(run_from(a, first, from), run_from(b, second, from));
+    (piece, Places { first, second })
 }
 
-// Returns the run that begins with a piece, the first piece after it, and the places that it was found at.
-fn run_of_both(
-    a: &[Run],
-    b: &[Run],
-    places: (usize, usize),
-    piece: Run,
-) -> (Run, Option<Run>, (usize, usize))
+// Returns the run that begins with a piece, and places in both lists before which all runs end with it.
+fn run_of_both(a: &[Run], b: &[Run], places: Places, piece: Run) -> (Run, Places)
     requires first { AreMapRuns a.now }
     requires second { AreMapRuns b.now }
     requires order { piece.first ≤ piece.last }
     requires small { piece.last ≤ LAST_CODE }
-    requires first_past { IsPast a.now (piece.last + 1) places.0 }
-    requires second_past { IsPast b.now (piece.last + 1) places.1 }
+    requires past { ArePast a.now b.now (piece.last + 1) places.first places.second }
     ensures run { (from : ℕ) → IsPiece (united (spelled a.now) (spelled b.now)) from piece →
         IsRun (united (spelled a.now) (spelled b.now)) from result.0 }
     ensures small { result.0.last ≤ LAST_CODE }
-    ensures behind { IsNext (united (spelled a.now) (spelled b.now)) (result.0.last + 1) result.1 }
-    ensures first_past { IsPast a.now (result.0.last + 1) result.2.0 }
-    ensures second_past { IsPast b.now (result.0.last + 1) result.2.1 }
+    ensures past { ArePast a.now b.now (result.0.last + 1) result.1.first result.1.second }
 {
     let mut run = piece;
     let (mut ahead, mut at) = piece_of_both(a, b, places, piece.last + 1);
     while let Some(next) = ahead {
         if next.first != run.last + 1 {
-            return (run, ahead, at);
+            return (run, at);
         }
         if u32::from(next.glyph) != u32::from(run.glyph) + (next.first - run.first) {
-            return (run, ahead, at);
+            return (run, at);
         }
         run.last = next.last;
         (ahead, at) = piece_of_both(a, b, at, next.last + 1);
     }
-    (run, ahead, at)
+    (run, at)
 }
 
 // Returns whether the run at a place leaves a run alone, which begins at a code or above it: it begins
@@ -157,34 +161,46 @@ fn end_of_stretch(a: &[Run], i: usize, b: &[Run], j: usize, count: usize) -> usi
     end - 1
 }
 
-// Returns the runs of one of both from a code on that begin there and are left alone by the other list, the
-// places after them, and the code after them. They are likely to be `count` runs.
-fn next_apart<'r>(
-    a: &'r [Run],
-    b: &'r [Run],
-    places: (usize, usize),
-    count: usize,
-    from: u32,
-) -> Option<(&'r [Run], (usize, usize), u32)>
+// Returns the runs of one of both that begin at a position and are left alone by the other list. They are likely to
+// be `count` runs.
+fn next_apart<'r>(a: &'r [Run], b: &'r [Run], at: Position, count: usize) -> Option<Stretch<'r>>
     requires first { AreMapRuns a.now }
     requires second { AreMapRuns b.now }
-    requires first_past { IsPast a.now from places.0 }
-    requires second_past { IsPast b.now from places.1 }
-    ensures done { MatchOption result Unit (λ found. (runs : List Run) →
-        IsDone (united (spelled a.now) (spelled b.now)) runs from →
-        IsDone (united (spelled a.now) (spelled b.now)) (runs ++ found.0.now) found.2) }
-    ensures first_past { MatchOption result Unit (λ found. IsPast a.now found.2 found.1.0) }
-    ensures second_past { MatchOption result Unit (λ found. IsPast b.now found.2 found.1.1) }
-    ensures order { MatchOption result Unit (λ found. (from < found.2) × (found.2 ≤ CODES)) }
+    requires past { ArePast a.now b.now at.code at.places.first at.places.second }
+    ensures done { IfSome result (λ stretch. (runs : List Run) →
+        IsDone (united (spelled a.now) (spelled b.now)) runs at.code →
+        IsDone (united (spelled a.now) (spelled b.now)) (runs ++ stretch.runs.now) stretch.end.code) }
+    ensures past { IfSome result (λ stretch.
+        ArePast a.now b.now stretch.end.code stretch.end.places.first stretch.end.places.second) }
+    ensures order { IfSome result (λ stretch. (at.code < stretch.end.code) × (stretch.end.code ≤ CODES)) }
 {
-    let (i, j) = places;
-    if i < a.len() && from <= a[i].first && leaves_alone(b, j, a[i]) {
+    let Places {
+        first: i,
+        second: j,
+    } = at.places;
+    if i < a.len() && at.code <= a[i].first && leaves_alone(b, j, a[i]) {
         let end = end_of_stretch(a, i, b, j, count);
-        return Some((&a[i..end], (end, j), a[end - 1].last + 1));
+        let places = Places {
+            first: end,
+            second: j,
+        };
+        let code = a[end - 1].last + 1;
+        return Some(Stretch {
+            runs: &a[i..end],
+            end: Position { places, code },
+        });
     }
-    if j < b.len() && from <= b[j].first && leaves_alone(a, i, b[j]) {
+    if j < b.len() && at.code <= b[j].first && leaves_alone(a, i, b[j]) {
         let end = end_of_stretch(b, j, a, i, count);
-        return Some((&b[j..end], (i, end), b[end - 1].last + 1));
+        let places = Places {
+            first: i,
+            second: end,
+        };
+        let code = b[end - 1].last + 1;
+        return Some(Stretch {
+            runs: &b[j..end],
+            end: Position { places, code },
+        });
     }
     None
 }
@@ -206,37 +222,32 @@ fn push_stretch<A: Allocator>(runs: &mut Vec<Run, A>, stretch: &[Run]) -> Result
     Ok(())
 }
 
-// Adds the runs of both from a code on that are left alone by the other list, up to one that is not. Returns
-// the places and the code after the last one.
+// Adds the runs of both from a position on that are left alone by the other list, up to one that is not. Returns the
+// position after the last one.
 fn push_apart<A: Allocator>(
     a: &[Run],
     b: &[Run],
-    places: (usize, usize),
-    from: u32,
+    from: Position,
     runs: &mut Vec<Run, A>,
-) -> Result<((usize, usize), u32), NoMemory>
+) -> Result<Position, NoMemory>
     requires first { AreMapRuns a.now }
     requires second { AreMapRuns b.now }
-    requires first_past { IsPast a.now from places.0 }
-    requires second_past { IsPast b.now from places.1 }
-    requires small { from ≤ CODES }
-    requires done { IsDone (united (spelled a.now) (spelled b.now)) runs.old.items from }
-    ensures done { IfOk result (λ next. IsDone (united (spelled a.now) (spelled b.now)) runs.new.items next.1) }
-    ensures first_past { IfOk result (λ next. IsPast a.now next.1 next.0.0) }
-    ensures second_past { IfOk result (λ next. IsPast b.now next.1 next.0.1) }
-    ensures order { IfOk result (λ next. (from ≤ next.1) × (next.1 ≤ CODES)) }
+    requires past { ArePast a.now b.now from.code from.places.first from.places.second }
+    requires small { from.code ≤ CODES }
+    requires done { IsDone (united (spelled a.now) (spelled b.now)) runs.old.items from.code }
+    ensures done { IfOk result (λ end. IsDone (united (spelled a.now) (spelled b.now)) runs.new.items end.code) }
+    ensures past { IfOk result (λ end. ArePast a.now b.now end.code end.places.first end.places.second) }
+    ensures order { IfOk result (λ end. (from.code ≤ end.code) × (end.code ≤ CODES)) }
 {
-    let mut at = places;
-    let mut code = from;
+    let mut at = from;
     // The lists mostly take turns, and each goes on in stretches of one length.
     let mut counts = (1, 1);
-    while let Some((stretch, places_behind, behind)) = next_apart(a, b, at, counts.0, code) {
-        push_stretch(runs, stretch)?;
-        at = places_behind;
-        code = behind;
-        counts = (counts.1, stretch.len());
+    while let Some(stretch) = next_apart(a, b, at, counts.0) {
+        push_stretch(runs, stretch.runs)?;
+        at = stretch.end;
+        counts = (counts.1, stretch.runs.len());
     }
-    Ok((at, code))
+    Ok(at)
 }
 
 // Returns an empty list with room for this number of runs: that of a list whose runs go, where it has enough.
@@ -277,16 +288,24 @@ pub fn runs_of_both<A: Allocator + Copy>(
 {
     // As many as there can be where the maps agree: without them the list is copied as it grows.
     let mut runs = empty_list(alloc, room, a.len().saturating_add(b.len()))?;
-    let (mut ahead, mut places) = piece_of_both(a, b, (0, 0), 0);
+    let start = Places {
+        first: 0,
+        second: 0,
+    };
+    let (mut ahead, mut places) = piece_of_both(a, b, start, 0);
     let mut from = 0;
     while let Some(piece) = ahead {
-        let (run, _, at) = run_of_both(a, b, places, piece);
+        let (run, after) = run_of_both(a, b, places, piece);
         if runs.push(run).is_err() {
             return Err(NoMemory);
         }
-        let (behind, code) = push_apart(a, b, at, run.last + 1, &mut runs)?;
-        from = code;
-        (ahead, places) = piece_of_both(a, b, behind, code);
+        let after = Position {
+            places: after,
+            code: run.last + 1,
+        };
+        let end = push_apart(a, b, after, &mut runs)?;
+        from = end.code;
+        (ahead, places) = piece_of_both(a, b, end.places, from);
     }
     Ok(runs)
 }

@@ -25,8 +25,7 @@ loop-ahead-preserved c =
       small = next.within;
       piece = λ from h. piece_on M from _ _ (c.loop-ahead.invariant.piece from h) next (omega (arith, c.if-next-run.false)) (omega (arith, c.if-next-run.false, c.if-from-next.false, c.from.ensures, c.from-in-Some.ensures));
       next = c.piece_of_both.ensures.piece;
-      first_past = c.piece_of_both.ensures.first_past;
-      second_past = c.piece_of_both.ensures.second_past;
+      past = c.piece_of_both.ensures.past;
     }
 
 pub returns-clause-run : goal.returns-clause-run

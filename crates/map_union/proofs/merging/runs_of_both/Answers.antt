@@ -20,7 +20,7 @@ loop-ahead-smaller g c =
     let M : ℕ → ℕ = united (spelled c.args.a.now) (spelled c.args.b.now) in
     let piece : IsPiece M c.loop-ahead.from c.in-Some.piece = subst (IsNext M c.loop-ahead.from) c.in-Some.is c.loop-ahead.invariant.next in
     let run = c.run_of_both.ensures.run c.loop-ahead.from piece in
-    omega (arith, run.piece.from_on, run.piece.order, c.in_ok-behind.ensures.order.0, c.in_ok-behind.ensures.order.1)
+    omega (arith, run.piece.from_on, run.piece.order, c.in_ok-end.ensures.order.0, c.in_ok-end.ensures.order.1)
 
 pub returns-clause-spelled : goal.returns-clause-spelled
 returns-clause-spelled g c =
