@@ -1,5 +1,6 @@
 -- The numbers of refusals of wanted codes and of their words, this project's own.
 use Rattle.std.specs.Prelude.{ℕ}
+use Rattle.sfnt_bytes.specs.declared.numbers.TheConstants as numbers
 use Rattle.codes.specs.declared.wanted.WantedError.{WantedError}
 use Rattle.codes.specs.declared.wanted.WantedError.TheVariants.{BadRange, NoMemory}
 use Rattle.codes.specs.declared.word.WordError.{WordError}
@@ -7,10 +8,10 @@ use Rattle.codes.specs.declared.word.WordError.TheVariants.{BadWord, BadRange as
 
 -- the number of a refusal of a set
 abbrev pub wanted_error_number : WantedError → ℕ
-wanted_error_number BadRange = 15
-wanted_error_number NoMemory = 16
+wanted_error_number BadRange = numbers.BAD_RANGE
+wanted_error_number NoMemory = numbers.NO_MEMORY
 
 -- the number of a refusal of a word
 abbrev pub word_error_number : WordError → ℕ
 word_error_number BadWord = 26
-word_error_number BadRangeOfWord = 15
+word_error_number BadRangeOfWord = numbers.BAD_RANGE

@@ -6,7 +6,7 @@ ghost use Rattle.codes.specs.declared.wanted.WantedError.TheVariants.{BadRange, 
 
 use crate::code_points::LAST_CODE;
 use crate::ranges::{Range, add_range, has_code, remove_range, row_by_hint};
-use sfnt_bytes::NoMemory;
+use sfnt_bytes::{NoMemory, numbers};
 use std::alloc::{Allocator, Global};
 use std::cell::Cell;
 use std::marker::Model;
@@ -29,8 +29,8 @@ impl WantedError {
         ensures { result ≡ wanted_error_number self.now }
     {
         match self {
-            WantedError::BadRange => 15,
-            WantedError::NoMemory => 16,
+            WantedError::BadRange => numbers::BAD_RANGE,
+            WantedError::NoMemory => numbers::NO_MEMORY,
         }
     }
 }

@@ -5,6 +5,7 @@ ghost use Rattle.codes.specs.Wanted.{IsBadRange};
 ghost use Rattle.codes.specs.Word.{IsRefused, IsWord, SpellsCode, WritesCodes};
 
 use crate::code_points::LAST_CODE;
+use sfnt_bytes::numbers;
 use thiserror::Error;
 
 /// Why a text names no range of codes.
@@ -26,7 +27,7 @@ impl WordError {
     {
         match self {
             WordError::BadWord => 26,
-            WordError::BadRange => 15,
+            WordError::BadRange => numbers::BAD_RANGE,
         }
     }
 }

@@ -2,7 +2,7 @@
 use Rattle.std.specs.Prelude.{◌≡◌, ℕ, ◌+◌, ◌≤◌, Bool, false, true, length, List, None, Option, IfErr, IfSome, OnOk, Result, Some, take}
 use Rattle.font_subset.specs.Cut.{IsTooLarge, cut_of}
 use Rattle.font_subset.specs.Lean.{lean_cut_of}
-use Rattle.font_cut.specs.Fonts.{MAX_FILE, error_number, font_fault, no_memory_number}
+use Rattle.font_cut.specs.Fonts.{MAX_FILE, NO_MEMORY, READ_FAULT, TOO_LARGE, WRITE_FAULT, error_number, font_fault}
 use Rattle.font_subset.specs.declared.cut_font.CutIntoError.{CutIntoError}
 use Rattle.font_subset.specs.declared.cut_font.CutIntoError.TheVariants as cut_errors
 use Rattle.font_join.specs.JoinText.{join_all_error_number}
@@ -124,10 +124,10 @@ of_join_into_error (join_into_errors.WriteFault count) = Write count
 
 -- the number of a run's error
 abbrev pub run_error_number : RunError → ℕ
-run_error_number (Read count) = 25
-run_error_number Memory = no_memory_number
-run_error_number (Write count) = 19
+run_error_number (Read count) = READ_FAULT
+run_error_number Memory = NO_MEMORY
+run_error_number (Write count) = WRITE_FAULT
 run_error_number (Font error) = error_number error
 run_error_number (OneOf which error) = error_number error
-run_error_number (TooLarge size) = 18
+run_error_number (TooLarge size) = TOO_LARGE
 run_error_number (Join error) = join_all_error_number error

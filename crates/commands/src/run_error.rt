@@ -6,7 +6,7 @@ ghost use Rattle.commands.specs.declared.run_error.RunError.TheVariants.{Font, M
 
 use font_cut::{
     CutIntoError, FontError, JoinAllError, JoinAllIntoError, JoinError, NoMemory, Outlet, Which,
-    WriteFault,
+    WriteFault, numbers,
 };
 use std::alloc::AllocError;
 use std::io;
@@ -45,12 +45,12 @@ impl RunError {
         ensures { result ≡ run_error_number self.now }
     {
         match self {
-            RunError::Read(_) => 25,
-            RunError::Memory => 16,
-            RunError::Write(_) => 19,
+            RunError::Read(_) => numbers::READ_FAULT,
+            RunError::Memory => numbers::NO_MEMORY,
+            RunError::Write(_) => numbers::WRITE_FAULT,
             RunError::Font(error) => error.number(),
             RunError::OneOf(_, error) => error.number(),
-            RunError::TooLarge(_) => 18,
+            RunError::TooLarge(_) => numbers::TOO_LARGE,
             RunError::Join(error) => error.number(),
         }
     }

@@ -2,9 +2,10 @@
 pub use Rattle.sfnt_bytes.specs.Directory.{dropped_of, kept_tag, table_of}
 pub use Rattle.sfnt_bytes.specs.Findings.{findings_of}
 pub use Rattle.sfnt_bytes.specs.Refusals.{directory_fault}
-pub use Rattle.sfnt_bytes.specs.Text.{finding_text, no_memory_number, no_memory_text, tag_text}
+pub use Rattle.sfnt_bytes.specs.Text.{finding_text, no_memory_text, tag_text}
 pub use Rattle.sfnt_bytes.specs.declared.directory.TheConstants.{MAX_FILE}
 pub use Rattle.sfnt_bytes.specs.declared.findings.Finding.{Finding}
+pub use Rattle.sfnt_bytes.specs.declared.numbers.TheConstants.{NO_MEMORY, READ_FAULT, TOO_LARGE, WRITE_FAULT}
 pub use Rattle.sfnt_bytes.specs.declared.records.Entry.{Entry}
 pub use Rattle.sfnt_bytes.specs.declared.tag.Tag.{Tag}
 pub use Rattle.sfnt_bytes.specs.declared.tag.TheConstants.{SLOTS}

@@ -20,6 +20,6 @@ pub use font_subset::{
 pub use font_tables::{LocaForm, TableError, Tables};
 pub use font_write::Source;
 pub use sfnt_bytes::{
-    BASE6, DirError, Directory, Entry, Finding, KEPT, MAX_FILE, NoMemory, SLOTS, Tag,
+    BASE6, DirError, Directory, Entry, Finding, KEPT, MAX_FILE, NoMemory, SLOTS, Tag, numbers,
 };
 pub use streams::{Outlet, WriteFault};

@@ -1,5 +1,6 @@
 -- The texts and numbers of what refuses a join, this project's own.
 use Rattle.std.specs.Prelude.{ℕ, List, codes}
+use Rattle.sfnt_bytes.specs.declared.numbers.TheConstants as numbers
 use Rattle.font_file.specs.Text as font
 use Rattle.font_join.specs.declared.join_error.JoinAllError.{JoinAllError}
 use Rattle.font_join.specs.declared.join_error.JoinAllError.TheVariants.{At, NothingToJoin}
@@ -22,8 +23,8 @@ join_error_number (NotACut which) = 20
 join_error_number (DifferentTable tag) = 21
 join_error_number (DifferentMapping code) = 22
 join_error_number (DifferentGlyph g) = 23
-join_error_number (TooLarge size) = 18
-join_error_number NoMemory = 16
+join_error_number (TooLarge size) = numbers.TOO_LARGE
+join_error_number NoMemory = numbers.NO_MEMORY
 
 -- and of a list of files
 abbrev pub join_all_error_number : JoinAllError → ℕ
@@ -33,4 +34,4 @@ join_all_error_number (At step error) = join_error_number error
 -- and of one that is sent
 abbrev pub join_all_into_error_number : JoinAllIntoError → ℕ
 join_all_into_error_number (NotJoined error) = join_all_error_number error
-join_all_into_error_number (WriteFault written) = 19
+join_all_into_error_number (WriteFault written) = numbers.WRITE_FAULT

@@ -3,7 +3,7 @@ ghost use Rattle.std.specs.Prelude.{◌≡◌, Some};
 ghost use Rattle.font_join.specs.JoinText.{join_all_error_number, join_all_into_error_number, join_error_number, which_text};
 
 use font_file::FontError;
-use sfnt_bytes::Tag;
+use sfnt_bytes::{Tag, numbers};
 use std::fmt;
 use thiserror::Error;
 
@@ -65,8 +65,8 @@ impl JoinError {
             JoinError::DifferentTable(_) => 21,
             JoinError::DifferentMapping(_) => 22,
             JoinError::DifferentGlyph(_) => 23,
-            JoinError::TooLarge(_) => 18,
-            JoinError::NoMemory => 16,
+            JoinError::TooLarge(_) => numbers::TOO_LARGE,
+            JoinError::NoMemory => numbers::NO_MEMORY,
         }
     }
 }
@@ -113,7 +113,7 @@ impl JoinAllIntoError {
     {
         match self {
             JoinAllIntoError::NotJoined(error) => error.number(),
-            JoinAllIntoError::WriteFault(_) => 19,
+            JoinAllIntoError::WriteFault(_) => numbers::WRITE_FAULT,
         }
     }
 }

@@ -13,7 +13,7 @@ use crate::cut_source::{CutOf, recall_accepted};
 use crate::emit::{file_in_memory, send_whole};
 use font_file::Font;
 use font_map::Wanted;
-use sfnt_bytes::NoMemory;
+use sfnt_bytes::{NoMemory, numbers};
 use std::alloc::Allocator;
 use std::io::Write;
 use streams::Outlet;
@@ -36,8 +36,8 @@ impl CutError {
         ensures { result ≡ cut_error_number self.now }
     {
         match self {
-            CutError::NoMemory => 16,
-            CutError::TooLarge(_) => 18,
+            CutError::NoMemory => numbers::NO_MEMORY,
+            CutError::TooLarge(_) => numbers::TOO_LARGE,
         }
     }
 }
@@ -62,9 +62,9 @@ impl CutIntoError {
         ensures { result ≡ cut_into_error_number self.now }
     {
         match self {
-            CutIntoError::NoMemory => 16,
-            CutIntoError::TooLarge(_) => 18,
-            CutIntoError::WriteFault(_) => 19,
+            CutIntoError::NoMemory => numbers::NO_MEMORY,
+            CutIntoError::TooLarge(_) => numbers::TOO_LARGE,
+            CutIntoError::WriteFault(_) => numbers::WRITE_FAULT,
         }
     }
 }

@@ -55,7 +55,3 @@ error_number (TableOutOfFile tag) = 6
 -- the text where memory is refused
 abbrev pub no_memory_text : List ℕ
 no_memory_text = codes "no memory"
-
--- its number
-abbrev pub no_memory_number : ℕ
-no_memory_number = 16

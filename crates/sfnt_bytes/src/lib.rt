@@ -7,6 +7,7 @@ mod directory;
 mod findings;
 mod laws;
 mod number;
+pub mod numbers;
 mod prefixes;
 mod records;
 mod sums;

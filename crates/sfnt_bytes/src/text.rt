@@ -2,10 +2,12 @@
 ghost use Rattle.std.specs.Prelude.{◌≡◌, ◌<◌, Some};
 ghost use Rattle.std.specs.Char.{digit_char};
 ghost use Rattle.std.specs.List.{list_all};
-ghost use Rattle.sfnt_bytes.specs.Text.{error_number, error_text, finding_text, hex_text, is_printable, no_memory_number, no_memory_text, tag_text};
+ghost use Rattle.sfnt_bytes.specs.Text.{error_number, error_text, finding_text, hex_text, is_printable, no_memory_text, tag_text};
+ghost use Rattle.sfnt_bytes.specs.declared.numbers.TheConstants.{NO_MEMORY};
 
 use crate::directory::{DirError, NoMemory};
 use crate::findings::Finding;
+use crate::numbers::NO_MEMORY;
 use crate::tag::Tag;
 use std::error::Error;
 use std::fmt;
@@ -122,8 +124,8 @@ impl Error for NoMemory {}
 impl NoMemory {
     /// Returns the number of the refusal, 16.
     pub fn number(&self) -> u8
-        ensures { result ≡ no_memory_number }
+        ensures { result ≡ NO_MEMORY }
     {
-        16
+        NO_MEMORY
     }
 }

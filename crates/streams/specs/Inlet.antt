@@ -1,7 +1,8 @@
 -- What a clause reads of an `Inlet`, this project's own.
 use Rattle.std.specs.Prelude.{◌≡◌, ℕ, Bool, true, false, List, ◌++◌, length, Option, codes, decimal}
 use Rattle.std.specs.Io.KnownBytes.{Consumes}
-use Rattle.sfnt_bytes.specs.Text.{no_memory_number, no_memory_text}
+use Rattle.sfnt_bytes.specs.Text.{no_memory_text}
+use Rattle.sfnt_bytes.specs.declared.numbers.TheConstants as numbers
 use Rattle.streams.specs.declared.inlet.Inlet.{Inlet}
 use Rattle.streams.specs.declared.inlet.ReadError.{ReadError}
 use Rattle.streams.specs.declared.inlet.ReadError.TheVariants.{ReadFault, NoMemory}
@@ -31,8 +32,8 @@ StopsAs remaining old new NoMemory = inlet_broken_of new ≡ false
 
 -- the number of a failed read
 abbrev pub read_error_number : ReadError → ℕ
-read_error_number (ReadFault count) = 25
-read_error_number NoMemory = no_memory_number
+read_error_number (ReadFault count) = numbers.READ_FAULT
+read_error_number NoMemory = numbers.NO_MEMORY
 
 -- its text
 abbrev pub read_error_text : ReadError → List ℕ

@@ -3,7 +3,7 @@ ghost use Rattle.std.specs.Prelude.{◌≡◌, ◌+◌, ◌<◌, ◌≤◌, take
 ghost use Rattle.std.specs.Io.KnownBytes.{Consumes, IsAtEnd, Keeps};
 ghost use Rattle.streams.specs.Inlet.{StopsAs, inlet_broken_of, read_error_number, read_error_text, inlet_fresh_of, reader_of};
 
-use sfnt_bytes::MAX_FILE;
+use sfnt_bytes::{MAX_FILE, numbers};
 use std::alloc::Allocator;
 use std::error::Error;
 use std::io::Read;
@@ -36,8 +36,8 @@ impl ReadError {
         ensures { result ≡ read_error_number self.now }
     {
         match self {
-            ReadError::ReadFault(_) => 25,
-            ReadError::NoMemory => 16,
+            ReadError::ReadFault(_) => numbers::READ_FAULT,
+            ReadError::NoMemory => numbers::NO_MEMORY,
         }
     }
 }

@@ -1,7 +1,9 @@
 //! A writer that counts the bytes it took, and stays broken after its first failure.
 ghost use Rattle.std.specs.Prelude.{◌≡◌, ℕ, ◌++◌, List, IsSome, ◌+◌, ◌-◌, ◌^◌, ◌<◌, [], take, false, true, length, IfErr, OnErr, OnOk, Some};
+ghost use Rattle.sfnt_bytes.specs.declared.numbers.TheConstants.{WRITE_FAULT};
 ghost use Rattle.streams.specs.Outlet.{HasSent, WentOut, broken_of, write_fault_text, fresh_of, writer_of, written_of};
 
+use sfnt_bytes::numbers;
 use std::error::Error;
 use std::fmt;
 use std::io::Write;
@@ -16,9 +18,9 @@ pub struct WriteFault {
 impl WriteFault {
     /// Returns the number of this refusal.
     pub fn number(&self) -> u8
-        ensures { result ≡ 19 }
+        ensures { result ≡ WRITE_FAULT }
     {
-        19
+        numbers::WRITE_FAULT
     }
 }
 
