@@ -139,9 +139,3 @@ union_said C D K y h form agree is =
 -- the content of two files, of which a join is made
 pub both_whole : (x y : List ℕ) → both (content_of_all our_format x) (content_of_all our_format y) ≡ both (content (font_of x) everything) (content (font_of y) everything)
 both_whole x y = λ i. both (our_format-whole x i) (our_format-whole y i)
-
-pub united_whole : (u : List ℕ × List ℕ) (x y : List ℕ) → u ≡ (x, y) → both (content (font_of u.0) everything) (content (font_of u.1) everything) ≡ both (content_of_all our_format x) (content_of_all our_format y)
-united_whole u x y e = ap (λ (v : List ℕ × List ℕ). both (content (font_of v.0) everything) (content (font_of v.1) everything)) e ∙ sym (both_whole x y)
-
-pub united_is : (K : Content) (u v : List ℕ × List ℕ) → K ≡ both (content (font_of u.0) everything) (content (font_of u.1) everything) → u ≡ v → K ≡ both (content (font_of v.0) everything) (content (font_of v.1) everything)
-united_is K u v e h = subst (λ (w : List ℕ × List ℕ). K ≡ both (content (font_of w.0) everything) (content (font_of w.1) everything)) h e

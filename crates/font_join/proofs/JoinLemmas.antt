@@ -1,6 +1,7 @@
 -- The first refusal of a join of cuts of one kind, and what its answers tell.
-use Rattle.std.proofs.Common.{◌≡◌, ℕ, ◌<◌, ◌≤◌, ◌⊎◌, inl, inr, Bool, true, false, not, nat_lt, List, [], ◌∷◌, length, refl, sym, ◌∙◌, ap, subst, arith, Option, Some, None}
+use Rattle.std.proofs.Common.{◌≡◌, ℕ, ◌<◌, ◌≤◌, ◌⊎◌, inl, inr, Bool, true, false, not, nat_lt, List, [], ◌∷◌, length, refl, sym, ◌∙◌, ap, subst, arith, Option, Some, None, Result, Ok, Err, MatchResult}
 use Rattle.std.specs.Option.{option_map}
+use Rattle.std.specs.Result.{IsErrAnd}
 use Rattle.std.proofs.lemmas.Bool.{le-ltb, lt-ltb, ltb-false, ltb-true}
 use Rattle.sfnt_bytes.specs.Lines.{first_of_lines, when}
 use Rattle.sfnt_bytes.specs.declared.directory.TheConstants.{MAX_FILE}
@@ -16,12 +17,19 @@ use Rattle.font_theory.specs.declared.Difference.TheVariants.{AtCode, AtGlyph, A
 use Rattle.font_theory.proofs.CutLemmas.{CanJoin-cuts, CanJoin-self, IsCurrent-joined, Under-joined_left, Under-joined_right, Under-least, joined-cuts, joined-self}
 use Rattle.font_theory.proofs.FontLemmas.{size-accepted}
 use Rattle.font_theory.proofs.RefusalLemmas.{CanJoin-tested, different-under, no_cut-under, refused-under, tested-CanJoin}
-use Rattle.font_subset.specs.Cut.{IsTooLarge, IsWritten}
-use Rattle.font_join.specs.Inside.{IsKind}
-use Rattle.font_join.specs.Join.{IsForSize, IsJoin, IsJoinRefusal, IsLeastUpper, RefusalIsRight, IsUnionRefusal, different, join_fault, union_fault}
+use Rattle.font_subset.specs.Cut.{IsCutRefusal, IsTooLarge, IsWritten}
+use Rattle.font_subset.specs.declared.cut_font.CutError.{CutError}
+use Rattle.font_subset.specs.declared.cut_font.CutError.TheVariants as cut_errors
+use Rattle.font_join.specs.Inside.{IsKind, IsNoFont}
+use Rattle.font_join.specs.Join.{IsForSize, IsJoin, IsJoinRefusal, IsLeastUpper, RefusalIsRight, IsUnionRefusal, different, join_fault, of_cut_error, union_fault}
 use Rattle.font_join.specs.declared.join_error.JoinError.{JoinError}
 use Rattle.font_join.specs.declared.join_error.JoinError.TheVariants.{DifferentGlyph, DifferentMapping, DifferentTable, Font, NoMemory, NotACut, TooLarge}
 use Rattle.font_join.specs.declared.join_error.Which.TheVariants.{First, Second}
+
+-- an error that a `?` passes on
+pub passed_on : {T E : Type 0} (P : T → Type 0) (Q : E → Type 0) (r : Result T E) (error : E) → IsErrAnd r (λ e. e ≡ error) → Q error → MatchResult r P Q
+passed_on P Q (Ok x) error is h = absurd is
+passed_on P Q (Err e) error is h = subst Q (sym is) h
 
 -- the lines, at what they test
 abbrev lines_at : Option FontError → Option FontError → Bool → Bool → Option Difference → Bool → ℕ → Option JoinError
@@ -51,15 +59,22 @@ size_last true true (Some d) big size h = cc
 size_last true true None big size h = last_line big size
 
 module _ (R : Format) (x y : List ℕ) where
-  pub first_refused : (error : FontError) → font_fault x ≡ Some error → join_fault R x y ≡ Some (Font First error)
+  first_fault : (fault : FontError) → font_fault x ≡ Some fault → join_fault R x y ≡ Some (Font First fault)
   unfolding join_fault
-  first_refused error h =
+  first_fault fault h =
       λ i. lines_at (h i) (font_fault y) (is_cut R x) (is_cut R y) (difference (content_of_all R x) (content_of_all R y)) (nat_lt MAX_FILE (length (joined R x y))) (length (joined R x y))
 
-  pub second_refused : (error : FontError) → font_fault x ≡ None → font_fault y ≡ Some error → join_fault R x y ≡ Some (Font Second error)
+  second_fault : (fault : FontError) → font_fault x ≡ None → font_fault y ≡ Some fault → join_fault R x y ≡ Some (Font Second fault)
   unfolding join_fault
-  second_refused error e h =
+  second_fault fault e h =
       λ i. lines_at (e i) (h i) (is_cut R x) (is_cut R y) (difference (content_of_all R x) (content_of_all R y)) (nat_lt MAX_FILE (length (joined R x y))) (length (joined R x y))
+
+  -- a file that is not opened is not joined
+  pub first_refused : (error : JoinError) → IsNoFont First x error → IsJoinRefusal R x y error
+  first_refused error told = subst (IsJoinRefusal R x y) (sym told.2) (first_fault told.0 told.1)
+
+  pub second_refused : (error : JoinError) → font_fault x ≡ None → IsNoFont Second y error → IsJoinRefusal R x y error
+  second_refused error e told = subst (IsJoinRefusal R x y) (sym told.2) (second_fault told.0 e told.1)
 
 module _ {R : Format} {spelled : Content → Content} (kind : IsKind R spelled) where
   module _ (x y : List ℕ) where
@@ -104,6 +119,12 @@ module _ {R : Format} {spelled : Content → Content} (kind : IsKind R spelled) 
         let is : s ≡ length (joined R x y) = w.0 ∙ ap length (joined-spelled C spells) in
         let big : nat_lt MAX_FILE (length (joined R x y)) ≡ true = lt-ltb MAX_FILE _ (subst (λ (n : ℕ). MAX_FILE < n) is w.1) in
         fault_after e f h ∙ ap (λ (b : Bool). when b (TooLarge (length (joined R x y)))) big ∙ ap (λ (n : ℕ). Some (TooLarge n)) (sym is)
+
+    -- a join whose file is not made
+    pub unmade : font_fault x ≡ None → font_fault y ≡ None → union_fault R x y ≡ None → (C : Content) → C ≡ spelled (both (content_of_all R x) (content_of_all R y)) → (error : CutError)
+        → IsCutRefusal (file current_layout C) error → IsJoinRefusal R x y (of_cut_error error)
+    unmade e f h C spells cut_errors.NoMemory r = (e, f)
+    unmade e f h C spells (cut_errors.TooLarge s) r = is_too_large e f h C spells s r
 
     -- what follows where there is no refusal
     pub joinable : join_fault R x y ≡ None → CanJoin R x y × (length (joined R x y) ≤ MAX_FILE)

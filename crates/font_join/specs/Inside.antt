@@ -3,10 +3,11 @@ use Rattle.font_join.specs.Join.{different}
 use Rattle.font_join.specs.JoinList.{Stands}
 use Rattle.font_join.specs.Union.{listed_outline}
 use Rattle.font_join.specs.declared.join_error.JoinError.{JoinError}
-use Rattle.font_join.specs.declared.join_error.JoinError.TheVariants.{NoMemory, NotACut, TooLarge}
+use Rattle.font_join.specs.declared.join_error.JoinError.TheVariants.{Font, NoMemory, NotACut, TooLarge}
 use Rattle.font_join.specs.declared.join_error.Which.{Which}
 use Rattle.font_join.specs.declared.join_error.Which.TheVariants.{Second}
 use Rattle.font_file.specs.Font.{font_fault}
+use Rattle.font_file.specs.declared.font_error.FontError.{FontError}
 use Rattle.font_glyph.specs.Union.{Records, union_of}
 use Rattle.font_theory.specs.Content.{everything, font_of, content, CODES, Content}
 use Rattle.font_theory.specs.Cut.{Arises, Format, IsCurrent, IsCut, IsFormat, is_cut, our_format, content_of_all}
@@ -64,6 +65,10 @@ pub record AreTaken (old now : List (Option (List ℕ))) (L : Records) (n : ℕ)
   pub count : length now ≡ length old
   pub below : (g : ℕ) → g < n → listed_outline now g ≡ union_of (listed_outline old) L g
   pub above : (g : ℕ) → n ≤ g → listed_outline now g ≡ listed_outline old g
+
+-- why one of two files is not opened
+abbrev pub IsNoFont : Which → List ℕ → JoinError → Type 0
+IsNoFont which x error = (fault : FontError) × (font_fault x ≡ Some fault) × (error ≡ Font which fault)
 
 -- why a file is not taken for a cut: memory is refused, or it is none
 abbrev pub IsFormRefusal : Format → Which → List ℕ → JoinError → Type 0

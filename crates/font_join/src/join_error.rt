@@ -1,9 +1,13 @@
 //! Why files are not joined.
 ghost use Rattle.std.specs.Prelude.{◌≡◌, Some};
+ghost use Rattle.font_join.specs.Join.{of_cut_error};
 ghost use Rattle.font_join.specs.JoinText.{join_all_error_number, join_all_into_error_number, join_error_number, which_text};
+ghost use Rattle.font_join.specs.declared.join_error.JoinAllIntoError.TheVariants.{NotJoined};
+ghost use Rattle.font_join.specs.declared.join_error.JoinError.TheVariants.{NoMemory as JoinNoMemory};
 
 use font_file::FontError;
-use sfnt_bytes::{Tag, numbers};
+use font_subset::CutError;
+use sfnt_bytes::{NoMemory, Tag, numbers};
 use std::fmt;
 use thiserror::Error;
 
@@ -71,6 +75,25 @@ impl JoinError {
     }
 }
 
+impl From<NoMemory> for JoinError {
+    ghost from_gives = { λ held error. error ≡ JoinNoMemory };
+
+    fn from(_error: NoMemory) -> JoinError {
+        JoinError::NoMemory
+    }
+}
+
+impl From<CutError> for JoinError {
+    ghost from_gives = { λ held error. error ≡ of_cut_error held };
+
+    fn from(error: CutError) -> JoinError {
+        match error {
+            CutError::NoMemory => JoinError::NoMemory,
+            CutError::TooLarge(size) => JoinError::TooLarge(size),
+        }
+    }
+}
+
 /// Why the files of a list are not joined.
 #[derive(Clone, Copy, Debug, PartialEq, Eq, Error)]
 pub enum JoinAllError {
@@ -104,6 +127,14 @@ pub enum JoinAllIntoError {
     /// A write failed after this number of bytes.
     #[error("write fault after {0}")]
     WriteFault(u64),
+}
+
+impl From<JoinAllError> for JoinAllIntoError {
+    ghost from_gives = { λ held error. error ≡ NotJoined held };
+
+    fn from(error: JoinAllError) -> JoinAllIntoError {
+        JoinAllIntoError::NotJoined(error)
+    }
 }
 
 impl JoinAllIntoError {

@@ -9,8 +9,8 @@ ghost use Rattle.font_join.specs.Join.{IsForSize, IsJoin, IsJoinRefusal, IsLeast
 
 use crate::join_error::{JoinError, Which};
 use crate::join_source::Joined;
-use font_file::Font;
-use font_subset::{CutError, file_in_memory};
+use crate::opened::opened;
+use font_subset::file_in_memory;
 use std::alloc::Allocator;
 
 // Returns the join, or the refusal that applies.
@@ -18,23 +18,10 @@ fn join_exactly<A: Allocator + Copy>(alloc: A, x: &[u8], y: &[u8]) -> Result<Vec
     ensures { MatchResult result (λ z. IsJoin our_format x.now y.now z.items)
         (IsJoinRefusal our_format x.now y.now) }
 {
-    let first = match Font::open(x) {
-        Ok(first) => first,
-        Err(error) => return Err(JoinError::Font(Which::First, error)),
-    };
-    let second = match Font::open(y) {
-        Ok(second) => second,
-        Err(error) => return Err(JoinError::Font(Which::Second, error)),
-    };
-    let joined = match Joined::new(alloc, &first, &second) {
-        Ok(joined) => joined,
-        Err(error) => return Err(error),
-    };
-    match file_in_memory(alloc, &joined) {
-        Ok(file) => Ok(file),
-        Err(CutError::NoMemory) => Err(JoinError::NoMemory),
-        Err(CutError::TooLarge(size)) => Err(JoinError::TooLarge(size)),
-    }
+    let first = opened(Which::First, x)?;
+    let second = opened(Which::Second, y)?;
+    let joined = Joined::new(alloc, &first, &second)?;
+    Ok(file_in_memory(alloc, &joined)?)
 }
 
 /// Returns the join of two files in cut form, each as it is written today or as the first profile had

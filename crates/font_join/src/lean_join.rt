@@ -10,8 +10,8 @@ ghost use Rattle.font_join.specs.Join.{IsForSize, IsJoin, IsJoinRefusal, IsLeast
 
 use crate::join_error::{JoinError, Which};
 use crate::lean_union::LeanUnion;
-use font_file::Font;
-use font_subset::{CutError, file_in_memory};
+use crate::opened::opened;
+use font_subset::file_in_memory;
 use std::alloc::Allocator;
 
 // Returns the join, or the refusal that applies.
@@ -19,23 +19,10 @@ fn join_exactly<A: Allocator + Copy>(alloc: A, x: &[u8], y: &[u8]) -> Result<Vec
     ensures { MatchResult result (λ z. IsJoin lean_format x.now y.now z.items)
         (IsJoinRefusal lean_format x.now y.now) }
 {
-    let first = match Font::open(x) {
-        Ok(first) => first,
-        Err(error) => return Err(JoinError::Font(Which::First, error)),
-    };
-    let second = match Font::open(y) {
-        Ok(second) => second,
-        Err(error) => return Err(JoinError::Font(Which::Second, error)),
-    };
-    let joined = match LeanUnion::new(alloc, &first, &second) {
-        Ok(joined) => joined,
-        Err(error) => return Err(error),
-    };
-    match file_in_memory(alloc, &joined) {
-        Ok(file) => Ok(file),
-        Err(CutError::NoMemory) => Err(JoinError::NoMemory),
-        Err(CutError::TooLarge(size)) => Err(JoinError::TooLarge(size)),
-    }
+    let first = opened(Which::First, x)?;
+    let second = opened(Which::Second, y)?;
+    let joined = LeanUnion::new(alloc, &first, &second)?;
+    Ok(file_in_memory(alloc, &joined)?)
 }
 
 /// Returns the join of two lean cuts: the lean cut that has the tables of both, and the codes, the outlines

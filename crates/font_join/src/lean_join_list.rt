@@ -5,27 +5,27 @@ ghost use Rattle.font_theory.specs.Lean.{lean_format, spelled_out};
 ghost use Rattle.font_theory.specs.File.{current_layout, file};
 ghost use Rattle.streams.specs.Outlet.{HasSent, broken_of, fresh_of, writer_of};
 ghost use Rattle.font_join.specs.JoinList.{EveryTreeDiffers, IsAllJoined, IsAllRefusal, IsFirst, IsForSizeInto, IsForSizeOf, IsSentAs, JoinLaws, SendsAll, StopsJoin};
-ghost use Rattle.font_join.specs.Inside.{IsUnited};
 ghost use Rattle.font_join.specs.LeanUnion.{lean_in};
+ghost use Rattle.font_join.specs.Inside.{IsUnited};
 ghost use Rattle.font_join.specs.declared.join_error.JoinAllIntoError.TheVariants.{NotJoined};
 
-use crate::in_turn::{InMemory, open_first, union_from};
-use crate::join_error::{JoinAllError, JoinAllIntoError, JoinError};
+use crate::in_turn::{file_of_all, open_first, send_all, union_from};
+use crate::join_error::{JoinAllError, JoinAllIntoError};
 use crate::lean_union::LeanUnion;
 use font_file::Font;
-use font_subset::{file_in_memory, send_whole};
 use std::alloc::Allocator;
+use std::convert::AsSlice;
 use std::io::Write;
 use streams::Outlet;
 
 // Returns the union of all files, of which the first is open, or the first refusal.
-fn union_of_all<'f, 'a, A: Allocator + Copy, F: InMemory>(
+fn union_of_all<'f, 'a, A: Allocator + Copy, F: AsSlice<u8>>(
     alloc: A,
     first: &'f Font<'a>,
     files: &'a [F],
 ) -> Result<LeanUnion<'f, 'a, A>, JoinAllError>
-    requires { IsFirst (map F.bytes_of files.now) first.now }
-    ensures { let bytes = map F.bytes_of files.now in
+    requires { IsFirst (map F.items files.now) first.now }
+    ensures { let bytes = map F.items files.now in
         MatchResult result (λ union. IsUnited lean_format spelled_out bytes (lean_in union))
         (IsAllRefusal lean_format bytes) }
 {
@@ -43,21 +43,9 @@ fn join_in_turn<A: Allocator + Copy>(
     ensures { let bytes = map (λ v. v.items) files.now in
         MatchResult result (λ z. IsAllJoined lean_format bytes z.items) (IsAllRefusal lean_format bytes) }
 {
-    let first = match open_first(files) {
-        Ok(first) => first,
-        Err(error) => return Err(error),
-    };
-    let all = match union_of_all(alloc, &first, files) {
-        Ok(all) => all,
-        Err(error) => return Err(error),
-    };
-    match file_in_memory(alloc, &all) {
-        Ok(file) => Ok(file),
-        Err(_) => Err(JoinAllError::At {
-            step: files.len() - 1,
-            error: JoinError::NoMemory,
-        }),
-    }
+    let first = open_first(files)?;
+    let all = union_of_all(alloc, &first, files)?;
+    file_of_all(alloc, &all, files)
 }
 
 /// Returns the first lean cut joined with itself, and then the join so far with each next one in turn. Lean
@@ -127,19 +115,9 @@ fn send_in_turn<A: Allocator + Copy, W: Write>(
     ensures stops { let bytes = map (λ v. v.items) files.now in
         IfErr result (StopsJoin lean_format W.contents out.old out.new bytes) }
 {
-    let first = match open_first(files) {
-        Ok(first) => first,
-        Err(error) => return Err(JoinAllIntoError::NotJoined(error)),
-    };
-    let all = match union_of_all(alloc, &first, files) {
-        Ok(all) => all,
-        Err(error) => return Err(JoinAllIntoError::NotJoined(error)),
-    };
-    match send_whole(&all, out) {
-        Ok(size) => Ok(size),
-        // A join that is too large was refused before, and sending asks for no memory.
-        Err(_) => Err(JoinAllIntoError::WriteFault(out.written())),
-    }
+    let first = open_first(files)?;
+    let all = union_of_all(alloc, &first, files)?;
+    send_all(&all, out)
 }
 
 /// Sends the join of a list of lean cuts, and returns how many bytes it has. All memory is asked for before

@@ -98,9 +98,7 @@ fn lean_listed<'f, 'a, A: Allocator + Copy>(
         (IsFormRefusal lean_format which font.entry.now) }
 {
     recall_accepted(font);
-    let Ok((file, lean)) = Listed::with_form(alloc, font) else {
-        return Err(JoinError::NoMemory);
-    };
+    let (file, lean) = Listed::with_form(alloc, font)?;
     if !lean {
         return Err(JoinError::NotACut(which));
     }
@@ -207,9 +205,7 @@ impl<'f, 'a, A: Allocator + Copy> LeanUnion<'f, 'a, A> {
             (λ _. early_difference K (content_of_all lean_format file.now) ≡ None)
             (IsAddRefusal lean_format K file.now) }
     {
-        let Ok(blanks) = Blanks::of(alloc, file) else {
-            return Err(JoinError::NoMemory);
-        };
+        let blanks = Blanks::of(alloc, file)?;
         let first = Blanked::new(self, &self.blanks);
         let second = Blanked::new(file, &blanks);
         match early_difference(&first, &self.map, &second) {
@@ -238,9 +234,7 @@ impl<'f, 'a, A: Allocator + Copy> LeanUnion<'f, 'a, A> {
         }
         let hmtx = either_table(self.hmtx, file.copied(HMTX));
         let vmtx = either_table(self.vmtx, file.copied(VMTX));
-        let Ok(map) = self.map.with(alloc, file.into_runs()) else {
-            return Err(JoinError::NoMemory);
-        };
+        let map = self.map.with(alloc, file.into_runs())?;
         Ok(LeanUnion {
             first: self.first,
             map,
@@ -261,23 +255,12 @@ impl<'f, 'a, A: Allocator + Copy> LeanUnion<'f, 'a, A> {
             (content_of_all lean_format font.entry.now) × IsCut lean_format font.entry.now)
             (IsFormRefusal lean_format First font.entry.now) }
     {
-        let file = match lean_listed(alloc, &*font, Which::First) {
-            Ok(file) => file,
-            Err(error) => return Err(error),
-        };
-        let Ok(hmtx) = owned(alloc, file.copied(HMTX)) else {
-            return Err(JoinError::NoMemory);
-        };
-        let Ok(vmtx) = owned(alloc, file.copied(VMTX)) else {
-            return Err(JoinError::NoMemory);
-        };
-        let Ok(blanks) = Blanks::of(alloc, &file) else {
-            return Err(JoinError::NoMemory);
-        };
+        let file = lean_listed(alloc, &*font, Which::First)?;
+        let hmtx = owned(alloc, file.copied(HMTX))?;
+        let vmtx = owned(alloc, file.copied(VMTX))?;
+        let blanks = Blanks::of(alloc, &file)?;
         let count = file.glyph_count();
-        let Ok(mut outlines) = Outlines::new(alloc, count) else {
-            return Err(JoinError::NoMemory);
-        };
+        let mut outlines = Outlines::new(alloc, count)?;
         // There is nothing yet that its outlines could differ from.
         let _other = outlines.take(&file, count);
         Ok(LeanUnion {
@@ -306,17 +289,9 @@ impl<'f, 'a, A: Allocator + Copy> Growing<'a, A> for LeanUnion<'f, 'a, A> {
             (λ union. Spells lean_format spelled_out (lean_in union) (both K (content_of_all lean_format font.now))
             × (add_fault lean_format K font.now ≡ None)) (IsAddRefusal lean_format K font.now) }
     {
-        let file = match lean_listed(alloc, font, Which::Second) {
-            Ok(file) => file,
-            Err(error) => return Err(error),
-        };
-        if let Err(error) = self.tested(alloc, &file) {
-            return Err(error);
-        }
-        match self.merged(alloc, file) {
-            Ok(union) => Ok(union),
-            Err(error) => Err(error),
-        }
+        let file = lean_listed(alloc, font, Which::Second)?;
+        self.tested(alloc, &file)?;
+        self.merged(alloc, file)
     }
 
     fn settle(self, alloc: A) -> Result<LeanUnion<'f, 'a, A>, NoMemory>
@@ -358,17 +333,8 @@ impl<'a, A: Allocator + Copy> LeanUnion<'a, 'a, A> {
             × (union_fault lean_format x.entry.now y.entry.now ≡ None))
             (IsUnionRefusal lean_format x.entry.now y.entry.now) }
     {
-        let one = match LeanUnion::of_first(alloc, x) {
-            Ok(one) => one,
-            Err(error) => return Err(error),
-        };
-        let both = match one.add(alloc, y) {
-            Ok(both) => both,
-            Err(error) => return Err(error),
-        };
-        match both.settle(alloc) {
-            Ok(union) => Ok(union),
-            Err(_) => Err(JoinError::NoMemory),
-        }
+        let one = LeanUnion::of_first(alloc, x)?;
+        let both = one.add(alloc, y)?;
+        Ok(both.settle(alloc)?)
     }
 }

@@ -15,6 +15,7 @@ mod lean_join_list;
 mod lean_union;
 mod listed;
 mod metrics;
+mod opened;
 mod outlines;
 mod union;
 mod without_codes;

@@ -134,16 +134,12 @@ impl<'f, 'a, A: Allocator + Copy> Union<'f, 'a, A> {
             (IsFormRefusal our_format First font.entry.now) }
     {
         recall_accepted(font);
-        let Ok(file) = Listed::new(alloc, &*font) else {
-            return Err(JoinError::NoMemory);
-        };
+        let file = Listed::new(alloc, &*font)?;
         if !file.is_cut() {
             return Err(JoinError::NotACut(Which::First));
         }
         let count = file.glyph_count();
-        let Ok(mut outlines) = Outlines::new(alloc, count) else {
-            return Err(JoinError::NoMemory);
-        };
+        let mut outlines = Outlines::new(alloc, count)?;
         // There is nothing yet that its outlines could differ from.
         let _other = outlines.take(&file, count);
         Ok(Union {
@@ -170,9 +166,7 @@ impl<'f, 'a, A: Allocator + Copy> Growing<'a, A> for Union<'f, 'a, A> {
             × (add_fault our_format K font.now ≡ None)) (IsAddRefusal our_format K font.now) }
     {
         recall_accepted(font);
-        let Ok(file) = Listed::new(alloc, font) else {
-            return Err(JoinError::NoMemory);
-        };
+        let file = Listed::new(alloc, font)?;
         if let Some(error) = early_refusal(&self, &file) {
             return Err(error);
         }
@@ -181,9 +175,7 @@ impl<'f, 'a, A: Allocator + Copy> Growing<'a, A> for Union<'f, 'a, A> {
         if let Some(g) = outlines.take(&file, count) {
             return Err(JoinError::DifferentGlyph(g));
         }
-        let Ok(map) = self.map.with(alloc, file.into_runs()) else {
-            return Err(JoinError::NoMemory);
-        };
+        let map = self.map.with(alloc, file.into_runs())?;
         Ok(Union {
             first: self.first,
             map,

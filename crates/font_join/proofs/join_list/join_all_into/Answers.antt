@@ -1,4 +1,4 @@
-use Rattle.std.proofs.Common.{◌≤◌, ℕ, List, Result, IfErr, length, map, sym, subst}
+use Rattle.std.proofs.Common.{◌≤◌, ℕ, Result, IfErr, map, sym, subst}
 use Rattle.std.proofs.lemmas.Result.{MatchResult-weaker}
 use Rattle.sfnt_bytes.specs.declared.directory.TheConstants.{MAX_FILE}
 use Rattle.font_theory.specs.Cut.{our_format}

@@ -71,14 +71,14 @@ invariant_of-result g c =
     let agree : Agree K L = agree_tested (lean_in u) K y spells c.requires.form none in
     let are : AreTaken u.held.outlines c.take-other.new.self D.outline c.glyph_count-count.result = c.take-other.ensures.taken (least_none c.different_metrics-metrics.result c.take-other.result least) in
     let taken = taken_merged u y K spells c.requires.form agree c.take-other.new.self c.glyph_count-count.result count c.self.invariant.count are in
-    let maps : map_in c.in-Ok.map ≡ united (map_in u.held.runs) D.map = c.in-Ok.ensures ∙ ap (united (map_in u.held.runs)) c.into_runs.ensures.spelled_map in
+    let maps : map_in c.in_ok-map.map ≡ united (map_in u.held.runs) D.map = c.in_ok-map.ensures ∙ ap (united (map_in u.held.runs)) c.into_runs.ensures.spelled_map in
     let first : option_map (λ b. b.now) c.copied.result ≡ D.copied HMTX = looked_up (λ b. b.now) c.copied.result (D.copied HMTX) c.copied.ensures.table in
     let second : option_map (λ b. b.now) c.copied-2.result ≡ D.copied VMTX = looked_up (λ b. b.now) c.copied-2.result (D.copied VMTX) c.copied-2.ensures.table in
     let across : option_map (λ v. v.items) c.either_table-hmtx.result ≡ option_map (λ t. either_bytes t (unwrap_or (D.copied HMTX) [])) u.hmtx =
     c.either_table-hmtx.ensures ∙ (λ i. option_map (λ t. either_bytes t (unwrap_or (first i) [])) u.hmtx) in
     let down : option_map (λ v. v.items) c.either_table-vmtx.result ≡ option_map (λ t. either_bytes t (unwrap_or (D.copied VMTX) [])) u.vmtx =
     c.either_table-vmtx.ensures ∙ (λ i. option_map (λ t. either_bytes t (unwrap_or (second i) [])) u.vmtx) in
-    union_merged u y K spells c.requires.form agree c.in-Ok.map c.take-other.new.self (option_map (λ v. v.items) c.either_table-hmtx.result) (option_map (λ v. v.items) c.either_table-vmtx.result) maps taken across down c.self.inside.blanks c.self.invariant are.count
+    union_merged u y K spells c.requires.form agree c.in_ok-map.map c.take-other.new.self (option_map (λ v. v.items) c.either_table-hmtx.result) (option_map (λ v. v.items) c.either_table-vmtx.result) maps taken across down c.self.inside.blanks c.self.invariant are.count
 
 pub returns : goal.returns
 returns g c = λ K h.
@@ -96,11 +96,11 @@ returns g c = λ K h.
     let agree : Agree K L = agree_tested (lean_in u) K y spells c.requires.form none in
     let are : AreTaken u.held.outlines c.take-other.new.self D.outline c.glyph_count-count.result = c.take-other.ensures.taken (least_none c.different_metrics-metrics.result c.take-other.result least) in
     let taken = taken_merged u y K spells c.requires.form agree c.take-other.new.self c.glyph_count-count.result count c.self.invariant.count are in
-    let maps : map_in c.in-Ok.map ≡ united (map_in u.held.runs) D.map = c.in-Ok.ensures ∙ ap (united (map_in u.held.runs)) c.into_runs.ensures.spelled_map in
+    let maps : map_in c.in_ok-map.map ≡ united (map_in u.held.runs) D.map = c.in_ok-map.ensures ∙ ap (united (map_in u.held.runs)) c.into_runs.ensures.spelled_map in
     let first : option_map (λ b. b.now) c.copied.result ≡ D.copied HMTX = looked_up (λ b. b.now) c.copied.result (D.copied HMTX) c.copied.ensures.table in
     let second : option_map (λ b. b.now) c.copied-2.result ≡ D.copied VMTX = looked_up (λ b. b.now) c.copied-2.result (D.copied VMTX) c.copied-2.ensures.table in
     let across : option_map (λ v. v.items) c.either_table-hmtx.result ≡ option_map (λ t. either_bytes t (unwrap_or (D.copied HMTX) [])) u.hmtx =
     c.either_table-hmtx.ensures ∙ (λ i. option_map (λ t. either_bytes t (unwrap_or (first i) [])) u.hmtx) in
     let down : option_map (λ v. v.items) c.either_table-vmtx.result ≡ option_map (λ t. either_bytes t (unwrap_or (D.copied VMTX) [])) u.vmtx =
     c.either_table-vmtx.ensures ∙ (λ i. option_map (λ t. either_bytes t (unwrap_or (second i) [])) u.vmtx) in
-    (spells_merged u y K spells c.requires.form agree c.in-Ok.map c.take-other.new.self (option_map (λ v. v.items) c.either_table-hmtx.result) (option_map (λ v. v.items) c.either_table-vmtx.result) maps taken across down, none)
+    (spells_merged u y K spells c.requires.form agree c.in_ok-map.map c.take-other.new.self (option_map (λ v. v.items) c.either_table-hmtx.result) (option_map (λ v. v.items) c.either_table-vmtx.result) maps taken across down, none)

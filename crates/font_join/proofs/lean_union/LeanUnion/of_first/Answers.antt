@@ -20,51 +20,51 @@ use Rattle.font_subset.proofs.SourceLemmas.{glyph_count_is}
 use Rattle.font_join.proofs.lean_union.LeanUnion.of_first.Goals as goal
 
 pub take-other-requires-clause-form : goal.take-other-requires-clause-form
-take-other-requires-clause-form g c = ordinary_form c.in-Ok.file (subst (λ (f : List ℕ). IsCurrent lean_format f) (sym c.in-Ok.ensures.0) c.in-Ok.ensures.1)
+take-other-requires-clause-form g c = ordinary_form c.in_ok-file.file (subst (λ (f : List ℕ). IsCurrent lean_format f) (sym c.in_ok-file.ensures.0) c.in_ok-file.ensures.1)
 
 pub invariant_of-result : goal.invariant_of-result
 invariant_of-result g c =
-    let w : List ℕ = c.in-Ok.file in
+    let w : List ℕ = c.in_ok-file.file in
     let L : Content = content (font_of w) everything in
-    let lean : IsCurrent lean_format w = subst (λ (f : List ℕ). IsCurrent lean_format f) (sym c.in-Ok.ensures.0) c.in-Ok.ensures.1 in
+    let lean : IsCurrent lean_format w = subst (λ (f : List ℕ). IsCurrent lean_format f) (sym c.in_ok-file.ensures.0) c.in_ok-file.ensures.1 in
     let form : IsCut our_format w = ordinary_form w lean in
     let runs : TwoLists = c.of_runs.result in
     let listed : AreRunsOf w c.into_runs.result.items = c.into_runs.ensures in
     let spells : map_in runs ≡ L.map = c.of_runs.ensures ∙ listed.spelled_map in
-    let none : c.take-other.result ≡ None = c.take-other.ensures.differs ∙ none_other c.in-Ok-new.outlines L.outline c.glyph_count-count.result c.in-Ok-new.ensures.none in
-    let are : AreTaken c.in-Ok-new.outlines c.take-other.new.self L.outline c.glyph_count-count.result = c.take-other.ensures.taken none in
+    let none : c.take-other.result ≡ None = c.take-other.ensures.differs ∙ none_other c.in_ok-outlines.outlines L.outline c.glyph_count-count.result c.in_ok-outlines.ensures.none in
+    let are : AreTaken c.in_ok-outlines.outlines c.take-other.new.self L.outline c.glyph_count-count.result = c.take-other.ensures.taken none in
     let taken : (h : ℕ) → listed_outline c.take-other.new.self h ≡ L.outline h = λ h.
-    taken_whole c.in-Ok-new.outlines c.take-other.new.self w c.glyph_count-count.result form c.glyph_count-count.ensures c.in-Ok-new.ensures.count are h
-    ∙ union_of_none (listed_outline c.in-Ok-new.outlines) L.outline h (c.in-Ok-new.ensures.none h) in
-    let hmtx : Option (List ℕ) = option_map (λ v. v.items) c.in-Ok-owned.hmtx in
-    let vmtx : Option (List ℕ) = option_map (λ v. v.items) c.in-Ok-owned-2.vmtx in
-    let across : hmtx ≡ (font_of w).copied HMTX = c.in-Ok-owned.ensures ∙ looked_up (λ b. b.now) c.copied.result ((font_of w).copied HMTX) c.copied.ensures.table in
-    let down : vmtx ≡ (font_of w).copied VMTX = c.in-Ok-owned-2.ensures ∙ looked_up (λ b. b.now) c.copied-2.result ((font_of w).copied VMTX) c.copied-2.ensures.table in
-    let count : length c.take-other.new.self ≡ glyph_count_of w = are.count ∙ c.in-Ok-new.ensures.count ∙ c.glyph_count-count.ensures ∙ sym (glyph_count_is w) in
-    let small : length (unwrap_or hmtx []) ≤ MAX_FILE = small_copied (λ b. b.now) c.copied.result hmtx c.in-Ok-owned.ensures c.copied.ensures.small in
-    let few : length (unwrap_or vmtx []) ≤ MAX_FILE = small_copied (λ b. b.now) c.copied-2.result vmtx c.in-Ok-owned-2.ensures c.copied-2.ensures.small in
-    subst (λ (f : List ℕ). IsLeanUnion (record { held = record { tables = f; runs = runs; outlines = c.take-other.new.self }; hmtx = hmtx; vmtx = vmtx }) c.in-Ok-of.blanks) c.in-Ok.ensures.0
-    (lean_first w lean runs c.take-other.new.self hmtx vmtx spells taken across down c.in-Ok-of.blanks c.in-Ok-of.ensures count small few)
+    taken_whole c.in_ok-outlines.outlines c.take-other.new.self w c.glyph_count-count.result form c.glyph_count-count.ensures c.in_ok-outlines.ensures.count are h
+    ∙ union_of_none (listed_outline c.in_ok-outlines.outlines) L.outline h (c.in_ok-outlines.ensures.none h) in
+    let hmtx : Option (List ℕ) = option_map (λ v. v.items) c.in_ok-hmtx.hmtx in
+    let vmtx : Option (List ℕ) = option_map (λ v. v.items) c.in_ok-vmtx.vmtx in
+    let across : hmtx ≡ (font_of w).copied HMTX = c.in_ok-hmtx.ensures ∙ looked_up (λ b. b.now) c.copied.result ((font_of w).copied HMTX) c.copied.ensures.table in
+    let down : vmtx ≡ (font_of w).copied VMTX = c.in_ok-vmtx.ensures ∙ looked_up (λ b. b.now) c.copied-2.result ((font_of w).copied VMTX) c.copied-2.ensures.table in
+    let count : length c.take-other.new.self ≡ glyph_count_of w = are.count ∙ c.in_ok-outlines.ensures.count ∙ c.glyph_count-count.ensures ∙ sym (glyph_count_is w) in
+    let small : length (unwrap_or hmtx []) ≤ MAX_FILE = small_copied (λ b. b.now) c.copied.result hmtx c.in_ok-hmtx.ensures c.copied.ensures.small in
+    let few : length (unwrap_or vmtx []) ≤ MAX_FILE = small_copied (λ b. b.now) c.copied-2.result vmtx c.in_ok-vmtx.ensures c.copied-2.ensures.small in
+    subst (λ (f : List ℕ). IsLeanUnion (record { held = record { tables = f; runs = runs; outlines = c.take-other.new.self }; hmtx = hmtx; vmtx = vmtx }) c.in_ok-blanks.blanks) c.in_ok-file.ensures.0
+    (lean_first w lean runs c.take-other.new.self hmtx vmtx spells taken across down c.in_ok-blanks.blanks c.in_ok-blanks.ensures count small few)
 
 pub returns : goal.returns
 returns g c =
-    let w : List ℕ = c.in-Ok.file in
+    let w : List ℕ = c.in_ok-file.file in
     let L : Content = content (font_of w) everything in
-    let lean : IsCurrent lean_format w = subst (λ (f : List ℕ). IsCurrent lean_format f) (sym c.in-Ok.ensures.0) c.in-Ok.ensures.1 in
+    let lean : IsCurrent lean_format w = subst (λ (f : List ℕ). IsCurrent lean_format f) (sym c.in_ok-file.ensures.0) c.in_ok-file.ensures.1 in
     let form : IsCut our_format w = ordinary_form w lean in
     let runs : TwoLists = c.of_runs.result in
     let listed : AreRunsOf w c.into_runs.result.items = c.into_runs.ensures in
     let spells : map_in runs ≡ L.map = c.of_runs.ensures ∙ listed.spelled_map in
-    let none : c.take-other.result ≡ None = c.take-other.ensures.differs ∙ none_other c.in-Ok-new.outlines L.outline c.glyph_count-count.result c.in-Ok-new.ensures.none in
-    let are : AreTaken c.in-Ok-new.outlines c.take-other.new.self L.outline c.glyph_count-count.result = c.take-other.ensures.taken none in
+    let none : c.take-other.result ≡ None = c.take-other.ensures.differs ∙ none_other c.in_ok-outlines.outlines L.outline c.glyph_count-count.result c.in_ok-outlines.ensures.none in
+    let are : AreTaken c.in_ok-outlines.outlines c.take-other.new.self L.outline c.glyph_count-count.result = c.take-other.ensures.taken none in
     let taken : (h : ℕ) → listed_outline c.take-other.new.self h ≡ L.outline h = λ h.
-    taken_whole c.in-Ok-new.outlines c.take-other.new.self w c.glyph_count-count.result form c.glyph_count-count.ensures c.in-Ok-new.ensures.count are h
-    ∙ union_of_none (listed_outline c.in-Ok-new.outlines) L.outline h (c.in-Ok-new.ensures.none h) in
-    let hmtx : Option (List ℕ) = option_map (λ v. v.items) c.in-Ok-owned.hmtx in
-    let vmtx : Option (List ℕ) = option_map (λ v. v.items) c.in-Ok-owned-2.vmtx in
-    let across : hmtx ≡ (font_of w).copied HMTX = c.in-Ok-owned.ensures ∙ looked_up (λ b. b.now) c.copied.result ((font_of w).copied HMTX) c.copied.ensures.table in
-    let down : vmtx ≡ (font_of w).copied VMTX = c.in-Ok-owned-2.ensures ∙ looked_up (λ b. b.now) c.copied-2.result ((font_of w).copied VMTX) c.copied-2.ensures.table in (
-      subst (λ (f : List ℕ). Spells lean_format spelled_out (lean_in (record { held = record { tables = f; runs = runs; outlines = c.take-other.new.self }; hmtx = hmtx; vmtx = vmtx })) (content_of_all lean_format f)) c.in-Ok.ensures.0
+    taken_whole c.in_ok-outlines.outlines c.take-other.new.self w c.glyph_count-count.result form c.glyph_count-count.ensures c.in_ok-outlines.ensures.count are h
+    ∙ union_of_none (listed_outline c.in_ok-outlines.outlines) L.outline h (c.in_ok-outlines.ensures.none h) in
+    let hmtx : Option (List ℕ) = option_map (λ v. v.items) c.in_ok-hmtx.hmtx in
+    let vmtx : Option (List ℕ) = option_map (λ v. v.items) c.in_ok-vmtx.vmtx in
+    let across : hmtx ≡ (font_of w).copied HMTX = c.in_ok-hmtx.ensures ∙ looked_up (λ b. b.now) c.copied.result ((font_of w).copied HMTX) c.copied.ensures.table in
+    let down : vmtx ≡ (font_of w).copied VMTX = c.in_ok-vmtx.ensures ∙ looked_up (λ b. b.now) c.copied-2.result ((font_of w).copied VMTX) c.copied-2.ensures.table in (
+      subst (λ (f : List ℕ). Spells lean_format spelled_out (lean_in (record { held = record { tables = f; runs = runs; outlines = c.take-other.new.self }; hmtx = hmtx; vmtx = vmtx })) (content_of_all lean_format f)) c.in_ok-file.ensures.0
           (spells_first w lean runs c.take-other.new.self hmtx vmtx spells taken across down),
-      IsCut-current lean_format c.args.font.now c.in-Ok.ensures.1,
+      IsCut-current lean_format c.args.font.now c.in_ok-file.ensures.1,
     )
