@@ -4,9 +4,9 @@
  * the room that it is given, and keeps nothing. It asks for memory of malloc and gives all of it back. Calls may
  * run in as many threads as wanted: there is no state.
  *
- * What the caller owes: each pointer is not NULL, where its length is 0 too, and is aligned for its type; all of
- * the area that it leads to can be read, or written; no room overlaps another area of the same call; and no
- * length is 2^63 bytes or more.
+ * What the caller owes: no pointer is NULL, except a parameter whose length is 0 (`at` of a fontcut_bytes is never
+ * NULL, for an empty file too); each is aligned for its type; all of the area that it leads to can be read, or
+ * written; no room overlaps another area of the same call; and no length is 2^63 bytes or more.
  *
  * A room that is written to holds all of the answer at its front, and the rest of it is as it was. Where the
  * status is not FONTCUT_DONE all of it is as it was, where memory is refused too.

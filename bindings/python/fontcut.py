@@ -213,7 +213,7 @@ class _File:
             self.held: object = (ctypes.c_char * self.length).from_buffer(view)
             self.at = ctypes.addressof(self.held)  # type: ignore[arg-type]
         else:
-            # The pointer may not be NULL, for no bytes too.
+            # In an array of files the pointer may not be NULL, for no bytes too.
             self.held = ctypes.c_char_p((data if isinstance(data, bytes) else bytes(view)) or b"\0")
             self.at = ctypes.cast(self.held, ctypes.c_void_p).value
 

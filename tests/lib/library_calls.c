@@ -15,6 +15,8 @@
  *                                     bytes; ROOM is a number of glyphs
  *     metrics FONT GLYPHS OUT ROOM    the same, of glyphs and their metrics
  *     info FONT OUT                   OUT gets the bytes of the numbers
+ *     nothing KIND FONT               each call with areas of no bytes, for the font where it takes one: prints `same` where
+ *                                     it answers the same for NULL and for an address
  *     version                         prints the version alone
  *     text STATUS DETAIL SIZE STEP    also prints the text
  *
@@ -391,6 +393,81 @@ static void do_info(int is_first, char **words)
     free(font.at);
 }
 
+/* An address at which nothing is, for areas of no bytes of any type. */
+static uint64_t no_bytes[1];
+
+static void *address(int is_null)
+{
+    return is_null ? NULL : no_bytes;
+}
+
+/* The answers of the calls that make cuts or joins, or ask for them, each with areas of no bytes. */
+static int answers_of_cuts(uint32_t kind, file font, int is_null, fontcut_answer *answers)
+{
+    uint8_t *none = (uint8_t *)address(is_null);
+    const fontcut_range *ranges = (const fontcut_range *)address(is_null);
+    uint64_t *numbers = (uint64_t *)address(is_null);
+    fontcut_bytes cut;
+    cut.at = font.at;
+    cut.length = font.length;
+    answers[0] = fontcut_subset_size(kind, font.at, font.length, ranges, 0);
+    answers[1] = fontcut_subset(kind, font.at, font.length, ranges, 0, none, 0);
+    answers[2] = fontcut_cuts(kind, font.at, font.length, ranges, 0, numbers, 0, none, 0, numbers, 0);
+    answers[3] = fontcut_cuts(kind, none, 0, ranges, 0, numbers, 0, none, 0, numbers, 0);
+    answers[4] = fontcut_cut_form(kind, none, 0);
+    answers[5] = fontcut_belongs(kind, none, 0, font.at, font.length);
+    answers[6] = fontcut_belongs(kind, font.at, font.length, none, 0);
+    answers[7] = fontcut_join(kind, (const fontcut_bytes *)address(is_null), 0, none, 0);
+    answers[8] = fontcut_join(kind, &cut, 1, none, 0);
+    answers[9] = fontcut_cut_size(none, 0, ranges, 0);
+    answers[10] = fontcut_cut(font.at, font.length, ranges, 0, none, 0);
+    answers[11] = fontcut_is_cut(none, 0);
+    answers[12] = fontcut_is_cut_of(none, 0, none, 0);
+    answers[13] = fontcut_join_all((const fontcut_bytes *)address(is_null), 0, none, 0);
+    return 14;
+}
+
+/* The same of the calls that look something up, and of those for fonts that were checked where the font is accepted. */
+static int answers_of_lookups(uint32_t kind, file font, int is_null, fontcut_answer *answers)
+{
+    uint8_t *none = (uint8_t *)address(is_null);
+    const fontcut_range *ranges = (const fontcut_range *)address(is_null);
+    const uint32_t *codes = (const uint32_t *)address(is_null);
+    uint16_t *glyphs = (uint16_t *)address(is_null);
+    fontcut_metric *metrics = (fontcut_metric *)address(is_null);
+    fontcut_font_info info;
+    answers[0] = fontcut_check(none, 0);
+    answers[1] = fontcut_codes(font.at, font.length, (fontcut_range *)address(is_null), 0);
+    answers[2] = fontcut_glyphs(font.at, font.length, codes, 0, glyphs, 0);
+    answers[3] = fontcut_metrics(font.at, font.length, glyphs, 0, metrics, 0);
+    answers[4] = fontcut_info(none, 0, &info);
+    answers[5] = fontcut_refusal_text(answers[0], none, 0);
+    if (!is_accepted(font))
+        return 6;
+    answers[6] = fontcut_subset_size_checked(kind, font.at, font.length, ranges, 0);
+    answers[7] = fontcut_subset_checked(kind, font.at, font.length, ranges, 0, none, 0);
+    answers[8] = fontcut_glyphs_checked(font.at, font.length, codes, 0, glyphs, 0);
+    answers[9] = fontcut_metrics_checked(font.at, font.length, glyphs, 0, metrics, 0);
+    return 10;
+}
+
+static void do_nothing(int is_first, char **words)
+{
+    uint32_t kind = kind_of(words[1]);
+    file font = read_file(words[2]);
+    fontcut_answer of_address[24], of_null[24];
+    int i, count = answers_of_cuts(kind, font, 0, of_address);
+    count += answers_of_lookups(kind, font, 0, of_address + count);
+    answers_of_lookups(kind, font, 1, of_null + answers_of_cuts(kind, font, 1, of_null));
+    for (i = 0; i < count && is_same(of_address[i], of_null[i]); i++) {
+    }
+    if (is_first && i == count)
+        printf("same\n");
+    else if (is_first)
+        printf("otherwise at %d\n", i);
+    free(font.at);
+}
+
 static void do_version(int is_first)
 {
     if (is_first)
@@ -456,6 +533,8 @@ static void do_line(int is_first, char **words, int count)
         do_metrics(is_first, words);
     else if (!strcmp(words[0], "info"))
         do_info(is_first, words);
+    else if (!strcmp(words[0], "nothing"))
+        do_nothing(is_first, words);
     else if (!strcmp(words[0], "version"))
         do_version(is_first);
     else
