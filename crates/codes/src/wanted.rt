@@ -1,6 +1,6 @@
 //! Wanted sets of codes.
 ghost use Rattle.std.specs.Prelude.{◌≡◌, ◌↔◌, Err, IfOk, MatchOption, OnErr, OnOk};
-ghost use Rattle.codes.specs.Text.{wanted_error_number};
+ghost use Rattle.codes.specs.Text.{wanted_error_number, wanted_error_text};
 ghost use Rattle.codes.specs.Wanted.{IsBadRange, IsRow, NoRow, all_codes, but_for, codes_between, either, member, no_codes};
 ghost use Rattle.codes.specs.declared.wanted.WantedError.TheVariants.{BadRange, NoMemory};
 
@@ -9,19 +9,33 @@ use crate::ranges::{Range, add_range, has_code, remove_range, row_by_hint};
 use sfnt_bytes::{NoMemory, numbers};
 use std::alloc::{Allocator, Global};
 use std::cell::Cell;
+use std::error::Error;
+use std::fmt;
 use std::marker::Model;
-use thiserror::Error;
 
 /// Why codes are not added to a set.
-#[derive(Clone, Copy, Debug, PartialEq, Eq, Error)]
+#[derive(Clone, Copy, Debug, PartialEq, Eq)]
 pub enum WantedError {
     /// The first code is above the last, or the last is above 0x10FFFF.
-    #[error("bad range")]
     BadRange,
     /// Memory was refused.
-    #[error("no memory")]
     NoMemory,
 }
+
+impl fmt::Display for WantedError {
+    ghost use Rattle.std.specs.Prelude.{Some};
+
+    ghost output = { λ error. Some (wanted_error_text error) };
+
+    fn fmt<W: fmt::Write>(&self, f: &mut fmt::Formatter<W>) -> fmt::Result {
+        match self {
+            WantedError::BadRange => f.write_str("bad range"),
+            WantedError::NoMemory => f.write_str("no memory"),
+        }
+    }
+}
+
+impl Error for WantedError {}
 
 impl WantedError {
     /// Returns the number of the refusal, 15 or 16.

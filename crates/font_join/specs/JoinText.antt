@@ -1,5 +1,7 @@
 -- The texts and numbers of what refuses a join, this project's own.
-use Rattle.std.specs.Prelude.{ℕ, List, codes}
+use Rattle.std.specs.Prelude.{ℕ, nat_lt, true, List, ◌++◌, codes, decimal, if◌then◌else◌}
+use Rattle.std.specs.Fmt.{digits}
+use Rattle.sfnt_bytes.specs.Text.{no_memory_text, tag_text}
 use Rattle.sfnt_bytes.specs.declared.numbers.TheConstants as numbers
 use Rattle.font_file.specs.Text as font
 use Rattle.font_join.specs.declared.join_error.JoinAllError.{JoinAllError}
@@ -15,6 +17,29 @@ use Rattle.font_join.specs.declared.join_error.Which.TheVariants.{First, Second}
 abbrev pub which_text : Which → List ℕ
 which_text First = codes "first"
 which_text Second = codes "second"
+
+-- a code in four upper-case hexadecimal digits or more
+abbrev pub code_text : ℕ → List ℕ
+code_text code =
+    if nat_lt code 0x10 then codes "000" ++ digits 16 true code
+    else (if nat_lt code 0x100 then codes "00" ++ digits 16 true code
+    else (if nat_lt code 0x1000 then codes "0" ++ digits 16 true code
+    else digits 16 true code))
+
+-- the text of a refusal of a join
+abbrev pub join_error_text : JoinError → List ℕ
+join_error_text (Font which error) = font.error_text error
+join_error_text (NotACut which) = codes "not a cut: " ++ which_text which
+join_error_text (DifferentTable tag) = codes "different table " ++ tag_text tag
+join_error_text (DifferentMapping code) = codes "different mapping U+" ++ code_text code
+join_error_text (DifferentGlyph g) = codes "different glyph " ++ decimal g
+join_error_text (TooLarge size) = codes "too large " ++ decimal size
+join_error_text NoMemory = no_memory_text
+
+-- and of a list of files
+abbrev pub join_all_error_text : JoinAllError → List ℕ
+join_all_error_text NothingToJoin = codes "nothing to join"
+join_all_error_text (At step error) = join_error_text error
 
 -- the number of a refusal of a join
 abbrev pub join_error_number : JoinError → ℕ

@@ -1,15 +1,15 @@
 //! Why files are not joined.
 ghost use Rattle.std.specs.Prelude.{◌≡◌, Some};
 ghost use Rattle.font_join.specs.Join.{of_cut_error};
-ghost use Rattle.font_join.specs.JoinText.{join_all_error_number, join_all_into_error_number, join_error_number, which_text};
+ghost use Rattle.font_join.specs.JoinText.{code_text, join_all_error_number, join_all_error_text, join_all_into_error_number, join_error_number, join_error_text, which_text};
 ghost use Rattle.font_join.specs.declared.join_error.JoinAllIntoError.TheVariants.{NotJoined};
 ghost use Rattle.font_join.specs.declared.join_error.JoinError.TheVariants.{NoMemory as JoinNoMemory};
 
 use font_file::FontError;
 use font_subset::CutError;
 use sfnt_bytes::{NoMemory, Tag, numbers};
+use std::error::Error;
 use std::fmt;
-use thiserror::Error;
 
 /// One of the two files of a join.
 #[derive(Clone, Copy, Debug, PartialEq, Eq)]
@@ -33,28 +33,21 @@ impl fmt::Display for Which {
 
 /// Why two files are not joined: the first refusal that applies, in this order. Memory may be refused at
 /// any time after the refusals of both fonts.
-#[derive(Clone, Copy, Debug, PartialEq, Eq, Error)]
+#[derive(Clone, Copy, Debug, PartialEq, Eq)]
 pub enum JoinError {
     /// One file is no font that is accepted.
-    #[error("{1}")]
     Font(Which, FontError),
     /// One file is no cut in any form.
-    #[error("not a cut: {0}")]
     NotACut(Which),
     /// One file lacks this table, the least such one, or its bytes are others.
-    #[error("different table {0}")]
     DifferentTable(Tag),
     /// Both files map this code, the least such one, to two glyphs.
-    #[error("different mapping U+{0:04X}")]
     DifferentMapping(u32),
     /// Both files keep this glyph, the least such one, with two outlines.
-    #[error("different glyph {0}")]
     DifferentGlyph(u16),
     /// The joined file would have this number of bytes, more than [`MAX_FILE`](crate::MAX_FILE).
-    #[error("too large {0}")]
     TooLarge(u64),
     /// Memory was refused.
-    #[error("no memory")]
     NoMemory,
 }
 
@@ -94,15 +87,52 @@ impl From<CutError> for JoinError {
     }
 }
 
+// A code, in four upper-case hexadecimal digits or more.
+#[derive(Clone, Copy)]
+struct Code(u32);
+
+impl fmt::Display for Code {
+    ghost output = { λ c. Some (code_text c.0) };
+
+    fn fmt<W: fmt::Write>(&self, f: &mut fmt::Formatter<W>) -> fmt::Result {
+        let code = self.0;
+        if code < 0x10 {
+            write!(f, "000{code:X}")
+        } else if code < 0x100 {
+            write!(f, "00{code:X}")
+        } else if code < 0x1000 {
+            write!(f, "0{code:X}")
+        } else {
+            write!(f, "{code:X}")
+        }
+    }
+}
+
+impl fmt::Display for JoinError {
+    ghost output = { λ error. Some (join_error_text error) };
+
+    fn fmt<W: fmt::Write>(&self, f: &mut fmt::Formatter<W>) -> fmt::Result {
+        match self {
+            JoinError::Font(_, error) => write!(f, "{error}"),
+            JoinError::NotACut(which) => write!(f, "not a cut: {which}"),
+            JoinError::DifferentTable(tag) => write!(f, "different table {tag}"),
+            JoinError::DifferentMapping(code) => write!(f, "different mapping U+{}", Code(*code)),
+            JoinError::DifferentGlyph(glyph) => write!(f, "different glyph {glyph}"),
+            JoinError::TooLarge(size) => write!(f, "too large {size}"),
+            JoinError::NoMemory => f.write_str("no memory"),
+        }
+    }
+}
+
+impl Error for JoinError {}
+
 /// Why the files of a list are not joined.
-#[derive(Clone, Copy, Debug, PartialEq, Eq, Error)]
+#[derive(Clone, Copy, Debug, PartialEq, Eq)]
 pub enum JoinAllError {
     /// The list is empty.
-    #[error("nothing to join")]
     NothingToJoin,
     /// The join of all files before this one with this one was refused. `step` is its index in the list;
     /// step 0 joins the first file with itself.
-    #[error("{error}")]
     At { step: usize, error: JoinError },
 }
 
@@ -118,8 +148,21 @@ impl JoinAllError {
     }
 }
 
+impl fmt::Display for JoinAllError {
+    ghost output = { λ error. Some (join_all_error_text error) };
+
+    fn fmt<W: fmt::Write>(&self, f: &mut fmt::Formatter<W>) -> fmt::Result {
+        match self {
+            JoinAllError::NothingToJoin => f.write_str("nothing to join"),
+            JoinAllError::At { step: _, error } => write!(f, "{error}"),
+        }
+    }
+}
+
+impl Error for JoinAllError {}
+
 /// Why the join of a list of files is not sent.
-#[derive(Clone, Copy, Debug, PartialEq, Eq, Error)]
+#[derive(Clone, Copy, Debug, PartialEq, Eq, thiserror::Error)]
 pub enum JoinAllIntoError {
     /// The files are not joined. Nothing was sent.
     #[error("{0}")]
