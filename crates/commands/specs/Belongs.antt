@@ -41,6 +41,10 @@ abbrev pub RefusesOneOf : List ℕ → List ℕ → Which → FontError → Type
 RefusesOneOf cut font First error = font_fault cut ≡ Some error
 RefusesOneOf cut font Second error = (font_fault cut ≡ None) × (font_fault font ≡ Some error)
 
+-- why one of two files is not opened
+abbrev pub IsNoFont : Which → List ℕ → RunError → Type 0
+IsNoFont which file error = (fault : FontError) × (font_fault file ≡ Some fault) × (error ≡ OneOf which fault)
+
 -- why there is no answer of two files: memory is refused, or one of them is
 abbrev pub IsUnanswered : List ℕ → List ℕ → RunError → Type 0
 IsUnanswered cut font Memory = Unit {0}

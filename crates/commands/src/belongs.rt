@@ -1,8 +1,9 @@
 //! `belongs`: whether a file is a cut of a font.
-ghost use Rattle.std.specs.Prelude.{◌≡◌, IfErr, IfOk, MatchResult, OnOk, false, true};
+ghost use Rattle.std.specs.Prelude.{◌≡◌, None, IfErr, IfOk, MatchResult, OnOk, false, true};
 ghost use Rattle.streams.specs.Outlet.{WentOut, broken_of, fresh_of};
 ghost use Rattle.font_subset.specs.Cut.{IsCutForSome};
-ghost use Rattle.commands.specs.Belongs.{Answers, BelongsStops, IsUnanswered, answer_text, got_both};
+ghost use Rattle.font_cut.specs.Fonts.{font_fault};
+ghost use Rattle.commands.specs.Belongs.{Answers, BelongsStops, IsNoFont, IsUnanswered, answer_text, got_both};
 ghost use Rattle.streams.specs.Inlet.{inlet_fresh_of};
 ghost use Rattle.commands.specs.Join.{IsSpent};
 
@@ -12,18 +13,27 @@ use std::alloc::Allocator;
 use std::io::{Read, Write};
 use streams::Inlet;
 
+/// Opens one of two files.
+///
+/// # Errors
+///
+/// `OneOf` where it is refused as a font.
+pub(crate) fn opened(which: Which, file: &[u8]) -> Result<Font<'_>, RunError>
+    ensures { MatchResult result (λ font. (font ≡ file.now) × (font_fault file.now ≡ None))
+        (IsNoFont which file.now) }
+{
+    match Font::open(file) {
+        Ok(font) => Ok(font),
+        Err(error) => Err(RunError::OneOf(which, error)),
+    }
+}
+
 // Returns whether a file is a cut of another. The first one is opened first.
 fn is_cut_in<A: Allocator + Copy>(alloc: A, cut: &[u8], font: &[u8]) -> Result<bool, RunError>
     ensures { MatchResult result (Answers cut.now font.now) (IsUnanswered cut.now font.now) }
 {
-    let cut = match Font::open(cut) {
-        Ok(cut) => cut,
-        Err(error) => return Err(RunError::OneOf(Which::First, error)),
-    };
-    let font = match Font::open(font) {
-        Ok(font) => font,
-        Err(error) => return Err(RunError::OneOf(Which::Second, error)),
-    };
+    let cut = opened(Which::First, cut)?;
+    let font = opened(Which::Second, font)?;
     Ok(is_cut_of(alloc, &cut, &font)?)
 }
 

@@ -6,9 +6,9 @@ ghost use Rattle.commands.specs.Belongs.{AnswersLean, BelongsStops, IsUnanswered
 ghost use Rattle.streams.specs.Inlet.{inlet_fresh_of};
 ghost use Rattle.commands.specs.Join.{IsSpent};
 
-use crate::belongs::answer;
+use crate::belongs::{answer, opened};
 use crate::run_error::{RunError, send};
-use font_cut::{Font, Outlet, Which, lean};
+use font_cut::{Outlet, Which, lean};
 use std::alloc::Allocator;
 use std::io::{Read, Write};
 use streams::Inlet;
@@ -17,14 +17,8 @@ use streams::Inlet;
 fn is_cut_in<A: Allocator + Copy>(alloc: A, cut: &[u8], font: &[u8]) -> Result<bool, RunError>
     ensures { MatchResult result (AnswersLean cut.now font.now) (IsUnanswered cut.now font.now) }
 {
-    let cut = match Font::open(cut) {
-        Ok(cut) => cut,
-        Err(error) => return Err(RunError::OneOf(Which::First, error)),
-    };
-    let font = match Font::open(font) {
-        Ok(font) => font,
-        Err(error) => return Err(RunError::OneOf(Which::Second, error)),
-    };
+    let cut = opened(Which::First, cut)?;
+    let font = opened(Which::Second, font)?;
     Ok(lean::is_cut_of(alloc, &cut, &font)?)
 }
 
