@@ -1,13 +1,8 @@
 -- Advance widths and left side bearings (OpenType 1.9, `hmtx`).
 use Rattle.std.specs.Prelude.{ℕ, ◌+◌, ◌-◌, ◌*◌, ℤ, nat_lt, List, if◌then◌else◌}
-use Rattle.std.specs.Int.{w16, cast_signed}
 use Rattle.sfnt_bytes.specs.Number.{u16_at}
-use Rattle.font_tables.specs.Fields.{metric_count_of}
+use Rattle.font_tables.specs.Fields.{i16_at, metric_count_of}
 use Rattle.font_tables.specs.Tables.{hmtx_of}
-
--- the i16 at a place, in two's complement
-unfoldable pub i16_at : List ℕ → ℕ → ℤ
-i16_at bytes at = cast_signed w16 (u16_at bytes at)
 
 -- hMetrics[i].advanceWidth
 unfoldable pub advance_width : List ℕ → ℕ → ℕ

@@ -1,6 +1,7 @@
 //! The horizontal metrics. OpenType 1.9, `hmtx`.
 ghost use Rattle.std.specs.Prelude.{◌≡◌, ◌+◌, ◌*◌, ◌≤◌, length};
-ghost use Rattle.font_tables.specs.Metrics.{advance_width, i16_at, left_side_bearing, lsb, metric_in};
+ghost use Rattle.font_tables.specs.Fields.{i16_at};
+ghost use Rattle.font_tables.specs.Metrics.{advance_width, left_side_bearing, lsb, metric_in};
 ghost use Rattle.font_tables.specs.Inside.{HasMetric};
 ghost use Rattle.font_tables.specs.Refusals.{is_bad_hmtx};
 
@@ -12,7 +13,7 @@ const PAIR: usize = 4;
 /// How many bytes a bearing after the pairs has.
 const BEARING: usize = 2;
 
-#[tactic(auto, unfolding(crate::specs::Metrics::i16_at))]
+#[tactic(auto, unfolding(crate::specs::Fields::i16_at))]
 fn read_i16(b: &[u8], at: usize) -> i16
     requires { at + 2 ≤ length b.now }
     ensures { result ≡ i16_at b.now at }

@@ -3,8 +3,8 @@ use Rattle.std.proofs.Common.{◌≡◌, ℕ, ◌+◌, ◌-◌, ◌*◌, ◌<◌
 use Rattle.std.specs.Int.{w16, cast_signed}
 use Rattle.std.proofs.lemmas.Bool.{cases_lt, eqb-false, or_parts, le-ltb, lt-leb, lt-ltb, ne_eqb}
 use Rattle.sfnt_bytes.specs.Number.{u16_at}
-use Rattle.font_tables.specs.Fields.{number_of_h_metrics}
-use Rattle.font_tables.specs.Metrics.{advance_width, i16_at, left_side_bearing, lsb, metric_in, metric_of}
+use Rattle.font_tables.specs.Fields.{i16_at, number_of_h_metrics}
+use Rattle.font_tables.specs.Metrics.{advance_width, left_side_bearing, lsb, metric_in, metric_of}
 use Rattle.font_file.specs.Font.{font_fault}
 use Rattle.font_glyph.specs.Union.{Records, record_in}
 use Rattle.font_theory.specs.Content.{Content, Font, IsFont, content, font_of, glyph_count, is_kept, metric_count, read_back, table_in_slot}

@@ -2,7 +2,7 @@
 ghost use Rattle.std.specs.Prelude.{◌≡◌, ◌+◌, ◌<◌, ◌≤◌, None, length};
 ghost use Rattle.sfnt_bytes.specs.Directory.{kept_tag};
 ghost use Rattle.sfnt_bytes.specs.declared.tag.TheConstants.{SLOTS};
-ghost use Rattle.font_tables.specs.Metrics.{i16_at};
+ghost use Rattle.font_tables.specs.Fields.{i16_at};
 ghost use Rattle.font_tables.specs.Refusals.{table_fault};
 ghost use Rattle.font_tables.specs.Tables.{head_of, hhea_of, table_or_empty};
 ghost use Rattle.fontcut_c.specs.Info.{info_of};
@@ -33,7 +33,7 @@ pub struct Info {
 }
 
 // Returns the signed number of 16 bits at a place.
-#[tactic(auto, unfolding(font_tables::specs::Metrics::i16_at))]
+#[tactic(auto, unfolding(font_tables::specs::Fields::i16_at))]
 fn signed_at(bytes: &[u8], at: usize) -> i16
     requires { at + 2 ≤ length bytes.now }
     ensures { result ≡ i16_at bytes.now at }
