@@ -504,7 +504,7 @@ def _is_number(thing: object) -> bool:
 def _is_written(thing: object) -> bool:
     """Whether it is a number that can be written to a file, where none has an exponent (ISO 32000-1, 7.3.3), as Python
     writes very small and very large ones, and the 0 of 0.0000000 too, for which 0 is written."""
-    return _is_number(thing) and abs(thing) < 10 ** 9 and (thing == 0 or "E" not in str(thing))
+    return _is_number(thing) and abs(thing) < 10 ** 9 and (thing == 0 or "E" not in str(thing).upper())
 
 
 def _rows(parts: List[Object]) -> Iterator[Tuple[int, List[Number]]]:

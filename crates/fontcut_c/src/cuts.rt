@@ -43,10 +43,7 @@ fn opened_for_sets<'a>(
     if places != counts.len() || !add_up(counts, ranges.len()) {
         return Err(CutsRefusal::BadCounts);
     }
-    match opened(file, ranges) {
-        Ok(font) => Ok(font),
-        Err(refusal) => Err(CutsRefusal::Cut(refusal)),
-    }
+    opened(file, ranges).map_err(CutsRefusal::Cut)
 }
 
 // Puts the codes of ranges after those of other sets.
@@ -54,14 +51,7 @@ fn push_set(alloc: Global, ranges: &[CodeRange], sets: &mut Vec<Wanted>) -> Resu
     ensures { OnOk result (map member sets.new.items
         ≡ map member sets.old.items ++ wanted_by ranges.now ∷ []) }
 {
-    let set = match wanted_of(alloc, ranges) {
-        Ok(set) => set,
-        Err(error) => return Err(error),
-    };
-    match sets.push(set) {
-        Ok(()) => Ok(()),
-        Err(_) => Err(NoMemory),
-    }
+    sets.push(wanted_of(alloc, ranges)?).map_err(|_| NoMemory)
 }
 
 // Returns the codes of each set.
@@ -73,9 +63,7 @@ fn sets_in(alloc: Global, ranges: &[CodeRange], counts: &[u64]) -> Result<Vec<Wa
     let mut from = 0;
     for index in 0..counts.len() {
         let end = from + counts[index] as usize;
-        if push_set(alloc, &ranges[from..end], &mut sets).is_err() {
-            return Err(NoMemory);
-        }
+        push_set(alloc, &ranges[from..end], &mut sets)?;
         from = end;
     }
     Ok(sets)
@@ -91,13 +79,8 @@ fn full_sources<'f, 'a>(
 {
     let mut sources = Vec::new(alloc);
     for set in sets {
-        let source = match CutOf::new(alloc, font, set) {
-            Ok(source) => source,
-            Err(error) => return Err(error),
-        };
-        if sources.push(source).is_err() {
-            return Err(NoMemory);
-        }
+        let source = CutOf::new(alloc, font, set)?;
+        sources.push(source).map_err(|_| NoMemory)?;
     }
     Ok(sources)
 }
@@ -112,13 +95,8 @@ fn lean_sources<'f, 'a>(
 {
     let mut sources = Vec::new(alloc);
     for set in sets {
-        let source = match lean::CutOf::new(alloc, font, set) {
-            Ok(source) => source,
-            Err(error) => return Err(error),
-        };
-        if sources.push(source).is_err() {
-            return Err(NoMemory);
-        }
+        let source = lean::CutOf::new(alloc, font, set)?;
+        sources.push(source).map_err(|_| NoMemory)?;
     }
     Ok(sources)
 }
@@ -164,10 +142,7 @@ fn write_all<S: Source>(sources: &[S], out: &mut [u8], sizes: &mut [u64]) -> Res
         (λ refusal. (out.new ≡ out.old) × (sizes.new ≡ sizes.old)
         × RefusesFiles files (length out.old) refusal) }
 {
-    let total = match measured_all(sources) {
-        Ok(total) => total,
-        Err(size) => return Err(Refusal::TooLarge(size)),
-    };
+    let total = measured_all(sources).map_err(Refusal::TooLarge)?;
     if (out.len() as u64) < total {
         return Err(Refusal::SmallRoom(total));
     }
@@ -221,12 +196,6 @@ pub(crate) fn cuts_to(
         (λ refusal. (out.new ≡ out.old) × (sizes.new ≡ sizes.old)
         × RefusesSets kind file.now ranges.now counts.now (length sizes.old) (length out.old) refusal) }
 {
-    let font = match opened_for_sets(file, ranges, counts, sizes.len()) {
-        Ok(font) => font,
-        Err(refusal) => return Err(refusal),
-    };
-    match write_cuts(alloc, kind, &font, ranges, counts, out, sizes) {
-        Ok(size) => Ok(size),
-        Err(refusal) => Err(CutsRefusal::Cut(refusal)),
-    }
+    let font = opened_for_sets(file, ranges, counts, sizes.len())?;
+    write_cuts(alloc, kind, &font, ranges, counts, out, sizes).map_err(CutsRefusal::Cut)
 }
