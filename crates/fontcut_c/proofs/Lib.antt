@@ -6,4 +6,4 @@ mod InfoLemmas
 mod MappedLemmas
 mod RowLemmas
 mod SetLemmas
-mod TextLemmas
+mod StepLemmas

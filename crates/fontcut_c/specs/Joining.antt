@@ -5,6 +5,7 @@ use Rattle.font_theory.specs.Cut.{Format}
 use Rattle.font_join.specs.JoinList.{IsAllJoined, IsAllRefusal}
 use Rattle.fontcut_c.specs.Answers.{IsInRoom, join_answer}
 use Rattle.fontcut_c.specs.Kinds.{format_of}
+use Rattle.fontcut_c.specs.Text.{join_text, refusal_text}
 use Rattle.fontcut_c.specs.declared.answer.Answer.{Answer}
 use Rattle.fontcut_c.specs.declared.kind.Kind.{Kind}
 use Rattle.fontcut_c.specs.declared.refusal.JoinRefusal.{JoinRefusal}
@@ -34,5 +35,6 @@ RefusesJoin R files room (SmallRoom size) = IsLargerJoin R files room size
 pub record AnswersJoin (kind : Kind) (files : List (List ℕ)) (old new : List ℕ) (answer : Answer) : Type 0 where
   pub outcome : Result ℕ JoinRefusal
   pub told : answer ≡ join_answer outcome
+  pub text : refusal_text answer ≡ join_text outcome
   pub holds : MatchResult outcome (IsJoinInRoom (format_of kind) files old new)
       (λ refusal. (new ≡ old) × RefusesJoin (format_of kind) files (length old) refusal)

@@ -1,6 +1,7 @@
 pub mod Answers
 pub mod Cuts
 pub mod Cutting
+pub mod Errors
 pub mod Forms
 pub mod Glyphs
 pub mod Info

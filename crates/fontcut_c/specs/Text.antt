@@ -1,74 +1,65 @@
 -- The texts of refusals, by what was answered, this project's own.
-use Rattle.std.specs.Prelude.{◌≡◌, ℕ, ◌<◌, nat_eq, nat_lt, true, ◌||◌, List, [], ◌∷◌, ◌++◌, length, slice_index_or, codes, decimal, Result, MatchResult, if◌then◌else◌}
-use Rattle.std.specs.Fmt.{digits}
-use Rattle.std.specs.Int.{to_be_bytes, w32}
-use Rattle.sfnt_bytes.specs.Text.{tag_text}
-use Rattle.sfnt_bytes.specs.declared.tag.Tag.{Tag}
+use Rattle.std.specs.Prelude.{◌≡◌, ℕ, ◌<◌, List, [], length, Option, Some, None, Result, Ok, Err, MatchResult}
+use Rattle.codes.specs.Text.{wanted_error_text}
+use Rattle.codes.specs.declared.wanted.WantedError.TheVariants as wanted
+use Rattle.font_file.specs.Text.{error_text}
+use Rattle.font_file.specs.declared.font_error.FontError.{FontError}
+use Rattle.font_join.specs.JoinText.{join_all_error_text, join_error_text}
+use Rattle.font_join.specs.declared.join_error.JoinAllError.{JoinAllError}
+use Rattle.font_join.specs.declared.join_error.JoinAllError.TheVariants.{At, NothingToJoin}
+use Rattle.font_join.specs.declared.join_error.JoinError.{JoinError}
+use Rattle.font_join.specs.declared.join_error.JoinError.TheVariants as joins
 use Rattle.fontcut_c.specs.Answers.{IsInRoom, size_answer}
+use Rattle.fontcut_c.specs.Errors.{any_error_text, error_of, which_at}
 use Rattle.fontcut_c.specs.declared.answer.Answer.{Answer}
+use Rattle.fontcut_c.specs.declared.any_error.AnyError.{AnyError}
+use Rattle.fontcut_c.specs.declared.refusal.JoinRefusal.{JoinRefusal}
+use Rattle.fontcut_c.specs.declared.refusal.JoinRefusal.TheVariants as of_join
 use Rattle.fontcut_c.specs.declared.refusal.Refusal.{Refusal}
-use Rattle.fontcut_c.specs.declared.refusal.Refusal.TheVariants.{NoMemory, SmallRoom}
+use Rattle.fontcut_c.specs.declared.refusal.Refusal.TheVariants.{BadRange, Font, NoMemory, SmallRoom, TooLarge}
 
--- the words that the texts of the refusals begin with, by number; none where that is no refusal that is
--- answered here
-abbrev pub all_words : List (List ℕ)
-all_words =
-    [] ∷
-    codes "file too large" ∷
-    codes "truncated" ∷
-    codes "collection" ∷
-    codes "not TrueType" ∷
-    codes "duplicate table " ∷
-    codes "table out of file " ∷
-    codes "missing table " ∷
-    codes "bad head" ∷
-    codes "bad maxp" ∷
-    codes "bad hhea" ∷
-    codes "bad hmtx" ∷
-    codes "bad loca at " ∷
-    codes "no mapping" ∷
-    codes "bad cmap" ∷
-    codes "bad range" ∷
-    codes "no memory" ∷
-    codes "bad glyph " ∷
-    codes "too large " ∷
-    [] ∷
-    codes "not a cut: " ∷
-    codes "different table " ∷
-    codes "different mapping U+" ∷
-    codes "different glyph " ∷
-    codes "nothing to join" ∷ []
+-- the text of an error, where there is one
+abbrev pub text_of : Option AnyError → List ℕ
+text_of None = []
+text_of (Some error) = any_error_text error
 
--- those of a number
-unfoldable pub words_of : ℕ → List ℕ
-words_of number = slice_index_or all_words number []
-
--- a code in four upper-case hexadecimal digits or more
-abbrev pub code_text : ℕ → List ℕ
-code_text code =
-    if nat_lt code 0x10 then codes "000" ++ digits 16 true code
-    else (if nat_lt code 0x100 then codes "00" ++ digits 16 true code
-    else (if nat_lt code 0x1000 then codes "0" ++ digits 16 true code
-    else digits 16 true code))
-
--- the tag of a number
-abbrev pub tag_of : ℕ → Tag
-tag_of number = record { 0 = to_be_bytes w32 number }
-
--- what follows the words: a tag, a number, a size, a code, or which file is no cut
-abbrev pub argument_text : Answer → List ℕ
-argument_text answer =
-    let number = answer.status in
-    if nat_eq number 5 || (nat_eq number 6 || (nat_eq number 7 || nat_eq number 21)) then tag_text (tag_of answer.detail)
-    else (if nat_eq number 12 || (nat_eq number 17 || nat_eq number 23) then decimal answer.detail
-    else (if nat_eq number 18 then decimal answer.size
-    else (if nat_eq number 22 then code_text answer.detail
-    else (if nat_eq number 20 then (if nat_eq answer.step 0 then codes "first" else codes "second")
-    else []))))
-
--- the text of a refusal
+-- the text of a refusal: that of the error that was answered
 unfoldable pub refusal_text : Answer → List ℕ
-refusal_text answer = words_of answer.status ++ argument_text answer
+refusal_text answer = text_of (error_of answer)
+
+-- the text of a check, and none where the font is accepted
+abbrev pub check_text : Option FontError → List ℕ
+check_text None = []
+check_text (Some error) = error_text error
+
+-- the text of a refusal of a call on one font, and none where the room is too small
+abbrev pub text_of_refusal : Refusal → List ℕ
+text_of_refusal (Font error) = error_text error
+text_of_refusal (BadRange index) = wanted_error_text wanted.BadRange
+text_of_refusal NoMemory = wanted_error_text wanted.NoMemory
+text_of_refusal (TooLarge size) = join_error_text (joins.TooLarge size)
+text_of_refusal (SmallRoom size) = []
+
+-- the refusal of a join names the file that is no cut as its step does
+abbrev pub NamesByStep : ℕ → JoinError → Type 0
+NamesByStep step (joins.NotACut which) = which ≡ which_at step
+NamesByStep step _ = Unit {0}
+
+-- the same of a list
+abbrev pub NamesByItsStep : JoinAllError → Type 0
+NamesByItsStep NothingToJoin = Unit {0}
+NamesByItsStep (At step error) = NamesByStep step error
+
+-- the same of what refuses a join
+abbrev pub NamesFile : JoinRefusal → Type 0
+NamesFile (of_join.Join error) = NamesByItsStep error
+NamesFile (of_join.SmallRoom size) = Unit {0}
+
+-- the text of what a call for a join answers, and none where it is done or the room is too small
+abbrev pub join_text : Result ℕ JoinRefusal → List ℕ
+join_text (Ok size) = []
+join_text (Err (of_join.Join error)) = join_all_error_text error
+join_text (Err (of_join.SmallRoom size)) = []
 
 -- why a text is not written: memory is refused, or the room is too small
 abbrev pub RefusesText : Answer → ℕ → Refusal → Type 0

@@ -1,9 +1,10 @@
 //! The join of a list of files, of a kind, written to the caller's room.
-ghost use Rattle.std.specs.Prelude.{◌≡◌, MatchResult, length, map};
+ghost use Rattle.std.specs.Prelude.{◌≡◌, IfErr, MatchResult, length, map};
 ghost use Rattle.font_theory.specs.File.{current_layout, file};
 ghost use Rattle.fontcut_c.specs.Inside.{IsFileInRoom, IsSmallFile, RefusesJoined};
 ghost use Rattle.fontcut_c.specs.Joining.{IsJoinInRoom, RefusesJoin};
 ghost use Rattle.fontcut_c.specs.Kinds.{format_of};
+ghost use Rattle.fontcut_c.specs.Text.{NamesFile};
 
 use crate::kind::Kind;
 use crate::refusal::JoinRefusal;
@@ -16,9 +17,10 @@ use std::alloc::Global;
 // Writes the file of a union to the front of room, and returns its length.
 fn write_union<S: Source>(union: &S, out: &mut [u8]) -> Result<u64, JoinRefusal>
     requires { IsSmallFile (file current_layout (S.content_of union.now)) }
-    ensures { let z = file current_layout (S.content_of union.now) in
+    ensures exact { let z = file current_layout (S.content_of union.now) in
         MatchResult result (IsFileInRoom z out.old out.new)
         (λ refusal. (out.new ≡ out.old) × RefusesJoined z (length out.old) refusal) }
+    ensures named { IfErr result NamesFile }
 {
     let size = file_size(union, CURRENT);
     match write_sized(union, size, out) {
@@ -28,16 +30,18 @@ fn write_union<S: Source>(union: &S, out: &mut [u8]) -> Result<u64, JoinRefusal>
 }
 
 /// Writes the join of all files, of a kind, to the front of room, and returns its length.
+#[tactic(auto, using(crate::proofs::StepLemmas::named_full, crate::proofs::StepLemmas::named_lean))]
 pub(crate) fn join_to(
     alloc: Global,
     kind: Kind,
     files: &[&[u8]],
     out: &mut [u8],
 ) -> Result<u64, JoinRefusal>
-    ensures { let bytes = map (λ f. f.now) files.now in
+    ensures exact { let bytes = map (λ f. f.now) files.now in
         MatchResult result (IsJoinInRoom (format_of kind) bytes out.old out.new)
         (λ refusal. (out.new ≡ out.old)
         × RefusesJoin (format_of kind) bytes (length out.old) refusal) }
+    ensures named { IfErr result NamesFile }
 {
     let first = match open_first_file(files) {
         Ok(first) => first,

@@ -3,6 +3,7 @@
 #![tactic(auto)]
 
 mod answer;
+mod any_error;
 mod cuts;
 mod cutting;
 mod filled;
@@ -18,7 +19,7 @@ mod refusal;
 mod room;
 mod text;
 
-ghost use Rattle.std.specs.Prelude.{◌≡◌, ◌≢◌, None, length, map};
+ghost use Rattle.std.specs.Prelude.{◌≡◌, ◌≢◌, IfErr, None, length, map};
 ghost use Rattle.std.specs.List.{concat};
 ghost use Rattle.font_file.specs.Font.{font_fault};
 ghost use Rattle.font_subset.specs.Cut.{cut_of};
@@ -31,11 +32,12 @@ ghost use Rattle.fontcut_c.specs.Info.{info_of};
 ghost use Rattle.fontcut_c.specs.Joining.{AnswersJoin};
 ghost use Rattle.fontcut_c.specs.Kinds.{AnswersInKind, HoldsInKind, cut_in};
 ghost use Rattle.fontcut_c.specs.Mapped.{AnswersCodes};
-ghost use Rattle.fontcut_c.specs.Text.{AnswersText};
+ghost use Rattle.fontcut_c.specs.Text.{AnswersText, NamesFile, check_text, join_text, refusal_text};
 ghost use Rattle.fontcut_c.specs.declared.TheConstants.{VERSION};
 ghost use Rattle.fontcut_c.specs.declared.kind.Kind.TheVariants.{Full};
 
 pub use crate::answer::Answer;
+pub use crate::any_error::AnyError;
 use crate::cuts::cuts_to;
 use crate::cutting::{checked_cut_size, checked_cut_to, cut_size, cut_to};
 use crate::forms::{belongs, form_of, number_of};
@@ -53,10 +55,13 @@ use crate::text::text_to;
 use font_cut::{CutForm, Font};
 use std::alloc::Global;
 
-/// Says whether a font is accepted: status 0, or the first refusal that applies.
+/// Says whether a font is accepted: status 0, or the first refusal that applies, whose text [`fontcut_refusal_text`]
+/// writes.
 #[unsafe(no_mangle)]
+#[tactic(auto, unfolding(crate::specs::Errors::error_of, crate::specs::Errors::font_error_of, crate::specs::Errors::join_error_of, crate::specs::Text::refusal_text))]
 pub extern "C" fn fontcut_check(font: &[u8]) -> Answer
-    ensures { result ≡ check_answer (font_fault font.now) }
+    ensures exact { result ≡ check_answer (font_fault font.now) }
+    ensures text { refusal_text result ≡ check_text (font_fault font.now) }
 {
     match Font::open(font) {
         Ok(_) => Answer::done(0),
@@ -115,8 +120,10 @@ fn lookup_answered(outcome: Result<u64, LookupRefusal>) -> Answer
 }
 
 // Returns the answer of a call that writes a join.
+#[tactic(auto, unfolding(crate::specs::Errors::error_of, crate::specs::Errors::font_error_of, crate::specs::Errors::join_error_of, crate::specs::Text::refusal_text))]
 fn join_answered(outcome: Result<u64, JoinRefusal>) -> Answer
-    ensures { result ≡ join_answer outcome }
+    ensures exact { result ≡ join_answer outcome }
+    ensures text { IfErr outcome NamesFile → refusal_text result ≡ join_text outcome }
 {
     match outcome {
         Ok(size) => Answer::done(size),
@@ -402,8 +409,8 @@ pub extern "C" fn fontcut_info(font: &[u8], info: &mut Info) -> Answer
     }
 }
 
-/// Writes the text of what another call answered to the front of `out`: the text of its refusal, and
-/// none where that call was done. A refusal leaves `out` as it was.
+/// Writes the text of what another call answered to the front of `out`: the text of the error that the answer says,
+/// and none where it says none, as where that call was done. A refusal leaves `out` as it was.
 #[unsafe(no_mangle)]
 pub extern "C" fn fontcut_refusal_text(alloc: Global, answer: Answer, out: &mut [u8]) -> Answer
     ensures exact { AnswersText answer out.old out.new result }

@@ -1,11 +1,17 @@
 //! Why a call is not done, and what it answers then.
-ghost use Rattle.std.specs.Prelude.{◌≡◌};
+ghost use Rattle.std.specs.Prelude.{◌≡◌, ℕ, Err, Some};
+ghost use Rattle.std.specs.Int.{to_be_bytes, w32};
 ghost use Rattle.sfnt_bytes.specs.Tag.{tag_number};
-ghost use Rattle.fontcut_c.specs.Answers.{as_detail, cuts_refusal_answer, font_answer, font_argument, join_all_error_answer, join_error_answer, join_refusal_answer, lookup_refusal_answer, pair_refusal_answer, refusal_answer};
+ghost use Rattle.font_file.specs.Text.{error_number};
+ghost use Rattle.font_join.specs.JoinText.{join_all_error_text, join_error_text};
+ghost use Rattle.fontcut_c.specs.Answers.{as_detail, at_step, cuts_refusal_answer, font_answer, font_argument, join_all_error_answer, join_error_answer, join_refusal_answer, lookup_refusal_answer, pair_refusal_answer, refusal_answer};
+ghost use Rattle.fontcut_c.specs.Errors.{error_of, font_error_of};
+ghost use Rattle.fontcut_c.specs.Text.{NamesByItsStep, NamesByStep, NamesFile, join_text, refusal_text, text_of_refusal};
+ghost use Rattle.fontcut_c.specs.declared.any_error.AnyError.TheVariants.{Font};
 
 use crate::answer::Answer;
 use font_cut::{DirError, FontError, JoinAllError, JoinError, TableError};
-use sfnt_bytes::{Tag, be32};
+use sfnt_bytes::Tag;
 
 /// The status of a room that is too small.
 const SMALL_ROOM: u32 = 100;
@@ -72,16 +78,20 @@ pub enum JoinRefusal {
     SmallRoom(u64),
 }
 
-// Returns a tag as a number.
+// Returns a tag as a number, of which the tag can be made again.
+#[tactic(auto, unfolding(sfnt_bytes::specs::Number::u32_at))]
 fn number_of(tag: Tag) -> u32
-    ensures { result ≡ tag_number tag }
+    ensures exact { result ≡ tag_number tag }
+    ensures back { to_be_bytes w32 result ≡ tag.0 }
 {
-    be32(&tag.0, 0)
+    u32::from_be_bytes(tag.0)
 }
 
 // Returns what the refusal of a font names.
+#[tactic(auto, unfolding(crate::specs::Errors::font_error_of))]
 fn argument_of(error: FontError) -> u32
-    ensures { result ≡ font_argument error }
+    ensures exact { result ≡ font_argument error }
+    ensures back { font_error_of (error_number error) result ≡ Some error }
 {
     match error {
         FontError::Directory(DirError::DuplicateTable(tag)) => number_of(tag),
@@ -95,9 +105,11 @@ fn argument_of(error: FontError) -> u32
     }
 }
 
-// Returns the answer where a font is refused.
+// Returns the answer where a font is refused, which says that refusal whichever of several files it is of.
+#[tactic(auto, unfolding(crate::specs::Errors::error_of))]
 fn refused_font(error: FontError) -> Answer
-    ensures { result ≡ font_answer error }
+    ensures exact { result ≡ font_answer error }
+    ensures back { (step : ℕ) → error_of (at_step step result) ≡ Some (Font error) }
 {
     Answer::refused(error.number(), argument_of(error))
 }
@@ -114,9 +126,11 @@ fn detail_of(index: usize) -> u32
 }
 
 impl Refusal {
-    /// Returns what is answered.
+    /// Returns what is answered, whose text is that of the refusal.
+    #[tactic(auto, unfolding(crate::specs::Errors::error_of, crate::specs::Errors::font_error_of, crate::specs::Errors::join_error_of, crate::specs::Text::refusal_text))]
     pub(crate) fn answer(self) -> Answer
-        ensures { result ≡ refusal_answer self }
+        ensures exact { result ≡ refusal_answer self }
+        ensures text { refusal_text result ≡ text_of_refusal self }
     {
         match self {
             Refusal::Font(error) => refused_font(error),
@@ -166,9 +180,12 @@ impl LookupRefusal {
     }
 }
 
-// Returns the answer where two files are not joined.
+// Returns the answer where two files are not joined, whose text is that of the refusal, once its step is set.
+#[tactic(auto, unfolding(crate::specs::Errors::error_of, crate::specs::Errors::font_error_of, crate::specs::Errors::join_error_of, crate::specs::Text::refusal_text))]
 fn refused_join(error: JoinError) -> Answer
-    ensures { result ≡ join_error_answer error }
+    ensures exact { result ≡ join_error_answer error }
+    ensures text { (step : ℕ) → NamesByStep step error →
+        refusal_text (at_step step result) ≡ join_error_text error }
 {
     match error {
         JoinError::Font(_, error) => refused_font(error),
@@ -181,9 +198,11 @@ fn refused_join(error: JoinError) -> Answer
     }
 }
 
-// Returns the answer where files are not joined.
+// Returns the answer where files are not joined, whose text is that of the refusal.
+#[tactic(auto, unfolding(crate::specs::Errors::error_of, crate::specs::Errors::font_error_of, crate::specs::Text::refusal_text))]
 fn refused_list(error: JoinAllError) -> Answer
-    ensures { result ≡ join_all_error_answer error }
+    ensures exact { result ≡ join_all_error_answer error }
+    ensures text { NamesByItsStep error → refusal_text result ≡ join_all_error_text error }
 {
     match error {
         JoinAllError::NothingToJoin => Answer::refused(24, 0),
@@ -192,9 +211,11 @@ fn refused_list(error: JoinAllError) -> Answer
 }
 
 impl JoinRefusal {
-    /// Returns what is answered.
+    /// Returns what is answered, whose text is that of the refusal.
+    #[tactic(auto, unfolding(crate::specs::Errors::error_of, crate::specs::Errors::font_error_of, crate::specs::Errors::join_error_of, crate::specs::Text::refusal_text))]
     pub(crate) fn answer(self) -> Answer
-        ensures { result ≡ join_refusal_answer self }
+        ensures exact { result ≡ join_refusal_answer self }
+        ensures text { NamesFile self → refusal_text result ≡ join_text (Err self) }
     {
         match self {
             JoinRefusal::Join(error) => refused_list(error),
