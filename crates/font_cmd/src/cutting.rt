@@ -9,7 +9,7 @@ use crate::inputs::{opened, sources};
 use crate::listed_word::is_range_word;
 use crate::outcome::Outcome;
 use crate::output::{outlet, placed};
-use crate::report::{Fault, no_memory};
+use crate::report::Fault;
 use crate::system::System;
 use crate::wanted::{add_files, add_lists, codes_of};
 use crate::wanted_files::FileKind;
@@ -35,13 +35,9 @@ fn send_cut<'a, F: HeldFiles, I, O: Write + Copy + Drop, R: Read>(
     } else {
         run_subset(system.alloc, inlet, wanted, &mut outlet)
     };
-    match sent {
-        Ok(size) => {
-            placed(system, outlet, line.out)?;
-            Ok(size)
-        }
-        Err(error) => Err(Fault::of_run(line.font, line.out, error)),
-    }
+    let size = sent.map_err(|error| Fault::of_run(line.font, line.out, error))?;
+    placed(system, outlet, line.out)?;
+    Ok(size)
 }
 
 // Sends the cut for the wanted codes of what an inlet reads to OUT, and answers its size.
@@ -53,10 +49,8 @@ fn cut<'a, F: HeldFiles, I, O: Write + Copy + Drop, R: Read>(
 ) -> Result<u64, Fault<'a>>
     requires { inlet_fresh_of inlet.old ≡ true }
 {
-    match codes.into_wanted(system.alloc) {
-        Ok(wanted) => send_cut(system, line, inlet, &wanted),
-        Err(_) => Err(no_memory()),
-    }
+    let wanted = codes.into_wanted(system.alloc)?;
+    send_cut(system, line, inlet, &wanted)
 }
 
 // Returns what is said of a font, whose file this is, and of the codes that are wanted.
@@ -66,17 +60,12 @@ fn covered<'a>(
     file: &[u8],
     codes: &CodeSet,
 ) -> Result<Coverage, Fault<'a>> {
-    let font = match Font::open(file) {
-        Ok(font) => font,
-        Err(error) => {
-            let (path, error) = (line.font, RunError::Font(error));
-            return Err(Fault::RefusedFile { path, error });
-        }
-    };
-    match Coverage::of(alloc, &font, codes, line.shows_characters) {
-        Ok(coverage) => Ok(coverage),
-        Err(_) => Err(no_memory()),
-    }
+    let font = Font::open(file).map_err(|error| Fault::of_run(
+        line.font,
+        line.out,
+        RunError::from(error),
+    ))?;
+    Ok(Coverage::of(alloc, &font, codes, line.shows_characters)?)
 }
 
 // Returns the outcome of a cut of this size, with what is said where that is wanted.
@@ -84,10 +73,8 @@ fn with_report<'a>(line: &Subset<'a>, coverage: Coverage, size: u64) -> Result<O
     if !line.reports {
         return Ok(Outcome::of(true));
     }
-    match coverage.with_cut(size, line.is_lean) {
-        Ok(text) => Ok(Outcome::saying(true, text)),
-        Err(_) => Err(no_memory()),
-    }
+    let text = coverage.with_cut(size, line.is_lean)?;
+    Ok(Outcome::saying(true, text))
 }
 
 // Cuts a font, whose file this is, for the codes that are wanted, and reports on them.
@@ -99,10 +86,8 @@ fn cut_of_file<'a, F: HeldFiles, I, O: Write + Copy + Drop>(
 ) -> Result<Outcome, Fault<'a>> {
     let coverage = covered(system.alloc, line, file, &codes)?;
     if line.is_strict && !coverage.is_full() {
-        return match coverage.unwritten_text(system.alloc) {
-            Ok(text) => Ok(Outcome::saying(false, text)),
-            Err(_) => Err(no_memory()),
-        };
+        let text = coverage.unwritten_text(system.alloc)?;
+        return Ok(Outcome::saying(false, text));
     }
     let size = cut(system, line, &mut Inlet::new(file), codes)?;
     with_report(line, coverage, size)
@@ -117,10 +102,12 @@ fn cut_with_report<'a, F: HeldFiles, I, O: Write + Copy + Drop, R: Read>(
 ) -> Result<Outcome, Fault<'a>>
     requires { inlet_fresh_of inlet.old ≡ true }
 {
-    match inlet.read_all(system.alloc) {
-        Ok(file) => cut_of_file(system, line, &file, codes),
-        Err(error) => Err(Fault::of_run(line.font, line.out, RunError::from(error))),
-    }
+    let file = inlet.read_all(system.alloc).map_err(|error| Fault::of_run(
+        line.font,
+        line.out,
+        RunError::from(error),
+    ))?;
+    cut_of_file(system, line, &file, codes)
 }
 
 // The codes that a line wants, and those that it takes away from them.
@@ -147,10 +134,7 @@ impl Choice {
         if self.gone.is_empty() {
             return Ok(self.wanted);
         }
-        match self.wanted.without(alloc, &self.gone) {
-            Ok(codes) => Ok(codes),
-            Err(_) => Err(no_memory()),
-        }
+        Ok(self.wanted.without(alloc, &self.gone)?)
     }
 }
 

@@ -40,6 +40,11 @@ impl GlyphColumns {
         }
     }
 
+    /// Returns whether no word of the line has come.
+    pub(crate) fn is_empty(&self) -> bool {
+        self.count == 0
+    }
+
     // Returns whether a word is the next one of such a line, after which this character stands.
     fn goes_on(&self, word: &str, after: char) -> bool {
         match self.count {

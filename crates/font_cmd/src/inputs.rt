@@ -94,10 +94,7 @@ fn push_fresh<R: Read + Drop>(inlets: &mut Vec<Inlet<R>>, reader: R) -> Result<(
     requires { AreFresh inlets.old.items }
     ensures { AreFresh inlets.new.items }
 {
-    match inlets.push(Inlet::new(reader)) {
-        Ok(()) => Ok(()),
-        Err(_) => Err(AllocError),
-    }
+    inlets.push(Inlet::new(reader)).map_err(AllocError::from)
 }
 
 /// Opens the files at some paths for a run. None is read before all are open.
@@ -113,9 +110,7 @@ pub(crate) fn opened_each<'a, F: Files, I: Read + Copy + Drop, O>(
     let mut inlets = Vec::new(system.alloc);
     for &path in paths {
         let file = source(system, path)?;
-        if push_fresh(&mut inlets, file).is_err() {
-            return Err(no_memory());
-        }
+        push_fresh(&mut inlets, file)?;
     }
     Ok(inlets)
 }

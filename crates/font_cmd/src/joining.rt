@@ -48,13 +48,9 @@ fn send_join<'a, F: HeldFiles, I, O: Write + Copy + Drop, R: Read>(
     } else {
         run_join(system.alloc, inlets, &mut outlet)
     };
-    match sent {
-        Ok(_) => {
-            placed(system, outlet, line.out)?;
-            Ok(Outcome::of(true))
-        }
-        Err(error) => Err(join_fault(line, inlets, error)),
-    }
+    sent.map_err(|error| join_fault(line, inlets, error))?;
+    placed(system, outlet, line.out)?;
+    Ok(Outcome::of(true))
 }
 
 /// Writes the join of files.

@@ -205,10 +205,8 @@ pub(crate) fn print<W: Write>(out: &mut Outlet<W>, text: &str) -> Result<Outcome
 /// # Errors
 /// The fault of the command.
 pub(crate) fn answered(font: &str, is_well: Result<bool, RunError>) -> Result<Outcome, Fault<'_>> {
-    match is_well {
-        Ok(is_well) => Ok(Outcome::of(is_well)),
-        Err(error) => Err(Fault::of_run(font, STANDARD_OUTPUT, error)),
-    }
+    let is_well = is_well.map_err(|error| Fault::of_run(font, STANDARD_OUTPUT, error))?;
+    Ok(Outcome::of(is_well))
 }
 
 /// Says what was done or what is at fault, and answers the status.

@@ -21,10 +21,8 @@ fn target<'a, 'p, F: HeldFiles, I, O: Write + Copy + Drop>(
     if path == STANDARD {
         return Ok(KeepsReason::new(Target::Standard(system.output), system.reason));
     }
-    match OutFile::new(system.files, system.alloc, path) {
-        Ok(file) => Ok(KeepsReason::new(Target::File(file), system.reason)),
-        Err(_) => Err(no_memory()),
-    }
+    let file = OutFile::new(system.files, system.alloc, path)?;
+    Ok(KeepsReason::new(Target::File(file), system.reason))
 }
 
 /// Returns an outlet to OUT, which gathers a block of bytes for each write.
@@ -38,10 +36,8 @@ pub(crate) fn outlet<'a, 'p, F: HeldFiles, I, O: Write + Copy + Drop>(
     ensures { IfOk result (λ outlet. fresh_of outlet ≡ true) }
 {
     let target = target(system, path)?;
-    match BufWriter::with_capacity(system.alloc, BLOCK, target) {
-        Ok(block) => Ok(Outlet::new(block)),
-        Err(_) => Err(no_memory()),
-    }
+    let block = BufWriter::with_capacity(system.alloc, BLOCK, target).map_err(|_| no_memory())?;
+    Ok(Outlet::new(block))
 }
 
 /// Moves the finished file to OUT. Its outlet was flushed.

@@ -4,6 +4,7 @@ use crate::shown::Shown;
 use command_line::STANDARD;
 use commands::RunError;
 use font_cut::{JoinAllError, JoinError, Which};
+use std::alloc::AllocError;
 use std::fmt;
 
 /// Why what a line asks for is not done.
@@ -134,6 +135,12 @@ pub(crate) fn refused_join<'a>(error: RunError, paths: &[&'a str], is_lean: bool
 /// The fault for refused memory.
 pub(crate) fn no_memory() -> Fault<'static> {
     Fault::Refused(RunError::Memory)
+}
+
+impl<'a> From<AllocError> for Fault<'a> {
+    fn from(_error: AllocError) -> Fault<'a> {
+        no_memory()
+    }
 }
 
 // Returns what messages call the output at a path.

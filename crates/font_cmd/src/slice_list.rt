@@ -105,10 +105,8 @@ pub(crate) fn slices_of<'t, 'a>(
         let Some(slice) = slice_of(alloc, path, number, line)? else {
             continue;
         };
-        match names.insert(slice.name) {
-            Ok(true) => {}
-            Ok(false) => return Err(bad_name(alloc, path, number, slice.name)),
-            Err(_) => return Err(no_memory()),
+        if !names.insert(slice.name).map_err(|_| no_memory())? {
+            return Err(bad_name(alloc, path, number, slice.name));
         }
         if slices.push(slice).is_err() {
             return Err(no_memory());

@@ -33,9 +33,7 @@ fn write_cut<'p, F: HeldFiles, I, O: Write + Copy + Drop>(
     } else {
         cut_into(system.alloc, font, wanted, &mut outlet)
     };
-    if let Err(error) = sent {
-        return Err(Fault::of_run(path, path, RunError::from(error)));
-    }
+    sent.map_err(|error| Fault::of_run(path, path, RunError::from(error)))?;
     if outlet.finish().is_err() {
         return Err(Fault::Unwritten(path));
     }
@@ -66,12 +64,8 @@ fn write_slice<'a, F: HeldFiles, I, O: Write + Copy + Drop>(
     slice: Slice<'_>,
 ) -> Result<(), Fault<'a>> {
     let alloc = system.alloc;
-    let Ok(path) = slice_path(alloc, line.folder, slice.name) else {
-        return Err(no_memory());
-    };
-    let Ok(wanted) = slice.codes.into_wanted(alloc) else {
-        return Err(no_memory());
-    };
+    let path = slice_path(alloc, line.folder, slice.name)?;
+    let wanted = slice.codes.into_wanted(alloc)?;
     match write_cut(system, font, &wanted, line.is_lean, path.as_str()) {
         Ok(()) => Ok(()),
         Err(fault) => Err(fault_in_folder(alloc, path.as_str(), fault)),
@@ -130,10 +124,9 @@ fn read_whole<'a, F: HeldFiles, I: Read + Copy + Drop, O>(
     path: &'a str,
 ) -> Result<Vec<u8>, Fault<'a>> {
     let mut inlet = opened(system, path)?;
-    match inlet.read_all(system.alloc) {
-        Ok(bytes) => Ok(bytes),
-        Err(error) => Err(Fault::of_run(path, path, RunError::from(error))),
-    }
+    inlet
+        .read_all(system.alloc)
+        .map_err(|error| Fault::of_run(path, path, RunError::from(error)))
 }
 
 // Writes the files of slices of a font, whose file this is, and returns the rules for them.
@@ -143,20 +136,14 @@ fn write_slices<'a, F: HeldFiles, I, O: Write + Copy + Drop>(
     file: &[u8],
     slices: Vec<Slice<'_>>,
 ) -> Result<String, Fault<'a>> {
-    let font = match Font::open(file) {
-        Ok(font) => font,
-        Err(error) => {
-            let error = RunError::Font(error);
-            let path = line.font;
-            return Err(Fault::RefusedFile { path, error });
-        }
-    };
+    let font = Font::open(file).map_err(|error| Fault::of_run(
+        line.font,
+        line.folder,
+        RunError::from(error),
+    ))?;
     let rules = match line.family {
-        Some(family) => rules_of(system.alloc, &font, family, &slices),
-        None => Ok(String::new(system.alloc)),
-    };
-    let Ok(rules) = rules else {
-        return Err(no_memory());
+        Some(family) => rules_of(system.alloc, &font, family, &slices)?,
+        None => String::new(system.alloc),
     };
     make_folder(system, line.folder)?;
     for slice in slices {

@@ -47,26 +47,20 @@ impl<'a, T> KeepsReason<'a, T> {
 
 impl<T: Read> Read for KeepsReason<'_, T> {
     fn read(&mut self, bytes: &mut [u8]) -> io::Result<usize> {
-        match self.inner.read(bytes) {
-            Ok(count) => Ok(count),
-            Err(error) => Err(self.reason.keep(error)),
-        }
+        let reason = self.reason;
+        self.inner.read(bytes).map_err(|error| reason.keep(error))
     }
 }
 
 impl<T: Write> Write for KeepsReason<'_, T> {
     fn write(&mut self, bytes: &[u8]) -> io::Result<usize> {
-        match self.inner.write(bytes) {
-            Ok(count) => Ok(count),
-            Err(error) => Err(self.reason.keep(error)),
-        }
+        let reason = self.reason;
+        self.inner.write(bytes).map_err(|error| reason.keep(error))
     }
 
     fn flush(&mut self) -> io::Result<()> {
-        match self.inner.flush() {
-            Ok(()) => Ok(()),
-            Err(error) => Err(self.reason.keep(error)),
-        }
+        let reason = self.reason;
+        self.inner.flush().map_err(|error| reason.keep(error))
     }
 }
 

@@ -9,11 +9,8 @@ use std::io::Read;
 // Adds the ranges of words, up to the first one that is no word.
 fn add_words<'a>(codes: &mut CodeSet, words: &[&'a str]) -> Result<(), Fault<'a>> {
     for &word in words {
-        match read_word(word) {
-            Ok((first, last)) if codes.add_range(first, last).is_err() => return Err(no_memory()),
-            Ok(_) => {}
-            Err(_) => return Err(Fault::BadWord(word)),
-        }
+        let (first, last) = read_word(word).map_err(|_| Fault::BadWord(word))?;
+        codes.add_range(first, last)?;
     }
     Ok(())
 }
@@ -37,9 +34,7 @@ pub(crate) fn codes_of<'a>(
     let mut codes = CodeSet::new(alloc);
     add_words(&mut codes, words)?;
     for &text in texts {
-        if add_text(&mut codes, text).is_err() {
-            return Err(no_memory());
-        }
+        add_text(&mut codes, text)?;
     }
     Ok(codes)
 }

@@ -198,6 +198,12 @@ impl<'a> Reading<'a> {
         };
         self.is_new = false;
         let after = rest.get(length).map_or('\n', |&byte| char::from(byte));
+        if after == '\n' && self.columns.is_empty() {
+            // A line of one word is none of those that `codes --glyphs` prints.
+            self.codes.add_range(codes.0, codes.1)?;
+            self.line = self.line.saturating_add(1);
+            return Ok(length.saturating_add(1));
+        }
         let named = self.columns.take(word, codes, after);
         self.add_named(named)?;
         if after != '\n' {
