@@ -7,7 +7,7 @@ use clap::error::ErrorKind;
 use clap::{Arg, ArgAction, ArgMatches, Command, Error};
 use std::alloc::{AllocError, Global};
 
-/// The version of the program. This is the one place of the number.
+/// The version of the program: the number in the file `VERSION`, which `tests/release` compares with it.
 pub const VERSION: &str = "0.10.0";
 
 /// The word that stands for standard input where a file is read, and for standard output as OUT.
