@@ -17,7 +17,8 @@ HasGroups s = 16 + 12 * group_count s ≤ length s
 
 -- group i: startCharCode, endCharCode and startGlyphID
 unfoldable pub group_in : List ℕ → ℕ → ListedGroup
-group_in s i = record { first = u32_at s (16 + 12 * i); last = u32_at s (20 + 12 * i); glyph = u32_at s (24 + 12 * i) }
+group_in s i =
+    record { first = u32_at s (16 + 12 * i); last = u32_at s (20 + 12 * i); glyph = u32_at s (24 + 12 * i) }
 
 -- all groups, as they are listed
 unfoldable pub groups_of : List ℕ → List ListedGroup
@@ -42,7 +43,9 @@ glyph_of_group group c = if holds c group then glyph_along group c else 0
 -- a group, if any, alone decides the codes from a given one on up to a stop, where it ends at the latest;
 -- else none is mapped
 abbrev pub Decides : List ℕ → ℕ → Option ListedGroup → ℕ → Type 0
-Decides s from found stop = MatchOption found (IsUnmapped (group_glyph s) from stop) (λ group. (group.last < stop) × AreSame (group_glyph s) (glyph_of_group group) from stop)
+Decides s from found stop =
+    MatchOption found (IsUnmapped (group_glyph s) from stop)
+    (λ group. (group.last < stop) × AreSame (group_glyph s) (glyph_of_group group) from stop)
 
 -- each group lies strictly above the one before it
 abbrev pub HasOrderedGroups : List ℕ → Type 0

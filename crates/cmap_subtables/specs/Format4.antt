@@ -50,7 +50,9 @@ glyph_by s segment c =
 -- the glyph of a code by the first listed segment that ends at the code or above it; 0 where none does, and
 -- above 0xFFFF
 unfoldable pub segment_glyph : List ℕ → ℕ → ℕ
-segment_glyph s c = if nat_lt 0xFFFF c then 0 else option_map_or (λ segment. glyph_by s segment c) (find (reaches c) (segments_of s)) 0
+segment_glyph s c =
+    if nat_lt 0xFFFF c then 0
+    else option_map_or (λ segment. glyph_by s segment c) (find (reaches c) (segments_of s)) 0
 
 -- each segment lies strictly above the one before it
 abbrev pub HasOrderedSegments : List ℕ → Type 0

@@ -15,7 +15,8 @@ group_end s i = (group_nth (groups_of s) i).last
 
 -- the segment at a place of a list
 abbrev pub segment_nth : List Segment → ℕ → Segment
-segment_nth segments i = slice_index_or segments i (record { first = 0; last = 0; delta = 0; offset = 0; place = 0 })
+segment_nth segments i =
+    slice_index_or segments i (record { first = 0; last = 0; delta = 0; offset = 0; place = 0 })
 
 -- the end of the segment at a place
 abbrev pub segment_end : List ℕ → ℕ → ℕ
@@ -27,4 +28,5 @@ glyph_of_segment s segment c = if reaches c segment then glyph_by s segment c el
 
 -- the glyph of a code by the delta of one segment alone
 abbrev pub glyph_by_delta : Segment → ℕ → ℕ
-glyph_by_delta segment c = if nat_le segment.first c && nat_le c segment.last then (c + segment.delta) % 65536 else 0
+glyph_by_delta segment c =
+    if nat_le segment.first c && nat_le c segment.last then (c + segment.delta) % 65536 else 0

@@ -48,9 +48,12 @@ mapped_codes m = mapped_among m 0 CODES
 pub record MapLaws : Type 0 where
   pub restricted_is_map : (w : ℕ → Bool) (m : ℕ → ℕ) → IsCharacterMap m → IsCharacterMap (restricted w m)
   pub united_is_map : (m k : ℕ → ℕ) → IsCharacterMap m → IsCharacterMap k → IsCharacterMap (united m k)
-  pub within_both : (v w : ℕ → Bool) (m : ℕ → ℕ) → restricted v (restricted w m) ≡ restricted (λ c. v c && w c) m
-  pub within_either : (v w : ℕ → Bool) (m : ℕ → ℕ) → united (restricted v m) (restricted w m) ≡ restricted (λ c. v c || w c) m
-  pub of_a_union : (w : ℕ → Bool) (m k : ℕ → ℕ) → restricted w (united m k) ≡ united (restricted w m) (restricted w k)
+  pub within_both :
+      (v w : ℕ → Bool) (m : ℕ → ℕ) → restricted v (restricted w m) ≡ restricted (λ c. v c && w c) m
+  pub within_either :
+      (v w : ℕ → Bool) (m : ℕ → ℕ) → united (restricted v m) (restricted w m) ≡ restricted (λ c. v c || w c) m
+  pub of_a_union :
+      (w : ℕ → Bool) (m k : ℕ → ℕ) → restricted w (united m k) ≡ united (restricted w m) (restricted w k)
   pub itself : (m : ℕ → ℕ) → united m m ≡ m
   pub in_turn : (m k l : ℕ → ℕ) → united (united m k) l ≡ united m (united k l)
   pub either_first : (m k : ℕ → ℕ) → AreCompatible m k → united m k ≡ united k m

@@ -22,15 +22,18 @@ absorbed a (b ∷ ranges) = if nat_le b.first (a.last + 1) then absorbed (hull a
 -- sorted ranges with one more
 abbrev pub with_range : Range → List Range → List Range
 with_range a [] = a ∷ []
-with_range a (b ∷ ranges) = if nat_lt (b.last + 1) a.first then b ∷ with_range a ranges else absorbed a (b ∷ ranges)
+with_range a (b ∷ ranges) =
+    if nat_lt (b.last + 1) a.first then b ∷ with_range a ranges else absorbed a (b ∷ ranges)
 
 -- what of a range lies below another one
 abbrev pub part_below : Range → Range → List Range
-part_below a b = if nat_lt b.first a.first then record { first = b.first; last = min b.last (a.first - 1) } ∷ [] else []
+part_below a b =
+    if nat_lt b.first a.first then record { first = b.first; last = min b.last (a.first - 1) } ∷ [] else []
 
 -- what of a range lies above another one
 abbrev pub part_above : Range → Range → List Range
-part_above a b = if nat_lt a.last b.last then record { first = max b.first (a.last + 1); last = b.last } ∷ [] else []
+part_above a b =
+    if nat_lt a.last b.last then record { first = max b.first (a.last + 1); last = b.last } ∷ [] else []
 
 -- ranges without the codes of one
 abbrev pub without_range : Range → List Range → List Range

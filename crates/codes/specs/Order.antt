@@ -4,7 +4,8 @@ use Rattle.std.specs.Prelude.{ℕ, suc, ◌≤◌, List, [], ◌∷◌, ◌<◌}
 -- each member has a code, and lies strictly above the one before it; the first is not below a bound
 abbrev pub AreInOrder : {X : Type 0} → (X → ℕ) → (X → ℕ) → ℕ → List X → Type 0
 AreInOrder first last low [] = Unit {0}
-AreInOrder first last low (x ∷ xs) = (low ≤ first x) × (first x ≤ last x) × AreInOrder first last (suc (last x)) xs
+AreInOrder first last low (x ∷ xs) =
+    (low ≤ first x) × (first x ≤ last x) × AreInOrder first last (suc (last x)) xs
 
 -- the ends of the first n members ascend
 abbrev pub Ascends : (ℕ → ℕ) → ℕ → Type 0

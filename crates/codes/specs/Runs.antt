@@ -54,13 +54,15 @@ groups_from m from = groups_among m from (CODES - from)
 -- the glyph that groups give a code
 abbrev pub spelled : List Run → ℕ → ℕ
 spelled [] c = 0
-spelled (run ∷ runs) c = if nat_le run.first c && nat_le c run.last then run.glyph + (c - run.first) else spelled runs c
+spelled (run ∷ runs) c =
+    if nat_le run.first c && nat_le c run.last then run.glyph + (c - run.first) else spelled runs c
 
 -- each group has a code and no glyph 0, and begins above the end of the one before it; the first is not below
 -- a bound
 abbrev pub AreAscending : ℕ → List Run → Type 0
 AreAscending low [] = Unit {0}
-AreAscending low (run ∷ runs) = (low ≤ run.first) × (run.first ≤ run.last) × (0 < run.glyph) × AreAscending (suc run.last) runs
+AreAscending low (run ∷ runs) =
+    (low ≤ run.first) × (run.first ≤ run.last) × (0 < run.glyph) × AreAscending (suc run.last) runs
 
 -- a group begins at the code and at the glyph after the last ones of another
 abbrev pub GoesOn : Run → Run → Type 0
@@ -90,12 +92,14 @@ pub record CanonicalGroups (m : ℕ → ℕ) : Type 0 where
 -- no ascending list of groups that spells a map on a set is shorter than the canonical one
 abbrev pub FewestGroups : Type 0
 FewestGroups =
-    (wanted : ℕ → Bool) (m : ℕ → ℕ) (runs : List Run) → IsCharacterMap m → AreAscending 0 runs → ((c : ℕ) → spelled runs c ≡ restricted wanted m c)
+    (wanted : ℕ → Bool) (m : ℕ → ℕ) (runs : List Run) → IsCharacterMap m → AreAscending 0 runs →
+    ((c : ℕ) → spelled runs c ≡ restricted wanted m c)
     → length (groups_from (restricted wanted m) 0) ≤ length runs
 
 -- the run from a code on is the first of the canonical groups of the map on the codes from there on, and
 -- there is none where these are none
 abbrev pub RunIsFirstGroup : Type 0
 RunIsFirstGroup =
-    (m : ℕ → ℕ) (from : ℕ) (found : Option Run) (groups : List Run) → IsCharacterMap m → MatchOption found (NoRun m from) (IsRun m from)
+    (m : ℕ → ℕ) (from : ℕ) (found : Option Run) (groups : List Run) → IsCharacterMap m →
+    MatchOption found (NoRun m from) (IsRun m from)
     → AreCanonical (restricted (nat_le from) m) groups → found ≡ slice_get groups 0

@@ -35,7 +35,8 @@ member (range ∷ ranges) c = codes_between range.first range.last c || member r
 -- sorted ranges that neither overlap nor touch, none empty, the first not below a bound
 abbrev pub AreSeparate : ℕ → List Range → Type 0
 AreSeparate low [] = Unit {0}
-AreSeparate low (range ∷ ranges) = (low ≤ range.first) × (range.first ≤ range.last) × AreSeparate (range.last + 2) ranges
+AreSeparate low (range ∷ ranges) =
+    (low ≤ range.first) × (range.first ≤ range.last) × AreSeparate (range.last + 2) ranges
 
 -- the first codes of a set from a given one on, in a row
 pub record IsRow (w : ℕ → Bool) (from : ℕ) (range : Range) : Type 0 where

@@ -39,7 +39,8 @@ pub record IsCodeWord (text : List ℕ) (first last : ℕ) : Type 0 where
 
 -- a word for the codes from one to another: `all` or `U+` and codes
 abbrev pub IsWord : List ℕ → ℕ → ℕ → Type 0
-IsWord text first last = ((text ≡ codes "all") × (first ≡ 0) × (last ≡ LAST_CODE)) ⊎ IsCodeWord text first last
+IsWord text first last =
+    ((text ≡ codes "all") × (first ≡ 0) × (last ≡ LAST_CODE)) ⊎ IsCodeWord text first last
 
 -- why a text is refused: it is no word, or one of a bad range
 abbrev pub IsRefused : List ℕ → WordError → Type 0
@@ -48,4 +49,6 @@ IsRefused text BadRange = (first : ℕ) × (last : ℕ) × IsWord text first las
 
 -- a text is a word for one range at most
 abbrev pub OneRangeOfWord : Type 0
-OneRangeOfWord = (text : List ℕ) (first last least most : ℕ) → IsWord text first last → IsWord text least most → (first ≡ least) × (last ≡ most)
+OneRangeOfWord =
+    (text : List ℕ) (first last least most : ℕ) → IsWord text first last → IsWord text least most →
+    (first ≡ least) × (last ≡ most)

@@ -164,7 +164,8 @@ impl<A: Allocator> Wanted<A> {
     #[tactic(auto, using(crate::proofs::RemovingLemmas::wanted_separate))]
     pub fn remove(&mut self, first: u32, last: u32) -> Result<(), WantedError>
         ensures bad_range { (result ≡ Err BadRange) ↔ IsBadRange first last }
-        ensures removed { OnOk result (member self.new ≡ but_for (codes_between first last) (member self.old)) }
+        ensures removed { OnOk result
+            (member self.new ≡ but_for (codes_between first last) (member self.old)) }
         ensures unchanged { OnErr result (member self.new ≡ member self.old) }
     {
         if first <= last && last <= LAST_CODE {

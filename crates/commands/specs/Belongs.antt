@@ -52,7 +52,8 @@ IsUnanswered cut font (OneOf which error) = RefusesOneOf cut font which error
 IsUnanswered cut font _ = ⊥
 
 -- P holds of what came from both readers, where these tell their bytes
-abbrev pub got_both : {R : Type 0} → (R → Option (List ℕ)) → Inlet R → Inlet R → (List ℕ → List ℕ → Type 0) → Type 0
+abbrev pub got_both : {R : Type 0} → (R → Option (List ℕ)) → Inlet R → Inlet R → (List ℕ → List ℕ → Type 0) →
+    Type 0
 got_both remaining cut font P = got remaining cut (λ x. got remaining font (λ y. P x y))
 
 -- a read failed after this number of bytes
@@ -61,7 +62,8 @@ BrokeAfter remaining i j count = (inlets.inlet_broken_of j ≡ true) × inlets.G
 
 -- how a run that is not done leaves the inlet of CUT, from c to d, that of FONT, from i to j, and its outlet,
 -- from o to p; the relation is the one that is asked for
-abbrev pub BelongsStops : {R W : Type 0} (Is : List ℕ → List ℕ → Type 0) (remaining : R → Option (List ℕ)) (contents : W → Option (List ℕ)) (c d i j : Inlet R) (o p : Outlet W) → RunError → Type 0
+abbrev pub BelongsStops : {R W : Type 0} (Is : List ℕ → List ℕ → Type 0) (remaining : R → Option (List ℕ))
+    (contents : W → Option (List ℕ)) (c d i j : Inlet R) (o p : Outlet W) → RunError → Type 0
 -- nothing was sent: CUT broke, and FONT was not read, or FONT did
 BelongsStops Is remaining contents c d i j o p (Read count) =
     (p ≡ o) × ((BrokeAfter remaining c d count × (j ≡ i)) ⊎ (IsSpent d × BrokeAfter remaining i j count))
@@ -73,7 +75,8 @@ BelongsStops Is remaining contents c d i j o p (OneOf which error) =
 -- the outlet is broken, and this number of bytes of the answer went out
 BelongsStops Is remaining contents c d i j o p (Write count) =
     IsSpent d × IsSpent j × (outlets.broken_of p ≡ true) × (outlets.written_of p ≡ count)
-    × ((answer : Bool) × got_both remaining c i (λ x y. AnswersBy Is x y answer) × outlets.WentOut contents o p (take count (answer_text answer)))
+    × ((answer : Bool) × got_both remaining c i (λ x y. AnswersBy Is x y answer)
+    × outlets.WentOut contents o p (take count (answer_text answer)))
 -- nothing else stops it
 BelongsStops Is remaining contents c d i j o p (Font error) = ⊥
 BelongsStops Is remaining contents c d i j o p (TooLarge size) = ⊥

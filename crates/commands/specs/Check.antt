@@ -15,7 +15,8 @@ finding_line finding = line (finding_text finding)
 
 -- a line for each finding, and their number
 abbrev pub findings_text : List Finding → List ℕ
-findings_text findings = flat_map finding_line findings ++ line (codes "findings " ++ decimal (length findings))
+findings_text findings =
+    flat_map finding_line findings ++ line (codes "findings " ++ decimal (length findings))
 
 -- whether the file is accepted
 abbrev pub verdict_text : Option FontError → List ℕ

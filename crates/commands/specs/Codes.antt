@@ -18,7 +18,9 @@ code_word code = codes "U+" ++ digits 16 true code
 
 -- the word of a range: its one code, or its first code, `-` and the digits of its last code
 abbrev pub range_word : Range → List ℕ
-range_word range = if nat_eq range.first range.last then code_word range.first else code_word range.first ++ 45 ∷ digits 16 true range.last
+range_word range =
+    if nat_eq range.first range.last then code_word range.first
+    else code_word range.first ++ 45 ∷ digits 16 true range.last
 
 -- the codes of a run
 abbrev pub codes_of : Run → Range

@@ -1,4 +1,5 @@
--- What `codes --glyphs` prints of a font, this project's own: each mapped code with its glyph and how far that advances.
+-- What `codes --glyphs` prints of a font, this project's own: each mapped code with its glyph and how far
+-- that advances.
 use Rattle.std.specs.Prelude.{ℕ, ◌-◌, List, ◌∷◌, ◌++◌, decimal, filter}
 use Rattle.std.specs.List.{flat_map, range_with_len}
 use Rattle.codes.specs.CharacterMap.{is_mapped}

@@ -33,13 +33,17 @@ pub record AreReadTo {R : Type 0} (old new : List (Inlet R)) : Type 0 where
   pub behind : drop at new ≡ drop at old
 
 -- the files are what came from the readers of the inlets, one by one, where these tell their bytes
-pub record AreGot {R : Type 0} (remaining : R → Option (List ℕ)) (list : List (Inlet R)) (files : List (List ℕ)) : Type 0 where
+pub record AreGot {R : Type 0} (remaining : R → Option (List ℕ)) (list : List (Inlet R))
+    (files : List (List ℕ)) : Type 0 where
   pub count : length files ≡ length list
-  pub each : (k : ℕ) (inlet : Inlet R) → slice_get list k ≡ Some inlet → got remaining inlet (λ bytes. file_at files k ≡ bytes)
+  pub each :
+      (k : ℕ) (inlet : Inlet R) → slice_get list k ≡ Some inlet →
+      got remaining inlet (λ bytes. file_at files k ≡ bytes)
 
 -- a read failed: the inlets before it were read, it is broken after this number of bytes, and those after it
 -- are as they were
-pub record BreaksAfter {R : Type 0} (remaining : R → Option (List ℕ)) (old new : List (Inlet R)) (count : ℕ) : Type 0 where
+pub record BreaksAfter {R : Type 0} (remaining : R → Option (List ℕ)) (old new : List (Inlet R)) (count : ℕ)
+    : Type 0 where
   pub at : ℕ
   pub unread : Inlet R
   pub failed : Inlet R
@@ -51,7 +55,8 @@ pub record BreaksAfter {R : Type 0} (remaining : R → Option (List ℕ)) (old n
   pub behind : drop (at + 1) new ≡ drop (at + 1) old
 
 -- how inlets are left that were not all read: a read failed, or memory was refused
-abbrev pub ReadStops : {R : Type 0} (remaining : R → Option (List ℕ)) (old new : List (Inlet R)) → RunError → Type 0
+abbrev pub ReadStops : {R : Type 0} (remaining : R → Option (List ℕ)) (old new : List (Inlet R)) → RunError →
+    Type 0
 ReadStops remaining old new (Read count) = BreaksAfter remaining old new count
 ReadStops remaining old new Memory = AreReadTo old new
 ReadStops remaining old new _ = ⊥
@@ -61,33 +66,41 @@ abbrev pub OfGot : {R : Type 0} → (R → Option (List ℕ)) → List (Inlet R)
 OfGot remaining list P = (files : List (List ℕ)) × AreGot remaining list files × P files
 
 -- how a join that is not done leaves its inlets, from i to j, and its outlet, from o to p
-abbrev pub JoinStops : {R W : Type 0} (format : Format) (remaining : R → Option (List ℕ)) (contents : W → Option (List ℕ)) (i j : List (Inlet R)) (o p : Outlet W) → RunError → Type 0
+abbrev pub JoinStops : {R W : Type 0} (format : Format) (remaining : R → Option (List ℕ))
+    (contents : W → Option (List ℕ)) (i j : List (Inlet R)) (o p : Outlet W) → RunError → Type 0
 -- nothing was sent
 JoinStops format remaining contents i j o p (Read count) = BreaksAfter remaining i j count × (p ≡ o)
 JoinStops format remaining contents i j o p Memory = AreReadTo i j × (p ≡ o)
 -- the files are refused, by the first refusal that applies, and nothing was sent
 JoinStops format remaining contents i j o p (Join error) =
-    AreSpent j × (p ≡ o) × (of_join_error error ≡ Join error) × OfGot remaining i (λ files. IsAllRefusal format files error)
+    AreSpent j × (p ≡ o) × (of_join_error error ≡ Join error)
+    × OfGot remaining i (λ files. IsAllRefusal format files error)
 -- the outlet is broken, and this number of bytes of the join went out
 JoinStops format remaining contents i j o p (Write count) =
     AreSpent j × (outlets.broken_of p ≡ true) × (outlets.written_of p ≡ count)
-    × OfGot remaining i (λ files. (z : List ℕ) × IsAllJoined format files z × outlets.WentOut contents o p (take count z))
+    × OfGot remaining i
+    (λ files. (z : List ℕ) × IsAllJoined format files z × outlets.WentOut contents o p (take count z))
 -- such a refusal is one of the join
 JoinStops format remaining contents i j o p (Font error) = ⊥
 JoinStops format remaining contents i j o p (OneOf which error) = ⊥
 JoinStops format remaining contents i j o p (TooLarge size) = ⊥
 
 -- the join of what came from the readers went out, and has this number of bytes
-abbrev pub SendsJoin : {R W : Type 0} (format : Format) (remaining : R → Option (List ℕ)) (contents : W → Option (List ℕ)) (i : List (Inlet R)) (o p : Outlet W) → ℕ → Type 0
+abbrev pub SendsJoin : {R W : Type 0} (format : Format) (remaining : R → Option (List ℕ))
+    (contents : W → Option (List ℕ)) (i : List (Inlet R)) (o p : Outlet W) → ℕ → Type 0
 SendsJoin format remaining contents i o p size =
-    OfGot remaining i (λ files. (z : List ℕ) × IsAllJoined format files z × (size ≡ length z) × outlets.WentOut contents o p z)
+    OfGot remaining i (λ files. (z : List ℕ) × IsAllJoined format files z × (size ≡ length z)
+    × outlets.WentOut contents o p z)
 
 -- what came from the readers, whatever it is, are cuts of F for some sets, none of them too large
-abbrev pub GotCuts : {R : Type 0} → Format → (R → Option (List ℕ)) → List (Inlet R) → List ℕ → (ℕ → ℕ → Bool) → Type 0
-GotCuts format remaining list F A = (files : List (List ℕ)) → AreGot remaining list files → AreCuts format F A files
+abbrev pub GotCuts : {R : Type 0} → Format → (R → Option (List ℕ)) → List (Inlet R) → List ℕ →
+    (ℕ → ℕ → Bool) → Type 0
+GotCuts format remaining list F A =
+    (files : List (List ℕ)) → AreGot remaining list files → AreCuts format F A files
 
 -- no refusal but that the cut for the first sets is too large
 abbrev pub OnlySize : Format → List ℕ → (ℕ → ℕ → Bool) → ℕ → RunError → Type 0
 OnlySize format F A count (Join NothingToJoin) = count ≡ 0
-OnlySize format F A count (Join (At step error)) = IsForSize (length (cut format F (union_below A (suc step)))) error
+OnlySize format F A count (Join (At step error)) =
+    IsForSize (length (cut format F (union_below A (suc step)))) error
 OnlySize format F A count _ = Unit {0}

@@ -26,16 +26,23 @@ got remaining inlet P = IfSome (remaining (inlets.reader_of inlet)) (λ bytes. P
 
 -- how a run that is not done leaves its inlet, from i to j, and its outlet, from o to p; `serves` says of
 -- which files it sends something, `text` what it sends of them, and `refuses` when it refuses a file
-abbrev pub RunStops : {R W : Type 0} (remaining : R → Option (List ℕ)) (contents : W → Option (List ℕ)) (serves : List ℕ → Type 0) (text : List ℕ → List ℕ) (refuses : RunError → Type 0) (i j : Inlet R) (o p : Outlet W) → RunError → Type 0
+abbrev pub RunStops : {R W : Type 0} (remaining : R → Option (List ℕ)) (contents : W → Option (List ℕ))
+    (serves : List ℕ → Type 0) (text : List ℕ → List ℕ) (refuses : RunError → Type 0) (i j : Inlet R)
+    (o p : Outlet W) → RunError → Type 0
 -- the inlet is broken after this number of bytes, and nothing was sent
-RunStops remaining contents serves text refuses i j o p (Read count) = (inlets.inlet_broken_of j ≡ true) × inlets.Gives remaining i j count × (p ≡ o)
+RunStops remaining contents serves text refuses i j o p (Read count) =
+    (inlets.inlet_broken_of j ≡ true) × inlets.Gives remaining i j count × (p ≡ o)
 -- nothing was sent
 RunStops remaining contents serves text refuses i j o p Memory = (inlets.inlet_broken_of j ≡ false) × (p ≡ o)
 -- the file is refused, and nothing was sent
-RunStops remaining contents serves text refuses i j o p (Font error) = (inlets.inlet_broken_of j ≡ false) × (p ≡ o) × refuses (Font error)
-RunStops remaining contents serves text refuses i j o p (OneOf which error) = (inlets.inlet_broken_of j ≡ false) × (p ≡ o) × refuses (OneOf which error)
-RunStops remaining contents serves text refuses i j o p (TooLarge size) = (inlets.inlet_broken_of j ≡ false) × (p ≡ o) × refuses (TooLarge size)
-RunStops remaining contents serves text refuses i j o p (Join error) = (inlets.inlet_broken_of j ≡ false) × (p ≡ o) × refuses (Join error)
+RunStops remaining contents serves text refuses i j o p (Font error) =
+    (inlets.inlet_broken_of j ≡ false) × (p ≡ o) × refuses (Font error)
+RunStops remaining contents serves text refuses i j o p (OneOf which error) =
+    (inlets.inlet_broken_of j ≡ false) × (p ≡ o) × refuses (OneOf which error)
+RunStops remaining contents serves text refuses i j o p (TooLarge size) =
+    (inlets.inlet_broken_of j ≡ false) × (p ≡ o) × refuses (TooLarge size)
+RunStops remaining contents serves text refuses i j o p (Join error) =
+    (inlets.inlet_broken_of j ≡ false) × (p ≡ o) × refuses (Join error)
 -- the file is one that is served, the outlet is broken, and this number of bytes of the text went out
 RunStops remaining contents serves text refuses i j o p (Write count) =
     (inlets.inlet_broken_of j ≡ false) × (outlets.broken_of p ≡ true) × (outlets.written_of p ≡ count)
@@ -43,7 +50,9 @@ RunStops remaining contents serves text refuses i j o p (Write count) =
 
 -- how a run that reads a file and sends a text of it leaves its inlet, from i to j, and its outlet, from o to
 -- p; `serves`, `text` and `refuses` are those of `RunStops`
-pub record SendsText {R W T : Type 0} (remaining : R → Option (List ℕ)) (contents : W → Option (List ℕ)) (serves : List ℕ → Type 0) (text : List ℕ → List ℕ) (refuses : RunError → Type 0) (i j : Inlet R) (o p : Outlet W) (result : Result T RunError) : Type 0 where
+pub record SendsText {R W T : Type 0} (remaining : R → Option (List ℕ)) (contents : W → Option (List ℕ))
+    (serves : List ℕ → Type 0) (text : List ℕ → List ℕ) (refuses : RunError → Type 0) (i j : Inlet R)
+    (o p : Outlet W) (result : Result T RunError) : Type 0 where
   pub spent : inlets.inlet_fresh_of j ≡ false
   pub sent : OnOk result (got remaining i (λ file. serves file × outlets.WentOut contents o p (text file)))
   pub unbroken : OnOk result ((inlets.inlet_broken_of j ≡ false) × (outlets.broken_of p ≡ false))
@@ -84,9 +93,11 @@ RefusesFont remaining inlet Memory = ⊥
 RefusesFont remaining inlet (Write count) = ⊥
 
 -- a file is refused as a font, or is one and what is made of it has this size, more than a file may have
-abbrev pub RefusesMade : {R : Type 0} → (R → Option (List ℕ)) → Inlet R → (List ℕ → List ℕ) → RunError → Type 0
+abbrev pub RefusesMade : {R : Type 0} → (R → Option (List ℕ)) → Inlet R → (List ℕ → List ℕ) → RunError →
+    Type 0
 RefusesMade remaining inlet made (Font error) = got remaining inlet (λ file. font_fault file ≡ Some error)
-RefusesMade remaining inlet made (TooLarge size) = got remaining inlet (λ file. (font_fault file ≡ None) × IsTooLarge (made file) size)
+RefusesMade remaining inlet made (TooLarge size) =
+    got remaining inlet (λ file. (font_fault file ≡ None) × IsTooLarge (made file) size)
 RefusesMade remaining inlet made (OneOf which error) = ⊥
 RefusesMade remaining inlet made (Join error) = ⊥
 RefusesMade remaining inlet made (Read count) = ⊥

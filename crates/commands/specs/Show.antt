@@ -16,7 +16,8 @@ form_text Long = codes "long"
 
 -- the line of a table that a cut keeps, where there is one
 abbrev pub table_line : Tag → Option (List ℕ) → List ℕ
-table_line tag table = option_map_or (λ bytes. line (codes "kept " ++ tag_text tag ++ 32 ∷ decimal (length bytes))) table []
+table_line tag table =
+    option_map_or (λ bytes. line (codes "kept " ++ tag_text tag ++ 32 ∷ decimal (length bytes))) table []
 
 -- the same of a line that is to be printed
 abbrev pub kept_table_line : KeptLine → List ℕ
@@ -48,7 +49,9 @@ numbers_text file =
 
 -- platformID, encodingID and format of the subtable that the mapping is read from
 abbrev pub chosen_text : ℕ × ℕ × ℕ → List ℕ
-chosen_text chosen = line (codes "mapping " ++ decimal chosen.0 ++ 47 ∷ decimal chosen.1 ++ codes " format " ++ decimal chosen.2)
+chosen_text chosen =
+    line (codes "mapping " ++ decimal chosen.0 ++ 47 ∷ decimal chosen.1 ++ codes " format "
+    ++ decimal chosen.2)
 
 -- the lines of the mapping of a `cmap`, which maps this number of codes
 abbrev pub mapped_text : List ℕ → ℕ → List ℕ
@@ -65,8 +68,11 @@ cut_text form = line (codes "cut " ++ cut_answer form)
 
 -- all lines of a font that maps this number of codes, the last line saying whether it is a cut
 unfoldable pub font_text : List ℕ → ℕ → CutForm → List ℕ
-font_text file count form = numbers_text file ++ mapped_text (cmap_of file) count ++ kept_text file ++ dropped_text file ++ cut_text form
+font_text file count form =
+    numbers_text file ++ mapped_text (cmap_of file) count ++ kept_text file ++ dropped_text file
+    ++ cut_text form
 
 -- all that `show` prints of a font that is accepted
 unfoldable pub show_text : List ℕ → List ℕ
-show_text file = font_text file (mapped_codes (mapping_of (cmap_of file) (glyph_count_of file))) (cut_form_of file)
+show_text file =
+    font_text file (mapped_codes (mapping_of (cmap_of file) (glyph_count_of file))) (cut_form_of file)

@@ -69,7 +69,8 @@ pub fn run_belongs<R: Read, W: Write, A: Allocator + Copy>(
     ensures whole { OnOk result (IsSpent cut.new × IsSpent font.new × (broken_of outlet.new ≡ false)) }
 
     ensures error { IfErr result
-        (BelongsStops IsCutForSome R.remaining W.contents cut.old cut.new font.old font.new outlet.old outlet.new) }
+        (BelongsStops IsCutForSome R.remaining W.contents cut.old cut.new font.old font.new
+        outlet.old outlet.new) }
 {
     let cut_file = cut.read_all(alloc)?;
     let font_file = font.read_all(alloc)?;

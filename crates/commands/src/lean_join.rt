@@ -27,7 +27,8 @@ pub fn run_lean_join<R: Read, W: Write, A: Allocator + Copy>(
     requires inlets { AreFresh inlets.old }
     requires outlet { fresh_of outlet.old ≡ true }
 
-    ensures sent { IfOk result (SendsJoin lean_format R.remaining W.contents inlets.old outlet.old outlet.new) }
+    ensures sent { IfOk result
+        (SendsJoin lean_format R.remaining W.contents inlets.old outlet.old outlet.new) }
     ensures small { IfOk result (λ size. size ≤ MAX_FILE) }
     ensures whole { OnOk result (AreSpent inlets.new × (broken_of outlet.new ≡ false)) }
     ensures cuts { (F : List ℕ) (A : ℕ → ℕ → Bool) → GotCuts lean_format R.remaining inlets.old F A →

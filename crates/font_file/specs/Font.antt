@@ -22,7 +22,8 @@ cmap_of file = unwrap_or (table_of file (kept_tag CMAP)) []
 
 -- a record has a list of components, all of them glyphs below a count
 unfoldable pub is_record : ℕ → List ℕ → Bool
-is_record count b = option_map_or (λ list. list_all (λ component. nat_lt component.glyph count) list) (components_of b) false
+is_record count b =
+    option_map_or (λ list. list_all (λ component. nat_lt component.glyph count) list) (components_of b) false
 
 -- the record of a glyph has no such list
 unfoldable pub is_bad_glyph : List ℕ → ℕ → Bool
@@ -30,7 +31,8 @@ is_bad_glyph file g = not (is_record (glyph_count_of file) (outline_of file g))
 
 -- the refusals of the records, where `find` gives the least glyph
 abbrev pub glyph_lines : List ℕ → List (Option FontError)
-glyph_lines file = option_map BadGlyph (find (is_bad_glyph file) (range_with_len 0 (glyph_count_of file))) ∷ []
+glyph_lines file =
+    option_map BadGlyph (find (is_bad_glyph file) (range_with_len 0 (glyph_count_of file))) ∷ []
 
 -- the refusals of a file: of its directory, its tables, its mapping and its glyph records
 abbrev pub font_lines : List ℕ → List (Option FontError)

@@ -103,9 +103,9 @@ impl<'a> Font<'a> {
         Ok(Font { tables, mapping })
     }
 
-    /// Opens the font of a file that [`Font::open`] has accepted before, or of another one of the same bytes. It asks for no
-    /// memory, and tests neither the offsets of `loca` nor the records of glyphs, so that it takes the same time for a font
-    /// of any size.
+    /// Opens the font of a file that [`Font::open`] has accepted before, or of another one of the same bytes. It asks
+    /// for no memory, and tests neither the offsets of `loca` nor the records of glyphs, so that it takes the same time
+    /// for a font of any size.
     ///
     /// The value is the one that `open` gives.
     #[tactic(auto, using(crate::proofs::FontLemmas::is_accepted))]

@@ -10,4 +10,5 @@ marks_after (g ∷ gs) marks = marks_after gs (slice_set marks g true)
 -- the work, once each of these glyphs that has no mark is put at its end and marked
 abbrev pub work_after : List ℕ → List Bool → List ℕ → List ℕ
 work_after [] marks work = work
-work_after (g ∷ gs) marks work = if has marks g then work_after gs marks work else work_after gs (slice_set marks g true) (work ++ g ∷ [])
+work_after (g ∷ gs) marks work =
+    if has marks g then work_after gs marks work else work_after gs (slice_set marks g true) (work ++ g ∷ [])

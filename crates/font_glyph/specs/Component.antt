@@ -18,7 +18,9 @@ arguments_size flags = if has_flag flags 0x0001 then 4 else 2
 -- the bytes of the scales: WE_HAVE_A_SCALE counts before WE_HAVE_AN_X_AND_Y_SCALE, and that before
 -- WE_HAVE_A_TWO_BY_TWO
 abbrev pub scales_size : ℕ → ℕ
-scales_size flags = if has_flag flags 0x0008 then 2 else if has_flag flags 0x0040 then 4 else if has_flag flags 0x0080 then 8 else 0
+scales_size flags =
+    if has_flag flags 0x0008 then 2 else if has_flag flags 0x0040 then 4 else if has_flag flags 0x0080 then 8
+    else 0
 
 -- the bytes of a component: flags, glyphIndex, arguments and scales
 unfoldable pub component_size : ℕ → ℕ

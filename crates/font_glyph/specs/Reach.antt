@@ -34,7 +34,8 @@ any_below p (suc n) = p n || any_below p n
 abbrev pub reached_within : (ℕ → List ℕ) → (ℕ → Bool) → ℕ → ℕ → ℕ → Bool
 reached_within records seeds count zero g = seeds g
 reached_within records seeds count (suc k) g =
-    reached_within records seeds count k g || any_below (λ s. reached_within records seeds count k s && names (records s) g) count
+    reached_within records seeds count k g
+    || any_below (λ s. reached_within records seeds count k s && names (records s) g) count
 
 -- what is found in enough rounds that no more can be found
 unfoldable pub reached : (ℕ → List ℕ) → (ℕ → Bool) → ℕ → ℕ → Bool

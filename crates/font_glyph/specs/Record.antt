@@ -8,7 +8,8 @@ use Rattle.font_glyph.specs.declared.component.Component.{Component}
 abbrev pub Chain : List ℕ → List Component → Type 0
 Chain bytes [] = ⊥
 Chain bytes (c ∷ []) = StartsWith bytes c × (has_more c.flags ≡ false)
-Chain bytes (c ∷ d ∷ rest) = StartsWith bytes c × (has_more c.flags ≡ true) × Chain (drop (component_size c.flags) bytes) (d ∷ rest)
+Chain bytes (c ∷ d ∷ rest) =
+    StartsWith bytes c × (has_more c.flags ≡ true) × Chain (drop (component_size c.flags) bytes) (d ∷ rest)
 
 -- ten bytes of header, with numberOfContours not below 0
 abbrev pub IsSimple : List ℕ → Type 0
@@ -31,7 +32,8 @@ HasList b = (list : List Component) × ComponentList b list
 
 -- the record has a list of components, all of them glyphs below a count
 unfoldable pub IsRecord : ℕ → List ℕ → Type 0
-IsRecord count b = (list : List Component) × ComponentList b list × All (λ component. component.glyph < count) list
+IsRecord count b =
+    (list : List Component) × ComponentList b list × All (λ component. component.glyph < count) list
 
 -- the bytes begin with some components
 abbrev pub HasChain : List ℕ → Type 0
@@ -39,7 +41,8 @@ HasChain bytes = (list : List Component) × Chain bytes list
 
 -- the bytes begin with components, all of them glyphs below a count
 abbrev pub IsChain : ℕ → List ℕ → Type 0
-IsChain count bytes = (list : List Component) × Chain bytes list × All (λ component. component.glyph < count) list
+IsChain count bytes =
+    (list : List Component) × Chain bytes list × All (λ component. component.glyph < count) list
 
 -- the glyphs of components
 abbrev pub glyphs_of : List Component → List ℕ
@@ -51,7 +54,8 @@ chain_of zero bytes = None
 chain_of (suc n) bytes =
     let c = first_component bytes in
     if nat_lt (length bytes) (component_size c.flags) then None
-    else if has_more c.flags then option_map (λ rest. c ∷ rest) (chain_of n (drop (component_size c.flags) bytes))
+    else if has_more c.flags then
+    option_map (λ rest. c ∷ rest) (chain_of n (drop (component_size c.flags) bytes))
     else Some (c ∷ [])
 
 -- the components that bytes begin with, where they do

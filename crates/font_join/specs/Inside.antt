@@ -47,14 +47,16 @@ abbrev pub IsTooLargeFile : List ℕ → JoinError → Type 0
 IsTooLargeFile z error = (error ≡ TooLarge (length z)) × (MAX_FILE < length z)
 
 -- the first of some files is in cut form, and C is what its content is written as
-pub record IsFirstUnion (R : Format) (spelled : Content → Content) (files : List (List ℕ)) (C : Content) : Type 0 where
+pub record IsFirstUnion (R : Format) (spelled : Content → Content) (files : List (List ℕ)) (C : Content)
+    : Type 0 where
   pub some : 0 < length files
   pub form : IsCut R (file_at files 0)
   pub spells : Spells R spelled C (content_of_all R (file_at files 0))
 
 -- C is what the content of the file is written as that stands after all steps, the first of which joins the
 -- first file with itself
-pub record IsUnited (R : Format) (spelled : Content → Content) (files : List (List ℕ)) (C : Content) : Type 0 where
+pub record IsUnited (R : Format) (spelled : Content → Content) (files : List (List ℕ)) (C : Content)
+    : Type 0 where
   pub some : 0 < length files
   pub last : List ℕ
   pub stands : Stands R files (length files) last
@@ -84,7 +86,9 @@ early_difference K L = first_of_lines
 
 -- the first refusal of a file that is added to a content, but for the size
 unfoldable pub add_fault : Format → Content → List ℕ → Option JoinError
-add_fault R K y = first_of_lines (when (not (is_cut R y)) (NotACut Second) ∷ option_map different (difference K (content_of_all R y)) ∷ [])
+add_fault R K y =
+    first_of_lines (when (not (is_cut R y)) (NotACut Second)
+    ∷ option_map different (difference K (content_of_all R y)) ∷ [])
 
 -- a file in cut form agrees with a content in its tables and its map
 pub record AgreesEarly (K : Content) (y : List ℕ) : Type 0 where

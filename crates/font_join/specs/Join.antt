@@ -87,6 +87,8 @@ pub record IsLeastUpper (R : Format) (x y z : List ℕ) : Type 0 where
 -- what a refusal says: no file has both as cuts, or they agree and their join is too large
 abbrev pub RefusalIsRight : Format → List ℕ → List ℕ → JoinError → Type 0
 RefusalIsRight R x y NoMemory = Unit {0}
-RefusalIsRight R x y (Font which error) = error ≢ Directory FileTooLarge → (F : List ℕ) → Under R x F → Under R y F → ⊥
-RefusalIsRight R x y (TooLarge size) = Agree (content_of_all R x) (content_of_all R y) × (size ≡ length (joined R x y)) × (MAX_FILE < size)
+RefusalIsRight R x y (Font which error) =
+    error ≢ Directory FileTooLarge → (F : List ℕ) → Under R x F → Under R y F → ⊥
+RefusalIsRight R x y (TooLarge size) =
+    Agree (content_of_all R x) (content_of_all R y) × (size ≡ length (joined R x y)) × (MAX_FILE < size)
 RefusalIsRight R x y _ = (F : List ℕ) → Under R x F → Under R y F → ⊥

@@ -63,27 +63,32 @@ IsForDifference (At step (DifferentGlyph g)) = Unit {0}
 IsForDifference _ = ⊥
 
 -- z went out between two moments, and has this number of bytes
-pub record IsSentAs {W : Type 0} (contents : W → Option (List ℕ)) (old new : Outlet W) (z : List ℕ) (size : ℕ) : Type 0 where
+pub record IsSentAs {W : Type 0} (contents : W → Option (List ℕ)) (old new : Outlet W) (z : List ℕ) (size : ℕ)
+    : Type 0 where
   pub size_is : size ≡ length z
   pub sends : WentOut contents old new z
 
 -- the join of all files went out, and has this number of bytes
-pub record SendsAll {W : Type 0} (R : Format) (contents : W → Option (List ℕ)) (old new : Outlet W) (files : List (List ℕ)) (size : ℕ) : Type 0 where
+pub record SendsAll {W : Type 0} (R : Format) (contents : W → Option (List ℕ)) (old new : Outlet W)
+    (files : List (List ℕ)) (size : ℕ) : Type 0 where
   pub file : List ℕ
   pub joined : IsAllJoined R files file
   pub sent : IsSentAs contents old new file size
 
 -- a write failed after this number of bytes of z, of which all before went out
-pub record IsCutOff {W : Type 0} (contents : W → Option (List ℕ)) (old new : Outlet W) (z : List ℕ) (written : ℕ) : Type 0 where
+pub record IsCutOff {W : Type 0} (contents : W → Option (List ℕ)) (old new : Outlet W) (z : List ℕ)
+    (written : ℕ) : Type 0 where
   pub broken : broken_of new ≡ true
   pub count : written ≡ written_of new
   pub front : WentOut contents old new (take written z)
 
 -- why the join of a list of files was not sent, and what was: nothing before a write failed, and else a front
 -- of it
-abbrev pub StopsJoin : {W : Type 0} → Format → (W → Option (List ℕ)) → Outlet W → Outlet W → List (List ℕ) → JoinAllIntoError → Type 0
+abbrev pub StopsJoin : {W : Type 0} → Format → (W → Option (List ℕ)) → Outlet W → Outlet W → List (List ℕ) →
+    JoinAllIntoError → Type 0
 StopsJoin R contents old new files (NotJoined error) = (new ≡ old) × IsAllRefusal R files error
-StopsJoin R contents old new files (WriteFault written) = (z : List ℕ) × IsAllJoined R files z × IsCutOff contents old new z written
+StopsJoin R contents old new files (WriteFault written) =
+    (z : List ℕ) × IsAllJoined R files z × IsCutOff contents old new z written
 
 -- memory is refused, or the cut for the first sets is too large, or a write failed
 abbrev pub IsForSizeInto : Format → List ℕ → (ℕ → ℕ → Bool) → List (List ℕ) → JoinAllIntoError → Type 0
@@ -94,32 +99,43 @@ IsForSizeInto R F A files (WriteFault written) = Unit {0}
 -- file
 
 -- cuts of one file give its cut for all their codes
-abbrev pub GivesCutOfUnion : {T E : Type 0} → Format → List (List ℕ) → Result T E → (List ℕ → T → Type 0) → (List ℕ → (ℕ → ℕ → Bool) → List (List ℕ) → E → Type 0) → Type 0
+abbrev pub GivesCutOfUnion : {T E : Type 0} → Format → List (List ℕ) → Result T E → (List ℕ → T → Type 0) →
+    (List ℕ → (ℕ → ℕ → Bool) → List (List ℕ) → E → Type 0) → Type 0
 GivesCutOfUnion R files result gives is_for_size =
-    (F : List ℕ) (A : ℕ → ℕ → Bool) → AreCuts R F A files → MatchResult result (gives (cut R F (union_below A (length files)))) (is_for_size F A files)
+    (F : List ℕ) (A : ℕ → ℕ → Bool) → AreCuts R F A files →
+    MatchResult result (gives (cut R F (union_below A (length files)))) (is_for_size F A files)
 
 -- the value of a tree of joins is given
-abbrev pub GivesValue : {T E : Type 0} → Format → Result T E → (List ℕ → T → Type 0) → JoinTree (List ℕ) → Type 0
+abbrev pub GivesValue : {T E : Type 0} → Format → Result T E → (List ℕ → T → Type 0) → JoinTree (List ℕ) →
+    Type 0
 GivesValue R result gives t = IfOk result (λ answer. (z : List ℕ) × gives z answer × Value R t z)
 
 -- that of each tree over the files where these are cuts of one file, and no value in the tree is too large
-abbrev pub AgreesWithTreesOfCuts : {T E : Type 0} → Format → List (List ℕ) → Result T E → (List ℕ → T → Type 0) → Type 0
+abbrev pub AgreesWithTreesOfCuts : {T E : Type 0} → Format → List (List ℕ) → Result T E →
+    (List ℕ → T → Type 0) → Type 0
 AgreesWithTreesOfCuts R files result gives =
-    (F : List ℕ) (t : JoinTree (ℕ → Bool)) → font_fault F ≡ None → IsOver files (cuts R F t) → IsSmall R (cuts R F t) → GivesValue R result gives (cuts R F t)
+    (F : List ℕ) (t : JoinTree (ℕ → Bool)) → font_fault F ≡ None → IsOver files (cuts R F t) →
+    IsSmall R (cuts R F t) → GivesValue R result gives (cuts R F t)
 
 -- that of each tree over the files where these are current
-abbrev pub AgreesWithTreesOfCurrentFiles : {T E : Type 0} → Format → List (List ℕ) → Result T E → (List ℕ → T → Type 0) → Type 0
+abbrev pub AgreesWithTreesOfCurrentFiles : {T E : Type 0} → Format → List (List ℕ) → Result T E →
+    (List ℕ → T → Type 0) → Type 0
 AgreesWithTreesOfCurrentFiles R files result gives =
-    ((k : ℕ) → k < length files → IsCurrent R (file_at files k)) → (t : JoinTree (List ℕ)) → IsOver files t → IsSmall R t → GivesValue R result gives t
+    ((k : ℕ) → k < length files → IsCurrent R (file_at files k)) → (t : JoinTree (List ℕ)) → IsOver files t →
+    IsSmall R t → GivesValue R result gives t
 
 -- each tree over the files has a value, and that written anew is given
-abbrev pub AgreesWithEveryTree : {T E : Type 0} → Format → List (List ℕ) → Result T E → (List ℕ → T → Type 0) → Type 0
+abbrev pub AgreesWithEveryTree : {T E : Type 0} → Format → List (List ℕ) → Result T E →
+    (List ℕ → T → Type 0) → Type 0
 AgreesWithEveryTree R files result gives =
-    (t : JoinTree (List ℕ)) → IsOver files t → IsSmall R t → IfOk result (λ answer. (v : List ℕ) × Value R t v × gives (renewed R v) answer)
+    (t : JoinTree (List ℕ)) → IsOver files t → IsSmall R t →
+    IfOk result (λ answer. (v : List ℕ) × Value R t v × gives (renewed R v) answer)
 
 -- the laws of an answer: it is the value of the tree that grows file by file; over cuts of one file it is the
 -- cut for all their codes, or too large; and it is what each other tree over the files comes to
-pub record JoinLaws {T E : Type 0} (R : Format) (files : List (List ℕ)) (result : Result T E) (gives : List ℕ → T → Type 0) (is_for_size : List ℕ → (ℕ → ℕ → Bool) → List (List ℕ) → E → Type 0) : Type 0 where
+pub record JoinLaws {T E : Type 0} (R : Format) (files : List (List ℕ)) (result : Result T E)
+    (gives : List ℕ → T → Type 0) (is_for_size : List ℕ → (ℕ → ℕ → Bool) → List (List ℕ) → E → Type 0)
+    : Type 0 where
   pub value : GivesValue R result gives (grown files (length files))
   pub cuts : GivesCutOfUnion R files result gives is_for_size
   pub grouping : AgreesWithTreesOfCuts R files result gives
@@ -129,4 +145,5 @@ pub record JoinLaws {T E : Type 0} (R : Format) (files : List (List ℕ)) (resul
 -- a refusal for a difference: each tree over the files meets one, where all are in cut form
 abbrev pub EveryTreeDiffers : Format → List (List ℕ) → JoinAllError → Type 0
 EveryTreeDiffers R files error =
-    ((k : ℕ) → k < length files → IsCut R (file_at files k)) → (t : JoinTree (List ℕ)) → IsOver files t → IsSmall R t → IsForDifference error → Differs R t
+    ((k : ℕ) → k < length files → IsCut R (file_at files k)) → (t : JoinTree (List ℕ)) → IsOver files t →
+    IsSmall R t → IsForDifference error → Differs R t

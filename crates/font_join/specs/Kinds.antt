@@ -15,7 +15,12 @@ unfolding our_format
 our_format-file K = refl
 
 pub our_kind : IsKind our_format (λ K. K)
-our_kind = record { law = our_format-is; fault = our_format-fault; limit = our_format-limit; writes = our_format-file }
+our_kind = record {
+  law = our_format-is;
+  fault = our_format-fault;
+  limit = our_format-limit;
+  writes = our_format-file;
+}
 
 pub lean_kind : IsKind lean_format spelled_out
 unfolding lean_format

@@ -17,7 +17,8 @@ blank_in copied header slot =
     option_map (blank (pairs_in copied header slot) (glyph_count copied)) (copied slot)
 
 -- two tables are those of metrics of a content, with zeros for the bytes of each glyph
-pub record AreBlanks (copied : ℕ → Option (List ℕ)) (tables : Option (List ℕ) × Option (List ℕ)) : Type 0 where
+pub record AreBlanks (copied : ℕ → Option (List ℕ)) (tables : Option (List ℕ) × Option (List ℕ))
+    : Type 0 where
   pub across : tables.0 ≡ blank_in copied HHEA HMTX
   pub down : tables.1 ≡ blank_in copied VHEA VMTX
 
@@ -37,7 +38,8 @@ metrics_by tables g = metric_bytes tables.0.0 tables.0.1 g ++ metric_bytes table
 -- both keep the glyph, with other metrics
 abbrev pub has_other_metrics : Content → Content → ℕ → Bool
 has_other_metrics C D g =
-    is_some (C.outline g) && (is_some (D.outline g) && not (bytes_eq (metrics_at C.copied g) (metrics_at D.copied g)))
+    is_some (C.outline g)
+    && (is_some (D.outline g) && not (bytes_eq (metrics_at C.copied g) (metrics_at D.copied g)))
 
 -- the lesser of two numbers, where there is one
 abbrev pub least_of : Option ℕ → Option ℕ → Option ℕ

@@ -7,7 +7,8 @@ use Rattle.font_join.specs.Union.{Held, listed_outline}
 
 -- tables, with others for `hmtx` and `vmtx`
 unfoldable pub replaced : (ℕ → Option (List ℕ)) → Option (List ℕ) → Option (List ℕ) → ℕ → Option (List ℕ)
-replaced copied hmtx vmtx slot = if nat_eq slot HMTX then hmtx else if nat_eq slot VMTX then vmtx else copied slot
+replaced copied hmtx vmtx slot =
+    if nat_eq slot HMTX then hmtx else if nat_eq slot VMTX then vmtx else copied slot
 
 -- what is held of a union of lean cuts
 pub record HeldLean : Type 0 where

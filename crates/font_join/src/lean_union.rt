@@ -221,7 +221,8 @@ impl<'f, 'a, A: Allocator + Copy> LeanUnion<'f, 'a, A> {
         requires early { (K : Content) → Spells lean_format spelled_out (lean_in self) K →
             early_difference K (content_of_all lean_format file) ≡ None }
         ensures { (K : Content) → Spells lean_format spelled_out (lean_in self.entry) K → MatchResult result
-            (λ union. Spells lean_format spelled_out (lean_in union) (both K (content_of_all lean_format file.entry))
+            (λ union. Spells lean_format spelled_out (lean_in union)
+            (both K (content_of_all lean_format file.entry))
             × (difference K (content_of_all lean_format file.entry) ≡ None))
             (IsAddRefusal lean_format K file.entry) }
     {
@@ -286,7 +287,8 @@ impl<'f, 'a, A: Allocator + Copy> Growing<'a, A> for LeanUnion<'f, 'a, A> {
 
     fn add(self, alloc: A, font: &Font<'a>) -> Result<LeanUnion<'f, 'a, A>, JoinError>
         ensures { (K : Content) → Spells lean_format spelled_out (lean_in self.entry) K → MatchResult result
-            (λ union. Spells lean_format spelled_out (lean_in union) (both K (content_of_all lean_format font.now))
+            (λ union. Spells lean_format spelled_out (lean_in union)
+            (both K (content_of_all lean_format font.now))
             × (add_fault lean_format K font.now ≡ None)) (IsAddRefusal lean_format K font.now) }
     {
         let file = lean_listed(alloc, font, Which::Second)?;
@@ -329,7 +331,8 @@ impl<'a, A: Allocator + Copy> LeanUnion<'a, 'a, A> {
         y: &'a Font<'a>,
     ) -> Result<LeanUnion<'a, 'a, A>, JoinError>
         ensures { MatchResult result (λ joined. (lean_in joined
-            ≡ spelled_out (both (content_of_all lean_format x.entry.now) (content_of_all lean_format y.entry.now)))
+            ≡ spelled_out
+            (both (content_of_all lean_format x.entry.now) (content_of_all lean_format y.entry.now)))
             × (union_fault lean_format x.entry.now y.entry.now ≡ None))
             (IsUnionRefusal lean_format x.entry.now y.entry.now) }
     {

@@ -162,7 +162,8 @@ impl<'f, 'a, A: Allocator + Copy> Growing<'a, A> for Union<'f, 'a, A> {
 
     fn add(self, alloc: A, font: &Font<'a>) -> Result<Union<'f, 'a, A>, JoinError>
         ensures { (K : Content) → Spells our_format (λ L. L) (content_in self.entry) K → MatchResult result
-            (λ union. Spells our_format (λ L. L) (content_in union) (both K (content_of_all our_format font.now))
+            (λ union. Spells our_format (λ L. L) (content_in union)
+            (both K (content_of_all our_format font.now))
             × (add_fault our_format K font.now ≡ None)) (IsAddRefusal our_format K font.now) }
     {
         recall_accepted(font);

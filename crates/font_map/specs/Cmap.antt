@@ -24,15 +24,20 @@ is_candidate cmap platform encoding k = let s = subtable_at cmap k in
 
 -- the first listed candidate of a platform and an encoding
 unfoldable pub candidate_of : List ℕ → ℕ → ℕ → Option ℕ
-candidate_of cmap platform encoding = find (is_candidate cmap platform encoding) (range_with_len 0 (encoding_count cmap))
+candidate_of cmap platform encoding =
+    find (is_candidate cmap platform encoding) (range_with_len 0 (encoding_count cmap))
 
 -- the first candidate in the order 3/10, 0/4, 3/1, 0/3
 unfoldable pub chosen_record : List ℕ → Option ℕ
-chosen_record cmap = first_of_lines (candidate_of cmap 3 10 ∷ candidate_of cmap 0 4 ∷ candidate_of cmap 3 1 ∷ candidate_of cmap 0 3 ∷ [])
+chosen_record cmap =
+    first_of_lines
+    (candidate_of cmap 3 10 ∷ candidate_of cmap 0 4 ∷ candidate_of cmap 3 1 ∷ candidate_of cmap 0 3 ∷ [])
 
 -- platformID, encodingID and format of the chosen record
 unfoldable pub chosen_of : List ℕ → ℕ × ℕ × ℕ
-chosen_of cmap = option_map_or (λ k. (u16_at cmap (4 + 8 * k), u16_at cmap (6 + 8 * k), u16_at (subtable_at cmap k) 0)) (chosen_record cmap) (0, 0, 0)
+chosen_of cmap =
+    option_map_or (λ k. (u16_at cmap (4 + 8 * k), u16_at cmap (6 + 8 * k), u16_at (subtable_at cmap k) 0))
+    (chosen_record cmap) (0, 0, 0)
 
 -- a subtable has fewer than 16 bytes, an odd segCountX2, or segments or groups that do not all lie within
 -- `cmap`

@@ -13,4 +13,5 @@ listed_glyph s c = if nat_eq (u16_at s 0) 4 then segment_glyph s c else group_gl
 
 -- the map of the chosen subtable to this number of glyphs
 unfoldable pub mapping_of : List ℕ → ℕ → ℕ → ℕ
-mapping_of cmap glyphs = clipped glyphs (λ c. option_map_or (λ k. listed_glyph (subtable_at cmap k) c) (chosen_record cmap) 0)
+mapping_of cmap glyphs =
+    clipped glyphs (λ c. option_map_or (λ k. listed_glyph (subtable_at cmap k) c) (chosen_record cmap) 0)

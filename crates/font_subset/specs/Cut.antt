@@ -56,11 +56,13 @@ IsCutRefusal cut (cut_errors.TooLarge size) = IsTooLarge cut size
 
 -- why a cut was not sent, and what was: nothing before a write failed, and else a front of it, which is not
 -- too large
-abbrev pub StopsCut : {W : Type 0} → (W → Option (List ℕ)) → Outlet W → Outlet W → List ℕ → CutIntoError → Type 0
+abbrev pub StopsCut : {W : Type 0} → (W → Option (List ℕ)) → Outlet W → Outlet W → List ℕ → CutIntoError →
+    Type 0
 StopsCut contents old new cut into_errors.NoMemory = new ≡ old
 StopsCut contents old new cut (into_errors.TooLarge size) = (new ≡ old) × IsTooLarge cut size
 StopsCut contents old new cut (into_errors.WriteFault written) =
-    (length cut ≤ MAX_FILE) × (broken_of new ≡ true) × (written ≡ written_of new) × WentOut contents old new (take written cut)
+    (length cut ≤ MAX_FILE) × (broken_of new ≡ true) × (written ≡ written_of new)
+    × WentOut contents old new (take written cut)
 
 -- a cut is accepted, has no finding, has the font's metrics, maps the wanted codes as the font does and no
 -- others, and keeps the outlines of what their glyphs lead to, up to zeros after them; and its cuts are the
@@ -71,6 +73,8 @@ pub record IsSound (file : List ℕ) (wanted : ℕ → Bool) (made : List ℕ) :
   pub metrics : (g : ℕ) → metric_of made g ≡ metric_of file g
   pub wanted_codes : (c : ℕ) → wanted c ≡ true → map_of made c ≡ map_of file c
   pub other_codes : (c : ℕ) → wanted c ≡ false → map_of made c ≡ 0
-  pub kept : (c : ℕ) → wanted c ≡ true → (g : ℕ) → Reach (outline_of file) (nat_eq (map_of file c)) g → outline_of made g ≡ padded (outline_of file g)
+  pub kept :
+      (c : ℕ) → wanted c ≡ true → (g : ℕ) → Reach (outline_of file) (nat_eq (map_of file c)) g →
+      outline_of made g ≡ padded (outline_of file g)
   pub cut_form : IsCurrent our_format made
   pub cuts : (others : ℕ → Bool) → cut_of made others ≡ cut_of file (λ c. wanted c && others c)

@@ -62,6 +62,7 @@ pub record AreCopied (from : List ℕ) (at size : ℕ) (old new : List ℕ) : Ty
   pub outside : (j : ℕ) → (j < at) ⊎ (at + size ≤ j) → slice_index new j ≡ slice_index old j
 
 -- the table of a slot that a lean cut has anew, or none where it has that of the font
-pub record IsMadeTable (cut : List ℕ × Option (List Range)) (slot : ℕ) (table : Option (List ℕ)) : Type 0 where
+pub record IsMadeTable (cut : List ℕ × Option (List Range)) (slot : ℕ) (table : Option (List ℕ))
+    : Type 0 where
   pub is : option_or table ((font_of cut.0).copied slot) ≡ (lean_content cut).copied slot
   pub small : length (unwrap_or table []) ≤ MAX_FILE

@@ -28,7 +28,9 @@ pub record IsLeanSound (file : List ℕ) (wanted : ℕ → Bool) (made : List �
   pub clean : findings_of made ≡ []
   pub wanted_codes : (c : ℕ) → wanted c ≡ true → map_of made c ≡ map_of file c
   pub other_codes : (c : ℕ) → wanted c ≡ false → map_of made c ≡ 0
-  pub kept : (c : ℕ) → wanted c ≡ true → (g : ℕ) → Reach (outline_of file) (nat_eq (map_of file c)) g → outline_of made g ≡ padded (outline_of file g)
+  pub kept :
+      (c : ℕ) → wanted c ≡ true → (g : ℕ) → Reach (outline_of file) (nat_eq (map_of file c)) g →
+      outline_of made g ≡ padded (outline_of file g)
   pub metrics : (g : ℕ) → is_kept (font_of file) wanted g ≡ true → metric_of made g ≡ metric_of file g
   pub vertical : (g : ℕ) → is_kept (font_of file) wanted g ≡ true →
       metrics_at (font_of made).copied g ≡ metrics_at (font_of file).copied g

@@ -56,7 +56,8 @@ pub fn file_in_memory<S: Source, A: Allocator + Copy>(
     alloc: A,
     source: &S,
 ) -> Result<Vec<u8, A>, CutError>
-    ensures exact { MatchResult result (λ v. IsWritten (file current_layout (S.content_of source.now)) v.items)
+    ensures exact { MatchResult result
+        (λ v. IsWritten (file current_layout (S.content_of source.now)) v.items)
         (IsCutRefusal (file current_layout (S.content_of source.now))) }
     ensures size_first { IfErr result (λ error. error ≡ CutNoMemory →
         length (file current_layout (S.content_of source.now)) ≤ MAX_FILE) }

@@ -8,7 +8,8 @@ use Rattle.font_tables.specs.Tables.{glyf_of, hmtx_of, loca_of}
 use Rattle.font_tables.specs.declared.loca.LocaForm.{LocaForm}
 
 -- the tables and fields of a file that nothing refuses
-pub record IsOpened (file hmtx loca glyf : List ℕ) (glyph_count units_per_em metric_count : ℕ) (form : LocaForm) : Type 0 where
+pub record IsOpened (file hmtx loca glyf : List ℕ) (glyph_count units_per_em metric_count : ℕ)
+    (form : LocaForm) : Type 0 where
   pub hmtx_is : hmtx ≡ hmtx_of file
   pub loca_is : loca ≡ loca_of file
   pub glyf_is : glyf ≡ glyf_of file

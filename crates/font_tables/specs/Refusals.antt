@@ -18,15 +18,19 @@ is_missing file tag = is_none (table_of file tag)
 
 -- fewer than 54 bytes, another magicNumber, or an indexToLocFormat that is not 0 or 1
 abbrev pub is_bad_head : List ℕ → Bool
-is_bad_head head = nat_lt (length head) 54 || not (nat_eq (magic_number head) 0x5F0F3CF5) || nat_lt 1 (index_to_loc_format head)
+is_bad_head head =
+    nat_lt (length head) 54 || not (nat_eq (magic_number head) 0x5F0F3CF5)
+    || nat_lt 1 (index_to_loc_format head)
 
 -- fewer than 32 bytes, a version that is not 1.0, or no glyph
 abbrev pub is_bad_maxp : List ℕ → Bool
-is_bad_maxp maxp = nat_lt (length maxp) 32 || not (nat_eq (maxp_version maxp) 0x00010000) || nat_eq (num_glyphs maxp) 0
+is_bad_maxp maxp =
+    nat_lt (length maxp) 32 || not (nat_eq (maxp_version maxp) 0x00010000) || nat_eq (num_glyphs maxp) 0
 
 -- fewer than 36 bytes, no pair, or more pairs than glyphs
 abbrev pub is_bad_hhea : List ℕ → ℕ → Bool
-is_bad_hhea hhea glyphs = nat_lt (length hhea) 36 || nat_eq (number_of_h_metrics hhea) 0 || nat_lt glyphs (number_of_h_metrics hhea)
+is_bad_hhea hhea glyphs =
+    nat_lt (length hhea) 36 || nat_eq (number_of_h_metrics hhea) 0 || nat_lt glyphs (number_of_h_metrics hhea)
 
 -- no room for h pairs, and for a bearing of each glyph past them
 abbrev pub is_bad_hmtx : List ℕ → ℕ → ℕ → Bool

@@ -35,7 +35,8 @@ pub record Content : Type 0 where
 
 -- `cmap`, `glyf`, `head` and `loca`, which a cut makes anew, and what is no slot
 abbrev pub is_made : ℕ → Bool
-is_made slot = nat_eq slot CMAP || nat_eq slot GLYF || nat_eq slot HEAD || nat_eq slot LOCA || nat_le SLOTS slot
+is_made slot =
+    nat_eq slot CMAP || nat_eq slot GLYF || nat_eq slot HEAD || nat_eq slot LOCA || nat_le SLOTS slot
 
 -- the table in a slot, empty where there is none
 abbrev pub table_in_slot : (ℕ → Option (List ℕ)) → ℕ → List ℕ

@@ -27,15 +27,20 @@ Writes R K X = (R.file K ≡ X) ⊎ (R.old K ≡ X)
 
 -- a content that accepted files come to by cuts and joins
 pub data Arises (R : Format) : Content → Type 0 where
-  of_file : {K : Content} (X : List ℕ) (wanted : ℕ → Bool) → R.fault X ≡ None → content (R.font X) wanted ≡ K → Arises R K
+  of_file : {K : Content} (X : List ℕ) (wanted : ℕ → Bool) → R.fault X ≡ None →
+      content (R.font X) wanted ≡ K → Arises R K
   of_two : {K : Content} (L M : Content) → Arises R L → Arises R M → Agree L M → both L M ≡ K → Arises R K
 
 -- what binds a reader and a writer
 pub record IsFormat (R : Format) : Type 0 where
   pub is_font : (X : List ℕ) → R.fault X ≡ None → IsFont (R.font X)
   pub accepted_size : (X : List ℕ) → R.fault X ≡ None → length X ≤ R.limit
-  pub refused_size : (X : List ℕ) (error : FontError) → R.fault X ≡ Some error → error ≢ Directory FileTooLarge → length X ≤ R.limit
-  pub reads_back : (K : Content) (X : List ℕ) → Arises R K → Writes R K X → length X ≤ R.limit → (R.fault X ≡ None) × (R.font X ≡ read_back K)
+  pub refused_size :
+      (X : List ℕ) (error : FontError) → R.fault X ≡ Some error → error ≢ Directory FileTooLarge →
+      length X ≤ R.limit
+  pub reads_back :
+      (K : Content) (X : List ℕ) → Arises R K → Writes R K X → length X ≤ R.limit →
+      (R.fault X ≡ None) × (R.font X ≡ read_back K)
 
 -- the cut of a file for the wanted codes
 abbrev pub cut : Format → List ℕ → (ℕ → Bool) → List ℕ
@@ -101,7 +106,8 @@ pub record CanJoin (R : Format) (X Y : List ℕ) : Type 0 where
 
 -- the reader of this program, a form that is written, and one that is read as a cut too
 abbrev pub format_of : Layout → Layout → Format
-format_of layout old = record { fault = font_fault; font = font_of; file = file layout; old = file old; limit = MAX_FILE }
+format_of layout old =
+    record { fault = font_fault; font = font_of; file = file layout; old = file old; limit = MAX_FILE }
 
 -- the reader and the writer of this program, which reads cuts of the first profile too
 unfoldable pub our_format : Format

@@ -11,7 +11,9 @@ use Rattle.font_theory.specs.declared.Difference.TheVariants.{AtCode, AtGlyph, A
 
 -- a copied table that one lacks or that differs, or `head`
 unfoldable pub is_different_table : Content → Content → ℕ → Bool
-is_different_table K L slot = if nat_eq slot HEAD then not (bytes_eq K.head L.head) else not (option_eq bytes_eq (K.copied slot) (L.copied slot))
+is_different_table K L slot =
+    if nat_eq slot HEAD then not (bytes_eq K.head L.head)
+    else not (option_eq bytes_eq (K.copied slot) (L.copied slot))
 
 -- both map the code, to two glyphs
 unfoldable pub is_different_code : Content → Content → ℕ → Bool

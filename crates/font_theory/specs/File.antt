@@ -104,7 +104,9 @@ glyf_bytes layout outlines = concat outlines ++ behind layout (concat outlines)
 -- what is asked of a form: its `cmap` is accepted, and maps by its groups
 pub record IsLayout (layout : Layout) : Type 0 where
   pub accepted : (runs : List Run) → map_fault (cmap_bytes layout runs) ≡ None
-  pub maps : (runs : List Run) (glyphs : ℕ) → mapping_of (cmap_bytes layout runs) glyphs ≡ clipped glyphs (spelled runs)
+  pub maps :
+      (runs : List Run) (glyphs : ℕ) →
+      mapping_of (cmap_bytes layout runs) glyphs ≡ clipped glyphs (spelled runs)
 
 -- a table that is written
 pub record Table : Type 0 where
@@ -123,12 +125,17 @@ bytes_in_slot layout K head slot =
 
 -- the checksum of the table in a slot: that of `head` is taken with checksumAdjustment 0
 abbrev pub checksum_in_slot : ℕ → List ℕ → ℕ
-checksum_in_slot slot bytes = if nat_eq slot HEAD then checksum_of (without_field bytes 8) else checksum_of bytes
+checksum_in_slot slot bytes =
+    if nat_eq slot HEAD then checksum_of (without_field bytes 8) else checksum_of bytes
 
 -- the table in a slot, where there is one
 abbrev pub table_in : Layout → Content → List ℕ → ℕ → Option Table
 table_in layout K head slot =
-    option_map (λ bytes. record { tag = kept_tag slot; checksum = checksum_in_slot slot bytes; bytes = bytes }) (bytes_in_slot layout K head slot)
+    option_map (λ bytes. record {
+      tag = kept_tag slot;
+      checksum = checksum_in_slot slot bytes;
+      bytes = bytes;
+    }) (bytes_in_slot layout K head slot)
 
 -- the tables in n slots from a given one on
 abbrev pub tables_from : Layout → Content → List ℕ → ℕ → ℕ → List Table
@@ -147,7 +154,9 @@ entry_bytes entry = entry.tag.0 ++ (bytes32 entry.checksum ++ (bytes32 entry.off
 
 -- searchRange, entrySelector and rangeShift for n tables
 abbrev pub search_bytes : ℕ → List ℕ
-search_bytes n = option_map_or (λ fields. bytes16 fields.0 ++ (bytes16 fields.1 ++ bytes16 fields.2)) (search_fields_of n) []
+search_bytes n =
+    option_map_or (λ fields. bytes16 fields.0 ++ (bytes16 fields.1 ++ bytes16 fields.2)) (search_fields_of n)
+    []
 
 -- sfntVersion 1.0, numTables and the search fields
 unfoldable pub header_bytes : ℕ → List ℕ
@@ -159,7 +168,9 @@ bodies_of tables = flat_map (λ table. padded table.bytes) tables
 
 -- a file of tables: header, records and bodies
 unfoldable pub file_of : List Table → List ℕ
-file_of tables = header_bytes (length tables) ++ (flat_map entry_bytes (entries_at (12 + 16 * length tables) tables) ++ bodies_of tables)
+file_of tables =
+    header_bytes (length tables)
+    ++ (flat_map entry_bytes (entries_at (12 + 16 * length tables) tables) ++ bodies_of tables)
 
 -- the file of a content with this `head`
 abbrev pub file_with : Layout → Content → List ℕ → List ℕ
@@ -188,4 +199,5 @@ size_with K cmap glyf =
 -- that with the `cmap` and the `glyf` of a form
 unfoldable pub size_of : Layout → Content → ℕ
 size_of layout K =
-    size_with K (4 * length (layout.front (length (groups_of_content K))) + 12 * length (groups_of_content K)) (length (padded (glyf_bytes layout (outlines_of K))))
+    size_with K (4 * length (layout.front (length (groups_of_content K))) + 12 * length (groups_of_content K))
+    (length (padded (glyf_bytes layout (outlines_of K))))

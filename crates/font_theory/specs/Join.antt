@@ -13,4 +13,9 @@ pub record Agree (K L : Content) : Type 0 where
 
 -- the union of two contents
 abbrev pub both : Content → Content → Content
-both K L = record { copied = K.copied; head = K.head; map = united K.map L.map; outline = union_of K.outline L.outline }
+both K L = record {
+  copied = K.copied;
+  head = K.head;
+  map = united K.map L.map;
+  outline = union_of K.outline L.outline;
+}

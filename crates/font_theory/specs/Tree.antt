@@ -11,7 +11,8 @@ pub data JoinTree (A : Type 0) : Type 0 where
 -- v is the value of the tree
 abbrev pub Value : Format → JoinTree (List ℕ) → List ℕ → Type 0
 Value R (leaf x) v = v ≡ x
-Value R (node s t) v = (x : List ℕ) × (y : List ℕ) × Value R s x × Value R t y × CanJoin R x y × (v ≡ joined R x y)
+Value R (node s t) v =
+    (x : List ℕ) × (y : List ℕ) × Value R s x × Value R t y × CanJoin R x y × (v ≡ joined R x y)
 
 -- no value in the tree is too large
 abbrev pub IsSmall : Format → JoinTree (List ℕ) → Type 0
@@ -25,7 +26,8 @@ Clash R x y = IsCut R x × IsCut R y × ¬ Agree (content_of_all R x) (content_o
 -- the tree meets a difference
 abbrev pub Differs : Format → JoinTree (List ℕ) → Type 0
 Differs R (leaf x) = ⊥
-Differs R (node s t) = Differs R s ⊎ (Differs R t ⊎ ((x : List ℕ) × (y : List ℕ) × Value R s x × Value R t y × Clash R x y))
+Differs R (node s t) =
+    Differs R s ⊎ (Differs R t ⊎ ((x : List ℕ) × (y : List ℕ) × Value R s x × Value R t y × Clash R x y))
 
 -- a is taken in the tree
 abbrev pub Takes : {A : Type 0} → JoinTree A → A → Type 0

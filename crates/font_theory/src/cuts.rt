@@ -89,7 +89,8 @@ pub fn metrics_are_kept()
 pub fn cut_is_cut()
     ensures { (R : Format) → IsFormat R → (F : List ℕ) → R.fault F ≡ None → (A : ℕ → Bool) (X : List ℕ) →
         Writes R (content (R.font F) A) X → length X ≤ R.limit
-        → IsCut R X × (R.font X ≡ read_back (content (R.font F) A)) × (content_of_all R X ≡ content (R.font F) A)
+        → IsCut R X × (R.font X ≡ read_back (content (R.font F) A))
+        × (content_of_all R X ≡ content (R.font F) A)
         × ((B : ℕ → Bool) → cut R X B ≡ cut R F (λ c. A c && B c)) }
 {}
 

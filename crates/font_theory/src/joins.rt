@@ -17,7 +17,8 @@ pub fn union_of_cuts()
 
 /// The union of closed contents that agree is closed.
 pub fn union_is_closed()
-    ensures { (K L : Content) → IsClosedContent K → IsClosedContent L → Agree K L → IsClosedContent (both K L) }
+    ensures { (K L : Content) → IsClosedContent K → IsClosedContent L → Agree K L →
+        IsClosedContent (both K L) }
 {}
 
 /// There is no first difference exactly where contents agree.
@@ -67,7 +68,8 @@ pub fn join_of_one()
 /// found.
 pub fn can_join_is_decided()
     ensures { (R : Format) → IsFormat R → (X Y : List ℕ) → R.fault X ≡ None → R.fault Y ≡ None
-        → ((is_cut R X ≡ true) × (is_cut R Y ≡ true) × (difference (content_of_all R X) (content_of_all R Y) ≡ None)) ↔ CanJoin
+        → ((is_cut R X ≡ true) × (is_cut R Y ≡ true)
+        × (difference (content_of_all R X) (content_of_all R Y) ≡ None)) ↔ CanJoin
         R X Y }
 {}
 

@@ -104,7 +104,8 @@ pub fn lean_is_closed()
 /// metrics.
 pub fn lean_agreement_is()
     ensures { (X Y : List ℕ) → font_fault X ≡ None → font_fault Y ≡ None
-        → Agree (content_of_all lean_format X) (content_of_all lean_format Y) ↔ AgreeLean (font_of X) (font_of Y) }
+        → Agree (content_of_all lean_format X) (content_of_all lean_format Y)
+        ↔ AgreeLean (font_of X) (font_of Y) }
 {}
 
 /// The same of contents that accepted files come to, as a union holds them that grows file by file.
@@ -135,11 +136,13 @@ pub fn lean_union_is()
 pub fn lean_join_is()
     ensures { (X Y : List ℕ) → IsCurrent lean_format X → IsCurrent lean_format Y
         → Agree (content_of_all lean_format X) (content_of_all lean_format Y)
-        → ((spelled_out (both (content_of_all lean_format X) (content_of_all lean_format Y))).head ≡ (font_of X).head)
+        → ((spelled_out (both (content_of_all lean_format X) (content_of_all lean_format Y))).head ≡
+        (font_of X).head)
         × ((spelled_out (both (content_of_all lean_format X) (content_of_all lean_format Y))).map
         ≡ united (font_of X).map (font_of Y).map)
         × ((spelled_out (both (content_of_all lean_format X) (content_of_all lean_format Y))).outline
-        ≡ union_of (spelled_out (content_of_all lean_format X)).outline (spelled_out (content_of_all lean_format Y)).outline)
+        ≡ union_of (spelled_out (content_of_all lean_format X)).outline
+        (spelled_out (content_of_all lean_format Y)).outline)
         × ((slot : ℕ) → slot ≢ HMTX → slot ≢ VMTX →
         (spelled_out (both (content_of_all lean_format X) (content_of_all lean_format Y))).copied slot
         ≡ (font_of X).copied slot)

@@ -35,7 +35,8 @@ pub fn same_content()
     ensures { (R : Format) → IsFormat R → (files : List (List ℕ)) →
         ((k : ℕ) → k < length files → IsCut R (file_at files k))
         → (s t : JoinTree (List ℕ)) → IsOver files s → IsOver files t → IsSmall R s → IsSmall R t
-        → (z : List ℕ) → Value R s z → (v : List ℕ) × Value R t v × (content_of_all R v ≡ content_of_all R z) }
+        → (z : List ℕ) → Value R s z →
+        (v : List ℕ) × Value R t v × (content_of_all R v ≡ content_of_all R z) }
 {}
 
 /// Where the tree that grows has a value, each tree over all files that meets no size has a value of

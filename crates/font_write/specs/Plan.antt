@@ -31,7 +31,8 @@ pub record IsMeasure (layout : Layout) (K : Content) (slot : ℕ) (m : Measure) 
 
 -- the measure of a slot
 abbrev pub measure_at : List Measure → ℕ → Measure
-measure_at measures slot = slice_index_or measures slot (record { is_there = false; length = 0; checksum = 0 })
+measure_at measures slot =
+    slice_index_or measures slot (record { is_there = false; length = 0; checksum = 0 })
 
 -- the first n slots are measured
 abbrev pub AreMeasures : Layout → Content → ℕ → List Measure → Type 0

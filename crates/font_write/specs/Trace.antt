@@ -30,7 +30,8 @@ IsFront (Some old) new bytes = (front : List ℕ) × (new ≡ Some front) × IsP
 pub record SentAll (old new : Trace) (bytes : List ℕ) : Type 0 where
   pub fixed : new.fixed ≡ old.fixed
   pub count : new.count ≡ old.count + length bytes
-  pub taken : Appends old.taken new.taken bytes  -- where the old bytes are known, the new ones are these and the bytes
+  -- where the old bytes are known, the new ones are these and the bytes
+  pub taken : Appends old.taken new.taken bytes
   pub going : new.stopped ≡ false
 
 -- a front of the bytes was taken, and it stopped

@@ -23,8 +23,8 @@ const LONGEST: usize = 128 * 1024;
 // The last of the descriptors of standard input, output and error, which are 0 to 2.
 const LAST_STANDARD: i32 = 2;
 
-// Opens `/dev/null`, and leaves it open until the program ends where its descriptor is at most this one. Returns whether
-// it is.
+// Opens `/dev/null`, and leaves it open until the program ends where its descriptor is at most this one. Returns
+// whether it is.
 fn fill(rt: &HostRuntime, how: &OpenOptions, last: i32) -> bool {
     match how.open(rt, "/dev/null") {
         Ok(file) if file.as_raw_fd() <= last => {

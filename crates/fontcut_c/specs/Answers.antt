@@ -46,7 +46,8 @@ sized status size = record { status = status; detail = 0; size = size; step = 0 
 
 -- the same, of a file of a list
 abbrev pub at_step : ℕ → Answer → Answer
-at_step step answer = record { status = answer.status; detail = answer.detail; size = answer.size; step = step }
+at_step step answer =
+    record { status = answer.status; detail = answer.detail; size = answer.size; step = step }
 
 -- what the refusal of a font names: a tag as a number, an index or a glyph, and else 0
 abbrev pub font_argument : FontError → ℕ

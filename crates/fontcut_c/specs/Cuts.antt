@@ -1,5 +1,5 @@
--- What the call for the cuts of many sets answers, this project's own: the first refusal, or the cuts end to end in the
--- caller's room, and the size of each.
+-- What the call for the cuts of many sets answers, this project's own: the first refusal, or the cuts end
+-- to end in the caller's room, and the size of each.
 use Rattle.std.specs.Prelude.{◌≡◌, ℕ, ◌-◌, ◌^◌, ◌<◌, ◌≤◌, min, List, [], ◌∷◌, length, take, drop, map, sum, None, Some, Result, MatchResult, slice_index_or}
 use Rattle.std.specs.List.{concat}
 use Rattle.sfnt_bytes.specs.declared.directory.TheConstants.{MAX_FILE}
@@ -49,8 +49,8 @@ pub record IsFirstLarge (cuts : List (List ℕ)) (size : ℕ) : Type 0 where
 abbrev pub size_of_all : List (List ℕ) → ℕ
 size_of_all cuts = min (length (concat cuts)) (2 ^ 64 - 1)
 
--- why the cuts are not written: the font, then the ranges in turn, then memory or the first cut that is too large, and
--- then the room
+-- why the cuts are not written: the font, then the ranges in turn, then memory or the first cut that is too
+-- large, and then the room
 abbrev pub RefusesCuts : List ℕ → List CodeRange → List (List ℕ) → ℕ → Refusal → Type 0
 RefusesCuts font ranges cuts room (Font error) = font_fault font ≡ Some error
 RefusesCuts font ranges cuts room (BadRange k) = (font_fault font ≡ None) × IsFirstBad ranges k
@@ -72,13 +72,15 @@ pub record AreInRoom (cuts : List (List ℕ)) (old new sizes : List ℕ) (size :
   pub sizes_are : sizes ≡ map (λ cut. length cut) cuts
 
 -- the cuts for the sets of a font, of a kind, are
-pub record AreCutsInRoom (kind : Kind) (font : List ℕ) (ranges : List CodeRange) (counts old new sizes : List ℕ)
+pub record AreCutsInRoom (kind : Kind) (font : List ℕ) (ranges : List CodeRange)
+    (counts old new sizes : List ℕ)
     (size : ℕ) : Type 0 where
   pub add_up : AddUp counts ranges (length sizes)
   pub accepted : IsAccepted font ranges
   pub cuts : AreInRoom (cuts_for kind font ranges counts) old new sizes size
 
--- what a call for the cuts of many sets, of a kind, answers: a refusal leaves the room and the sizes as they were
+-- what a call for the cuts of many sets, of a kind, answers: a refusal leaves the room and the sizes as
+-- they were
 pub record AnswersCuts (kind : Kind) (font : List ℕ) (ranges : List CodeRange)
     (counts old new old_sizes sizes : List ℕ) (answer : Answer) : Type 0 where
   pub outcome : Result ℕ CutsRefusal

@@ -14,7 +14,8 @@ use Rattle.fontcut_c.specs.declared.refusal.Refusal.TheVariants.{BadRange, Font,
 -- the codes of a set, and of ranges more
 abbrev pub with_ranges : (ℕ → Bool) → List CodeRange → ℕ → Bool
 with_ranges wanted [] = wanted
-with_ranges wanted (range ∷ ranges) = with_ranges (either (codes_between range.first range.last) wanted) ranges
+with_ranges wanted (range ∷ ranges) =
+    with_ranges (either (codes_between range.first range.last) wanted) ranges
 
 -- the codes of ranges
 abbrev pub wanted_by : List CodeRange → ℕ → Bool
@@ -85,7 +86,8 @@ pub record AnswersCutSize (kind : Kind) (font : List ℕ) (ranges : List CodeRan
       (RefusesSize kind font ranges)
 
 -- what a call for a cut of a kind answers: a refusal leaves the room as it was
-pub record AnswersCut (kind : Kind) (font : List ℕ) (ranges : List CodeRange) (old new : List ℕ) (answer : Answer)
+pub record AnswersCut (kind : Kind) (font : List ℕ) (ranges : List CodeRange) (old new : List ℕ)
+    (answer : Answer)
     : Type 0 where
   pub outcome : Result ℕ Refusal
   pub told : answer ≡ size_answer outcome

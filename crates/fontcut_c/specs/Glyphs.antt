@@ -1,4 +1,5 @@
--- What the calls for glyphs of codes and for metrics of glyphs answer, this project's own (OpenType 1.9, cmap and hmtx).
+-- What the calls for glyphs of codes and for metrics of glyphs answer, this project's own (OpenType 1.9,
+-- cmap and hmtx).
 use Rattle.std.specs.Prelude.{◌≡◌, ℕ, ◌<◌, ◌≤◌, ℤ, List, length, map, None, Some, Result, MatchResult, slice_index_or}
 use Rattle.font_tables.specs.Fields.{glyph_count_of}
 use Rattle.font_tables.specs.Metrics.{metric_of}
@@ -52,7 +53,8 @@ pub record AreGlyphsInRoom (font codes old new : List ℕ) (size : ℕ) : Type 0
 abbrev pub RefusesGlyphs : List ℕ → List ℕ → ℕ → LookupRefusal → Type 0
 RefusesGlyphs font codes room (Font error) = font_fault font ≡ Some error
 RefusesGlyphs font codes room (NoGlyph index) = ⊥
-RefusesGlyphs font codes room (SmallRoom size) = (font_fault font ≡ None) × (size ≡ length codes) × (room < size)
+RefusesGlyphs font codes room (SmallRoom size) =
+    (font_fault font ≡ None) × (size ≡ length codes) × (room < size)
 
 -- the metrics of glyphs are in the room
 pub record AreMetricsInRoom (font glyphs : List ℕ) (old new : List Metric) (size : ℕ) : Type 0 where

@@ -71,14 +71,16 @@ RefusesRequest font ranges (Font error) = font_fault font ≡ Some error
 RefusesRequest font ranges (BadRange k) = (font_fault font ≡ None) × IsFirstBad ranges k
 RefusesRequest font ranges _ = ⊥
 
--- what refuses a request for sets before memory is asked for: their counts, the font, and then the first bad range
+-- what refuses a request for sets before memory is asked for: their counts, the font, and then the first
+-- bad range
 abbrev pub RefusesRequestForSets : List ℕ → List CodeRange → List ℕ → ℕ → CutsRefusal → Type 0
 RefusesRequestForSets font ranges counts places of_cuts.BadCounts = ¬ AddUp counts ranges places
 RefusesRequestForSets font ranges counts places (of_cuts.Cut refusal) =
     AddUp counts ranges places × RefusesRequest font ranges refusal
 
 -- the codes of the first n sets, and where the ranges of the others begin
-pub record AreSetsTo (counts : List ℕ) (ranges : List CodeRange) (n from : ℕ) (codes : List (ℕ → Bool)) : Type 0 where
+pub record AreSetsTo (counts : List ℕ) (ranges : List CodeRange) (n from : ℕ) (codes : List (ℕ → Bool))
+    : Type 0 where
   pub left : from + sum (drop n counts) ≡ length ranges
   pub codes_are : codes ++ map wanted_by (sets_of (drop n counts) (drop from ranges))
       ≡ map wanted_by (sets_of counts ranges)

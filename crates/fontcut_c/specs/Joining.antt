@@ -32,7 +32,8 @@ RefusesJoin R files room (Join error) = IsAllRefusal R files error
 RefusesJoin R files room (SmallRoom size) = IsLargerJoin R files room size
 
 -- what a call for a join of a kind answers: a refusal leaves the room as it was
-pub record AnswersJoin (kind : Kind) (files : List (List ℕ)) (old new : List ℕ) (answer : Answer) : Type 0 where
+pub record AnswersJoin (kind : Kind) (files : List (List ℕ)) (old new : List ℕ) (answer : Answer)
+    : Type 0 where
   pub outcome : Result ℕ JoinRefusal
   pub told : answer ≡ join_answer outcome
   pub text : refusal_text answer ≡ join_text outcome

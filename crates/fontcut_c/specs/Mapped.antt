@@ -35,11 +35,14 @@ pub record IsListInRoom (font : List ℕ) (old new : List CodeRange) (size : ℕ
 abbrev pub RefusesList : List ℕ → ℕ → Refusal → Type 0
 RefusesList font room (Font error) = font_fault font ≡ Some error
 RefusesList font room NoMemory = font_fault font ≡ None
-RefusesList font room (SmallRoom size) = (font_fault font ≡ None) × (size ≡ length (listed_of font)) × (room < size)
+RefusesList font room (SmallRoom size) =
+    (font_fault font ≡ None) × (size ≡ length (listed_of font)) × (room < size)
 RefusesList font room _ = ⊥
 
 -- what `fontcut_codes` answers: a refusal leaves the room as it was
 pub record AnswersCodes (font : List ℕ) (old new : List CodeRange) (answer : Answer) : Type 0 where
   pub outcome : Result ℕ Refusal
   pub told : answer ≡ size_answer outcome
-  pub holds : MatchResult outcome (IsListInRoom font old new) (λ refusal. (new ≡ old) × RefusesList font (length old) refusal)
+  pub holds :
+      MatchResult outcome (IsListInRoom font old new)
+      (λ refusal. (new ≡ old) × RefusesList font (length old) refusal)

@@ -71,4 +71,6 @@ RefusesText answer room _ = ⊥
 pub record AnswersText (asked : Answer) (old new : List ℕ) (answer : Answer) : Type 0 where
   pub outcome : Result ℕ Refusal
   pub told : answer ≡ size_answer outcome
-  pub holds : MatchResult outcome (IsInRoom (refusal_text asked) old new) (λ refusal. (new ≡ old) × RefusesText asked (length old) refusal)
+  pub holds :
+      MatchResult outcome (IsInRoom (refusal_text asked) old new)
+      (λ refusal. (new ≡ old) × RefusesText asked (length old) refusal)

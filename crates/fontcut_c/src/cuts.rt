@@ -75,7 +75,8 @@ fn full_sources<'f, 'a>(
     font: &'f Font<'a>,
     sets: &'f [Wanted],
 ) -> Result<Vec<CutOf<'f, 'a>>, NoMemory>
-    ensures { IfOk result (λ sources. sources.items ≡ map (λ set. (font.entry.now, Some set)) sets.entry.now) }
+    ensures { IfOk result
+        (λ sources. sources.items ≡ map (λ set. (font.entry.now, Some set)) sets.entry.now) }
 {
     let mut sources = Vec::new(alloc);
     for set in sets {
@@ -91,7 +92,8 @@ fn lean_sources<'f, 'a>(
     font: &'f Font<'a>,
     sets: &'f [Wanted],
 ) -> Result<Vec<lean::CutOf<'f, 'a>>, NoMemory>
-    ensures { IfOk result (λ sources. sources.items ≡ map (λ set. (font.entry.now, Some set)) sets.entry.now) }
+    ensures { IfOk result
+        (λ sources. sources.items ≡ map (λ set. (font.entry.now, Some set)) sets.entry.now) }
 {
     let mut sources = Vec::new(alloc);
     for set in sets {

@@ -24,7 +24,8 @@ pub(crate) fn size_of<S: Source>(source: &S) -> Result<u64, Refusal>
 /// It asks for no memory. Refused with that length, where there is less room.
 pub(crate) fn write_sized<S: Source>(source: &S, size: Size, out: &mut [u8]) -> Result<u64, u64>
     requires { IsFileSize (S.content_of source.now) size }
-    ensures { MatchResult result (IsFileInRoom (file current_layout (S.content_of source.now)) out.old out.new)
+    ensures { MatchResult result
+        (IsFileInRoom (file current_layout (S.content_of source.now)) out.old out.new)
         (λ size. (out.new ≡ out.old)
         × IsLargerFile (file current_layout (S.content_of source.now)) (length out.old) size) }
 {
@@ -38,7 +39,8 @@ pub(crate) fn write_sized<S: Source>(source: &S, size: Size, out: &mut [u8]) -> 
 
 /// Writes the file of a source to the front of room, and returns its length. It asks for no memory.
 pub(crate) fn write_to<S: Source>(source: &S, out: &mut [u8]) -> Result<u64, Refusal>
-    ensures { MatchResult result (IsFileInRoom (file current_layout (S.content_of source.now)) out.old out.new)
+    ensures { MatchResult result
+        (IsFileInRoom (file current_layout (S.content_of source.now)) out.old out.new)
         (λ refusal. (out.new ≡ out.old)
         × RefusesFile (file current_layout (S.content_of source.now)) (length out.old) refusal) }
 {

@@ -235,7 +235,8 @@ fn push_apart<A: Allocator>(
     requires past { ArePast a.now b.now from.code from.places.first from.places.second }
     requires small { from.code ≤ CODES }
     requires done { IsDone (united (spelled a.now) (spelled b.now)) runs.old.items from.code }
-    ensures done { IfOk result (λ end. IsDone (united (spelled a.now) (spelled b.now)) runs.new.items end.code) }
+    ensures done { IfOk result
+        (λ end. IsDone (united (spelled a.now) (spelled b.now)) runs.new.items end.code) }
     ensures past { IfOk result (λ end. ArePast a.now b.now end.code end.places.first end.places.second) }
     ensures order { IfOk result (λ end. (from.code ≤ end.code) × (end.code ≤ CODES)) }
 {

@@ -18,12 +18,21 @@ HasRecords file = 12 + 16 * table_count file ≤ length file
 
 -- the tag in the four bytes at a place
 unfoldable pub tag_at : List ℕ → ℕ → Tag
-tag_at file at = record { 0 = slice_index file at ∷ slice_index file (at + 1) ∷ slice_index file (at + 2) ∷ slice_index file (at + 3) ∷ [] }
+tag_at file at = record {
+  0 =
+      slice_index file at ∷ slice_index file (at + 1) ∷ slice_index file (at + 2) ∷ slice_index file (at + 3)
+      ∷ [];
+}
 
 -- record k: tableTag, checksum, offset and length
 unfoldable pub entry_at : List ℕ → ℕ → Entry
 entry_at file k = let at = 12 + 16 * k in
-    record { tag = tag_at file at; checksum = u32_at file (at + 4); offset = u32_at file (at + 8); length = u32_at file (at + 12) }
+    record {
+      tag = tag_at file at;
+      checksum = u32_at file (at + 4);
+      offset = u32_at file (at + 8);
+      length = u32_at file (at + 12);
+    }
 
 -- the n records from record k on
 abbrev pub entries_from : List ℕ → ℕ → ℕ → List Entry

@@ -11,4 +11,6 @@ u16_at bytes at = slice_index bytes at * 256 + slice_index bytes (at + 1)
 
 -- the u32 at a place
 unfoldable pub u32_at : List ℕ → ℕ → ℕ
-u32_at bytes at = number (slice_index bytes at) (slice_index bytes (at + 1)) (slice_index bytes (at + 2)) (slice_index bytes (at + 3))
+u32_at bytes at =
+    number (slice_index bytes at) (slice_index bytes (at + 1)) (slice_index bytes (at + 2))
+    (slice_index bytes (at + 3))

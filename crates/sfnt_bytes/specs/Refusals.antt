@@ -30,7 +30,8 @@ is_outside file tag = option_map_or (λ entry. not (is_within file entry)) (tabl
 abbrev pub directory_lines : List ℕ → List (Option DirError)
 directory_lines file =
     when (nat_lt MAX_FILE (length file)) FileTooLarge
-    ∷ when (nat_lt (length file) 12 || (is_truetype file && nat_lt (length file) (12 + 16 * table_count file))) Truncated
+    ∷ when (nat_lt (length file) 12
+    || (is_truetype file && nat_lt (length file) (12 + 16 * table_count file))) Truncated
     ∷ when (is_collection file) Collection
     ∷ when (not (is_truetype file)) NotTrueType
     ∷ option_map DuplicateTable (find (is_duplicate file) KEPT)

@@ -24,4 +24,6 @@ adjustment_of sum = (2 ^ 32 + 0xB1B0AFBA - sum) % 2 ^ 32
 
 -- the checksum of whole words and of what follows them is the sum of both checksums
 abbrev pub SumOfParts : Type 0
-SumOfParts = (front back : List ℕ) → length front % 4 ≡ 0 → checksum_of (front ++ back) ≡ (checksum_of front + checksum_of back) % 2 ^ 32
+SumOfParts =
+    (front back : List ℕ) → length front % 4 ≡ 0 →
+    checksum_of (front ++ back) ≡ (checksum_of front + checksum_of back) % 2 ^ 32

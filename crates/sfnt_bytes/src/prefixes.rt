@@ -177,7 +177,8 @@ impl<'a> Model for TableSums<'a> {
 
     ghost view = { λ t. t.at_0 };
 
-    ghost invariant = { λ t. ArePlaces t.at_0 t.at_1 t.at_2 t.at_3 × IsPrefixSum t.at_0 t.front.end t.front.sum };
+    ghost invariant = { λ t. ArePlaces t.at_0 t.at_1 t.at_2 t.at_3
+        × IsPrefixSum t.at_0 t.front.end t.front.sum };
 }
 
 impl<'a> TableSums<'a> {

@@ -23,10 +23,12 @@ writer_of outlet = outlet.writer
 -- the writer's bytes are known, and the last of them, as many as were written, are bs
 abbrev pub HasSent : {W : Type 0} → (W → Option (List ℕ)) → Outlet W → List ℕ → Type 0
 HasSent contents outlet bs =
-    IsSomeAnd (contents (writer_of outlet)) (λ xs. (front : List ℕ) × (xs ≡ front ++ bs) × (length bs ≡ written_of outlet))
+    IsSomeAnd (contents (writer_of outlet))
+    (λ xs. (front : List ℕ) × (xs ≡ front ++ bs) × (length bs ≡ written_of outlet))
 
 -- bs went out between two moments, and nothing before them changed
-pub record WentOut {W : Type 0} (contents : W → Option (List ℕ)) (old new : Outlet W) (bs : List ℕ) : Type 0 where
+pub record WentOut {W : Type 0} (contents : W → Option (List ℕ)) (old new : Outlet W) (bs : List ℕ)
+    : Type 0 where
   pub appends : Appends (contents (writer_of old)) (contents (writer_of new)) bs
   pub counts : written_of new ≡ written_of old + length bs
 

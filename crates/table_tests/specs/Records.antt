@@ -13,4 +13,6 @@ record_in records g = slice_index_or records g []
 
 -- each has components that are among them
 abbrev pub AreRecords : List (List ℕ) → Type 0
-AreRecords records = (length records < 65536) × ((g : ℕ) → g < length records → IsRecord (length records) (record_in records g))
+AreRecords records =
+    (length records < 65536)
+    × ((g : ℕ) → g < length records → IsRecord (length records) (record_in records g))
