@@ -4,8 +4,8 @@ ghost use Rattle.std.specs.Prelude.{◌≡◌};
 use crate::word::{WordError, read_word};
 use std::str::FromStr;
 
-/// The codes from the first to the last. Nothing says that the first is not above the last, nor that they are code
-/// points; of a range that was read of a text both hold.
+/// The codes from the first to the last, laid out as `fontcut_range` of the library for C. Nothing says that the first is
+/// not above the last, nor that they are code points; of a range that was read of a text both hold.
 ///
 /// # Example
 ///

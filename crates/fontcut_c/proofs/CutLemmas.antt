@@ -15,7 +15,7 @@ use Rattle.fontcut_c.specs.Inside.{IsFileInRoom, IsFileLength, RefusesFile, Refu
 use Rattle.fontcut_c.specs.Kinds.{cut_in}
 use Rattle.fontcut_c.specs.declared.kind.Kind.{Kind}
 use Rattle.fontcut_c.specs.declared.kind.Kind.TheVariants.{Full, Lean}
-use Rattle.fontcut_c.specs.declared.ranges.CodeRange.{CodeRange}
+use Rattle.codes.specs.declared.code_range.CodeRange.{CodeRange}
 use Rattle.fontcut_c.specs.declared.refusal.Refusal.{Refusal}
 use Rattle.fontcut_c.specs.declared.refusal.Refusal.TheVariants.{BadRange, Font, NoMemory, SmallRoom, TooLarge}
 

@@ -19,7 +19,7 @@ use Rattle.fontcut_c.specs.Kinds.{cut_in}
 use Rattle.fontcut_c.proofs.SetLemmas.{length_sets}
 use Rattle.fontcut_c.specs.declared.kind.Kind.{Kind}
 use Rattle.fontcut_c.specs.declared.kind.Kind.TheVariants.{Full, Lean}
-use Rattle.fontcut_c.specs.declared.ranges.CodeRange.{CodeRange}
+use Rattle.codes.specs.declared.code_range.CodeRange.{CodeRange}
 use Rattle.fontcut_c.specs.declared.refusal.Refusal.{Refusal}
 
 -- what a cut is made of: a file, and its codes

@@ -3,7 +3,7 @@ use Rattle.std.proofs.Common.{◌≡◌, ℕ, suc, ◌+◌, ◌<◌, List, [], �
 use Rattle.std.proofs.lemmas.List.{append-nil, append_assoc, take-append-drop, take_more_set}
 use Rattle.codes.specs.declared.ranges.Range.{Range}
 use Rattle.fontcut_c.specs.Mapped.{as_written}
-use Rattle.fontcut_c.specs.declared.ranges.CodeRange.{CodeRange}
+use Rattle.codes.specs.declared.code_range.CodeRange.{CodeRange}
 
 -- one range more
 module _ (ranges rest : List Range) (range : Range) (is : ranges ≡ range ∷ rest) where

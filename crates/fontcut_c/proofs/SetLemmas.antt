@@ -1,7 +1,7 @@
 -- The sets that counts part from ranges.
 use Rattle.std.proofs.Common.{◌≡◌, ℕ, suc, List, [], ◌∷◌, drop, length, refl, ap}
 use Rattle.fontcut_c.specs.Cuts.{sets_of}
-use Rattle.fontcut_c.specs.declared.ranges.CodeRange.{CodeRange}
+use Rattle.codes.specs.declared.code_range.CodeRange.{CodeRange}
 
 -- there are as many sets as counts
 pub length_sets : (counts : List ℕ) (ranges : List CodeRange) → length (sets_of counts ranges) ≡ length counts

@@ -9,7 +9,7 @@ use Rattle.fontcut_c.specs.Cutting.{IsAccepted, IsFirstBad, wanted_by}
 use Rattle.fontcut_c.specs.Kinds.{cut_in}
 use Rattle.fontcut_c.specs.declared.answer.Answer.{Answer}
 use Rattle.fontcut_c.specs.declared.kind.Kind.{Kind}
-use Rattle.fontcut_c.specs.declared.ranges.CodeRange.{CodeRange}
+use Rattle.codes.specs.declared.code_range.CodeRange.{CodeRange}
 use Rattle.fontcut_c.specs.declared.refusal.CutsRefusal.{CutsRefusal}
 use Rattle.fontcut_c.specs.declared.refusal.CutsRefusal.TheVariants.{BadCounts, Cut}
 use Rattle.fontcut_c.specs.declared.refusal.Refusal.{Refusal}

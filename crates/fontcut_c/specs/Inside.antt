@@ -9,7 +9,7 @@ use Rattle.font_write.specs.Trace.{Trace}
 use Rattle.fontcut_c.specs.Answers.{IsInRoom}
 use Rattle.fontcut_c.specs.Cuts.{AddUp, AreSmall, AreSmallTo, IsFirstLarge, sets_of, size_of_all}
 use Rattle.fontcut_c.specs.Cutting.{IsFirstBad, wanted_by}
-use Rattle.fontcut_c.specs.declared.ranges.CodeRange.{CodeRange}
+use Rattle.codes.specs.declared.code_range.CodeRange.{CodeRange}
 use Rattle.fontcut_c.specs.declared.refusal.CutsRefusal.{CutsRefusal}
 use Rattle.fontcut_c.specs.declared.refusal.CutsRefusal.TheVariants as of_cuts
 use Rattle.fontcut_c.specs.declared.refusal.JoinRefusal.{JoinRefusal}

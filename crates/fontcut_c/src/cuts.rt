@@ -8,10 +8,10 @@ ghost use Rattle.fontcut_c.specs.Inside.{RefusesFiles, RefusesRequestForSets, fi
 
 use crate::cutting::opened;
 use crate::kind::Kind;
-use crate::ranges::{CodeRange, wanted_of};
+use crate::ranges::wanted_of;
 use crate::refusal::{CutsRefusal, Refusal};
 use crate::room::fill_at;
-use font_cut::{CutOf, Font, NoMemory, Wanted, lean};
+use font_cut::{CodeRange, CutOf, Font, NoMemory, Wanted, lean};
 use font_subset::measured;
 use font_write::Source;
 use std::alloc::Global;

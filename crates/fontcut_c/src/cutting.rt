@@ -6,10 +6,10 @@ ghost use Rattle.fontcut_c.specs.Cutting.{IsAccepted, IsCutInRoom, IsCutSize, Re
 ghost use Rattle.fontcut_c.specs.Inside.{RefusesRequest};
 
 use crate::kind::Kind;
-use crate::ranges::{CodeRange, first_bad, wanted_of};
+use crate::ranges::{first_bad, wanted_of};
 use crate::refusal::Refusal;
 use crate::room::{size_of, write_to};
-use font_cut::{CutOf, Font, lean};
+use font_cut::{CodeRange, CutOf, Font, lean};
 use std::alloc::Global;
 
 /// Opens a font of which codes are wanted, or returns the first of what refuses that.

@@ -49,9 +49,9 @@ pub use crate::kind::Kind;
 use crate::mapped::codes_to;
 pub use crate::metrics::Metric;
 use crate::metrics::{checked_metrics_to, metrics_to};
-pub use crate::ranges::CodeRange;
 pub use crate::refusal::{CutsRefusal, JoinRefusal, LookupRefusal, PairRefusal, Refusal};
 use crate::text::text_to;
+pub use font_cut::CodeRange;
 use font_cut::{CutForm, Font};
 use std::alloc::Global;
 

@@ -3,10 +3,9 @@ ghost use Rattle.std.specs.Prelude.{◌≡◌, ◌≤◌, ◌++◌, MatchResult,
 ghost use Rattle.font_cut.specs.Fonts.{mapping_of};
 ghost use Rattle.fontcut_c.specs.Mapped.{IsListInRoom, RefusesList, listed};
 
-use crate::ranges::CodeRange;
 use crate::refusal::Refusal;
 use commands::next_range;
-use font_cut::{Chart, Font};
+use font_cut::{Chart, CodeRange, Font};
 use std::alloc::Global;
 
 // Counts the ranges.

@@ -3,18 +3,8 @@ ghost use Rattle.std.specs.Prelude.{◌≡◌, ◌<◌, ℕ, MatchOption, IfOk};
 ghost use Rattle.codes.specs.Wanted.{member};
 ghost use Rattle.fontcut_c.specs.Cutting.{AreGood, IsFirstBad, wanted_by};
 
-use font_cut::{LAST_CODE, NoMemory, Wanted};
+use font_cut::{CodeRange, LAST_CODE, NoMemory, Wanted};
 use std::alloc::Global;
-
-/// The codes from the first to the last.
-#[repr(C)]
-#[derive(Clone, Copy, Debug, PartialEq, Eq)]
-pub struct CodeRange {
-    /// The first code.
-    pub first: u32,
-    /// The last code.
-    pub last: u32,
-}
 
 /// Finds the first range that ends before it begins, or past the last code point.
 pub(crate) fn first_bad(ranges: &[CodeRange]) -> Option<usize>
