@@ -14,9 +14,10 @@ make_room() {
 
 # work FOLDER WORD..: runs a program in the folder, and waits for it. It heads a process group of its own, so that all
 # that it starts can be ended with it. A signal that comes before the new process has given up this script's traps is
-# lost there, so it looks for the mark of leave_room afterwards.
+# lost there, so it looks afterwards whether the room is still there, without the mark of leave_room.
 work() {
-    (CDPATH='' cd -- "${1:-/}" && shift && ! [ -e "$room/ended" ] && exec setsid "$@" </dev/null) &
+    worker=starting
+    (CDPATH='' cd -- "${1:-/}" && shift && [ -d "$room" ] && ! [ -e "$room/ended" ] && exec setsid "$@" </dev/null) &
     worker=$!
     wait "$worker" && worker=
 }
@@ -25,6 +26,10 @@ work() {
 # ended, and may write for a moment longer.
 leave_room() {
     trap '' HUP INT TERM
+    # A signal may come when the process is started and its number is not kept yet.
+    if [ "$worker" = starting ]; then
+        worker=$!
+    fi
     if [ -n "$worker" ]; then
         : >"$room/ended"
         kill -- "-$worker" "$worker" 2>/dev/null
