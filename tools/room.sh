@@ -63,11 +63,12 @@ all_below() {
     with_below "$1" | grep -vx -e "$1"
 }
 
-# copy CRATE: copies what a proof of the crate reads to the room, and its line of crates.txt.
+# copy CRATE: copies what a proof of the crate reads to the room, what the gate compares the output of a program with,
+# and its line of crates.txt.
 copy() {
     mkdir -p "$room/crates/$1" || return 3
-    for part in src specs proofs; do
-        if [ -d "crates/$1/$part" ]; then
+    for part in src specs proofs stdout; do
+        if [ -e "crates/$1/$part" ]; then
             cp -R "crates/$1/$part" "$room/crates/$1/" || return 3
         fi
     done
