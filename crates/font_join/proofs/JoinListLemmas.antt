@@ -1,5 +1,5 @@
 -- What stands after joins in turn, and what follows from it.
-use Rattle.std.proofs.Common.{◌≡◌, ◌≢◌, ℕ, zero, suc, ◌+◌, ◌<◌, ◌≤◌, Bool, List, [], get_or, length, map, take, refl, sym, ◌∙◌, subst, arith, Option, None, Result, Ok, Err, IfOk, IfErr, MatchResult}
+use Rattle.std.proofs.Common.{◌≡◌, ◌≢◌, ℕ, zero, suc, ◌+◌, ◌<◌, ◌≤◌, Bool, List, [], get_or, length, map, refl, sym, ◌∙◌, subst, arith, Option, None, Result, Ok, Err, IfOk, IfErr, MatchResult}
 use Rattle.std.proofs.lemmas.List.{get_or-map}
 use Rattle.std.proofs.lemmas.Result.{MatchResult-weaker}
 use Rattle.sfnt_bytes.specs.declared.directory.TheConstants.{MAX_FILE}
@@ -10,12 +10,8 @@ use Rattle.font_theory.specs.Tree.{Differs, IsOver, IsSmall, JoinTree, Value, cu
 use Rattle.font_theory.proofs.FontLemmas.{size-accepted}
 use Rattle.font_theory.proofs.GrownLemmas.{Differs-grown, Value-grown, Value-grown_cuts, Value-grown_same, grown-cuts, grown-joins}
 use Rattle.font_theory.proofs.CutLemmas.{IsCut-current}
-use Rattle.streams.specs.Outlet.{WentOut, written_of}
-use Rattle.font_subset.specs.Cut.{StopsCut}
-use Rattle.font_subset.specs.declared.cut_font.CutIntoError.{CutIntoError}
-use Rattle.font_subset.specs.declared.cut_font.CutIntoError.TheVariants as into_errors
 use Rattle.font_join.specs.Inside.{IsKind}
-use Rattle.font_join.specs.JoinList.{AreCuts, IsAllJoined, IsAllRefusal, IsForDifference, IsCutOff, IsForSizeInto, IsForSizeOf, IsRefusedAt, JoinLaws, Stands, StopsJoin}
+use Rattle.font_join.specs.JoinList.{AreCuts, IsAllJoined, IsAllRefusal, IsForDifference, IsForSizeInto, IsForSizeOf, IsRefusedAt, JoinLaws, Stands, StopsJoin}
 use Rattle.font_join.specs.Join.{IsForSize, IsJoin}
 use Rattle.font_join.specs.declared.join_error.JoinAllError.{JoinAllError}
 use Rattle.font_join.specs.declared.join_error.JoinAllIntoError.{JoinAllIntoError}
@@ -28,14 +24,6 @@ use Rattle.font_join.proofs.JoinLemmas.{joinable, least_upper, only_size, small_
 
 pub file_at-map : {X : Type 0} (f : X → List ℕ) (xs : List X) (k : ℕ) (d : X) → k < length xs → f (get_or xs k d) ≡ file_at (map f xs) k
 file_at-map f xs k d low = sym (get_or-map f xs k d [] low)
-
--- a file that is not too large is sent but for its end, where sending stops and no memory was refused
-pub cut_off : {W : Type 0} (contents : W → Option (List ℕ)) (old new : Outlet W) (z : List ℕ) (error : CutIntoError) (written : ℕ) → StopsCut contents old new z error → error ≢ into_errors.NoMemory → length z ≤ MAX_FILE → written ≡ written_of new
-    → IsCutOff contents old new z written
-cut_off contents old new z into_errors.NoMemory written stops memory small count = absurd (memory refl)
-cut_off contents old new z (into_errors.TooLarge size) written stops memory small count = absurd (omega (arith, stops.1.1, small))
-cut_off contents old new z (into_errors.WriteFault n) written stops memory small count =
-    record { broken = stops.1; count = count; front = subst (λ (k : ℕ). WentOut contents old new (take k z)) (stops.2 ∙ sym count) stops.3 }
 
 -- what holds of an answer, and what of a refusal
 pub result_cases : {T E : Type 0} (P : T → Type 0) (Q : E → Type 0) (r : Result T E) → IfOk r P → IfErr r Q → MatchResult r P Q
