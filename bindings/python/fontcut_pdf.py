@@ -13,8 +13,8 @@ the encoding Identity-H, over a CIDFontType2 whose CIDToGIDMap is Identity. In s
 numbers, and every cut keeps these, so that no page is changed. All other fonts stay as they are.
 
 OUT is replaced only by a complete file. Statuses: 0 done; 1 a file is refused, and nothing was written: it is damaged
-or encrypted, or has no embedded font, or for a merge layers that may be hidden, or memory was refused; 2 the command
-line is at fault; 3 a file cannot be read or written.
+or encrypted, or has no embedded font, or for `shrink` a signature, or for a merge layers that may be hidden, or memory
+was refused; 2 the command line is at fault; 3 a file cannot be read or written.
 """
 from __future__ import annotations
 
@@ -61,7 +61,8 @@ _DEEPEST = 100
 
 
 class Refused(Exception):
-    """A PDF file is refused: it is damaged or encrypted, has no embedded font, or has layers that may be hidden."""
+    """A PDF file is refused: it is damaged or encrypted, has no embedded font, or has a signature or layers that may be
+    hidden."""
 
 
 class _Unclear(Exception):
@@ -802,9 +803,10 @@ def _shrink(group: Sequence[_Font]) -> Iterator[Outcome]:
 def shrink(pdf: Pdf) -> List[Outcome]:
     """Each font by glyph numbers becomes its lean cut for the characters that the pages show, where it is a whole font
     or a cut that is not lean. It stays as it is where a page shows a glyph of it that no character has, such as a
-    ligature. Raises `Refused` where there is no embedded font."""
+    ligature. Raises `Refused` where there is no embedded font, or a signature."""
     outcomes: List[Outcome] = []
     groups: Dict[Tuple[int, int], List[_Font]] = {}
+    _refuse_signed(pdf)
     for font in _surveyed(pdf):
         kind = _kind(font)
         if kind in ("no cut", "cut") and font.is_by_glyph:
@@ -959,35 +961,62 @@ def _may_hide(thing: Object) -> bool:
     return thing.get("/Type") == Name.OCMD and ("/VE" in thing or thing.get("/P") in (Name.AllOff, Name.AnyOff))
 
 
+def _shows_each_layer(shown: Optional[Object]) -> bool:
+    """Whether each layer is shown by what a file says of layers (ISO 32000-1, 8.11.4.3)."""
+    if not isinstance(shown, Dictionary) or shown.get("/BaseState", Name.ON) != Name.ON:
+        return False
+    lists = [shown[key] for key in ("/OFF", "/AS") if key in shown]
+    return all(isinstance(layers, Array) and len(layers) == 0 for layers in lists)
+
+
 def _refuse_layers(pdf: Pdf) -> None:
     """Which layers are hidden stands in what belongs to a file as a whole (ISO 32000-1, 8.11.4), which a merge does
     not keep, so that their text would be shown."""
     if "/OCProperties" not in pdf.Root:
         return
     with _refusing():
-        shown = pdf.Root.OCProperties.get("/D", Dictionary(OFF=Array()))
-        if "/OFF" in shown or "/AS" in shown or shown.get("/BaseState", Name.ON) != Name.ON or any(
-                map(_may_hide, _dictionaries(pdf))):
+        if not _shows_each_layer(pdf.Root.OCProperties.get("/D")) or any(map(_may_hide, _dictionaries(pdf))):
             raise Refused("it has layers that may be hidden")
+
+
+def _refuse_signed(pdf: Pdf) -> None:
+    """A signature is one of the bytes of its file (ISO 32000-1, 12.8.1), and holds for no others."""
+    with _refusing():
+        if any("/ByteRange" in thing for thing in _dictionaries(pdf)):
+            raise Refused("it is signed, and a changed file would not be")
+
+
+def _actions(first: List[Object]) -> Iterator[Object]:
+    """These actions, and those that follow them (ISO 32000-1, 12.6.2)."""
+    waiting, seen = first[::-1], set()
+    while waiting:
+        action = waiting.pop()
+        if isinstance(action, Dictionary) and action.objgen not in seen:
+            # What stands in another object has no number of its own, and cannot hold itself.
+            seen.update([action.objgen] if action.is_indirect else [])
+            yield action
+            following = action.get("/Next")
+            waiting += reversed(list(following)) if isinstance(following, Array) else [following]
 
 
 def _places(page: pikepdf.Page) -> Iterator[Array]:
     """The places to which links of a page lead, as far as these name a page themselves (ISO 32000-1, 12.3.2)."""
     for annotation in _annotations(page):
-        for holder, key in ((annotation, "/Dest"), (annotation.get("/A"), "/D")):
-            place = holder.get(key) if isinstance(holder, Dictionary) else None
+        actions = _actions([annotation.get("/A"), *_values(annotation, "/AA")])
+        for place in (annotation.get("/Dest"), *(action.get("/D") for action in actions)):
             if isinstance(place, Array) and len(place) > 0:
                 yield place
 
 
 def _add_pages(pdf: Pdf, source: Pdf) -> None:
     """Adds the pages of a file. What a page names is copied with it, but for pages: those that come later would be null
-    where a link leads to them."""
+    where a link leads to them. A page that stands twice in its file has two copies, and links lead to the first."""
     first, pages = len(pdf.pages), list(source.pages)
     pdf.pages.extend(pages)
-    copies = {page.obj.objgen: copy.obj for page, copy in zip(pages, list(pdf.pages)[first:])}
-    for page in pages:
-        for place, copy in zip(_places(page), _places(pikepdf.Page(copies[page.obj.objgen]))):
+    pairs = list(zip(pages, list(pdf.pages)[first:]))
+    copies = {page.obj.objgen: copy.obj for page, copy in reversed(pairs)}
+    for page, copied in pairs:
+        for place, copy in zip(_places(page), _places(copied)):
             if isinstance(place[0], Dictionary) and place[0].objgen in copies:
                 copy[0] = copies[place[0].objgen]
 
