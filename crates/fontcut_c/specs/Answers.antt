@@ -1,6 +1,7 @@
 -- The answers of calls, this project's own: what is answered where a call is done, and what at each refusal.
 use Rattle.std.specs.Prelude.{◌≡◌, ℕ, nat_lt, Bool, true, false, List, length, drop, ◌++◌, ◌≤◌, Option, None, Some, Result, Ok, Err, if◌then◌else◌}
 use Rattle.sfnt_bytes.specs.Tag.{tag_number}
+use Rattle.sfnt_bytes.specs.declared.numbers.TheConstants as numbers
 use Rattle.sfnt_bytes.specs.declared.directory.DirError.TheVariants.{DuplicateTable, TableOutOfFile}
 use Rattle.font_tables.specs.declared.tables.TableError.TheVariants.{BadLoca, MissingTable}
 use Rattle.font_file.specs.Text.{error_number}
@@ -8,6 +9,7 @@ use Rattle.font_file.specs.declared.font_error.FontError.{FontError}
 use Rattle.font_file.specs.declared.font_error.FontError.TheVariants.{BadGlyph, Directory, Mapping, Tables}
 use Rattle.font_subset.specs.declared.cut_forms.CutForm.{CutForm}
 use Rattle.font_subset.specs.declared.cut_forms.CutForm.TheVariants.{Current, Not, Old}
+use Rattle.font_join.specs.JoinText.{join_all_error_number, join_error_number}
 use Rattle.font_join.specs.declared.join_error.JoinAllError.{JoinAllError}
 use Rattle.font_join.specs.declared.join_error.JoinAllError.TheVariants.{At, NothingToJoin}
 use Rattle.font_join.specs.declared.join_error.JoinError.{JoinError}
@@ -71,9 +73,9 @@ as_detail index = if nat_lt index 0x1_0000_0000 then index else 0xFFFF_FFFF
 -- the answer at a refusal
 abbrev pub refusal_answer : Refusal → Answer
 refusal_answer (Font error) = font_answer error
-refusal_answer (BadRange index) = refused 15 (as_detail index)
-refusal_answer NoMemory = refused 16 0
-refusal_answer (TooLarge size) = sized 18 size
+refusal_answer (BadRange index) = refused numbers.BAD_RANGE (as_detail index)
+refusal_answer NoMemory = refused numbers.NO_MEMORY 0
+refusal_answer (TooLarge size) = sized numbers.TOO_LARGE size
 refusal_answer (SmallRoom size) = sized 100 size
 
 -- the answer where the cuts for many sets are not written
@@ -85,7 +87,7 @@ cuts_refusal_answer (of_cuts.Cut refusal) = refusal_answer refusal
 abbrev pub pair_refusal_answer : PairRefusal → Answer
 pair_refusal_answer (of_pair.Cut error) = font_answer error
 pair_refusal_answer (of_pair.Font error) = at_step 1 (font_answer error)
-pair_refusal_answer of_pair.NoMemory = refused 16 0
+pair_refusal_answer of_pair.NoMemory = refused numbers.NO_MEMORY 0
 
 -- the answer where nothing is looked up
 abbrev pub lookup_refusal_answer : LookupRefusal → Answer
@@ -93,19 +95,24 @@ lookup_refusal_answer (of_lookup.Font error) = font_answer error
 lookup_refusal_answer (of_lookup.NoGlyph index) = refused 102 (as_detail index)
 lookup_refusal_answer (of_lookup.SmallRoom size) = sized 100 size
 
+-- what the refusal of a join names: a tag as a number, a code or a glyph, and else 0
+abbrev pub join_argument : JoinError → ℕ
+join_argument (joins.Font which error) = font_argument error
+join_argument (joins.NotACut which) = 0
+join_argument (joins.DifferentTable tag) = tag_number tag
+join_argument (joins.DifferentMapping code) = code
+join_argument (joins.DifferentGlyph glyph) = glyph
+join_argument (joins.TooLarge size) = 0
+join_argument joins.NoMemory = 0
+
 -- the answer where two files are not joined
 abbrev pub join_error_answer : JoinError → Answer
-join_error_answer (joins.Font which error) = font_answer error
-join_error_answer (joins.NotACut which) = refused 20 0
-join_error_answer (joins.DifferentTable tag) = refused 21 (tag_number tag)
-join_error_answer (joins.DifferentMapping code) = refused 22 code
-join_error_answer (joins.DifferentGlyph glyph) = refused 23 glyph
-join_error_answer (joins.TooLarge size) = sized 18 size
-join_error_answer joins.NoMemory = refused 16 0
+join_error_answer (joins.TooLarge size) = sized (join_error_number (joins.TooLarge size)) size
+join_error_answer error = refused (join_error_number error) (join_argument error)
 
 -- the answer where a list of files is not joined
 abbrev pub join_all_error_answer : JoinAllError → Answer
-join_all_error_answer NothingToJoin = refused 24 0
+join_all_error_answer NothingToJoin = refused (join_all_error_number NothingToJoin) 0
 join_all_error_answer (At step error) = at_step step (join_error_answer error)
 
 -- the answer where their join is not written

@@ -67,11 +67,11 @@ impl Answer {
     }
 
     /// Returns a status that says a size.
-    pub(crate) fn sized(status: u32, size: u64) -> Answer
+    pub(crate) fn sized(status: u8, size: u64) -> Answer
         ensures { result ≡ sized_with status size }
     {
         Answer {
-            status,
+            status: u32::from(status),
             detail: 0,
             size,
             step: 0,

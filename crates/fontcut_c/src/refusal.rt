@@ -11,10 +11,10 @@ ghost use Rattle.fontcut_c.specs.declared.any_error.AnyError.TheVariants.{Font};
 
 use crate::answer::Answer;
 use font_cut::{DirError, FontError, JoinAllError, JoinError, TableError};
-use sfnt_bytes::Tag;
+use sfnt_bytes::{Tag, numbers};
 
 /// The status of a room that is too small.
-const SMALL_ROOM: u32 = 100;
+const SMALL_ROOM: u8 = 100;
 
 /// The status of a number that is no glyph of the font.
 const NO_GLYPH: u8 = 102;
@@ -134,9 +134,9 @@ impl Refusal {
     {
         match self {
             Refusal::Font(error) => refused_font(error),
-            Refusal::BadRange(index) => Answer::refused(15, detail_of(index)),
-            Refusal::NoMemory => Answer::refused(16, 0),
-            Refusal::TooLarge(size) => Answer::sized(18, size),
+            Refusal::BadRange(index) => Answer::refused(numbers::BAD_RANGE, detail_of(index)),
+            Refusal::NoMemory => Answer::refused(numbers::NO_MEMORY, 0),
+            Refusal::TooLarge(size) => Answer::sized(numbers::TOO_LARGE, size),
             Refusal::SmallRoom(size) => Answer::sized(SMALL_ROOM, size),
         }
     }
@@ -162,7 +162,7 @@ impl PairRefusal {
         match self {
             PairRefusal::Cut(error) => refused_font(error),
             PairRefusal::Font(error) => refused_font(error).at(1),
-            PairRefusal::NoMemory => Answer::refused(16, 0),
+            PairRefusal::NoMemory => Answer::refused(numbers::NO_MEMORY, 0),
         }
     }
 }
@@ -187,14 +187,14 @@ fn refused_join(error: JoinError) -> Answer
     ensures text { (step : ℕ) → NamesByStep step error →
         refusal_text (at_step step result) ≡ join_error_text error }
 {
+    let number = error.number();
     match error {
         JoinError::Font(_, error) => refused_font(error),
-        JoinError::NotACut(_) => Answer::refused(20, 0),
-        JoinError::DifferentTable(tag) => Answer::refused(21, number_of(tag)),
-        JoinError::DifferentMapping(code) => Answer::refused(22, code),
-        JoinError::DifferentGlyph(glyph) => Answer::refused(23, u32::from(glyph)),
-        JoinError::TooLarge(size) => Answer::sized(18, size),
-        JoinError::NoMemory => Answer::refused(16, 0),
+        JoinError::DifferentTable(tag) => Answer::refused(number, number_of(tag)),
+        JoinError::DifferentMapping(code) => Answer::refused(number, code),
+        JoinError::DifferentGlyph(glyph) => Answer::refused(number, u32::from(glyph)),
+        JoinError::TooLarge(size) => Answer::sized(number, size),
+        JoinError::NotACut(_) | JoinError::NoMemory => Answer::refused(number, 0),
     }
 }
 
@@ -205,7 +205,7 @@ fn refused_list(error: JoinAllError) -> Answer
     ensures text { NamesByItsStep error → refusal_text result ≡ join_all_error_text error }
 {
     match error {
-        JoinAllError::NothingToJoin => Answer::refused(24, 0),
+        JoinAllError::NothingToJoin => Answer::refused(error.number(), 0),
         JoinAllError::At { step, error } => refused_join(error).at(step as u64),
     }
 }
