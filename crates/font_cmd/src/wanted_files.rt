@@ -3,6 +3,7 @@ use crate::code_set::CodeSet;
 use crate::glyph_columns::{GlyphColumns, Named};
 use crate::listed_word::read_listed;
 use crate::utf8::Utf8;
+use font_cut::read_word;
 use std::alloc::{AllocError, Global};
 use std::io::Read;
 
@@ -11,6 +12,10 @@ const PIECE: usize = 16 * 1024;
 
 // The longest word that is held. A word of a list has at most 17 letters.
 const LONGEST: usize = 64;
+
+// The bytes that stand between words, each as the bit of its number: tab, line feed, carriage return, blank, `#`, `,`
+// and `;`.
+const BETWEEN: u64 = 1 << 9 | 1 << 10 | 1 << 13 | 1 << 32 | 1 << 35 | 1 << 44 | 1 << 59;
 
 // What stands before the ranges in a style sheet.
 const DESCRIPTOR: &str = "unicode-range";
@@ -65,8 +70,8 @@ struct Reading<'a> {
 
 // Returns whether a byte of a file of words stands between words.
 fn parts_words(byte: u8) -> bool {
-    // Most bytes of a word are above all of these.
-    byte <= b';' && matches!(byte, b'\n' | b'\r' | b'\t' | b' ' | b',' | b';' | b'#')
+    // This has no branch, since whether a digit or a letter comes next cannot be predicted.
+    (byte < 64) & (BETWEEN >> u32::from(byte % 64) & 1 == 1)
 }
 
 impl<'a> Reading<'a> {
@@ -175,8 +180,8 @@ impl<'a> Reading<'a> {
         Ok(())
     }
 
-    // Takes the word that begins at a place of a text, where it stands there whole and names codes. Returns how many
-    // bytes are done with, its line end among them; else none is.
+    // Takes the range word that begins at a place of a text, where all of it stands there. Returns how many bytes are
+    // done with, its line end among them; else none is.
     fn take_whole_word(&mut self, text: &str, at: usize) -> Result<usize, FileFault> {
         let is_inside = self.is_comment || self.utf8.is_inside() || !self.word.is_empty();
         let rest = text.as_bytes().get(at..).unwrap_or(&[]);
@@ -193,7 +198,7 @@ impl<'a> Reading<'a> {
         let Some(word) = text.get(at..at.saturating_add(length)) else {
             return Ok(0);
         };
-        let Ok(codes) = read_listed(word) else {
+        let Ok(codes) = read_word(word) else {
             return Ok(0);
         };
         self.is_new = false;
