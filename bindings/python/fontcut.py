@@ -7,6 +7,7 @@
     opened = fontcut.Font(font)                 # tested once, and taken in the place of the bytes
     fontcut.belongs(both, font)                 # True
     lean = fontcut.cut(font, "Hello", lean=True)
+    latin = fontcut.cut(font, fontcut.ranges("U+20-7E, U+4??"))
 
     numbers = fontcut.glyphs(font, "Hello")     # [43, 72, 79, 79, 82] in DejaVu Sans: a glyph for each character
     fontcut.advances(font, numbers)             # their advance widths, in font units
@@ -14,6 +15,7 @@
 
 A font is anything that has bytes: `bytes`, `bytearray`, a `memoryview`, an `mmap`. The characters are a `str`, or code
 points and ranges of them, both ends included: `[0x20, (0x41, 0x5A)]`, `range(0x41, 0x5B)`, `ranges("U+20, U+41-5A")`.
+A `str` is always taken as characters: one that looks like ranges, as "U+41-5A" does, draws a `FontcutWarning`.
 Glyphs keep their numbers. A font, or a list of cuts, that is refused raises `Refused`, which carries the number, the
 text and what it is about. What is given in a wrong form raises `TypeError` or `ValueError`. Where the library is
 refused memory a call raises `MemoryError`. The first call loads the library, and raises `LibraryMissing` where there is
@@ -36,7 +38,7 @@ import os
 import re
 import warnings
 from enum import Enum
-from typing import Iterable, List, NamedTuple, Optional, Sequence, Tuple, Union
+from typing import Iterable, Iterator, List, NamedTuple, Optional, Sequence, Tuple, Union
 
 __all__ = ["Form", "Range", "Refused", "belongs", "check", "codes", "cut", "cut_size", "form", "is_cut", "is_cut_of",
            "join"]
@@ -46,12 +48,12 @@ __version__ = "0.10.0"
 Bytes = Union[bytes, bytearray, memoryview]
 Codes = Union[str, Iterable[Union[int, Tuple[int, int]]]]
 
-__all__ += ["Font", "FontcutError", "Info", "LibraryMissing", "NoGlyph", "advances", "glyphs", "info", "metrics", "missing",
-            "ranges", "slices"]
+__all__ += ["Font", "FontcutError", "FontcutWarning", "Info", "LibraryMissing", "NoGlyph", "advances", "glyphs", "info",
+            "metrics", "missing", "ranges", "slices"]
 
 _NO_MEMORY, _TOO_LARGE, _NOTHING_TO_JOIN, _SMALL_ROOM, _NO_GLYPH = 16, 18, 24, 100, 102
 _OF_TAGS, _OF_NUMBERS = (5, 6, 7, 21), (12, 15, 17, 22, 23)
-_LAST_CODE, _LAST_GLYPH = 0x10FFFF, 0xFFFF
+_LAST_CODE, _NO_GLYPH_OF_ANY = 0x10FFFF, 0xFFFF
 _FULL, _LEAN = 0, 1
 
 
@@ -92,6 +94,10 @@ class Form(Enum):
 
 class FontcutError(Exception):
     """What goes wrong in this module: `Refused`, `NoGlyph` or `LibraryMissing`."""
+
+
+class FontcutWarning(UserWarning):
+    """What was given is taken as it stands, and was probably meant otherwise."""
 
 
 class LibraryMissing(FontcutError, OSError):
@@ -279,9 +285,23 @@ def _pair(one: object, place: int) -> Tuple[int, int]:
     return _number(one[0], place, "code point"), _number(one[1], place, "code point")
 
 
+# A text of range words alone, each with its `U+`.
+_PREFIXED = r"[Uu]\+[0-9A-Fa-f?]{1,6}(?:-(?:[Uu]\+)?[0-9A-Fa-f]{1,6})?"
+_LOOKS_LIKE_RANGES = re.compile(rf"\s*(?:unicode-range:\s*)?{_PREFIXED}(?:[\s,;]+{_PREFIXED})*[\s,;]*")
+
+
+def _warn_of_ranges(text: str) -> None:
+    """Warns whoever called `cut`, `cut_size`, `slices` or `missing` of a text that was probably meant as ranges."""
+    if _LOOKS_LIKE_RANGES.fullmatch(text):
+        shown = text if len(text) <= 40 else text[:40] + ".."
+        warnings.warn(f"{shown!r} is taken as characters: for its ranges write fontcut.ranges({shown!r})", FontcutWarning,
+                      stacklevel=5)
+
+
 def _pairs(wanted: Codes) -> List[Tuple[int, int]]:
     """The wanted codes as ranges, in any order."""
     if isinstance(wanted, str):
+        _warn_of_ranges(wanted)
         return [(code, code) for code in sorted(set(_characters(wanted)))]
     if isinstance(wanted, range) and wanted and wanted.step == 1:
         return [(wanted[0], wanted[-1])]
@@ -301,12 +321,17 @@ def _ranges(wanted: Codes) -> List[Range]:
     return merged
 
 
-def _numbers(given: object, what: str, most: int) -> List[int]:
-    """The numbers of a list that was given, none of them below 0 or above the most."""
-    numbers = [_number(one, place, what) for place, one in enumerate(_items(given, what))]
+def _numbers(given: object, what: str) -> List[int]:
+    """The numbers of a list that was given."""
+    return [_number(one, place, what) for place, one in enumerate(_items(given, what))]
+
+
+def _code_points(given: object) -> List[int]:
+    """The code points of a list that was given."""
+    numbers = _numbers(given, "code point")
     for place, number in enumerate(numbers):
-        if not 0 <= number <= most:
-            raise ValueError(f"item {place} is {number}, which is no {what}")
+        if not 0 <= number <= _LAST_CODE:
+            raise ValueError(f"item {place} is {number}, which is no code point")
     return numbers
 
 
@@ -383,7 +408,7 @@ def slices(font: Union[Bytes, Font], sets: Iterable[Codes], *, lean: bool = Fals
     Raises what `cut` raises."""
     if isinstance(sets, str):
         raise TypeError("sets are given as a list of them, and not as one str")
-    file, wanted = _File(font), [_ranges(one) for one in _items(sets, "set")]
+    file, wanted = _File(font), list(map(_ranges, _items(sets, "set")))  # type: ignore[arg-type]
     ranges, count = [one for each in wanted for one in each], len(wanted)
     given, room_for_sizes = _in_c(ranges), ctypes.c_uint64 * max(1, count)
     counts, sizes = room_for_sizes(*map(len, wanted)), room_for_sizes()
@@ -465,7 +490,7 @@ def glyphs(font: Union[Bytes, Font], wanted: Union[str, Iterable[int]]) -> List[
     """The number of the glyph to which a font maps each character, 0 where it maps one to none: in the order of the
     text, or of the code points."""
     file = _File(font)
-    numbers = _characters(wanted) if isinstance(wanted, str) else _numbers(wanted, "code point", _LAST_CODE)
+    numbers = _characters(wanted) if isinstance(wanted, str) else _code_points(wanted)
     count = len(numbers)
     given, out = (ctypes.c_uint32 * max(1, count))(*numbers), (ctypes.c_uint16 * max(1, count))()
     _done(_call("glyphs", font)(file.at, file.length, given, count, out, count))
@@ -476,9 +501,12 @@ def metrics(font: Union[Bytes, Font], glyphs: Iterable[int]) -> List[Tuple[int, 
     """The advance width and the left side bearing of each glyph, in font units and in the order of the glyphs.
 
     Raises `NoGlyph` where a number is no glyph of the font."""
-    file, numbers = _File(font), _numbers(glyphs, "glyph", _LAST_GLYPH)
+    file, numbers = _File(font), _numbers(glyphs, "glyph")
     count = len(numbers)
-    given, out = (ctypes.c_uint16 * max(1, count))(*numbers), (_Metric * max(1, count))()
+    # A font has 65,535 glyphs at most, so that the last of 16 bits stands for all numbers that are none of any font.
+    known = [one if 0 <= one < _NO_GLYPH_OF_ANY else _NO_GLYPH_OF_ANY for one in numbers]
+    given = (ctypes.c_uint16 * max(1, count))(*known)
+    out = (_Metric * max(1, count))()
     answer = _call("metrics", font)(file.at, file.length, given, count, out, count)
     if answer.status == _NO_GLYPH:
         raise NoGlyph(answer.detail, numbers[answer.detail])
@@ -504,29 +532,53 @@ def missing(font: Union[Bytes, Font], text: Codes) -> List[int]:
     return [code for code, glyph in zip(wanted, glyphs(font, wanted)) if glyph == 0]
 
 
-_WORD = re.compile(r"U\+([0-9A-Fa-f]{1,6})(?:-([0-9A-Fa-f]{1,6}))?")
+# One code or two with a hyphen between them; and digits of which the last ones are question marks.
+_SPAN = re.compile(r"(?:[Uu]\+)?([0-9A-Fa-f]{1,6})(?:-(?:[Uu]\+)?([0-9A-Fa-f]{1,6}))?")
+_WILDCARD = re.compile(r"(?:[Uu]\+)?(?=.{1,6}$)([0-9A-Fa-f]*)(\?+)")
+# What stands between words, in a class of characters.
+_BETWEEN = " \t\r\n,;"
+# A line that `fontcut codes --glyphs` prints: a code, the number of its glyph and an advance width.
+_COLUMNS = re.compile("[ \t\r,;]*(U\\+[0-9A-Fa-f]{1,6}) [ \t\r,;]*[0-9]{1,5} [ \t\r,;]*[0-9]{1,5}(?![0-9,;])"
+                      "[ \t\r,;]*")
 
 
 def _read_word(word: str) -> Tuple[int, int]:
-    """The first and the last code point of a range word."""
-    if word == "all":
-        return 0, _LAST_CODE
-    found = _WORD.fullmatch(word)
-    if not found:
-        raise ValueError(f"bad word {word!r}: a range word is all, U+41 or U+41-5A")
-    first, last = int(found[1], 16), int(found[2] or found[1], 16)
+    """The first and the last code point of a word of a list."""
+    span, wildcard = _SPAN.fullmatch(word), _WILDCARD.fullmatch(word)
+    if word in ("all", "*"):
+        first, last = 0, _LAST_CODE
+    elif span:
+        first, last = int(span[1], 16), int(span[2] or span[1], 16)
+    elif wildcard:
+        marks = len(wildcard[2])
+        first, last = (int(wildcard[1] + digit * marks, 16) for digit in "0F")
+    else:
+        raise ValueError(f"bad word {word[:40]!r}: a range is written U+41, U+41-5A, U+4?? or all")
     if not first <= last <= _LAST_CODE:
         raise ValueError(f"bad range {word!r}: it ends before it begins, or above U+{_LAST_CODE:X}")
     return first, last
 
 
+def _words(text: str) -> Iterator[str]:
+    """The words of a list."""
+    text = re.sub("#[^\n]*", "", text[1:] if text.startswith("\ufeff") else text)
+    text = re.sub(f"(?<![^{_BETWEEN}])(?:unicode-range:)+", " ", text)
+    for line in text.split("\n"):
+        columns = _COLUMNS.fullmatch(line)
+        yield from [columns[1]] if columns else filter(None, re.split(f"[{_BETWEEN}]+", line))
+
+
 def ranges(words: Union[str, Iterable[str]]) -> List[Range]:
-    """The code points that range words name, as ranges in ascending order of which none touch: `all`, `U+41` or
-    `U+41-5A`, and several of them parted by blanks, line ends or commas, as the program reads them from a file. What
-    follows `#` in a line is a comment. Raises `ValueError` for any other word."""
+    """The code points that a list of ranges names, as ranges in ascending order of which none touch.
+
+        fontcut.ranges("U+41-5A, U+3B1, U+4??")
+
+    It takes what the program takes from `--codes-file`: `U+41`, `U+41-5A` and `U+4??`, also without the `U+` or with
+    `u+`, and `all` or `*`; parted by blanks, line ends, commas or semicolons, so that a `unicode-range` of CSS can be
+    pasted in. What follows `#` in a line is a comment. Of a line that `fontcut codes --glyphs` prints the code is taken.
+    Raises `ValueError` for any other word."""
     texts = [words] if isinstance(words, str) else list(_items(words, "range word"))
     for place, text in enumerate(texts):
         if not isinstance(text, str):
             raise TypeError(f"item {place} is {text!r}, which is no range word")
-    kept = [re.sub("#[^\n]*", "", text) for text in texts]  # type: ignore[call-overload]
-    return _ranges([_read_word(word) for text in kept for word in re.split("[ \t\r\n,]+", text) if word])
+    return _ranges([_read_word(word) for text in texts for word in _words(text)])  # type: ignore[arg-type]

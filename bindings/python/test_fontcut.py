@@ -11,6 +11,7 @@ import sys
 import tempfile
 import threading
 import unittest
+import warnings
 
 sys.dont_write_bytecode = True
 HERE = os.path.dirname(os.path.abspath(__file__))
@@ -20,6 +21,24 @@ import font_reading
 import lean_cutting
 from worked_cuts import BASE6, LEAN_CUT_OF_AACUTE
 import fontcut
+
+# Lists of ranges, as they stand in a file of `--codes-file`, and the codes that they name; and lists that are refused.
+RANGES = [
+    ("U+41-5A", [(0x41, 0x5A)]), ("all", [(0, 0x10FFFF)]), ("*", [(0, 0x10FFFF)]), ("", []), ("U+a", [(10, 10)]),
+    ("U+61, U+41-5A\tU+5B\r\nU+F0 # U+1\n", [(0x41, 0x5B), (0x61, 0x61), (0xF0, 0xF0)]), ("41", [(0x41, 0x41)]),
+    ("41-5A,61;u+3B1", [(0x41, 0x5A), (0x61, 0x61), (0x3B1, 0x3B1)]), ("U+4??", [(0x400, 0x4FF)]),
+    ("4?", [(0x40, 0x4F)]), ("?????", [(0, 0xFFFFF)]), ("U+41-U+5A 61-u+7a", [(0x41, 0x5A), (0x61, 0x7A)]),
+    ("unicode-range: U+0025-00FF, u+4?? ;", [(0x25, 0xFF), (0x400, 0x4FF)]), ("unicode-range:41", [(0x41, 0x41)]),
+    ("\ufeffU+41", [(0x41, 0x41)]), ("U+41#U+42\nU+43", [(0x41, 0x41), (0x43, 0x43)]),
+    ("U+41 36 1401\nU+42 37 1404", [(0x41, 0x42)]), ("U+41 36 1401 # A", [(0x41, 0x41)]),
+    ("U+41 36, 1401", [(0x36, 0x36), (0x41, 0x41), (0x1401, 0x1401)]), ("U+41 36", [(0x36, 0x36), (0x41, 0x41)]),
+    ("U+41 36 1401 43", [(0x36, 0x36), (0x41, 0x41), (0x43, 0x43), (0x1401, 0x1401)]),
+    ("U+41 36 1401,", [(0x36, 0x36), (0x41, 0x41), (0x1401, 0x1401)]),
+    ("U+41 36 100140", [(0x36, 0x36), (0x41, 0x41), (0x100140, 0x100140)]),
+    ("u+41 36 1401", [(0x36, 0x36), (0x41, 0x41), (0x1401, 0x1401)])]
+NO_RANGES = ["ALL", "U+", "U+41-", "-41", "U+0000041", "0000041", "U+42-41", "U+110000", "U+41:U+42", "V+41", "U+4?4", "U+4?-5?",
+             "??????", "U+1100??", "4???????", "?-41", "**", "U+U+41", "unicode-range", "x unicode-range:41",
+             "xunicode-range:41", "U+41\x0cU+42", "\u00e9", "41-5A-61", "unicode-range :41", "\ufeff\ufeff41", "U+41 36 1g01"]
 
 LETTERS, ACCENTED, ALL = ([(0x41, 0x42)], [(0xC1, 0xC1)], [(0x41, 0x42), (0xC1, 0xC1)])
 
@@ -84,6 +103,19 @@ class Cutting(unittest.TestCase):
         cut = fontcut.cut(BASE6, LETTERS)
         for wanted in ("AB", "BAAB", [0x42, 0x41], range(0x41, 0x43), [(0x41, 0x41), 0x42], iter([0x41, 0x42])):
             self.assertEqual(fontcut.cut(BASE6, wanted), cut)
+
+    def test_text_that_looks_like_ranges(self):
+        """It is taken as characters, and whoever calls is warned, at the line of the call."""
+        for text in ("U+41-5A", "u+41", "U+41, U+4??", " U+41-U+5A;\n", "unicode-range: U+41;"):
+            for call in (fontcut.cut, fontcut.cut_size, fontcut.missing, lambda font, text: fontcut.slices(font, [text])):
+                with self.assertWarnsRegex(fontcut.FontcutWarning, r"is taken as characters: .* fontcut\.ranges\(") as told:
+                    call(BASE6, text)
+                self.assertEqual(os.path.basename(told.filename), os.path.basename(__file__))
+        with warnings.catch_warnings():
+            warnings.simplefilter("error")
+            for text in ("", "A", "U", "U+", "U+41 and more", "41-5A", "U+41" + " " * 10000 + "x"):
+                fontcut.cut(BASE6, text)
+            fontcut.cut(BASE6, fontcut.ranges("U+41-5A"))
 
     def test_bad_ranges(self):
         for wanted in ([(2, 1)], [-1], [0x110000], [(0, 0x110000)]):
@@ -223,7 +255,7 @@ class Asking(unittest.TestCase):
         self.assertEqual(fontcut.metrics(BASE6, [5, 0, 5]), [metrics[5], metrics[0], metrics[5]])
         self.assertEqual(fontcut.advances(BASE6, [5, 0, 5]), [metrics[5][0], metrics[0][0], metrics[5][0]])
         self.assertEqual(fontcut.metrics(BASE6, []), [])
-        for glyphs, error in (([-1], ValueError), ([0x10000], ValueError), (["A"], TypeError), ("A", TypeError)):
+        for glyphs, error in ((["A"], TypeError), ("A", TypeError), ([True], TypeError), (None, TypeError)):
             with self.assertRaises(error):
                 fontcut.metrics(BASE6, glyphs)
 
@@ -233,6 +265,10 @@ class Asking(unittest.TestCase):
                 call(BASE6, [0, 5, 6, 7])
             self.assertEqual((caught.exception.index, caught.exception.glyph), (2, 6))
             self.assertEqual(str(caught.exception), "item 2: the font has no glyph 6")
+        for glyphs, index in (([70000], 0), ([0, 5, -1, 6], 2), ([65535], 0), ([5, 65536, 6], 1), ([6, 1 << 80], 0)):
+            with self.assertRaises(fontcut.NoGlyph) as caught:
+                fontcut.metrics(BASE6, glyphs)
+            self.assertEqual((caught.exception.index, caught.exception.glyph), (index, glyphs[index]))
             self.assertIsInstance(caught.exception, (fontcut.FontcutError, ValueError))
         again = pickle.loads(pickle.dumps(caught.exception))
         self.assertEqual((vars(again), str(again)), (vars(caught.exception), str(caught.exception)))
@@ -254,13 +290,13 @@ class Asking(unittest.TestCase):
         self.assertEqual(fontcut.missing(BASE6, "AB"), [])
 
     def test_range_words(self):
-        for words, wanted in (("U+41-5A", [(0x41, 0x5A)]), ("all", [(0, 0x10FFFF)]), ("", []), ("U+a", [(10, 10)]),
-                              ("U+61, U+41-5A\tU+5B\r\nU+F0 # U+1\n", [(0x41, 0x5B), (0x61, 0x61), (0xF0, 0xF0)]),
-                              (["U+61", "U+41 U+42"], [(0x41, 0x42), (0x61, 0x61)])):
-            self.assertEqual(fontcut.ranges(words), wanted)
+        """What `--codes-file` takes; tests/library asks the program for the same."""
+        for words, wanted in RANGES:
+            self.assertEqual(fontcut.ranges(words), wanted, words)
+        self.assertEqual(fontcut.ranges(["U+61", "U+41 U+42"]), [(0x41, 0x42), (0x61, 0x61)])
         self.assertEqual(fontcut.cut(BASE6, fontcut.ranges("U+41-42")), fontcut.cut(BASE6, "AB"))
-        for words in ("ALL", "u+41", "U+", "U+41-", "41", "U+0000041", "U+42-41", "U+110000", "U+41;U+42", "U+4?"):
-            with self.assertRaisesRegex(ValueError, "bad (word|range) "):
+        for words in NO_RANGES:
+            with self.assertRaisesRegex(ValueError, "bad (word|range) ", msg=words):
                 fontcut.ranges(words)
         for words in ([65], b"all", 7):
             with self.assertRaises(TypeError):
