@@ -1,6 +1,6 @@
 """Serves cuts of the fonts of a folder: a WSGI application over the module `fontcut` and the standard library.
 
-    GET /NAME.ttf?unicodes=U+20-7E,U+A0    the cut of the font NAME.ttf for these code points
+    GET /NAME.ttf?unicodes=U+20-7E,U+4??   the cut of the font NAME.ttf for these code points
     GET /NAME.ttf?text=Hello               for these characters
     GET /NAME.ttf?unicodes=U+20-7E&lean=1  the lean cut
 
@@ -13,12 +13,13 @@ import mmap
 import os
 import re
 import urllib.parse
-from typing import Dict, Iterable, List, NamedTuple, Optional, Tuple
+from typing import Dict, List, NamedTuple, Optional, Tuple
 
 import fontcut
 
-LONGEST_QUERY = 8192
-RANGE = re.compile(r"[Uu]\+([0-9A-Fa-f]{1,6})(?:-([0-9A-Fa-f]{1,6}))?")
+# Together with the name of a font and `GET`, it is less than the longest line that gunicorn may be told to take, so that
+# a query which is too long is answered here.
+LONGEST_QUERY = 8000
 FOREVER = ("Cache-Control", "public, max-age=31536000, immutable")
 
 Range = Tuple[int, int]
@@ -59,25 +60,6 @@ def fonts_of(folder: str) -> Dict[str, Font]:
             if entry.is_file() and entry.name.endswith(".ttf") and entry.stat().st_size}
 
 
-def merged(ranges: Iterable[Range]) -> List[Range]:
-    """The same set as ranges in ascending order, none of which touch."""
-    made: List[Range] = []
-    for first, last in sorted(ranges):
-        if made and first <= made[-1][1] + 1:
-            made[-1] = made[-1][0], max(last, made[-1][1])
-        else:
-            made.append((first, last))
-    return made
-
-
-def range_of(word: str) -> Range:
-    found = RANGE.fullmatch(word)
-    first, last = (int(found[1], 16), int(found[2] or found[1], 16)) if found else (1, 0)
-    if not first <= last <= 0x10FFFF:
-        raise Answer("400 Bad Request", f"bad word {word}")
-    return first, last
-
-
 def wanted_by(query: str) -> Tuple[List[Range], bool]:
     """The set that a query asks for, and whether as a lean cut."""
     if len(query) > LONGEST_QUERY:
@@ -90,10 +72,13 @@ def wanted_by(query: str) -> Tuple[List[Range], bool]:
         raise Answer("400 Bad Request", "bad query") from None
     if not asked.keys() <= {"unicodes", "text", "lean"} or not asked.keys() & {"unicodes", "text"}:
         raise Answer("400 Bad Request", "a query has unicodes or text, and may have lean")
-    words = [re.sub(r"^([Uu]) ", r"\1+", word.strip()) for value in asked.get("unicodes", ())
-             for word in value.split(",") if word.strip()]
+    lists = [re.sub(r"(?<![^\s,;:-])([Uu]) (?=[0-9A-Fa-f?])", r"\1+", value) for value in asked.get("unicodes", ())]
     letters = {ord(letter) for value in asked.get("text", ()) for letter in value}
-    return merged([*map(range_of, words), *((code, code) for code in letters)]), asked.get("lean", ["0"])[-1] == "1"
+    try:
+        ranges = fontcut.ranges([*lists, *(f"U+{code:X}" for code in letters)])
+    except ValueError as error:
+        raise Answer("400 Bad Request", str(error)) from None
+    return [(first, last) for first, last in ranges], asked.get("lean", ["0"])[-1] == "1"
 
 
 class Application:
