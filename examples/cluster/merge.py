@@ -16,6 +16,7 @@ import os
 import shutil
 import sys
 import tempfile
+from concurrent.futures import CancelledError
 from typing import Callable, List, NamedTuple, Sequence, Tuple, Union
 
 import fontcut
@@ -101,8 +102,9 @@ def replace(out: str, data: bytes) -> None:
 
 def connected(scheduler: str) -> Client:
     """A client of the scheduler."""
-    # Or asyncio writes to standard error, now and then, what Dask did not wait for when it closed a client.
-    logging.getLogger("asyncio").setLevel(logging.CRITICAL)
+    # Or Dask and asyncio write to standard error what they try when the scheduler is gone, and what was not waited for when
+    # a client was closed. What matters is said by `main`.
+    logging.disable()
     return Client(scheduler, set_as_default=False)
 
 
@@ -131,6 +133,8 @@ def main() -> int:
             replace(words.out, part)
             return 0
         status, text = part
+    except CancelledError:
+        status, text = 3, f"the scheduler {words.scheduler} has ended, or lost the connection"
     except Exception as error:  # of this system, or one of the cluster's own
         status, text = 3, f"{type(error).__name__}: {error}"
     print("merge.py:", text.replace("\n", " "), file=sys.stderr)
