@@ -15,10 +15,9 @@ import tomllib
 import zipfile
 
 HERE = os.path.dirname(os.path.abspath(__file__))
-# A module of one file cannot say that it has types (PEP 561), so each becomes a package in the wheel.
-MODULES = ["fontcut", "fontcut_pdf"]
-# What `python3 -m` runs of a package whose module is a program.
-PROGRAM = '"""Runs the program of this package."""\nimport sys\n\nfrom . import main\n\nsys.exit(main())\n'
+# A module of one file cannot say that it has types (PEP 561), so it becomes a package in the wheel. The commands of the
+# wheel are a module of it, which finds what these need, or says what to install.
+MODULE, COMMANDS, PACKAGE = "fontcut", "wheel_commands", "fontcut_pdf"
 # No installer knows a platform of an older C library by its number.
 OLDEST = 17
 # 1980, where the time of files in a zip begins.
@@ -73,29 +72,26 @@ def metadata(said):
 
 
 def packages():
-    """The packages of the modules that are there: a path and bytes for each file."""
-    held = {}
-    for name in MODULES:
-        if os.path.exists(os.path.join(HERE, f"{name}.py")):
-            text = text_of(f"{name}.py")
-            held[f"{name}/__init__.py"], held[f"{name}/py.typed"] = text.encode(), b""
-            if "\nif __name__ == " in text:
-                held[f"{name}/__main__.py"] = PROGRAM.encode()
+    """The packages of the wheel: a path and bytes for each file."""
+    held = {f"{name}/py.typed": b"" for name in (MODULE, PACKAGE)}
+    held[f"{MODULE}/__init__.py"] = text_of(f"{MODULE}.py").encode()
+    held[f"{MODULE}/{COMMANDS}.py"] = text_of(f"{COMMANDS}.py").encode()
+    for name in os.listdir(os.path.join(HERE, PACKAGE)):
+        if name.endswith(".py"):
+            held[f"{PACKAGE}/{name}"] = text_of(os.path.join(PACKAGE, name)).encode()
     return held
 
 
 def files(said, tag, shared):
     """What the wheel holds but for its list of files, in the order in which it stands, and the path of that list."""
     held, info = packages(), f"{said['name']}-{said['version']}.dist-info"
-    scripts = [f"{name} = {call}\n" for name, call in said["scripts"].items()
-               if f"{call.partition(':')[0]}/__init__.py" in held]
+    scripts = [f"{name} = {call}\n" for name, call in said["scripts"].items()]
     with open(shared, "rb") as opened:
         held["fontcut/libfontcut.so.0"] = opened.read()
     held = dict(sorted(held.items()))
     held[f"{info}/METADATA"] = metadata(said).encode()
     held[f"{info}/WHEEL"] = f"Wheel-Version: 1.0\nGenerator: fontcut\nRoot-Is-Purelib: false\nTag: {tag}\n".encode()
-    if scripts:
-        held[f"{info}/entry_points.txt"] = "".join(["[console_scripts]\n", *scripts]).encode()
+    held[f"{info}/entry_points.txt"] = "".join(["[console_scripts]\n", *scripts]).encode()
     return held, f"{info}/RECORD"
 
 

@@ -21,6 +21,9 @@ COMPLETION = os.path.join(TOP, "completion", "fontcut.bash")
 COMPLETIONS = {"bash": COMPLETION, "zsh": os.path.join(TOP, "completion", "_fontcut"),
                "fish": os.path.join(TOP, "completion", "fontcut.fish")}
 
+PDF_MANUAL = os.path.join(TOP, "docs", "fontcut-pdf.1")
+PDF_COMPLETION = os.path.join(TOP, "completion", "fontcut-pdf.bash")
+
 with open(os.path.join(TOP, "VERSION"), encoding="ascii") as opened:
     VERSION = opened.read().strip()
 

@@ -1,0 +1,291 @@
+"""The command `fontcut-pdf`."""
+from __future__ import annotations
+
+import argparse
+import io
+import logging
+import os
+import shutil
+import sys
+import tempfile
+from contextlib import ExitStack, contextmanager
+from typing import Iterator, List, Optional, Sequence, Tuple
+
+import fontcut
+import pikepdf
+from pikepdf import Pdf
+
+from .common import Outcome, Refused, line, place
+from .drawing import DEEPEST
+from .files import opened
+from .font import MOST_WORK
+from .merging import merge
+from .shrinking import shrink
+from .streams import MOST_OF_CONTENT, MOST_OF_OTHER, MOST_OF_PROGRAM, MOST_OF_TEXTS
+from .survey import fonts
+
+_LIMITS = f"""\
+Limits: of the content of a page, of a form or of a glyph {MOST_OF_CONTENT >> 20} MiB are read when it is unpacked,
+or {MOST_OF_OTHER >> 20} MiB where it has comments or pictures; of a font {MOST_OF_PROGRAM >> 20} MiB, and of its ToUnicode {MOST_OF_TEXTS >> 20} MiB.
+Where there is more, the fonts in question stay as they are. A file is refused whose fonts have more than
+{MOST_WORK // 1_000_000} million widths and texts, or whose page tree is more than {DEEPEST} nodes deep.
+
+Exit status: 0 done; 1 a file is refused, and nothing was written; 2 usage error; 3 a file cannot be read or
+written.
+"""
+
+_NOT_KEPT = """\
+page labels, names of places that links within a file lead to, fields of forms and their
+signatures, tags, attachments, output intents and metadata. A file with layers that may be hidden is refused.
+"""
+
+_WHAT = """\
+PDF files whose fonts are lean cuts of fontcut: whole fonts are shrunk to what the pages show, and the fonts of
+several files join when the files are merged. Pages look the same, and have the same text. OUT is replaced when
+it is complete.
+
+  fontcut-pdf shrink in.pdf out.pdf
+  fontcut-pdf merge -o all.pdf one.pdf two.pdf
+"""
+
+_SHRINK = """\
+Fonts by glyph numbers (Type 0, Identity-H) that are whole become lean cuts for what the pages show; the pages stay
+the same. A font stays as it is where that is not sure to be so, and is then named. If OUT would not be smaller, it
+is a copy of IN, and the fonts are said to be kept. A signed file is refused.
+"""
+
+_MERGE = f"""\
+Puts the pages of all FILES into OUT, in order. Fonts that are cuts of one font become one font; other fonts that
+are the same bytes stand there once. Without -o the first of FILES is taken for OUT, and refused if it is a PDF
+file already.
+
+Kept: pages with all that they have, annotations and links to pages of their file among it; and bookmarks
+(outlines), below an entry with the name of each file.
+Not kept: {_NOT_KEPT}"""
+
+
+def _saved(pdf: Pdf, **how: object) -> bytes:
+    """The bytes of a file. pikepdf ends the process where it cannot write to a file itself."""
+    made = io.BytesIO()
+    pdf.save(made, **how)
+    return made.getvalue()
+
+
+def _write(path: str, data: bytes) -> None:
+    """Replaces a file by bytes, when all of them are written. An error names the file."""
+    try:
+        if os.path.exists(path) and not os.path.isfile(path):
+            # A device and a pipe stay what they are, and a folder raises an error.
+            with open(path, "wb") as out:
+                out.write(data)
+        else:
+            _replace(os.path.realpath(path), data)
+    except OSError as error:
+        raise OSError(error.errno, error.strerror, path) from error
+
+
+def _replace(path: str, data: bytes) -> None:
+    handle, new = tempfile.mkstemp(prefix=".fontcut-", dir=os.path.dirname(path))
+    try:
+        with os.fdopen(handle, "wb") as out:
+            out.write(data)
+        if os.path.exists(path):
+            shutil.copymode(path, new)
+        else:
+            mask = os.umask(0)
+            os.umask(mask)
+            os.chmod(new, 0o666 & ~mask)
+        os.replace(new, path)
+    except BaseException:
+        os.unlink(new)
+        raise
+
+
+def _bytes_of(path: str) -> bytes:
+    with open(path, "rb") as file:
+        return file.read()
+
+
+def _print(line: str) -> None:
+    """Prints a line at once, the bytes of a path that are no text as `\\udcff`. Raises `OSError` where that fails."""
+    encoding = sys.stdout.encoding or "utf-8"
+    try:
+        print(line.encode(encoding, "backslashreplace").decode(encoding), flush=True)
+    except OSError as error:
+        # Python would try it again when it ends, and say so.
+        with open(os.devnull, "wb") as nowhere:
+            os.dup2(nowhere.fileno(), sys.stdout.fileno())
+        raise OSError(error.errno, error.strerror, "standard output") from error
+
+
+class _Progress:
+    """Says on a terminal how far a long command is, in one line that it takes away at the end."""
+
+    def __init__(self) -> None:
+        self.is_shown = sys.stderr is not None and sys.stderr.isatty()
+
+    def say(self, text: str) -> None:
+        if self.is_shown:
+            print(f"\r\x1b[Kfontcut-pdf: {text}", end="", file=sys.stderr, flush=True)
+
+    def __enter__(self) -> _Progress:
+        return self
+
+    def __exit__(self, *_: object) -> None:
+        if self.is_shown:
+            print("\r\x1b[K", end="", file=sys.stderr, flush=True)
+
+
+def _say(outcome: Outcome, file: str, page: int) -> str:
+    size = f"{outcome.before} bytes" if outcome.after is None else f"{outcome.before} bytes, now {outcome.after}"
+    return f"{file}: {place(page)}: {outcome.name}: {size}: {outcome.said}"
+
+
+def _shrunk(source: str, progress: _Progress) -> Tuple[List[Outcome], Optional[bytes]]:
+    """What became of the fonts of a file, and the bytes of the smaller file, or None where there is none."""
+    progress.say("reading")
+    with _named([source]), opened(source) as pdf:
+        outcomes, before = shrink(pdf), os.path.getsize(source)
+        if all(outcome.after is None for outcome in outcomes):
+            return outcomes, None
+        progress.say("writing")
+        data = _saved(pdf)
+    if len(data) < before:
+        return outcomes, data
+    why = f"kept: shrunk, the file would have {len(data)} bytes of {before}"
+    return [outcome if outcome.after is None else outcome._replace(after=None, said=why, expected=True)
+            for outcome in outcomes], None
+
+
+def _run_shrink(given: argparse.Namespace) -> None:
+    before = os.path.getsize(given.source)
+    with _Progress() as progress:
+        outcomes, data = _shrunk(given.source, progress)
+        _write(given.out, _bytes_of(given.source) if data is None else data)
+    for outcome in outcomes:
+        if given.report:
+            _print(_say(outcome, given.source, outcome.page))
+        elif outcome.expected:
+            print(f"fontcut-pdf: {_say(outcome, given.source, outcome.page)}", file=sys.stderr)
+    if given.report:
+        _print(f"{given.out}: {os.path.getsize(given.out)} bytes of {before}{': kept' if data is None else ''}")
+
+
+def _title(path: str) -> str:
+    """The name of a file, as the outline says it."""
+    name = os.fsencode(os.path.basename(path)).decode("utf-8", "replace")
+    return name[:-4] if name.lower().endswith(".pdf") else name
+
+
+def _run_merge(given: argparse.Namespace) -> None:
+    before = sum(map(os.path.getsize, given.files))
+    pages: List[Tuple[str, int]] = []
+    with ExitStack() as stack:
+        progress, sources = stack.enter_context(_Progress()), []
+        for number, path in enumerate(given.files, 1):
+            progress.say(f"reading {number} of {len(given.files)} files")
+            with _named([path]):
+                sources.append(stack.enter_context(opened(path)))
+            pages += [(path, page) for page in range(1, len(sources[-1].pages) + 1)]
+        progress.say(f"joining the fonts of {len(pages)} pages")
+        with _named(given.files):
+            pdf, outcomes = merge(sources, list(map(_title, given.files)))
+        progress.say(f"writing {len(pages)} pages")
+        version = max(source.pdf_version for source in sources)
+        _write(given.out, _saved(pdf, min_version=version, object_stream_mode=pikepdf.ObjectStreamMode.generate))
+    if given.report:
+        for outcome in outcomes:
+            _print(_say(outcome, *(pages[outcome.page - 1] if outcome.page else (given.out, 0))))
+        _print(f"{given.out}: {os.path.getsize(given.out)} bytes of {before}")
+
+
+def _run_fonts(given: argparse.Namespace) -> None:
+    with _named([given.file]), opened(given.file) as pdf:
+        for outcome in fonts(pdf):
+            _print(f"{place(outcome.page)}: {outcome.name}: {outcome.before} bytes: {outcome.said}")
+
+
+@contextmanager
+def _named(paths: Sequence[str]) -> Iterator[None]:
+    """Within it, a refusal names its file. What a merge says of no page may be one of all its files."""
+    try:
+        yield
+    except Refused as refusal:
+        place_of = paths[refusal.file or 0] if refusal.file is not None or len(paths) == 1 else "one of the files"
+        raise Refused(f"{place_of}: {refusal}") from refusal
+
+
+def _is_pdf(path: str) -> bool:
+    """Whether a path is that of a PDF file. Raises `OSError` where a file cannot be read, for then it may be one."""
+    if not os.path.isfile(path):
+        return False
+    with open(path, "rb") as file:
+        return b"%PDF-" in file.read(1024)
+
+
+def _parser() -> argparse.ArgumentParser:
+    raw = {"formatter_class": argparse.RawDescriptionHelpFormatter}
+    parser = argparse.ArgumentParser(prog="fontcut-pdf", description=_WHAT,
+                                     epilog=f"Not kept by merge: {_NOT_KEPT}\n{_LIMITS}", **raw)
+    parser.add_argument("--version", action="version", version=f"fontcut-pdf {fontcut.__version__}")
+    commands = parser.add_subparsers(dest="command", required=True, metavar="COMMAND")
+    command = commands.add_parser("shrink", help="make lean cuts of whole fonts, for what the pages show",
+                                  description=_SHRINK, epilog=_LIMITS, **raw)
+    command.add_argument("source", metavar="IN")
+    command.add_argument("out", metavar="OUT")
+    command.add_argument("--report", action="store_true", help="say what became of each font")
+    command.set_defaults(run=_run_shrink)
+    command = commands.add_parser("merge", help="put the pages of files into one, where fonts that join are one font",
+                                  usage="fontcut-pdf merge [--report] -o OUT FILES..", description=_MERGE,
+                                  epilog=_LIMITS, **raw)
+    command.add_argument("-o", "--output", metavar="OUT", dest="out",
+                         help="the file that is made; what stands there is replaced")
+    command.add_argument("files", metavar="FILES", nargs="+")
+    command.add_argument("--report", action="store_true", help="say what became of each font")
+    command.set_defaults(run=_run_merge)
+    command = commands.add_parser("fonts", help="list the embedded fonts", epilog=_LIMITS, **raw,
+                                  description="Lists the embedded fonts, their bytes, and whether each is a lean cut.")
+    command.add_argument("file", metavar="FILE")
+    command.set_defaults(run=_run_fonts)
+    return parser
+
+
+def _without_output(given: argparse.Namespace) -> Optional[str]:
+    """Takes the first file of a merge for OUT, as it was written once, where -o names none. Returns what is wrong then."""
+    given.out, *given.files = given.files
+    if not given.files:
+        return f"merge has no file but {given.out}: write merge -o OUT {given.out}"
+    if _is_pdf(given.out):
+        return (f"{given.out} is a PDF file already, and merge would replace it: write merge -o OUT {given.out} .. to "
+                f"merge it, or merge -o {given.out} .. to replace it")
+    return None
+
+
+def _run(given: argparse.Namespace) -> int:
+    if given.command == "merge" and given.out is None:
+        wrong = _without_output(given)
+        if wrong:
+            print(f"fontcut-pdf: {wrong}", file=sys.stderr)
+            return 2
+    given.run(given)
+    return 0
+
+
+def main(words: Optional[Sequence[str]] = None) -> int:
+    """Runs the command, and returns its exit status."""
+    given = _parser().parse_args(words)
+    logging.disable()
+    try:
+        return _run(given)
+    except Refused as refusal:
+        print(f"fontcut-pdf: {refusal}", file=sys.stderr)
+        return 1
+    except MemoryError:
+        print("fontcut-pdf: no memory", file=sys.stderr)
+        return 1
+    except (pikepdf.PdfError, pikepdf.DataDecodingError) as error:
+        print(f"fontcut-pdf: {line(error)}", file=sys.stderr)
+        return 1
+    except OSError as error:
+        print(f"fontcut-pdf: {f'{error.filename}: {error.strerror}' if error.filename else error}", file=sys.stderr)
+        return 3

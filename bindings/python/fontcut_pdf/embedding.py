@@ -1,0 +1,173 @@
+"""Lean cuts in PDF files: how fonts are written (ISO 32000-1, 9.7 to 9.10), and fonts embedded for a text."""
+from __future__ import annotations
+
+import hashlib
+import re
+import struct
+import zlib
+from collections import Counter
+from dataclasses import dataclass
+from typing import Dict, List, Optional, Tuple
+
+import fontcut
+from pikepdf import Array, Dictionary, Name, Object, Pdf, Stream, String
+
+from .common import Number
+
+
+def _table(font: bytes, tag: bytes) -> bytes:
+    """A table of an accepted font, and no bytes where there is none."""
+    for at in range(12, 12 + 16 * struct.unpack_from(">H", font, 4)[0], 16):
+        name, _, offset, length = struct.unpack_from(">4s3I", font, at)
+        if name == tag:
+            return font[offset:offset + length]
+    return b""
+
+
+def codes_by_glyph(font: bytes) -> Dict[int, List[int]]:
+    """The characters that a font maps to each glyph, in ascending order."""
+    codes = [code for first, last in fontcut.codes(font) for code in range(first, last + 1)]
+    found: Dict[int, List[int]] = {}
+    for code, glyph in zip(codes, fontcut.glyphs(font, codes)):
+        found.setdefault(glyph, []).append(code)
+    return found
+
+
+def postscript_name(font: bytes) -> str:
+    """The name of a font for PostScript, name 6 of `name` (OpenType 1.9, name)."""
+    table = _table(font, b"name")
+    if len(table) >= 6:
+        count, storage = struct.unpack_from(">2H", table, 2)
+        for at in range(6, min(6 + 12 * count, len(table) - 11), 12):
+            platform, _, _, kind, length, offset = struct.unpack_from(">6H", table, at)
+            text = table[storage + offset:storage + offset + length]
+            if kind == 6 and text:
+                return text.decode("latin-1" if platform == 1 else "utf-16-be", "replace")
+    return "Font"
+
+
+def tagged(name: str, program: bytes) -> Name:
+    """A name with a subset tag (ISO 32000-1, 9.6.4), which is made from the bytes of the program."""
+    tag = "".join(chr(ord("A") + byte % 26) for byte in hashlib.sha256(program).digest()[:6])
+    return Name(f"/{tag}+{re.sub(r'[^!-~]|[][()<>{}/%#]', '', _without_tag(name)) or 'Font'}")
+
+
+def _without_tag(name: str) -> str:
+    """A name of a font without its subset tag."""
+    return re.sub(r"^/?([A-Z]{6}\+)?", "", name)
+
+
+def program_stream(pdf: Pdf, data: bytes) -> Stream:
+    """A stream for FontFile2 (ISO 32000-1, 9.9)."""
+    stream = Stream(pdf, b"")
+    stream.write(zlib.compress(data, 9), filter=Name.FlateDecode)
+    stream.Length1 = len(data)
+    return stream
+
+
+def _written_widths(widths: Dict[int, Number]) -> Tuple[Array, Number]:
+    """W and DW (ISO 32000-1, 9.7.4.3): DW is the width that most glyphs have, and W has those of the others."""
+    usual = Counter(widths.values()).most_common(1)[0][0] if widths else 1000
+    rows: List[Tuple[int, List[Number]]] = []
+    for glyph, width in sorted(widths.items()):
+        if width != usual:
+            if rows and glyph == rows[-1][0] + len(rows[-1][1]):
+                rows[-1][1].append(width)
+            else:
+                rows.append((glyph, [width]))
+    return Array([part for first, row in rows for part in (first, Array(row))]), usual
+
+
+def to_unicode(pdf: Pdf, texts: Dict[int, Optional[bytes]]) -> Optional[Stream]:
+    """ToUnicode (ISO 32000-1, 9.10.3) for the texts of glyphs in UTF-16, or None where no glyph has one. A block has at
+    most a hundred glyphs."""
+    rows = [f"<{glyph:04X}> <{text.hex().upper()}>\n" for glyph, text in sorted(texts.items()) if text is not None]
+    blocks = [rows[at:at + 100] for at in range(0, len(rows), 100)]
+    if not rows:
+        return None
+    return Stream(pdf, "".join([
+        "/CIDInit /ProcSet findresource begin\n12 dict begin\nbegincmap\n",
+        "/CIDSystemInfo << /Registry (Adobe) /Ordering (UCS) /Supplement 0 >> def\n",
+        "/CMapName /Adobe-Identity-UCS def\n/CMapType 2 def\n",
+        "1 begincodespacerange\n<0000> <FFFF>\nendcodespacerange\n",
+        *(f"{len(block)} beginbfchar\n{''.join(block)}endbfchar\n" for block in blocks),
+        "endcmap\nCMapName currentdict /CMap defineresource pop\nend\nend\n"]).encode())
+
+
+def descendant_font(pdf: Pdf, name: Name, descriptor: Object, widths: Dict[int, Number]) -> Object:
+    """A CIDFont by glyph numbers (ISO 32000-1, 9.7.4)."""
+    written, usual = _written_widths(widths)
+    system = Dictionary(Registry=String("Adobe"), Ordering=String("Identity"), Supplement=0)
+    return pdf.make_indirect(Dictionary(
+        Type=Name.Font, Subtype=Name.CIDFontType2, BaseFont=name, CIDSystemInfo=system, FontDescriptor=descriptor,
+        DW=usual, W=written, CIDToGIDMap=Name.Identity))
+
+
+def composite_font(pdf: Pdf, name: Name, descendant: Object, to_unicode: Optional[Object]) -> Object:
+    """A Type 0 font (ISO 32000-1, 9.7.6)."""
+    made = Dictionary(Type=Name.Font, Subtype=Name.Type0, BaseFont=name, Encoding=Name("/Identity-H"),
+                      DescendantFonts=Array([descendant]))
+    if to_unicode is not None:
+        made.ToUnicode = to_unicode
+    return pdf.make_indirect(made)
+
+
+def _descriptor(pdf: Pdf, cut: bytes, name: Name) -> Object:
+    """The descriptor of a cut (ISO 32000-1, 9.8), from `head`, `hhea`, `OS/2` and `post`."""
+    info, os2, post = fontcut.info(cut), _table(cut, b"OS/2"), _table(cut, b"post")
+    units = max(1, info.units_per_em)
+    ascent, descent, *box = (round(1000 * value / units) for value in (
+        info.ascender, info.descender, info.x_min, info.y_min, info.x_max, info.y_max))
+    weight = struct.unpack_from(">H", os2, 4)[0] if len(os2) >= 6 else 400
+    # sCapHeight is there from version 2 on.
+    has_height = len(os2) >= 90 and struct.unpack_from(">H", os2)[0] >= 2
+    height = round(1000 * struct.unpack_from(">h", os2, 88)[0] / units) if has_height else ascent
+    angle, fixed = (struct.unpack_from(">i4xI", post, 4) if len(post) >= 16 else (0, 0))
+    # Bit 1: of fixed pitch; bit 3: not of the standard Latin characters alone; bit 7: italic.
+    flags = 4 | (1 if fixed else 0) | (64 if angle else 0)
+    return pdf.make_indirect(Dictionary(
+        Type=Name.FontDescriptor, FontName=name, Flags=flags, FontBBox=Array(box),
+        ItalicAngle=round(angle / 65536), Ascent=ascent, Descent=descent, CapHeight=height,
+        # No table has the thickness of stems: an estimate from the weight.
+        StemV=50 + (weight * weight) // 4225, FontFile2=program_stream(pdf, cut)))
+
+
+@dataclass
+class Embedded:
+    """A font in a PDF file.
+
+    font      the Type 0 font, for the Font dictionary of a page's resources
+    glyphs    the glyph of each character
+    """
+
+    font: Object
+    glyphs: Dict[str, int]
+
+    def show(self, text: str) -> bytes:
+        """The string that shows a text, as it stands before `Tj` in a content stream. Raises `ValueError` for a
+        character that is not of the text for which the font was embedded."""
+        lacking = [letter for letter in text if letter not in self.glyphs]
+        if lacking:
+            raise ValueError(f"not embedded: U+{ord(lacking[0]):04X}")
+        return b"<" + b"".join(b"%04X" % self.glyphs[letter] for letter in text) + b">"
+
+
+def embed(pdf: Pdf, font: bytes, text: str) -> Embedded:
+    """Embeds the lean cut of a font for the characters of a text.
+
+    Where the font has one glyph for two of the characters, a program that reads the text of a page finds the first of
+    them by its code. Raises `ValueError` for a character that the font lacks, and `fontcut.Refused` for a font that is
+    refused."""
+    codes = sorted(set(map(ord, text)))
+    cut = fontcut.cut(font, codes, lean=True)
+    glyphs = dict(zip(codes, fontcut.glyphs(cut, codes)))
+    lacking = [code for code, glyph in glyphs.items() if glyph == 0]
+    if lacking:
+        raise ValueError(f"the font lacks U+{lacking[0]:04X}")
+    units, kept = max(1, fontcut.info(cut).units_per_em), sorted(set(glyphs.values()))
+    widths = {glyph: round(1000 * width / units) for glyph, width in zip(kept, fontcut.advances(cut, kept))}
+    texts = {glyph: chr(code).encode("utf-16-be") for code, glyph in reversed(glyphs.items())}
+    name = tagged(postscript_name(cut), cut)
+    inner = descendant_font(pdf, name, _descriptor(pdf, cut, name), widths)
+    made = composite_font(pdf, name, inner, to_unicode(pdf, texts))
+    return Embedded(made, {chr(code): glyph for code, glyph in glyphs.items()})

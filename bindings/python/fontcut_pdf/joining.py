@@ -1,0 +1,149 @@
+"""Fonts of a PDF file whose programs are cuts of one font become one font, of their join."""
+from __future__ import annotations
+
+from dataclasses import dataclass
+from typing import Callable, Dict, Iterator, List, Optional, Sequence, Tuple
+
+import fontcut
+from pikepdf import Array, Name, Pdf
+
+from .common import Number, Outcome, Unclear, place
+from .content import strictly
+from .embedding import composite_font, descendant_font, postscript_name, program_stream, tagged, to_unicode
+from .font import Font
+from .shrinking import described, put
+from .survey import stays, surveyed
+
+
+@dataclass
+class _Member:
+    """A font that can be joined.
+
+    cut       the lean cut that its program is, or comes to
+    box       that of its descriptor
+    widths    of the glyphs that W has or that are shown
+    texts     of the glyphs that ToUnicode has or that are shown; None where ToUnicode was not understood
+    """
+
+    font: Font
+    cut: bytes
+    box: List[Number]
+    widths: Dict[int, Number]
+    texts: Optional[Dict[int, Optional[bytes]]]
+
+
+def _member(font: Font) -> _Member:
+    """What is joined of a font. Raises `Unclear` where it has to stay as it is."""
+    kind = font.kind
+    if not font.is_by_glyph:
+        raise Unclear(f"{kind}, and not by glyph numbers")
+    if kind not in ("lean cut", "cut"):
+        raise Unclear(kind)
+    if not font.is_of_no_collection:
+        raise Unclear("its CIDSystemInfo is not Adobe-Identity")
+    if font.unclear:
+        raise Unclear(font.unclear)
+    (lean, mapped), shown = font.program.lean, font.glyphs()
+    for glyph, page in sorted(shown.items()):
+        # Another cut may have that glyph, so that a join would draw it.
+        if glyph and glyph not in mapped:
+            raise Unclear(f"{place(page)} shows glyph {glyph}, which no character of the cut has")
+    return _Member(font, lean, font.box(), font.widths(shown), font.texts(shown))
+
+
+def _joined(members: List[_Member]) -> Tuple[bytes, List[_Member], List[Tuple[_Member, str]]]:
+    """The join of the first of some fonts and of all that join with it, these, and the others with the reason."""
+    joining, others = list(members), []
+    while True:
+        try:
+            return fontcut.join([member.cut for member in joining], lean=True), joining, others
+        except fontcut.Refused as refusal:
+            others.append((joining.pop(min(refusal.file, len(joining) - 1)), refusal.text))
+
+
+def _agree(one: Optional[Dict], other: Optional[Dict]) -> bool:
+    """Whether two dictionaries have the same at all keys that both have."""
+    return one is not None and other is not None and all(other.get(key, value) == value for key, value in one.items())
+
+
+def _classes(members: Sequence[_Member], of: Callable[[_Member], Optional[Dict]]
+             ) -> List[Tuple[Optional[Dict], List[_Member]]]:
+    """Fonts in classes, in each of which all agree, with what they have together."""
+    found: List[Tuple[Optional[Dict], List[_Member]]] = []
+    for member in members:
+        mine = of(member)
+        place = next((place for place in found if _agree(place[0], mine)), None)
+        if place is None:
+            found.append((None if mine is None else dict(mine), [member]))
+        else:
+            place[0].update(mine)
+            place[1].append(member)
+    return found
+
+
+def _box(members: Sequence[_Member]) -> Array:
+    """A box around the boxes of all descriptors."""
+    left, bottom, right, top = zip(*(member.box for member in members))
+    return Array([min(left), min(bottom), max(right), max(top)])
+
+
+def _unite(members: Sequence[_Member], joined: bytes) -> Name:
+    """Puts one font in the place of some. Where fonts have other widths for one glyph, each has its own CIDFont, and
+    where they have other texts, each its own Type 0 font, all of them over the one program."""
+    first = members[0].font
+    pdf, name = first.pdf, tagged(first.name, joined)
+    descriptor = described(first, name, program_stream(pdf, joined), _box(members))
+    for widths, alike in _classes(members, lambda member: member.widths):
+        descendant = descendant_font(pdf, name, descriptor, widths)
+        for texts, same in _classes(alike, lambda member: member.texts):
+            stated = same[0].font.object.ToUnicode if texts is None else to_unicode(pdf, texts)
+            made = composite_font(pdf, name, descendant, stated)
+            for member in same:
+                put(member.font, made)
+    return name
+
+
+def _unite_all(members: List[_Member]) -> Iterator[Outcome]:
+    """Unites what joins among fonts of one name, the first with all that join with it, and then those that are left."""
+    refusals: Dict[int, str] = {}
+    while members:
+        joined, joining, others = _joined(members)
+        if len(joining) > 1:
+            name = str(_unite(joining, joined))[1:]
+            for member in joining:
+                font = member.font
+                yield Outcome(font.page, font.name, font.program.size, len(joined), f"joined into {name}")
+        else:
+            alone = joining[0]
+            yield stays(alone.font, f"stays as it is: {refusals.get(id(alone), 'no other cut of this font')}")
+        refusals.update((id(member), f"it does not join: {why}") for member, why in others)
+        members = [member for member, _ in others]
+
+
+def _share_programs(fonts: Sequence[Font]) -> None:
+    """Where the same program stands in a file again, byte for byte, all fonts name the first one. Nothing names the others
+    then, and they are not written."""
+    for font in fonts:
+        if font.descriptor[font.key].objgen != font.program.stream.objgen:
+            font.descriptor[font.key] = font.program.stream
+
+
+def join_fonts(pdf: Pdf) -> List[Outcome]:
+    """Fonts by glyph numbers whose programs are cuts of one font become one font, of their join; and of other programs,
+    whole fonts among them, those that are the same bytes stand in the file once. Raises `Refused` where there is no
+    embedded font."""
+    outcomes: List[Outcome] = []
+    groups: Dict[str, List[_Member]] = {}
+    fonts = surveyed(pdf, lambda font: font.is_by_glyph and font.kind in ("lean cut", "cut"))
+    _share_programs(fonts)
+    for font in fonts:
+        try:
+            with strictly(pdf):
+                member = _member(font)
+        except Unclear as error:
+            outcomes.append(stays(font, f"stays as it is: {error}"))
+        else:
+            groups.setdefault(postscript_name(member.cut), []).append(member)
+    for members in groups.values():
+        outcomes += _unite_all(members)
+    return sorted(outcomes, key=lambda outcome: (outcome.page, outcome.name))

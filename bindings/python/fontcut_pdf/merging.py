@@ -1,0 +1,138 @@
+"""The pages of several PDF files become one file, in which fonts that join are one font."""
+from __future__ import annotations
+
+from bisect import bisect_right
+from contextlib import contextmanager
+from typing import Iterator, List, Optional, Sequence, Tuple
+
+from pikepdf import Array, Dictionary, Name, Object, Pdf
+
+from .common import Outcome, Refused, dictionaries, values
+from .drawing import annotations, pages_of
+from .joining import join_fonts
+from .outlines import Source, add_outline
+from .survey import NO_FONT, refusing
+
+
+def _may_hide(thing: Object) -> bool:
+    """Whether a dictionary hides something where layers are shown (ISO 32000-1, 8.11.2.2)."""
+    return thing.get("/Type") == Name.OCMD and ("/VE" in thing or thing.get("/P") in (Name.AllOff, Name.AnyOff))
+
+
+def _shows_each_layer(shown: Optional[Object]) -> bool:
+    """Whether each layer is shown by what a file says of layers (ISO 32000-1, 8.11.4.3)."""
+    if not isinstance(shown, Dictionary) or shown.get("/BaseState", Name.ON) != Name.ON:
+        return False
+    lists = [shown[key] for key in ("/OFF", "/AS") if key in shown]
+    return all(isinstance(layers, Array) and len(layers) == 0 for layers in lists)
+
+
+def refuse_layers(pdf: Pdf) -> None:
+    """Which layers are hidden stands in what belongs to a file as a whole (ISO 32000-1, 8.11.4), which a merge does
+    not keep, so that their text would be shown."""
+    if "/OCProperties" not in pdf.Root:
+        return
+    with refusing():
+        if not _shows_each_layer(pdf.Root.OCProperties.get("/D")) or any(map(_may_hide, dictionaries(pdf))):
+            raise Refused("it has layers that may be hidden")
+
+
+def _actions(first: List[Object]) -> Iterator[Object]:
+    """These actions, and those that follow them (ISO 32000-1, 12.6.2)."""
+    waiting, seen = first[::-1], set()
+    while waiting:
+        action = waiting.pop()
+        if isinstance(action, Dictionary) and action.objgen not in seen:
+            # What stands in another object has no number of its own, and cannot hold itself.
+            seen.update([action.objgen] if action.is_indirect else [])
+            yield action
+            following = action.get("/Next")
+            waiting += reversed(list(following)) if isinstance(following, Array) else [following]
+
+
+def _places(page: Object) -> Iterator[Array]:
+    """The places to which links of a page lead, as far as these name a page themselves (ISO 32000-1, 12.3.2)."""
+    for annotation in annotations(page):
+        actions = _actions([annotation.get("/A"), *values(annotation, "/AA")])
+        for place in (annotation.get("/Dest"), *(action.get("/D") for action in actions)):
+            if isinstance(place, Array) and len(place) > 0:
+                yield place
+
+
+def _lead_links(source: Source) -> None:
+    """Lets links lead to the copies of their pages. What a page names is copied with it, but for pages: those that come
+    later are null where a link leads to them. A page that stands twice in its file has two copies, and links lead to the
+    first."""
+    for page, copied in zip(source.pages, source.copied):
+        for place, copy in zip(_places(page), _places(copied)):
+            if isinstance(place[0], Dictionary) and place[0].objgen in source.copies:
+                copy[0] = source.copies[place[0].objgen]
+
+
+def _sources(pdf: Pdf, sources: Sequence[Pdf], titles: Sequence[str], first: Sequence[int]) -> List[Source]:
+    """The files whose pages a file has, each with the copies of its pages."""
+    copied, made = pages_of(pdf), []
+    for source, title, begin in zip(sources, titles, first):
+        pages = pages_of(source)
+        made.append(Source(source, title, pages, copied[begin:begin + len(pages)]))
+    return made
+
+
+@contextmanager
+def _refusing_file(number: int) -> Iterator[None]:
+    """Within it, a refusal is one of a file, by its place."""
+    try:
+        yield
+    except Refused as refusal:
+        refusal.file = number
+        raise
+
+
+@contextmanager
+def _refusing_page(first: Sequence[int]) -> Iterator[None]:
+    """Within it, a refusal of a page is one of its file. Each file begins after so many pages."""
+    try:
+        yield
+    except Refused as refusal:
+        if refusal.page:
+            refusal.file = bisect_right(first, refusal.page - 1) - 1
+            refusal.page -= first[refusal.file]
+        elif refusal.args == (NO_FONT,):
+            refusal.file = 0
+        raise
+
+
+def _refuse_without_fonts(first: Sequence[int], outcomes: Sequence[Outcome]) -> None:
+    """Refuses the first file of which no page has an embedded font."""
+    found = {bisect_right(first, outcome.page - 1) - 1 for outcome in outcomes}
+    for number in range(len(first)):
+        with _refusing_file(number):
+            if number not in found:
+                raise Refused(NO_FONT)
+
+
+def merge(sources: Sequence[Pdf], titles: Optional[Sequence[str]] = None) -> Tuple[Pdf, List[Outcome]]:
+    """A file of the pages of all files, in order, in which fonts that join are one font; and what became of each font.
+    The files have to stay open until it is saved. Raises `Refused` where a file has no embedded font, or a layer that may
+    be hidden, and its `file` is then the place of that file among all, from 0.
+
+    Pages keep what they have, their annotations too, with links to other pages of their file. Where a file has an outline
+    (bookmarks), each file has an entry at the top with its title, and its own outline below that. What else belongs to a
+    file as a whole is not kept: labels of pages, names that links lead to, fields of forms, tags, attachments, output
+    intents and metadata."""
+    pdf, first, count = Pdf.new(), [], 0
+    for number, source in enumerate(sources):
+        with _refusing_file(number), refusing():
+            refuse_layers(source)
+            first.append(count)
+            count += len(source.pages)
+            pdf.pages.extend(source.pages)
+    added = _sources(pdf, sources, titles or [f"Document {number + 1}" for number in range(len(sources))], first)
+    for number, one in enumerate(added):
+        with _refusing_file(number), refusing():
+            _lead_links(one)
+    with _refusing_page(first):
+        outcomes = join_fonts(pdf)
+    _refuse_without_fonts(first, outcomes)
+    add_outline(pdf, added)
+    return pdf, outcomes
