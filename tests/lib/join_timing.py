@@ -13,7 +13,7 @@ COUNTS = 2, 20, 100, 400
 TIMES = 7
 TIMES_OF_FEW = 25  # a short run is disturbed more
 FEW = 20  # cuts
-ORDINARY, LEAN = (), ("--lean",)  # the words for a kind of cuts
+FULL, LEAN = (), ("--lean",)  # the words for a kind of cuts
 
 # The number of cuts, the bytes that are read and written, and what the join and the C program took.
 Joined = namedtuple("Joined", "count read written join floor")
@@ -34,7 +34,7 @@ def cuts_of(folder, count, kind):
     return cuts
 
 
-def time_join(folder, count, floor, runs, tries=1, most=0.0, kind=ORDINARY):
+def time_join(folder, count, floor, runs, tries=1, most=0.0, kind=FULL):
     """Makes the cuts of a kind, joins them, checks the join, and measures, again where the join takes more than `most`
     times as long as the C program at the path `floor`."""
     cuts = cuts_of(folder, count, kind)

@@ -1,6 +1,6 @@
 -- Sets of codes, this project's own: whether a code is in a set, and the sorted ranges that hold it.
 use Rattle.std.specs.Prelude.{◌≡◌, ℕ, ◌+◌, ◌<◌, ◌≤◌, ◌⊎◌, nat_le, Bool, true, false, ◌&&◌, ◌||◌, if◌then◌else◌, List, [], ◌∷◌}
-use Rattle.codes.specs.declared.ranges.Range.{Range}
+use Rattle.codes.specs.declared.code_range.CodeRange.{CodeRange}
 use Rattle.codes.specs.declared.code_points.TheConstants.{LAST_CODE}
 
 -- no code
@@ -28,18 +28,18 @@ abbrev pub IsBadRange : ℕ → ℕ → Type 0
 IsBadRange first last = (last < first) ⊎ (LAST_CODE < last)
 
 -- a code is in one of the ranges
-abbrev pub member : List Range → ℕ → Bool
+abbrev pub member : List CodeRange → ℕ → Bool
 member [] c = false
 member (range ∷ ranges) c = codes_between range.first range.last c || member ranges c
 
 -- sorted ranges that neither overlap nor touch, none empty, the first not below a bound
-abbrev pub AreSeparate : ℕ → List Range → Type 0
+abbrev pub AreSeparate : ℕ → List CodeRange → Type 0
 AreSeparate low [] = Unit {0}
 AreSeparate low (range ∷ ranges) =
     (low ≤ range.first) × (range.first ≤ range.last) × AreSeparate (range.last + 2) ranges
 
 -- the first codes of a set from a given one on, in a row
-pub record IsRow (w : ℕ → Bool) (from : ℕ) (range : Range) : Type 0 where
+pub record IsRow (w : ℕ → Bool) (from : ℕ) (range : CodeRange) : Type 0 where
   pub from_on : from ≤ range.first
   pub least : (c : ℕ) → from ≤ c → c < range.first → w c ≡ false
   pub order : range.first ≤ range.last

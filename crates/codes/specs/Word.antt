@@ -1,10 +1,12 @@
 -- Words, this project's own: ranges of codes as text.
-use Rattle.std.specs.Prelude.{◌≡◌, ℕ, ◌≤◌, ◌⊎◌, nat_lt, true, Bool, List, ◌++◌, length, codes}
+use Rattle.std.specs.Prelude.{◌≡◌, ℕ, ◌≤◌, ◌⊎◌, nat_eq, nat_lt, true, Bool, List, ◌∷◌, ◌++◌, length, codes, if◌then◌else◌}
 use Rattle.std.specs.Char.{digit_value}
+use Rattle.std.specs.Fmt.{digits}
 use Rattle.std.specs.List.{list_all}
 use Rattle.std.specs.Str.Parse.{digits_value}
 use Rattle.codes.specs.Wanted.{IsBadRange}
 use Rattle.codes.specs.declared.code_points.TheConstants.{LAST_CODE}
+use Rattle.codes.specs.declared.code_range.CodeRange.{CodeRange}
 use Rattle.codes.specs.declared.word.WordError.{WordError}
 use Rattle.codes.specs.declared.word.WordError.TheVariants.{BadRange, BadWord}
 
@@ -52,3 +54,13 @@ abbrev pub OneRangeOfWord : Type 0
 OneRangeOfWord =
     (text : List ℕ) (first last least most : ℕ) → IsWord text first last → IsWord text least most →
     (first ≡ least) × (last ≡ most)
+
+-- what is written of a code: `U+` and its upper-case hexadecimal digits
+abbrev pub code_word : ℕ → List ℕ
+code_word code = codes "U+" ++ digits 16 true code
+
+-- what is written of a range: its one code, or its first code, `-` and the digits of its last code
+abbrev pub range_word : CodeRange → List ℕ
+range_word range =
+    if nat_eq range.first range.last then code_word range.first
+    else code_word range.first ++ 45 ∷ digits 16 true range.last

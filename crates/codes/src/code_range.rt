@@ -1,11 +1,13 @@
-//! A range of codes as one value, this project's own.
+//! A range of codes, this project's own.
 ghost use Rattle.std.specs.Prelude.{◌≡◌};
 
 use crate::word::{WordError, read_word};
+use std::fmt;
 use std::str::FromStr;
 
-/// The codes from the first to the last, laid out as `fontcut_range` of the library for C. Nothing says that the first is
-/// not above the last, nor that they are code points; of a range that was read of a text both hold.
+/// The codes from the first to the last. The type alone does not keep the first from being above the last, nor
+/// the last above 0x10FFFF; of a range that was read from a text neither is true. In memory it is laid out as
+/// `fontcut_range` of the library for C.
 ///
 /// # Example
 ///
@@ -43,5 +45,22 @@ impl FromStr for CodeRange {
     fn from_str(word: &str) -> Result<CodeRange, WordError> {
         let (first, last) = read_word(word)?;
         Ok(CodeRange { first, last })
+    }
+}
+
+/// Writes the word of a range: `U+41-5A`, or `U+41` where it has one code.
+impl fmt::Display for CodeRange {
+    ghost use Rattle.std.specs.Prelude.{Some};
+    ghost use Rattle.codes.specs.Word.{range_word};
+
+    ghost output = { λ range. Some (range_word range) };
+
+    fn fmt<W: fmt::Write>(&self, f: &mut fmt::Formatter<W>) -> fmt::Result {
+        let (first, last) = (self.first, self.last);
+        if first == last {
+            write!(f, "U+{first:X}")
+        } else {
+            write!(f, "U+{first:X}-{last:X}")
+        }
     }
 }

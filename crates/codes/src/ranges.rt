@@ -5,23 +5,15 @@ ghost use Rattle.codes.specs.Inside.{IsPartAbove, IsPartBelow, absorbed, range_e
 ghost use Rattle.codes.specs.Wanted.{AreSeparate, IsRow, NoRow, member};
 ghost use Rattle.codes.specs.declared.code_points.TheConstants.{LAST_CODE};
 
+use crate::code_range::CodeRange;
 use crate::search::{ANYWHERE, Ends, first_reaching};
 use sfnt_bytes::NoMemory;
 use std::alloc::Allocator;
 
-/// The codes `first` to `last`.
-#[derive(Clone, Copy, Debug, PartialEq, Eq)]
-pub struct Range {
-    /// The first code.
-    pub first: u32,
-    /// The last code.
-    pub last: u32,
-}
-
 /// The ends of ranges.
 #[derive(Drop)]
 struct RangeEnds<'a> {
-    ranges: &'a [Range],
+    ranges: &'a [CodeRange],
 }
 
 impl<'a> Ends for RangeEnds<'a> {
@@ -44,7 +36,7 @@ impl<'a> Ends for RangeEnds<'a> {
 // Returns the place of the first range that ends at the code or above it, which is likely to stand close after
 // the hint.
 #[tactic(auto, using(crate::proofs::RangeLemmas::ranges_ascend))]
-fn place_range(ranges: &[Range], hint: usize, code: u32) -> usize
+fn place_range(ranges: &[CodeRange], hint: usize, code: u32) -> usize
     requires { AreSeparate 0 ranges.now }
     ensures { IsFirstReaching (range_end ranges.now) (length ranges.now) code result }
 {
@@ -52,7 +44,7 @@ fn place_range(ranges: &[Range], hint: usize, code: u32) -> usize
 }
 
 /// Returns whether a code is in one of the ranges.
-pub(crate) fn has_code(ranges: &[Range], code: u32) -> bool
+pub(crate) fn has_code(ranges: &[CodeRange], code: u32) -> bool
     requires { AreSeparate 0 ranges.now }
     ensures { result ≡ member ranges.now code }
 {
@@ -68,7 +60,11 @@ pub(crate) fn has_code(ranges: &[Range], code: u32) -> bool
 
 /// Returns the codes, from `from` on, of the first range that ends at `from` or above it, and the place of that
 /// range, as a hint for the next search.
-pub(crate) fn row_by_hint(ranges: &[Range], hint: usize, from: u32) -> (Option<Range>, usize)
+pub(crate) fn row_by_hint(
+    ranges: &[CodeRange],
+    hint: usize,
+    from: u32,
+) -> (Option<CodeRange>, usize)
     requires { AreSeparate 0 ranges.now }
     ensures { MatchOption result.0 (NoRow (member ranges.now) from) (IsRow (member ranges.now) from) }
 {
@@ -77,7 +73,7 @@ pub(crate) fn row_by_hint(ranges: &[Range], hint: usize, from: u32) -> (Option<R
         return (None, i);
     }
     let range = ranges[i];
-    let row = Range {
+    let row = CodeRange {
         first: from.max(range.first),
         last: range.last,
     };
@@ -86,7 +82,7 @@ pub(crate) fn row_by_hint(ranges: &[Range], hint: usize, from: u32) -> (Option<R
 
 // Returns how many ranges end before another one, with a gap.
 #[tactic(auto, using(crate::proofs::AddingLemmas::with_range_at))]
-fn count_before(ranges: &[Range], range: Range) -> usize
+fn count_before(ranges: &[CodeRange], range: CodeRange) -> usize
     requires { AreSeparate 0 ranges.now }
     ensures within { result ≤ length ranges.now }
     ensures rest { with_range range ranges.now ≡ take result ranges.now ++ absorbed range
@@ -103,7 +99,7 @@ fn count_before(ranges: &[Range], range: Range) -> usize
 // Merges `range` with the ranges from index `i` on that overlap or touch it. Returns the union and the
 // index after the last one merged.
 #[tactic(auto, using(crate::proofs::AddingLemmas::absorbed_on, crate::proofs::AddingLemmas::absorbed_stop, crate::proofs::AddingLemmas::absorbed_end))]
-fn absorb(ranges: &[Range], i: usize, range: Range) -> (Range, usize)
+fn absorb(ranges: &[CodeRange], i: usize, range: CodeRange) -> (CodeRange, usize)
     requires { i ≤ length ranges.now }
     ensures order { i ≤ result.1 }
     ensures within { result.1 ≤ length ranges.now }
@@ -115,7 +111,7 @@ fn absorb(ranges: &[Range], i: usize, range: Range) -> (Range, usize)
         if next.first.saturating_sub(1) > whole.last {
             return (whole, j);
         }
-        whole = Range {
+        whole = CodeRange {
             first: whole.first.min(next.first),
             last: whole.last.max(next.last),
         };
@@ -126,10 +122,10 @@ fn absorb(ranges: &[Range], i: usize, range: Range) -> (Range, usize)
 // Puts a range in the place of those from index `i` to `j`. It asks for memory only where these are
 // none.
 fn replace<A: Allocator>(
-    ranges: &mut Vec<Range, A>,
+    ranges: &mut Vec<CodeRange, A>,
     i: usize,
     j: usize,
-    range: Range,
+    range: CodeRange,
 ) -> Result<(), NoMemory>
     requires order { i ≤ j }
     requires within { j ≤ length ranges.old.items }
@@ -148,8 +144,8 @@ fn replace<A: Allocator>(
 
 /// Adds a range, in place.
 pub(crate) fn add_range<A: Allocator>(
-    ranges: &mut Vec<Range, A>,
-    range: Range,
+    ranges: &mut Vec<CodeRange, A>,
+    range: CodeRange,
 ) -> Result<(), NoMemory>
     requires { AreSeparate 0 ranges.old.items }
     ensures ok { OnOk result (ranges.new.items ≡ with_range range ranges.old.items) }
@@ -164,11 +160,11 @@ pub(crate) fn add_range<A: Allocator>(
 // anything is changed.
 #[tactic(auto, using(crate::proofs::RemovingLemmas::two_in_place))]
 fn replace_by_two<A: Allocator>(
-    ranges: &mut Vec<Range, A>,
+    ranges: &mut Vec<CodeRange, A>,
     i: usize,
     j: usize,
-    below: Range,
-    above: Range,
+    below: CodeRange,
+    above: CodeRange,
 ) -> Result<(), NoMemory>
     requires order { i < j }
     requires within { j ≤ length ranges.old.items }
@@ -181,13 +177,13 @@ fn replace_by_two<A: Allocator>(
 }
 
 // Returns what of the range at an index lies below another one, where there is such a range.
-fn part_below_at(ranges: &[Range], i: usize, range: Range) -> Option<Range>
+fn part_below_at(ranges: &[CodeRange], i: usize, range: CodeRange) -> Option<CodeRange>
     ensures { MatchOption result
         (i < length ranges.now → range.first ≤ (range_nth ranges.now i).first)
         (λ below. IsPartBelow ranges.now i range below) }
 {
     if i < ranges.len() && ranges[i].first < range.first {
-        return Some(Range {
+        return Some(CodeRange {
             first: ranges[i].first,
             last: range.first - 1,
         });
@@ -196,14 +192,14 @@ fn part_below_at(ranges: &[Range], i: usize, range: Range) -> Option<Range>
 }
 
 // Returns what of the range at an index lies above another one, where the two have a code in common.
-fn part_above_at(ranges: &[Range], j: usize, range: Range) -> Option<Range>
+fn part_above_at(ranges: &[CodeRange], j: usize, range: CodeRange) -> Option<CodeRange>
     requires { range.last ≤ LAST_CODE }
     ensures { MatchOption result
         (j < length ranges.now → range.last < (range_nth ranges.now j).first)
         (λ above. IsPartAbove ranges.now j range above) }
 {
     if j < ranges.len() && ranges[j].first <= range.last {
-        return Some(Range {
+        return Some(CodeRange {
             first: range.last + 1,
             last: ranges[j].last,
         });
@@ -214,8 +210,8 @@ fn part_above_at(ranges: &[Range], j: usize, range: Range) -> Option<Range>
 /// Takes the codes of a range away, in place.
 #[tactic(auto, using(crate::proofs::RemovingLemmas::none_left, crate::proofs::RemovingLemmas::below_left, crate::proofs::RemovingLemmas::above_left, crate::proofs::RemovingLemmas::both_left))]
 pub(crate) fn remove_range<A: Allocator>(
-    ranges: &mut Vec<Range, A>,
-    range: Range,
+    ranges: &mut Vec<CodeRange, A>,
+    range: CodeRange,
 ) -> Result<(), NoMemory>
     requires separate { AreSeparate 0 ranges.old.items }
     requires order { range.first ≤ range.last }

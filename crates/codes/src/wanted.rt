@@ -5,7 +5,8 @@ ghost use Rattle.codes.specs.Wanted.{IsBadRange, IsRow, NoRow, all_codes, but_fo
 ghost use Rattle.codes.specs.declared.wanted.WantedError.TheVariants.{BadRange, NoMemory};
 
 use crate::code_points::LAST_CODE;
-use crate::ranges::{Range, add_range, has_code, remove_range, row_by_hint};
+use crate::code_range::CodeRange;
+use crate::ranges::{add_range, has_code, remove_range, row_by_hint};
 use sfnt_bytes::{NoMemory, numbers};
 use std::alloc::{Allocator, Global};
 use std::cell::Cell;
@@ -60,7 +61,7 @@ impl From<NoMemory> for WantedError {
 /// A set of codes.
 #[derive(Drop)]
 pub struct Wanted<A: Allocator = Global> {
-    ranges: Vec<Range, A>,
+    ranges: Vec<CodeRange, A>,
     // Where the range that was read last stands: a walk over the set goes on from there.
     hint: Cell<usize>,
 }
@@ -69,9 +70,9 @@ pub struct Wanted<A: Allocator = Global> {
 impl<A: Allocator> Model for Wanted<A> {
     ghost use Rattle.std.specs.Prelude.{List};
     ghost use Rattle.codes.specs.Wanted.{AreSeparate};
-    ghost use Rattle.codes.specs.declared.ranges.Range.{Range};
+    ghost use Rattle.codes.specs.declared.code_range.CodeRange.{CodeRange};
 
-    ghost Value = { List Range };
+    ghost Value = { List CodeRange };
 
     ghost view = { λ w. w.ranges.items };
 
@@ -98,7 +99,7 @@ impl<A: Allocator> Wanted<A> {
         ensures { IfOk result (λ wanted. member wanted ≡ all_codes) }
     {
         let mut ranges = Vec::new(alloc);
-        let range = Range {
+        let range = CodeRange {
             first: 0,
             last: LAST_CODE,
         };
@@ -117,7 +118,7 @@ impl<A: Allocator> Wanted<A> {
     }
 
     /// Returns the codes, from `from` on, of the first range of the set that ends at `from` or above it.
-    pub fn row_from(&self, from: u32) -> Option<Range>
+    pub fn row_from(&self, from: u32) -> Option<CodeRange>
         ensures { MatchOption result (NoRow (member self.now) from) (IsRow (member self.now) from) }
     {
         let (row, place) = row_by_hint(self.ranges.as_slice(), self.hint.get(), from);
@@ -151,7 +152,7 @@ impl<A: Allocator> Wanted<A> {
         if last < first || LAST_CODE < last {
             return Err(WantedError::BadRange);
         }
-        add_range(&mut self.ranges, Range { first, last })?;
+        add_range(&mut self.ranges, CodeRange { first, last })?;
         Ok(())
     }
 
@@ -169,7 +170,7 @@ impl<A: Allocator> Wanted<A> {
         ensures unchanged { OnErr result (member self.new ≡ member self.old) }
     {
         if first <= last && last <= LAST_CODE {
-            remove_range(&mut self.ranges, Range { first, last })?;
+            remove_range(&mut self.ranges, CodeRange { first, last })?;
             return Ok(());
         }
         Err(WantedError::BadRange)

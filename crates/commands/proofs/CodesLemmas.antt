@@ -11,20 +11,20 @@ use Rattle.codes.proofs.RunLemmas.{groups_done, groups_from-runs, groups_next, r
 use Rattle.codes.specs.CharacterMap.{IsCharacterMap, is_mapped}
 use Rattle.codes.specs.Runs.{AreRuns, IsRun, NoRun, groups_from}
 use Rattle.codes.specs.Wanted.{AreSeparate, codes_between, member}
-use Rattle.codes.specs.Word.{IsWord, SpellsCode, is_hexadecimal}
-use Rattle.codes.specs.declared.ranges.Range.{Range}
+use Rattle.codes.specs.Word.{IsWord, SpellsCode, code_word, is_hexadecimal}
+use Rattle.codes.specs.declared.code_range.CodeRange.{CodeRange}
 use Rattle.codes.specs.declared.runs.Run.{Run}
-use Rattle.commands.specs.Codes.{CodesLaws, IsReadBack, code_ranges, code_word, codes_of, ranges_of, ranges_on}
+use Rattle.commands.specs.Codes.{CodesLaws, IsReadBack, code_ranges, codes_of, ranges_of, ranges_on}
 
 -- a range from one code to another
-abbrev pub range_to : ℕ → ℕ → Range
+abbrev pub range_to : ℕ → ℕ → CodeRange
 range_to first last = record { first = first; last = last }
 
 -- a run that touches a range goes on with it
-on_yes : (range : Range) (run : Run) (runs : List Run) → run.first ≡ range.last + 1 → ranges_on range (run ∷ runs) ≡ ranges_on (range_to range.first run.last) runs
+on_yes : (range : CodeRange) (run : Run) (runs : List Run) → run.first ≡ range.last + 1 → ranges_on range (run ∷ runs) ≡ ranges_on (range_to range.first run.last) runs
 on_yes range run runs e = ap (λ (t : Bool). cond t (ranges_on (range_to range.first run.last) runs) (range ∷ ranges_on (codes_of run) runs)) (eq-eqb run.first (range.last + 1) e)
 
-on_no : (range : Range) (run : Run) (runs : List Run) → run.first ≢ range.last + 1 → ranges_on range (run ∷ runs) ≡ range ∷ ranges_on (codes_of run) runs
+on_no : (range : CodeRange) (run : Run) (runs : List Run) → run.first ≢ range.last + 1 → ranges_on range (run ∷ runs) ≡ range ∷ ranges_on (codes_of run) runs
 on_no range run runs e = ap (λ (t : Bool). cond t (ranges_on (range_to range.first run.last) runs) (range ∷ ranges_on (codes_of run) runs)) (ne_eqb run.first (range.last + 1) e)
 
 -- the walk from run to run: what is left of the ranges from a code on
@@ -62,10 +62,10 @@ none_left m from ok none = ap ranges_of (groups_done m from ok none)
 pub walk_end : (m : ℕ → ℕ) (from first last : ℕ) → IsCharacterMap m → Walks m from first last → NoRun m (last + 1) → code_ranges m from ≡ range_to first last ∷ code_ranges m (last + 1)
 walk_end m from first last ok w none =
     w.rest ∙ ap (ranges_on (range_to first last)) (groups_done m (last + 1) ok none)
-    ∙ ap (λ (ranges : List Range). range_to first last ∷ ranges) (sym (none_left m (last + 1) ok none))
+    ∙ ap (λ (ranges : List CodeRange). range_to first last ∷ ranges) (sym (none_left m (last + 1) ok none))
 
 -- the ranges lie apart
-on-separate : (m : ℕ → ℕ) (low : ℕ) (range : Range) (runs : List Run) → low ≤ range.first → range.first ≤ range.last → AreRuns m (range.last + 1) runs → AreSeparate low (ranges_on range runs)
+on-separate : (m : ℕ → ℕ) (low : ℕ) (range : CodeRange) (runs : List Run) → low ≤ range.first → range.first ≤ range.last → AreRuns m (range.last + 1) runs → AreSeparate low (ranges_on range runs)
 on-separate m low range [] a b h = (a, b, tt)
 on-separate m low range (run ∷ runs) a b h =
     elim (cases_lt (range.last + 1) run.first) [
@@ -85,13 +85,13 @@ between_below a b c x = grind (arith, nat_tests)
 between_above : (a b c : ℕ) → b < c → codes_between a b c ≡ false
 between_above a b c x = grind (arith, nat_tests)
 
-member_first : (range : Range) (ranges : List Range) (c : ℕ) → range.first ≤ c → c ≤ range.last → member (range ∷ ranges) c ≡ true
+member_first : (range : CodeRange) (ranges : List CodeRange) (c : ℕ) → range.first ≤ c → c ≤ range.last → member (range ∷ ranges) c ≡ true
 member_first range ranges c x y = ap (λ (t : Bool). t || member ranges c) (between_yes range.first range.last c x y)
 
-member_above : (range : Range) (ranges : List Range) (c : ℕ) → range.last < c → member (range ∷ ranges) c ≡ member ranges c
+member_above : (range : CodeRange) (ranges : List CodeRange) (c : ℕ) → range.last < c → member (range ∷ ranges) c ≡ member ranges c
 member_above range ranges c x = ap (λ (t : Bool). t || member ranges c) (between_above range.first range.last c x)
 
-member_below : (low : ℕ) (ranges : List Range) (c : ℕ) → AreSeparate low ranges → c < low → member ranges c ≡ false
+member_below : (low : ℕ) (ranges : List CodeRange) (c : ℕ) → AreSeparate low ranges → c < low → member ranges c ≡ false
 member_below low [] c o x = refl
 member_below low (range ∷ ranges) c o x =
     ap (λ (t : Bool). t || member ranges c) (between_below range.first range.last c (omega (arith, o.0, x)))
@@ -110,7 +110,7 @@ abbrev AreMapped : (ℕ → ℕ) → ℕ → ℕ → Type 0
 AreMapped m first last = (c : ℕ) → first ≤ c → c ≤ last → is_mapped m c ≡ true
 
 -- the ranges have the mapped codes and no others
-on-exact : (m : ℕ → ℕ) (range : Range) (runs : List Run) (c : ℕ) → range.first ≤ range.last → AreMapped m range.first range.last → AreRuns m (range.last + 1) runs → range.first ≤ c → member (ranges_on range runs) c ≡ is_mapped m c
+on-exact : (m : ℕ → ℕ) (range : CodeRange) (runs : List Run) (c : ℕ) → range.first ≤ range.last → AreMapped m range.first range.last → AreRuns m (range.last + 1) runs → range.first ≤ c → member (ranges_on range runs) c ≡ is_mapped m c
 on-exact m range [] c o all h x =
     elim (cases_lt range.last c) [
       | inl y ↦ member_above range [] c y ∙ sym (mapped_no m c (h c (omega (arith, y))))
@@ -118,7 +118,7 @@ on-exact m range [] c o all h x =
     ]
 on-exact m range (run ∷ runs) c o all h x =
     elim (cases_lt (range.last + 1) run.first) [
-      | inl z ↦ ap (λ (ranges : List Range). member ranges c) (on_no range run runs (λ e. omega (arith, e, z)))
+      | inl z ↦ ap (λ (ranges : List CodeRange). member ranges c) (on_no range run runs (λ e. omega (arith, e, z)))
           ∙ elim (cases_lt range.last c) [
             | inl y ↦ member_above range (ranges_on (codes_of run) runs) c y
                 ∙ elim (cases_lt c run.first) [
@@ -130,7 +130,7 @@ on-exact m range (run ∷ runs) c o all h x =
           ]
       | inr z ↦
           let touches : run.first ≡ range.last + 1 = omega (arith, z, h.0.piece.from_on) in
-          ap (λ (ranges : List Range). member ranges c) (on_yes range run runs touches)
+          ap (λ (ranges : List CodeRange). member ranges c) (on_yes range run runs touches)
           ∙ on-exact m (range_to range.first run.last) runs c (omega (arith, o, touches, h.0.piece.order))
           (λ k a b. elim (cases_lt range.last k) [
             | inl y ↦ run-mapped m (range.last + 1) run h.0 k (omega (arith, y, touches)) b
@@ -173,7 +173,7 @@ digits-spell n h =
     }
 
 -- the word of a range names it
-pub word-reads : (range : Range) → range.first ≤ range.last → range.last ≤ 0x10FFFF → IsReadBack range
+pub word-reads : (range : CodeRange) → range.first ≤ range.last → range.last ≤ 0x10FFFF → IsReadBack range
 word-reads range o w =
     let first = digits-spell range.first (omega (arith, o, w)) in
     let last = digits-spell range.last w in
@@ -193,7 +193,7 @@ word-reads range o w =
       good = λ bad. elim bad [ inl x ↦ omega (arith, x, o) | inr x ↦ omega (arith, x, w) ];
     }
 
-on-read : (m : ℕ → ℕ) (range : Range) (runs : List Run) → range.first ≤ range.last → range.last ≤ 0x10FFFF → AreRuns m (range.last + 1) runs → All IsReadBack (ranges_on range runs)
+on-read : (m : ℕ → ℕ) (range : CodeRange) (runs : List Run) → range.first ≤ range.last → range.last ≤ 0x10FFFF → AreRuns m (range.last + 1) runs → All IsReadBack (ranges_on range runs)
 on-read m range [] o w h = All-cons IsReadBack range [] (word-reads range o w) (λ k d lt. absurd (omega (arith, lt)))
 on-read m range (run ∷ runs) o w h =
     elim (cases_lt (range.last + 1) run.first) [

@@ -8,13 +8,12 @@ use Rattle.std.specs.Option.{IfSome}
 use Rattle.codes.specs.CharacterMap.{IsCharacterMap, is_mapped}
 use Rattle.codes.specs.Runs.{IsRun, NoRun}
 use Rattle.codes.specs.Wanted.{IsBadRange}
-use Rattle.codes.specs.Word.{IsWord}
+use Rattle.codes.specs.Word.{IsWord, code_word}
 use Rattle.codes.specs.declared.runs.Run.{Run}
 use Rattle.codes.proofs.RunLemmas.{run_gives}
 use Rattle.font_cut.specs.Fonts.{cmap_of, glyph_count_of, map_of, mapping_of}
 use Rattle.font_cut.proofs.FontLemmas.{mapping_of-small}
 use Rattle.font_subset.proofs.FontLemmas.{range_with_len-step}
-use Rattle.commands.specs.Codes.{code_word}
 use Rattle.commands.specs.Glyphs.{glyph_line, glyphs_text, mapped_from}
 use Rattle.commands.specs.Places.{IsPlace, IsPlaceFrom, codes_at}
 use Rattle.commands.specs.declared.mapped_glyphs.Place.{Place}

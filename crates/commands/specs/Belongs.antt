@@ -1,8 +1,7 @@
 -- What `belongs` prints of two files, and how it leaves its inlets and its outlet, this project's own.
 use Rattle.std.specs.Prelude.{◌≡◌, ℕ, ◌⊎◌, ◌↔◌, Bool, false, true, IsTrue, List, None, Option, Some, codes, take}
-use Rattle.font_subset.specs.Cut.{IsCutForSome}
-use Rattle.font_subset.specs.Lean.{IsLeanCutForSome}
-use Rattle.font_cut.specs.Fonts.{FontError, font_fault}
+use Rattle.font_subset.specs.Kinds.{IsCutIn}
+use Rattle.font_cut.specs.Fonts.{FontError, Kind, font_fault}
 use Rattle.streams.specs.Outlet as outlets
 use Rattle.font_join.specs.declared.join_error.Which.{Which}
 use Rattle.font_join.specs.declared.join_error.Which.TheVariants.{First, Second}
@@ -27,13 +26,9 @@ pub record AnswersBy (Is : List ℕ → List ℕ → Type 0) (cut font : List �
   pub font_accepted : font_fault font ≡ None
   pub is : IsTrue answer ↔ Is font cut
 
--- the answer says whether the first file is a cut of the second one for some codes, in some form
-abbrev pub Answers : List ℕ → List ℕ → Bool → Type 0
-Answers = AnswersBy IsCutForSome
-
--- the answer says whether the first file is a lean cut of the second one for some codes
-abbrev pub AnswersLean : List ℕ → List ℕ → Bool → Type 0
-AnswersLean = AnswersBy IsLeanCutForSome
+-- the answer says whether the first file is a cut of the second one for some codes, of a kind and in some form
+abbrev pub Answers : Kind → List ℕ → List ℕ → Bool → Type 0
+Answers kind = AnswersBy (IsCutIn kind)
 
 -- the first file is refused as a font, or it is accepted and the second one is refused, by the first refusal
 -- that applies

@@ -1,33 +1,21 @@
 -- What `codes` prints of a font, this project's own: the mapped codes, as words that `subset` reads.
-use Rattle.std.specs.Prelude.{◌≡◌, ℕ, ◌+◌, nat_eq, true, List, [], ◌∷◌, ◌++◌, All, codes, if◌then◌else◌}
-use Rattle.std.specs.Fmt.{digits}
+use Rattle.std.specs.Prelude.{◌≡◌, ℕ, ◌+◌, nat_eq, List, [], ◌∷◌, All, if◌then◌else◌}
 use Rattle.std.specs.List.{flat_map}
 use Rattle.codes.specs.CharacterMap.{is_mapped}
 use Rattle.codes.specs.Runs.{groups_from}
 use Rattle.codes.specs.Wanted.{AreSeparate, IsBadRange, member}
-use Rattle.codes.specs.Word.{IsWord}
-use Rattle.codes.specs.declared.ranges.Range.{Range}
+use Rattle.codes.specs.Word.{IsWord, range_word}
+use Rattle.codes.specs.declared.code_range.CodeRange.{CodeRange}
 use Rattle.codes.specs.declared.runs.Run.{Run}
 use Rattle.font_cut.specs.Fonts.{cmap_of, glyph_count_of, mapping_of}
 use Rattle.commands.specs.Check.{line}
-use Rattle.commands.specs.declared.mapped_codes.RangeLine.{RangeLine}
-
--- `U+` and a code in upper-case hexadecimal digits
-abbrev pub code_word : ℕ → List ℕ
-code_word code = codes "U+" ++ digits 16 true code
-
--- the word of a range: its one code, or its first code, `-` and the digits of its last code
-abbrev pub range_word : Range → List ℕ
-range_word range =
-    if nat_eq range.first range.last then code_word range.first
-    else code_word range.first ++ 45 ∷ digits 16 true range.last
 
 -- the codes of a run
-abbrev pub codes_of : Run → Range
+abbrev pub codes_of : Run → CodeRange
 codes_of run = record { first = run.first; last = run.last }
 
 -- a range, and the ranges of the runs after it: a run that begins at the code after its last goes on with it
-abbrev pub ranges_on : Range → List Run → List Range
+abbrev pub ranges_on : CodeRange → List Run → List CodeRange
 ranges_on range [] = range ∷ []
 ranges_on range (run ∷ runs) =
     if nat_eq run.first (range.last + 1)
@@ -35,20 +23,16 @@ ranges_on range (run ∷ runs) =
     else range ∷ ranges_on (codes_of run) runs
 
 -- the ranges of runs
-abbrev pub ranges_of : List Run → List Range
+abbrev pub ranges_of : List Run → List CodeRange
 ranges_of [] = []
 ranges_of (run ∷ runs) = ranges_on (codes_of run) runs
 
 -- the ranges of the mapped codes from a given one on
-unfoldable pub code_ranges : (ℕ → ℕ) → ℕ → List Range
+unfoldable pub code_ranges : (ℕ → ℕ) → ℕ → List CodeRange
 code_ranges m from = ranges_of (groups_from m from)
 
--- the range of a line that is to be printed
-abbrev pub range_of_line : RangeLine → Range
-range_of_line line = record { first = line.first; last = line.last }
-
 -- the line of a range
-abbrev pub range_line : Range → List ℕ
+abbrev pub range_line : CodeRange → List ℕ
 range_line range = line (range_word range)
 
 -- the lines of the mapped codes of a map
@@ -60,7 +44,7 @@ unfoldable pub codes_text : List ℕ → List ℕ
 codes_text file = code_lines (mapping_of (cmap_of file) (glyph_count_of file))
 
 -- a word names the codes of a range, and these are code points
-pub record IsReadBack (range : Range) : Type 0 where
+pub record IsReadBack (range : CodeRange) : Type 0 where
   pub word : IsWord (range_word range) range.first range.last
   pub good : IsBadRange range.first range.last → ⊥
 

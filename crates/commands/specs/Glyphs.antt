@@ -6,7 +6,7 @@ use Rattle.codes.specs.CharacterMap.{is_mapped}
 use Rattle.codes.specs.declared.code_points.TheConstants.{CODES}
 use Rattle.font_cut.specs.Fonts.{map_of, metric_of}
 use Rattle.commands.specs.Check.{line}
-use Rattle.commands.specs.Codes.{code_word}
+use Rattle.codes.specs.Word.{code_word}
 
 -- the line of a code: its word, the number of its glyph, and the advance width of that in font units
 abbrev pub glyph_text : ℕ → ℕ → ℕ → List ℕ

@@ -1,8 +1,8 @@
 -- What a run is given, and how it leaves its inlet and its outlet, this project's own.
 use Rattle.std.specs.Prelude.{◌≡◌, ℕ, ◌+◌, ◌≤◌, Bool, false, true, length, List, None, Option, IfErr, IfSome, OnOk, Result, Some, take}
-use Rattle.font_subset.specs.Cut.{IsTooLarge, cut_of}
-use Rattle.font_subset.specs.Lean.{lean_cut_of}
-use Rattle.font_cut.specs.Fonts.{MAX_FILE, NO_MEMORY, READ_FAULT, TOO_LARGE, WRITE_FAULT, error_number, font_fault}
+use Rattle.font_subset.specs.Cut.{IsTooLarge}
+use Rattle.font_subset.specs.Kinds.{cut_in}
+use Rattle.font_cut.specs.Fonts.{Full, Kind, MAX_FILE, NO_MEMORY, READ_FAULT, TOO_LARGE, WRITE_FAULT, error_number, font_fault}
 use Rattle.font_subset.specs.declared.cut_font.CutIntoError.{CutIntoError}
 use Rattle.font_subset.specs.declared.cut_font.CutIntoError.TheVariants as cut_errors
 use Rattle.font_join.specs.JoinText.{join_all_error_number}
@@ -70,13 +70,13 @@ IsAccepted file = font_fault file ≡ None
 abbrev pub HasMade : (List ℕ → List ℕ) → List ℕ → Type 0
 HasMade made file = (font_fault file ≡ None) × (length (made file) ≤ MAX_FILE)
 
+-- a file is accepted, and its cut of a kind for the wanted codes is not too large
+abbrev pub HasCutIn : Kind → (ℕ → Bool) → List ℕ → Type 0
+HasCutIn kind wanted = HasMade (λ file. cut_in kind file wanted)
+
 -- a file is accepted, and its cut for the wanted codes is not too large
 abbrev pub HasCut : (ℕ → Bool) → List ℕ → Type 0
-HasCut wanted = HasMade (λ file. cut_of file wanted)
-
--- a file is accepted, and its lean cut for the wanted codes is not too large
-abbrev pub HasLeanCut : (ℕ → Bool) → List ℕ → Type 0
-HasLeanCut wanted = HasMade (λ file. lean_cut_of file wanted)
+HasCut = HasCutIn Full
 
 -- no file is refused
 abbrev pub RefusesNone : RunError → Type 0
@@ -104,13 +104,13 @@ RefusesMade remaining inlet made (Read count) = ⊥
 RefusesMade remaining inlet made Memory = ⊥
 RefusesMade remaining inlet made (Write count) = ⊥
 
+-- a file is refused as a font, or its cut of a kind is too large
+abbrev pub RefusesCutIn : {R : Type 0} → Kind → (R → Option (List ℕ)) → Inlet R → (ℕ → Bool) → RunError → Type 0
+RefusesCutIn kind remaining inlet wanted = RefusesMade remaining inlet (λ file. cut_in kind file wanted)
+
 -- a file is refused as a font, or its cut is too large
 abbrev pub RefusesCut : {R : Type 0} → (R → Option (List ℕ)) → Inlet R → (ℕ → Bool) → RunError → Type 0
-RefusesCut remaining inlet wanted = RefusesMade remaining inlet (λ file. cut_of file wanted)
-
--- a file is refused as a font, or its lean cut is too large
-abbrev pub RefusesLeanCut : {R : Type 0} → (R → Option (List ℕ)) → Inlet R → (ℕ → Bool) → RunError → Type 0
-RefusesLeanCut remaining inlet wanted = RefusesMade remaining inlet (λ file. lean_cut_of file wanted)
+RefusesCut = RefusesCutIn Full
 
 -- the error of a run whose inlet was not read to its end
 abbrev pub of_read_error : ReadError → RunError

@@ -1,22 +1,19 @@
 //! `join`: the join of cuts.
 ghost use Rattle.std.specs.Prelude.{◌≡◌, ◌≤◌, ℕ, Bool, List, IfErr, IfOk, MatchResult, OnOk, false, length, map, true};
 ghost use Rattle.font_subset.specs.Cut.{cut_of};
-ghost use Rattle.font_cut.specs.Fonts.{MAX_FILE, our_format, union_below};
+ghost use Rattle.font_subset.specs.Kinds.{cut_in};
+ghost use Rattle.font_cut.specs.Fonts.{MAX_FILE, format_of, our_format, union_below};
 ghost use Rattle.streams.specs.Outlet.{WentOut, broken_of, fresh_of};
 ghost use Rattle.commands.specs.Join.{AreFresh, AreGot, AreSpent, GotCuts, JoinStops, OnlySize, ReadStops, SendsJoin};
 
 use crate::run_error::RunError;
-use font_cut::{Outlet, join_all_into};
+use font_cut::{Kind, Outlet, join_all_of_kind_into};
 use std::alloc::Allocator;
 use std::io::{Read, Write};
 use streams::Inlet;
 
-/// Reads each inlet to its end, in order.
-///
-/// # Errors
-///
-/// `Read` where a reader fails: its inlet is broken, and no other. `Memory` where memory is refused.
-pub(crate) fn read_each<R: Read, A: Allocator + Copy>(
+// Reads each inlet to its end, in order. Where a reader fails, its inlet is broken, and no other.
+fn read_each<R: Read, A: Allocator + Copy>(
     alloc: A,
     inlets: &mut [Inlet<R>],
 ) -> Result<Vec<Vec<u8, A>, A>, RunError>
@@ -33,6 +30,40 @@ pub(crate) fn read_each<R: Read, A: Allocator + Copy>(
         }
     }
     Ok(files)
+}
+
+/// Reads cuts of a kind to their ends, in order, sends their join, and returns its size in bytes.
+///
+/// # Errors
+///
+/// `Read` where a reader fails: its inlet is broken, and no other. `Memory` where memory is refused, and
+/// `Join` with the first step that is refused, a size that is too large among them. Nothing was sent in
+/// these cases. `Write` where the writer fails.
+pub fn run_join_of_kind<R: Read, W: Write, A: Allocator + Copy>(
+    alloc: A,
+    kind: Kind,
+    inlets: &mut [Inlet<R>],
+    outlet: &mut Outlet<W>,
+) -> Result<u64, RunError>
+    requires inlets { AreFresh inlets.old }
+    requires outlet { fresh_of outlet.old ≡ true }
+
+    ensures sent { IfOk result
+        (SendsJoin (format_of kind) R.remaining W.contents inlets.old outlet.old outlet.new) }
+    ensures small { IfOk result (λ size. size ≤ MAX_FILE) }
+    ensures whole { OnOk result (AreSpent inlets.new × (broken_of outlet.new ≡ false)) }
+    ensures cuts { (F : List ℕ) (A : ℕ → ℕ → Bool) → GotCuts (format_of kind) R.remaining inlets.old F A →
+        MatchResult result (λ size. let z = cut_in kind F (union_below A (length inlets.old)) in
+        (size ≡ length z) × WentOut W.contents outlet.old outlet.new z)
+        (OnlySize (format_of kind) F A (length inlets.old)) }
+
+    ensures error { IfErr result
+        (JoinStops (format_of kind) R.remaining W.contents inlets.old inlets.new outlet.old outlet.new) }
+{
+    let files = read_each(alloc, inlets)?;
+    let size = join_all_of_kind_into(alloc, kind, &files, outlet)?;
+    outlet.finish()?;
+    Ok(size)
 }
 
 /// Reads cuts to their ends, in order, sends their join, and returns its size in bytes.
@@ -62,8 +93,5 @@ pub fn run_join<R: Read, W: Write, A: Allocator + Copy>(
     ensures error { IfErr result
         (JoinStops our_format R.remaining W.contents inlets.old inlets.new outlet.old outlet.new) }
 {
-    let files = read_each(alloc, inlets)?;
-    let size = join_all_into(alloc, &files, outlet)?;
-    outlet.finish()?;
-    Ok(size)
+    run_join_of_kind(alloc, Kind::Full, inlets, outlet)
 }

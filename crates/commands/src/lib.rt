@@ -5,9 +5,6 @@
 mod belongs;
 mod check;
 mod join;
-mod lean_belongs;
-mod lean_join;
-mod lean_subset;
 mod mapped_codes;
 mod mapped_glyphs;
 mod run_error;
@@ -16,12 +13,9 @@ mod subset;
 
 pub use crate::belongs::run_belongs;
 pub use crate::check::run_check;
-pub use crate::join::run_join;
-pub use crate::lean_belongs::run_lean_belongs;
-pub use crate::lean_join::run_lean_join;
-pub use crate::lean_subset::run_lean_subset;
-pub use crate::mapped_codes::{RangeLine, codes_laws, next_range, run_codes};
+pub use crate::join::{run_join, run_join_of_kind};
+pub use crate::mapped_codes::{codes_laws, next_range, run_codes};
 pub use crate::mapped_glyphs::{glyphs_law, run_glyphs};
 pub use crate::run_error::RunError;
 pub use crate::show::run_show;
-pub use crate::subset::run_subset;
+pub use crate::subset::{run_subset, run_subset_of_kind};

@@ -4,38 +4,16 @@ ghost use Rattle.codes.specs.CharacterMap.{IsCharacterMap};
 ghost use Rattle.codes.specs.declared.code_points.TheConstants.{LAST_CODE};
 ghost use Rattle.font_cut.specs.Fonts.{mapping_of};
 ghost use Rattle.streams.specs.Outlet.{fresh_of};
-ghost use Rattle.commands.specs.Codes.{CodesLaws, code_lines, code_ranges, codes_text, range_line, range_of_line};
+ghost use Rattle.commands.specs.Codes.{CodesLaws, code_lines, code_ranges, codes_text};
 ghost use Rattle.streams.specs.Inlet.{inlet_fresh_of};
 ghost use Rattle.commands.specs.Run.{IsAccepted, RefusesFont, SendsText};
 
 use crate::run_error::{RunError, send};
-use font_cut::{Chart, Font, Outlet};
+use font_cut::{Chart, CodeRange, Font, Outlet};
 use std::alloc::{Allocator, Global};
 use std::fmt;
 use std::io::{Read, Write};
 use streams::Inlet;
-
-/// A range of codes, which is printed as its line.
-#[derive(Clone, Copy)]
-pub struct RangeLine {
-    /// The first code.
-    pub first: u32,
-    /// The last code.
-    pub last: u32,
-}
-
-impl fmt::Display for RangeLine {
-    ghost output = { λ line. Some (range_line (range_of_line line)) };
-
-    fn fmt<W: fmt::Write>(&self, f: &mut fmt::Formatter<W>) -> fmt::Result {
-        let (first, last) = (self.first, self.last);
-        if first == last {
-            write!(f, "U+{first:X}\n")
-        } else {
-            write!(f, "U+{first:X}-{last:X}\n")
-        }
-    }
-}
 
 // The mapped codes of a font, by the chart of its mapping, which is quick to walk in whatever order its
 // subtable stands.
@@ -44,25 +22,25 @@ struct Codes<'a, A: Allocator = Global>(Chart<'a, A>);
 
 /// Returns the range of mapped codes that begins at the least one not below `from`, and ends where the next
 /// code is not mapped.
-pub fn next_range<A: Allocator>(chart: &Chart<'_, A>, from: u32) -> Option<RangeLine>
+pub fn next_range<A: Allocator>(chart: &Chart<'_, A>, from: u32) -> Option<CodeRange>
     ensures range { MatchOption result
         (code_ranges (mapping_of chart.now.0 chart.now.1) from ≡ [])
-        (λ line. code_ranges (mapping_of chart.now.0 chart.now.1) from
-        ≡ range_of_line line ∷ code_ranges (mapping_of chart.now.0 chart.now.1) (line.last + 1)) }
-    ensures on { MatchOption result (Unit {0}) (λ line. (from ≤ line.last) × (line.last ≤ LAST_CODE)) }
+        (λ range. code_ranges (mapping_of chart.now.0 chart.now.1) from
+        ≡ range ∷ code_ranges (mapping_of chart.now.0 chart.now.1) (range.last + 1)) }
+    ensures on { MatchOption result (Unit {0}) (λ range. (from ≤ range.last) × (range.last ≤ LAST_CODE)) }
 {
     let run = chart.next_run(from)?;
-    let mut line = RangeLine {
+    let mut range = CodeRange {
         first: run.first,
         last: run.last,
     };
-    while let Some(next) = chart.next_run(line.last + 1) {
-        if next.first != line.last + 1 {
+    while let Some(next) = chart.next_run(range.last + 1) {
+        if next.first != range.last + 1 {
             break;
         }
-        line.last = next.last;
+        range.last = next.last;
     }
-    Some(line)
+    Some(range)
 }
 
 // A line for each range.
@@ -72,9 +50,9 @@ impl<'a, A: Allocator> fmt::Display for Codes<'a, A> {
     #[tactic(auto, unfolding(crate::specs::Codes::code_lines))]
     fn fmt<W: fmt::Write>(&self, f: &mut fmt::Formatter<W>) -> fmt::Result {
         let mut from = 0;
-        while let Some(line) = next_range(&self.0, from) {
-            write!(f, "{line}")?;
-            from = line.last + 1;
+        while let Some(range) = next_range(&self.0, from) {
+            write!(f, "{range}\n")?;
+            from = range.last + 1;
         }
         Ok(())
     }

@@ -3,11 +3,10 @@
 ghost use Rattle.std.specs.Prelude.{◌≡◌, ◌+◌, ℕ, [], MatchOption, Some, true};
 ghost use Rattle.codes.specs.CharacterMap.{IsCharacterMap, is_mapped};
 ghost use Rattle.codes.specs.Wanted.{IsBadRange};
-ghost use Rattle.codes.specs.Word.{IsWord};
+ghost use Rattle.codes.specs.Word.{IsWord, code_word};
 ghost use Rattle.font_cut.specs.Fonts.{map_of};
 ghost use Rattle.streams.specs.Inlet.{inlet_fresh_of};
 ghost use Rattle.streams.specs.Outlet.{fresh_of};
-ghost use Rattle.commands.specs.Codes.{code_word};
 ghost use Rattle.commands.specs.Glyphs.{glyph_line, glyph_text, glyphs_text, mapped_from};
 ghost use Rattle.commands.specs.Places.{IsPlace, IsPlaceFrom};
 ghost use Rattle.commands.specs.Run.{IsAccepted, RefusesFont, SendsText};

@@ -1,16 +1,48 @@
 //! `subset`: the cut of a font for the codes that are wanted.
 ghost use Rattle.std.specs.Prelude.{◌≡◌, ◌≤◌, IfOk, length, true};
 ghost use Rattle.font_subset.specs.Cut.{cut_of};
+ghost use Rattle.font_subset.specs.Kinds.{cut_in};
 ghost use Rattle.font_cut.specs.Fonts.{MAX_FILE, member};
 ghost use Rattle.streams.specs.Outlet.{fresh_of};
 ghost use Rattle.streams.specs.Inlet.{inlet_fresh_of};
-ghost use Rattle.commands.specs.Run.{HasCut, RefusesCut, SendsText, got};
+ghost use Rattle.commands.specs.Run.{HasCut, HasCutIn, RefusesCut, RefusesCutIn, SendsText, got};
 
 use crate::run_error::RunError;
-use font_cut::{Font, Outlet, Wanted, cut_into};
+use font_cut::{Font, Kind, Outlet, Wanted, cut_of_kind_into};
 use std::alloc::Allocator;
 use std::io::{Read, Write};
 use streams::Inlet;
+
+/// Reads a font to its end, sends its cut of a kind for the codes that are wanted, and returns the size of the cut
+/// in bytes.
+///
+/// # Errors
+///
+/// `Read` where the reader fails, `Memory` where memory is refused, `Font` where the font is, and
+/// `TooLarge` where its cut has more bytes than a file may have: then nothing was sent. `Write` where
+/// the writer fails.
+pub fn run_subset_of_kind<R: Read, W: Write, A: Allocator + Copy>(
+    alloc: A,
+    kind: Kind,
+    inlet: &mut Inlet<R>,
+    wanted: &Wanted<A>,
+    outlet: &mut Outlet<W>,
+) -> Result<u64, RunError>
+    requires inlet { inlet_fresh_of inlet.old ≡ true }
+    requires outlet { fresh_of outlet.old ≡ true }
+    ensures sent { SendsText R.remaining W.contents (HasCutIn kind (member wanted.now))
+        (λ file. cut_in kind file (member wanted.now))
+        (RefusesCutIn kind R.remaining inlet.old (member wanted.now))
+        inlet.old inlet.new outlet.old outlet.new result }
+    ensures size { IfOk result (λ size. (size ≤ MAX_FILE) × got R.remaining inlet.old
+        (λ file. size ≡ length (cut_in kind file (member wanted.now)))) }
+{
+    let file = inlet.read_all(alloc)?;
+    let font = Font::open(&file)?;
+    let size = cut_of_kind_into(alloc, kind, &font, wanted, outlet)?;
+    outlet.finish()?;
+    Ok(size)
+}
 
 /// Reads a font to its end, sends its cut for the codes that are wanted, and returns the size of the cut
 /// in bytes.
@@ -35,9 +67,5 @@ pub fn run_subset<R: Read, W: Write, A: Allocator + Copy>(
     ensures size { IfOk result (λ size. (size ≤ MAX_FILE) × got R.remaining inlet.old
         (λ file. size ≡ length (cut_of file (member wanted.now)))) }
 {
-    let file = inlet.read_all(alloc)?;
-    let font = Font::open(&file)?;
-    let size = cut_into(alloc, &font, wanted, outlet)?;
-    outlet.finish()?;
-    Ok(size)
+    run_subset_of_kind(alloc, Kind::Full, inlet, wanted, outlet)
 }

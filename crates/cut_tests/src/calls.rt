@@ -1,11 +1,12 @@
 //! Calls that no program makes, and the texts of refusals that none prints.
 use crate::samples::{copies, kept_of};
 use font_cut::{
-    CutError, CutForm, CutIntoError, Font, JoinAllError, JoinAllIntoError, Joined, cut_form,
+    CutError, CutForm, CutIntoError, Font, JoinAllError, JoinAllIntoError, Joined, Kind, cut_form,
     is_cut, is_cut_of, join, join_all,
 };
-use sample_fonts::known_cuts::{A_AND_B, A_B_AACUTE, AACUTE};
+use sample_fonts::known_cuts::{A_AND_B, A_B_AACUTE, AACUTE, LEAN_A_AND_B, LEAN_AACUTE};
 use sfnt_bytes::BASE6;
+use std::alloc::Global;
 use std::test::Fail;
 
 #[test]
@@ -15,13 +16,24 @@ fn join_of_two_cuts(rt: HostRuntime) -> Result<(), Fail> {
     Ok(())
 }
 
+// Returns whether the source of the join of two cuts of a kind keeps these glyphs.
+fn join_keeps(alloc: Global, kind: Kind, x: &[u8], y: &[u8], glyphs: &[u16]) -> Result<bool, Fail> {
+    let (first, second) = (Font::open(x)?, Font::open(y)?);
+    let source = Joined::of_two(alloc, kind, &first, &second)?;
+    let kept = kept_of(alloc, &source)?;
+    Ok(kept.as_slice() == glyphs)
+}
+
 // The source of a join, by which it could be written elsewhere.
 #[test]
-fn kept_glyphs_of_a_join(rt: HostRuntime) -> Result<(), Fail> {
-    let (first, second) = (Font::open(&AACUTE)?, Font::open(&A_AND_B)?);
-    let source = Joined::new(rt.alloc(), &first, &second)?;
-    let kept = kept_of(rt.alloc(), &source)?;
-    assert_eq!(rt; kept.as_slice(), [0, 1, 2, 3, 5].as_slice());
+fn kept_glyphs_of_joins(rt: HostRuntime) -> Result<(), Fail> {
+    for (kind, x, y) in [
+        (Kind::Full, AACUTE.as_slice(), A_AND_B.as_slice()),
+        (Kind::Lean, &LEAN_AACUTE, &LEAN_A_AND_B),
+    ] {
+        let keeps = join_keeps(rt.alloc(), kind, x, y, &[0, 1, 2, 3, 5])?;
+        assert!(rt; keeps, "{kind:?}");
+    }
     Ok(())
 }
 

@@ -1,7 +1,7 @@
 //! What `--report` says of a font: the wanted codes that it lacks, and the tables that a cut of it drops.
 use crate::code_set::{CodeSet, count_of};
 use crate::shown::shown_character;
-use font_cut::{CODES, Chart, Font};
+use font_cut::{CODES, Chart, Font, Kind};
 use std::alloc::{AllocError, Global};
 
 // How many ranges of codes are listed.
@@ -147,10 +147,11 @@ impl Coverage {
         Ok(text)
     }
 
-    /// Returns the lines, those for what a lean cut leaves out, and one for the bytes of the cut.
-    pub(crate) fn with_cut(mut self, size: u64, is_lean: bool) -> Result<String, AllocError> {
-        if is_lean {
-            self.text.push_str(LEAN_LINES)?;
+    /// Returns the lines, those for what a cut of a kind leaves out, and one for the bytes of the cut.
+    pub(crate) fn with_cut(mut self, kind: Kind, size: u64) -> Result<String, AllocError> {
+        match kind {
+            Kind::Full => {}
+            Kind::Lean => self.text.push_str(LEAN_LINES)?,
         }
         write!(self.text, "cut {size} bytes\n")?;
         Ok(self.text)

@@ -5,7 +5,7 @@ ghost use Rattle.streams.specs.Inlet.{inlet_fresh_of};
 use crate::code_set::CodeSet;
 use crate::coverage::Coverage;
 use crate::held_files::HeldFiles;
-use crate::inputs::{opened, sources};
+use crate::inputs::{inlet_at, sources};
 use crate::listed_word::is_range_word;
 use crate::outcome::Outcome;
 use crate::output::{outlet, placed};
@@ -14,8 +14,8 @@ use crate::system::System;
 use crate::wanted::{add_files, add_lists, codes_of};
 use crate::wanted_files::FileKind;
 use command_line::Subset;
-use commands::{RunError, run_lean_subset, run_subset};
-use font_cut::{Font, Wanted};
+use commands::{RunError, run_subset_of_kind};
+use font_cut::{Font, Kind, Wanted};
 use std::alloc::Global;
 use std::io::{Read, Write};
 use streams::Inlet;
@@ -23,6 +23,7 @@ use streams::Inlet;
 // Sends the cut of what an inlet reads to OUT, and answers its size.
 fn send_cut<'a, F: HeldFiles, I, O: Write + Copy + Drop, R: Read>(
     system: &System<'a, F, I, O>,
+    kind: Kind,
     line: &Subset<'a>,
     inlet: &mut Inlet<R>,
     wanted: &Wanted,
@@ -30,11 +31,7 @@ fn send_cut<'a, F: HeldFiles, I, O: Write + Copy + Drop, R: Read>(
     requires { inlet_fresh_of inlet.old ≡ true }
 {
     let mut outlet = outlet(system, line.out)?;
-    let sent = if line.is_lean {
-        run_lean_subset(system.alloc, inlet, wanted, &mut outlet)
-    } else {
-        run_subset(system.alloc, inlet, wanted, &mut outlet)
-    };
+    let sent = run_subset_of_kind(system.alloc, kind, inlet, wanted, &mut outlet);
     let size = sent.map_err(|error| Fault::of_run(line.font, line.out, error))?;
     placed(system, outlet, line.out)?;
     Ok(size)
@@ -43,6 +40,7 @@ fn send_cut<'a, F: HeldFiles, I, O: Write + Copy + Drop, R: Read>(
 // Sends the cut for the wanted codes of what an inlet reads to OUT, and answers its size.
 fn cut<'a, F: HeldFiles, I, O: Write + Copy + Drop, R: Read>(
     system: &System<'a, F, I, O>,
+    kind: Kind,
     line: &Subset<'a>,
     inlet: &mut Inlet<R>,
     codes: CodeSet,
@@ -50,7 +48,7 @@ fn cut<'a, F: HeldFiles, I, O: Write + Copy + Drop, R: Read>(
     requires { inlet_fresh_of inlet.old ≡ true }
 {
     let wanted = codes.into_wanted(system.alloc)?;
-    send_cut(system, line, inlet, &wanted)
+    send_cut(system, kind, line, inlet, &wanted)
 }
 
 // Returns what is said of a font, whose file this is, and of the codes that are wanted.
@@ -68,18 +66,24 @@ fn covered<'a>(
     Ok(Coverage::of(alloc, &font, codes, line.shows_characters)?)
 }
 
-// Returns the outcome of a cut of this size, with what is said where that is wanted.
-fn with_report<'a>(line: &Subset<'a>, coverage: Coverage, size: u64) -> Result<Outcome, Fault<'a>> {
+// Returns the outcome of a cut of this size and kind, with what is said where that is wanted.
+fn with_report<'a>(
+    kind: Kind,
+    line: &Subset<'a>,
+    coverage: Coverage,
+    size: u64,
+) -> Result<Outcome, Fault<'a>> {
     if !line.reports {
         return Ok(Outcome::of(true));
     }
-    let text = coverage.with_cut(size, line.is_lean)?;
+    let text = coverage.with_cut(kind, size)?;
     Ok(Outcome::saying(true, text))
 }
 
 // Cuts a font, whose file this is, for the codes that are wanted, and reports on them.
 fn cut_of_file<'a, F: HeldFiles, I, O: Write + Copy + Drop>(
     system: &System<'a, F, I, O>,
+    kind: Kind,
     line: &Subset<'a>,
     file: &[u8],
     codes: CodeSet,
@@ -89,13 +93,14 @@ fn cut_of_file<'a, F: HeldFiles, I, O: Write + Copy + Drop>(
         let text = coverage.unwritten_text(system.alloc)?;
         return Ok(Outcome::saying(false, text));
     }
-    let size = cut(system, line, &mut Inlet::new(file), codes)?;
-    with_report(line, coverage, size)
+    let size = cut(system, kind, line, &mut Inlet::new(file), codes)?;
+    with_report(kind, line, coverage, size)
 }
 
 // Cuts a font, which is held in memory, and says which wanted codes it lacks and what is dropped.
 fn cut_with_report<'a, F: HeldFiles, I, O: Write + Copy + Drop, R: Read>(
     system: &System<'a, F, I, O>,
+    kind: Kind,
     line: &Subset<'a>,
     inlet: &mut Inlet<R>,
     codes: CodeSet,
@@ -107,7 +112,7 @@ fn cut_with_report<'a, F: HeldFiles, I, O: Write + Copy + Drop, R: Read>(
         line.out,
         RunError::from(error),
     ))?;
-    cut_of_file(system, line, &file, codes)
+    cut_of_file(system, kind, line, &file, codes)
 }
 
 // The codes that a line wants, and those that it takes away from them.
@@ -167,18 +172,19 @@ fn add_all_files<'a, F: HeldFiles, I: Read + Copy + Drop, O>(
 /// The first fault.
 pub(crate) fn subset<'a, F: HeldFiles, I: Read + Copy + Drop, O: Write + Copy + Drop>(
     system: &System<'a, F, I, O>,
+    kind: Kind,
     line: &Subset<'a>,
 ) -> Result<Outcome, Fault<'a>> {
     if is_range_word(line.out) {
         return Err(Fault::OutIsWord(line.out));
     }
     let mut choice = Choice::of(system.alloc, line)?;
-    let mut inlet = opened(system, line.font)?;
+    let mut inlet = inlet_at(system, line.font)?;
     add_all_files(system, line, &mut choice)?;
     let codes = choice.left(system.alloc)?;
     if line.reports || line.is_strict {
-        return cut_with_report(system, line, &mut inlet, codes);
+        return cut_with_report(system, kind, line, &mut inlet, codes);
     }
-    cut(system, line, &mut inlet, codes)?;
+    cut(system, kind, line, &mut inlet, codes)?;
     Ok(Outcome::of(true))
 }

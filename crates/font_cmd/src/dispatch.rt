@@ -5,7 +5,7 @@ ghost use Rattle.streams.specs.Outlet.{fresh_of};
 use crate::cutting::subset;
 use crate::demo::demo_text;
 use crate::held_files::HeldFiles;
-use crate::inputs::opened;
+use crate::inputs::inlet_at;
 use crate::joining::join;
 use crate::outcome::{Details, NO_DETAILS, Outcome, answered, ended, print, report, say};
 use crate::refused_file::refused_kind;
@@ -13,10 +13,8 @@ use crate::report::{Fault, no_memory};
 use crate::slicing::slice;
 use crate::system::{Reason, System};
 use command_line::{Belongs, Line, LineError, Task, parse};
-use commands::{
-    RunError, run_belongs, run_check, run_codes, run_glyphs, run_lean_belongs, run_show,
-};
-use font_cut::{Outlet, Which};
+use commands::{RunError, run_belongs, run_check, run_codes, run_glyphs, run_show};
+use font_cut::{Kind, Outlet, Which};
 use std::alloc::Global;
 use std::io::{Read, Write};
 
@@ -27,7 +25,7 @@ fn check<'a, F: HeldFiles, I: Read + Copy + Drop, O, W: Write>(
 ) -> Result<Outcome, Fault<'a>>
     requires { fresh_of out.old ≡ true }
 {
-    let mut inlet = opened(system, font)?;
+    let mut inlet = inlet_at(system, font)?;
     answered(font, run_check(system.alloc, &mut inlet, out))
 }
 
@@ -38,7 +36,7 @@ fn show<'a, F: HeldFiles, I: Read + Copy + Drop, O, W: Write>(
 ) -> Result<Outcome, Fault<'a>>
     requires { fresh_of out.old ≡ true }
 {
-    let mut inlet = opened(system, font)?;
+    let mut inlet = inlet_at(system, font)?;
     answered(font, run_show(system.alloc, &mut inlet, out).map(|()| true))
 }
 
@@ -50,7 +48,7 @@ fn codes<'a, F: HeldFiles, I: Read + Copy + Drop, O, W: Write>(
 ) -> Result<Outcome, Fault<'a>>
     requires { fresh_of out.old ≡ true }
 {
-    let mut inlet = opened(system, font)?;
+    let mut inlet = inlet_at(system, font)?;
     let sent = if with_glyphs {
         run_glyphs(system.alloc, &mut inlet, out)
     } else {
@@ -61,18 +59,15 @@ fn codes<'a, F: HeldFiles, I: Read + Copy + Drop, O, W: Write>(
 
 fn belongs<'a, F: HeldFiles, I: Read + Copy + Drop, O, W: Write>(
     system: &System<'a, F, I, O>,
+    kind: Kind,
     line: &Belongs<'a>,
     out: &mut Outlet<W>,
 ) -> Result<Outcome, Fault<'a>>
     requires { fresh_of out.old ≡ true }
 {
-    let mut cut_inlet = opened(system, line.cut)?;
-    let mut font_inlet = opened(system, line.font)?;
-    let is_cut = if line.is_lean {
-        run_lean_belongs(system.alloc, &mut cut_inlet, &mut font_inlet, out)
-    } else {
-        run_belongs(system.alloc, &mut cut_inlet, &mut font_inlet, out)
-    };
+    let mut cut_inlet = inlet_at(system, line.cut)?;
+    let mut font_inlet = inlet_at(system, line.font)?;
+    let is_cut = run_belongs(system.alloc, kind, &mut cut_inlet, &mut font_inlet, out);
     let unread = if cut_inlet.is_broken() {
         line.cut
     } else {
@@ -100,6 +95,11 @@ fn demo<W: Write>(alloc: Global, out: &mut Outlet<W>) -> Result<Outcome, Fault<'
     }
 }
 
+// Returns the kind of cuts that a line asks for, which has `--lean` or not.
+fn kind_asked(is_lean: bool) -> Kind {
+    if is_lean { Kind::Lean } else { Kind::Full }
+}
+
 // Does what a task asks for.
 fn done<'a, F: HeldFiles, I: Read + Copy + Drop, O: Write + Copy + Drop, W: Write>(
     system: &System<'a, F, I, O>,
@@ -112,10 +112,10 @@ fn done<'a, F: HeldFiles, I: Read + Copy + Drop, O: Write + Copy + Drop, W: Writ
         Task::Check { font } => check(system, font, out),
         Task::Show { font } => show(system, font, out),
         Task::Codes { font, with_glyphs } => codes(system, font, *with_glyphs, out),
-        Task::Belongs(line) => belongs(system, line, out),
-        Task::Subset(line) => subset(system, line),
-        Task::Join(line) => join(system, line),
-        Task::Slice(line) => slice(system, line, out),
+        Task::Belongs(line) => belongs(system, kind_asked(line.is_lean), line, out),
+        Task::Subset(line) => subset(system, kind_asked(line.is_lean), line),
+        Task::Join(line) => join(system, kind_asked(line.is_lean), line),
+        Task::Slice(line) => slice(system, kind_asked(line.is_lean), line, out),
         Task::Demo => demo(system.alloc, out),
     }
 }

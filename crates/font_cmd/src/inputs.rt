@@ -80,7 +80,7 @@ pub(crate) fn sources<'a, F: Files, I: Read + Copy + Drop, O>(
 ///
 /// # Errors
 /// `Unread` where it cannot be opened.
-pub(crate) fn opened<'a, F: Files, I: Read + Copy + Drop, O>(
+pub(crate) fn inlet_at<'a, F: Files, I: Read + Copy + Drop, O>(
     system: &System<'a, F, I, O>,
     path: &'a str,
 ) -> Result<Inlet<KeepsReason<'a, Input<F::File, I>>>, Fault<'a>>
@@ -101,7 +101,7 @@ fn push_fresh<R: Read + Drop>(inlets: &mut Vec<Inlet<R>>, reader: R) -> Result<(
 ///
 /// # Errors
 /// `Unread` with the first path whose file cannot be opened, `Refused` where memory is.
-pub(crate) fn opened_each<'a, F: Files, I: Read + Copy + Drop, O>(
+pub(crate) fn inlets_at<'a, F: Files, I: Read + Copy + Drop, O>(
     system: &System<'a, F, I, O>,
     paths: &[&'a str],
 ) -> Result<Vec<Inlet<KeepsReason<'a, Input<F::File, I>>>>, Fault<'a>>

@@ -3,7 +3,7 @@ use crate::inputs::input_name;
 use crate::shown::Shown;
 use command_line::STANDARD;
 use commands::RunError;
-use font_cut::{JoinAllError, JoinError, Which};
+use font_cut::{JoinAllError, JoinError, Kind, Which};
 use std::alloc::AllocError;
 use std::fmt;
 
@@ -112,8 +112,8 @@ fn is_difference(error: &JoinError) -> bool {
     )
 }
 
-/// Returns why the files at some paths, lean cuts or ordinary ones, are not joined.
-pub(crate) fn refused_join<'a>(error: RunError, paths: &[&'a str], is_lean: bool) -> Fault<'a> {
+/// Returns why the files at some paths are not joined as cuts of a kind.
+pub(crate) fn refused_join<'a>(kind: Kind, paths: &[&'a str], error: RunError) -> Fault<'a> {
     let (is_cut, differs, path) = match refused_step(&error, paths) {
         Some((refusal, path)) => (
             !matches!(refusal, JoinError::NotACut(_)),
@@ -126,7 +126,7 @@ pub(crate) fn refused_join<'a>(error: RunError, paths: &[&'a str], is_lean: bool
     if differs {
         return Fault::NotJoined { path, first, error };
     }
-    if is_lean && !is_cut {
+    if kind == Kind::Lean && !is_cut {
         return Fault::NotLean { path, error };
     }
     Fault::RefusedFile { path, error }

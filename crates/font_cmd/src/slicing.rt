@@ -5,7 +5,7 @@ ghost use Rattle.streams.specs.Outlet.{fresh_of};
 use crate::code_set::CodeSet;
 use crate::coverage::mapped_codes;
 use crate::held_files::HeldFiles;
-use crate::inputs::opened;
+use crate::inputs::inlet_at;
 use crate::outcome::{Outcome, print};
 use crate::output::{outlet, placed};
 use crate::report::{Fault, no_memory};
@@ -14,7 +14,7 @@ use crate::style_sheet::add_rule;
 use crate::system::System;
 use command_line::Slices;
 use commands::RunError;
-use font_cut::{Font, Outlet, Wanted, cut_into, lean};
+use font_cut::{Font, Kind, Outlet, Wanted, cut_of_kind_into};
 use std::alloc::{AllocError, Global};
 use std::fs;
 use std::io::{ErrorKind, Read, Write};
@@ -22,17 +22,13 @@ use std::io::{ErrorKind, Read, Write};
 // Writes the cut of a font for the wanted codes to the file at a path.
 fn write_cut<'p, F: HeldFiles, I, O: Write + Copy + Drop>(
     system: &System<'_, F, I, O>,
+    kind: Kind,
     font: &Font<'_>,
     wanted: &Wanted,
-    is_lean: bool,
     path: &'p str,
 ) -> Result<(), Fault<'p>> {
     let mut outlet = outlet(system, path)?;
-    let sent = if is_lean {
-        lean::cut_into(system.alloc, font, wanted, &mut outlet)
-    } else {
-        cut_into(system.alloc, font, wanted, &mut outlet)
-    };
+    let sent = cut_of_kind_into(system.alloc, kind, font, wanted, &mut outlet);
     sent.map_err(|error| Fault::of_run(path, path, RunError::from(error)))?;
     if outlet.finish().is_err() {
         return Err(Fault::Unwritten(path));
@@ -59,6 +55,7 @@ fn slice_path(alloc: Global, folder: &str, name: &str) -> Result<String, AllocEr
 // Writes the file of a slice.
 fn write_slice<'a, F: HeldFiles, I, O: Write + Copy + Drop>(
     system: &System<'a, F, I, O>,
+    kind: Kind,
     line: &Slices<'a>,
     font: &Font<'_>,
     slice: Slice<'_>,
@@ -66,7 +63,7 @@ fn write_slice<'a, F: HeldFiles, I, O: Write + Copy + Drop>(
     let alloc = system.alloc;
     let path = slice_path(alloc, line.folder, slice.name)?;
     let wanted = slice.codes.into_wanted(alloc)?;
-    match write_cut(system, font, &wanted, line.is_lean, path.as_str()) {
+    match write_cut(system, kind, font, &wanted, path.as_str()) {
         Ok(()) => Ok(()),
         Err(fault) => Err(fault_in_folder(alloc, path.as_str(), fault)),
     }
@@ -123,7 +120,7 @@ fn read_whole<'a, F: HeldFiles, I: Read + Copy + Drop, O>(
     system: &System<'a, F, I, O>,
     path: &'a str,
 ) -> Result<Vec<u8>, Fault<'a>> {
-    let mut inlet = opened(system, path)?;
+    let mut inlet = inlet_at(system, path)?;
     inlet
         .read_all(system.alloc)
         .map_err(|error| Fault::of_run(path, path, RunError::from(error)))
@@ -132,6 +129,7 @@ fn read_whole<'a, F: HeldFiles, I: Read + Copy + Drop, O>(
 // Writes the files of slices of a font, whose file this is, and returns the rules for them.
 fn write_slices<'a, F: HeldFiles, I, O: Write + Copy + Drop>(
     system: &System<'a, F, I, O>,
+    kind: Kind,
     line: &Slices<'a>,
     file: &[u8],
     slices: Vec<Slice<'_>>,
@@ -147,7 +145,7 @@ fn write_slices<'a, F: HeldFiles, I, O: Write + Copy + Drop>(
     };
     make_folder(system, line.folder)?;
     for slice in slices {
-        write_slice(system, line, &font, slice)?;
+        write_slice(system, kind, line, &font, slice)?;
     }
     Ok(rules)
 }
@@ -159,6 +157,7 @@ fn write_slices<'a, F: HeldFiles, I, O: Write + Copy + Drop>(
 /// The first fault. The files of the slices before it are written.
 pub(crate) fn slice<'a, F: HeldFiles, I: Read + Copy + Drop, O: Write + Copy + Drop, W: Write>(
     system: &System<'a, F, I, O>,
+    kind: Kind,
     line: &Slices<'a>,
     out: &mut Outlet<W>,
 ) -> Result<Outcome, Fault<'a>>
@@ -167,6 +166,6 @@ pub(crate) fn slice<'a, F: HeldFiles, I: Read + Copy + Drop, O: Write + Copy + D
     let list = read_whole(system, line.slices)?;
     let slices = slices_of(system.alloc, line.slices, &list)?;
     let file = read_whole(system, line.font)?;
-    let rules = write_slices(system, line, &file, slices)?;
+    let rules = write_slices(system, kind, line, &file, slices)?;
     print(out, rules.as_str())
 }

@@ -1,7 +1,6 @@
 -- The first refusal of a join of cuts of one kind, and what its answers tell.
-use Rattle.std.proofs.Common.{◌≡◌, ℕ, ◌<◌, ◌≤◌, ◌⊎◌, inl, inr, Bool, true, false, not, nat_lt, List, [], ◌∷◌, length, refl, sym, ◌∙◌, ap, subst, arith, Option, Some, None, Result, Ok, Err, MatchResult}
+use Rattle.std.proofs.Common.{◌≡◌, ℕ, ◌<◌, ◌≤◌, ◌⊎◌, inl, inr, Bool, true, false, not, nat_lt, List, [], ◌∷◌, length, refl, sym, ◌∙◌, ap, subst, arith, Option, Some, None}
 use Rattle.std.specs.Option.{option_map}
-use Rattle.std.specs.Result.{IsErrAnd}
 use Rattle.std.proofs.lemmas.Bool.{le-ltb, lt-ltb, ltb-false, ltb-true}
 use Rattle.sfnt_bytes.specs.Lines.{first_of_lines, when}
 use Rattle.sfnt_bytes.specs.declared.directory.TheConstants.{MAX_FILE}
@@ -17,19 +16,15 @@ use Rattle.font_theory.specs.declared.Difference.TheVariants.{AtCode, AtGlyph, A
 use Rattle.font_theory.proofs.CutLemmas.{CanJoin-cuts, CanJoin-self, IsCurrent-joined, Under-joined_left, Under-joined_right, Under-least, joined-cuts, joined-self}
 use Rattle.font_theory.proofs.FontLemmas.{size-accepted}
 use Rattle.font_theory.proofs.RefusalLemmas.{CanJoin-tested, different-under, no_cut-under, refused-under, tested-CanJoin}
-use Rattle.font_subset.specs.Cut.{IsCutRefusal, IsTooLarge, IsWritten}
-use Rattle.font_subset.specs.declared.cut_font.CutError.{CutError}
-use Rattle.font_subset.specs.declared.cut_font.CutError.TheVariants as cut_errors
-use Rattle.font_join.specs.Inside.{IsKind, IsNoFont}
-use Rattle.font_join.specs.Join.{IsForSize, IsJoin, IsJoinRefusal, IsLeastUpper, RefusalIsRight, IsUnionRefusal, different, join_fault, of_cut_error, union_fault}
+use Rattle.font_write.specs.WholeFile.{IsFileRefusal, IsTooLarge, IsWritten}
+use Rattle.font_write.specs.declared.whole_file.FileError.{FileError}
+use Rattle.font_write.specs.declared.whole_file.FileError.TheVariants as file_errors
+use Rattle.font_theory.specs.Kinds.{IsKind}
+use Rattle.font_join.specs.Inside.{IsNoFont}
+use Rattle.font_join.specs.Join.{IsForSize, IsJoin, IsJoinRefusal, IsLeastUpper, RefusalIsRight, IsUnionRefusal, different, join_fault, of_file_error, union_fault}
 use Rattle.font_join.specs.declared.join_error.JoinError.{JoinError}
 use Rattle.font_join.specs.declared.join_error.JoinError.TheVariants.{DifferentGlyph, DifferentMapping, DifferentTable, Font, NoMemory, NotACut, TooLarge}
 use Rattle.font_join.specs.declared.join_error.Which.TheVariants.{First, Second}
-
--- an error that a `?` passes on
-pub passed_on : {T E : Type 0} (P : T → Type 0) (Q : E → Type 0) (r : Result T E) (error : E) → IsErrAnd r (λ e. e ≡ error) → Q error → MatchResult r P Q
-passed_on P Q (Ok x) error is h = absurd is
-passed_on P Q (Err e) error is h = subst Q (sym is) h
 
 -- the lines, at what they test
 abbrev lines_at : Option FontError → Option FontError → Bool → Bool → Option Difference → Bool → ℕ → Option JoinError
@@ -121,10 +116,10 @@ module _ {R : Format} {spelled : Content → Content} (kind : IsKind R spelled) 
         fault_after e f h ∙ ap (λ (b : Bool). when b (TooLarge (length (joined R x y)))) big ∙ ap (λ (n : ℕ). Some (TooLarge n)) (sym is)
 
     -- a join whose file is not made
-    pub unmade : font_fault x ≡ None → font_fault y ≡ None → union_fault R x y ≡ None → (C : Content) → C ≡ spelled (both (content_of_all R x) (content_of_all R y)) → (error : CutError)
-        → IsCutRefusal (file current_layout C) error → IsJoinRefusal R x y (of_cut_error error)
-    unmade e f h C spells cut_errors.NoMemory r = (e, f)
-    unmade e f h C spells (cut_errors.TooLarge s) r = is_too_large e f h C spells s r
+    pub unmade : font_fault x ≡ None → font_fault y ≡ None → union_fault R x y ≡ None → (C : Content) → C ≡ spelled (both (content_of_all R x) (content_of_all R y)) → (error : FileError)
+        → IsFileRefusal (file current_layout C) error → IsJoinRefusal R x y (of_file_error error)
+    unmade e f h C spells file_errors.NoMemory r = (e, f)
+    unmade e f h C spells (file_errors.TooLarge s) r = is_too_large e f h C spells s r
 
     -- what follows where there is no refusal
     pub joinable : join_fault R x y ≡ None → CanJoin R x y × (length (joined R x y) ≤ MAX_FILE)

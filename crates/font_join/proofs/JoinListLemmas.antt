@@ -1,5 +1,5 @@
 -- What stands after joins in turn, and what follows from it.
-use Rattle.std.proofs.Common.{◌≡◌, ◌≢◌, ℕ, zero, suc, ◌+◌, ◌<◌, ◌≤◌, Bool, List, [], get_or, length, map, refl, sym, ◌∙◌, subst, arith, Option, None, Result, Ok, Err, IfOk, IfErr, MatchResult}
+use Rattle.std.proofs.Common.{◌≡◌, ℕ, zero, suc, ◌+◌, ◌<◌, ◌≤◌, Bool, List, [], get_or, length, map, refl, sym, ◌∙◌, subst, arith, Option, None, Result, Ok, Err, IfOk, IfErr, MatchResult}
 use Rattle.std.proofs.lemmas.List.{get_or-map}
 use Rattle.std.proofs.lemmas.Result.{MatchResult-weaker}
 use Rattle.sfnt_bytes.specs.declared.directory.TheConstants.{MAX_FILE}
@@ -10,7 +10,7 @@ use Rattle.font_theory.specs.Tree.{Differs, IsOver, IsSmall, JoinTree, Value, cu
 use Rattle.font_theory.proofs.FontLemmas.{size-accepted}
 use Rattle.font_theory.proofs.GrownLemmas.{Differs-grown, Value-grown, Value-grown_cuts, Value-grown_same, grown-cuts, grown-joins}
 use Rattle.font_theory.proofs.CutLemmas.{IsCut-current}
-use Rattle.font_join.specs.Inside.{IsKind}
+use Rattle.font_theory.specs.Kinds.{IsKind}
 use Rattle.font_join.specs.JoinList.{AreCuts, IsAllJoined, IsAllRefusal, IsForDifference, IsForSizeInto, IsForSizeOf, IsRefusedAt, JoinLaws, Stands, StopsJoin}
 use Rattle.font_join.specs.Join.{IsForSize, IsJoin}
 use Rattle.font_join.specs.declared.join_error.JoinAllError.{JoinAllError}

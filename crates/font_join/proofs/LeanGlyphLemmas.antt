@@ -22,7 +22,7 @@ use Rattle.font_theory.proofs.LeanLemmas.{IsFont-spelled, thin-spelled}
 use Rattle.font_theory.proofs.LeastLemmas.{find-least_from}
 use Rattle.font_write.specs.Parts.{IsNextKept}
 use Rattle.font_join.specs.Inside.{Spells, early_difference}
-use Rattle.font_join.specs.LeanInside.{has_other_metrics, least_of}
+use Rattle.font_join.specs.KindInside.{has_other_metrics, least_of}
 use Rattle.font_join.specs.Union.{is_other}
 use Rattle.font_join.proofs.AddFaultLemmas.{difference-late}
 use Rattle.font_join.proofs.FirstLemmas.{fails_skip, first_absent, first_of}

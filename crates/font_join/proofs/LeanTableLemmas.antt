@@ -20,10 +20,10 @@ use Rattle.font_theory.proofs.LeanFormatLemmas.{IsLean-arises}
 use Rattle.font_theory.proofs.LeanLemmas.{IsLean}
 use Rattle.font_theory.proofs.LeastLemmas.{find-none}
 use Rattle.font_join.specs.Inside.{Spells, early_difference}
-use Rattle.font_join.specs.LeanInside.{blank_in, blanked, metrics_by}
-use Rattle.font_join.specs.LeanUnion.{replaced}
+use Rattle.font_join.specs.KindInside.{blank_in, blanked, metrics_by}
+use Rattle.font_join.specs.Union.{replaced}
 
-abbrev Tables : Type 0
+abbrev pub Tables : Type 0
 Tables = ℕ → Option (List ℕ)
 
 -- tables with others for `hmtx` and `vmtx`, in each slot

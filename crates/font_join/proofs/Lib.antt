@@ -10,5 +10,5 @@ pub mod AddLemmas
 pub mod AddFaultLemmas
 pub mod TurnLemmas
 pub mod LeanGlyphLemmas
-pub mod LeanMergeLemmas
 pub mod LeanTableLemmas
+pub mod MergeLemmas

@@ -14,9 +14,12 @@ use Rattle.font_theory.specs.Tree.{file_at}
 use Rattle.font_theory.proofs.CutLemmas.{CanJoin-self, IsCurrent-written, IsCut-current, is_cut-of, content_of_all-written}
 use Rattle.font_theory.proofs.JoinLemmas.{both-self}
 use Rattle.font_theory.proofs.RefusalLemmas.{tested-CanJoin}
-use Rattle.font_subset.specs.Cut.{IsWritten}
-use Rattle.font_join.specs.Inside.{HoldsFile, IsAddRefusal, IsFirstUnion, IsFormRefusal, IsKind, IsTooLargeFile, IsUnited, Spells, add_fault}
-use Rattle.font_join.specs.Join.{IsJoin, IsJoinRefusal, IsUnionRefusal, different, union_fault}
+use Rattle.font_write.specs.WholeFile.{IsFileRefusal, IsWritten}
+use Rattle.font_write.specs.declared.whole_file.FileError.{FileError}
+use Rattle.font_write.specs.declared.whole_file.FileError.TheVariants as file_errors
+use Rattle.font_theory.specs.Kinds.{IsKind}
+use Rattle.font_join.specs.Inside.{HoldsFile, IsAddRefusal, IsFirstUnion, IsFormRefusal, IsTooLargeFile, IsUnited, Spells, add_fault}
+use Rattle.font_join.specs.Join.{IsJoin, IsJoinRefusal, IsUnionRefusal, different, of_file_error, union_fault}
 use Rattle.font_join.specs.JoinList.{IsAllJoined, IsRefusedAt, Stands}
 use Rattle.font_join.specs.declared.join_error.JoinError.{JoinError}
 use Rattle.font_join.specs.declared.join_error.JoinError.TheVariants.{DifferentGlyph, DifferentMapping, DifferentTable, Font, NoMemory, NotACut, TooLarge}
@@ -185,3 +188,9 @@ module _ {R : Format} {spelled : Content → Content} (kind : IsKind R spelled) 
               let at : n ≡ length files - 1 = omega arith in
               subst (λ (k : ℕ). IsRefusedAt R files k NoMemory) at
               (record { before = s.0; stands = s.1; below = omega (arith, e); refused = (sym (kind.fault s.0) ∙ can.first.accepted, sym (kind.fault (file_at files n)) ∙ can.second.accepted) })
+
+      -- where its file is not in memory, that is a refusal of the last step, and its size is none
+      pub united_refused : (error : FileError) → IsFileRefusal (file current_layout C) error → IsRefusedAt R files (length files - 1) (of_file_error error)
+      united_refused file_errors.NoMemory r = united_memory
+      united_refused (file_errors.TooLarge size) r =
+          let small = union_small files C is in absurd (omega (arith, small, r.0, r.1))

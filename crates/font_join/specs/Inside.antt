@@ -9,8 +9,8 @@ use Rattle.font_join.specs.declared.join_error.Which.TheVariants.{Second}
 use Rattle.font_file.specs.Font.{font_fault}
 use Rattle.font_file.specs.declared.font_error.FontError.{FontError}
 use Rattle.font_glyph.specs.Union.{Records, union_of}
-use Rattle.font_theory.specs.Content.{everything, font_of, content, CODES, Content}
-use Rattle.font_theory.specs.Cut.{Arises, Format, IsCurrent, IsCut, IsFormat, is_cut, our_format, content_of_all}
+use Rattle.font_theory.specs.Content.{CODES, Content}
+use Rattle.font_theory.specs.Cut.{Arises, Format, IsCurrent, IsCut, is_cut, content_of_all}
 use Rattle.font_theory.specs.Difference.{difference, is_different_code, is_different_table}
 use Rattle.font_theory.specs.File.{file, current_layout}
 use Rattle.font_theory.specs.declared.Difference.{Difference}
@@ -21,14 +21,7 @@ use Rattle.sfnt_bytes.specs.declared.directory.TheConstants.{MAX_FILE}
 use Rattle.sfnt_bytes.specs.declared.tag.TheConstants.{SLOTS}
 use Rattle.std.specs.List.{range_with_len}
 use Rattle.std.specs.Option.{option_map}
-use Rattle.std.specs.Prelude.{◌≡◌, ℕ, ◌<◌, ◌≤◌, true, List, length, Option, None, Some, [], false, not, find, ◌∷◌}
-
--- cuts of one kind: files that this program reads, and writes as it writes what is spelled of their contents
-pub record IsKind (R : Format) (spelled : Content → Content) : Type 0 where
-  pub law : IsFormat R
-  pub fault : (X : List ℕ) → R.fault X ≡ font_fault X
-  pub limit : R.limit ≡ MAX_FILE
-  pub writes : (K : Content) → R.file K ≡ file current_layout (spelled K)
+use Rattle.std.specs.Prelude.{◌≡◌, ℕ, ◌<◌, ◌≤◌, List, length, Option, Some, [], false, not, find, ◌∷◌}
 
 -- K is a content that accepted files come to, and C is what it is written as
 pub record Spells (R : Format) (spelled : Content → Content) (C K : Content) : Type 0 where
@@ -89,11 +82,6 @@ unfoldable pub add_fault : Format → Content → List ℕ → Option JoinError
 add_fault R K y =
     first_of_lines (when (not (is_cut R y)) (NotACut Second)
     ∷ option_map different (difference K (content_of_all R y)) ∷ [])
-
--- a file in cut form agrees with a content in its tables and its map
-pub record AgreesEarly (K : Content) (y : List ℕ) : Type 0 where
-  pub form : is_cut our_format y ≡ true
-  pub early : early_difference K (content (font_of y) everything) ≡ None
 
 -- why a file is not added
 abbrev pub IsAddRefusal : Format → Content → List ℕ → JoinError → Type 0

@@ -8,8 +8,8 @@ use Rattle.sfnt_bytes.specs.declared.directory.DirError.TheVariants.{FileTooLarg
 use Rattle.sfnt_bytes.specs.declared.directory.TheConstants.{MAX_FILE}
 use Rattle.font_file.specs.Font.{font_fault}
 use Rattle.font_file.specs.declared.font_error.FontError.TheVariants.{Directory}
-use Rattle.font_subset.specs.declared.cut_font.CutError.{CutError}
-use Rattle.font_subset.specs.declared.cut_font.CutError.TheVariants as cut_errors
+use Rattle.font_write.specs.declared.whole_file.FileError.{FileError}
+use Rattle.font_write.specs.declared.whole_file.FileError.TheVariants as file_errors
 use Rattle.font_theory.specs.Cut.{Format, IsCurrent, Under, is_cut, joined, content_of_all}
 use Rattle.font_theory.specs.Difference.{difference}
 use Rattle.font_theory.specs.Join.{Agree}
@@ -26,9 +26,9 @@ different (AtCode code) = DifferentMapping code
 different (AtGlyph g) = DifferentGlyph g
 
 -- the refusal for a file that is not made
-abbrev pub of_cut_error : CutError → JoinError
-of_cut_error cut_errors.NoMemory = NoMemory
-of_cut_error (cut_errors.TooLarge size) = TooLarge size
+abbrev pub of_file_error : FileError → JoinError
+of_file_error file_errors.NoMemory = NoMemory
+of_file_error (file_errors.TooLarge size) = TooLarge size
 
 -- the refusals of two accepted files but for the size of their join, in their order
 abbrev pub union_lines : Format → List ℕ → List ℕ → List (Option JoinError)

@@ -2,7 +2,5 @@ pub mod Inside
 pub mod Join
 pub mod JoinList
 pub mod JoinText
-pub mod Kinds
-pub mod LeanInside
-pub mod LeanUnion
+pub mod KindInside
 pub mod Union

@@ -1,28 +1,44 @@
 -- The union of many files in cut form, this project's own: what is held of it, and its content.
-use Rattle.std.specs.Prelude.{◌≡◌, ℕ, ◌+◌, ◌<◌, ◌≤◌, Bool, List, [], ◌∷◌, get_or, length, Option, None, IfSome}
+use Rattle.std.specs.Prelude.{◌≡◌, ℕ, ◌+◌, ◌<◌, ◌≤◌, nat_eq, Bool, List, [], ◌∷◌, get_or, length, if◌then◌else◌, Option, None, IfSome}
 use Rattle.std.specs.Option.{unwrap_or}
 use Rattle.sfnt_bytes.specs.declared.directory.TheConstants.{MAX_FILE}
-use Rattle.font_tables.specs.Fields.{glyph_count_of}
+use Rattle.sfnt_bytes.specs.declared.tag.TheConstants.{HMTX, VMTX}
 use Rattle.font_glyph.specs.Union.{Records}
-use Rattle.font_file.specs.Font.{font_fault}
-use Rattle.font_theory.specs.Content.{Content, IsClosedContent, font_of}
+use Rattle.font_theory.specs.Content.{Content, font_of}
 use Rattle.font_theory.specs.Difference.{are_different}
+use Rattle.font_theory.specs.declared.kinds.Kind.{Kind}
+use Rattle.font_theory.specs.declared.kinds.Kind.TheVariants.{Full, Lean}
 use Rattle.map_union.specs.RunLists.{TwoLists, map_in}
 
 -- the outline of a glyph in a list
 abbrev pub listed_outline : List (Option (List ℕ)) → ℕ → Option (List ℕ)
 listed_outline outlines g = get_or outlines g None
 
--- the file whose tables a union has, its runs and its outlines
+-- tables, with others for `hmtx` and `vmtx`
+unfoldable pub replaced : (ℕ → Option (List ℕ)) → Option (List ℕ) → Option (List ℕ) → ℕ → Option (List ℕ)
+replaced copied hmtx vmtx slot =
+    if nat_eq slot HMTX then hmtx else if nat_eq slot VMTX then vmtx else copied slot
+
+-- what is held of a union: the kind of its cuts, the file whose tables it has, its runs and its outlines, and
+-- tables of metrics of its own, which a union of full cuts has not
 pub record Held : Type 0 where
+  pub kind : Kind
   pub tables : List ℕ
   pub runs : TwoLists
   pub outlines : List (Option (List ℕ))
+  pub hmtx : Option (List ℕ)
+  pub vmtx : Option (List ℕ)
 
--- its content
+-- the tables of a union of a kind
+abbrev pub tables_in : Kind → (ℕ → Option (List ℕ)) → Option (List ℕ) → Option (List ℕ) → ℕ →
+    Option (List ℕ)
+tables_in Full copied hmtx vmtx = copied
+tables_in Lean copied hmtx vmtx = replaced copied hmtx vmtx
+
+-- its content, as it is written
 abbrev pub content_in : Held → Content
 content_in u = record {
-  copied = (font_of u.tables).copied;
+  copied = tables_in u.kind (font_of u.tables).copied u.hmtx u.vmtx;
   head = (font_of u.tables).head;
   map = map_in u.runs;
   outline = listed_outline u.outlines;
@@ -46,9 +62,3 @@ pub record AreCounted (outlines : List (Option (List ℕ))) (bytes : ℕ) : Type
 -- both have a record of the number, and these differ
 abbrev pub is_other : Records → Records → ℕ → Bool
 is_other first second g = are_different (first g) (second g)
-
--- a union of files in cut form
-pub record IsUnion (u : Held) : Type 0 where
-  pub accepted : font_fault u.tables ≡ None
-  pub count : length u.outlines ≡ glyph_count_of u.tables
-  pub closed : IsClosedContent (content_in u)

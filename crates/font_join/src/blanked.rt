@@ -3,10 +3,11 @@
 ghost use Rattle.std.specs.Prelude.{◌≡◌, ◌≤◌, length, None, Some, IfOk, MatchOption};
 ghost use Rattle.sfnt_bytes.specs.declared.directory.TheConstants.{MAX_FILE};
 ghost use Rattle.sfnt_bytes.specs.declared.tag.TheConstants.{HHEA, HMTX, VHEA, VMTX};
-ghost use Rattle.font_join.specs.LeanInside.{AreBlanks, blank_in};
+ghost use Rattle.font_join.specs.KindInside.{AreBlanks, HasBlanks, blank_in};
 
 use font_map::Run;
 use font_subset::{blank_of, bytes_of};
+use font_theory::Kind;
 use font_write::Source;
 use sfnt_bytes::{HHEA, HMTX, NoMemory, VHEA, VMTX};
 use std::alloc::Allocator;
@@ -45,6 +46,27 @@ impl<A: Allocator + Copy> Blanks<A> {
         let hmtx = blank_of(alloc, source, HHEA, HMTX)?;
         let vmtx = blank_of(alloc, source, VHEA, VMTX)?;
         Ok(Blanks { hmtx, vmtx })
+    }
+
+    /// Does the same where cuts of a kind are compared in their metrics, and else returns none.
+    ///
+    /// # Errors
+    ///
+    /// `NoMemory` where memory is refused.
+    pub(crate) fn for_kind<S: Source>(
+        alloc: A,
+        kind: Kind,
+        source: &S,
+    ) -> Result<Blanks<A>, NoMemory>
+        ensures { IfOk result (λ b. HasBlanks kind (S.content_of source.now).copied b) }
+    {
+        match kind {
+            Kind::Full => Ok(Blanks {
+                hmtx: None,
+                vmtx: None,
+            }),
+            Kind::Lean => Blanks::of(alloc, source),
+        }
     }
 }
 
@@ -86,7 +108,7 @@ impl<'s, S: Source, A: Allocator> Blanked<'s, S, A> {
 }
 
 impl<'s, S: Source, A: Allocator> Source for Blanked<'s, S, A> {
-    ghost use Rattle.font_join.specs.LeanInside.{blanked};
+    ghost use Rattle.font_join.specs.KindInside.{blanked};
 
     ghost content_of = { λ b. blanked (S.content_of b.source.now) };
 

@@ -1,18 +1,22 @@
 //! Cuts of one kind that are joined one after the other. This is this project's own, and in no standard.
-ghost use Rattle.std.specs.Prelude.{◌≡◌, ◌≤◌, ℕ, List, IfErr, IfOk, OnOk, false, length, map, true, MatchResult};
+ghost use Rattle.std.specs.Prelude.{◌≡◌, ◌<◌, ◌≤◌, ℕ, List, IfErr, IfOk, OnOk, false, length, map, true, MatchResult};
 ghost use Rattle.sfnt_bytes.specs.declared.directory.TheConstants.{MAX_FILE};
 ghost use Rattle.font_theory.specs.Cut.{Format};
 ghost use Rattle.font_theory.specs.File.{current_layout, file};
 ghost use Rattle.streams.specs.Outlet.{broken_of, fresh_of};
 ghost use Rattle.font_join.specs.Join.{IsJoin, IsJoinRefusal};
 ghost use Rattle.font_join.specs.JoinList.{IsAllJoined, IsAllRefusal, IsFirst, SendsAll, StopsJoin};
-ghost use Rattle.font_join.specs.Inside.{HoldsFile, IsFirstUnion, IsTooLargeFile, IsUnited};
+ghost use Rattle.font_join.specs.Inside.{IsFirstUnion, IsTooLargeFile};
+ghost use Rattle.font_join.specs.KindInside.{HoldsIn, IsUnitedIn};
+ghost use Rattle.font_join.specs.Union.{content_in};
+ghost use Rattle.font_theory.specs.Kinds.{format_of, spelled_by};
+ghost use Rattle.font_theory.specs.declared.kinds.Kind.{Kind};
 
-use crate::growing::Growing;
 use crate::join_error::{JoinAllError, JoinAllIntoError, JoinError, Which};
-use crate::opened::opened;
+use crate::join_input::open_input;
+use crate::union::Union;
 use font_file::Font;
-use font_subset::{file_in_memory, send_whole};
+use font_write::{SendError, file_in_memory, send_whole};
 use std::alloc::Allocator;
 use std::convert::AsSlice;
 use std::io::Write;
@@ -30,17 +34,19 @@ pub(crate) fn open_first<F: AsSlice<u8>>(files: &[F]) -> Result<Font<'_>, JoinAl
     if files.is_empty() {
         return Err(JoinAllError::NothingToJoin);
     }
-    match opened(Which::First, files[0].as_slice()) {
+    match open_input(Which::First, files[0].as_slice()) {
         Ok(font) => Ok(font),
         Err(error) => Err(JoinAllError::At { step: 0, error }),
     }
 }
 
 // Returns the union, or its size as an error where that is too large.
-fn sized<'a, A: Allocator + Copy, U: Growing<'a, A>>(union: U) -> Result<U, JoinError>
-    ensures { MatchResult result (λ sized. (sized ≡ union)
-        × (length (file current_layout (U.content_of union)) ≤ MAX_FILE))
-        (IsTooLargeFile (file current_layout (U.content_of union))) }
+fn sized<'f, 'a, A: Allocator + Copy>(
+    union: Union<'f, 'a, A>,
+) -> Result<Union<'f, 'a, A>, JoinError>
+    ensures { MatchResult result (λ sized. (sized ≡ union.entry)
+        × (length (file current_layout (content_in union.entry)) ≤ MAX_FILE))
+        (IsTooLargeFile (file current_layout (content_in union.entry))) }
 {
     match union.too_large() {
         Some(size) => Err(JoinError::TooLarge(size)),
@@ -49,31 +55,32 @@ fn sized<'a, A: Allocator + Copy, U: Growing<'a, A>>(union: U) -> Result<U, Join
 }
 
 // Returns the join of the files so far with the next file.
-fn joined_with<'a, A: Allocator + Copy, U: Growing<'a, A>>(
+fn joined_with<'f, 'a, A: Allocator + Copy>(
     alloc: A,
-    all: U,
+    all: Union<'f, 'a, A>,
     y: &'a [u8],
-) -> Result<U, JoinError>
-    ensures { (x : List ℕ) → HoldsFile U.format U.spelled (U.content_of all) x → MatchResult result
-        (λ union. (z : List ℕ) × IsJoin U.format x y.now z
-        × HoldsFile U.format U.spelled (U.content_of union) z) (IsJoinRefusal U.format x y.now) }
+) -> Result<Union<'f, 'a, A>, JoinError>
+    ensures { (kind : Kind) (x : List ℕ) → HoldsIn kind all.entry x → MatchResult result
+        (λ union. (z : List ℕ) × IsJoin (format_of kind) x y.now z × HoldsIn kind union z)
+        (IsJoinRefusal (format_of kind) x y.now) }
 {
-    let next = opened(Which::Second, y)?;
+    let next = open_input(Which::Second, y)?;
     let union = all.add(alloc, &next)?;
     sized(union)
 }
 
 // Returns the union of all files, of which that of the first is given, or the first refusal. The first is
 // joined with itself, which writes it anew.
-fn union_in_turn<'a, A: Allocator + Copy, F: AsSlice<u8>, U: Growing<'a, A>>(
+fn union_in_turn<'f, 'a, A: Allocator + Copy, F: AsSlice<u8>>(
     alloc: A,
-    first: U,
+    first: Union<'f, 'a, A>,
     files: &'a [F],
-) -> Result<U, JoinAllError>
-    requires { IsFirstUnion U.format U.spelled (map F.items files.now) (U.content_of first) }
+) -> Result<Union<'f, 'a, A>, JoinAllError>
+    requires { IsFirstUnion (format_of first.kind) (spelled_by first.kind) (map F.items files.now)
+        (content_in first) }
     ensures { let bytes = map F.items files.now in
-        MatchResult result (λ union. IsUnited U.format U.spelled bytes (U.content_of union))
-        (IsAllRefusal U.format bytes) }
+        MatchResult result (IsUnitedIn first.entry.kind bytes)
+        (IsAllRefusal (format_of first.entry.kind) bytes) }
 {
     let mut all = match sized(first) {
         Ok(all) => all,
@@ -93,15 +100,16 @@ fn union_in_turn<'a, A: Allocator + Copy, F: AsSlice<u8>, U: Growing<'a, A>>(
 /// # Errors
 ///
 /// The first step that is refused.
-pub(crate) fn union_from<'a, A: Allocator + Copy, F: AsSlice<u8>, U: Growing<'a, A>>(
+pub(crate) fn union_from<'f, 'a, A: Allocator + Copy, F: AsSlice<u8>>(
     alloc: A,
-    first: U,
+    first: Union<'f, 'a, A>,
     files: &'a [F],
-) -> Result<U, JoinAllError>
-    requires { IsFirstUnion U.format U.spelled (map F.items files.now) (U.content_of first) }
+) -> Result<Union<'f, 'a, A>, JoinAllError>
+    requires { IsFirstUnion (format_of first.kind) (spelled_by first.kind) (map F.items files.now)
+        (content_in first) }
     ensures { let bytes = map F.items files.now in
-        MatchResult result (λ union. IsUnited U.format U.spelled bytes (U.content_of union))
-        (IsAllRefusal U.format bytes) }
+        MatchResult result (IsUnitedIn first.entry.kind bytes)
+        (IsAllRefusal (format_of first.entry.kind) bytes) }
 {
     let all = union_in_turn(alloc, first, files)?;
     match all.settle(alloc) {
@@ -118,43 +126,49 @@ pub(crate) fn union_from<'a, A: Allocator + Copy, F: AsSlice<u8>, U: Growing<'a,
 /// # Errors
 ///
 /// `NoMemory` at the last step.
-pub(crate) fn file_of_all<'a, A: Allocator + Copy, F: AsSlice<u8>, U: Growing<'a, A>>(
+pub(crate) fn file_of_all<A: Allocator + Copy, F: AsSlice<u8>>(
     alloc: A,
-    all: &U,
+    all: &Union<'_, '_, A>,
     files: &[F],
 ) -> Result<Vec<u8, A>, JoinAllError>
-    requires { IsUnited U.format U.spelled (map F.items files.now) (U.content_of all.now) }
-    ensures { let bytes = map F.items files.now in
-        MatchResult result (λ z. IsAllJoined U.format bytes z.items) (IsAllRefusal U.format bytes) }
+    requires { 0 < length files.now }
+    ensures { let bytes = map F.items files.now in (kind : Kind) → IsUnitedIn kind bytes all.now →
+        MatchResult result (λ z. IsAllJoined (format_of kind) bytes z.items)
+        (IsAllRefusal (format_of kind) bytes) }
 {
     match file_in_memory(alloc, all) {
         Ok(file) => Ok(file),
-        Err(_) => Err(JoinAllError::At {
+        Err(error) => Err(JoinAllError::At {
             step: files.len() - 1,
-            error: JoinError::NoMemory,
+            error: JoinError::from(error),
         }),
     }
 }
 
-/// Sends the file of the union of some files, and returns its length.
+/// Sends the file of the union of some files, of which this is the place of the last, and returns its length.
 ///
 /// # Errors
 ///
 /// `WriteFault` where a write failed.
-pub(crate) fn send_all<'a, A: Allocator + Copy, U: Growing<'a, A>, W: Write>(
-    all: &U,
+pub(crate) fn send_all<A: Allocator + Copy, W: Write>(
+    all: &Union<'_, '_, A>,
+    step: usize,
     out: &mut Outlet<W>,
 ) -> Result<u64, JoinAllIntoError>
     requires { fresh_of out.old ≡ true }
-    ensures sends { (files : List (List ℕ)) → IsUnited U.format U.spelled files (U.content_of all.now) →
-        IfOk result (SendsAll U.format W.contents out.old out.new files) }
+    ensures sends { (kind : Kind) (files : List (List ℕ)) → IsUnitedIn kind files all.now →
+        IfOk result (SendsAll (format_of kind) W.contents out.old out.new files) }
     ensures unbroken { OnOk result (broken_of out.new ≡ false) }
-    ensures stops { (files : List (List ℕ)) → IsUnited U.format U.spelled files (U.content_of all.now) →
-        IfErr result (StopsJoin U.format W.contents out.old out.new files) }
+    ensures stops { (kind : Kind) (files : List (List ℕ)) → IsUnitedIn kind files all.now →
+        IfErr result (StopsJoin (format_of kind) W.contents out.old out.new files) }
 {
     match send_whole(all, out) {
         Ok(size) => Ok(size),
-        // A join that is too large was refused before, and sending asks for no memory.
-        Err(_) => Err(JoinAllIntoError::WriteFault(out.written())),
+        Err(SendError::WriteFault(written)) => Err(JoinAllIntoError::WriteFault(written)),
+        // A join that is too large has been refused before.
+        Err(SendError::TooLarge(size)) => {
+            let error = JoinError::TooLarge(size);
+            Err(JoinAllIntoError::NotJoined(JoinAllError::At { step, error }))
+        }
     }
 }

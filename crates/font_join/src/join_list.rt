@@ -6,13 +6,15 @@ ghost use Rattle.font_theory.specs.File.{current_layout, file};
 ghost use Rattle.streams.specs.Outlet.{HasSent, broken_of, fresh_of, writer_of};
 ghost use Rattle.font_join.specs.JoinList.{EveryTreeDiffers, IsAllJoined, IsAllRefusal, IsFirst, IsForSizeInto, IsForSizeOf, IsSentAs, JoinLaws, SendsAll, StopsJoin};
 ghost use Rattle.font_join.specs.Union.{content_in};
-ghost use Rattle.font_join.specs.Inside.{IsUnited};
+ghost use Rattle.font_theory.specs.Kinds.{format_of};
+ghost use Rattle.font_join.specs.KindInside.{IsUnitedIn};
 ghost use Rattle.font_join.specs.declared.join_error.JoinAllIntoError.TheVariants.{NotJoined};
 
 use crate::in_turn::{file_of_all, open_first, send_all, union_from};
 use crate::join_error::{JoinAllError, JoinAllIntoError};
 use crate::union::Union;
 use font_file::Font;
+use font_theory::Kind;
 use std::alloc::Allocator;
 use std::convert::AsSlice;
 use std::io::Write;
@@ -21,15 +23,15 @@ use streams::Outlet;
 // Returns the union of all files, of which the first is open, or the first refusal.
 fn union_of_all<'f, 'a, A: Allocator + Copy, F: AsSlice<u8>>(
     alloc: A,
+    kind: Kind,
     first: &'f Font<'a>,
     files: &'a [F],
 ) -> Result<Union<'f, 'a, A>, JoinAllError>
     requires { IsFirst (map F.items files.now) first.now }
     ensures { let bytes = map F.items files.now in
-        MatchResult result (λ union. IsUnited our_format (λ K. K) bytes (content_in union))
-        (IsAllRefusal our_format bytes) }
+        MatchResult result (IsUnitedIn kind bytes) (IsAllRefusal (format_of kind) bytes) }
 {
-    match Union::of_first(alloc, first) {
+    match Union::of_first(alloc, kind, first) {
         Ok(one) => union_from(alloc, one, files),
         Err(error) => Err(JoinAllError::At { step: 0, error }),
     }
@@ -38,14 +40,37 @@ fn union_of_all<'f, 'a, A: Allocator + Copy, F: AsSlice<u8>>(
 // Returns the join of all files, or the first refusal.
 fn join_in_turn<A: Allocator + Copy>(
     alloc: A,
+    kind: Kind,
     files: &[Vec<u8, A>],
 ) -> Result<Vec<u8, A>, JoinAllError>
     ensures { let bytes = map (λ v. v.items) files.now in
-        MatchResult result (λ z. IsAllJoined our_format bytes z.items) (IsAllRefusal our_format bytes) }
+        MatchResult result (λ z. IsAllJoined (format_of kind) bytes z.items) (IsAllRefusal (format_of kind) bytes) }
 {
     let first = open_first(files)?;
-    let all = union_of_all(alloc, &first, files)?;
+    let all = union_of_all(alloc, kind, &first, files)?;
     file_of_all(alloc, &all, files)
+}
+
+/// Returns the first of some cuts of a kind joined with itself, and then the join so far with each next one in
+/// turn, as [`join_all`] does for full ones.
+///
+/// # Errors
+///
+/// Those of [`join_all`].
+pub fn join_all_of_kind<A: Allocator + Copy>(
+    alloc: A,
+    kind: Kind,
+    files: &[Vec<u8, A>],
+) -> Result<Vec<u8, A>, JoinAllError>
+    ensures exact { let bytes = map (λ v. v.items) files.now in
+        MatchResult result (λ z. IsAllJoined (format_of kind) bytes z.items) (IsAllRefusal (format_of kind) bytes) }
+    ensures small { IfOk result (λ z. length z.items ≤ MAX_FILE) }
+    ensures laws { let bytes = map (λ v. v.items) files.now in
+        JoinLaws (format_of kind) bytes result (λ z v. v.items ≡ z) (IsForSizeOf (format_of kind)) }
+    ensures clash { let bytes = map (λ v. v.items) files.now in
+        IfErr result (EveryTreeDiffers (format_of kind) bytes) }
+{
+    join_in_turn(alloc, kind, files)
 }
 
 /// Returns the first file joined with itself, and then the join so far with each next file in turn. Cuts
@@ -78,7 +103,7 @@ pub fn join_all<A: Allocator + Copy>(
     ensures clash { let bytes = map (λ v. v.items) files.now in
         IfErr result (EveryTreeDiffers our_format bytes) }
 {
-    join_in_turn(alloc, files)
+    join_all_of_kind(alloc, Kind::Full, files)
 }
 
 /// Opens the first of a list of files, with which [`union_of_files`] begins, of either kind.
@@ -93,7 +118,7 @@ pub fn open_first_file<'a>(files: &'a [&'a [u8]]) -> Result<Font<'a>, JoinAllErr
     open_first(files)
 }
 
-/// Returns the union of a list of files, of which the first is open: what [`join_all`] makes its file
+/// Returns the union of a list of cuts of a kind, of which the first is open: what [`join_all`] makes its file
 /// of, so that the join can be measured, and then sent to any sink. All memory that the join needs is
 /// asked for here.
 ///
@@ -102,34 +127,67 @@ pub fn open_first_file<'a>(files: &'a [&'a [u8]]) -> Result<Font<'a>, JoinAllErr
 /// The first step that is refused, as [`join_all`] answers it.
 pub fn union_of_files<'f, 'a, A: Allocator + Copy>(
     alloc: A,
+    kind: Kind,
     first: &'f Font<'a>,
     files: &'a [&'a [u8]],
 ) -> Result<Union<'f, 'a, A>, JoinAllError>
     requires { IsFirst (map (λ f. f.now) files.now) first.now }
     ensures exact { let bytes = map (λ f. f.now) files.now in
-        MatchResult result (λ union. IsAllJoined our_format bytes (file current_layout (content_in union)))
-        (IsAllRefusal our_format bytes) }
+        MatchResult result (λ union. IsAllJoined (format_of kind) bytes (file current_layout (content_in union)))
+        (IsAllRefusal (format_of kind) bytes) }
     ensures small { IfOk result (λ union. length (file current_layout (content_in union)) ≤ MAX_FILE) }
 {
-    union_of_all(alloc, first, files)
+    union_of_all(alloc, kind, first, files)
 }
 
 // Sends the join of all files, or returns the first refusal.
 fn send_in_turn<A: Allocator + Copy, W: Write>(
     alloc: A,
+    kind: Kind,
     files: &[Vec<u8, A>],
     out: &mut Outlet<W>,
 ) -> Result<u64, JoinAllIntoError>
     requires { fresh_of out.old ≡ true }
     ensures sends { let bytes = map (λ v. v.items) files.now in
-        IfOk result (SendsAll our_format W.contents out.old out.new bytes) }
+        IfOk result (SendsAll (format_of kind) W.contents out.old out.new bytes) }
     ensures unbroken { OnOk result (broken_of out.new ≡ false) }
     ensures stops { let bytes = map (λ v. v.items) files.now in
-        IfErr result (StopsJoin our_format W.contents out.old out.new bytes) }
+        IfErr result (StopsJoin (format_of kind) W.contents out.old out.new bytes) }
 {
     let first = open_first(files)?;
-    let all = union_of_all(alloc, &first, files)?;
-    send_all(&all, out)
+    let all = union_of_all(alloc, kind, &first, files)?;
+    send_all(&all, files.len() - 1, out)
+}
+
+/// Sends the join of a list of cuts of a kind, and returns its length, as [`join_all_into`] does for full ones.
+///
+/// # Errors
+///
+/// Those of [`join_all_into`].
+pub fn join_all_of_kind_into<A: Allocator + Copy, W: Write>(
+    alloc: A,
+    kind: Kind,
+    files: &[Vec<u8, A>],
+    out: &mut Outlet<W>,
+) -> Result<u64, JoinAllIntoError>
+    requires { fresh_of out.old ≡ true }
+    ensures exact { let bytes = map (λ v. v.items) files.now in
+        IfOk result (SendsAll (format_of kind) W.contents out.old out.new bytes) }
+    ensures small { IfOk result (λ size. size ≤ MAX_FILE) }
+    ensures sent { let bytes = map (λ v. v.items) files.now in
+        IfOk result (λ size. IsSome (W.contents (writer_of out.old)) →
+        (z : List ℕ) × IsAllJoined (format_of kind) bytes z × HasSent W.contents out.new z) }
+    ensures unbroken { OnOk result (broken_of out.new ≡ false) }
+    ensures stops { let bytes = map (λ v. v.items) files.now in
+        IfErr result (StopsJoin (format_of kind) W.contents out.old out.new bytes) }
+
+    // The laws of `join_all`, of the bytes that went out.
+    ensures laws { let bytes = map (λ v. v.items) files.now in
+        JoinLaws (format_of kind) bytes result (IsSentAs W.contents out.old out.new) (IsForSizeInto (format_of kind)) }
+    ensures clash { let bytes = map (λ v. v.items) files.now in
+        (error : JoinAllError) → result ≡ Err (NotJoined error) → EveryTreeDiffers (format_of kind) bytes error }
+{
+    send_in_turn(alloc, kind, files, out)
 }
 
 /// Sends the join of a list of files, and returns how many bytes it has. All memory is asked for before
@@ -163,5 +221,5 @@ pub fn join_all_into<A: Allocator + Copy, W: Write>(
     ensures clash { let bytes = map (λ v. v.items) files.now in
         (error : JoinAllError) → result ≡ Err (NotJoined error) → EveryTreeDiffers our_format bytes error }
 {
-    send_in_turn(alloc, files, out)
+    join_all_of_kind_into(alloc, Kind::Full, files, out)
 }

@@ -2,26 +2,65 @@
 ghost use Rattle.std.specs.Prelude.{◌≡◌, ℕ, Bool, List, ◌≤◌, length, None, IfErr, IfOk, MatchResult};
 ghost use Rattle.sfnt_bytes.specs.declared.directory.TheConstants.{MAX_FILE};
 ghost use Rattle.font_file.specs.Font.{font_fault};
-ghost use Rattle.font_theory.specs.Content.{everything};
-ghost use Rattle.font_theory.specs.Cut.{IsCut, either, our_format, renewed};
+ghost use Rattle.font_theory.specs.Content.{content, everything};
+ghost use Rattle.font_theory.specs.Cut.{IsCut, Writes, either, our_format, renewed};
+ghost use Rattle.font_theory.specs.Kinds.{format_of};
+ghost use Rattle.font_subset.specs.Kinds.{cut_in};
 ghost use Rattle.font_subset.specs.Cut.{IsCutOf, cut_of};
 ghost use Rattle.font_join.specs.Join.{IsForSize, IsJoin, IsJoinRefusal, IsLeastUpper, RefusalIsRight};
 
 use crate::join_error::{JoinError, Which};
+use crate::join_input::open_input;
 use crate::join_source::Joined;
-use crate::opened::opened;
-use font_subset::file_in_memory;
+use font_theory::Kind;
+use font_write::file_in_memory;
 use std::alloc::Allocator;
 
-// Returns the join, or the refusal that applies.
-fn join_exactly<A: Allocator + Copy>(alloc: A, x: &[u8], y: &[u8]) -> Result<Vec<u8, A>, JoinError>
-    ensures { MatchResult result (λ z. IsJoin our_format x.now y.now z.items)
-        (IsJoinRefusal our_format x.now y.now) }
+// Returns the join of cuts of a kind, or the refusal that applies.
+fn join_exactly<A: Allocator + Copy>(
+    alloc: A,
+    kind: Kind,
+    x: &[u8],
+    y: &[u8],
+) -> Result<Vec<u8, A>, JoinError>
+    ensures { MatchResult result (λ z. IsJoin (format_of kind) x.now y.now z.items)
+        (IsJoinRefusal (format_of kind) x.now y.now) }
 {
-    let first = opened(Which::First, x)?;
-    let second = opened(Which::Second, y)?;
-    let joined = Joined::new(alloc, &first, &second)?;
+    let first = open_input(Which::First, x)?;
+    let second = open_input(Which::Second, y)?;
+    let joined = Joined::of_two(alloc, kind, &first, &second)?;
     Ok(file_in_memory(alloc, &joined)?)
+}
+
+/// Returns the join of two cuts of a kind, as [`join`] does for full ones.
+///
+/// # Errors
+///
+/// Those of [`join`].
+pub fn join_of_kind<A: Allocator + Copy>(
+    alloc: A,
+    kind: Kind,
+    x: &[u8],
+    y: &[u8],
+) -> Result<Vec<u8, A>, JoinError>
+    ensures exact { MatchResult result (λ z. IsJoin (format_of kind) x.now y.now z.items)
+        (IsJoinRefusal (format_of kind) x.now y.now) }
+    ensures cuts { (F : List ℕ) (A B : ℕ → Bool) → font_fault F ≡ None →
+        Writes (format_of kind) (content ((format_of kind).font F) A) x.now →
+        Writes (format_of kind) (content ((format_of kind).font F) B) y.now →
+        length x.now ≤ MAX_FILE → length y.now ≤ MAX_FILE →
+        MatchResult result (λ z. z.items ≡ cut_in kind F (either A B))
+        (IsForSize (length (cut_in kind F (either A B)))) }
+    ensures itself { font_fault x.now ≡ None → cut_in kind x.now everything ≡ x.now → y.now ≡ x.now →
+        MatchResult result (λ z. z.items ≡ x.now) (λ error. error ≡ JoinError.NoMemory) }
+    ensures renewal { IsCut (format_of kind) x.now → y.now ≡ x.now →
+        MatchResult result (λ z. z.items ≡ renewed (format_of kind) x.now)
+        (IsForSize (length (renewed (format_of kind) x.now))) }
+    ensures upper { IfOk result (λ z. IsLeastUpper (format_of kind) x.now y.now z.items) }
+    ensures small { IfOk result (λ z. length z.items ≤ MAX_FILE) }
+    ensures refused { IfErr result (RefusalIsRight (format_of kind) x.now y.now) }
+{
+    join_exactly(alloc, kind, x, y)
 }
 
 /// Returns the join of two files in cut form, each as it is written today or as the first profile had
@@ -57,5 +96,5 @@ pub fn join<A: Allocator + Copy>(alloc: A, x: &[u8], y: &[u8]) -> Result<Vec<u8,
     ensures small { IfOk result (λ z. length z.items ≤ MAX_FILE) }
     ensures refused { IfErr result (RefusalIsRight our_format x.now y.now) }
 {
-    join_exactly(alloc, x, y)
+    join_of_kind(alloc, Kind::Full, x, y)
 }

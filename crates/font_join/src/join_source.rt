@@ -1,15 +1,16 @@
 //! The union of two fonts in cut form, of which a join is made. It is this project's own.
 ghost use Rattle.std.specs.Prelude.{◌≡◌, None, MatchResult};
 ghost use Rattle.font_theory.specs.Content.{content, everything, font_of};
-ghost use Rattle.font_theory.specs.Cut.{our_format};
+ghost use Rattle.font_theory.specs.Cut.{content_of_all, our_format};
 ghost use Rattle.font_theory.specs.Join.{both};
 ghost use Rattle.font_join.specs.Join.{IsUnionRefusal, union_fault};
+ghost use Rattle.font_theory.specs.Kinds.{format_of, spelled_by};
 ghost use Rattle.font_join.specs.Union.{content_in};
 
-use crate::growing::Growing;
 use crate::join_error::JoinError;
 use crate::union::Union;
 use font_file::Font;
+use font_theory::Kind;
 use std::alloc::{Allocator, Global};
 
 /// What the join of two fonts is made of: the tables that they share, the codes and the outlines of
@@ -30,7 +31,26 @@ impl<'a, A: Allocator + Copy> Union<'a, 'a, A> {
             × (union_fault our_format x.entry.now y.entry.now ≡ None))
             (IsUnionRefusal our_format x.entry.now y.entry.now) }
     {
-        let one = Union::of_first(alloc, x)?;
+        Union::of_two(alloc, Kind::Full, x, y)
+    }
+
+    /// Returns the union of two cuts of a kind, as [`Joined::new`] does for full ones.
+    ///
+    /// # Errors
+    ///
+    /// Those of [`Joined::new`].
+    pub fn of_two(
+        alloc: A,
+        kind: Kind,
+        x: &'a Font<'a>,
+        y: &'a Font<'a>,
+    ) -> Result<Joined<'a, A>, JoinError>
+        ensures { MatchResult result (λ joined. (content_in joined ≡ spelled_by kind
+            (both (content_of_all (format_of kind) x.entry.now) (content_of_all (format_of kind) y.entry.now)))
+            × (union_fault (format_of kind) x.entry.now y.entry.now ≡ None))
+            (IsUnionRefusal (format_of kind) x.entry.now y.entry.now) }
+    {
+        let one = Union::of_first(alloc, kind, x)?;
         let both = one.add(alloc, y)?;
         Ok(both.settle(alloc)?)
     }

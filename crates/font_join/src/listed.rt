@@ -1,81 +1,62 @@
-//! A font for all its codes, beside the list of the runs of its map: the mapping is searched once, and
-//! the test of cut form, the search for a difference and the union read the list. OpenType 1.9, cmap,
-//! Format 12: Segmented coverage.
-ghost use Rattle.std.specs.Prelude.{◌≡◌, ◌≤◌, length, None, Some, IfOk, IsTrue, MatchOption};
+//! A font for all its codes, whose runs are listed: the mapping is searched once, and the test of cut form, the
+//! search for a difference and the union read the list. OpenType 1.9, cmap, Format 12: Segmented coverage.
+ghost use Rattle.std.specs.Prelude.{◌≡◌, ◌≤◌, length, None, Some, IfOk, MatchOption, MatchResult};
 ghost use Rattle.sfnt_bytes.specs.declared.directory.TheConstants.{MAX_FILE};
 ghost use Rattle.font_theory.specs.Content.{content, everything, font_of};
-ghost use Rattle.font_theory.specs.Cut.{IsCut, is_current, is_cut, our_format};
-ghost use Rattle.font_theory.specs.Lean.{lean_format};
+ghost use Rattle.font_theory.specs.Cut.{IsCut, our_format};
+ghost use Rattle.font_theory.specs.Kinds.{format_of};
+ghost use Rattle.font_join.specs.Inside.{IsFormRefusal};
 ghost use Rattle.font_subset.specs.ListedRuns.{AreRunsOf};
 
+use crate::join_error::{JoinError, Which};
 use font_file::Font;
 use font_map::Run;
-use font_subset::{CutForm, CutOf, form_of_file, listed_form};
+use font_subset::{CutForm, CutOf, listed_form, recall_accepted};
+use font_theory::Kind;
 use font_write::Source;
-use map_union::{Hint, run_among};
 use sfnt_bytes::NoMemory;
 use std::alloc::Allocator;
-use std::cell::Cell;
 use std::marker::Model;
 
 /// A font, the glyphs that its codes keep, and its runs.
 #[derive(Drop)]
 pub(crate) struct Listed<'f, 'a, A: Allocator> {
     font: CutOf<'f, 'a, A>,
-    runs: Vec<Run, A>,
-    // Where the run that was read last stands.
-    hint: Cell<Hint>,
 }
 
 // Its value is the file of the font.
 impl<'f, 'a, A: Allocator> Model for Listed<'f, 'a, A> {
-    ghost use Rattle.std.specs.Prelude.{◌≡◌, ℕ, List, Option, None};
-    ghost use Rattle.codes.specs.declared.ranges.Range.{Range};
-    ghost use Rattle.font_subset.specs.ListedRuns.{AreRunsOf};
+    ghost use Rattle.std.specs.Prelude.{◌≡◌, ℕ, List, None};
 
     ghost Value = { List ℕ };
 
     ghost view = { λ l. l.font.0 };
 
-    ghost invariant = { λ l. (l.font.1 ≡ None) × AreRunsOf l.font.0 l.runs.items };
+    ghost invariant = { λ l. l.font.1 ≡ None };
 }
 
 impl<'f, 'a, A: Allocator + Copy> Listed<'f, 'a, A> {
-    /// Marks what a font keeps, and lists its runs.
+    /// Marks what a cut of a kind keeps, and lists its runs.
     ///
     /// # Errors
     ///
-    /// `NoMemory` where memory is refused.
-    pub(crate) fn new(alloc: A, font: &'f Font<'a>) -> Result<Listed<'f, 'a, A>, NoMemory>
-        ensures { IfOk result (λ listed. listed ≡ font.entry.now) }
-    {
-        let (font, runs) = CutOf::with_runs(alloc, font)?;
-        Ok(Listed {
-            font,
-            runs,
-            hint: Cell::new(Hint::START),
-        })
-    }
-
-    /// Does the same, and returns whether the file is a lean cut.
-    ///
-    /// # Errors
-    ///
-    /// `NoMemory` where memory is refused.
-    pub(crate) fn with_form(
+    /// `NotACut` where it is no cut of the kind, and `NoMemory` where memory is refused.
+    pub(crate) fn new(
         alloc: A,
+        kind: Kind,
         font: &'f Font<'a>,
-    ) -> Result<(Listed<'f, 'a, A>, bool), NoMemory>
-        ensures file { IfOk result (λ both. both.0 ≡ font.entry.now) }
-        ensures form { IfOk result (λ both. both.1 ≡ is_current lean_format font.entry.now) }
+        which: Which,
+    ) -> Result<Listed<'f, 'a, A>, JoinError>
+        ensures { MatchResult result
+            (λ listed. (listed ≡ font.entry.now) × IsCut (format_of kind) font.entry.now)
+            (IsFormRefusal (format_of kind) which font.entry.now) }
     {
-        let (font, runs, lean) = listed_form(alloc, font)?;
-        let listed = Listed {
-            font,
-            runs,
-            hint: Cell::new(Hint::START),
-        };
-        Ok((listed, lean))
+        recall_accepted(font);
+        let (cut, form) = listed_form(alloc, kind, font)?;
+        match form {
+            CutForm::Not => Err(JoinError::NotACut(which)),
+            _ => Ok(Listed { font: cut }),
+        }
     }
 }
 
@@ -100,9 +81,8 @@ impl<'f, 'a, A: Allocator> Source for Listed<'f, 'a, A> {
         self.font.glyph_count()
     }
 
-    #[tactic(auto, using(crate::proofs::AddLemmas::run_listed))]
     fn next_run(&self, from: u32) -> Option<Run> {
-        run_among(&self.runs, &self.hint, from)
+        self.font.next_run(from)
     }
 
     fn keeps(&self, g: u16) -> bool {
@@ -118,14 +98,20 @@ impl<'f, 'a, A: Allocator> Source for Listed<'f, 'a, A> {
     }
 }
 
-impl<'f, 'a, A: Allocator> Listed<'f, 'a, A> {
+impl<'f, 'a, A: Allocator + Copy> Listed<'f, 'a, A> {
     /// Returns the list of runs, where nothing else of this is needed any more.
-    pub(crate) fn into_runs(self) -> Vec<Run, A>
-        ensures { AreRunsOf self.entry result.items }
+    ///
+    /// # Errors
+    ///
+    /// `NoMemory` where memory is refused.
+    pub(crate) fn into_runs(self, alloc: A) -> Result<Vec<Run, A>, NoMemory>
+        ensures { IfOk result (λ runs. AreRunsOf self.entry runs.items) }
     {
-        self.runs
+        self.font.into_runs(alloc)
     }
+}
 
+impl<'f, 'a, A: Allocator> Listed<'f, 'a, A> {
     /// Returns the outline of a glyph that is kept, as a file in cut form has it: with the zeros that fill
     /// it.
     pub(crate) fn written_outline(&self, g: u16) -> Option<&'a [u8]>
@@ -135,13 +121,5 @@ impl<'f, 'a, A: Allocator> Listed<'f, 'a, A> {
         ensures small { MatchOption result Unit (λ b. length b.now ≤ MAX_FILE) }
     {
         self.font.written_outline(g)
-    }
-
-    /// Returns whether the font's file is the file of this content, in any form.
-    pub(crate) fn is_cut(&self) -> bool
-        ensures exact { result ≡ is_cut our_format self.now }
-        ensures form { IsTrue result → IsCut our_format self.now }
-    {
-        !matches!(form_of_file(self, self.font.file()), CutForm::Not)
     }
 }

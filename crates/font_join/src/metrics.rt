@@ -4,7 +4,7 @@ ghost use Rattle.std.specs.List.{range_with_len};
 ghost use Rattle.std.specs.Str.{bytes_eq};
 ghost use Rattle.font_theory.specs.Content.{glyph_count, table_in_slot};
 ghost use Rattle.font_theory.specs.Lean.{entry_at, entry_size, metric_bytes, metrics_at, pairs_in};
-ghost use Rattle.font_join.specs.LeanInside.{has_other_metrics, metrics_by};
+ghost use Rattle.font_join.specs.KindInside.{has_other_metrics, metrics_by};
 
 use crate::difference::is_same;
 use font_subset::pairs_by;

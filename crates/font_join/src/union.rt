@@ -1,55 +1,89 @@
-//! The union of many files in cut form, added one after the other: the bytes of each are read once.
-//! This is this project's own, but for the groups of the mapping. OpenType 1.9, cmap, Format 12:
-//! Segmented coverage.
+//! The union of many cuts of one kind, added one after the other: the bytes of each are read once. This is
+//! this project's own, but for the groups of the mapping and the tables of metrics. OpenType 1.9, cmap, Format
+//! 12: Segmented coverage; hmtx; vmtx.
 ghost use Rattle.std.specs.Prelude.{◌≡◌, ◌≤◌, length, None, Some, IfOk, MatchOption, MatchResult};
 ghost use Rattle.sfnt_bytes.specs.declared.directory.TheConstants.{MAX_FILE};
 ghost use Rattle.font_theory.specs.Bytes.{padded};
-ghost use Rattle.font_theory.specs.Content.{Content};
-ghost use Rattle.font_theory.specs.Cut.{IsCut, our_format, content_of_all};
+ghost use Rattle.font_theory.specs.Content.{Content, content, everything, font_of};
+ghost use Rattle.font_theory.specs.Cut.{IsCut, content_of_all};
 ghost use Rattle.font_theory.specs.File.{current_layout, file};
-ghost use Rattle.font_theory.specs.Join.{both};
-ghost use Rattle.font_subset.specs.Cut.{IsTooLarge};
-ghost use Rattle.font_join.specs.Union.{IsUnion, content_in};
-ghost use Rattle.font_join.specs.Inside.{AgreesEarly, IsAddRefusal, IsFormRefusal, Spells, add_fault};
+ghost use Rattle.font_theory.specs.Kinds.{format_of};
+ghost use Rattle.font_theory.specs.declared.kinds.Kind.{Kind};
+ghost use Rattle.font_write.specs.WholeFile.{IsTooLarge};
+ghost use Rattle.font_join.specs.Union.{content_in};
+ghost use Rattle.font_join.specs.Inside.{IsAddRefusal, IsFormRefusal, add_fault, early_difference};
+ghost use Rattle.font_join.specs.KindInside.{IsGrown, SpellsIn, least_of, metrics_told};
 ghost use Rattle.font_join.specs.declared.join_error.Which.TheVariants.{First};
 
+use crate::blanked::{Blanked, Blanks};
 use crate::difference::{early_difference, refusal_of};
-use crate::growing::Growing;
 use crate::join_error::{JoinError, Which};
 use crate::listed::Listed;
+use crate::metrics::different_metrics;
 use crate::outlines::Outlines;
+use crate::own_tables::{either_table, own_table};
 use crate::without_codes::size_if_too_large;
 use font_file::Font;
 use font_map::Run;
-use font_subset::{copied, head, recall_accepted};
+use font_subset::{bytes_of, copied, head, recall_accepted};
+use font_theory::{Difference, Kind};
 use font_write::Source;
 use map_union::UnionMap;
-use sfnt_bytes::NoMemory;
+use sfnt_bytes::{HMTX, NoMemory, VMTX};
 use std::alloc::Allocator;
 use std::marker::Model;
 
-/// The union of files in cut form: the tables of the first of them, the maps of all in one, and for each
-/// glyph the slice of the first file that keeps it.
+// Returns the lesser of two numbers, where there is one.
+fn least(first: Option<u16>, second: Option<u16>) -> Option<u16>
+    ensures { result ≡ least_of first second }
+{
+    match (first, second) {
+        (None, other) => other,
+        (Some(a), Some(b)) => { if b < a { Some(b) } else { Some(a) } }
+        (Some(a), None) => Some(a),
+    }
+}
+
+/// The union of cuts of one kind: the tables of the first of them, the maps of all in one, and for each glyph
+/// the slice of the first file that keeps it. A union of lean cuts has `hmtx` and `vmtx` of its own, which are
+/// those of all byte by byte.
 #[derive(Drop)]
 pub struct Union<'f, 'a, A: Allocator> {
+    kind: Kind,
     first: &'f Font<'a>,
     map: UnionMap<A>,
     outlines: Outlines<'a, A>,
+    hmtx: Option<Vec<u8, A>>,
+    vmtx: Option<Vec<u8, A>>,
+    // All files have these in common, so that they are made once.
+    blanks: Blanks<A>,
 }
 
-// Its value is what is held: the file whose tables it has, the runs and the outlines.
+// Its value is what is held.
 impl<'f, 'a, A: Allocator> Model for Union<'f, 'a, A> {
-    ghost use Rattle.font_join.specs.Union.{Held, IsUnion};
+    ghost use Rattle.std.specs.Option.{option_map};
+    ghost use Rattle.font_join.specs.KindInside.{IsUnion};
+    ghost use Rattle.font_join.specs.Union.{Held};
 
     ghost Value = { Held };
 
-    ghost view = { λ u. record { tables = u.first.now; runs = u.map; outlines = u.outlines } };
-
-    ghost invariant = { λ u. IsUnion (record {
+    ghost view = { λ u. record {
+      kind = u.kind;
       tables = u.first.now;
       runs = u.map;
       outlines = u.outlines;
-    }) };
+      hmtx = option_map (λ v. v.items) u.hmtx;
+      vmtx = option_map (λ v. v.items) u.vmtx;
+    } };
+
+    ghost invariant = { λ u. IsUnion (record {
+      kind = u.kind;
+      tables = u.first.now;
+      runs = u.map;
+      outlines = u.outlines;
+      hmtx = option_map (λ v. v.items) u.hmtx;
+      vmtx = option_map (λ v. v.items) u.vmtx;
+    }) u.blanks };
 }
 
 impl<'f, 'a, A: Allocator> Source for Union<'f, 'a, A> {
@@ -62,14 +96,24 @@ impl<'f, 'a, A: Allocator> Source for Union<'f, 'a, A> {
     }
 
     fn copied(&self, slot: usize) -> Option<&[u8]> {
-        copied(self.first, slot)
+        match self.kind {
+            Kind::Full => copied(self.first, slot),
+            Kind::Lean => {
+                if slot == HMTX {
+                    return bytes_of(&self.hmtx);
+                }
+                if slot == VMTX {
+                    return bytes_of(&self.vmtx);
+                }
+                copied(self.first, slot)
+            }
+        }
     }
 
     fn head(&self) -> &[u8] {
         head(self.first)
     }
 
-    #[tactic(auto, using(font_subset::proofs::SourceLemmas::glyph_count_is))]
     fn glyph_count(&self) -> u16 {
         self.first.tables().glyph_count()
     }
@@ -105,96 +149,153 @@ impl<'f, 'a, A: Allocator> Union<'f, 'a, A> {
     }
 }
 
-// Returns why a file is not added, before outlines are compared.
-fn early_refusal<A: Allocator, B: Allocator>(
-    k: &Union<'_, '_, A>,
-    l: &Listed<'_, '_, B>,
-) -> Option<JoinError>
-    ensures { MatchOption result (AgreesEarly (content_in k.now) l.now)
-        (λ error. add_fault our_format (content_in k.now) l.now ≡ Some error) }
-{
-    if !l.is_cut() {
-        return Some(JoinError::NotACut(Which::Second));
-    }
-    match early_difference(k, &k.map, l) {
-        Some(difference) => Some(refusal_of(difference)),
-        None => None,
-    }
-}
-
 impl<'f, 'a, A: Allocator + Copy> Union<'f, 'a, A> {
-    /// Returns the union of one file in cut form.
+    // Returns the first table or code that tells a cut apart from the union.
+    fn early(&self, alloc: A, file: &Listed<'_, 'a, A>) -> Result<Option<Difference>, NoMemory>
+        requires form { IsCut (format_of self.now.kind) file.now }
+        ensures { IfOk result (λ found. (K : Content) → SpellsIn self.now.kind (content_in self.now) K →
+            found ≡ early_difference K (content_of_all (format_of self.now.kind) file.now)) }
+    {
+        match self.kind {
+            Kind::Full => Ok(early_difference(self, &self.map, file)),
+            Kind::Lean => {
+                let blanks = Blanks::of(alloc, file)?;
+                let first = Blanked::new(self, &self.blanks);
+                let second = Blanked::new(file, &blanks);
+                Ok(early_difference(&first, &self.map, &second))
+            }
+        }
+    }
+
+    // Returns why a cut is not added, before its glyphs are compared.
+    fn tested(&self, alloc: A, file: &Listed<'_, 'a, A>) -> Result<(), JoinError>
+        requires form { IsCut (format_of self.now.kind) file.now }
+        ensures { (K : Content) → SpellsIn self.now.kind (content_in self.now) K → MatchResult result
+            (λ _. early_difference K (content_of_all (format_of self.now.kind) file.now) ≡ None)
+            (IsAddRefusal (format_of self.now.kind) K file.now) }
+    {
+        let _kind = self.kind;
+        match self.early(alloc, file)? {
+            Some(difference) => Err(refusal_of(difference)),
+            None => Ok(()),
+        }
+    }
+
+    // Returns the first glyph that a cut keeps with other metrics than the union, where these are compared.
+    fn other_metrics(&self, file: &Listed<'_, 'a, A>) -> Option<u16>
+        ensures { result ≡ metrics_told self.now.kind (content_in self.now)
+            (content (font_of file.now) everything) }
+    {
+        match self.kind {
+            Kind::Full => None,
+            Kind::Lean => different_metrics(self, file),
+        }
+    }
+
+    // Returns the union with a cut that agrees with it in its tables and its map, or the first glyph in which
+    // it differs.
+    fn merged(self, alloc: A, file: Listed<'_, 'a, A>) -> Result<Union<'f, 'a, A>, JoinError>
+        requires form { IsCut (format_of self.kind) file }
+        requires early { (K : Content) → SpellsIn self.kind (content_in self) K →
+            early_difference K (content_of_all (format_of self.kind) file) ≡ None }
+        ensures { (K : Content) → SpellsIn self.entry.kind (content_in self.entry) K → MatchResult result
+            (IsGrown self.entry.kind file.entry K) (IsAddRefusal (format_of self.entry.kind) K file.entry) }
+    {
+        let metrics = self.other_metrics(&file);
+        let count = self.first.tables().glyph_count();
+        let mut outlines = self.outlines;
+        let other = outlines.take(&file, count);
+        if let Some(g) = least(metrics, other) {
+            return Err(JoinError::DifferentGlyph(g));
+        }
+        let hmtx = either_table(self.hmtx, file.copied(HMTX));
+        let vmtx = either_table(self.vmtx, file.copied(VMTX));
+        let runs = file.into_runs(alloc)?;
+        let map = self.map.with(alloc, runs)?;
+        Ok(Union {
+            kind: self.kind,
+            first: self.first,
+            map,
+            outlines,
+            hmtx,
+            vmtx,
+            blanks: self.blanks,
+        })
+    }
+
+    /// Returns the union of one cut of a kind.
     ///
     /// # Errors
     ///
     /// `NotACut` of the first, or `NoMemory`.
-    pub(crate) fn of_first(alloc: A, font: &'f Font<'a>) -> Result<Union<'f, 'a, A>, JoinError>
-        ensures { MatchResult result (λ union. Spells our_format (λ K. K) (content_in union)
-            (content_of_all our_format font.entry.now) × IsCut our_format font.entry.now)
-            (IsFormRefusal our_format First font.entry.now) }
+    pub(crate) fn of_first(
+        alloc: A,
+        kind: Kind,
+        font: &'f Font<'a>,
+    ) -> Result<Union<'f, 'a, A>, JoinError>
+        ensures { MatchResult result (λ union. (union.kind ≡ kind)
+            × SpellsIn kind (content_in union) (content_of_all (format_of kind) font.entry.now)
+            × IsCut (format_of kind) font.entry.now)
+            (IsFormRefusal (format_of kind) First font.entry.now) }
     {
-        recall_accepted(font);
-        let file = Listed::new(alloc, &*font)?;
-        if !file.is_cut() {
-            return Err(JoinError::NotACut(Which::First));
-        }
+        let file = Listed::new(alloc, kind, &*font, Which::First)?;
+        let hmtx = own_table(alloc, kind, file.copied(HMTX))?;
+        let vmtx = own_table(alloc, kind, file.copied(VMTX))?;
+        let blanks = Blanks::for_kind(alloc, kind, &file)?;
         let count = file.glyph_count();
         let mut outlines = Outlines::new(alloc, count)?;
         // There is nothing yet that its outlines could differ from.
         let _other = outlines.take(&file, count);
+        let runs = file.into_runs(alloc)?;
         Ok(Union {
+            kind,
             first: font,
-            map: UnionMap::of_runs(alloc, file.into_runs()),
+            map: UnionMap::of_runs(alloc, runs),
             outlines,
-        })
-    }
-}
-
-impl<'f, 'a, A: Allocator + Copy> Growing<'a, A> for Union<'f, 'a, A> {
-    ghost use Rattle.font_theory.specs.Cut.{our_format};
-    ghost use Rattle.font_join.specs.Kinds.{our_kind};
-
-    ghost format = { our_format };
-
-    ghost spelled = { λ K. K };
-
-    ghost kind = { our_kind };
-
-    fn add(self, alloc: A, font: &Font<'a>) -> Result<Union<'f, 'a, A>, JoinError>
-        ensures { (K : Content) → Spells our_format (λ L. L) (content_in self.entry) K → MatchResult result
-            (λ union. Spells our_format (λ L. L) (content_in union)
-            (both K (content_of_all our_format font.now))
-            × (add_fault our_format K font.now ≡ None)) (IsAddRefusal our_format K font.now) }
-    {
-        recall_accepted(font);
-        let file = Listed::new(alloc, font)?;
-        if let Some(error) = early_refusal(&self, &file) {
-            return Err(error);
-        }
-        let count = self.first.tables().glyph_count();
-        let mut outlines = self.outlines;
-        if let Some(g) = outlines.take(&file, count) {
-            return Err(JoinError::DifferentGlyph(g));
-        }
-        let map = self.map.with(alloc, file.into_runs())?;
-        Ok(Union {
-            first: self.first,
-            map,
-            outlines,
+            hmtx,
+            vmtx,
+            blanks,
         })
     }
 
-    fn settle(self, alloc: A) -> Result<Union<'f, 'a, A>, NoMemory>
-        ensures { IfOk result (λ union. content_in union ≡ content_in self.entry) }
+    /// Returns the union with one more file, but for its size.
+    ///
+    /// # Errors
+    ///
+    /// `NotACut` of the second, the first difference, or `NoMemory`.
+    pub(crate) fn add(self, alloc: A, font: &Font<'a>) -> Result<Union<'f, 'a, A>, JoinError>
+        ensures { (kind : Kind) (K : Content) → self.entry.kind ≡ kind → SpellsIn kind (content_in self.entry) K →
+            MatchResult result
+            (λ union. IsGrown kind font.now K union × (add_fault (format_of kind) K font.now ≡ None))
+            (IsAddRefusal (format_of kind) K font.now) }
+    {
+        let file = Listed::new(alloc, self.kind, font, Which::Second)?;
+        self.tested(alloc, &file)?;
+        self.merged(alloc, file)
+    }
+
+    /// Returns the same union, whose file is quick to write.
+    ///
+    /// # Errors
+    ///
+    /// `NoMemory` where memory is refused.
+    pub(crate) fn settle(self, alloc: A) -> Result<Union<'f, 'a, A>, NoMemory>
+        ensures kind { IfOk result (λ union. union.kind ≡ self.entry.kind) }
+        ensures content { IfOk result (λ union. content_in union ≡ content_in self.entry) }
     {
         Ok(Union {
+            kind: self.kind,
             first: self.first,
             map: self.map.settle(alloc)?,
             outlines: self.outlines,
+            hmtx: self.hmtx,
+            vmtx: self.vmtx,
+            blanks: self.blanks,
         })
     }
 
-    fn too_large(&self) -> Option<u64>
+    /// Returns the number of bytes of the union's file, where that is too large.
+    pub(crate) fn too_large(&self) -> Option<u64>
         ensures { MatchOption result (length (file current_layout (content_in self.now)) ≤ MAX_FILE)
             (IsTooLarge (file current_layout (content_in self.now))) }
     {

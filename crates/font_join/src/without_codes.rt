@@ -3,7 +3,7 @@
 ghost use Rattle.std.specs.Prelude.{◌≡◌, ◌+◌, ◌*◌, ◌≤◌, length, MatchOption};
 ghost use Rattle.sfnt_bytes.specs.declared.directory.TheConstants.{MAX_FILE};
 ghost use Rattle.map_union.specs.RunLists.{map_in};
-ghost use Rattle.font_subset.specs.Cut.{IsTooLarge};
+ghost use Rattle.font_write.specs.WholeFile.{IsTooLarge};
 ghost use Rattle.font_join.specs.Union.{listed_outline};
 ghost use Rattle.codes.specs.Runs.{groups_from};
 ghost use Rattle.font_theory.specs.Content.{glyph_count};
@@ -12,8 +12,7 @@ ghost use Rattle.font_write.specs.Parts.{glyf_to};
 
 use crate::outlines::Outlines;
 use font_map::Run;
-use font_subset::CURRENT;
-use font_write::{Counts, Source, counted_size, file_size};
+use font_write::{CURRENT, Counts, Source, counted_size, file_size};
 use map_union::UnionMap;
 use sfnt_bytes::MAX_FILE;
 use std::alloc::Allocator;

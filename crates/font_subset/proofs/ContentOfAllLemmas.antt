@@ -6,16 +6,17 @@ use Rattle.std.proofs.lemmas.Slice.Eq.{bytes_eq-Decides}
 use Rattle.std.proofs.lemmas.Bool.{false_from_ne_true}
 use Rattle.font_file.specs.Font.{font_fault}
 use Rattle.font_theory.specs.Content.{Content, content, everything, font_of}
-use Rattle.font_theory.specs.Cut.{IsCurrent, IsCut, IsOld, is_current, is_cut, is_old, our_format, content_of_all}
-use Rattle.font_theory.specs.declared.Profile.TheVariants.{First}
+use Rattle.font_theory.specs.Cut.{Format, IsCurrent, IsCut, IsOld, Writes, is_current, is_cut, is_old, our_format, content_of_all}
 use Rattle.font_theory.proofs.CutLemmas.{IsCut-cases, IsCut-current, IsCut-old, is_current-of, is_current-tells, is_cut-tells, is_old-of, is_old-tells, outline-whole}
-use Rattle.font_theory.proofs.LayoutLemmas.{layouts_apart, no_cut-both}
-use Rattle.font_subset.specs.Cut.{IsFormOf, cut_form_of}
+use Rattle.font_theory.proofs.LayoutLemmas.{no_cut-both}
+use Rattle.font_theory.specs.Kinds.{format_of}
+use Rattle.font_theory.specs.declared.kinds.Kind.{Kind}
+use Rattle.font_theory.proofs.KindLemmas.{kind_is}
+use Rattle.font_subset.specs.Cut.{IsFormOf, cut_form_of, form_in}
 use Rattle.font_subset.specs.Inside.{IsFileIn}
-use Rattle.font_subset.specs.declared.cut_forms.CutForm.{CutForm}
-use Rattle.font_subset.specs.declared.cut_forms.CutForm.TheVariants.{Current, Not, Old}
+use Rattle.font_subset.specs.declared.forms.CutForm.{CutForm}
+use Rattle.font_subset.specs.declared.forms.CutForm.TheVariants.{Current, Not, Old}
 use Rattle.font_theory.proofs.OurFormatLemmas.{our_format-is}
-use Rattle.font_theory.specs.File.{file, layout_of, current_layout}
 use Rattle.font_theory.proofs.FileWantedLemmas.{outline-file}
 use Rattle.font_tables.specs.Fields.{glyph_count_of}
 use Rattle.font_tables.specs.Outlines.{outline_of}
@@ -32,33 +33,30 @@ unfolding our_format
 our_format-whole X = refl
 
 -- the tests of both forms, of the files of the content
-is_current_is : (X : List ℕ) → is_current our_format X ≡ bytes_eq (file current_layout (content (font_of X) everything)) X
-unfolding is_current our_format
-is_current_is X = refl
+is_current_is : (R : Format) (X : List ℕ) → is_current R X ≡ bytes_eq (R.file (content_of_all R X)) X
+unfolding is_current
+is_current_is R X = refl
 
-is_old_is : (X : List ℕ) → is_old our_format X ≡ bytes_eq (file (layout_of First) (content (font_of X) everything)) X
-unfolding is_old our_format
-is_old_is X = refl
+is_old_is : (R : Format) (X : List ℕ) → is_old R X ≡ bytes_eq (R.old (content_of_all R X)) X
+unfolding is_old
+is_old_is R X = refl
 
-is_cut_is : (X : List ℕ) → is_cut our_format X ≡ (is_current our_format X || is_old our_format X)
+is_cut_is : (R : Format) (X : List ℕ) → is_cut R X ≡ (is_current R X || is_old R X)
 unfolding is_cut is_current is_old
-is_cut_is X = refl
+is_cut_is R X = refl
 
-passes : (file X : List ℕ) → X ≡ file → bytes_eq file X ≡ true
-passes file X e = (bytes_eq-Decides file X).1 (sym e)
+passes : (file X : List ℕ) → file ≡ X → bytes_eq file X ≡ true
+passes file X e = (bytes_eq-Decides file X).1 e
 
-fails : (file X : List ℕ) → (X ≡ file → ⊥) → bytes_eq file X ≡ false
-fails file X n = false_from_ne_true (bytes_eq file X) (λ t. n (sym ((bytes_eq-Decides file X).0 t)))
+fails : (file X : List ℕ) → (file ≡ X → ⊥) → bytes_eq file X ≡ false
+fails file X n = false_from_ne_true (bytes_eq file X) (λ t. n ((bytes_eq-Decides file X).0 t))
 
 -- the form of a file is that in which it is the file of its content
-pub form_by : (form : CutForm) (X : List ℕ) → IsFileIn (content (font_of X) everything) X form → form ≡ cut_form_of X
-unfolding cut_form_of
-form_by Current X h = rw (is_current_is X ∙ passes _ X h) refl
-form_by Old X h =
-    let K : Content = content (font_of X) everything in
-    let current : is_current our_format X ≡ false = is_current_is X ∙ fails (file current_layout K) X (λ e. layouts_apart K K (sym h ∙ e)) in
-    rw (current, is_old_is X ∙ passes _ X h) refl
-form_by Not X h = rw (is_current_is X ∙ fails _ X h.0, is_old_is X ∙ fails _ X h.1) refl
+pub form_by : (R : Format) (form : CutForm) (X : List ℕ) → IsFileIn R (content_of_all R X) X form → form ≡ form_in R X
+unfolding form_in
+form_by R Current X h = rw (is_current_is R X ∙ passes _ X h) refl
+form_by R Old X h = rw (is_current_is R X ∙ fails _ X h.0, is_old_is R X ∙ passes _ X h.1) refl
+form_by R Not X h = rw (is_current_is R X ∙ fails _ X h.0, is_old_is R X ∙ fails _ X h.1) refl
 
 -- what a form says of the tests
 abbrev pub is_current_form : CutForm → Bool
@@ -69,48 +67,55 @@ abbrev pub is_some_form : CutForm → Bool
 is_some_form Not = false
 is_some_form _ = true
 
-pub is_current_by : (form : CutForm) (X : List ℕ) → form ≡ cut_form_of X → is_current_form form ≡ is_current our_format X
-unfolding cut_form_of
-is_current_by form X e = ap is_current_form e ∙ go (is_current our_format X) (is_old our_format X)
-  where
-    go : (b c : Bool) → is_current_form (if b then Current else if c then Old else Not) ≡ b
-    go true c = refl
-    go false true = refl
-    go false false = refl
+-- a file in some form is written of the content
+pub writes_by : (R : Format) (K : Content) (X : List ℕ) (form : CutForm) → IsFileIn R K X form → IsTrue (is_some_form form) ↔ Writes R K X
+writes_by R K X Current h = (λ t. inl h, λ w. refl)
+writes_by R K X Old h = (λ t. inr h.1, λ w. refl)
+writes_by R K X Not h = (λ t. cc, λ w. absurd (elim w [ inl e ↦ h.0 e | inr e ↦ h.1 e ]))
 
-pub is_cut_by : (form : CutForm) (X : List ℕ) → form ≡ cut_form_of X → is_some_form form ≡ is_cut our_format X
-unfolding cut_form_of
-is_cut_by form X e = ap is_some_form e ∙ go (is_current our_format X) (is_old our_format X) ∙ sym (is_cut_is X)
-  where
-    go : (b c : Bool) → is_some_form (if b then Current else if c then Old else Not) ≡ (b || c)
-    go true c = refl
-    go false true = refl
-    go false false = refl
+module _ (R : Format) where
+  pub is_current_by : (form : CutForm) (X : List ℕ) → form ≡ form_in R X → is_current_form form ≡ is_current R X
+  unfolding form_in
+  is_current_by form X e = ap is_current_form e ∙ go (is_current R X) (is_old R X)
+    where
+      go : (b c : Bool) → is_current_form (if b then Current else if c then Old else Not) ≡ b
+      go true c = refl
+      go false true = refl
+      go false false = refl
 
-pub is_no_cut : (form : CutForm) (X : List ℕ) → form ≡ cut_form_of X → form ≡ Not → is_cut our_format X ≡ false
-is_no_cut form X e h = sym (is_cut_by form X e) ∙ ap is_some_form h
+  pub is_cut_by : (form : CutForm) (X : List ℕ) → form ≡ form_in R X → is_some_form form ≡ is_cut R X
+  unfolding form_in
+  is_cut_by form X e = ap is_some_form e ∙ go (is_current R X) (is_old R X) ∙ sym (is_cut_is R X)
+    where
+      go : (b c : Bool) → is_some_form (if b then Current else if c then Old else Not) ≡ (b || c)
+      go true c = refl
+      go false true = refl
+      go false false = refl
 
-pub is_some_cut : (form : CutForm) (X : List ℕ) → form ≡ cut_form_of X → (form ≡ Not → ⊥) → is_cut our_format X ≡ true
-is_some_cut form X e n = sym (is_cut_by form X e) ∙ go form n
-  where
-    go : (form : CutForm) → (form ≡ Not → ⊥) → is_some_form form ≡ true
-    go Not n = absurd (n refl)
-    go Old n = refl
-    go Current n = refl
+  pub is_no_cut : (form : CutForm) (X : List ℕ) → form ≡ form_in R X → form ≡ Not → is_cut R X ≡ false
+  is_no_cut form X e h = sym (is_cut_by form X e) ∙ ap is_some_form h
 
-pub is_now : (form : CutForm) (X : List ℕ) → form ≡ cut_form_of X → form ≡ Current → is_current our_format X ≡ true
-is_now form X e h = sym (is_current_by form X e) ∙ ap is_current_form h
+  pub is_some_cut : (form : CutForm) (X : List ℕ) → form ≡ form_in R X → (form ≡ Not → ⊥) → is_cut R X ≡ true
+  is_some_cut form X e n = sym (is_cut_by form X e) ∙ go form n
+    where
+      go : (form : CutForm) → (form ≡ Not → ⊥) → is_some_form form ≡ true
+      go Not n = absurd (n refl)
+      go Old n = refl
+      go Current n = refl
 
-pub is_not_now : (form : CutForm) (X : List ℕ) → form ≡ cut_form_of X → (form ≡ Current → ⊥) → is_current our_format X ≡ false
-is_not_now form X e n = sym (is_current_by form X e) ∙ go form n
-  where
-    go : (form : CutForm) → (form ≡ Current → ⊥) → is_current_form form ≡ false
-    go Current n = absurd (n refl)
-    go Not n = refl
-    go Old n = refl
+  pub is_now : (form : CutForm) (X : List ℕ) → form ≡ form_in R X → form ≡ Current → is_current R X ≡ true
+  is_now form X e h = sym (is_current_by form X e) ∙ ap is_current_form h
+
+  pub is_not_now : (form : CutForm) (X : List ℕ) → form ≡ form_in R X → (form ≡ Current → ⊥) → is_current R X ≡ false
+  is_not_now form X e n = sym (is_current_by form X e) ∙ go form n
+    where
+      go : (form : CutForm) → (form ≡ Current → ⊥) → is_current_form form ≡ false
+      go Current n = absurd (n refl)
+      go Not n = refl
+      go Old n = refl
 
 pub form_told : (form : CutForm) (X : List ℕ) → font_fault X ≡ None → form ≡ cut_form_of X → IsFormOf X form
-unfolding cut_form_of
+unfolding form_in
 form_told form X accepted e = go (is_current our_format X) (is_old our_format X) refl refl e
   where
     ok : our_format.fault X ≡ None
@@ -147,13 +152,13 @@ form_told form X accepted e = go (is_current our_format X) (is_old our_format X)
         both_false b f t = let n : false ≡ true = sym f ∙ t in cc
 
 -- in words
-pub is_current_in_words : (b : Bool) (X : List ℕ) → font_fault X ≡ None → b ≡ is_current our_format X → IsTrue b ↔ IsCurrent our_format X
-is_current_in_words b X accepted e =
-    let ok : our_format.fault X ≡ None = our_format-fault X ∙ accepted in
-    (λ t. is_current-tells our_format X ok (sym e ∙ t), λ is. e ∙ is_current-of our_format X is)
+pub is_current_in_words : (kind : Kind) (b : Bool) (X : List ℕ) → font_fault X ≡ None → b ≡ is_current (format_of kind) X → IsTrue b ↔ IsCurrent (format_of kind) X
+is_current_in_words kind b X accepted e =
+    let R : Format = format_of kind in
+    (λ t. is_current-tells R X ((kind_is kind).fault X ∙ accepted) (sym e ∙ t), λ is. e ∙ is_current-of R X is)
 
-pub is_cut_tells : (b : Bool) (X : List ℕ) → font_fault X ≡ None → b ≡ is_cut our_format X → IsTrue b → IsCut our_format X
-is_cut_tells b X accepted e t = is_cut-tells our_format our_format-is X (our_format-fault X ∙ accepted) (sym e ∙ t)
+pub is_cut_tells : (kind : Kind) (b : Bool) (X : List ℕ) → font_fault X ≡ None → b ≡ is_cut (format_of kind) X → IsTrue b → IsCut (format_of kind) X
+is_cut_tells kind b X accepted e t = is_cut-tells (format_of kind) (kind_is kind).law X ((kind_is kind).fault X ∙ accepted) (sym e ∙ t)
 
 -- an outline that is kept is one of the font, and in a file in cut form has its zeros
 module _ (file : List ℕ) (marks : List Bool) (kept : IsKeptSet file everything marks) where

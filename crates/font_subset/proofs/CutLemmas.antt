@@ -1,5 +1,6 @@
 -- What a cut that was made holds of its font.
-use Rattle.std.proofs.Common.{◌≡◌, ℕ, ◌≤◌, ◌&&◌, Bool, List, length, None, inl, refl, sym, ◌∙◌, ap}
+use Rattle.std.proofs.Common.{◌≡◌, ℕ, ◌≤◌, ◌&&◌, Bool, List, length, Option, None, Some, Result, Ok, Err, MatchResult, inl, refl, sym, subst, ◌∙◌, ap}
+use Rattle.std.specs.Result.{IsErrAnd}
 use Rattle.sfnt_bytes.specs.Findings.{findings_of}
 use Rattle.sfnt_bytes.specs.declared.directory.TheConstants.{MAX_FILE}
 use Rattle.font_file.specs.Font.{font_fault}
@@ -14,7 +15,37 @@ use Rattle.font_theory.proofs.FindingLemmas.{findings_of-file}
 use Rattle.font_theory.proofs.FontLemmas.{IsFont-accepted, metric_of-same}
 use Rattle.font_theory.proofs.OurFormatLemmas.{our_format-is}
 use Rattle.font_theory.proofs.WritableLemmas.{IsWritable-closed}
-use Rattle.font_subset.specs.Cut.{IsSound, IsWritten, cut_of}
+use Rattle.codes.specs.Wanted.{member}
+use Rattle.codes.specs.declared.code_range.CodeRange.{CodeRange}
+use Rattle.font_theory.specs.declared.kinds.Kind.{Kind}
+use Rattle.font_theory.specs.declared.kinds.Kind.TheVariants.{Full, Lean}
+use Rattle.font_theory.proofs.KindLemmas.{kind_is}
+use Rattle.font_subset.specs.Content.{written_of}
+use Rattle.font_subset.specs.Kinds.{IsSoundIn, cut_in}
+use Rattle.font_subset.proofs.KindSourceLemmas.{Held}
+use Rattle.font_subset.proofs.LeanCutLemmas.{lean_sound}
+use Rattle.font_subset.specs.Cut.{IsCutRefusal, IsSound, IsWritten, StopsCut, cut_of}
+use Rattle.font_subset.specs.Inside.{of_file_error, of_send_error}
+use Rattle.font_write.specs.WholeFile.{IsFileRefusal, StopsFile}
+use Rattle.font_write.specs.declared.whole_file.FileError.{FileError}
+use Rattle.font_write.specs.declared.whole_file.FileError.TheVariants as file_errors
+use Rattle.font_write.specs.declared.whole_file.SendError.{SendError}
+use Rattle.font_write.specs.declared.whole_file.SendError.TheVariants as send_errors
+use Rattle.streams.specs.declared.outlet.Outlet.{Outlet}
+
+-- an error that a `?` passes on
+pub passed_on : {T E : Type 0} (P : T → Type 0) (Q : E → Type 0) (r : Result T E) (error : E) → IsErrAnd r (λ e. e ≡ error) → Q error → MatchResult r P Q
+passed_on P Q (Ok x) error is h = absurd is
+passed_on P Q (Err e) error is h = subst Q (sym is) h
+
+-- why there is no cut, in the words of its file
+pub file_refused : (whole : List ℕ) (error : FileError) → IsFileRefusal whole error → IsCutRefusal whole (of_file_error error)
+file_refused whole file_errors.NoMemory h = tt
+file_refused whole (file_errors.TooLarge size) h = h
+
+pub send_stopped : {W : Type 0} (contents : W → Option (List ℕ)) (old new : Outlet W) (whole : List ℕ) (error : SendError) → StopsFile contents old new whole error → StopsCut contents old new whole (of_send_error error)
+send_stopped contents old new whole (send_errors.TooLarge size) h = h
+send_stopped contents old new whole (send_errors.WriteFault written) h = h
 
 -- the cut of an accepted file is the file of its content
 pub cut_of_is : (file_bytes : List ℕ) (wanted : ℕ → Bool) → cut_of file_bytes wanted ≡ file current_layout (content (font_of file_bytes) wanted)
@@ -50,3 +81,12 @@ is_sound font made wanted accepted written =
       cut_form = cuts.0;
       cuts = cuts.1;
     }
+
+-- the cut of a kind is the file of what is written of it
+pub cut_in_is : (kind : Kind) (font : List ℕ) (ranges : List CodeRange) (held : Held) → held ≡ (kind, (font, Some ranges)) → file current_layout (written_of held.0 held.1) ≡ cut_in kind font (member ranges)
+unfolding written_of
+cut_in_is kind font ranges held same = ap (λ (v : Held). file current_layout (written_of v.0 v.1)) same ∙ sym ((kind_is kind).writes _)
+
+pub is_sound_in : (kind : Kind) (font made : List ℕ) (wanted : ℕ → Bool) → font_fault font ≡ None → IsWritten (cut_in kind font wanted) made → IsSoundIn kind font wanted made
+is_sound_in Full = is_sound
+is_sound_in Lean = lean_sound

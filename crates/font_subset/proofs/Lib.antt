@@ -1,7 +1,8 @@
 pub mod CutLemmas
 pub mod FontLemmas
+pub mod FormLemmas
+pub mod KindSourceLemmas
 pub mod LeanCutLemmas
-pub mod LeanSourceLemmas
 pub mod LeanTableLemmas
 pub mod SeedLemmas
 pub mod SourceLemmas

@@ -1,11 +1,11 @@
 -- Marks of .notdef and of the glyphs of codes.
-use Rattle.std.proofs.Common.{◌≡◌, ℕ, zero, suc, ◌+◌, ◌-◌, ◌<◌, ◌≤◌, ◌↔◌, inl, inr, Bool, true, ◌||◌, nat_eq, List, [], ◌∷◌, length, None, refl, sym, ◌∙◌, subst, arith}
+use Rattle.std.proofs.Common.{◌≡◌, ℕ, zero, ◌+◌, ◌-◌, ◌<◌, ◌≤◌, ◌↔◌, inl, inr, Bool, true, ◌||◌, nat_eq, List, length, None, refl, sym, ◌∙◌, subst, arith}
 use mathlib.Core.Path.{fun_ext}
 use Rattle.std.proofs.lemmas.Bool.{cases_eq, cases_lt, eq-eqb, eqb-true, or_cases, or_left, or_right}
 use Rattle.std.specs.Cmp.{both_ways}
 use Rattle.font_glyph.specs.Marks.{has}
 use Rattle.codes.specs.CharacterMap.{IsCharacterMap, restricted}
-use Rattle.codes.specs.Runs.{AreRuns, IsRun, NoRun, spelled}
+use Rattle.codes.specs.Runs.{IsRun, NoRun}
 use Rattle.codes.specs.declared.runs.Run.{Run}
 use Rattle.font_glyph.specs.Reach.{Reach}
 use Rattle.font_theory.specs.Content.{CODES, everything, font_of, is_kept, is_seed}
@@ -19,8 +19,6 @@ use Rattle.font_theory.proofs.SpellingLemmas.{codes_are}
 use Rattle.font_theory.proofs.WantedLemmas.{restricted-cases}
 use Rattle.font_subset.specs.Content.{IsKeptSet}
 use Rattle.font_subset.specs.Inside.{AreMarked, AreSeedsTo, IsSeedSet}
-use Rattle.map_union.specs.Inside.{run_at}
-use Rattle.font_subset.specs.ListedRuns.{AreRunsOf}
 
 pub marked_start : (old : List Bool) (low : ℕ) → AreMarked old old low (low - low)
 marked_start old low =
@@ -126,26 +124,6 @@ kept_marked file wanted seeds marks accepted is count reached =
           (λ h. (reached g).1 (subst (λ (s : ℕ → Bool). Reach (outline_of file) s g) (sym same) (decided.0 h)));
     }
 
--- the code after the first k runs
-abbrev pub behind_runs : ℕ → List Run → ℕ → ℕ
-behind_runs low runs zero = low
-behind_runs low [] (suc k) = low
-behind_runs low (run ∷ runs) (suc k) = behind_runs (run.last + 1) runs k
-
-nth_run : (m : ℕ → ℕ) (low : ℕ) (runs : List Run) → AreRuns m low runs → (k : ℕ) → k < length runs → IsRun m (behind_runs low runs k) (run_at runs k)
-nth_run m low [] h k lt = absurd (omega (arith, lt))
-nth_run m low (r ∷ rs) h zero lt = h.0
-nth_run m low (r ∷ rs) h (suc k) lt = nth_run m (r.last + 1) rs h.1 k (omega (arith, lt))
-
-behind_next : (low : ℕ) (runs : List Run) (k : ℕ) → k < length runs → behind_runs low runs (suc k) ≡ (run_at runs k).last + 1
-behind_next low [] k lt = absurd (omega (arith, lt))
-behind_next low (r ∷ rs) zero lt = refl
-behind_next low (r ∷ rs) (suc k) lt = behind_next (r.last + 1) rs k (omega (arith, lt))
-
-no_run : (m : ℕ → ℕ) (low : ℕ) (runs : List Run) → AreRuns m low runs → NoRun m (behind_runs low runs (length runs))
-no_run m low [] h = h
-no_run m low (r ∷ rs) h = no_run m (r.last + 1) rs h.1
-
 -- the map of an accepted file is a character map
 pub whole_map : (file : List ℕ) (count : ℕ) → font_fault file ≡ None → count ≡ glyph_count_of file → count < 65536 → IsCharacterMap (restricted everything (map_of file))
 whole_map file count accepted is small =
@@ -153,28 +131,3 @@ whole_map file count accepted is small =
       codes = λ c past. wanted_past file everything accepted c (subst (λ (n : ℕ). n ≤ c) (sym codes_are) past);
       glyphs = λ c. omega (arith, wanted_below file everything accepted c, is, small);
     }
-
--- the runs of a file
-module _ (file : List ℕ) (runs : List Run) (accepted : font_fault file ≡ None) (are : AreRunsOf file runs) where
-  abbrev whole : ℕ → ℕ
-  whole = restricted everything (map_of file)
-
-  whole_is : spelled runs ≡ whole
-  whole_is = are.spelled_map
-
-  runs_are_whole : AreRuns whole 0 runs
-  runs_are_whole = subst (λ (m : ℕ → ℕ). AreRuns m 0 runs) whole_is are.of_map.are
-
-  pub listed_run : (k : ℕ) → k < length runs → IsRun whole (behind_runs 0 runs k) (run_at runs k)
-  listed_run k lt = nth_run whole 0 runs runs_are_whole k lt
-
-  pub listed_within : (k : ℕ) → k < length runs → (run_at runs k).glyph + ((run_at runs k).last - (run_at runs k).first) < glyph_count_of file
-  listed_within k lt = run_within file everything (behind_runs 0 runs k) (run_at runs k) accepted (listed_run k lt)
-
-  pub seeds_listed : (k : ℕ) (old new : List Bool) → k < length runs → AreSeedsTo whole (behind_runs 0 runs k) old → AreMarked old new (run_at runs k).glyph ((run_at runs k).last - (run_at runs k).first + 1) → AreSeedsTo whole (behind_runs 0 runs (suc k)) new
-  seeds_listed k old new lt before more =
-      subst (λ (c : ℕ). AreSeedsTo whole c new) (sym (behind_next 0 runs k lt)) (seeds_more whole (behind_runs 0 runs k) (run_at runs k) old new (listed_run k lt) before more)
-
-  pub seeds_all : (marks : List Bool) → length marks ≡ glyph_count_of file → AreSeedsTo whole (behind_runs 0 runs (length runs)) marks → IsSeedSet file everything marks
-  seeds_all marks count before =
-      record { count = count; seeds = seeds_end whole (behind_runs 0 runs (length runs)) marks (wanted_past file everything accepted) (no_run whole 0 runs runs_are_whole) before }

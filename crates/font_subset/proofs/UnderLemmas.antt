@@ -8,16 +8,17 @@ use Rattle.codes.specs.Runs.{IsRun, NoRun}
 use Rattle.codes.specs.Wanted.{codes_between, either, no_codes}
 use Rattle.codes.specs.declared.runs.Run.{Run}
 use Rattle.font_file.specs.Font.{font_fault, map_of}
-use Rattle.font_theory.specs.Content.{Content, Font, content, font_of}
+use Rattle.font_theory.specs.Content.{Content, Font, content}
 use Rattle.font_theory.specs.Cut.{Format, IsFormat, Under, Writes, codes_of, our_format}
-use Rattle.font_theory.specs.File.{current_layout, file, layout_of}
-use Rattle.font_theory.specs.declared.Profile.TheVariants.{First}
+use Rattle.font_theory.specs.Kinds.{format_of}
+use Rattle.font_theory.specs.Lean.{lean_format}
+use Rattle.font_theory.specs.declared.kinds.Kind.{Kind}
+use Rattle.font_theory.specs.declared.kinds.Kind.TheVariants.{Full, Lean}
 use Rattle.font_theory.proofs.ContentLemmas.{content-mapped}
 use Rattle.font_theory.proofs.CutLemmas.{codes_of-accepted, font-cut}
-use Rattle.font_theory.proofs.OurFormatLemmas.{our_format-is}
-use Rattle.font_subset.specs.Cut.{IsCutForSome, IsCutOf}
-use Rattle.font_subset.specs.Inside.{AreMappedTo, IsFileIn}
-use Rattle.font_subset.specs.declared.cut_forms.CutForm.TheVariants.{Not}
+use Rattle.font_theory.proofs.KindLemmas.{kind_is}
+use Rattle.font_subset.specs.Inside.{AreMappedTo}
+use Rattle.font_subset.specs.Kinds.{IsCutIn}
 
 -- on one code: its glyph, and whether it is in the set
 beside : (x from first last c : ℕ) (b : Bool) → from ≤ first → first ≤ last → b ≡ (nat_lt c from && nat_lt 0 x)
@@ -57,24 +58,6 @@ mapped_end m from w none are = fun_ext (λ c. are c ∙ go c)
           | inr high ↦ let z : m c ≡ 0 = none c high in grind (arith, nat_tests)
         ]
 
--- a file is that of a content in a form, or in none
-pub written_now : (K : Content) (X : List ℕ) → X ≡ file current_layout K → Writes our_format K X
-unfolding our_format
-written_now K X e = inl (sym e)
-
-pub written_before : (K : Content) (X : List ℕ) → X ≡ file (layout_of First) K → Writes our_format K X
-unfolding our_format
-written_before K X e = inr (sym e)
-
-pub not_written : (K : Content) (X : List ℕ) → IsFileIn K X Not → Writes our_format K X → ⊥
-unfolding our_format
-not_written K X h w = elim w [ inl x ↦ h.0 (sym x) | inr x ↦ h.1 (sym x) ]
-
--- the same where it is a cut
-pub content_ours : (font made : List ℕ) (wanted : ℕ → Bool) (b : Bool) → IsTrue b ↔ Writes our_format (content (font_of font) wanted) made → IsTrue b ↔ IsCutOf font wanted made
-unfolding our_format
-content_ours font made wanted b h = h
-
 -- a cut for some codes is the cut for those that it maps
 module _ (R : Format) (law : IsFormat R) where
   same_mapped : (a : Bool) (g : ℕ) → g ≢ 0 → a ≡ nat_lt 0 (cond a g 0)
@@ -94,20 +77,31 @@ module _ (R : Format) (law : IsFormat R) where
       same c some = same_mapped (A c) ((R.font F).map c) some ∙ sym (read c)
 
 -- in words
-codes_of-ours : (file : List ℕ) → font_fault file ≡ None → codes_of our_format file ≡ is_mapped (map_of file)
-unfolding our_format
-codes_of-ours file accepted = codes_of-accepted our_format our_format-is file accepted
+codes_of_kind : (kind : Kind) (file : List ℕ) → font_fault file ≡ None → codes_of (format_of kind) file ≡ is_mapped (map_of file)
+unfolding our_format lean_format
+codes_of_kind Full file accepted = codes_of-accepted our_format (kind_is Full).law file accepted
+codes_of_kind Lean file accepted = codes_of-accepted lean_format (kind_is Lean).law file accepted
 
-module _ (b : Bool) (made font : List ℕ) (ok : font_fault made ≡ None) (accepted : font_fault font ≡ None)
-    (is : IsTrue b ↔ IsCutOf font (is_mapped (map_of made)) made) where
-  pub is_under : IsTrue b ↔ Under our_format made font
-  unfolding our_format
+-- a lean cut has one form
+for_some : (kind : Kind) (made font : List ℕ) → ((wanted : ℕ → Bool) × Writes (format_of kind) (content ((format_of kind).font font) wanted) made) ↔ IsCutIn kind font made
+unfolding lean_format
+for_some Full made font = (λ w. w, λ w. w)
+for_some Lean made font = (λ w. (w.0, elim w.1 [ inl e ↦ sym e | inr e ↦ sym e ]), λ w. (w.0, inl (sym w.1)))
+
+module _ (kind : Kind) (b : Bool) (made font : List ℕ) (ok : font_fault made ≡ None) (accepted : font_fault font ≡ None)
+    (is : IsTrue b ↔ Writes (format_of kind) (content ((format_of kind).font font) (is_mapped (map_of made))) made) where
+  abbrev R : Format
+  R = format_of kind
+
+  pub is_under : IsTrue b ↔ Under R made font
   is_under =
-      let e = codes_of-ours made ok in (
-        λ t. record { accepted = accepted; written = subst (λ (v : ℕ → Bool). IsCutOf font v made) (sym e) (is.0 t) },
-        λ u. is.1 (subst (λ (v : ℕ → Bool). IsCutOf font v made) e u.written),
+      let e = codes_of_kind kind made ok in (
+        λ t. record { accepted = (kind_is kind).fault font ∙ accepted; written = subst (λ (v : ℕ → Bool). Writes R (content (R.font font) v) made) (sym e) (is.0 t) },
+        λ u. is.1 (subst (λ (v : ℕ → Bool). Writes R (content (R.font font) v) made) e u.written),
       )
 
-  pub is_cut_for_some : IsTrue b ↔ IsCutForSome font made
-  unfolding our_format
-  is_cut_for_some = (λ t. (is_mapped (map_of made), is.0 t), λ w. is_under.1 (Under-cut our_format our_format-is made font w.0 ok accepted w.1))
+  pub is_cut_for_some : IsTrue b ↔ IsCutIn kind font made
+  is_cut_for_some = (
+    λ t. (for_some kind made font).0 (is_mapped (map_of made), is.0 t),
+    λ w. (let v = (for_some kind made font).1 w in is_under.1 (Under-cut R (kind_is kind).law made font v.0 ((kind_is kind).fault made ∙ ok) ((kind_is kind).fault font ∙ accepted) v.1)),
+  )

@@ -1,5 +1,5 @@
 -- What a cut holds of its font, and what is answered where none is made, this project's own.
-use Rattle.std.specs.Prelude.{◌≡◌, ℕ, ◌<◌, ◌≤◌, ◌↔◌, Bool, true, false, nat_eq, ◌&&◌, if◌then◌else◌, List, [], length, take, Option, None}
+use Rattle.std.specs.Prelude.{◌≡◌, ℕ, ◌≤◌, ◌↔◌, Bool, true, false, nat_eq, ◌&&◌, if◌then◌else◌, List, [], length, take, Option, None}
 use Rattle.sfnt_bytes.specs.Findings.{findings_of}
 use Rattle.sfnt_bytes.specs.declared.directory.TheConstants.{MAX_FILE}
 use Rattle.font_tables.specs.Metrics.{metric_of}
@@ -8,14 +8,15 @@ use Rattle.font_glyph.specs.Reach.{Reach}
 use Rattle.font_file.specs.Font.{font_fault, map_of}
 use Rattle.font_theory.specs.Bytes.{padded}
 use Rattle.font_theory.specs.Content.{content}
-use Rattle.font_theory.specs.Cut.{IsCurrent, IsCut, IsOld, Writes, cut, is_current, is_old, our_format}
+use Rattle.font_theory.specs.Cut.{Format, IsCurrent, IsCut, IsOld, Writes, cut, is_current, is_old, our_format}
 use Rattle.streams.specs.Outlet.{WentOut, broken_of, written_of}
+pub use Rattle.font_write.specs.WholeFile.{IsTooLarge, IsWritten}
 use Rattle.font_subset.specs.declared.cut_font.CutError.{CutError}
 use Rattle.font_subset.specs.declared.cut_font.CutError.TheVariants as cut_errors
 use Rattle.font_subset.specs.declared.cut_font.CutIntoError.{CutIntoError}
 use Rattle.font_subset.specs.declared.cut_font.CutIntoError.TheVariants as into_errors
-use Rattle.font_subset.specs.declared.cut_forms.CutForm.{CutForm}
-use Rattle.font_subset.specs.declared.cut_forms.CutForm.TheVariants.{Current, Not, Old}
+use Rattle.font_subset.specs.declared.forms.CutForm.{CutForm}
+use Rattle.font_subset.specs.declared.forms.CutForm.TheVariants.{Current, Not, Old}
 use Rattle.streams.specs.declared.outlet.Outlet.{Outlet}
 
 -- the cut of a file for the wanted codes
@@ -23,8 +24,11 @@ abbrev pub cut_of : List ℕ → (ℕ → Bool) → List ℕ
 cut_of file wanted = cut our_format file wanted
 
 -- the form in which an accepted file is its own cut for all codes
-unfoldable pub cut_form_of : List ℕ → CutForm
-cut_form_of file = if is_current our_format file then Current else if is_old our_format file then Old else Not
+unfoldable pub form_in : Format → List ℕ → CutForm
+form_in R file = if is_current R file then Current else if is_old R file then Old else Not
+
+abbrev pub cut_form_of : List ℕ → CutForm
+cut_form_of file = form_in our_format file
 
 -- a form says whether an accepted file is current, or an old cut, or neither
 pub record IsFormOf (file : List ℕ) (form : CutForm) : Type 0 where
@@ -39,15 +43,6 @@ IsCutOf file wanted made = Writes our_format (content (our_format.font file) wan
 -- a file is a cut of another for some codes, in some form
 abbrev pub IsCutForSome : List ℕ → List ℕ → Type 0
 IsCutForSome file made = (wanted : ℕ → Bool) × IsCutOf file wanted made
-
--- a size is that of the cut, and too large
-abbrev pub IsTooLarge : List ℕ → ℕ → Type 0
-IsTooLarge cut size = (size ≡ length cut) × (MAX_FILE < size)
-
--- the bytes are those of a file that is not too large
-pub record IsWritten (file bytes : List ℕ) : Type 0 where
-  pub is : bytes ≡ file
-  pub small : length bytes ≤ MAX_FILE
 
 -- why there is no cut in memory: memory is refused, or the cut is too large
 abbrev pub IsCutRefusal : List ℕ → CutError → Type 0

@@ -1,21 +1,26 @@
 -- Words of proofs, and of contracts of calls that `font_cut` does not pass on.
-use Rattle.font_subset.specs.declared.cut_forms.CutForm.{CutForm}
-use Rattle.font_subset.specs.declared.cut_forms.CutForm.TheVariants.{Current, Not, Old}
+use Rattle.font_subset.specs.declared.forms.CutForm.{CutForm}
+use Rattle.font_subset.specs.declared.forms.CutForm.TheVariants.{Current, Not, Old}
 use Rattle.font_file.specs.Font.{map_of}
 use Rattle.font_glyph.specs.Marks.{has}
 use Rattle.codes.specs.CharacterMap.{is_mapped, restricted}
 use Rattle.font_tables.specs.Fields.{glyph_count_of}
 use Rattle.font_theory.specs.Content.{is_seed, Content, font_of}
-use Rattle.font_theory.specs.File.{file, layout_of, current_layout, current_profile}
-use Rattle.font_theory.specs.declared.Profile.TheVariants as profiles
-use Rattle.font_write.specs.Plan.{IsPlan, IsSize}
-use Rattle.font_write.specs.declared.plan.Plan.{Plan}
-use Rattle.font_write.specs.declared.size.Size.{Size}
+use Rattle.font_theory.specs.Cut.{Format}
+use Rattle.font_theory.specs.declared.kinds.Kind.{Kind}
+use Rattle.font_write.specs.declared.whole_file.FileError.{FileError}
+use Rattle.font_write.specs.declared.whole_file.FileError.TheVariants as file_errors
+use Rattle.font_write.specs.declared.whole_file.SendError.{SendError}
+use Rattle.font_write.specs.declared.whole_file.SendError.TheVariants as send_errors
+use Rattle.font_subset.specs.declared.cut_font.CutError.{CutError}
+use Rattle.font_subset.specs.declared.cut_font.CutError.TheVariants as cut_errors
+use Rattle.font_subset.specs.declared.cut_font.CutIntoError.{CutIntoError}
+use Rattle.font_subset.specs.declared.cut_font.CutIntoError.TheVariants as into_errors
 use Rattle.sfnt_bytes.specs.declared.directory.TheConstants.{MAX_FILE}
 use Rattle.std.specs.Prelude.{◌≡◌, ◌≢◌, ℕ, ◌+◌, ◌<◌, ◌≤◌, ◌⊎◌, ◌↔◌, nat_lt, ◌&&◌, Bool, true, List, [], length, slice_index, Option, unwrap_or}
 use Rattle.std.specs.Option.{option_or}
-use Rattle.codes.specs.declared.ranges.Range.{Range}
-use Rattle.font_subset.specs.Content.{lean_content}
+use Rattle.codes.specs.declared.code_range.CodeRange.{CodeRange}
+use Rattle.font_subset.specs.Content.{written_of}
 
 -- the n glyphs from a given one on are marked, beside those that were
 pub record AreMarked (old new : List Bool) (low n : ℕ) : Type 0 where
@@ -38,22 +43,19 @@ abbrev pub AreMappedTo : (ℕ → ℕ) → ℕ → (ℕ → Bool) → Type 0
 AreMappedTo m from w = (c : ℕ) → w c ≡ (nat_lt c from && is_mapped m c)
 
 -- a file is that of a content as it is written, or as it was written before, or neither
-abbrev pub IsFileIn : Content → List ℕ → CutForm → Type 0
-IsFileIn K X Current = X ≡ file current_layout K
-IsFileIn K X Old = X ≡ file (layout_of profiles.First) K
-IsFileIn K X Not = (X ≢ file current_layout K) × (X ≢ file (layout_of profiles.First) K)
+abbrev pub IsFileIn : Format → Content → List ℕ → CutForm → Type 0
+IsFileIn R K X Current = R.file K ≡ X
+IsFileIn R K X Old = (R.file K ≢ X) × (R.old K ≡ X)
+IsFileIn R K X Not = (R.file K ≢ X) × (R.old K ≢ X)
 
--- the file of a content is counted, and not too large
-pub record IsFileSize (K : Content) (size : Size) : Type 0 where
-  pub counted : IsSize current_layout K size
-  pub small : size.bytes ≤ MAX_FILE
+-- why there is no cut, where its file is not in memory, and where it is not sent
+abbrev pub of_file_error : FileError → CutError
+of_file_error file_errors.NoMemory = cut_errors.NoMemory
+of_file_error (file_errors.TooLarge size) = cut_errors.TooLarge size
 
--- the plan of the file of a content, and its length, which is not too large
-pub record IsMeasured (K : Content) (measured : Plan × ℕ) : Type 0 where
-  pub plan : IsPlan K measured.0
-  pub profile : measured.0.profile ≡ current_profile
-  pub size : measured.1 ≡ length (file current_layout K)
-  pub small : length (file current_layout K) ≤ MAX_FILE
+abbrev pub of_send_error : SendError → CutIntoError
+of_send_error (send_errors.TooLarge size) = into_errors.TooLarge size
+of_send_error (send_errors.WriteFault written) = into_errors.WriteFault written
 
 -- the bytes of a table at a place, and from there on, are copied to the same place of another
 pub record AreCopied (from : List ℕ) (at size : ℕ) (old new : List ℕ) : Type 0 where
@@ -61,8 +63,8 @@ pub record AreCopied (from : List ℕ) (at size : ℕ) (old new : List ℕ) : Ty
   pub inside : (j : ℕ) → at ≤ j → j < at + size → slice_index new j ≡ slice_index from j
   pub outside : (j : ℕ) → (j < at) ⊎ (at + size ≤ j) → slice_index new j ≡ slice_index old j
 
--- the table of a slot that a lean cut has anew, or none where it has that of the font
-pub record IsMadeTable (cut : List ℕ × Option (List Range)) (slot : ℕ) (table : Option (List ℕ))
-    : Type 0 where
-  pub is : option_or table ((font_of cut.0).copied slot) ≡ (lean_content cut).copied slot
+-- the table of a slot that a cut of a kind has anew, or none where it has that of the font
+pub record IsMadeTable (kind : Kind) (cut : List ℕ × Option (List CodeRange)) (slot : ℕ)
+    (table : Option (List ℕ)) : Type 0 where
+  pub is : option_or table ((font_of cut.0).copied slot) ≡ (written_of kind cut).copied slot
   pub small : length (unwrap_or table []) ≤ MAX_FILE

@@ -22,7 +22,7 @@ IsLeanCutForSome file made = (wanted : ℕ → Bool) × (made ≡ lean_cut_of fi
 -- a lean cut is accepted, has no finding, maps the wanted codes as the font does and no others, keeps the
 -- outlines of what their glyphs lead to, up to zeros after them, and has the metrics of each glyph that it
 -- keeps, and of `vmtx` what is of that glyph alone; it is in lean cut form, and so in cut form; it is no
--- longer than the ordinary cut; and its lean cuts are the font's, for the codes in both sets
+-- longer than the full cut; and its lean cuts are the font's, for the codes in both sets
 pub record IsLeanSound (file : List ℕ) (wanted : ℕ → Bool) (made : List ℕ) : Type 0 where
   pub accepted : font_fault made ≡ None
   pub clean : findings_of made ≡ []

@@ -4,15 +4,19 @@ ghost use Rattle.std.specs.Prelude.{◌≡◌, ◌≤◌, length, false, true, I
 ghost use Rattle.sfnt_bytes.specs.declared.directory.TheConstants.{MAX_FILE};
 ghost use Rattle.codes.specs.Wanted.{member};
 ghost use Rattle.font_subset.specs.Cut.{IsCutRefusal, IsSound, IsWritten, StopsCut, cut_of};
+ghost use Rattle.font_subset.specs.Inside.{of_file_error, of_send_error};
+ghost use Rattle.font_subset.specs.Kinds.{IsSoundIn, cut_in};
 ghost use Rattle.streams.specs.Outlet.{HasSent, WentOut, broken_of, fresh_of, writer_of};
 ghost use Rattle.font_subset.specs.declared.cut_font.CutError.TheVariants.{NoMemory as CutNoMemory};
 ghost use Rattle.font_subset.specs.declared.cut_font.CutIntoError.TheVariants.{NoMemory as IntoNoMemory};
 ghost use Rattle.font_subset.specs.Text.{cut_error_number, cut_into_error_number};
 
-use crate::cut_source::{CutOf, recall_accepted};
-use crate::emit::{file_in_memory, send_whole};
+use crate::cut_source::recall_accepted;
+use crate::kind_source::CutOfKind;
 use font_file::Font;
 use font_map::Wanted;
+use font_theory::Kind;
+use font_write::{FileError, SendError, file_in_memory, send_whole};
 use sfnt_bytes::{NoMemory, numbers};
 use std::alloc::Allocator;
 use std::io::Write;
@@ -85,18 +89,72 @@ impl From<NoMemory> for CutIntoError {
     }
 }
 
-// Returns the cut, or the refusal that applies.
-#[tactic(auto, using(crate::proofs::CutLemmas::cut_of_is))]
+impl From<FileError> for CutError {
+    ghost from_gives = { λ held error. error ≡ of_file_error held };
+
+    fn from(error: FileError) -> CutError {
+        match error {
+            FileError::NoMemory => CutError::NoMemory,
+            FileError::TooLarge(size) => CutError::TooLarge(size),
+        }
+    }
+}
+
+impl From<SendError> for CutIntoError {
+    ghost from_gives = { λ held error. error ≡ of_send_error held };
+
+    fn from(error: SendError) -> CutIntoError {
+        match error {
+            SendError::TooLarge(size) => CutIntoError::TooLarge(size),
+            SendError::WriteFault(written) => CutIntoError::WriteFault(written),
+        }
+    }
+}
+
+// Returns the cut of a kind, or the refusal that applies.
 fn cut_exactly<A: Allocator + Copy>(
     alloc: A,
+    kind: Kind,
     font: &Font<'_>,
     wanted: &Wanted<A>,
 ) -> Result<Vec<u8, A>, CutError>
-    ensures { MatchResult result (λ v. IsWritten (cut_of font.now (member wanted.now)) v.items)
-        (IsCutRefusal (cut_of font.now (member wanted.now))) }
+    ensures { MatchResult result (λ v. IsWritten (cut_in kind font.now (member wanted.now)) v.items)
+        (IsCutRefusal (cut_in kind font.now (member wanted.now))) }
 {
-    let source = CutOf::new(alloc, font, wanted)?;
-    file_in_memory(alloc, &source)
+    let source = CutOfKind::new(alloc, kind, font, wanted)?;
+    Ok(file_in_memory(alloc, &source)?)
+}
+
+/// Returns the cut of a font for the wanted codes, of a kind, as one file in a vector of just its size. Every
+/// glyph keeps its number.
+///
+/// # Errors
+///
+/// Those of [`cut`].
+///
+/// # Example
+///
+/// From the test `lean_cut_of_aacute` of `cut_tests`:
+///
+/// ```
+/// let font = Font::open(&BASE6)?;
+/// let wanted = wanted_of(rt.alloc(), &[(0xC1, 0xC1)])?;
+/// let made = cut_of_kind(rt.alloc(), Kind::Lean, &font, &wanted)?;
+/// assert_eq!(rt; made.as_slice(), LEAN_AACUTE.as_slice());
+/// ```
+pub fn cut_of_kind<A: Allocator + Copy>(
+    alloc: A,
+    kind: Kind,
+    font: &Font<'_>,
+    wanted: &Wanted<A>,
+) -> Result<Vec<u8, A>, CutError>
+    ensures exact { MatchResult result (λ v. v.items ≡ cut_in kind font.now (member wanted.now))
+        (IsCutRefusal (cut_in kind font.now (member wanted.now))) }
+    ensures small { IfOk result (λ v. length v.items ≤ MAX_FILE) }
+    ensures sound { IfOk result (λ v. IsSoundIn kind font.now (member wanted.now) v.items) }
+{
+    recall_accepted(font);
+    cut_exactly(alloc, kind, font, wanted)
 }
 
 /// Returns the cut of a font for the wanted codes, as one file in a vector of just its size. Every glyph
@@ -127,27 +185,59 @@ pub fn cut<A: Allocator + Copy>(
     ensures small { IfOk result (λ v. length v.items ≤ MAX_FILE) }
     ensures sound { IfOk result (λ v. IsSound font.now (member wanted.now) v.items) }
 {
-    recall_accepted(font);
-    cut_exactly(alloc, font, wanted)
+    cut_of_kind(alloc, Kind::Full, font, wanted)
 }
 
-// Sends the cut, or answers the refusal that applies.
-#[tactic(auto, using(crate::proofs::CutLemmas::cut_of_is))]
+// Sends the cut of a kind, or answers the refusal that applies.
 fn cut_into_exactly<W: Write, A: Allocator + Copy>(
     alloc: A,
+    kind: Kind,
     font: &Font<'_>,
     wanted: &Wanted<A>,
     out: &mut Outlet<W>,
 ) -> Result<u64, CutIntoError>
     requires { fresh_of out.old ≡ true }
-    ensures size { IfOk result (λ size. size ≡ length (cut_of font.now (member wanted.now))) }
-    ensures small { OnOk result (length (cut_of font.now (member wanted.now)) ≤ MAX_FILE) }
-    ensures sends { OnOk result (WentOut W.contents out.old out.new (cut_of font.now (member wanted.now))) }
+    ensures size { IfOk result (λ size. size ≡ length (cut_in kind font.now (member wanted.now))) }
+    ensures small { OnOk result (length (cut_in kind font.now (member wanted.now)) ≤ MAX_FILE) }
+    ensures sends { OnOk result
+        (WentOut W.contents out.old out.new (cut_in kind font.now (member wanted.now))) }
     ensures unbroken { OnOk result (broken_of out.new ≡ false) }
-    ensures stops { IfErr result (StopsCut W.contents out.old out.new (cut_of font.now (member wanted.now))) }
+    ensures stops { IfErr result
+        (StopsCut W.contents out.old out.new (cut_in kind font.now (member wanted.now))) }
 {
-    let source = CutOf::new(alloc, font, wanted)?;
-    send_whole(&source, out)
+    let source = CutOfKind::new(alloc, kind, font, wanted)?;
+    Ok(send_whole(&source, out)?)
+}
+
+/// Sends the cut of a font for the wanted codes, of a kind, and returns its length. All memory is asked for
+/// before the first write: that for the glyphs that it keeps and for the tables that it has anew, and none
+/// for the cut itself.
+///
+/// # Errors
+///
+/// Those of [`cut_into`].
+pub fn cut_of_kind_into<W: Write, A: Allocator + Copy>(
+    alloc: A,
+    kind: Kind,
+    font: &Font<'_>,
+    wanted: &Wanted<A>,
+    out: &mut Outlet<W>,
+) -> Result<u64, CutIntoError>
+    requires { fresh_of out.old ≡ true }
+    ensures size { IfOk result (λ size. size ≡ length (cut_in kind font.now (member wanted.now))) }
+    ensures small { OnOk result (length (cut_in kind font.now (member wanted.now)) ≤ MAX_FILE) }
+    ensures sent { OnOk result (IsSome (W.contents (writer_of out.old)) →
+        HasSent W.contents out.new (cut_in kind font.now (member wanted.now))) }
+    ensures sends { OnOk result
+        (WentOut W.contents out.old out.new (cut_in kind font.now (member wanted.now))) }
+    ensures unbroken { OnOk result (broken_of out.new ≡ false) }
+    ensures stops { IfErr result
+        (StopsCut W.contents out.old out.new (cut_in kind font.now (member wanted.now))) }
+    ensures sound { OnOk result
+        (IsSoundIn kind font.now (member wanted.now) (cut_in kind font.now (member wanted.now))) }
+{
+    recall_accepted(font);
+    cut_into_exactly(alloc, kind, font, wanted, out)
 }
 
 /// Sends the cut of a font for the wanted codes, and returns how many bytes it has. All memory is asked
@@ -186,6 +276,5 @@ pub fn cut_into<W: Write, A: Allocator + Copy>(
     ensures stops { IfErr result (StopsCut W.contents out.old out.new (cut_of font.now (member wanted.now))) }
     ensures sound { OnOk result (IsSound font.now (member wanted.now) (cut_of font.now (member wanted.now))) }
 {
-    recall_accepted(font);
-    cut_into_exactly(alloc, font, wanted, out)
+    cut_of_kind_into(alloc, Kind::Full, font, wanted, out)
 }

@@ -1,39 +1,90 @@
 //! The forms of a cut, which are this project's own: a font's file is that of its content for all codes, as
 //! it is written now or as it was written before.
-ghost use Rattle.std.specs.Prelude.{◌≡◌, ◌≤◌, length, IfOk, IsTrue, ◌↔◌};
+ghost use Rattle.std.specs.Prelude.{◌≡◌, ◌≤◌, length, None, IfOk, IsTrue, ◌↔◌};
 ghost use Rattle.sfnt_bytes.specs.declared.directory.TheConstants.{MAX_FILE};
 ghost use Rattle.codes.specs.CharacterMap.{is_mapped};
 ghost use Rattle.codes.specs.Wanted.{member};
 ghost use Rattle.font_file.specs.Font.{map_of};
 ghost use Rattle.font_theory.specs.Cut.{IsCurrent, Under, Writes, is_current, our_format};
-ghost use Rattle.font_subset.specs.Cut.{IsCutForSome, IsCutOf, IsFormOf, cut_form_of};
+ghost use Rattle.font_theory.specs.Content.{Content, content};
+ghost use Rattle.font_theory.specs.Kinds.{format_of, spelled_by};
+ghost use Rattle.font_subset.specs.Cut.{IsCutForSome, IsFormOf, cut_form_of};
+ghost use Rattle.font_subset.specs.Kinds.{IsCutIn, form_as};
 
 use crate::cut_source::{CutOf, recall_accepted};
-use crate::emit::form_of_file;
+use crate::forms::{CutForm, form_of_file};
+use crate::kind_source::CutOfKind;
 use font_file::Font;
 use font_map::{Chart, Wanted};
+use font_theory::Kind;
 use font_write::Source;
 use sfnt_bytes::NoMemory;
 use std::alloc::Allocator;
 
-/// Whether a font's file is a cut, and as which program wrote it.
-#[derive(Clone, Copy, Debug, PartialEq, Eq)]
-pub enum CutForm {
-    /// The file is no cut in any form.
-    Not,
-    /// The file is a cut in the first profile, which was written before. A join takes it, and what is
-    /// written of it is current.
-    Old,
-    /// The file is a cut as it is written now.
-    Current,
+/// Returns the form in which a font's file is its own cut of a kind for all codes, as [`cut_form`] does for
+/// full cuts. A lean cut is always current.
+///
+/// # Errors
+///
+/// `NoMemory` where memory is refused.
+pub fn form_of_kind<A: Allocator + Copy>(
+    alloc: A,
+    kind: Kind,
+    font: &Font<'_>,
+) -> Result<CutForm, NoMemory>
+    ensures { IfOk result (λ form. form ≡ form_as kind font.now) }
+{
+    let source = CutOfKind::for_all_codes(alloc, kind, font)?;
+    Ok(source.form())
 }
 
-// Returns the form of a font's file.
-fn form_exactly<A: Allocator + Copy>(alloc: A, font: &Font<'_>) -> Result<CutForm, NoMemory>
-    ensures { IfOk result (λ form. form ≡ cut_form_of font.now) }
+/// Returns the content of the full cut of a font for all codes, whose runs are listed, and the form in which the
+/// font's file is its own cut of a kind for all codes.
+///
+/// # Errors
+///
+/// `NoMemory` where memory is refused.
+pub fn listed_form<'f, 'a, A: Allocator + Copy>(
+    alloc: A,
+    kind: Kind,
+    font: &'f Font<'a>,
+) -> Result<(CutOf<'f, 'a, A>, CutForm), NoMemory>
+    ensures source { IfOk result (λ both. both.0 ≡ (font.entry.now, None)) }
+    ensures form { IfOk result (λ both. both.1 ≡ form_as kind font.entry.now) }
 {
-    let source = CutOf::for_all_codes(alloc, font)?;
-    Ok(source.form())
+    let cut = CutOf::with_runs(alloc, font)?;
+    let source = CutOfKind::of(alloc, kind, cut)?;
+    let form = source.form();
+    Ok((source.into_cut(), form))
+}
+
+/// Returns whether a font's file is its own cut of a kind for all codes, as it is written today. No cut is
+/// built for that.
+///
+/// # Errors
+///
+/// `NoMemory` where memory is refused.
+///
+/// # Example
+///
+/// From the test `lean_cut_form_of_files` of `cut_tests`:
+///
+/// ```
+/// let (lean, made) = (Font::open(&LEAN_AACUTE)?, Font::open(&AACUTE)?);
+/// assert_eq!(rt; is_of_kind(rt.alloc(), Kind::Lean, &lean), Ok(true));
+/// assert_eq!(rt; is_of_kind(rt.alloc(), Kind::Lean, &made), Ok(false));
+/// ```
+pub fn is_of_kind<A: Allocator + Copy>(
+    alloc: A,
+    kind: Kind,
+    font: &Font<'_>,
+) -> Result<bool, NoMemory>
+    ensures exact { IfOk result (λ b. b ≡ is_current (format_of kind) font.now) }
+    ensures form { IfOk result (λ b. IsTrue b ↔ IsCurrent (format_of kind) font.now) }
+{
+    recall_accepted(font);
+    let form = form_of_kind(alloc, kind, font)?;
+    Ok(matches!(form, CutForm::Current))
 }
 
 /// Returns the form in which a font's file is its own cut for all codes: `Current` where it is that cut as
@@ -48,7 +99,7 @@ pub fn cut_form<A: Allocator + Copy>(alloc: A, font: &Font<'_>) -> Result<CutFor
     ensures form { IfOk result (IsFormOf font.now) }
 {
     recall_accepted(font);
-    form_exactly(alloc, font)
+    form_of_kind(alloc, Kind::Full, font)
 }
 
 /// Returns whether a font's file is its own cut for all codes, as it is written today. Of an old cut
@@ -71,17 +122,12 @@ pub fn is_cut<A: Allocator + Copy>(alloc: A, font: &Font<'_>) -> Result<bool, No
     ensures exact { IfOk result (λ b. b ≡ is_current our_format font.now) }
     ensures form { IfOk result (λ b. IsTrue b ↔ IsCurrent our_format font.now) }
 {
-    recall_accepted(font);
-    let form = form_exactly(alloc, font)?;
-    Ok(matches!(form, CutForm::Current))
+    is_of_kind(alloc, Kind::Full, font)
 }
 
 // Returns the codes that a font maps. The runs ascend, so each is put after the codes that are in the
 // set, and none is refused as a bad range.
-pub(crate) fn mapped_set<A: Allocator + Copy>(
-    alloc: A,
-    font: &Font<'_>,
-) -> Result<Wanted<A>, NoMemory>
+fn mapped_set<A: Allocator + Copy>(alloc: A, font: &Font<'_>) -> Result<Wanted<A>, NoMemory>
     ensures { IfOk result (λ wanted. member wanted ≡ is_mapped (map_of font.now)) }
 {
     let chart = Chart::of(alloc, font.mapping())?;
@@ -97,7 +143,7 @@ pub(crate) fn mapped_set<A: Allocator + Copy>(
 }
 
 // Returns the file of a font.
-pub(crate) fn file_of<'a>(font: &Font<'a>) -> &'a [u8]
+fn file_of<'a>(font: &Font<'a>) -> &'a [u8]
     ensures file { result.now ≡ font.now }
     ensures small { length result.now ≤ MAX_FILE }
 {
@@ -105,29 +151,57 @@ pub(crate) fn file_of<'a>(font: &Font<'a>) -> &'a [u8]
     font.tables().directory().file()
 }
 
-// Returns whether a file is that of a content, in whatever form.
-fn is_written<S: Source>(source: &S, bytes: &[u8]) -> bool
+// Returns whether a file is that of a content of a kind, in whatever form.
+fn is_written<S: Source>(kind: Kind, source: &S, bytes: &[u8]) -> bool
     requires { length bytes.now ≤ MAX_FILE }
-    ensures { IsTrue result ↔ Writes our_format (S.content_of source.now) bytes.now }
+    ensures { (K : Content) → S.content_of source.now ≡ spelled_by kind K →
+        IsTrue result ↔ Writes (format_of kind) K bytes.now }
 {
-    match form_of_file(source, bytes) {
-        CutForm::Not => false,
-        CutForm::Old => true,
-        CutForm::Current => true,
-    }
+    !matches!(form_of_file(kind, source, bytes), CutForm::Not)
 }
 
-// Returns whether a font's file is the cut of another font for the codes that it maps.
+// Returns whether a font's file is the cut of a kind of another font for the codes that it maps.
 fn is_cut_for_own_codes<A: Allocator + Copy>(
     alloc: A,
+    kind: Kind,
     cut: &Font<'_>,
     font: &Font<'_>,
 ) -> Result<bool, NoMemory>
-    ensures { IfOk result (λ b. IsTrue b ↔ IsCutOf font.now (is_mapped (map_of cut.now)) cut.now) }
+    ensures { IfOk result (λ b. IsTrue b ↔ Writes (format_of kind)
+        (content ((format_of kind).font font.now) (is_mapped (map_of cut.now))) cut.now) }
 {
     let codes = mapped_set(alloc, cut)?;
-    let source = CutOf::new(alloc, font, &codes)?;
-    Ok(is_written(&source, file_of(cut)))
+    let source = CutOfKind::new(alloc, kind, font, &codes)?;
+    Ok(is_written(kind, &source, file_of(cut)))
+}
+
+/// Returns whether the file of `cut` is a cut of `font` for some codes, of a kind and in any form: then it is
+/// the cut for the codes that it maps itself. No cut is built for that.
+///
+/// # Errors
+///
+/// `NoMemory` where memory is refused.
+///
+/// # Example
+///
+/// From the test `lean_cut_form_of_files` of `cut_tests`: a cut may stand for the font.
+///
+/// ```
+/// let (lean, made) = (Font::open(&LEAN_AACUTE)?, Font::open(&AACUTE)?);
+/// assert_eq!(rt; belongs(rt.alloc(), Kind::Lean, &lean, &made), Ok(true));
+/// ```
+pub fn belongs<A: Allocator + Copy>(
+    alloc: A,
+    kind: Kind,
+    cut: &Font<'_>,
+    font: &Font<'_>,
+) -> Result<bool, NoMemory>
+    ensures exact { IfOk result (λ b. IsTrue b ↔ Under (format_of kind) cut.now font.now) }
+    ensures some_codes { IfOk result (λ b. IsTrue b ↔ IsCutIn kind font.now cut.now) }
+{
+    recall_accepted(cut);
+    recall_accepted(font);
+    is_cut_for_own_codes(alloc, kind, cut, font)
 }
 
 /// Returns whether the file of `cut` is a cut of `font` for some codes, in any form of a cut: then it is
@@ -144,7 +218,5 @@ pub fn is_cut_of<A: Allocator + Copy>(
     ensures exact { IfOk result (λ b. IsTrue b ↔ Under our_format cut.now font.now) }
     ensures some_codes { IfOk result (λ b. IsTrue b ↔ IsCutForSome font.now cut.now) }
 {
-    recall_accepted(cut);
-    recall_accepted(font);
-    is_cut_for_own_codes(alloc, cut, font)
+    belongs(alloc, Kind::Full, cut, font)
 }

@@ -14,12 +14,10 @@ ghost use Rattle.font_file.specs.Font.{font_fault};
 ghost use Rattle.font_theory.specs.Content.{content, everything, font_of};
 ghost use Rattle.font_theory.specs.Cut.{IsCut, our_format};
 ghost use Rattle.font_subset.specs.Content.{IsKeptSet, codes_wanted, wanted_map};
-ghost use Rattle.font_subset.specs.Cut.{cut_form_of};
 ghost use Rattle.font_subset.specs.Inside.{AreMarked, IsSeedSet};
 ghost use Rattle.font_subset.specs.ListedRuns.{AreRunsOf};
 
-use crate::cut_forms::CutForm;
-use crate::emit::form_of_file;
+use crate::listed_runs::ListedRuns;
 use font_file::Font;
 use font_glyph::{Marks, close};
 use font_map::{Chart, Pieces, Run, Wanted, run_of};
@@ -54,6 +52,8 @@ fn mark_run<A: Allocator>(marks: &mut Marks<A>, run: Run)
 struct Charted<'f, 'a, A: Allocator> {
     font: &'f Font<'a>,
     chart: Chart<'f, A>,
+    // The runs of the mapping, where they are walked more than once.
+    listed: Option<ListedRuns<A>>,
 }
 
 // Its value is the file of the font.
@@ -61,12 +61,15 @@ impl<'f, 'a, A: Allocator> Model for Charted<'f, 'a, A> {
     ghost use Rattle.std.specs.Prelude.{◌≡◌, ℕ, List};
     ghost use Rattle.font_tables.specs.Fields.{glyph_count_of};
     ghost use Rattle.font_file.specs.Font.{cmap_of};
+    ghost use Rattle.std.specs.Prelude.{IfSome};
+    ghost use Rattle.font_subset.specs.ListedRuns.{AreRunsOf};
 
     ghost Value = { List ℕ };
 
     ghost view = { λ c. c.font.now };
 
-    ghost invariant = { λ c. c.chart ≡ (cmap_of c.font.now, glyph_count_of c.font.now) };
+    ghost invariant = { λ c. (c.chart ≡ (cmap_of c.font.now, glyph_count_of c.font.now))
+        × IfSome c.listed (AreRunsOf c.font.now) };
 }
 
 impl<'f, 'a, A: Allocator + Copy> Charted<'f, 'a, A> {
@@ -74,7 +77,24 @@ impl<'f, 'a, A: Allocator + Copy> Charted<'f, 'a, A> {
         ensures { IfOk result (λ charted. charted ≡ font.entry.now) }
     {
         let chart = Chart::of(alloc, font.mapping())?;
-        Ok(Charted { font, chart })
+        Ok(Charted {
+            font,
+            chart,
+            listed: None,
+        })
+    }
+
+    // Does the same, and lists the runs of the mapping.
+    fn with_runs(alloc: A, font: &'f Font<'a>) -> Result<Charted<'f, 'a, A>, NoMemory>
+        ensures { IfOk result (λ charted. charted ≡ font.entry.now) }
+    {
+        let charted = Charted::of(alloc, font)?;
+        let runs = charted.runs(alloc)?;
+        Ok(Charted {
+            font: charted.font,
+            chart: charted.chart,
+            listed: Some(ListedRuns::new(runs)),
+        })
     }
 
     // Recalls for the prover what opening the font has shown of its map. Does nothing at run time.
@@ -103,6 +123,26 @@ impl<'f, 'a, A: Allocator + Copy> Charted<'f, 'a, A> {
         }
         Ok(runs)
     }
+
+    // Returns the runs of the whole map.
+    fn into_runs(self, alloc: A) -> Result<Vec<Run, A>, NoMemory>
+        ensures { IfOk result (λ runs. AreRunsOf self.entry runs.items) }
+    {
+        let Charted {
+            font,
+            chart,
+            listed,
+        } = self;
+        match listed {
+            Some(listed) => Ok(listed.into_runs()),
+            None => Charted {
+                font,
+                chart,
+                listed: None,
+            }
+            .runs(alloc),
+        }
+    }
 }
 
 impl<'f, 'a, A: Allocator> Charted<'f, 'a, A> {
@@ -124,6 +164,17 @@ impl<'f, 'a, A: Allocator> Charted<'f, 'a, A> {
     {
         match wanted {
             Some(wanted) => self.chart.wanted_run(wanted, from),
+            None => self.next_run(from),
+        }
+    }
+
+    // Returns the run that begins at the least mapped code not below `from`.
+    fn next_run(&self, from: u32) -> Option<Run>
+        ensures { MatchOption result (NoRun (wanted_map self.now None) from)
+            (IsRun (wanted_map self.now None) from) }
+    {
+        match &self.listed {
+            Some(listed) => listed.next_run(from),
             None => self.chart.next_run(from),
         }
     }
@@ -145,23 +196,6 @@ fn mark_seeds<A: Allocator + Copy>(
         from = run.last + 1;
     }
     Ok(seeds)
-}
-
-// Marks .notdef, and the glyphs of all runs of a font.
-fn mark_runs<A: Allocator + Copy>(
-    alloc: A,
-    font: &Charted<'_, '_, A>,
-    runs: &[Run],
-) -> Result<Marks<A>, NoMemory>
-    requires { AreRunsOf font.now runs.now }
-    ensures { IfOk result (IsSeedSet font.now everything) }
-{
-    let mut marks = Marks::new(alloc, font.font().tables().glyph_count())?;
-    marks.set(0);
-    for at in 0..runs.len() {
-        mark_run(&mut marks, runs[at]);
-    }
-    Ok(marks)
 }
 
 // Marks the glyphs that a cut keeps: those of its codes, and what they are made of.
@@ -189,20 +223,6 @@ fn mark_kept<A: Allocator + Copy>(
     let seeds = mark_seeds(alloc, font, wanted)?;
     let kept = mark_reached(alloc, font, &seeds)?;
     Ok(kept)
-}
-
-// Returns the glyphs that a cut for all codes keeps, by the runs of its font.
-fn mark_listed<A: Allocator + Copy>(
-    alloc: A,
-    font: &Charted<'_, '_, A>,
-    runs: &[Run],
-) -> Result<Marks<A>, NoMemory>
-    requires { AreRunsOf font.now runs.now }
-    ensures { IfOk result (IsKeptSet font.now everything) }
-{
-    let seeds = mark_runs(alloc, font, runs)?;
-    let reached = mark_reached(alloc, font, &seeds)?;
-    Ok(reached)
 }
 
 // Returns the bytes of `head`.
@@ -258,10 +278,10 @@ pub struct CutOf<'f, 'a, A: Allocator = Global> {
 // Its value is the file of the font, and the ranges of the wanted codes, where these are not all.
 impl<'f, 'a, A: Allocator> Model for CutOf<'f, 'a, A> {
     ghost use Rattle.std.specs.Prelude.{ℕ, List, Option, option_copied};
-    ghost use Rattle.codes.specs.declared.ranges.Range.{Range};
+    ghost use Rattle.codes.specs.declared.code_range.CodeRange.{CodeRange};
     ghost use Rattle.font_subset.specs.Content.{IsKeptSet, codes_wanted};
 
-    ghost Value = { List ℕ × Option (List Range) };
+    ghost Value = { List ℕ × Option (List CodeRange) };
 
     ghost view = { λ c. (c.charted, option_copied c.wanted) };
 
@@ -291,24 +311,33 @@ impl<'f, 'a, A: Allocator + Copy> CutOf<'f, 'a, A> {
         })
     }
 
-    /// Returns the content of the cut of a font for all codes, and the runs of its map, which is read once
-    /// for both.
-    pub fn with_runs(
-        alloc: A,
-        font: &'f Font<'a>,
-    ) -> Result<(CutOf<'f, 'a, A>, Vec<Run, A>), NoMemory>
-        ensures source { IfOk result (λ both. both.0 ≡ (font.entry.now, None)) }
-        ensures runs { IfOk result (λ both. AreRunsOf font.entry.now both.1.items) }
+    /// Returns the content of the cut of a font for all codes, and lists the runs of its map, which is walked
+    /// more than once.
+    ///
+    /// # Errors
+    ///
+    /// `NoMemory` where memory is refused.
+    pub fn with_runs(alloc: A, font: &'f Font<'a>) -> Result<CutOf<'f, 'a, A>, NoMemory>
+        ensures { IfOk result (λ source. source ≡ (font.entry.now, None)) }
     {
-        let charted = Charted::of(alloc, font)?;
-        let runs = charted.runs(alloc)?;
-        let kept = mark_listed(alloc, &charted, &runs)?;
-        let source = CutOf {
+        let charted = Charted::with_runs(alloc, font)?;
+        let kept = mark_kept(alloc, &charted, None)?;
+        Ok(CutOf {
             charted,
             wanted: None,
             kept,
-        };
-        Ok((source, runs))
+        })
+    }
+
+    /// Returns the runs of the map of the font, which the cut keeps where it is one for all codes.
+    ///
+    /// # Errors
+    ///
+    /// `NoMemory` where memory is refused, which is only asked for where the runs have not been listed.
+    pub fn into_runs(self, alloc: A) -> Result<Vec<Run, A>, NoMemory>
+        ensures { IfOk result (λ runs. AreRunsOf self.entry.0 runs.items) }
+    {
+        self.charted.into_runs(alloc)
     }
 
     /// Returns the content of the cut of a font for all codes.
@@ -396,13 +425,5 @@ impl<'f, 'a, A: Allocator> CutOf<'f, 'a, A> {
         ensures sound { font_fault self.now.0 ≡ None }
     {
         self.charted.font().tables().directory().file()
-    }
-
-    /// Returns the form in which the font's file is the file of this content, which is that for all codes.
-    pub fn form(&self) -> CutForm
-        requires { self.now.1 ≡ None }
-        ensures { result ≡ cut_form_of self.now.0 }
-    {
-        form_of_file(self, self.file())
     }
 }

@@ -1,6 +1,6 @@
 //! The tables that a lean cut has anew: metrics with zeros for the glyphs that are not kept, and `post`
 //! without names. OpenType 1.9, hmtx; vmtx; post.
-ghost use Rattle.std.specs.Prelude.{◌≡◌, ◌+◌, ◌*◌, ◌<◌, ◌≤◌, ℕ, ◌++◌, drop, is_some, length, replicate, IfOk};
+ghost use Rattle.std.specs.Prelude.{◌≡◌, ◌+◌, ◌*◌, ◌<◌, ◌≤◌, ◌++◌, drop, is_some, length, replicate, IfOk};
 ghost use Rattle.font_theory.specs.Bytes.{bytes32};
 ghost use Rattle.font_theory.specs.Content.{glyph_count};
 ghost use Rattle.font_theory.specs.Lean.{blank, cleared, entry_at, entry_size, thin_post};

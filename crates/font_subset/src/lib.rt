@@ -4,17 +4,16 @@
 mod cut_font;
 mod cut_forms;
 mod cut_source;
-mod emit;
-pub mod lean;
-mod lean_cut;
-mod lean_forms;
-mod lean_source;
+mod forms;
+mod kind_source;
 mod lean_tables;
-mod listed_lean;
+mod listed_runs;
 
-pub use crate::cut_font::{CutError, CutIntoError, cut, cut_into};
-pub use crate::cut_forms::{CutForm, cut_form, is_cut, is_cut_of};
+pub use crate::cut_font::{CutError, CutIntoError, cut, cut_into, cut_of_kind, cut_of_kind_into};
+pub use crate::cut_forms::{
+    belongs, cut_form, form_of_kind, is_cut, is_cut_of, is_of_kind, listed_form,
+};
 pub use crate::cut_source::{CutOf, copied, head, recall_accepted};
-pub use crate::emit::{CURRENT, file_in_memory, form_of_file, measured, send_whole};
-pub use crate::lean_forms::listed_form;
-pub use crate::lean_source::{blank_of, bytes_of, pairs_by};
+pub use crate::forms::CutForm;
+pub use crate::kind_source::{CutOfKind, blank_of, bytes_of, pairs_by};
+pub use font_theory::Kind;

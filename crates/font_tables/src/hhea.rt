@@ -8,8 +8,9 @@ use sfnt_bytes::be16;
 /// How many bytes the table has, or more.
 const LENGTH: usize = 36;
 
+/// Returns `numberOfHMetrics`.
 #[tactic(auto, unfolding(crate::specs::Fields::number_of_h_metrics))]
-pub(crate) fn read_number_of_h_metrics(hhea: &[u8]) -> u16
+pub fn read_number_of_h_metrics(hhea: &[u8]) -> u16
     requires { 36 ≤ length hhea.now }
     ensures { result ≡ number_of_h_metrics hhea.now }
 {
@@ -17,7 +18,7 @@ pub(crate) fn read_number_of_h_metrics(hhea: &[u8]) -> u16
 }
 
 /// Returns whether the table is refused, in a font of this number of glyphs.
-pub(crate) fn has_bad_hhea(hhea: &[u8], glyphs: u16) -> bool
+pub fn has_bad_hhea(hhea: &[u8], glyphs: u16) -> bool
     ensures { result ≡ is_bad_hhea hhea.now glyphs }
 {
     hhea.len() < LENGTH

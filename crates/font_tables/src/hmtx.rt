@@ -63,7 +63,7 @@ pub(crate) fn read_metric(hmtx: &[u8], pairs: usize, g: usize) -> (u16, i16)
 }
 
 /// Returns whether the table is refused, in a font with this number of pairs and this number of glyphs.
-pub(crate) fn has_bad_hmtx(hmtx: &[u8], pairs: u16, glyphs: u16) -> bool
+pub fn has_bad_hmtx(hmtx: &[u8], pairs: u16, glyphs: u16) -> bool
     requires { pairs ≤ glyphs }
     ensures { result ≡ is_bad_hmtx hmtx.now pairs glyphs }
 {

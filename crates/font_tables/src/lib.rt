@@ -10,5 +10,7 @@ mod maxp;
 mod tables;
 mod text;
 
+pub use crate::hhea::{has_bad_hhea, read_number_of_h_metrics};
+pub use crate::hmtx::has_bad_hmtx;
 pub use crate::loca::LocaForm;
 pub use crate::tables::{TableError, Tables};

@@ -1,4 +1,4 @@
--- What a lean cut has of its font: all that an ordinary one has of the kept glyphs, and their metrics.
+-- What a lean cut has of its font: all that a full one has of the kept glyphs, and their metrics.
 use Rattle.std.proofs.Common.{◌≡◌, ℕ, ◌<◌, Bool, true, false, cond, inl, inr, List, [], refl, sym, ◌∙◌, ap, subst, Some, unwrap_or}
 use Rattle.std.specs.Option.{option_map}
 use Rattle.std.proofs.Math.Path.{fun_ext}

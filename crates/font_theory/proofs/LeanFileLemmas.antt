@@ -64,7 +64,7 @@ module _ (font : List ℕ) (wanted : ℕ → Bool) (accepted : font_fault font �
       ap findings_of (is ∙ cut-lean_file)
       ∙ findings_of-file current_layout (spelled_out lean_content) (IsWritable-closed (spelled_out lean_content) (IsClosed-spelled lean_content closed (IsLean-content (font_of font) wanted ok)))
 
-  -- it is no longer than an ordinary cut
+  -- it is no longer than the full cut
   pub length-lean_cut : length (cut lean_format font wanted) ≤ length (cut our_format font wanted)
   unfolding lean_format our_format
   length-lean_cut = length-lean (font_of font) ok wanted current_layout
@@ -77,7 +77,7 @@ module _ (font other : List ℕ) (wanted : ℕ → Bool) (accepted : font_fault 
   pub map_of-lean : map_of other ≡ restricted wanted (map_of font)
   map_of-lean = ap (λ F. F.map) same
 
-  -- its outlines are those of the ordinary content
+  -- its outlines are those of the full content
   pub outline-read : (g : ℕ) → (font_of other).outline g ≡ (read_back (content (font_of font) wanted)).outline g
   outline-read g = ap (λ F. F.outline g) same ∙ ap (λ o. unwrap_or (o g) []) (outline-lean (font_of font) (IsFont-accepted font accepted) wanted)
 
@@ -92,7 +92,7 @@ module _ (font other : List ℕ) (wanted : ℕ → Bool) (accepted : font_fault 
       ∙ read_back-reached (font_of font) wanted ok g (IsKept-wanted (font_of font) wanted ok c h g w.0)
       ∙ ap padded (outline-file font g w.1)
 
--- the lean content of an ordinary content is that of the font, for the codes in both
+-- the lean content of a full content is that of the font, for the codes in both
 module _ (F : Font) (ok : IsFont F) (A B : ℕ → Bool) where
   same-outline : (g : ℕ) → IsKept (thin F) (λ c. A c && B c) g → (thin (read_back (content F A))).outline g ≡ (thin F).outline g
   same-outline g r =
@@ -110,7 +110,7 @@ module _ (F : Font) (ok : IsFont F) (A B : ℕ → Bool) where
       (restricted-restricted B A F.map ∙ ap (λ (w : ℕ → Bool). restricted w F.map) (fun_ext (λ c. and_comm (B c) (A c))))
       (λ g r. ap padded (same-outline g r))
 
--- the lean cut of an ordinary cut is the lean cut of the font
+-- the lean cut of a full cut is the lean cut of the font
 pub cut-lean_cut : (font : List ℕ) → font_fault font ≡ None → (A : ℕ → Bool) (X : List ℕ) → Writes our_format (content (font_of font) A) X → length X ≤ MAX_FILE → (B : ℕ → Bool)
     → cut lean_format X B ≡ cut lean_format font (λ c. A c && B c)
 unfolding our_format lean_format
@@ -118,10 +118,10 @@ cut-lean_cut font accepted A X w small B =
     ap (λ G. lean_file (content (thin G) B)) (font-cut our_format our_format-is font accepted A X w small)
     ∙ ap lean_file (content-thin_seen (font_of font) (IsFont-accepted font accepted) A B)
 
--- a file that is a lean cut is an ordinary one too
-pub IsCurrent-ordinary : (X : List ℕ) → IsCurrent lean_format X → IsCurrent our_format X
+-- a lean cut is a full cut too, namely of itself
+pub IsCurrent-full : (X : List ℕ) → IsCurrent lean_format X → IsCurrent our_format X
 unfolding our_format lean_format
-IsCurrent-ordinary X layout =
+IsCurrent-full X layout =
     let accepted : font_fault X ≡ None = layout.accepted in
     let K : Content = content (thin (font_of X)) everything in
     let ok = IsFont-accepted X accepted in
@@ -177,10 +177,10 @@ other-joined X Y formX formY slot a b =
     let h = ne_eqb slot VMTX b in
     spelled_copied-other (both K (content_of_all lean_format Y)) slot e h ∙ sym (spelled_copied-other K slot e h) ∙ sym (ap (λ F. F.copied slot) x.0)
 
--- the ordinary content of a lean cut is what is spelled of its lean one
-pub content_of_all-ordinary : (X : List ℕ) → IsCurrent lean_format X → content_of_all our_format X ≡ spelled_out (content_of_all lean_format X)
+-- the full content of a lean cut is what is spelled of its lean one
+pub content_of_all-full : (X : List ℕ) → IsCurrent lean_format X → content_of_all our_format X ≡ spelled_out (content_of_all lean_format X)
 unfolding our_format lean_format
-content_of_all-ordinary X layout =
+content_of_all-full X layout =
     let accepted : font_fault X ≡ None = layout.accepted in
     let ok = IsFont-accepted X accepted in
     let K : Content = content (thin (font_of X)) everything in

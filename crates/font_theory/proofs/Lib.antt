@@ -10,6 +10,7 @@ pub mod DirectoryLemmas
 pub mod FileWantedLemmas
 pub mod FindingLemmas
 pub mod FontLemmas
+pub mod KindLemmas
 pub mod LayoutLemmas
 pub mod LayoutSizeLemmas
 pub mod FormatLemmas

@@ -105,10 +105,10 @@ pub record CanJoin (R : Format) (X Y : List ℕ) : Type 0 where
   pub agree : Agree (content_of_all R X) (content_of_all R Y)
 
 -- the reader of this program, a form that is written, and one that is read as a cut too
-abbrev pub format_of : Layout → Layout → Format
-format_of layout old =
+abbrev pub format_with : Layout → Layout → Format
+format_with layout old =
     record { fault = font_fault; font = font_of; file = file layout; old = file old; limit = MAX_FILE }
 
 -- the reader and the writer of this program, which reads cuts of the first profile too
 unfoldable pub our_format : Format
-our_format = format_of current_layout (layout_of First)
+our_format = format_with current_layout (layout_of First)

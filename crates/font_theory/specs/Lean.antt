@@ -126,7 +126,7 @@ spelled_copied K slot =
     option_map (laid K.outline 4 (pairs_in K.copied VHEA VMTX) (glyph_count K.copied)) (K.copied slot)
     else K.copied slot
 
--- the ordinary content that a lean one is written as
+-- the full content that a lean one is written as
 abbrev pub spelled_out : Content → Content
 spelled_out K = record {
   copied = spelled_copied K;

@@ -4,6 +4,7 @@ pub mod Cut
 pub mod Difference
 pub mod File
 pub mod Join
+pub mod Kinds
 pub mod Lean
 pub mod Tree
 pub mod WorkedFiles

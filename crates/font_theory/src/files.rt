@@ -7,7 +7,7 @@ ghost use Rattle.font_file.specs.Font.{font_fault};
 ghost use Rattle.font_theory.specs.Bytes.{padded};
 ghost use Rattle.font_theory.specs.Content.{Content, IsClosedContent, IsWritable, font_of, read_back};
 ghost use Rattle.sfnt_bytes.specs.declared.base6.TheConstants.{BASE6};
-ghost use Rattle.font_theory.specs.Cut.{Arises, IsCurrent, IsFormat, IsOld, Writes, cut, format_of, our_format};
+ghost use Rattle.font_theory.specs.Cut.{Arises, IsCurrent, IsFormat, IsOld, Writes, cut, format_with, our_format};
 ghost use Rattle.font_theory.specs.File.{Layout, IsLayout, file, layout_of, glyf_bytes, groups_of_content, outlines_of, size_of, size_with};
 ghost use Rattle.font_theory.specs.declared.Profile.{Profile};
 ghost use Rattle.font_theory.specs.declared.Profile.TheVariants.{First, Second};
@@ -88,7 +88,7 @@ pub fn second_glyf_has_bytes()
 /// The reader of this program goes with any form that is written, and any that is read as a cut
 /// too.
 pub fn layouts_are_formats()
-    ensures { (layout old : Layout) → IsLayout layout → IsLayout old → IsFormat (format_of layout old) }
+    ensures { (layout old : Layout) → IsLayout layout → IsLayout old → IsFormat (format_with layout old) }
 {}
 
 /// The reader and the writer of this program go together: it writes the second profile, and reads cuts of
@@ -106,15 +106,15 @@ pub fn closed_arises()
 
 /// The cut of a small font for no code in the first profile, byte by byte.
 pub fn cut_of_nothing()
-    ensures { cut (format_of (layout_of First) (layout_of First)) BASE6 (λ c. false) ≡ nothing_file }
+    ensures { cut (format_with (layout_of First) (layout_of First)) BASE6 (λ c. false) ≡ nothing_file }
 {}
 
 /// The same in the second profile.
 pub fn cut_of_nothing_second()
-    ensures { cut (format_of (layout_of Second) (layout_of First)) BASE6 (λ c. false) ≡ nothing_second_file }
+    ensures { cut (format_with (layout_of Second) (layout_of First)) BASE6 (λ c. false) ≡ nothing_second_file }
 {}
 
 /// Its cut for the code of a composite glyph, byte by byte.
 pub fn cut_of_aacute()
-    ensures { cut (format_of (layout_of First) (layout_of First)) BASE6 (λ c. nat_eq c 0xC1) ≡ aacute_file }
+    ensures { cut (format_with (layout_of First) (layout_of First)) BASE6 (λ c. nat_eq c 0xC1) ≡ aacute_file }
 {}

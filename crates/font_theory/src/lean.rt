@@ -45,13 +45,13 @@ pub fn lean_cut_is_accepted()
         ≡ read_back (spelled_out (content (thin (font_of file)) wanted))) }
 {}
 
-/// It is no longer than the ordinary cut.
+/// It is no longer than the full cut.
 pub fn lean_cut_is_no_longer()
     ensures { (file : List ℕ) (wanted : ℕ → Bool) → font_fault file ≡ None →
         length (cut lean_format file wanted) ≤ length (cut our_format file wanted) }
 {}
 
-/// What is spelled of a lean content has the head, the map and the outlines of the ordinary content, its
+/// What is spelled of a lean content has the head, the map and the outlines of the full content, its
 /// copied tables but for `hmtx`, `post` and `vmtx`, and `post` without names.
 pub fn lean_content_is()
     ensures { (F : Font) (wanted : ℕ → Bool) → IsFont F
@@ -153,7 +153,7 @@ pub fn lean_join_is()
         ((font_of X).copied VMTX)) }
 {}
 
-/// What is read of a file in lean cut form is what is spelled of its lean content, which is the ordinary one.
+/// What is read of a file in lean cut form is what is spelled of its lean content, which is its full content.
 pub fn lean_file_means()
     ensures { (X : List ℕ) → IsCurrent lean_format X
         → (font_of X ≡ read_back (spelled_out (content_of_all lean_format X)))
@@ -171,14 +171,14 @@ pub fn wanted_is_in_lean_file()
         × ((g : ℕ) → is_kept (font_of file) wanted g ≡ true → metric_of other g ≡ metric_of file g) }
 {}
 
-/// The lean cut of an ordinary cut is the lean cut of the font, for the codes in both sets.
+/// The lean cut of a full cut is the lean cut of the font, for the codes in both sets.
 pub fn lean_cut_of_cut()
     ensures { (file : List ℕ) → font_fault file ≡ None → (A : ℕ → Bool) (X : List ℕ) →
         Writes our_format (content (font_of file) A) X → length X ≤ MAX_FILE
         → (B : ℕ → Bool) → cut lean_format X B ≡ cut lean_format file (λ c. A c && B c) }
 {}
 
-/// A lean cut is an ordinary one too.
+/// A lean cut is a full cut too, namely of itself.
 pub fn lean_cut_is_current()
     ensures { (X : List ℕ) → IsCurrent lean_format X → IsCurrent our_format X }
 {}

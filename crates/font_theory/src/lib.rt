@@ -4,6 +4,7 @@
 mod cuts;
 mod files;
 mod joins;
+mod kinds;
 mod lean;
 mod trees;
 
@@ -23,6 +24,7 @@ pub use crate::joins::{
     can_join_is_decided, join_of_cuts, join_of_one, least_upper_bound, no_difference,
     true_refusals, under_is_order, under_one_file, union_is_closed, union_of_cuts,
 };
+pub use crate::kinds::{Kind, kinds_are_kinds};
 pub use crate::lean::{
     join_of_lean_cuts, lean_agreement_is, lean_content_is, lean_contents_agree,
     lean_cut_is_accepted, lean_cut_is_current, lean_cut_is_no_longer, lean_cut_of_cut,

@@ -4,3 +4,4 @@ pub mod Made
 pub mod Parts
 pub mod Plan
 pub mod Trace
+pub mod WholeFile

@@ -9,19 +9,23 @@ mod made_head;
 mod made_loca;
 mod outlet_sink;
 mod plan;
-mod room;
 mod same;
 mod sink;
 mod size;
 mod source;
+mod vec_sink;
+mod whole_file;
 mod writer;
 
 pub use crate::made::{Made, made_in};
 pub use crate::plan::{Measure, Plan, plan_of};
-pub use crate::room::{Room, write_file};
 pub use crate::same::{Same, is_file_of};
 pub use crate::sink::{Sink, Stopped};
 pub use crate::size::{Counts, Size, counted_size, file_size};
 pub use crate::source::Source;
+pub use crate::vec_sink::VecSink;
+pub use crate::whole_file::{
+    CURRENT, FileError, OLD, SendError, file_in_memory, is_whole_file, measured, send_whole,
+};
 pub use crate::writer::send_file;
 pub use font_theory::Profile;

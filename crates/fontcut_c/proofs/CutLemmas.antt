@@ -1,42 +1,24 @@
 -- The file of what a cut is made of is the cut, and what was answered of that file is answered of the cut.
-use Rattle.std.proofs.Common.{◌≡◌, ◌≤◌, ℕ, List, Bool, ◌++◌, length, drop, ap, sym, ◌∙◌, Option, Some, Result, MatchResult}
+use Rattle.std.proofs.Common.{◌≡◌, ◌≤◌, ℕ, List, Bool, ◌++◌, length, drop, ap, ◌∙◌, Some, Result, MatchResult}
 use Rattle.std.proofs.lemmas.Result.{MatchResult-weaker}
 use Rattle.sfnt_bytes.specs.declared.directory.TheConstants.{MAX_FILE}
 use Rattle.codes.specs.Wanted.{member}
-use Rattle.codes.specs.declared.ranges.Range.{Range}
-use Rattle.font_theory.specs.Content.{content, font_of}
+use Rattle.codes.specs.declared.code_range.CodeRange.{CodeRange}
 use Rattle.font_theory.specs.File.{current_layout, file}
-use Rattle.font_subset.specs.Content.{codes_wanted, lean_content}
-use Rattle.font_subset.specs.Lean.{lean_cut_of}
-use Rattle.font_subset.proofs.CutLemmas.{cut_of_is}
-use Rattle.font_subset.proofs.LeanCutLemmas.{lean_cut_of_is}
+use Rattle.font_theory.specs.declared.kinds.Kind.{Kind}
+use Rattle.font_subset.specs.Content.{written_of}
+use Rattle.font_subset.specs.Kinds.{cut_in}
+use Rattle.font_subset.proofs.CutLemmas.{cut_in_is}
+use Rattle.font_subset.proofs.KindSourceLemmas.{Held}
 use Rattle.fontcut_c.specs.Cutting.{IsAccepted, IsCutInRoom, IsCutSize, RefusesCut, RefusesSize, wanted_by}
 use Rattle.fontcut_c.specs.Inside.{IsFileInRoom, IsFileLength, RefusesFile, RefusesFileSize}
-use Rattle.fontcut_c.specs.Kinds.{cut_in}
-use Rattle.fontcut_c.specs.declared.kind.Kind.{Kind}
-use Rattle.fontcut_c.specs.declared.kind.Kind.TheVariants.{Full, Lean}
-use Rattle.codes.specs.declared.code_range.CodeRange.{CodeRange}
 use Rattle.fontcut_c.specs.declared.refusal.Refusal.{Refusal}
 use Rattle.fontcut_c.specs.declared.refusal.Refusal.TheVariants.{BadRange, Font, NoMemory, SmallRoom, TooLarge}
 
--- the files of the sources of either kind
-module _ (kind : Kind) (bytes font : List ℕ) (wanted : List Range) (codes : ℕ → Bool) (source : List ℕ × Option (List Range))
-    (is : source ≡ (font, Some wanted)) (same : font ≡ bytes) (by : member wanted ≡ codes) where
-  pub file_of_source : kind ≡ Full → file current_layout (content (font_of source.0) (codes_wanted source.1)) ≡ cut_in kind bytes codes
-  file_of_source full =
-      ap (λ (s : List ℕ × Option (List Range)). file current_layout (content (font_of s.0) (codes_wanted s.1))) is
-      ∙ (ap (λ (f : List ℕ). file current_layout (content (font_of f) (member wanted))) same
-      ∙ (ap (λ (w : ℕ → Bool). file current_layout (content (font_of bytes) w)) by
-      ∙ (sym (cut_of_is bytes codes)
-      ∙ ap (λ (k : Kind). cut_in k bytes codes) (sym full))))
-
-  pub file_of_lean_source : kind ≡ Lean → file current_layout (lean_content source) ≡ cut_in kind bytes codes
-  file_of_lean_source lean =
-      ap (λ (s : List ℕ × Option (List Range)). file current_layout (lean_content s)) is
-      ∙ (ap (λ (f : List ℕ). file current_layout (lean_content (f, Some wanted))) same
-      ∙ (sym (lean_cut_of_is bytes wanted)
-      ∙ (ap (λ (w : ℕ → Bool). lean_cut_of bytes w) by
-      ∙ ap (λ (k : Kind). cut_in k bytes codes) (sym lean))))
+-- the file of a source is the cut for the codes of ranges
+pub file_of_source : (kind : Kind) (font : List ℕ) (ranges : List CodeRange) (wanted : List CodeRange) (source : Held) → member wanted ≡ wanted_by ranges → source ≡ (kind, (font, Some wanted))
+    → file current_layout (written_of source.0 source.1) ≡ cut_in kind font (wanted_by ranges)
+file_of_source kind font ranges wanted source by is = cut_in_is kind font wanted source is ∙ ap (λ (w : ℕ → Bool). cut_in kind font w) by
 
 module _ (kind : Kind) (font : List ℕ) (ranges : List CodeRange) (made : List ℕ) (accepted : IsAccepted font ranges) (is : made ≡ cut_in kind font (wanted_by ranges)) where
   size_of_cut : (size : ℕ) → size ≡ length made → IsCutSize kind font ranges size

@@ -5,5 +5,4 @@ mod FilledLemmas
 mod InfoLemmas
 mod MappedLemmas
 mod RowLemmas
-mod SetLemmas
 mod StepLemmas

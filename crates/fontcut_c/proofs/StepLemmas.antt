@@ -8,17 +8,17 @@ use Rattle.sfnt_bytes.specs.declared.directory.TheConstants.{MAX_FILE}
 use Rattle.font_file.specs.Font.{font_fault}
 use Rattle.font_file.specs.declared.font_error.FontError.{FontError}
 use Rattle.font_theory.specs.Content.{Content}
-use Rattle.font_theory.specs.Cut.{Format, content_of_all, is_cut, joined, our_format}
+use Rattle.font_theory.specs.Cut.{Format, content_of_all, is_cut, joined}
 use Rattle.font_theory.specs.Difference.{difference}
-use Rattle.font_theory.specs.Lean.{lean_format}
+use Rattle.font_theory.specs.Kinds.{IsKind, format_of}
 use Rattle.font_theory.specs.Tree.{file_at}
 use Rattle.font_theory.specs.declared.Difference.{Difference}
 use Rattle.font_theory.specs.declared.Difference.TheVariants.{AtCode, AtGlyph, AtTable}
+use Rattle.font_theory.specs.declared.kinds.Kind.{Kind}
 use Rattle.font_theory.proofs.CutLemmas.{IsCut-current, is_cut-of}
-use Rattle.font_join.specs.Inside.{IsKind}
+use Rattle.font_theory.proofs.KindLemmas.{kind_is}
 use Rattle.font_join.specs.Join.{different, join_fault}
 use Rattle.font_join.specs.JoinList.{IsAllRefusal, IsRefusedAt}
-use Rattle.font_join.specs.Kinds.{lean_kind, our_kind}
 use Rattle.font_join.specs.declared.join_error.JoinAllError.{JoinAllError}
 use Rattle.font_join.specs.declared.join_error.JoinAllError.TheVariants.{At, NothingToJoin}
 use Rattle.font_join.specs.declared.join_error.JoinError.{JoinError}
@@ -84,9 +84,6 @@ module _ {R : Format} {spelled : Content → Content} (kind : IsKind R spelled) 
   named_by_step (At step (TooLarge size)) r = tt
   named_by_step (At step NoMemory) r = tt
 
--- of ordinary cuts, and of lean ones
-pub named_full : (files : List (List ℕ)) (error : JoinAllError) → IsAllRefusal our_format files error → NamesByItsStep error
-named_full files error r = named_by_step our_kind files error r
-
-pub named_lean : (files : List (List ℕ)) (error : JoinAllError) → IsAllRefusal lean_format files error → NamesByItsStep error
-named_lean files error r = named_by_step lean_kind files error r
+-- of cuts of each kind
+pub names_file : (kind : Kind) (files : List (List ℕ)) (error : JoinAllError) → IsAllRefusal (format_of kind) files error → NamesByItsStep error
+names_file kind files error r = named_by_step (kind_is kind) files error r

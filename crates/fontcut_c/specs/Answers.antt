@@ -7,8 +7,8 @@ use Rattle.font_tables.specs.declared.tables.TableError.TheVariants.{BadLoca, Mi
 use Rattle.font_file.specs.Text.{error_number}
 use Rattle.font_file.specs.declared.font_error.FontError.{FontError}
 use Rattle.font_file.specs.declared.font_error.FontError.TheVariants.{BadGlyph, Directory, Mapping, Tables}
-use Rattle.font_subset.specs.declared.cut_forms.CutForm.{CutForm}
-use Rattle.font_subset.specs.declared.cut_forms.CutForm.TheVariants.{Current, Not, Old}
+use Rattle.font_subset.specs.declared.forms.CutForm.{CutForm}
+use Rattle.font_subset.specs.declared.forms.CutForm.TheVariants.{Current, Not, Old}
 use Rattle.font_join.specs.JoinText.{join_all_error_number, join_error_number}
 use Rattle.font_join.specs.declared.join_error.JoinAllError.{JoinAllError}
 use Rattle.font_join.specs.declared.join_error.JoinAllError.TheVariants.{At, NothingToJoin}

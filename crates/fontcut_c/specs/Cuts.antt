@@ -4,11 +4,11 @@ use Rattle.std.specs.Prelude.{◌≡◌, ℕ, ◌-◌, ◌^◌, ◌<◌, ◌≤�
 use Rattle.std.specs.List.{concat}
 use Rattle.sfnt_bytes.specs.declared.directory.TheConstants.{MAX_FILE}
 use Rattle.font_file.specs.Font.{font_fault}
+use Rattle.font_theory.specs.declared.kinds.Kind.{Kind}
+use Rattle.font_subset.specs.Kinds.{cut_in}
 use Rattle.fontcut_c.specs.Answers.{IsInRoom, cuts_answer}
 use Rattle.fontcut_c.specs.Cutting.{IsAccepted, IsFirstBad, wanted_by}
-use Rattle.fontcut_c.specs.Kinds.{cut_in}
 use Rattle.fontcut_c.specs.declared.answer.Answer.{Answer}
-use Rattle.fontcut_c.specs.declared.kind.Kind.{Kind}
 use Rattle.codes.specs.declared.code_range.CodeRange.{CodeRange}
 use Rattle.fontcut_c.specs.declared.refusal.CutsRefusal.{CutsRefusal}
 use Rattle.fontcut_c.specs.declared.refusal.CutsRefusal.TheVariants.{BadCounts, Cut}

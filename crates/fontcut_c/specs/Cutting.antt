@@ -3,10 +3,10 @@ use Rattle.std.specs.Prelude.{◌≡◌, ℕ, ◌<◌, ◌≤◌, Bool, List, []
 use Rattle.sfnt_bytes.specs.declared.directory.TheConstants.{MAX_FILE}
 use Rattle.codes.specs.Wanted.{IsBadRange, codes_between, either, no_codes}
 use Rattle.font_file.specs.Font.{font_fault}
+use Rattle.font_theory.specs.declared.kinds.Kind.{Kind}
+use Rattle.font_subset.specs.Kinds.{cut_in}
 use Rattle.fontcut_c.specs.Answers.{IsInRoom, size_answer}
-use Rattle.fontcut_c.specs.Kinds.{cut_in}
 use Rattle.fontcut_c.specs.declared.answer.Answer.{Answer}
-use Rattle.fontcut_c.specs.declared.kind.Kind.{Kind}
 use Rattle.codes.specs.declared.code_range.CodeRange.{CodeRange}
 use Rattle.fontcut_c.specs.declared.refusal.Refusal.{Refusal}
 use Rattle.fontcut_c.specs.declared.refusal.Refusal.TheVariants.{BadRange, Font, NoMemory, SmallRoom, TooLarge}

@@ -1,11 +1,11 @@
 -- What the calls for the form of a cut answer, this project's own.
 use Rattle.std.specs.Prelude.{◌≡◌, ℕ, ◌↔◌, IsTrue, Bool, List, None, Some, Result, MatchResult}
 use Rattle.font_file.specs.Font.{font_fault}
-use Rattle.font_subset.specs.declared.cut_forms.CutForm.{CutForm}
+use Rattle.font_theory.specs.declared.kinds.Kind.{Kind}
+use Rattle.font_subset.specs.Kinds.{IsCutIn, form_as}
+use Rattle.font_subset.specs.declared.forms.CutForm.{CutForm}
 use Rattle.fontcut_c.specs.Answers.{belongs_answer, form_answer}
-use Rattle.fontcut_c.specs.Kinds.{IsCutIn, form_in}
 use Rattle.fontcut_c.specs.declared.answer.Answer.{Answer}
-use Rattle.fontcut_c.specs.declared.kind.Kind.{Kind}
 use Rattle.fontcut_c.specs.declared.refusal.PairRefusal.{PairRefusal}
 use Rattle.fontcut_c.specs.declared.refusal.PairRefusal.TheVariants as of_pair
 use Rattle.fontcut_c.specs.declared.refusal.Refusal.{Refusal}
@@ -33,7 +33,7 @@ pub record IsBelonging (kind : Kind) (cut font : List ℕ) (is : Bool) : Type 0 
 pub record AnswersForm (kind : Kind) (font : List ℕ) (answer : Answer) : Type 0 where
   pub outcome : Result CutForm Refusal
   pub told : answer ≡ form_answer outcome
-  pub holds : MatchResult outcome (λ form. (font_fault font ≡ None) × (form ≡ form_in kind font))
+  pub holds : MatchResult outcome (λ form. (font_fault font ≡ None) × (form ≡ form_as kind font))
       (RefusesFont font)
 
 -- what a call answers that asks whether a file is a cut of a font, of a kind

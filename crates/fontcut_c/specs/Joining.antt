@@ -2,12 +2,12 @@
 use Rattle.std.specs.Prelude.{◌≡◌, ℕ, ◌<◌, ◌≤◌, List, length, Result, MatchResult}
 use Rattle.sfnt_bytes.specs.declared.directory.TheConstants.{MAX_FILE}
 use Rattle.font_theory.specs.Cut.{Format}
+use Rattle.font_theory.specs.Kinds.{format_of}
+use Rattle.font_theory.specs.declared.kinds.Kind.{Kind}
 use Rattle.font_join.specs.JoinList.{IsAllJoined, IsAllRefusal}
 use Rattle.fontcut_c.specs.Answers.{IsInRoom, join_answer}
-use Rattle.fontcut_c.specs.Kinds.{format_of}
 use Rattle.fontcut_c.specs.Text.{join_text, refusal_text}
 use Rattle.fontcut_c.specs.declared.answer.Answer.{Answer}
-use Rattle.fontcut_c.specs.declared.kind.Kind.{Kind}
 use Rattle.fontcut_c.specs.declared.refusal.JoinRefusal.{JoinRefusal}
 use Rattle.fontcut_c.specs.declared.refusal.JoinRefusal.TheVariants.{Join, SmallRoom}
 

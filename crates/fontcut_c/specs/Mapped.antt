@@ -1,7 +1,6 @@
 -- What the call for the mapped codes answers, this project's own: the ranges that `codes` prints.
-use Rattle.std.specs.Prelude.{◌≡◌, ℕ, ◌<◌, List, length, map, None, Some, Result, MatchResult}
+use Rattle.std.specs.Prelude.{◌≡◌, ℕ, ◌<◌, List, length, None, Some, Result, MatchResult}
 use Rattle.font_file.specs.Font.{font_fault}
-use Rattle.codes.specs.declared.ranges.Range.{Range}
 use Rattle.font_cut.specs.Fonts.{cmap_of, glyph_count_of, mapping_of}
 use Rattle.commands.specs.Codes.{code_ranges}
 use Rattle.fontcut_c.specs.Answers.{IsInRoom, size_answer}
@@ -10,21 +9,9 @@ use Rattle.codes.specs.declared.code_range.CodeRange.{CodeRange}
 use Rattle.fontcut_c.specs.declared.refusal.Refusal.{Refusal}
 use Rattle.fontcut_c.specs.declared.refusal.Refusal.TheVariants.{Font, NoMemory, SmallRoom}
 
--- a range, as it is written
-abbrev pub as_written : Range → CodeRange
-as_written range = record { first = range.first; last = range.last }
-
--- the ranges of the mapped codes of a map from a given one on
-abbrev pub listed_from : (ℕ → ℕ) → ℕ → List CodeRange
-listed_from m from = map as_written (code_ranges m from)
-
--- the ranges of all its mapped codes
-abbrev pub listed : (ℕ → ℕ) → List CodeRange
-listed m = listed_from m 0
-
--- those of a file
+-- the ranges of the mapped codes of a file
 abbrev pub listed_of : List ℕ → List CodeRange
-listed_of file = listed (mapping_of (cmap_of file) (glyph_count_of file))
+listed_of file = code_ranges (mapping_of (cmap_of file) (glyph_count_of file)) 0
 
 -- the ranges are in the room
 pub record IsListInRoom (font : List ℕ) (old new : List CodeRange) (size : ℕ) : Type 0 where

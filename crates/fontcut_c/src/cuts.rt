@@ -1,4 +1,4 @@
-//! The cuts of a font for many sets, of either kind, measured, and written end to end to the caller's room.
+//! The cuts of a font for many sets, of a kind, measured, and written end to end to the caller's room.
 ghost use Rattle.std.specs.Prelude.{◌≡◌, ◌≤◌, ◌++◌, ◌∷◌, ◌↔◌, [], IfOk, IsTrue, MatchResult, OnOk, Some, length, map, sum};
 ghost use Rattle.std.specs.List.{concat};
 ghost use Rattle.codes.specs.Wanted.{member};
@@ -6,14 +6,12 @@ ghost use Rattle.fontcut_c.specs.Cutting.{IsAccepted, wanted_by};
 ghost use Rattle.fontcut_c.specs.Cuts.{AddUp, AreCutsInRoom, AreInRoom, AreSmall, IsFirstLarge, RefusesSets, cuts_for, sets_of, size_of_all};
 ghost use Rattle.fontcut_c.specs.Inside.{RefusesFiles, RefusesRequestForSets, files_of};
 
-use crate::cutting::opened;
-use crate::kind::Kind;
+use crate::caller_room::fill_at;
+use crate::cutting::opened_for_ranges;
 use crate::ranges::wanted_of;
 use crate::refusal::{CutsRefusal, Refusal};
-use crate::room::fill_at;
-use font_cut::{CodeRange, CutOf, Font, NoMemory, Wanted, lean};
-use font_subset::measured;
-use font_write::Source;
+use font_cut::{CodeRange, CutOfKind, Font, Kind, NoMemory, Wanted};
+use font_write::{Source, measured};
 use std::alloc::Global;
 
 // Returns whether counts add up to a number.
@@ -43,7 +41,7 @@ fn opened_for_sets<'a>(
     if places != counts.len() || !add_up(counts, ranges.len()) {
         return Err(CutsRefusal::BadCounts);
     }
-    opened(file, ranges).map_err(CutsRefusal::Cut)
+    opened_for_ranges(file, ranges).map_err(CutsRefusal::Cut)
 }
 
 // Puts the codes of ranges after those of other sets.
@@ -69,35 +67,19 @@ fn sets_in(alloc: Global, ranges: &[CodeRange], counts: &[u64]) -> Result<Vec<Wa
     Ok(sets)
 }
 
-// Returns what the cut of a font for each set is made of.
-fn full_sources<'f, 'a>(
+// Returns what the cut of a font for each set is made of, of a kind.
+fn sources_of<'f, 'a>(
     alloc: Global,
+    kind: Kind,
     font: &'f Font<'a>,
     sets: &'f [Wanted],
-) -> Result<Vec<CutOf<'f, 'a>>, NoMemory>
+) -> Result<Vec<CutOfKind<'f, 'a>>, NoMemory>
     ensures { IfOk result
-        (λ sources. sources.items ≡ map (λ set. (font.entry.now, Some set)) sets.entry.now) }
+        (λ sources. sources.items ≡ map (λ set. (kind, (font.entry.now, Some set))) sets.entry.now) }
 {
     let mut sources = Vec::new(alloc);
     for set in sets {
-        let source = CutOf::new(alloc, font, set)?;
-        sources.push(source).map_err(|_| NoMemory)?;
-    }
-    Ok(sources)
-}
-
-// Returns what the lean cut of a font for each set is made of.
-fn lean_sources<'f, 'a>(
-    alloc: Global,
-    font: &'f Font<'a>,
-    sets: &'f [Wanted],
-) -> Result<Vec<lean::CutOf<'f, 'a>>, NoMemory>
-    ensures { IfOk result
-        (λ sources. sources.items ≡ map (λ set. (font.entry.now, Some set)) sets.entry.now) }
-{
-    let mut sources = Vec::new(alloc);
-    for set in sets {
-        let source = lean::CutOf::new(alloc, font, set)?;
+        let source = CutOfKind::new(alloc, kind, font, set)?;
         sources.push(source).map_err(|_| NoMemory)?;
     }
     Ok(sources)
@@ -151,7 +133,8 @@ fn write_all<S: Source>(sources: &[S], out: &mut [u8], sizes: &mut [u64]) -> Res
     Ok(put_all(sources, out, sizes))
 }
 
-// Writes the cuts of an opened font for all sets. All memory is asked for before the first byte is written.
+// Writes the cuts of an opened font for all sets, of a kind. All memory is asked for before the first byte is
+// written.
 fn write_cuts(
     alloc: Global,
     kind: Kind,
@@ -167,20 +150,9 @@ fn write_cuts(
         (λ refusal. (out.new ≡ out.old) × (sizes.new ≡ sizes.old)
         × RefusesFiles cuts (length out.old) refusal) }
 {
-    let sets = match sets_in(alloc, ranges, counts) {
-        Ok(sets) => sets,
-        Err(_) => return Err(Refusal::NoMemory),
-    };
-    match kind {
-        Kind::Full => match full_sources(alloc, font, sets.as_slice()) {
-            Ok(sources) => write_all(sources.as_slice(), out, sizes),
-            Err(_) => Err(Refusal::NoMemory),
-        },
-        Kind::Lean => match lean_sources(alloc, font, sets.as_slice()) {
-            Ok(sources) => write_all(sources.as_slice(), out, sizes),
-            Err(_) => Err(Refusal::NoMemory),
-        },
-    }
+    let sets = sets_in(alloc, ranges, counts)?;
+    let sources = sources_of(alloc, kind, font, sets.as_slice())?;
+    write_all(sources.as_slice(), out, sizes)
 }
 
 /// Writes the cuts of a font for all sets, of a kind, end to end to the front of room, and their lengths to sizes,

@@ -1,17 +1,16 @@
 //! The join of a list of files, of a kind, written to the caller's room.
 ghost use Rattle.std.specs.Prelude.{◌≡◌, IfErr, MatchResult, length, map};
 ghost use Rattle.font_theory.specs.File.{current_layout, file};
+ghost use Rattle.font_theory.specs.Kinds.{format_of};
 ghost use Rattle.fontcut_c.specs.Inside.{IsFileInRoom, IsSmallFile, RefusesJoined};
 ghost use Rattle.fontcut_c.specs.Joining.{IsJoinInRoom, RefusesJoin};
-ghost use Rattle.fontcut_c.specs.Kinds.{format_of};
 ghost use Rattle.fontcut_c.specs.Text.{NamesFile};
 
-use crate::kind::Kind;
+use crate::caller_room::write_sized;
 use crate::refusal::JoinRefusal;
-use crate::room::write_sized;
-use font_join::{lean, open_first_file, union_of_files};
-use font_subset::CURRENT;
-use font_write::{Source, file_size};
+use font_cut::Kind;
+use font_join::{open_first_file, union_of_files};
+use font_write::{CURRENT, Source, file_size};
 use std::alloc::Global;
 
 // Writes the file of a union to the front of room, and returns its length.
@@ -23,14 +22,11 @@ fn write_union<S: Source>(union: &S, out: &mut [u8]) -> Result<u64, JoinRefusal>
     ensures named { IfErr result NamesFile }
 {
     let size = file_size(union, CURRENT);
-    match write_sized(union, size, out) {
-        Ok(size) => Ok(size),
-        Err(size) => Err(JoinRefusal::SmallRoom(size)),
-    }
+    write_sized(union, size, out).map_err(JoinRefusal::SmallRoom)
 }
 
 /// Writes the join of all files, of a kind, to the front of room, and returns its length.
-#[tactic(auto, using(crate::proofs::StepLemmas::named_full, crate::proofs::StepLemmas::named_lean))]
+#[tactic(auto, using(crate::proofs::StepLemmas::names_file))]
 pub(crate) fn join_to(
     alloc: Global,
     kind: Kind,
@@ -43,18 +39,7 @@ pub(crate) fn join_to(
         × RefusesJoin (format_of kind) bytes (length out.old) refusal) }
     ensures named { IfErr result NamesFile }
 {
-    let first = match open_first_file(files) {
-        Ok(first) => first,
-        Err(error) => return Err(JoinRefusal::Join(error)),
-    };
-    match kind {
-        Kind::Full => match union_of_files(alloc, &first, files) {
-            Ok(union) => write_union(&union, out),
-            Err(error) => Err(JoinRefusal::Join(error)),
-        },
-        Kind::Lean => match lean::union_of_files(alloc, &first, files) {
-            Ok(union) => write_union(&union, out),
-            Err(error) => Err(JoinRefusal::Join(error)),
-        },
-    }
+    let first = open_first_file(files)?;
+    let union = union_of_files(alloc, kind, &first, files)?;
+    write_union(&union, out)
 }

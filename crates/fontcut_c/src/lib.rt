@@ -4,6 +4,7 @@
 
 mod answer;
 mod any_error;
+mod caller_room;
 mod cuts;
 mod cutting;
 mod filled;
@@ -16,13 +17,14 @@ mod mapped;
 mod metrics;
 mod ranges;
 mod refusal;
-mod room;
 mod text;
 
 ghost use Rattle.std.specs.Prelude.{◌≡◌, ◌≢◌, IfErr, None, length, map};
 ghost use Rattle.std.specs.List.{concat};
 ghost use Rattle.font_file.specs.Font.{font_fault};
 ghost use Rattle.font_subset.specs.Cut.{cut_of};
+ghost use Rattle.font_subset.specs.Kinds.{cut_in};
+ghost use Rattle.font_theory.specs.declared.kinds.Kind.TheVariants.{Full};
 ghost use Rattle.fontcut_c.specs.Answers.{IsInRoom, belongs_answer, check_answer, cuts_answer, form_answer, join_answer, lookup_answer, size_answer};
 ghost use Rattle.fontcut_c.specs.Cuts.{AnswersCuts, cuts_for};
 ghost use Rattle.fontcut_c.specs.Cutting.{AnswersCut, AnswersCutSize, wanted_by};
@@ -30,29 +32,28 @@ ghost use Rattle.fontcut_c.specs.Forms.{AnswersBelonging, AnswersForm};
 ghost use Rattle.fontcut_c.specs.Glyphs.{AnswersGlyphs, AnswersMetrics, glyphs_of, metrics_of};
 ghost use Rattle.fontcut_c.specs.Info.{info_of};
 ghost use Rattle.fontcut_c.specs.Joining.{AnswersJoin};
-ghost use Rattle.fontcut_c.specs.Kinds.{AnswersInKind, HoldsInKind, cut_in};
+ghost use Rattle.fontcut_c.specs.Kinds.{AnswersInKind, HoldsInKind};
 ghost use Rattle.fontcut_c.specs.Mapped.{AnswersCodes};
 ghost use Rattle.fontcut_c.specs.Text.{AnswersText, NamesFile, check_text, join_text, refusal_text};
 ghost use Rattle.fontcut_c.specs.declared.TheConstants.{VERSION};
-ghost use Rattle.fontcut_c.specs.declared.kind.Kind.TheVariants.{Full};
 
 pub use crate::answer::Answer;
 pub use crate::any_error::AnyError;
 use crate::cuts::cuts_to;
 use crate::cutting::{checked_cut_size, checked_cut_to, cut_size, cut_to};
-use crate::forms::{belongs, form_of, number_of};
+use crate::forms::{file_belongs, form_of, number_of};
 use crate::glyphs::{checked_glyphs_to, glyphs_to};
 pub use crate::info::Info;
 use crate::info::info_in;
 use crate::joining::join_to;
-pub use crate::kind::Kind;
+use crate::kind::kind_of_number;
 use crate::mapped::codes_to;
 pub use crate::metrics::Metric;
 use crate::metrics::{checked_metrics_to, metrics_to};
 pub use crate::refusal::{CutsRefusal, JoinRefusal, LookupRefusal, PairRefusal, Refusal};
 use crate::text::text_to;
 pub use font_cut::CodeRange;
-use font_cut::{CutForm, Font};
+use font_cut::{CutForm, Font, Kind};
 use std::alloc::Global;
 
 /// Says whether a font is accepted: status 0, or the first refusal that applies, whose text [`fontcut_refusal_text`]
@@ -142,7 +143,7 @@ pub extern "C" fn fontcut_subset_size(
 ) -> Answer
     ensures { AnswersInKind kind result (λ k. AnswersCutSize k font.now ranges.now result) }
 {
-    match Kind::of(kind) {
+    match kind_of_number(kind) {
         Some(kind) => size_answered(cut_size(alloc, kind, font, ranges)),
         None => Answer::unknown_kind(kind),
     }
@@ -165,7 +166,7 @@ pub extern "C" fn fontcut_subset(
         (λ k. IsInRoom (cut_in k font.now (wanted_by ranges.now)) out.old out.new result.size) }
     ensures untouched { result.status ≢ 0 → out.new ≡ out.old }
 {
-    match Kind::of(kind) {
+    match kind_of_number(kind) {
         Some(kind) => size_answered(cut_to(alloc, kind, font, ranges, out)),
         None => Answer::unknown_kind(kind),
     }
@@ -183,7 +184,7 @@ pub extern "C" fn fontcut_subset_size_checked(
     requires { font_fault font.now ≡ None }
     ensures { AnswersInKind kind result (λ k. AnswersCutSize k font.now ranges.now result) }
 {
-    match Kind::of(kind) {
+    match kind_of_number(kind) {
         Some(kind) => size_answered(checked_cut_size(alloc, kind, font, ranges)),
         None => Answer::unknown_kind(kind),
     }
@@ -206,7 +207,7 @@ pub extern "C" fn fontcut_subset_checked(
         (λ k. IsInRoom (cut_in k font.now (wanted_by ranges.now)) out.old out.new result.size) }
     ensures untouched { result.status ≢ 0 → out.new ≡ out.old }
 {
-    match Kind::of(kind) {
+    match kind_of_number(kind) {
         Some(kind) => size_answered(checked_cut_to(alloc, kind, font, ranges, out)),
         None => Answer::unknown_kind(kind),
     }
@@ -236,7 +237,7 @@ pub extern "C" fn fontcut_cuts(
     ensures untouched { result.status ≢ 0 → out.new ≡ out.old }
     ensures sizes_untouched { result.status ≢ 0 → sizes.new ≡ sizes.old }
 {
-    match Kind::of(kind) {
+    match kind_of_number(kind) {
         Some(kind) => cuts_answered(cuts_to(alloc, kind, font, ranges, counts, out, sizes)),
         None => Answer::unknown_kind(kind),
     }
@@ -249,7 +250,7 @@ pub extern "C" fn fontcut_cuts(
 pub extern "C" fn fontcut_cut_form(alloc: Global, kind: u32, font: &[u8]) -> Answer
     ensures { AnswersInKind kind result (λ k. AnswersForm k font.now result) }
 {
-    match Kind::of(kind) {
+    match kind_of_number(kind) {
         Some(kind) => form_answered(form_of(alloc, kind, font)),
         None => Answer::unknown_kind(kind),
     }
@@ -262,13 +263,13 @@ pub extern "C" fn fontcut_cut_form(alloc: Global, kind: u32, font: &[u8]) -> Ans
 pub extern "C" fn fontcut_belongs(alloc: Global, kind: u32, cut: &[u8], font: &[u8]) -> Answer
     ensures { AnswersInKind kind result (λ k. AnswersBelonging k cut.now font.now result) }
 {
-    match Kind::of(kind) {
-        Some(kind) => belonging_answered(belongs(alloc, kind, cut, font)),
+    match kind_of_number(kind) {
+        Some(kind) => belonging_answered(file_belongs(alloc, kind, cut, font)),
         None => Answer::unknown_kind(kind),
     }
 }
 
-/// [`fontcut_subset_size`] of an ordinary cut. Deprecated: the next version does not have it.
+/// [`fontcut_subset_size`] of a full cut. Deprecated: the next version does not have it.
 #[unsafe(no_mangle)]
 pub extern "C" fn fontcut_cut_size(alloc: Global, font: &[u8], ranges: &[CodeRange]) -> Answer
     ensures { AnswersCutSize Full font.now ranges.now result }
@@ -276,7 +277,7 @@ pub extern "C" fn fontcut_cut_size(alloc: Global, font: &[u8], ranges: &[CodeRan
     size_answered(cut_size(alloc, Kind::Full, font, ranges))
 }
 
-/// [`fontcut_subset`] of an ordinary cut. Deprecated: the next version does not have it.
+/// [`fontcut_subset`] of a full cut. Deprecated: the next version does not have it.
 #[unsafe(no_mangle)]
 pub extern "C" fn fontcut_cut(
     alloc: Global,
@@ -292,7 +293,7 @@ pub extern "C" fn fontcut_cut(
     size_answered(cut_to(alloc, Kind::Full, font, ranges, out))
 }
 
-/// [`fontcut_cut_form`] of an ordinary cut. Deprecated: the next version does not have it.
+/// [`fontcut_cut_form`] of a full cut. Deprecated: the next version does not have it.
 #[unsafe(no_mangle)]
 pub extern "C" fn fontcut_is_cut(alloc: Global, font: &[u8]) -> Answer
     ensures { AnswersForm Full font.now result }
@@ -300,12 +301,12 @@ pub extern "C" fn fontcut_is_cut(alloc: Global, font: &[u8]) -> Answer
     form_answered(form_of(alloc, Kind::Full, font))
 }
 
-/// [`fontcut_belongs`] of an ordinary cut. Deprecated: the next version does not have it.
+/// [`fontcut_belongs`] of a full cut. Deprecated: the next version does not have it.
 #[unsafe(no_mangle)]
 pub extern "C" fn fontcut_is_cut_of(alloc: Global, cut: &[u8], font: &[u8]) -> Answer
     ensures { AnswersBelonging Full cut.now font.now result }
 {
-    belonging_answered(belongs(alloc, Kind::Full, cut, font))
+    belonging_answered(file_belongs(alloc, Kind::Full, cut, font))
 }
 
 /// Writes the join of all files, cuts of the kind that the number names, to the front of `out`. A refusal
@@ -317,13 +318,13 @@ pub extern "C" fn fontcut_join(alloc: Global, kind: u32, files: &[&[u8]], out: &
         AnswersInKind kind result (λ k. AnswersJoin k bytes out.old out.new result) }
     ensures untouched { result.status ≢ 0 → out.new ≡ out.old }
 {
-    match Kind::of(kind) {
+    match kind_of_number(kind) {
         Some(kind) => join_answered(join_to(alloc, kind, files, out)),
         None => Answer::unknown_kind(kind),
     }
 }
 
-/// [`fontcut_join`] of ordinary cuts. Deprecated: the next version does not have it.
+/// [`fontcut_join`] of full cuts. Deprecated: the next version does not have it.
 #[unsafe(no_mangle)]
 pub extern "C" fn fontcut_join_all(alloc: Global, files: &[&[u8]], out: &mut [u8]) -> Answer
     ensures exact { let bytes = map (λ f. f.now) files.now in AnswersJoin Full bytes out.old out.new result }

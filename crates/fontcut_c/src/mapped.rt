@@ -1,7 +1,8 @@
 //! The ranges of the codes that a font maps, counted, and written to the caller's room.
 ghost use Rattle.std.specs.Prelude.{◌≡◌, ◌≤◌, ◌++◌, MatchResult, drop, length};
 ghost use Rattle.font_cut.specs.Fonts.{mapping_of};
-ghost use Rattle.fontcut_c.specs.Mapped.{IsListInRoom, RefusesList, listed};
+ghost use Rattle.commands.specs.Codes.{code_ranges};
+ghost use Rattle.fontcut_c.specs.Mapped.{IsListInRoom, RefusesList};
 
 use crate::refusal::Refusal;
 use commands::next_range;
@@ -11,7 +12,7 @@ use std::alloc::Global;
 // Counts the ranges.
 #[tactic(auto, using(crate::proofs::MappedLemmas::counted_more, crate::proofs::MappedLemmas::counted_all))]
 fn count_ranges(chart: &Chart<'_>) -> usize
-    ensures { result ≡ length (listed (mapping_of chart.now.0 chart.now.1)) }
+    ensures { result ≡ length (code_ranges (mapping_of chart.now.0 chart.now.1) 0) }
 {
     let (mut count, mut from) = (0, 0);
     while let Some(range) = next_range(chart, from) {
@@ -24,16 +25,13 @@ fn count_ranges(chart: &Chart<'_>) -> usize
 // Writes the ranges to the front of room that has one place for each at least.
 #[tactic(auto, using(crate::proofs::MappedLemmas::put_more, crate::proofs::MappedLemmas::put_all, crate::proofs::MappedLemmas::below_count))]
 fn put_ranges(chart: &Chart<'_>, out: &mut [CodeRange])
-    requires { length (listed (mapping_of chart.now.0 chart.now.1)) ≤ length out.old }
-    ensures { out.new ≡ listed (mapping_of chart.now.0 chart.now.1)
-        ++ drop (length (listed (mapping_of chart.now.0 chart.now.1))) out.old }
+    requires { length (code_ranges (mapping_of chart.now.0 chart.now.1) 0) ≤ length out.old }
+    ensures { out.new ≡ code_ranges (mapping_of chart.now.0 chart.now.1) 0
+        ++ drop (length (code_ranges (mapping_of chart.now.0 chart.now.1) 0)) out.old }
 {
     let (mut at, mut from) = (0, 0);
     while let Some(range) = next_range(chart, from) {
-        out[at] = CodeRange {
-            first: range.first,
-            last: range.last,
-        };
+        out[at] = range;
         at += 1;
         from = range.last + 1;
     }

@@ -8,10 +8,12 @@ ghost use Rattle.fontcut_c.specs.Answers.{as_detail, at_step, cuts_refusal_answe
 ghost use Rattle.fontcut_c.specs.Errors.{error_of, font_error_of};
 ghost use Rattle.fontcut_c.specs.Text.{NamesByItsStep, NamesByStep, NamesFile, join_text, refusal_text, text_of_refusal};
 ghost use Rattle.fontcut_c.specs.declared.any_error.AnyError.TheVariants.{Font};
+ghost use Rattle.fontcut_c.specs.declared.refusal.JoinRefusal.TheVariants.{Join};
+ghost use Rattle.fontcut_c.specs.declared.refusal.Refusal.TheVariants.{NoMemory as MemoryRefused};
 
 use crate::answer::Answer;
 use font_cut::{DirError, FontError, JoinAllError, JoinError, TableError};
-use sfnt_bytes::{Tag, numbers};
+use sfnt_bytes::{NoMemory, Tag, numbers};
 
 /// The status of a room that is too small.
 const SMALL_ROOM: u8 = 100;
@@ -35,6 +37,14 @@ pub enum Refusal {
     TooLarge(u64),
     /// There is this number of bytes, or of ranges, which is more than there is room for.
     SmallRoom(u64),
+}
+
+impl From<NoMemory> for Refusal {
+    ghost from_gives = { λ held refusal. refusal ≡ MemoryRefused };
+
+    fn from(_error: NoMemory) -> Refusal {
+        Refusal::NoMemory
+    }
 }
 
 /// Why the cuts for many sets are not written.
@@ -76,6 +86,14 @@ pub enum JoinRefusal {
     Join(JoinAllError),
     /// The join has this number of bytes, more than there is room for.
     SmallRoom(u64),
+}
+
+impl From<JoinAllError> for JoinRefusal {
+    ghost from_gives = { λ held refusal. refusal ≡ Join held };
+
+    fn from(error: JoinAllError) -> JoinRefusal {
+        JoinRefusal::Join(error)
+    }
 }
 
 // Returns a tag as a number, of which the tag can be made again.

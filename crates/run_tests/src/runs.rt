@@ -2,7 +2,7 @@
 use commands::{RunError, run_belongs, run_check, run_codes, run_join, run_show, run_subset};
 use fakes::Refusing;
 use fakes::devices::{Failure, Narrow, Pieces};
-use font_cut::{BASE6, Outlet, Wanted};
+use font_cut::{BASE6, Kind, Outlet, Wanted};
 use sample_fonts::fonts::BASE6_SHOWN;
 use sample_fonts::known_cuts::{A_AND_B, A_B_AACUTE, AACUTE};
 use std::alloc::Global;
@@ -214,9 +214,9 @@ fn run_compared(
         let other = Pieces::new(&BASE6, 4096, Failure::Nowhere);
         (Inlet::new(reader), Inlet::new(other))
     };
-    let answer = run_belongs(memory, &mut cut, &mut font, &mut outlet).map(u64::from);
+    let answer = run_belongs(memory, Kind::Full, &mut cut, &mut font, &mut outlet);
     outcome_of(
-        answer,
+        answer.map(u64::from),
         [state_of(&cut), state_of(&font), State::Fresh],
         outlet,
     )

@@ -18,8 +18,8 @@ pub loop-next-preserved : goal.loop-next-preserved
 loop-next-preserved g c =
     walk_on _ c.args.from _ _ c.in-Some.next c.in-Some.ensures.map c.loop-next.invariant c.in-Some.ensures.run (omega arith)
 
-pub returns-then-next-line-clause-range : goal.returns-then-next-line-clause-range
-returns-then-next-line-clause-range g c =
+pub returns-then-next-range-clause-range : goal.returns-then-next-range-clause-range
+returns-then-next-range-clause-range g c =
     walk_apart _ c.args.from _ _ c.in-Some.next c.in-Some.ensures.map c.loop-next.invariant c.in-Some.ensures.run
     (λ e. absurd (omega (arith, e)))
 

@@ -5,7 +5,7 @@ use Rattle.commands.proofs.mapped_codes.next_range.Given as goal
 
 -- the runs so far are one range
 abbrev pub invariant-loop-next : goal.invariant-loop-next
-invariant-loop-next g l = Walks (mapping_of l.chart.0 l.chart.1) l.from l.line.first l.line.last
+invariant-loop-next g l = Walks (mapping_of l.chart.0 l.chart.1) l.from l.range.first l.range.last
 
 abbrev pub decreases-loop-next : goal.decreases-loop-next
-decreases-loop-next g l = 0x110000 - l.line.last
+decreases-loop-next g l = 0x110000 - l.range.last

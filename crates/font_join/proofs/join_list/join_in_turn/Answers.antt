@@ -1,6 +1,11 @@
-use Rattle.font_theory.specs.Cut.{our_format}
-use Rattle.font_join.proofs.JoinLemmas.{passed_on}
+use Rattle.std.proofs.Common.{arith}
+use Rattle.std.proofs.lemmas.List.{length-map}
+use Rattle.font_theory.specs.Kinds.{format_of}
+use Rattle.font_subset.proofs.CutLemmas.{passed_on}
 use Rattle.font_join.proofs.join_list.join_in_turn.Goals as goal
 
 pub returns-in_err-first : goal.returns-in_err-first
-returns-in_err-first g c = passed_on _ _ c.from_residual.result _ c.from_residual.ensures.1 (c.in_err-first.ensures our_format)
+returns-in_err-first g c = passed_on _ _ c.from_residual.result _ c.from_residual.ensures.1 (c.in_err-first.ensures (format_of c.args.kind))
+
+pub file_of_all-requires : goal.file_of_all-requires
+file_of_all-requires g c = omega (arith, length-map c.args.files.now (λ v. v.items), c.in_ok-all.ensures.united.some)

@@ -1,6 +1,6 @@
 use Rattle.std.proofs.Common.{◌≤◌, ◌+◌, ◌∙◌, sym, arith}
 use Rattle.font_theory.specs.Content.{Content, glyph_count}
-use Rattle.font_join.specs.LeanInside.{has_other_metrics}
+use Rattle.font_join.specs.KindInside.{has_other_metrics}
 use Rattle.font_join.proofs.FirstLemmas.{fails_next}
 use Rattle.font_join.proofs.LeanGlyphLemmas.{others-found, others-none, others-skip}
 use Rattle.font_join.proofs.metrics.different_metrics.Goals as goal

@@ -1,6 +1,6 @@
 use Rattle.std.proofs.Common.{◌≡◌, ◌≤◌, ◌<◌, ◌-◌, ℕ, false}
 use Rattle.font_theory.specs.Content.{Content, glyph_count}
-use Rattle.font_join.specs.LeanInside.{has_other_metrics}
+use Rattle.font_join.specs.KindInside.{has_other_metrics}
 use Rattle.font_join.proofs.metrics.different_metrics.Given as goal
 
 -- none of the glyphs below has other metrics

@@ -1,6 +1,6 @@
 use Rattle.std.proofs.Common.{◌≡◌, ℕ, List, [], Option, refl, sym}
 use Rattle.std.specs.Option.{unwrap_or}
-use Rattle.font_subset.proofs.LeanSourceLemmas.{or_empty}
+use Rattle.font_subset.proofs.KindSourceLemmas.{or_empty}
 use Rattle.font_join.proofs.LeanTableLemmas.{pairs_read}
 use Rattle.font_join.proofs.metrics.table_of.Goals as goal
 

@@ -4,4 +4,4 @@ use Rattle.font_subset.proofs.cut_forms.cut_form.Goals as goal
 
 pub returns-clause-form : goal.returns-clause-form
 returns-clause-form g c =
-    MatchResult-weaker c.form_exactly.result c.form_exactly.ensures (λ form e. form_told form c.args.font.now c.recall_accepted.ensures e) (λ e h. tt)
+    MatchResult-weaker c.form_of_kind.result c.form_of_kind.ensures (λ form e. form_told form c.args.font.now c.recall_accepted.ensures e) (λ e h. tt)

@@ -1,5 +1,5 @@
-use Rattle.font_theory.proofs.LeanFileLemmas.{IsCurrent-ordinary}
+use Rattle.font_theory.proofs.LeanFileLemmas.{IsCurrent-full}
 use Rattle.font_theory.proofs.lean.lean_cut_is_current.Goals as goal
 
 pub returns : goal.returns
-returns c = IsCurrent-ordinary
+returns c = IsCurrent-full

@@ -1,5 +1,5 @@
-use Rattle.font_theory.proofs.LeanFileLemmas.{read-current, content_of_all-ordinary}
+use Rattle.font_theory.proofs.LeanFileLemmas.{read-current, content_of_all-full}
 use Rattle.font_theory.proofs.lean.lean_file_means.Goals as goal
 
 pub returns : goal.returns
-returns c = λ X layout. ((read-current X layout).0, content_of_all-ordinary X layout)
+returns c = λ X layout. ((read-current X layout).0, content_of_all-full X layout)

@@ -1,6 +1,11 @@
-use Rattle.font_theory.specs.Cut.{our_format}
-use Rattle.fontcut_c.proofs.StepLemmas.{named_full}
+use Rattle.std.proofs.Common.{refl}
+use Rattle.font_theory.specs.Kinds.{format_of}
+use Rattle.font_subset.proofs.CutLemmas.{passed_on}
+use Rattle.fontcut_c.proofs.StepLemmas.{names_file}
 use Rattle.fontcut_c.proofs.joining.join_to.Goals as goal
 
-pub returns-in-Err-clause-named : goal.returns-in-Err-clause-named
-returns-in-Err-clause-named c = named_full _ c.in-Err.error (c.in-Err.ensures our_format)
+pub returns-in_err-first-clause-exact : goal.returns-in_err-first-clause-exact
+returns-in_err-first-clause-exact c = passed_on _ _ c.from_residual.result _ c.from_residual.ensures.1 (refl, c.in_err-first.ensures (format_of c.args.kind))
+
+pub returns-in_err-first-clause-named : goal.returns-in_err-first-clause-named
+returns-in_err-first-clause-named c = passed_on _ _ c.from_residual.result _ c.from_residual.ensures.1 (names_file c.args.kind _ c.in_err-first.field-0.0 (c.in_err-first.ensures (format_of c.args.kind)))

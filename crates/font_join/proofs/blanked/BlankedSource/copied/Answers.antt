@@ -1,6 +1,6 @@
 use Rattle.std.proofs.Common.{◌≡◌, ℕ, List, Option, None, Some, MatchOption, subst, ◌∙◌}
 use Rattle.sfnt_bytes.specs.declared.tag.TheConstants.{HHEA, HMTX, VHEA, VMTX}
-use Rattle.font_join.specs.LeanInside.{blank_in}
+use Rattle.font_join.specs.KindInside.{blank_in}
 use Rattle.font_join.proofs.LeanTableLemmas.{replaced_copied, replaced_hmtx, replaced_vmtx}
 use Rattle.font_join.proofs.blanked.BlankedSource.copied.Goals as goal
 

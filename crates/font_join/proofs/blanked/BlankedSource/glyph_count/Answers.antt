@@ -1,6 +1,6 @@
 use Rattle.std.proofs.Common.{sym, ◌∙◌}
 use Rattle.sfnt_bytes.specs.declared.tag.TheConstants.{HHEA, HMTX, VHEA, VMTX}
-use Rattle.font_join.specs.LeanInside.{blank_in}
+use Rattle.font_join.specs.KindInside.{blank_in}
 use Rattle.font_join.proofs.LeanTableLemmas.{count_of_replaced}
 use Rattle.font_join.proofs.blanked.BlankedSource.glyph_count.Goals as goal
 

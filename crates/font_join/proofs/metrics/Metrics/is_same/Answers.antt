@@ -1,7 +1,7 @@
 use Rattle.std.proofs.Common.{◌≡◌, ◌&&◌, ℕ, Bool, List, true, false, ap, sym, ◌∙◌}
 use Rattle.std.specs.Str.{bytes_eq}
 use Rattle.font_theory.specs.Lean.{metric_bytes}
-use Rattle.font_join.specs.LeanInside.{metrics_by}
+use Rattle.font_join.specs.KindInside.{metrics_by}
 use Rattle.font_join.proofs.LeanTableLemmas.{metrics_same}
 use Rattle.font_join.proofs.metrics.Metrics.is_same.Goals as goal
 

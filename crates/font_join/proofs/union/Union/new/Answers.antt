@@ -1,23 +1,7 @@
 use Rattle.std.proofs.Common.{◌∙◌}
-use Rattle.font_theory.specs.Cut.{our_format, content_of_all}
-use Rattle.font_join.specs.Kinds.{our_kind}
+use Rattle.std.proofs.lemmas.Result.{MatchResult-weaker}
 use Rattle.font_join.proofs.AddLemmas.{both_whole}
-use Rattle.font_join.proofs.JoinLemmas.{passed_on}
-use Rattle.font_join.proofs.TurnLemmas.{fault_of_two, refused_one, refused_two}
 use Rattle.font_join.proofs.union.Union.new.Goals as goal
 
-pub returns-in_err-one : goal.returns-in_err-one
-returns-in_err-one g c =
-    passed_on _ _ c.from_residual.result _ c.from_residual.ensures.1
-    (refused_one our_kind c.args.x.now c.args.y.now c.in_err-one.field-0.0 c.in_err-one.ensures)
-
 pub returns : goal.returns
-returns g c =
-    let added = c.in_ok-both.ensures (content_of_all our_format c.args.x.now) c.in_ok-one.ensures.0 in
-    (c.in_ok-settle.ensures ∙ added.0.is ∙ both_whole c.args.x.now c.args.y.now, fault_of_two our_kind c.args.x.now c.args.y.now c.in_ok-one.ensures.1 ∙ added.1)
-
-pub returns-in_err-both : goal.returns-in_err-both
-returns-in_err-both g c =
-    passed_on _ _ c.from_residual-in_err-both.result _ c.from_residual-in_err-both.ensures.1
-    (refused_two our_kind (content_of_all our_format c.args.x.now) c.args.x.now c.args.y.now c.in_err-both.field-0.0
-    (fault_of_two our_kind c.args.x.now c.args.y.now c.in_ok-one.ensures.1) (c.in_err-both.ensures (content_of_all our_format c.args.x.now) c.in_ok-one.ensures.0))
+returns g c = MatchResult-weaker c.of_two.result c.of_two.ensures (λ u h. (h.0 ∙ both_whole c.args.x.now c.args.y.now, h.1)) (λ e r. r)

@@ -12,7 +12,7 @@ use Rattle.font_subset.proofs.cut_source.Charted.runs.Goals as goal
 pub loop-ahead-preserved : goal.loop-ahead-preserved
 loop-ahead-preserved g c =
     let M : ℕ → ℕ = restricted everything (map_of c.args.self.now) in
-    let same : mapping_of c.self.inside.chart.0 c.self.inside.chart.1 ≡ M = ap (λ (v : List ℕ × ℕ). mapping_of v.0 v.1) c.self.invariant ∙ ap map_of c.self.view_is in
+    let same : mapping_of c.self.inside.chart.0 c.self.inside.chart.1 ≡ M = ap (λ (v : List ℕ × ℕ). mapping_of v.0 v.1) c.self.invariant.0 ∙ ap map_of c.self.view_is in
     let map : IsCharacterMap M = c.known_map.ensures in
     let piece : IsPiece M c.loop-ahead.from c.in-Some.piece = subst (IsNext M c.loop-ahead.from) c.in-Some.is c.loop-ahead.invariant.next in
     let found = c.run_of-behind.ensures.run c.loop-ahead.from (subst (λ (m : ℕ → ℕ). IsPiece m c.loop-ahead.from c.in-Some.piece) (sym same) piece) in

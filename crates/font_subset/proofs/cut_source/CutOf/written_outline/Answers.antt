@@ -1,6 +1,6 @@
 use Rattle.std.proofs.Common.{◌≡◌, ℕ, ◌<◌, List, Option, Some, sym, ap, subst, ◌∙◌}
 use Rattle.std.specs.Option.{is_some}
-use Rattle.codes.specs.declared.ranges.Range.{Range}
+use Rattle.codes.specs.declared.code_range.CodeRange.{CodeRange}
 use Rattle.font_tables.specs.Fields.{glyph_count_of}
 use Rattle.font_tables.specs.Outlines.{outline_of}
 use Rattle.font_theory.specs.Content.{content, everything, font_of}
@@ -12,19 +12,19 @@ pub outline-requires : goal.outline-requires
 outline-requires g c =
     let file : List ℕ = c.args.self.now.0 in
     let marked : IsKeptSet file (codes_wanted c.args.self.now.1) c.self.inside.kept =
-    subst (λ (v : List ℕ × Option (List Range)). IsKeptSet v.0 (codes_wanted v.1) c.self.inside.kept) c.self.view_is c.self.invariant in
-    let kept : IsKeptSet file everything c.self.inside.kept = subst (λ (o : Option (List Range)). IsKeptSet file (codes_wanted o) c.self.inside.kept) c.requires.all marked in
+    subst (λ (v : List ℕ × Option (List CodeRange)). IsKeptSet v.0 (codes_wanted v.1) c.self.inside.kept) c.self.view_is c.self.invariant in
+    let kept : IsKeptSet file everything c.self.inside.kept = subst (λ (o : Option (List CodeRange)). IsKeptSet file (codes_wanted o) c.self.inside.kept) c.requires.all marked in
     let is : c.keeps.result ≡ is_some ((content (font_of file) everything).outline c.args.g) =
-    subst (λ (o : Option (List Range)). c.keeps.result ≡ is_some ((content (font_of file) (codes_wanted o)).outline c.args.g)) c.requires.all c.keeps.ensures in
-    subst (λ (b : List ℕ). c.args.g < glyph_count_of b) (sym (c.font.ensures.font ∙ ap (λ (v : List ℕ × Option (List Range)). v.0) c.self.view_is)) (written_below file c.self.inside.kept kept c.args.g c.keeps.result is c.if-keeps.true)
+    subst (λ (o : Option (List CodeRange)). c.keeps.result ≡ is_some ((content (font_of file) (codes_wanted o)).outline c.args.g)) c.requires.all c.keeps.ensures in
+    subst (λ (b : List ℕ). c.args.g < glyph_count_of b) (sym (c.font.ensures.font ∙ ap (λ (v : List ℕ × Option (List CodeRange)). v.0) c.self.view_is)) (written_below file c.self.inside.kept kept c.args.g c.keeps.result is c.if-keeps.true)
 
 pub returns-then-keeps-clause-outline : goal.returns-then-keeps-clause-outline
 returns-then-keeps-clause-outline g c =
     let file : List ℕ = c.args.self.now.0 in
     let marked : IsKeptSet file (codes_wanted c.args.self.now.1) c.self.inside.kept =
-    subst (λ (v : List ℕ × Option (List Range)). IsKeptSet v.0 (codes_wanted v.1) c.self.inside.kept) c.self.view_is c.self.invariant in
-    let kept : IsKeptSet file everything c.self.inside.kept = subst (λ (o : Option (List Range)). IsKeptSet file (codes_wanted o) c.self.inside.kept) c.requires.all marked in
+    subst (λ (v : List ℕ × Option (List CodeRange)). IsKeptSet v.0 (codes_wanted v.1) c.self.inside.kept) c.self.view_is c.self.invariant in
+    let kept : IsKeptSet file everything c.self.inside.kept = subst (λ (o : Option (List CodeRange)). IsKeptSet file (codes_wanted o) c.self.inside.kept) c.requires.all marked in
     let is : c.keeps.result ≡ is_some ((content (font_of file) everything).outline c.args.g) =
-    subst (λ (o : Option (List Range)). c.keeps.result ≡ is_some ((content (font_of file) (codes_wanted o)).outline c.args.g)) c.requires.all c.keeps.ensures in
+    subst (λ (o : Option (List CodeRange)). c.keeps.result ≡ is_some ((content (font_of file) (codes_wanted o)).outline c.args.g)) c.requires.all c.keeps.ensures in
     written_is file c.self.inside.kept kept c.requires.form c.args.g c.keeps.result is c.if-keeps.true
-    ∙ ap (λ (b : List ℕ). Some b) (sym (c.outline.ensures.outline ∙ ap (λ (b : List ℕ). outline_of b c.args.g) (c.font.ensures.font ∙ ap (λ (v : List ℕ × Option (List Range)). v.0) c.self.view_is)))
+    ∙ ap (λ (b : List ℕ). Some b) (sym (c.outline.ensures.outline ∙ ap (λ (b : List ℕ). outline_of b c.args.g) (c.font.ensures.font ∙ ap (λ (v : List ℕ × Option (List CodeRange)). v.0) c.self.view_is)))

@@ -1,6 +1,0 @@
-use Rattle.font_theory.specs.Lean.{lean_format}
-use Rattle.font_join.proofs.JoinLemmas.{passed_on}
-use Rattle.font_join.proofs.lean_join_list.join_in_turn.Goals as goal
-
-pub returns-in_err-first : goal.returns-in_err-first
-returns-in_err-first g c = passed_on _ _ c.from_residual.result _ c.from_residual.ensures.1 (c.in_err-first.ensures lean_format)

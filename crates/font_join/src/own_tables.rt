@@ -1,0 +1,71 @@
+//! The tables of metrics that a union has of its own. OpenType 1.9, hmtx; vmtx.
+ghost use Rattle.std.specs.Prelude.{◌≡◌, [], option_copied, unwrap_or, IfOk};
+ghost use Rattle.std.specs.Option.{option_map};
+ghost use Rattle.font_theory.specs.Lean.{either_bytes};
+ghost use Rattle.font_join.specs.KindInside.{own_in};
+
+use font_theory::Kind;
+use sfnt_bytes::NoMemory;
+use std::alloc::Allocator;
+
+// Lays a table over another: where a byte is 0 the byte of the other stands. Not inlined: alone, its loop takes
+// many bytes at once.
+#[inline(never)]
+fn lay_over(first: &mut [u8], second: &[u8])
+    ensures { first.new ≡ either_bytes first.old second.now }
+{
+    let count = first.len().min(second.len());
+    for j in 0..count {
+        first[j] = first[j] | second[j];
+    }
+}
+
+/// Returns a table with another laid over it, none where the first is missing.
+pub(crate) fn either_table<A: Allocator>(
+    first: Option<Vec<u8, A>>,
+    second: Option<&[u8]>,
+) -> Option<Vec<u8, A>>
+    ensures { option_map (λ v. v.items) result
+        ≡ option_map (λ t. either_bytes t (unwrap_or (option_copied second.entry) []))
+        (option_map (λ v. v.items) first) }
+{
+    match first {
+        None => None,
+        Some(mut table) => {
+            lay_over(&mut table, second.unwrap_or(&[]));
+            Some(table)
+        }
+    }
+}
+
+/// Returns the table that a union of a kind has of its first file: for lean cuts a copy of it, where it is
+/// there.
+///
+/// # Errors
+///
+/// `NoMemory` where memory is refused.
+pub(crate) fn own_table<A: Allocator>(
+    alloc: A,
+    kind: Kind,
+    table: Option<&[u8]>,
+) -> Result<Option<Vec<u8, A>>, NoMemory>
+    ensures { IfOk result (λ o. option_map (λ v. v.items) o ≡ own_in kind (option_copied table.entry)) }
+{
+    match kind {
+        Kind::Full => Ok(None),
+        Kind::Lean => owned(alloc, table),
+    }
+}
+
+// Returns a copy of a table that may be missing.
+fn owned<A: Allocator>(alloc: A, table: Option<&[u8]>) -> Result<Option<Vec<u8, A>>, NoMemory>
+    ensures { IfOk result (λ o. option_map (λ v. v.items) o ≡ option_copied table.entry) }
+{
+    match table {
+        None => Ok(None),
+        Some(table) => {
+            let bytes = table.to_vec(alloc).map_err(|_| NoMemory)?;
+            Ok(Some(bytes))
+        }
+    }
+}

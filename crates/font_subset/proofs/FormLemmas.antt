@@ -1,0 +1,54 @@
+-- The form in which a file is that of a content of a kind.
+use Rattle.std.proofs.Common.{◌≡◌, ◌≢◌, ℕ, List, Option, None, refl, sym, ◌∙◌, ap, subst}
+use Rattle.codes.specs.declared.code_range.CodeRange.{CodeRange}
+use Rattle.font_theory.specs.Content.{Content, content}
+use Rattle.font_theory.specs.Cut.{our_format}
+use Rattle.font_theory.specs.File.{current_layout, file, layout_of}
+use Rattle.font_theory.specs.Kinds.{format_of, spelled_by}
+use Rattle.font_theory.specs.Lean.{lean_format}
+use Rattle.font_theory.specs.declared.Profile.TheVariants.{First}
+use Rattle.font_theory.specs.declared.kinds.Kind.{Kind}
+use Rattle.font_theory.specs.declared.kinds.Kind.TheVariants.{Full, Lean}
+use Rattle.font_theory.proofs.KindLemmas.{kind_is}
+use Rattle.font_subset.specs.Content.{codes_wanted, written_of}
+use Rattle.font_subset.specs.Inside.{IsFileIn}
+use Rattle.font_subset.specs.Kinds.{form_as}
+use Rattle.font_subset.specs.declared.forms.CutForm.{CutForm}
+use Rattle.font_subset.proofs.ContentOfAllLemmas.{form_by}
+use Rattle.font_subset.proofs.KindSourceLemmas.{Held, written_is}
+
+-- what was written before, by the kinds
+old_full : (kind : Kind) (C K : Content) (X : List ℕ) → kind ≡ Full → C ≡ spelled_by kind K → (format_of kind).old K ≡ file (layout_of First) C
+unfolding our_format
+old_full Full C K X full spells = ap (λ L. file (layout_of First) L) (sym spells)
+old_full Lean C K X full spells = absurd (let n : Lean ≡ Full = full in cc)
+
+old_lean : (kind : Kind) (K : Content) → kind ≡ Lean → (format_of kind).file K ≡ (format_of kind).old K
+unfolding lean_format
+old_lean Full K lean = absurd (let n : Full ≡ Lean = lean in cc)
+old_lean Lean K lean = refl
+
+module _ (kind : Kind) (C K : Content) (X : List ℕ) (spells : C ≡ spelled_by kind K) where
+  pub now_is : X ≡ file current_layout C → (format_of kind).file K ≡ X
+  now_is h = (kind_is kind).writes K ∙ ap (λ L. file current_layout L) (sym spells) ∙ sym h
+
+  pub not_now : X ≢ file current_layout C → (format_of kind).file K ≢ X
+  not_now n h = n (sym h ∙ (kind_is kind).writes K ∙ ap (λ L. file current_layout L) (sym spells))
+
+  pub old_is : kind ≡ Full → X ≡ file (layout_of First) C → (format_of kind).old K ≡ X
+  old_is full h = old_full kind C K X full spells ∙ sym h
+
+  pub not_old : kind ≡ Full → X ≢ file (layout_of First) C → (format_of kind).old K ≢ X
+  not_old full n h = n (sym h ∙ old_full kind C K X full spells)
+
+  -- a lean cut has one form
+  pub not_lean : kind ≡ Lean → X ≢ file current_layout C → (format_of kind).old K ≢ X
+  not_lean lean n h = not_now n (old_lean kind K lean ∙ h)
+
+-- the form of a font's file, of what is held for all codes
+pub form_of_held : (kind : Kind) (held : Held) (X : List ℕ) (form : CutForm) → kind ≡ held.0 → held.1.1 ≡ None → X ≡ held.1.0 → ((K : Content) → written_of held.0 held.1 ≡ spelled_by kind K → IsFileIn (format_of kind) K X form) → form ≡ form_as held.0 held.1.0
+form_of_held kind held X form same all is told =
+    let here : (K : Content) → written_of held.0 held.1 ≡ spelled_by held.0 K → IsFileIn (format_of held.0) K X form =
+    subst (λ (k : Kind). (K : Content) → written_of held.0 held.1 ≡ spelled_by k K → IsFileIn (format_of k) K X form) same told in
+    let whole = subst (λ (o : Option (List CodeRange)). IsFileIn (format_of held.0) (content ((format_of held.0).font held.1.0) (codes_wanted o)) X form) all (here _ (written_is held.0 held.1)) in
+    form_by (format_of held.0) form held.1.0 (subst (λ (b : List ℕ). IsFileIn (format_of held.0) (content ((format_of held.0).font held.1.0) (codes_wanted None)) b form) is whole)

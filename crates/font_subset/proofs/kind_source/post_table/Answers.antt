@@ -1,0 +1,16 @@
+use Rattle.std.proofs.Common.{ℕ, List, Option, length, ap, arith}
+use Rattle.font_theory.specs.Content.{font_of}
+use Rattle.sfnt_bytes.specs.declared.tag.TheConstants.{POST}
+use Rattle.font_theory.proofs.LeanCopiedLemmas.{length-thin_post}
+use Rattle.font_subset.proofs.KindSourceLemmas.{thin_nowhere}
+use Rattle.font_subset.proofs.kind_source.post_table.Goals as goal
+
+pub returns-then-post-lt-POST_LENGTH-clause-table : goal.returns-then-post-lt-POST_LENGTH-clause-table
+returns-then-post-lt-POST_LENGTH-clause-table g c =
+    let copied : ℕ → Option (List ℕ) = (font_of c.args.cut.now.0).copied in
+    thin_nowhere (copied POST) c.in-Some.post.now c.in-Some.ensures.table c.if-post-lt-POST_LENGTH.true
+
+pub returns-in_ok-bytes-in-Some-clause-small : goal.returns-in_ok-bytes-in-Some-clause-small
+returns-in_ok-bytes-in-Some-clause-small g c =
+    let same = ap (λ (l : List ℕ). length l) c.in_ok-bytes-in-Some.ensures in
+    omega (arith, same, length-thin_post c.in-Some.post.now, c.in-Some.ensures.small)

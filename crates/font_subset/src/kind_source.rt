@@ -1,0 +1,335 @@
+//! What a cut of a kind is made of: what a cut keeps, and the tables that cuts of the kind have anew. Lean
+//! cuts have no metrics of glyphs that are not kept and no names of glyphs. OpenType 1.9, hmtx; vmtx; post.
+ghost use Rattle.std.specs.Prelude.{◌≡◌, ◌+◌, ◌*◌, ◌<◌, ◌≤◌, ◌||◌, ℕ, [], length, None, Some, IfOk, MatchOption, unwrap_or, if◌then◌else◌};
+ghost use Rattle.std.specs.Option.{option_map, option_or};
+ghost use Rattle.sfnt_bytes.specs.declared.directory.TheConstants.{MAX_FILE};
+ghost use Rattle.font_file.specs.Font.{font_fault};
+ghost use Rattle.font_tables.specs.Fields.{number_of_h_metrics};
+ghost use Rattle.font_tables.specs.Refusals.{is_bad_hhea, is_bad_hmtx};
+ghost use Rattle.font_theory.specs.Content.{font_of, glyph_count, is_kept};
+ghost use Rattle.font_theory.specs.declared.kinds.Kind.TheVariants.{Lean};
+ghost use Rattle.font_theory.specs.Lean.{blank, cleared, pairs_in, thin_post};
+ghost use Rattle.sfnt_bytes.specs.declared.tag.TheConstants.{POST};
+ghost use Rattle.font_subset.specs.Content.{codes_wanted, written_of};
+ghost use Rattle.font_subset.specs.Kinds.{form_as};
+
+use crate::cut_source::CutOf;
+use crate::forms::{CutForm, form_of_file};
+use crate::lean_tables::{POST_LENGTH, blank_table, cleared_table, unnamed};
+use font_file::Font;
+use font_map::{Run, Wanted};
+use font_tables::{has_bad_hhea, has_bad_hmtx, read_number_of_h_metrics};
+use font_theory::Kind;
+use font_write::Source;
+use sfnt_bytes::{HHEA, HMTX, NoMemory, POST, VHEA, VMTX};
+use std::alloc::{Allocator, Global};
+use std::marker::Model;
+
+/// Returns the number of pairs in a table of metrics, 0 where its header does not describe it.
+pub fn pairs_by(header: &[u8], table: &[u8], count: u16) -> usize
+    ensures pairs { result ≡ if is_bad_hhea header.now count
+        || is_bad_hmtx table.now (number_of_h_metrics header.now) count then 0
+        else number_of_h_metrics header.now }
+    ensures few { result ≤ count }
+    ensures room { 0 < result → 2 * (result + count) ≤ length table.now }
+{
+    if has_bad_hhea(header, count) {
+        return 0;
+    }
+    let pairs = read_number_of_h_metrics(header);
+    if has_bad_hmtx(table, pairs, count) {
+        return 0;
+    }
+    usize::from(pairs)
+}
+
+// Returns a table of metrics with zeros for the glyphs that are not kept. Where there is none, or its
+// header does not describe it, a lean cut has what the font has, and none is returned.
+fn metrics_table<A: Allocator + Copy>(
+    alloc: A,
+    cut: &CutOf<'_, '_, A>,
+    header: usize,
+    slot: usize,
+) -> Result<Option<Vec<u8, A>>, NoMemory>
+    ensures table { IfOk result (λ o.
+        option_or (option_map (λ v. v.items) o) ((font_of cut.now.0).copied slot)
+        ≡ option_map (cleared (is_kept (font_of cut.now.0) (codes_wanted cut.now.1))
+        (pairs_in (font_of cut.now.0).copied header slot) (glyph_count (font_of cut.now.0).copied))
+        ((font_of cut.now.0).copied slot)) }
+    ensures small { IfOk result (λ o. length (unwrap_or (option_map (λ v. v.items) o) []) ≤ MAX_FILE) }
+{
+    let count = cut.glyph_count();
+    match cut.copied(slot) {
+        None => Ok(None),
+        Some(table) => {
+            let pairs = pairs_by(cut.copied(header).unwrap_or(&[]), table, count);
+            if pairs == 0 {
+                return Ok(None);
+            }
+            let bytes = cleared_table(alloc, cut, table, pairs)?;
+            Ok(Some(bytes))
+        }
+    }
+}
+
+/// Returns a table of metrics of a content with zeros for the bytes of each glyph: what is left of it in a
+/// lean reading. Where the header does not describe it, that is all of it.
+///
+/// # Errors
+///
+/// `NoMemory` where memory is refused.
+pub fn blank_of<S: Source, A: Allocator>(
+    alloc: A,
+    source: &S,
+    header: usize,
+    slot: usize,
+) -> Result<Option<Vec<u8, A>>, NoMemory>
+    ensures table { IfOk result (λ o. option_map (λ v. v.items) o
+        ≡ option_map (blank (pairs_in (S.content_of source.now).copied header slot)
+        (glyph_count (S.content_of source.now).copied)) ((S.content_of source.now).copied slot)) }
+    ensures small { IfOk result (λ o. length (unwrap_or (option_map (λ v. v.items) o) []) ≤ MAX_FILE) }
+{
+    let count = source.glyph_count();
+    match source.copied(slot) {
+        None => Ok(None),
+        Some(table) => {
+            let pairs = pairs_by(source.copied(header).unwrap_or(&[]), table, count);
+            let bytes = blank_table(alloc, table, pairs, count)?;
+            Ok(Some(bytes))
+        }
+    }
+}
+
+// Returns `post` without names. Where there is none, or it is too short for its fields, a lean cut has what
+// the font has, and none is returned.
+fn post_table<A: Allocator + Copy>(
+    alloc: A,
+    cut: &CutOf<'_, '_, A>,
+) -> Result<Option<Vec<u8, A>>, NoMemory>
+    ensures table { IfOk result (λ o.
+        option_or (option_map (λ v. v.items) o) ((font_of cut.now.0).copied POST)
+        ≡ option_map thin_post ((font_of cut.now.0).copied POST)) }
+    ensures small { IfOk result (λ o. length (unwrap_or (option_map (λ v. v.items) o) []) ≤ MAX_FILE) }
+{
+    match cut.copied(POST) {
+        None => Ok(None),
+        Some(post) => {
+            if post.len() < POST_LENGTH {
+                return Ok(None);
+            }
+            let bytes = unnamed(alloc, post)?;
+            Ok(Some(bytes))
+        }
+    }
+}
+
+/// Returns the bytes of a vector, where there is one.
+pub fn bytes_of<A: Allocator>(table: &Option<Vec<u8, A>>) -> Option<&[u8]>
+    ensures { MatchOption result (option_map (λ v. v.items) table.now ≡ None)
+        (λ b. option_map (λ v. v.items) table.now ≡ Some b.now) }
+{
+    match table {
+        Some(bytes) => Some(bytes.as_slice()),
+        None => None,
+    }
+}
+
+/// What a cut of a kind is made of: the codes and outlines of a cut, and the tables of a font, some of them
+/// made anew. A full cut has none of these.
+#[derive(Drop)]
+pub struct CutOfKind<'f, 'a, A: Allocator = Global> {
+    kind: Kind,
+    cut: CutOf<'f, 'a, A>,
+    // Where one of these is missing, the table of the font serves.
+    hmtx: Option<Vec<u8, A>>,
+    post: Option<Vec<u8, A>>,
+    vmtx: Option<Vec<u8, A>>,
+}
+
+// Its value is the kind, and that of the cut.
+impl<'f, 'a, A: Allocator> Model for CutOfKind<'f, 'a, A> {
+    ghost use Rattle.std.specs.Prelude.{ℕ, List, Option};
+    ghost use Rattle.std.specs.Option.{option_map};
+    ghost use Rattle.codes.specs.declared.code_range.CodeRange.{CodeRange};
+    ghost use Rattle.sfnt_bytes.specs.declared.tag.TheConstants.{HMTX, POST, VMTX};
+    ghost use Rattle.font_theory.specs.declared.kinds.Kind.{Kind};
+    ghost use Rattle.font_subset.specs.Inside.{IsMadeTable};
+
+    ghost Value = { Kind × (List ℕ × Option (List CodeRange)) };
+
+    ghost view = { λ c. (c.kind, c.cut) };
+
+    ghost invariant = { λ c. IsMadeTable c.kind c.cut HMTX (option_map (λ v. v.items) c.hmtx)
+        × IsMadeTable c.kind c.cut POST (option_map (λ v. v.items) c.post)
+        × IsMadeTable c.kind c.cut VMTX (option_map (λ v. v.items) c.vmtx) };
+}
+
+impl<'f, 'a, A: Allocator + Copy> CutOfKind<'f, 'a, A> {
+    /// Returns the content of the cut of a kind for the codes of a cut. The tables that it has anew are asked
+    /// for here, and no memory later.
+    ///
+    /// # Errors
+    ///
+    /// `NoMemory` where memory is refused.
+    pub fn of(alloc: A, kind: Kind, cut: CutOf<'f, 'a, A>) -> Result<CutOfKind<'f, 'a, A>, NoMemory>
+        ensures { IfOk result (λ source. source ≡ (kind, cut.entry)) }
+    {
+        match kind {
+            Kind::Full => Ok(CutOfKind {
+                kind: Kind::Full,
+                cut,
+                hmtx: None,
+                post: None,
+                vmtx: None,
+            }),
+            Kind::Lean => CutOfKind::lean(alloc, cut),
+        }
+    }
+
+    // Returns the content of the lean cut for the codes of a cut.
+    fn lean(alloc: A, cut: CutOf<'f, 'a, A>) -> Result<CutOfKind<'f, 'a, A>, NoMemory>
+        ensures { IfOk result (λ source. source ≡ (Lean, cut.entry)) }
+    {
+        let _file = cut.file();
+        let hmtx = metrics_table(alloc, &cut, HHEA, HMTX)?;
+        let post = post_table(alloc, &cut)?;
+        let vmtx = metrics_table(alloc, &cut, VHEA, VMTX)?;
+        Ok(CutOfKind {
+            kind: Kind::Lean,
+            cut,
+            hmtx,
+            post,
+            vmtx,
+        })
+    }
+
+    /// Returns the content of the cut of a kind of a font for the wanted codes. All memory that the cut needs
+    /// before its file is made is asked for here.
+    ///
+    /// # Errors
+    ///
+    /// `NoMemory` where memory is refused.
+    pub fn new(
+        alloc: A,
+        kind: Kind,
+        font: &'f Font<'a>,
+        wanted: &'f Wanted<A>,
+    ) -> Result<CutOfKind<'f, 'a, A>, NoMemory>
+        ensures { IfOk result (λ source. source ≡ (kind, (font.entry.now, Some wanted.entry.now))) }
+    {
+        let cut = CutOf::new(alloc, font, wanted)?;
+        CutOfKind::of(alloc, kind, cut)
+    }
+
+    /// Returns the content of the cut of a kind of a font for all codes.
+    ///
+    /// # Errors
+    ///
+    /// `NoMemory` where memory is refused.
+    pub fn for_all_codes(
+        alloc: A,
+        kind: Kind,
+        font: &'f Font<'a>,
+    ) -> Result<CutOfKind<'f, 'a, A>, NoMemory>
+        ensures { IfOk result (λ source. source ≡ (kind, (font.entry.now, None))) }
+    {
+        let cut = CutOf::for_all_codes(alloc, font)?;
+        CutOfKind::of(alloc, kind, cut)
+    }
+}
+
+impl<'f, 'a, A: Allocator> CutOfKind<'f, 'a, A> {
+    /// Returns the file of the font.
+    pub fn file(&self) -> &'a [u8]
+        ensures file { result.now ≡ self.now.1.0 }
+
+        // What opening the font has shown.
+        ensures sound { font_fault self.now.1.0 ≡ None }
+        ensures small { length result.now ≤ MAX_FILE }
+    {
+        self.cut.file()
+    }
+
+    /// Returns the cut alone.
+    pub fn into_cut(self) -> CutOf<'f, 'a, A>
+        ensures { result ≡ self.entry.1 }
+    {
+        self.cut
+    }
+
+    /// Returns the form in which the font's file is the file of this content, which is that for all codes.
+    pub fn form(&self) -> CutForm
+        requires { self.now.1.1 ≡ None }
+        ensures { result ≡ form_as self.now.0 self.now.1.0 }
+    {
+        form_of_file(self.kind, self, self.file())
+    }
+
+    // Returns the table of a slot that the cut has anew.
+    fn made(&self, slot: usize) -> Option<&[u8]>
+        ensures table { MatchOption result
+            ((written_of self.now.0 self.now.1).copied slot ≡ (font_of self.now.1.0).copied slot)
+            (λ b. (written_of self.now.0 self.now.1).copied slot ≡ Some b.now) }
+        ensures small { MatchOption result Unit (λ b. length b.now ≤ MAX_FILE) }
+    {
+        if slot == HMTX {
+            return bytes_of(&self.hmtx);
+        }
+        if slot == POST {
+            return bytes_of(&self.post);
+        }
+        if slot == VMTX {
+            return bytes_of(&self.vmtx);
+        }
+        None
+    }
+}
+
+impl<'f, 'a, A: Allocator> Source for CutOfKind<'f, 'a, A> {
+    ghost use Rattle.font_subset.specs.Content.{written_of};
+
+    ghost content_of = { λ c. written_of c.0 c.1 };
+
+    fn recall_laws(&self) {
+        let _file = self.cut.file();
+    }
+
+    fn copied(&self, slot: usize) -> Option<&[u8]> {
+        match self.made(slot) {
+            Some(table) => Some(table),
+            None => self.cut.copied(slot),
+        }
+    }
+
+    #[tactic(auto, using(crate::proofs::KindSourceLemmas::in_head))]
+    fn head(&self) -> &[u8] {
+        self.cut.head()
+    }
+
+    #[tactic(auto, using(crate::proofs::KindSourceLemmas::in_count))]
+    fn glyph_count(&self) -> u16 {
+        let _file = self.cut.file();
+        self.cut.glyph_count()
+    }
+
+    #[tactic(auto, using(crate::proofs::KindSourceLemmas::in_map))]
+    fn next_run(&self, from: u32) -> Option<Run> {
+        self.cut.next_run(from)
+    }
+
+    #[tactic(auto, using(crate::proofs::KindSourceLemmas::in_keeps))]
+    fn keeps(&self, g: u16) -> bool {
+        let _file = self.cut.file();
+        self.cut.keeps(g)
+    }
+
+    fn next_kept(&self, from: u16) -> u16 {
+        let _file = self.cut.file();
+        self.cut.next_kept(from)
+    }
+
+    fn outline_of(&self, g: u16) -> &[u8] {
+        let _file = self.cut.file();
+        self.cut.outline_of(g)
+    }
+}
