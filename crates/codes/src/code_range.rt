@@ -5,9 +5,9 @@ use crate::word::{WordError, read_word};
 use std::fmt;
 use std::str::FromStr;
 
-/// The codes from the first to the last. The type alone does not keep the first from being above the last, nor
-/// the last above 0x10FFFF; of a range that was read from a text neither is true. In memory it is laid out as
-/// `fontcut_range` of the library for C.
+/// The codes from the first to the last, both included. Any two numbers may stand here. A range read from a text
+/// begins at or below its last code, which is at most 0x10FFFF. In memory it is laid out as `fontcut_range` of the
+/// library for C.
 ///
 /// # Example
 ///

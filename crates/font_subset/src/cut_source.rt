@@ -157,6 +157,7 @@ impl<'f, 'a, A: Allocator> Charted<'f, 'a, A> {
     }
 
     // Returns the run that begins at the least mapped and wanted code not below `from`.
+    #[inline(always)]
     fn run_from<B: Allocator>(&self, wanted: Option<&Wanted<B>>, from: u32) -> Option<Run>
         ensures { MatchOption result
             (NoRun (wanted_map self.now (option_copied wanted.entry)) from)
@@ -169,6 +170,7 @@ impl<'f, 'a, A: Allocator> Charted<'f, 'a, A> {
     }
 
     // Returns the run that begins at the least mapped code not below `from`.
+    #[inline(always)]
     fn next_run(&self, from: u32) -> Option<Run>
         ensures { MatchOption result (NoRun (wanted_map self.now None) from)
             (IsRun (wanted_map self.now None) from) }

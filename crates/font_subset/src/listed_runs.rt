@@ -44,6 +44,7 @@ impl<A: Allocator> ListedRuns<A> {
     }
 
     /// Returns the run that begins at the least code not below `from` that one of them has.
+    #[inline(always)]
     pub(crate) fn next_run(&self, from: u32) -> Option<Run>
         ensures { MatchOption result (NoRun (spelled self.now) from) (IsRun (spelled self.now) from) }
     {
