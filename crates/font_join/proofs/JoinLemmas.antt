@@ -9,7 +9,7 @@ use Rattle.font_file.specs.declared.font_error.FontError.{FontError}
 use Rattle.font_theory.specs.Content.{Content, content, everything}
 use Rattle.font_theory.specs.Cut.{CanJoin, Format, IsCut, Under, Writes, cut, either, is_cut, joined, renewed, content_of_all}
 use Rattle.font_theory.specs.Difference.{difference}
-use Rattle.font_theory.specs.File.{file, current_layout}
+use Rattle.font_theory.specs.File.{file, current_writing}
 use Rattle.font_theory.specs.Join.{both}
 use Rattle.font_theory.specs.declared.Difference.{Difference}
 use Rattle.font_theory.specs.declared.Difference.TheVariants.{AtCode, AtGlyph, AtTable}
@@ -98,18 +98,18 @@ module _ {R : Format} {spelled : Content → Content} (kind : IsKind R spelled) 
     fault_after e f h = accepted_lines e f ∙ size_last (is_cut R x) (is_cut R y) (difference (content_of_all R x) (content_of_all R y)) _ _ h
 
     -- the file of what is spelled of both contents
-    joined-spelled : (C : Content) → C ≡ spelled (both (content_of_all R x) (content_of_all R y)) → file current_layout C ≡ joined R x y
-    joined-spelled C is = ap (file current_layout) is ∙ sym (kind.writes (both (content_of_all R x) (content_of_all R y)))
+    joined-spelled : (C : Content) → C ≡ spelled (both (content_of_all R x) (content_of_all R y)) → file current_writing C ≡ joined R x y
+    joined-spelled C is = ap (file current_writing) is ∙ sym (kind.writes (both (content_of_all R x) (content_of_all R y)))
 
     pub is_join : font_fault x ≡ None → font_fault y ≡ None → union_fault R x y ≡ None → (C : Content) → C ≡ spelled (both (content_of_all R x) (content_of_all R y)) → (z : List ℕ)
-        → IsWritten (file current_layout C) z → IsJoin R x y z
+        → IsWritten (file current_writing C) z → IsJoin R x y z
     is_join e f h C spells z w =
         let is : z ≡ joined R x y = w.is ∙ joined-spelled C spells in
         let small : nat_lt MAX_FILE (length (joined R x y)) ≡ false = subst (λ (b : List ℕ). nat_lt MAX_FILE (length b) ≡ false) is (le-ltb MAX_FILE (length z) w.small) in
         record { unrefused = fault_after e f h ∙ ap (λ (b : Bool). when b (TooLarge (length (joined R x y)))) small; is = is }
 
     pub is_too_large : font_fault x ≡ None → font_fault y ≡ None → union_fault R x y ≡ None → (C : Content) → C ≡ spelled (both (content_of_all R x) (content_of_all R y)) → (s : ℕ)
-        → IsTooLarge (file current_layout C) s → join_fault R x y ≡ Some (TooLarge s)
+        → IsTooLarge (file current_writing C) s → join_fault R x y ≡ Some (TooLarge s)
     is_too_large e f h C spells s w =
         let is : s ≡ length (joined R x y) = w.0 ∙ ap length (joined-spelled C spells) in
         let big : nat_lt MAX_FILE (length (joined R x y)) ≡ true = lt-ltb MAX_FILE _ (subst (λ (n : ℕ). MAX_FILE < n) is w.1) in
@@ -117,7 +117,7 @@ module _ {R : Format} {spelled : Content → Content} (kind : IsKind R spelled) 
 
     -- a join whose file is not made
     pub unmade : font_fault x ≡ None → font_fault y ≡ None → union_fault R x y ≡ None → (C : Content) → C ≡ spelled (both (content_of_all R x) (content_of_all R y)) → (error : FileError)
-        → IsFileRefusal (file current_layout C) error → IsJoinRefusal R x y (of_file_error error)
+        → IsFileRefusal (file current_writing C) error → IsJoinRefusal R x y (of_file_error error)
     unmade e f h C spells file_errors.NoMemory r = (e, f)
     unmade e f h C spells (file_errors.TooLarge s) r = is_too_large e f h C spells s r
 

@@ -8,7 +8,7 @@ use Rattle.font_theory.specs.Content.{Content, everything}
 use Rattle.font_theory.specs.Cut.{Arises, Format, IsCut, is_cut, content_of_all}
 use Rattle.font_theory.specs.Cut.Arises.{of_file, of_two}
 use Rattle.font_theory.specs.Difference.{difference}
-use Rattle.font_theory.specs.File.{file, current_layout}
+use Rattle.font_theory.specs.File.{file, current_writing}
 use Rattle.font_theory.specs.Join.{Agree, both}
 use Rattle.font_theory.specs.Tree.{file_at}
 use Rattle.font_theory.proofs.CutLemmas.{CanJoin-self, IsCurrent-written, IsCut-current, is_cut-of, content_of_all-written}
@@ -45,10 +45,10 @@ module _ {R : Format} {spelled : Content → Content} (kind : IsKind R spelled) 
   pub united_same : (files : List (List ℕ)) (C D : Content) → D ≡ C → IsUnited R spelled files C → IsUnited R spelled files D
   united_same files C D e h = subst (IsUnited R spelled files) (sym e) h
 
-  pub union_joined : (files : List (List ℕ)) (C : Content) → IsUnited R spelled files C → IsAllJoined R files (file current_layout C)
+  pub union_joined : (files : List (List ℕ)) (C : Content) → IsUnited R spelled files C → IsAllJoined R files (file current_writing C)
   union_joined files C h = record { some = h.some; stands = subst (Stands R files (length files)) h.holds.written h.stands }
 
-  pub union_small : (files : List (List ℕ)) (C : Content) → IsUnited R spelled files C → length (file current_layout C) ≤ MAX_FILE
+  pub union_small : (files : List (List ℕ)) (C : Content) → IsUnited R spelled files C → length (file current_writing C) ≤ MAX_FILE
   union_small files C h = subst (λ (z : List ℕ). length z ≤ MAX_FILE) h.holds.written h.holds.small
 
   -- why a first file is refused, joined with itself
@@ -88,10 +88,10 @@ module _ {R : Format} {spelled : Content → Content} (kind : IsKind R spelled) 
   refused_two K x y (TooLarge s) e r = e ∙ r
 
   -- what is written of a content is its file, and no larger than a file may be
-  pub holds_file : (C K : Content) → Spells R spelled C K → length (file current_layout C) ≤ MAX_FILE → HoldsFile R spelled C (file current_layout C)
+  pub holds_file : (C K : Content) → Spells R spelled C K → length (file current_writing C) ≤ MAX_FILE → HoldsFile R spelled C (file current_writing C)
   holds_file C K h small =
-      let z = file current_layout C in
-      let is : R.file K ≡ z = kind.writes K ∙ ap (file current_layout) (sym h.is) in
+      let z = file current_writing C in
+      let is : R.file K ≡ z = kind.writes K ∙ ap (file current_writing) (sym h.is) in
       let few : length z ≤ R.limit = subst (λ (n : ℕ). length z ≤ n) (sym kind.limit) small in
       let form = IsCurrent-written R kind.law K z h.arises is few in
       record {
@@ -114,15 +114,15 @@ module _ {R : Format} {spelled : Content → Content} (kind : IsKind R spelled) 
     refused_next error r = union_refused kind x y first_accepted accepted error (refused_two (content_of_all R x) x y error same_fault r)
 
     module _ (D : Content) (none : add_fault R (content_of_all R x) y ≡ None) (spells : Spells R spelled D (both (content_of_all R x) (content_of_all R y))) where
-      pub too_large_next : (error : JoinError) → IsTooLargeFile (file current_layout D) error → IsJoinRefusal R x y error
+      pub too_large_next : (error : JoinError) → IsTooLargeFile (file current_writing D) error → IsJoinRefusal R x y error
       too_large_next error large =
           subst (IsJoinRefusal R x y) (sym large.0)
-          (is_too_large kind x y first_accepted accepted (same_fault ∙ none) D spells.is (length (file current_layout D)) (refl, large.1))
+          (is_too_large kind x y first_accepted accepted (same_fault ∙ none) D spells.is (length (file current_writing D)) (refl, large.1))
 
-      pub joined_next : length (file current_layout D) ≤ MAX_FILE → (z : List ℕ) × IsJoin R x y z × HoldsFile R spelled D z
+      pub joined_next : length (file current_writing D) ≤ MAX_FILE → (z : List ℕ) × IsJoin R x y z × HoldsFile R spelled D z
       joined_next small = (
-        file current_layout D,
-        is_join kind x y first_accepted accepted (same_fault ∙ none) D spells.is (file current_layout D) (record { is = refl; small = small }),
+        file current_writing D,
+        is_join kind x y first_accepted accepted (same_fault ∙ none) D spells.is (file current_writing D) (record { is = refl; small = small }),
         holds_file D (both (content_of_all R x) (content_of_all R y)) spells small,
       )
 
@@ -141,15 +141,15 @@ module _ {R : Format} {spelled : Content → Content} (kind : IsKind R spelled) 
     self_spells : C ≡ spelled (both (content_of_all R x) (content_of_all R x))
     self_spells = spells.is ∙ ap spelled (sym (both-self (content_of_all R x)))
 
-    pub too_large_first : (error : JoinError) → IsTooLargeFile (file current_layout C) error → IsJoinRefusal R x x error
+    pub too_large_first : (error : JoinError) → IsTooLargeFile (file current_writing C) error → IsJoinRefusal R x x error
     too_large_first error large =
         subst (IsJoinRefusal R x x) (sym large.0)
-        (is_too_large kind x x self_accepted self_accepted (unfault_self x form) C self_spells (length (file current_layout C)) (refl, large.1))
+        (is_too_large kind x x self_accepted self_accepted (unfault_self x form) C self_spells (length (file current_writing C)) (refl, large.1))
 
-    pub joined_first : length (file current_layout C) ≤ MAX_FILE → (z : List ℕ) × IsJoin R x x z × HoldsFile R spelled C z
+    pub joined_first : length (file current_writing C) ≤ MAX_FILE → (z : List ℕ) × IsJoin R x x z × HoldsFile R spelled C z
     joined_first small = (
-      file current_layout C,
-      is_join kind x x self_accepted self_accepted (unfault_self x form) C self_spells (file current_layout C) (record { is = refl; small = small }),
+      file current_writing C,
+      is_join kind x x self_accepted self_accepted (unfault_self x form) C self_spells (file current_writing C) (record { is = refl; small = small }),
       holds_file C (content_of_all R x) spells small,
     )
 
@@ -174,7 +174,7 @@ module _ {R : Format} {spelled : Content → Content} (kind : IsKind R spelled) 
 
     module _ (C : Content) (is : IsUnited R spelled files C) where
       -- the file of the union is what stands after the last join
-      pub united_file : (z : List ℕ) → IsWritten (file current_layout C) z → IsAllJoined R files z
+      pub united_file : (z : List ℕ) → IsWritten (file current_writing C) z → IsAllJoined R files z
       united_file z w = record { some = is.some; stands = subst (Stands R files (length files)) (is.holds.written ∙ sym w.is) is.stands }
 
       -- where memory is refused for it, that is refused memory at the last step
@@ -190,7 +190,7 @@ module _ {R : Format} {spelled : Content → Content} (kind : IsKind R spelled) 
               (record { before = s.0; stands = s.1; below = omega (arith, e); refused = (sym (kind.fault s.0) ∙ can.first.accepted, sym (kind.fault (file_at files n)) ∙ can.second.accepted) })
 
       -- where its file is not in memory, that is a refusal of the last step, and its size is none
-      pub united_refused : (error : FileError) → IsFileRefusal (file current_layout C) error → IsRefusedAt R files (length files - 1) (of_file_error error)
+      pub united_refused : (error : FileError) → IsFileRefusal (file current_writing C) error → IsRefusedAt R files (length files - 1) (of_file_error error)
       united_refused file_errors.NoMemory r = united_memory
       united_refused (file_errors.TooLarge size) r =
           let small = union_small files C is in absurd (omega (arith, small, r.0, r.1))

@@ -6,7 +6,7 @@ use Rattle.codes.specs.Runs.{groups_from}
 use Rattle.codes.specs.declared.runs.Run.{Run}
 use Rattle.codes.proofs.RunLemmas.{groups_done}
 use Rattle.font_theory.specs.Content.{Content, IsWritable, KeepsComponents, glyph_count}
-use Rattle.font_theory.specs.File.{current_layout, file, layout_of, groups_of_content, outlines_of, second_layout, size_of}
+use Rattle.font_theory.specs.File.{current_writing, file, writing_of, groups_of_content, outlines_of, second_writing, size_of}
 use Rattle.font_theory.proofs.SizeLemmas.{length-file}
 use Rattle.font_write.specs.Parts.{glyf_to, groups_bytes}
 use Rattle.font_write.specs.Plan.{AreCounts}
@@ -54,12 +54,12 @@ module _ (K : Content) where
   unfolding groups_of_content glyf_to
   counts_without counts groups group_sum outlines small = record { groups = groups ∙ sym no_groups; group_sum = group_sum ∙ sym no_sum; outlines = outlines; small = small }
 
-  size_apart : size_of current_layout K ≡ size_of current_layout (without_codes K) + 12 * length (groups_from K.map 0)
-  unfolding size_of layout_of second_layout groups_of_content outlines_of
+  size_apart : size_of current_writing K ≡ size_of current_writing (without_codes K) + 12 * length (groups_from K.map 0)
+  unfolding size_of writing_of second_writing groups_of_content outlines_of
   size_apart = omega (arith, no_groups)
 
-  pub size_without : IsWritable K → length (file current_layout K) ≡ length (file current_layout (without_codes K)) + 12 * length (groups_from K.map 0)
+  pub size_without : IsWritable K → length (file current_writing K) ≡ length (file current_writing (without_codes K)) + 12 * length (groups_from K.map 0)
   size_without ok =
-      let whole = length-file current_layout K ok in
-      let rest = length-file current_layout (without_codes K) (writable_without ok) in
+      let whole = length-file current_writing K ok in
+      let rest = length-file current_writing (without_codes K) (writable_without ok) in
       omega (arith, whole, rest, size_apart)

@@ -12,7 +12,7 @@ use Rattle.font_glyph.specs.Union.{Records, union_of}
 use Rattle.font_theory.specs.Content.{CODES, Content}
 use Rattle.font_theory.specs.Cut.{Arises, Format, IsCurrent, IsCut, is_cut, content_of_all}
 use Rattle.font_theory.specs.Difference.{difference, is_different_code, is_different_table}
-use Rattle.font_theory.specs.File.{file, current_layout}
+use Rattle.font_theory.specs.File.{file, current_writing}
 use Rattle.font_theory.specs.declared.Difference.{Difference}
 use Rattle.font_theory.specs.declared.Difference.TheVariants.{AtCode, AtTable}
 use Rattle.font_theory.specs.Tree.{file_at}
@@ -32,7 +32,7 @@ pub record Spells (R : Format) (spelled : Content → Content) (C K : Content) :
 pub record HoldsFile (R : Format) (spelled : Content → Content) (C : Content) (x : List ℕ) : Type 0 where
   pub form : IsCurrent R x
   pub spells : Spells R spelled C (content_of_all R x)
-  pub written : x ≡ file current_layout C
+  pub written : x ≡ file current_writing C
   pub small : length x ≤ MAX_FILE
 
 -- a file is too large

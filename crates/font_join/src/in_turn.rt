@@ -2,7 +2,7 @@
 ghost use Rattle.std.specs.Prelude.{◌≡◌, ◌<◌, ◌≤◌, ℕ, List, IfErr, IfOk, OnOk, false, length, map, true, MatchResult};
 ghost use Rattle.sfnt_bytes.specs.declared.directory.TheConstants.{MAX_FILE};
 ghost use Rattle.font_theory.specs.Cut.{Format};
-ghost use Rattle.font_theory.specs.File.{current_layout, file};
+ghost use Rattle.font_theory.specs.File.{current_writing, file};
 ghost use Rattle.streams.specs.Outlet.{broken_of, fresh_of};
 ghost use Rattle.font_join.specs.Join.{IsJoin, IsJoinRefusal};
 ghost use Rattle.font_join.specs.JoinList.{IsAllJoined, IsAllRefusal, IsFirst, SendsAll, StopsJoin};
@@ -45,8 +45,8 @@ fn sized<'f, 'a, A: Allocator + Copy>(
     union: Union<'f, 'a, A>,
 ) -> Result<Union<'f, 'a, A>, JoinError>
     ensures { MatchResult result (λ sized. (sized ≡ union.entry)
-        × (length (file current_layout (content_in union.entry)) ≤ MAX_FILE))
-        (IsTooLargeFile (file current_layout (content_in union.entry))) }
+        × (length (file current_writing (content_in union.entry)) ≤ MAX_FILE))
+        (IsTooLargeFile (file current_writing (content_in union.entry))) }
 {
     match union.too_large() {
         Some(size) => Err(JoinError::TooLarge(size)),

@@ -2,7 +2,7 @@
 ghost use Rattle.std.specs.Prelude.{◌≡◌, ◌≤◌, ℕ, List, length, map, false, true, Err, IfErr, IfOk, IsSome, MatchResult, OnOk};
 ghost use Rattle.sfnt_bytes.specs.declared.directory.TheConstants.{MAX_FILE};
 ghost use Rattle.font_theory.specs.Cut.{Format, our_format};
-ghost use Rattle.font_theory.specs.File.{current_layout, file};
+ghost use Rattle.font_theory.specs.File.{current_writing, file};
 ghost use Rattle.streams.specs.Outlet.{HasSent, broken_of, fresh_of, writer_of};
 ghost use Rattle.font_join.specs.JoinList.{EveryTreeDiffers, IsAllJoined, IsAllRefusal, IsFirst, IsForSizeInto, IsForSizeOf, IsSentAs, JoinLaws, SendsAll, StopsJoin};
 ghost use Rattle.font_join.specs.Union.{content_in};
@@ -133,9 +133,9 @@ pub fn union_of_files<'f, 'a, A: Allocator + Copy>(
 ) -> Result<Union<'f, 'a, A>, JoinAllError>
     requires { IsFirst (map (λ f. f.now) files.now) first.now }
     ensures exact { let bytes = map (λ f. f.now) files.now in
-        MatchResult result (λ union. IsAllJoined (format_of kind) bytes (file current_layout (content_in union)))
+        MatchResult result (λ union. IsAllJoined (format_of kind) bytes (file current_writing (content_in union)))
         (IsAllRefusal (format_of kind) bytes) }
-    ensures small { IfOk result (λ union. length (file current_layout (content_in union)) ≤ MAX_FILE) }
+    ensures small { IfOk result (λ union. length (file current_writing (content_in union)) ≤ MAX_FILE) }
 {
     union_of_all(alloc, kind, first, files)
 }

@@ -6,7 +6,7 @@ ghost use Rattle.sfnt_bytes.specs.declared.directory.TheConstants.{MAX_FILE};
 ghost use Rattle.font_theory.specs.Bytes.{padded};
 ghost use Rattle.font_theory.specs.Content.{Content, content, everything, font_of};
 ghost use Rattle.font_theory.specs.Cut.{IsCut, content_of_all};
-ghost use Rattle.font_theory.specs.File.{current_layout, file};
+ghost use Rattle.font_theory.specs.File.{current_writing, file};
 ghost use Rattle.font_theory.specs.Kinds.{format_of};
 ghost use Rattle.font_theory.specs.declared.kinds.Kind.{Kind};
 ghost use Rattle.font_write.specs.WholeFile.{IsTooLarge};
@@ -296,8 +296,8 @@ impl<'f, 'a, A: Allocator + Copy> Union<'f, 'a, A> {
 
     /// Returns the number of bytes of the union's file, where that is too large.
     pub(crate) fn too_large(&self) -> Option<u64>
-        ensures { MatchOption result (length (file current_layout (content_in self.now)) ≤ MAX_FILE)
-            (IsTooLarge (file current_layout (content_in self.now))) }
+        ensures { MatchOption result (length (file current_writing (content_in self.now)) ≤ MAX_FILE)
+            (IsTooLarge (file current_writing (content_in self.now))) }
     {
         size_if_too_large(self, &self.map, &self.outlines)
     }

@@ -7,7 +7,7 @@ ghost use Rattle.font_write.specs.WholeFile.{IsTooLarge};
 ghost use Rattle.font_join.specs.Union.{listed_outline};
 ghost use Rattle.codes.specs.Runs.{groups_from};
 ghost use Rattle.font_theory.specs.Content.{glyph_count};
-ghost use Rattle.font_theory.specs.File.{current_layout, file};
+ghost use Rattle.font_theory.specs.File.{current_writing, file};
 ghost use Rattle.font_write.specs.Parts.{glyf_to};
 
 use crate::outlines::Outlines;
@@ -63,7 +63,7 @@ fn size_without_codes<S: Source>(source: &S, outlines: usize) -> u64
     requires outlines { outlines ≡ length (glyf_to (S.content_of source.now)
         (glyph_count (S.content_of source.now).copied)) }
     requires small { outlines ≤ 0x0001_0000_0000_0000 }
-    ensures { length (file current_layout (S.content_of source.now)) ≡ result
+    ensures { length (file current_writing (S.content_of source.now)) ≡ result
         + 12 * length (groups_from (S.content_of source.now).map 0) }
 {
     source.recall_laws();
@@ -86,8 +86,8 @@ pub(crate) fn size_if_too_large<S: Source, A: Allocator>(
     requires map { (S.content_of source.now).map ≡ map_in map.now }
     requires outlines { (S.content_of source.now).outline ≡ listed_outline outlines.now }
     requires count { length outlines.now ≡ glyph_count (S.content_of source.now).copied }
-    ensures { MatchOption result (length (file current_layout (S.content_of source.now)) ≤ MAX_FILE)
-        (IsTooLarge (file current_layout (S.content_of source.now))) }
+    ensures { MatchOption result (length (file current_writing (S.content_of source.now)) ≤ MAX_FILE)
+        (IsTooLarge (file current_writing (S.content_of source.now))) }
 {
     let beside = size_without_codes(source, outlines.bytes() as usize);
     if beside.saturating_add(12 * u64::from(map.most_groups())) <= MAX_FILE {

@@ -8,7 +8,7 @@ use Rattle.font_file.specs.Font.{font_fault}
 use Rattle.font_theory.specs.Content.{Content, content, everything, font_of}
 use Rattle.font_theory.specs.Cut.{Format, IsCurrent, IsCut, IsOld, Writes, is_current, is_cut, is_old, our_format, content_of_all}
 use Rattle.font_theory.proofs.CutLemmas.{IsCut-cases, IsCut-current, IsCut-old, is_current-of, is_current-tells, is_cut-tells, is_old-of, is_old-tells, outline-whole}
-use Rattle.font_theory.proofs.LayoutLemmas.{no_cut-both}
+use Rattle.font_theory.proofs.WritingLemmas.{no_cut-both}
 use Rattle.font_theory.specs.Kinds.{format_of}
 use Rattle.font_theory.specs.declared.kinds.Kind.{Kind}
 use Rattle.font_theory.proofs.KindLemmas.{kind_is}

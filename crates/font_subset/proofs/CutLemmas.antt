@@ -7,7 +7,7 @@ use Rattle.font_file.specs.Font.{font_fault}
 use Rattle.font_theory.specs.Content.{Content, Font, content, font_of, read_back}
 use Rattle.font_theory.specs.Cut.{IsCurrent, our_format}
 use Rattle.font_theory.specs.Cut.Arises.{of_file}
-use Rattle.font_theory.specs.File.{file, current_layout}
+use Rattle.font_theory.specs.File.{file, current_writing}
 use Rattle.font_theory.proofs.ContentLemmas.{IsClosed-content}
 use Rattle.font_theory.proofs.CutLemmas.{IsCurrent-cut, cut-cut}
 use Rattle.font_theory.proofs.FileWantedLemmas.{map_of-wanted, outline_of-wanted}
@@ -48,7 +48,7 @@ send_stopped contents old new whole (send_errors.TooLarge size) h = h
 send_stopped contents old new whole (send_errors.WriteFault written) h = h
 
 -- the cut of an accepted file is the file of its content
-pub cut_of_is : (file_bytes : List ℕ) (wanted : ℕ → Bool) → cut_of file_bytes wanted ≡ file current_layout (content (font_of file_bytes) wanted)
+pub cut_of_is : (file_bytes : List ℕ) (wanted : ℕ → Bool) → cut_of file_bytes wanted ≡ file current_writing (content (font_of file_bytes) wanted)
 unfolding our_format
 cut_of_is file_bytes wanted = refl
 
@@ -73,7 +73,7 @@ is_sound font made wanted accepted written =
     let cuts = is_current_of font made wanted accepted written.is written.small in
     record {
       accepted = read.0;
-      clean = ap findings_of (written.is ∙ cut_of_is font wanted) ∙ findings_of-file current_layout K ok;
+      clean = ap findings_of (written.is ∙ cut_of_is font wanted) ∙ findings_of-file current_writing K ok;
       metrics = metric_of-same font made (ap (λ (F : Font). F.copied) read.1);
       wanted_codes = map_of-wanted font made wanted accepted read.1;
       other_codes = λ c out. ap (λ (F : Font). F.map c) read.1 ∙ rw out refl;
@@ -83,9 +83,9 @@ is_sound font made wanted accepted written =
     }
 
 -- the cut of a kind is the file of what is written of it
-pub cut_in_is : (kind : Kind) (font : List ℕ) (ranges : List CodeRange) (held : Held) → held ≡ (kind, (font, Some ranges)) → file current_layout (written_of held.0 held.1) ≡ cut_in kind font (member ranges)
+pub cut_in_is : (kind : Kind) (font : List ℕ) (ranges : List CodeRange) (held : Held) → held ≡ (kind, (font, Some ranges)) → file current_writing (written_of held.0 held.1) ≡ cut_in kind font (member ranges)
 unfolding written_of
-cut_in_is kind font ranges held same = ap (λ (v : Held). file current_layout (written_of v.0 v.1)) same ∙ sym ((kind_is kind).writes _)
+cut_in_is kind font ranges held same = ap (λ (v : Held). file current_writing (written_of v.0 v.1)) same ∙ sym ((kind_is kind).writes _)
 
 pub is_sound_in : (kind : Kind) (font made : List ℕ) (wanted : ℕ → Bool) → font_fault font ≡ None → IsWritten (cut_in kind font wanted) made → IsSoundIn kind font wanted made
 is_sound_in Full = is_sound

@@ -3,7 +3,7 @@ use Rattle.std.proofs.Common.{◌≡◌, ◌≢◌, ℕ, List, Option, None, ref
 use Rattle.codes.specs.declared.code_range.CodeRange.{CodeRange}
 use Rattle.font_theory.specs.Content.{Content, content}
 use Rattle.font_theory.specs.Cut.{our_format}
-use Rattle.font_theory.specs.File.{current_layout, file, layout_of}
+use Rattle.font_theory.specs.File.{current_writing, file, writing_of}
 use Rattle.font_theory.specs.Kinds.{format_of, spelled_by}
 use Rattle.font_theory.specs.Lean.{lean_format}
 use Rattle.font_theory.specs.declared.Profile.TheVariants.{First}
@@ -18,9 +18,9 @@ use Rattle.font_subset.proofs.ContentOfAllLemmas.{form_by}
 use Rattle.font_subset.proofs.KindSourceLemmas.{Held, written_is}
 
 -- what was written before, by the kinds
-old_full : (kind : Kind) (C K : Content) (X : List ℕ) → kind ≡ Full → C ≡ spelled_by kind K → (format_of kind).old K ≡ file (layout_of First) C
+old_full : (kind : Kind) (C K : Content) (X : List ℕ) → kind ≡ Full → C ≡ spelled_by kind K → (format_of kind).old K ≡ file (writing_of First) C
 unfolding our_format
-old_full Full C K X full spells = ap (λ L. file (layout_of First) L) (sym spells)
+old_full Full C K X full spells = ap (λ L. file (writing_of First) L) (sym spells)
 old_full Lean C K X full spells = absurd (let n : Lean ≡ Full = full in cc)
 
 old_lean : (kind : Kind) (K : Content) → kind ≡ Lean → (format_of kind).file K ≡ (format_of kind).old K
@@ -29,20 +29,20 @@ old_lean Full K lean = absurd (let n : Full ≡ Lean = lean in cc)
 old_lean Lean K lean = refl
 
 module _ (kind : Kind) (C K : Content) (X : List ℕ) (spells : C ≡ spelled_by kind K) where
-  pub now_is : X ≡ file current_layout C → (format_of kind).file K ≡ X
-  now_is h = (kind_is kind).writes K ∙ ap (λ L. file current_layout L) (sym spells) ∙ sym h
+  pub now_is : X ≡ file current_writing C → (format_of kind).file K ≡ X
+  now_is h = (kind_is kind).writes K ∙ ap (λ L. file current_writing L) (sym spells) ∙ sym h
 
-  pub not_now : X ≢ file current_layout C → (format_of kind).file K ≢ X
-  not_now n h = n (sym h ∙ (kind_is kind).writes K ∙ ap (λ L. file current_layout L) (sym spells))
+  pub not_now : X ≢ file current_writing C → (format_of kind).file K ≢ X
+  not_now n h = n (sym h ∙ (kind_is kind).writes K ∙ ap (λ L. file current_writing L) (sym spells))
 
-  pub old_is : kind ≡ Full → X ≡ file (layout_of First) C → (format_of kind).old K ≡ X
+  pub old_is : kind ≡ Full → X ≡ file (writing_of First) C → (format_of kind).old K ≡ X
   old_is full h = old_full kind C K X full spells ∙ sym h
 
-  pub not_old : kind ≡ Full → X ≢ file (layout_of First) C → (format_of kind).old K ≢ X
+  pub not_old : kind ≡ Full → X ≢ file (writing_of First) C → (format_of kind).old K ≢ X
   not_old full n h = n (sym h ∙ old_full kind C K X full spells)
 
   -- a lean cut has one form
-  pub not_lean : kind ≡ Lean → X ≢ file current_layout C → (format_of kind).old K ≢ X
+  pub not_lean : kind ≡ Lean → X ≢ file current_writing C → (format_of kind).old K ≢ X
   not_lean lean n h = not_now n (old_lean kind K lean ∙ h)
 
 -- the form of a font's file, of what is held for all codes

@@ -76,9 +76,9 @@ with_adjustment-cut_head head long =
     λ i. take_at (take 8 head) (bytes32 0 ++ behind) 8 front i ++ (bytes32 0 ++ end i)
 
 pub with_adjustment-zero : (head : List ℕ) → 54 ≤ length head → cut_head head ≡ head → with_adjustment 0 head ≡ head
-with_adjustment-zero head long layout = ap (with_adjustment 0) (sym layout) ∙ with_adjustment-cut_head head long ∙ layout
+with_adjustment-zero head long writing = ap (with_adjustment 0) (sym writing) ∙ with_adjustment-cut_head head long ∙ writing
 
 -- so the field of `head` with an adjustment as zeros gives `head` back
 pub without_field-with_adjustment : (adjustment : ℕ) (head : List ℕ) → 54 ≤ length head → cut_head head ≡ head → without_field (with_adjustment adjustment head) 8 ≡ head
-without_field-with_adjustment adjustment head long layout =
-    without_field-head (with_adjustment adjustment head) ∙ with_adjustment-twice adjustment head (omega arith) 0 ∙ with_adjustment-zero head long layout
+without_field-with_adjustment adjustment head long writing =
+    without_field-head (with_adjustment adjustment head) ∙ with_adjustment-twice adjustment head (omega arith) 0 ∙ with_adjustment-zero head long writing

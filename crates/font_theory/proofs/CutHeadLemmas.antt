@@ -82,8 +82,8 @@ module _ (h : List ℕ) (long : 54 ≤ length h) where
       let b : get_or (cut_head h) 51 0 ≡ 1 = behind_adjustment 39 ∙ get_or-append_right middle tail 38 39 0 length-middle (omega arith) in
       rw (a, b) refl
 
-head_test : (long long' magic magic' layout : Bool) → long' ≡ false → magic' ≡ magic → layout ≡ false → (long || magic) ≡ false → (long' || magic' || layout) ≡ false
-head_test long long' magic magic' layout a b c h = rw (a, b, c) (go magic (or_parts long magic h).1)
+head_test : (long long' magic magic' writing : Bool) → long' ≡ false → magic' ≡ magic → writing ≡ false → (long || magic) ≡ false → (long' || magic' || writing) ≡ false
+head_test long long' magic magic' writing a b c h = rw (a, b, c) (go magic (or_parts long magic h).1)
   where
     go : (m : Bool) → m ≡ false → (m || false) ≡ false
     go true e = e

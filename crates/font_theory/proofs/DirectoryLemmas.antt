@@ -19,7 +19,7 @@ use Rattle.sfnt_bytes.specs.declared.tag.TheConstants.{KEPT}
 use Rattle.codes.proofs.OrderLemmas.{find_none}
 use Rattle.font_theory.specs.Bytes.{padded}
 use Rattle.font_theory.specs.Content.{Content}
-use Rattle.font_theory.specs.File.{Layout, Table, bytes_in_slot, entries_at, file_of, table_in, tables_from}
+use Rattle.font_theory.specs.File.{Writing, Table, bytes_in_slot, entries_at, file_of, table_in, tables_from}
 use Rattle.font_theory.proofs.TagLemmas.{kept_tag-ascends}
 use Rattle.font_theory.proofs.RecordLemmas.{AreTables, length-entries_at, length-file_of, records_of-file_of, table_count-file_of, version-file_of}
 use Rattle.font_theory.proofs.SlotLemmas.{table_with}
@@ -34,16 +34,16 @@ climb-lower : (low lower : ℕ) (entries : List Entry) → lower ≤ low → Cli
 climb-lower low lower [] le h = tt
 climb-lower low lower (entry ∷ entries) le h = let first = h.0 in (omega arith, h.1)
 
-module _ (layout : Layout) (K : Content) (head : List ℕ) where
-  climb-slot : (low k n at : ℕ) (o : Option (List ℕ)) → low ≤ tag_number (kept_tag k) → ((place : ℕ) → Climb (tag_number (kept_tag k) + 1) (entries_at place (tables_from layout K head (k + 1) n)))
-      → Climb low (entries_at at (said_lines (option_map (table_with k) o ∷ map (table_in layout K head) (range_with_len (k + 1) n))))
-  climb-slot low k n at None le rest = climb-lower (tag_number (kept_tag k) + 1) low (entries_at at (tables_from layout K head (k + 1) n)) (omega arith) (rest at)
+module _ (writing : Writing) (K : Content) (head : List ℕ) where
+  climb-slot : (low k n at : ℕ) (o : Option (List ℕ)) → low ≤ tag_number (kept_tag k) → ((place : ℕ) → Climb (tag_number (kept_tag k) + 1) (entries_at place (tables_from writing K head (k + 1) n)))
+      → Climb low (entries_at at (said_lines (option_map (table_with k) o ∷ map (table_in writing K head) (range_with_len (k + 1) n))))
+  climb-slot low k n at None le rest = climb-lower (tag_number (kept_tag k) + 1) low (entries_at at (tables_from writing K head (k + 1) n)) (omega arith) (rest at)
   climb-slot low k n at (Some b) le rest = (le, rest (at + length (padded b)))
 
-  pub climb-slots : (k n low at : ℕ) → k + n ≤ 16 → (0 < n → low ≤ tag_number (kept_tag k)) → Climb low (entries_at at (tables_from layout K head k n))
+  pub climb-slots : (k n low at : ℕ) → k + n ≤ 16 → (0 < n → low ≤ tag_number (kept_tag k)) → Climb low (entries_at at (tables_from writing K head k n))
   climb-slots k zero low at few le = tt
   climb-slots k (suc n) low at few le =
-      climb-slot low k n at (bytes_in_slot layout K head k) (le (omega arith))
+      climb-slot low k n at (bytes_in_slot writing K head k) (le (omega arith))
       (λ place. climb-slots (k + 1) n (tag_number (kept_tag k) + 1) place (omega arith)
       (λ some. let next : k + 1 ≡ suc k = omega arith in let same = ap (λ (j : ℕ). tag_number (kept_tag j)) next in let up = kept_tag-ascends k (omega arith) in omega arith))
 

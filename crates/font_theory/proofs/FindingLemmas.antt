@@ -15,7 +15,7 @@ use Rattle.sfnt_bytes.specs.declared.findings.Finding.TheVariants.{Checksum, Fil
 use Rattle.sfnt_bytes.specs.declared.records.Entry.{Entry}
 use Rattle.font_tables.specs.Tables.{named}
 use Rattle.font_theory.specs.Content.{Content, IsWritable}
-use Rattle.font_theory.specs.File.{Layout, Table, adjustment_in, bytes_in_slot, file, file_of}
+use Rattle.font_theory.specs.File.{Writing, Table, adjustment_in, bytes_in_slot, file, file_of}
 use Rattle.font_theory.proofs.AcceptedLemmas.{climb-file}
 use Rattle.font_theory.proofs.AdjustmentLemmas.{length-with_adjustment}
 use Rattle.font_theory.proofs.DirectoryLemmas.{is_ascending-climb}
@@ -80,20 +80,20 @@ has_search_fields-file_of tables ok =
     ap (λ (o : Option (ℕ × ℕ × ℕ)). option_map_or (λ f. nat_eq (u16_at file 6) f.0 && nat_eq (u16_at file 8) f.1 && nat_eq (u16_at file 10) f.2) o false) fields
     ∙ (λ i. first i && second i && third i)
 
-module _ (layout : Layout) (K : Content) (ok : IsWritable K) where
-  long_head : 12 ≤ length (last_head layout K)
+module _ (writing : Writing) (K : Content) (ok : IsWritable K) where
+  long_head : 12 ≤ length (last_head writing K)
   long_head =
       let long = ok.head_size in
-      let same = length-with_adjustment (adjustment_in layout K) K.head (omega arith) in
+      let same = length-with_adjustment (adjustment_in writing K) K.head (omega arith) in
       omega arith
 
-  summed-slot : (slot : ℕ) (b : List ℕ) → slot < 16 → bytes_in_slot layout K (last_head layout K) slot ≡ Some b → IsSummed (table_with slot b)
+  summed-slot : (slot : ℕ) (b : List ℕ) → slot < 16 → bytes_in_slot writing K (last_head writing K) slot ≡ Some b → IsSummed (table_with slot b)
   unfolding bytes_in_slot
   summed-slot slot b low is =
       elim (cases_eq slot 6) [
         | inl e ↦
-            let here : Some (last_head layout K) ≡ Some b = ap (bytes_in_slot layout K (last_head layout K)) (sym e) ∙ is in
-            let same : last_head layout K ≡ b = cc in
+            let here : Some (last_head writing K) ≡ Some b = ap (bytes_in_slot writing K (last_head writing K)) (sym e) ∙ is in
+            let same : last_head writing K ≡ b = cc in
             let whole : nat_le 12 (length b) ≡ true = le-leb 12 (length b) (subst (λ (l : List ℕ). 12 ≤ length l) same long_head) in
             let t = eq-eqb slot 6 e in
             let tag : same_tag (kept_tag slot) (named (codes "head")) ≡ true = same_tag-head slot low ∙ t in
@@ -104,34 +104,34 @@ module _ (layout : Layout) (K : Content) (ok : IsWritable K) where
             (λ i. cond (f i) (checksum_of (without_field b 8)) (checksum_of b)) ∙ sym (λ i. cond (tag i && nat_le 12 (length b)) (checksum_of (without_field b 8)) (checksum_of b))
       ]
 
-  entries_fine : flat_map (entry_findings (file layout K)) (records_of (file layout K)) ≡ []
+  entries_fine : flat_map (entry_findings (file writing K)) (records_of (file writing K)) ≡ []
   entries_fine =
-      let tables = last_tables layout K in
-      let are = are_tables layout K (last_head layout K) in
+      let tables = last_tables writing K in
+      let are = are_tables writing K (last_head writing K) in
       let same : length (records_of (file_of tables)) ≡ length tables = ap (λ (l : List Entry). length l) (records_of-file_of tables are) ∙ length-entries_at (12 + 16 * length tables) tables in
-      subst (λ (b : List ℕ). flat_map (entry_findings b) (records_of b) ≡ []) (sym (file-is layout K))
+      subst (λ (b : List ℕ). flat_map (entry_findings b) (records_of b) ≡ []) (sym (file-is writing K))
       (nothing_found (file_of tables) tables (records_of (file_of tables)) same (all_placed tables are)
-      (each_slot layout K (last_head layout K) IsSummed 0 16 (λ slot b from to e. summed-slot slot b (omega arith) e)))
+      (each_slot writing K (last_head writing K) IsSummed 0 16 (λ slot b from to e. summed-slot slot b (omega arith) e)))
 
-  has_file_sum-file : has_file_sum (file layout K) (head_at layout K + 8) ≡ true
+  has_file_sum-file : has_file_sum (file writing K) (head_at writing K + 8) ≡ true
   unfolding has_file_sum adjustment_in
   has_file_sum-file =
-      eq-eqb _ _ (u32_at-adjustment layout K ok ∙ ap (λ (b : List ℕ). adjustment_of (checksum_of b)) (sym (without_field-file layout K ok)))
+      eq-eqb _ _ (u32_at-adjustment writing K ok ∙ ap (λ (b : List ℕ). adjustment_of (checksum_of b)) (sym (without_field-file writing K ok)))
 
   -- the adjustment is that of the file
-  has_wrong_file_sum-file : has_wrong_file_sum (file layout K) ≡ false
+  has_wrong_file_sum-file : has_wrong_file_sum (file writing K) ≡ false
   unfolding has_wrong_file_sum
   has_wrong_file_sum-file =
-      let whole : nat_le 12 (length (last_head layout K)) ≡ true = le-leb _ _ long_head in
+      let whole : nat_le 12 (length (last_head writing K)) ≡ true = le-leb _ _ long_head in
       let right = has_file_sum-file in
-      ap (λ (o : Option Entry). option_map_or (λ head. nat_le 12 head.length && not (has_file_sum (file layout K) (head.offset + 8))) o false) (table_entry-head layout K)
+      ap (λ (o : Option Entry). option_map_or (λ head. nat_le 12 head.length && not (has_file_sum (file writing K) (head.offset + 8))) o false) (table_entry-head writing K)
       ∙ (λ i. whole i && not (right i))
 
   -- nothing is found
-  pub findings_of-file : findings_of (file layout K) ≡ []
+  pub findings_of-file : findings_of (file writing K) ≡ []
   unfolding findings_of
   findings_of-file =
-      let climb : is_ascending (records_of (file layout K)) ≡ true = is_ascending-climb 0 (records_of (file layout K)) (climb-file layout K) in
-      let fields : has_search_fields (file layout K) ≡ true =
-      ap has_search_fields (file-is layout K) ∙ has_search_fields-file_of (last_tables layout K) (are_tables layout K (last_head layout K)) in
+      let climb : is_ascending (records_of (file writing K)) ≡ true = is_ascending-climb 0 (records_of (file writing K)) (climb-file writing K) in
+      let fields : has_search_fields (file writing K) ≡ true =
+      ap has_search_fields (file-is writing K) ∙ has_search_fields-file_of (last_tables writing K) (are_tables writing K (last_head writing K)) in
       λ i. said_lines (when (not (climb i)) Unsorted ∷ when (not (fields i)) SearchFields ∷ []) ++ entries_fine i ++ said_lines (when (has_wrong_file_sum-file i) FileSum ∷ [])

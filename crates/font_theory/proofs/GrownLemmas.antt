@@ -79,8 +79,8 @@ module _ (R : Format) (law : IsFormat R) (files : List (List ℕ)) where
     Value-grown_same forms t over few =
         let q = Value-grown t over few in
         let each : (x : List ℕ) → Takes t x → IsCurrent R x = λ x h. let w = over.only x h in subst (IsCurrent R) (sym w.2) (forms w.0 w.1) in
-        let layout = Value-current R law t q.0 few each q.1 in
-        subst (Value R t) (sym layout.written ∙ q.3) q.1
+        let writing = Value-current R law t q.0 few each q.1 in
+        subst (Value R t) (sym writing.written ∙ q.3) q.1
 
     -- a tree over cuts of one font has that same value
     pub Value-grown_cuts : (F : List ℕ) → R.fault F ≡ None → (t : JoinTree (ℕ → Bool)) → IsOver files (cuts R F t) → IsSmall R (cuts R F t) → Value R (cuts R F t) z
@@ -101,8 +101,8 @@ module _ (R : Format) (law : IsFormat R) (files : List (List ℕ)) where
       let upto : k ≤ length files = omega arith in
       let to = takes-over t over k some upto in
       let ss = grown-small k x p small in
-      let layout = Value-cut R law (grown files k) x ss (λ y h. cut-over t over forms y (to y h)) p in
-      Differs-clash R law (grown files k) t ss few (cut-over t over forms) to x (file_at files k) p (over.each k low) (layout, forms k low, apart)
+      let writing = Value-cut R law (grown files k) x ss (λ y h. cut-over t over forms y (to y h)) p in
+      Differs-clash R law (grown files k) t ss few (cut-over t over forms) to x (file_at files k) p (over.each k low) (writing, forms k low, apart)
 
   -- cuts of one font, in any forms, grow to its cut for all their sets
   module _ (F : List ℕ) (h : R.fault F ≡ None) (A : ℕ → ℕ → Bool)

@@ -15,7 +15,7 @@ use Rattle.sfnt_bytes.specs.declared.tag.Tag.{Tag}
 use Rattle.font_tables.specs.Tables.{named}
 use Rattle.font_theory.specs.Bytes.{padded}
 use Rattle.font_theory.specs.Content.{Content, IsWritable}
-use Rattle.font_theory.specs.File.{Layout, Table, adjustment_in, bodies_of, bytes_in_slot, checksum_in_slot, entries_at, entry_bytes, file, file_of, file_with, header_bytes, table_in, tables_from}
+use Rattle.font_theory.specs.File.{Writing, Table, adjustment_in, bodies_of, bytes_in_slot, checksum_in_slot, entries_at, entry_bytes, file, file_of, file_with, header_bytes, table_in, tables_from}
 use Rattle.font_theory.proofs.AdjustmentLemmas.{length-with_adjustment, u32_at-with_adjustment, with_adjustment-zero, without_field-head, without_field-with_adjustment}
 use Rattle.font_theory.proofs.MeaningLemmas.{file-is, last_head, last_tables}
 use Rattle.font_theory.proofs.NumberLemmas.{u32_at-drop}
@@ -95,19 +95,19 @@ head_tag_is : kept_tag 6 ≡ named (codes "head")
 unfolding kept_tag
 head_tag_is = refl
 
-module _ (layout : Layout) (K : Content) where
+module _ (writing : Writing) (K : Content) where
   -- the tables before `head`, and those after it
   abbrev pub before_head : List Table
-  before_head = tables_from layout K K.head 0 6
+  before_head = tables_from writing K K.head 0 6
 
   abbrev pub behind_head : List Table
-  behind_head = tables_from layout K K.head 7 9
+  behind_head = tables_from writing K K.head 7 9
 
-  same_slot : (head : List ℕ) (slot : ℕ) → slot ≢ 6 → bytes_in_slot layout K head slot ≡ bytes_in_slot layout K K.head slot
+  same_slot : (head : List ℕ) (slot : ℕ) → slot ≢ 6 → bytes_in_slot writing K head slot ≡ bytes_in_slot writing K K.head slot
   unfolding bytes_in_slot
   same_slot head slot other = let f = ne_eqb slot 6 other in rw f refl
 
-  same_lines : (head : List ℕ) (k n : ℕ) → (6 < k) ⊎ (k + n ≤ 6) → map (table_in layout K head) (range_with_len k n) ≡ map (table_in layout K K.head) (range_with_len k n)
+  same_lines : (head : List ℕ) (k n : ℕ) → (6 < k) ⊎ (k + n ≤ 6) → map (table_in writing K head) (range_with_len k n) ≡ map (table_in writing K K.head) (range_with_len k n)
   same_lines head k zero out = refl
   same_lines head k (suc n) out =
       let other : k ≢ 6 = λ e. elim out [ inl h ↦ omega arith | inr h ↦ omega arith ] in
@@ -115,92 +115,92 @@ module _ (layout : Layout) (K : Content) where
       let here = same_slot head k other in
       λ i. option_map (table_with k) (here i) ∷ same_lines head (k + 1) n next i
 
-  head_slot : (head : List ℕ) → tables_from layout K head 6 10 ≡ table_with 6 head ∷ tables_from layout K head 7 9
+  head_slot : (head : List ℕ) → tables_from writing K head 6 10 ≡ table_with 6 head ∷ tables_from writing K head 7 9
   unfolding bytes_in_slot
   head_slot head = refl
 
   -- `head` in their midst
-  pub split_at_head : (head : List ℕ) → tables_from layout K head 0 16 ≡ before_head ++ table_with 6 head ∷ behind_head
+  pub split_at_head : (head : List ℕ) → tables_from writing K head 0 16 ≡ before_head ++ table_with 6 head ∷ behind_head
   split_at_head head =
-      tables_from-split layout K head 0 6 10
-      ∙ ap (λ (l : List Table). tables_from layout K head 0 6 ++ l) (head_slot head)
+      tables_from-split writing K head 0 6 10
+      ∙ ap (λ (l : List Table). tables_from writing K head 0 6 ++ l) (head_slot head)
       ∙ (λ i. said_lines (same_lines head 0 6 (inr (omega arith)) i) ++ table_with 6 head ∷ said_lines (same_lines head 7 9 (inl (omega arith)) i))
 
   -- where `head` stands
   abbrev pub head_at : ℕ
-  head_at = bodies_at (last_tables layout K) (are_tables layout K (last_head layout K)) + length (bodies_of before_head)
+  head_at = bodies_at (last_tables writing K) (are_tables writing K (last_head writing K)) + length (bodies_of before_head)
 
   -- what stands before it
   abbrev pub before_bytes : List ℕ
-  before_bytes = (header_bytes (length (last_tables layout K)) ++ flat_map entry_bytes (entries_at (12 + 16 * length (last_tables layout K)) (last_tables layout K))) ++ bodies_of before_head
+  before_bytes = (header_bytes (length (last_tables writing K)) ++ flat_map entry_bytes (entries_at (12 + 16 * length (last_tables writing K)) (last_tables writing K))) ++ bodies_of before_head
 
   pub length-before_bytes : length before_bytes ≡ head_at
   length-before_bytes =
-      let front = header_bytes (length (last_tables layout K)) ++ flat_map entry_bytes (entries_at (12 + 16 * length (last_tables layout K)) (last_tables layout K)) in
-      let long = length-front_of (last_tables layout K) (are_tables layout K (last_head layout K)) in
+      let front = header_bytes (length (last_tables writing K)) ++ flat_map entry_bytes (entries_at (12 + 16 * length (last_tables writing K)) (last_tables writing K)) in
+      let long = length-front_of (last_tables writing K) (are_tables writing K (last_head writing K)) in
       length-append front (bodies_of before_head) ∙ ap (λ (n : ℕ). n + length (bodies_of before_head)) long
 
-  pub table_entry-head : table_entry (file layout K) (named (codes "head")) ≡ Some (entry_of head_at (table_with 6 (last_head layout K)))
+  pub table_entry-head : table_entry (file writing K) (named (codes "head")) ≡ Some (entry_of head_at (table_with 6 (last_head writing K)))
   unfolding table_entry
   table_entry-head =
-      let ok = are_tables layout K (last_head layout K) in
-      let at = 12 + 16 * length (last_tables layout K) in
-      ap (λ (tag : Tag). find (has_tag tag) (records_of (file layout K))) (sym head_tag_is)
-      ∙ ap (λ (b : List ℕ). find (has_tag (kept_tag 6)) (records_of b)) (file-is layout K)
-      ∙ ap (λ (l : List Entry). find (has_tag (kept_tag 6)) l) (records_of-file_of (last_tables layout K) ok)
-      ∙ ap (λ (l : List Table). find (has_tag (kept_tag 6)) (entries_at at l)) (split_at_head (last_head layout K))
-      ∙ entry_found before_head (table_with 6 (last_head layout K)) behind_head at (kept_tag 6)
-      (found_nowhere layout K K.head 6 0 6 (omega arith) (omega arith) (inr (omega arith))) (same_tag-kept 6 6 (omega arith) (omega arith))
+      let ok = are_tables writing K (last_head writing K) in
+      let at = 12 + 16 * length (last_tables writing K) in
+      ap (λ (tag : Tag). find (has_tag tag) (records_of (file writing K))) (sym head_tag_is)
+      ∙ ap (λ (b : List ℕ). find (has_tag (kept_tag 6)) (records_of b)) (file-is writing K)
+      ∙ ap (λ (l : List Entry). find (has_tag (kept_tag 6)) l) (records_of-file_of (last_tables writing K) ok)
+      ∙ ap (λ (l : List Table). find (has_tag (kept_tag 6)) (entries_at at l)) (split_at_head (last_head writing K))
+      ∙ entry_found before_head (table_with 6 (last_head writing K)) behind_head at (kept_tag 6)
+      (found_nowhere writing K K.head 6 0 6 (omega arith) (omega arith) (inr (omega arith))) (same_tag-kept 6 6 (omega arith) (omega arith))
 
   module _ (ok : IsWritable K) where
     -- the field as zeros gives the padded `head` back
-    zeroed : without_field (padded (last_head layout K)) 8 ≡ padded K.head
+    zeroed : without_field (padded (last_head writing K)) 8 ≡ padded K.head
     zeroed =
         let long = ok.head_size in
-        let same = length-with_adjustment (adjustment_in layout K) K.head (omega arith) in
-        without_field-padded (last_head layout K) (omega arith) ∙ ap padded (without_field-with_adjustment (adjustment_in layout K) K.head ok.head_size ok.head_form)
+        let same = length-with_adjustment (adjustment_in writing K) K.head (omega arith) in
+        without_field-padded (last_head writing K) (omega arith) ∙ ap padded (without_field-with_adjustment (adjustment_in writing K) K.head ok.head_size ok.head_form)
 
-    pub checksum-head : checksum_in_slot 6 K.head ≡ checksum_in_slot 6 (last_head layout K)
+    pub checksum-head : checksum_in_slot 6 K.head ≡ checksum_in_slot 6 (last_head writing K)
     checksum-head =
         ap checksum_of (without_field-head K.head ∙ with_adjustment-zero K.head ok.head_size ok.head_form
-        ∙ sym (without_field-with_adjustment (adjustment_in layout K) K.head ok.head_size ok.head_form))
+        ∙ sym (without_field-with_adjustment (adjustment_in writing K) K.head ok.head_size ok.head_form))
 
     -- a file with either `head`, in three parts
-    file_split : file layout K ≡ before_bytes ++ (padded (last_head layout K) ++ bodies_of behind_head)
+    file_split : file writing K ≡ before_bytes ++ (padded (last_head writing K) ++ bodies_of behind_head)
     unfolding file_of
     file_split =
-        let tables = last_tables layout K in
+        let tables = last_tables writing K in
         let header = header_bytes (length tables) in
         let records = flat_map entry_bytes (entries_at (12 + 16 * length tables) tables) in
-        let rest = padded (last_head layout K) ++ bodies_of behind_head in
-        file-is layout K
-        ∙ ap (λ (l : List Table). header ++ (records ++ bodies_of l)) (split_at_head (last_head layout K))
-        ∙ ap (λ (b : List ℕ). header ++ (records ++ b)) (bodies_of-append before_head (table_with 6 (last_head layout K) ∷ behind_head))
+        let rest = padded (last_head writing K) ++ bodies_of behind_head in
+        file-is writing K
+        ∙ ap (λ (l : List Table). header ++ (records ++ bodies_of l)) (split_at_head (last_head writing K))
+        ∙ ap (λ (b : List ℕ). header ++ (records ++ b)) (bodies_of-append before_head (table_with 6 (last_head writing K) ∷ behind_head))
         ∙ sym (append_assoc header records (bodies_of before_head ++ rest))
         ∙ sym (append_assoc (header ++ records) (bodies_of before_head) rest)
 
     -- either `head` leaves the records
-    pub same_count : length (last_tables layout K) ≡ length (tables_from layout K K.head 0 16)
+    pub same_count : length (last_tables writing K) ≡ length (tables_from writing K K.head 0 16)
     same_count =
-        ap (λ (l : List Table). length l) (split_at_head (last_head layout K)) ∙ length-append before_head (table_with 6 (last_head layout K) ∷ behind_head)
+        ap (λ (l : List Table). length l) (split_at_head (last_head writing K)) ∙ length-append before_head (table_with 6 (last_head writing K) ∷ behind_head)
         ∙ sym (length-append before_head (table_with 6 K.head ∷ behind_head)) ∙ ap (λ (l : List Table). length l) (sym (split_at_head K.head))
 
-    same_records : (at : ℕ) → entries_at at (last_tables layout K) ≡ entries_at at (tables_from layout K K.head 0 16)
+    same_records : (at : ℕ) → entries_at at (last_tables writing K) ≡ entries_at at (tables_from writing K K.head 0 16)
     same_records at =
         let long = ok.head_size in
-        let same = length-with_adjustment (adjustment_in layout K) K.head (omega arith) in
-        ap (entries_at at) (split_at_head (last_head layout K))
-        ∙ sym (same_entries at before_head behind_head (table_with 6 K.head) (table_with 6 (last_head layout K)) refl checksum-head (sym same))
+        let same = length-with_adjustment (adjustment_in writing K) K.head (omega arith) in
+        ap (entries_at at) (split_at_head (last_head writing K))
+        ∙ sym (same_entries at before_head behind_head (table_with 6 K.head) (table_with 6 (last_head writing K)) refl checksum-head (sym same))
         ∙ ap (entries_at at) (sym (split_at_head K.head))
 
-    pub all_records : entries_at (12 + 16 * length (last_tables layout K)) (last_tables layout K) ≡ entries_at (12 + 16 * length (tables_from layout K K.head 0 16)) (tables_from layout K K.head 0 16)
+    pub all_records : entries_at (12 + 16 * length (last_tables writing K)) (last_tables writing K) ≡ entries_at (12 + 16 * length (tables_from writing K K.head 0 16)) (tables_from writing K K.head 0 16)
     all_records =
-        same_records (12 + 16 * length (last_tables layout K)) ∙ ap (λ (n : ℕ). entries_at (12 + 16 * n) (tables_from layout K K.head 0 16)) same_count
+        same_records (12 + 16 * length (last_tables writing K)) ∙ ap (λ (n : ℕ). entries_at (12 + 16 * n) (tables_from writing K K.head 0 16)) same_count
 
-    other_split : file_with layout K K.head ≡ before_bytes ++ (padded K.head ++ bodies_of behind_head)
+    other_split : file_with writing K K.head ≡ before_bytes ++ (padded K.head ++ bodies_of behind_head)
     unfolding file_of
     other_split =
-        let tables = tables_from layout K K.head 0 16 in
+        let tables = tables_from writing K K.head 0 16 in
         let header = header_bytes (length tables) in
         let records = flat_map entry_bytes (entries_at (12 + 16 * length tables) tables) in
         let rest = padded K.head ++ bodies_of behind_head in
@@ -211,23 +211,23 @@ module _ (layout : Layout) (K : Content) where
         ∙ (λ i. ((header_bytes (sym same_count i) ++ flat_map entry_bytes (sym all_records i)) ++ bodies_of before_head) ++ rest)
 
     -- the file with the field as zeros is the one of which the adjustment was taken
-    pub without_field-file : without_field (file layout K) (head_at + 8) ≡ file_with layout K K.head
+    pub without_field-file : without_field (file writing K) (head_at + 8) ≡ file_with writing K K.head
     without_field-file =
         let long = ok.head_size in
-        let same = length-with_adjustment (adjustment_in layout K) K.head (omega arith) in
+        let same = length-with_adjustment (adjustment_in writing K) K.head (omega arith) in
         (λ i. without_field (file_split i) (sym length-before_bytes i + 8))
-        ∙ without_field-within before_bytes (padded (last_head layout K)) (bodies_of behind_head) (omega (arith, length-padded-is (last_head layout K)))
+        ∙ without_field-within before_bytes (padded (last_head writing K)) (bodies_of behind_head) (omega (arith, length-padded-is (last_head writing K)))
         ∙ ap (λ (b : List ℕ). before_bytes ++ (b ++ bodies_of behind_head)) zeroed ∙ sym other_split
 
     -- the field is read back
-    pub u32_at-adjustment : u32_at (file layout K) (head_at + 8) ≡ adjustment_in layout K
+    pub u32_at-adjustment : u32_at (file writing K) (head_at + 8) ≡ adjustment_in writing K
     unfolding padded
     u32_at-adjustment =
         let long = ok.head_size in
-        let same = length-with_adjustment (adjustment_in layout K) K.head (omega arith) in
-        let head = last_head layout K in
+        let same = length-with_adjustment (adjustment_in writing K) K.head (omega arith) in
+        let head = last_head writing K in
         let zeros : List ℕ = replicate (padding_of (length head)) 0 in
-        let behind : drop head_at (file layout K) ≡ head ++ (zeros ++ bodies_of behind_head) =
+        let behind : drop head_at (file writing K) ≡ head ++ (zeros ++ bodies_of behind_head) =
         ap (drop head_at) file_split ∙ drop_at before_bytes (padded head ++ bodies_of behind_head) head_at length-before_bytes ∙ append_assoc head zeros (bodies_of behind_head) in
-        sym (u32_at-drop head_at 8 (file layout K)) ∙ ap (λ (b : List ℕ). u32_at b 8) behind
-        ∙ u32_at-append head (zeros ++ bodies_of behind_head) 8 (omega arith) ∙ u32_at-with_adjustment (adjustment_in layout K) K.head (omega arith)
+        sym (u32_at-drop head_at 8 (file writing K)) ∙ ap (λ (b : List ℕ). u32_at b 8) behind
+        ∙ u32_at-append head (zeros ++ bodies_of behind_head) 8 (omega arith) ∙ u32_at-with_adjustment (adjustment_in writing K) K.head (omega arith)

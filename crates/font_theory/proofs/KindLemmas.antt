@@ -3,7 +3,7 @@ use Rattle.std.proofs.Common.{◌≡◌, ℕ, List, refl}
 use Rattle.font_file.specs.Font.{font_fault}
 use Rattle.font_theory.specs.Content.{Content}
 use Rattle.font_theory.specs.Cut.{our_format}
-use Rattle.font_theory.specs.File.{current_layout, file}
+use Rattle.font_theory.specs.File.{current_writing, file}
 use Rattle.font_theory.specs.Kinds.{IsKind, format_of, spelled_by}
 use Rattle.font_theory.specs.Lean.{lean_format, spelled_out}
 use Rattle.font_theory.specs.declared.kinds.Kind.{Kind}
@@ -16,7 +16,7 @@ our_fault : (X : List ℕ) → our_format.fault X ≡ font_fault X
 unfolding our_format
 our_fault X = refl
 
-our_writes : (K : Content) → our_format.file K ≡ file current_layout K
+our_writes : (K : Content) → our_format.file K ≡ file current_writing K
 unfolding our_format
 our_writes K = refl
 

@@ -14,7 +14,7 @@ use Rattle.font_glyph.specs.Reach.{Reach}
 use Rattle.font_theory.specs.Bytes.{padded}
 use Rattle.font_theory.specs.Content.{Content, Font, IsClosedContent, IsFont, content, everything, font_of, glyph_count, is_kept, read_back, table_in_slot}
 use Rattle.font_theory.specs.Cut.{Arises, IsCurrent, Writes, cut, our_format, content_of_all}
-use Rattle.font_theory.specs.File.{current_layout, file}
+use Rattle.font_theory.specs.File.{current_writing, file}
 use Rattle.font_theory.specs.Join.{Agree, both}
 use Rattle.std.specs.Option.{option_map}
 use Rattle.font_theory.proofs.ArisesLemmas.{IsClosed-arises}
@@ -62,12 +62,12 @@ module _ (font : List ℕ) (wanted : ℕ → Bool) (accepted : font_fault font �
   pub findings_of-lean : (made : List ℕ) → made ≡ cut lean_format font wanted → findings_of made ≡ []
   findings_of-lean made is =
       ap findings_of (is ∙ cut-lean_file)
-      ∙ findings_of-file current_layout (spelled_out lean_content) (IsWritable-closed (spelled_out lean_content) (IsClosed-spelled lean_content closed (IsLean-content (font_of font) wanted ok)))
+      ∙ findings_of-file current_writing (spelled_out lean_content) (IsWritable-closed (spelled_out lean_content) (IsClosed-spelled lean_content closed (IsLean-content (font_of font) wanted ok)))
 
   -- it is no longer than the full cut
   pub length-lean_cut : length (cut lean_format font wanted) ≤ length (cut our_format font wanted)
   unfolding lean_format our_format
-  length-lean_cut = length-lean (font_of font) ok wanted current_layout
+  length-lean_cut = length-lean (font_of font) ok wanted current_writing
 
 -- a file of which a lean content of an accepted one is read back
 module _ (font other : List ℕ) (wanted : ℕ → Bool) (accepted : font_fault font ≡ None) (same : font_of other ≡ read_back (spelled_out (content (thin (font_of font)) wanted))) where
@@ -121,16 +121,16 @@ cut-lean_cut font accepted A X w small B =
 -- a lean cut is a full cut too, namely of itself
 pub IsCurrent-full : (X : List ℕ) → IsCurrent lean_format X → IsCurrent our_format X
 unfolding our_format lean_format
-IsCurrent-full X layout =
-    let accepted : font_fault X ≡ None = layout.accepted in
+IsCurrent-full X writing =
+    let accepted : font_fault X ≡ None = writing.accepted in
     let K : Content = content (thin (font_of X)) everything in
     let ok = IsFont-accepted X accepted in
     let closed = IsClosed-content (thin (font_of X)) everything (IsFont-thin (font_of X) ok) in
     let lean = IsLean-content (font_of X) everything ok in
-    let read = reads-spelled K X closed lean layout.written (size-accepted X accepted) in
+    let read = reads-spelled K X closed lean writing.written (size-accepted X accepted) in
     record {
       accepted = accepted;
-      written = ap (λ G. file current_layout (content G everything)) read.1 ∙ ap (file current_layout) (IsClosed-spelled K closed lean).closed ∙ layout.written;
+      written = ap (λ G. file current_writing (content G everything)) read.1 ∙ ap (file current_writing) (IsClosed-spelled K closed lean).closed ∙ writing.written;
     }
 
 -- what accepted files come to is closed once it is spelled
@@ -140,12 +140,12 @@ IsClosed-lean K arises = IsClosed-spelled K (IsClosed-arises lean_format lean_fo
 -- what is read of a file in lean cut form is spelled of its lean content
 pub read-current : (X : List ℕ) → IsCurrent lean_format X → (font_of X ≡ read_back (spelled_out (content_of_all lean_format X))) × IsLean (content_of_all lean_format X)
 unfolding lean_format
-read-current X layout =
-    let accepted : font_fault X ≡ None = layout.accepted in
+read-current X writing =
+    let accepted : font_fault X ≡ None = writing.accepted in
     let ok = IsFont-accepted X accepted in
     let K : Content = content (thin (font_of X)) everything in
     let lean = IsLean-content (font_of X) everything ok in
-    ((reads-spelled K X (IsClosed-content (thin (font_of X)) everything (IsFont-thin (font_of X) ok)) lean layout.written (size-accepted X accepted)).1, lean)
+    ((reads-spelled K X (IsClosed-content (thin (font_of X)) everything (IsFont-thin (font_of X) ok)) lean writing.written (size-accepted X accepted)).1, lean)
 
 -- `hmtx` and `vmtx` of a join of lean cuts: those of both, byte by byte
 pub tables-joined : (X Y : List ℕ) → IsCurrent lean_format X → IsCurrent lean_format Y → Agree (content_of_all lean_format X) (content_of_all lean_format Y)
@@ -180,8 +180,8 @@ other-joined X Y formX formY slot a b =
 -- the full content of a lean cut is what is spelled of its lean one
 pub content_of_all-full : (X : List ℕ) → IsCurrent lean_format X → content_of_all our_format X ≡ spelled_out (content_of_all lean_format X)
 unfolding our_format lean_format
-content_of_all-full X layout =
-    let accepted : font_fault X ≡ None = layout.accepted in
+content_of_all-full X writing =
+    let accepted : font_fault X ≡ None = writing.accepted in
     let ok = IsFont-accepted X accepted in
     let K : Content = content (thin (font_of X)) everything in
-    ap (λ G. content G everything) (read-current X layout).0 ∙ (IsClosed-spelled K (IsClosed-content (thin (font_of X)) everything (IsFont-thin (font_of X) ok)) (IsLean-content (font_of X) everything ok)).closed
+    ap (λ G. content G everything) (read-current X writing).0 ∙ (IsClosed-spelled K (IsClosed-content (thin (font_of X)) everything (IsFont-thin (font_of X) ok)) (IsLean-content (font_of X) everything ok)).closed

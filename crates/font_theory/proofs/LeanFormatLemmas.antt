@@ -5,15 +5,15 @@ use Rattle.font_file.specs.Font.{font_fault}
 use Rattle.font_theory.specs.Content.{Content, IsClosedContent, font_of, read_back}
 use Rattle.font_theory.specs.Cut.{Arises, IsFormat}
 use Rattle.font_theory.specs.Cut.Arises.{of_file, of_two}
-use Rattle.font_theory.specs.File.{current_layout, current_profile}
+use Rattle.font_theory.specs.File.{current_writing, current_profile}
 use Rattle.font_theory.specs.Lean.{lean_file, lean_format, spelled_out, thin}
 use Rattle.font_theory.proofs.ArisesLemmas.{IsClosed-arises}
-use Rattle.font_theory.proofs.CmapLemmas.{IsLayout-layout_of}
+use Rattle.font_theory.proofs.CmapLemmas.{IsWriting-writing_of}
 use Rattle.font_theory.proofs.FontLemmas.{IsFont-accepted, size-accepted, size-refused}
 use Rattle.font_theory.proofs.FormatLemmas.{reads-file}
 use Rattle.font_theory.proofs.LeanContentLemmas.{IsClosed-spelled, IsLean-both, IsLean-content}
 use Rattle.font_theory.proofs.LeanLemmas.{IsFont-thin, IsLean, thin-spelled}
-use Rattle.font_theory.proofs.OurFormatLemmas.{IsReadBack-layout}
+use Rattle.font_theory.proofs.OurFormatLemmas.{IsReadBack-writing}
 
 -- what accepted files come to is lean
 pub IsLean-arises : (K : Content) → Arises lean_format K → IsLean K
@@ -23,7 +23,7 @@ IsLean-arises K (of_two L M l m agree e) = subst IsLean e (IsLean-both L M agree
 
 -- the file of a closed lean content is accepted, and means what is spelled of it
 pub reads-spelled : (K : Content) (X : List ℕ) → IsClosedContent K → IsLean K → lean_file K ≡ X → length X ≤ MAX_FILE → (font_fault X ≡ None) × (font_of X ≡ read_back (spelled_out K))
-reads-spelled K X ok lean e small = reads-file current_layout (IsReadBack-layout current_layout (IsLayout-layout_of current_profile)) (spelled_out K) X (IsClosed-spelled K ok lean) e small
+reads-spelled K X ok lean e small = reads-file current_writing (IsReadBack-writing current_writing (IsWriting-writing_of current_profile)) (spelled_out K) X (IsClosed-spelled K ok lean) e small
 
 reads-lean : (K : Content) (X : List ℕ) → IsClosedContent K → IsLean K → lean_file K ≡ X → length X ≤ MAX_FILE → (font_fault X ≡ None) × (thin (font_of X) ≡ read_back K)
 reads-lean K X ok lean e small = let read = reads-spelled K X ok lean e small in (read.0, ap thin read.1 ∙ thin-spelled K lean)

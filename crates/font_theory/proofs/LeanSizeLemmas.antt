@@ -8,7 +8,7 @@ use Rattle.codes.specs.declared.runs.Run.{Run}
 use Rattle.font_glyph.specs.Union.{record_in}
 use Rattle.font_theory.specs.Bytes.{padded}
 use Rattle.font_theory.specs.Content.{Content, Font, IsFont, content, glyph_count}
-use Rattle.font_theory.specs.File.{Layout, file, glyf_bytes, groups_of_content, outlines_of, padded_length, size_of}
+use Rattle.font_theory.specs.File.{Writing, file, glyf_bytes, groups_of_content, outlines_of, padded_length, size_of}
 use Rattle.font_theory.specs.Lean.{blank, laid, pairs_in, spelled_copied, spelled_out, thin, thin_copied, thin_post}
 use Rattle.font_theory.proofs.ContentLemmas.{IsClosed-content}
 use Rattle.font_theory.proofs.LeanContentLemmas.{IsClosed-spelled, IsLean-content}
@@ -114,21 +114,21 @@ module _ (F : Font) (ok : IsFont F) (A : ℕ → Bool) where
   unfolding groups_of_content
   groups-lean = refl
 
-  size-lean : (layout : Layout) → size_of layout S ≤ size_of layout O
+  size-lean : (writing : Writing) → size_of writing S ≤ size_of writing O
   unfolding size_of
-  size-lean layout =
+  size-lean writing =
       let count = count-all S.copied O.copied no_longer in
       let bytes = bytes-all S.copied O.copied no_longer in
       let glyphs = glyph_count-lean F ok A in
       let groups = ap (λ (l : List Run). length l) groups-lean in
-      let front = ap (λ (l : List Run). length (layout.front (length l))) groups-lean in
-      let glyf = ap (λ (l : List (List ℕ)). length (padded (glyf_bytes layout l))) outlines-lean in
+      let front = ap (λ (l : List Run). length (writing.front (length l))) groups-lean in
+      let glyf = ap (λ (l : List (List ℕ)). length (padded (glyf_bytes writing l))) outlines-lean in
       omega arith
 
-  pub length-lean : (layout : Layout) → length (file layout S) ≤ length (file layout O)
-  length-lean layout =
+  pub length-lean : (writing : Writing) → length (file writing S) ≤ length (file writing O)
+  length-lean writing =
       let closed = IsClosed-content (thin F) A (IsFont-thin F ok) in
-      let s = length-file layout S (IsWritable-closed S (IsClosed-spelled (content (thin F) A) closed (IsLean-content F A ok))) in
-      let o = length-file layout O (IsWritable-closed O (IsClosed-content F A ok)) in
-      let size = size-lean layout in
+      let s = length-file writing S (IsWritable-closed S (IsClosed-spelled (content (thin F) A) closed (IsLean-content F A ok))) in
+      let o = length-file writing O (IsWritable-closed O (IsClosed-content F A ok)) in
+      let size = size-lean writing in
       omega arith

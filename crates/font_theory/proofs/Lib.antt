@@ -11,8 +11,8 @@ pub mod FileWantedLemmas
 pub mod FindingLemmas
 pub mod FontLemmas
 pub mod KindLemmas
-pub mod LayoutLemmas
-pub mod LayoutSizeLemmas
+pub mod WritingLemmas
+pub mod WritingSizeLemmas
 pub mod FormatLemmas
 pub mod FrontLemmas
 pub mod GrownLemmas

@@ -8,7 +8,7 @@ use Rattle.sfnt_bytes.specs.Findings.{padding_of}
 use Rattle.sfnt_bytes.specs.Lines.{said_lines}
 use Rattle.font_theory.specs.Bytes.{padded}
 use Rattle.font_theory.specs.Content.{Content, IsWritable, glyph_count}
-use Rattle.font_theory.specs.File.{Layout, adjustment_in, bodies_of, bytes_in_slot, cmap_bytes, file, glyf_bytes, groups_of_content, loca_bytes, outlines_from, outlines_of, padded_length, size_of, table_in, tables_from}
+use Rattle.font_theory.specs.File.{Writing, adjustment_in, bodies_of, bytes_in_slot, cmap_bytes, file, glyf_bytes, groups_of_content, loca_bytes, outlines_from, outlines_of, padded_length, size_of, table_in, tables_from}
 use Rattle.font_theory.proofs.AdjustmentLemmas.{length-with_adjustment}
 use Rattle.font_theory.proofs.CmapLemmas.{length-cmap_bytes}
 use Rattle.font_theory.proofs.MeaningLemmas.{file-is, last_head, last_tables}
@@ -44,22 +44,22 @@ length-said_lines-total f k (suc n) = step (f k) (map f (range_with_len (k + 1) 
     step None rest = omega arith
     step (Some b) rest = omega arith
 
-module _ (layout : Layout) (K : Content) (head : List ℕ) where
-  length-tables : (k n : ℕ) → length (tables_from layout K head k n) ≡ total (λ slot. one_of (bytes_in_slot layout K head slot)) k n
+module _ (writing : Writing) (K : Content) (head : List ℕ) where
+  length-tables : (k n : ℕ) → length (tables_from writing K head k n) ≡ total (λ slot. one_of (bytes_in_slot writing K head slot)) k n
   length-tables k zero = refl
-  length-tables k (suc n) = step (bytes_in_slot layout K head k) ∙ ap (λ (x : ℕ). one_of (bytes_in_slot layout K head k) + x) (length-tables (k + 1) n)
+  length-tables k (suc n) = step (bytes_in_slot writing K head k) ∙ ap (λ (x : ℕ). one_of (bytes_in_slot writing K head k) + x) (length-tables (k + 1) n)
     where
-      step : (o : Option (List ℕ)) → length (said_lines (option_map (table_with k) o ∷ map (table_in layout K head) (range_with_len (k + 1) n))) ≡ one_of o + length (tables_from layout K head (k + 1) n)
+      step : (o : Option (List ℕ)) → length (said_lines (option_map (table_with k) o ∷ map (table_in writing K head) (range_with_len (k + 1) n))) ≡ one_of o + length (tables_from writing K head (k + 1) n)
       step None = omega arith
       step (Some b) = omega arith
 
-  length-bodies : (k n : ℕ) → length (bodies_of (tables_from layout K head k n)) ≡ total (λ slot. padded_length (bytes_in_slot layout K head slot)) k n
+  length-bodies : (k n : ℕ) → length (bodies_of (tables_from writing K head k n)) ≡ total (λ slot. padded_length (bytes_in_slot writing K head slot)) k n
   length-bodies k zero = refl
-  length-bodies k (suc n) = step (bytes_in_slot layout K head k) ∙ ap (λ (x : ℕ). padded_length (bytes_in_slot layout K head k) + x) (length-bodies (k + 1) n)
+  length-bodies k (suc n) = step (bytes_in_slot writing K head k) ∙ ap (λ (x : ℕ). padded_length (bytes_in_slot writing K head k) + x) (length-bodies (k + 1) n)
     where
-      step : (o : Option (List ℕ)) → length (bodies_of (said_lines (option_map (table_with k) o ∷ map (table_in layout K head) (range_with_len (k + 1) n)))) ≡ padded_length o + length (bodies_of (tables_from layout K head (k + 1) n))
+      step : (o : Option (List ℕ)) → length (bodies_of (said_lines (option_map (table_with k) o ∷ map (table_in writing K head) (range_with_len (k + 1) n)))) ≡ padded_length o + length (bodies_of (tables_from writing K head (k + 1) n))
       step None = omega arith
-      step (Some b) = length-append (padded b) (bodies_of (tables_from layout K head (k + 1) n))
+      step (Some b) = length-append (padded b) (bodies_of (tables_from writing K head (k + 1) n))
 
 -- what the four made tables add
 abbrev extra : ℕ → ℕ → ℕ → ℕ → ℕ → ℕ
@@ -69,9 +69,9 @@ total-extra : (a b c d : ℕ) → total (extra a b c d) 0 16 ≡ a + b + c + d
 total-extra a b c d = omega arith
 
 -- a measure of a slot is that of the copied table, or of one of the four
-abbrev IsMeasured : Layout → Content → List ℕ → (Option (List ℕ) → ℕ) → ℕ → Type 0
-IsMeasured layout K head m slot = m (bytes_in_slot layout K head slot)
-    ≡ m (K.copied slot) + extra (m (Some (cmap_bytes layout (groups_of_content K)))) (m (Some (glyf_bytes layout (outlines_of K)))) (m (Some head)) (m (Some (loca_bytes (outlines_of K)))) slot
+abbrev IsMeasured : Writing → Content → List ℕ → (Option (List ℕ) → ℕ) → ℕ → Type 0
+IsMeasured writing K head m slot = m (bytes_in_slot writing K head slot)
+    ≡ m (K.copied slot) + extra (m (Some (cmap_bytes writing (groups_of_content K)))) (m (Some (glyf_bytes writing (outlines_of K)))) (m (Some head)) (m (Some (loca_bytes (outlines_of K)))) slot
 
 none_copied : (x y : ℕ) → x ≡ 0 → y ≡ x + y
 none_copied x y none = omega arith
@@ -79,17 +79,17 @@ none_copied x y none = omega arith
 none_made : (x : ℕ) → x ≡ x + 0
 none_made x = omega arith
 
-is_measured : (layout : Layout) (K : Content) (head : List ℕ) (m : Option (List ℕ) → ℕ) (slot : ℕ) → IsWritable K → m None ≡ 0 → IsMeasured layout K head m slot
+is_measured : (writing : Writing) (K : Content) (head : List ℕ) (m : Option (List ℕ) → ℕ) (slot : ℕ) → IsWritable K → m None ≡ 0 → IsMeasured writing K head m slot
 unfolding bytes_in_slot
-is_measured layout K head m slot ok none =
+is_measured writing K head m slot ok none =
     elim (cases_eq slot 1) [
-      | inl e ↦ subst (IsMeasured layout K head m) (sym e) (none_copied (m (K.copied 1)) _ (ap m (ok.slots 1 refl) ∙ none))
+      | inl e ↦ subst (IsMeasured writing K head m) (sym e) (none_copied (m (K.copied 1)) _ (ap m (ok.slots 1 refl) ∙ none))
       | inr n1 ↦ elim (cases_eq slot 5) [
-        | inl e ↦ subst (IsMeasured layout K head m) (sym e) (none_copied (m (K.copied 5)) _ (ap m (ok.slots 5 refl) ∙ none))
+        | inl e ↦ subst (IsMeasured writing K head m) (sym e) (none_copied (m (K.copied 5)) _ (ap m (ok.slots 5 refl) ∙ none))
         | inr n5 ↦ elim (cases_eq slot 6) [
-          | inl e ↦ subst (IsMeasured layout K head m) (sym e) (none_copied (m (K.copied 6)) _ (ap m (ok.slots 6 refl) ∙ none))
+          | inl e ↦ subst (IsMeasured writing K head m) (sym e) (none_copied (m (K.copied 6)) _ (ap m (ok.slots 6 refl) ∙ none))
           | inr n6 ↦ elim (cases_eq slot 9) [
-            | inl e ↦ subst (IsMeasured layout K head m) (sym e) (none_copied (m (K.copied 9)) _ (ap m (ok.slots 9 refl) ∙ none))
+            | inl e ↦ subst (IsMeasured writing K head m) (sym e) (none_copied (m (K.copied 9)) _ (ap m (ok.slots 9 refl) ∙ none))
             | inr n9 ↦
                 let e1 = ne_eqb slot 1 n1 in let e5 = ne_eqb slot 5 n5 in let e6 = ne_eqb slot 6 n6 in let e9 = ne_eqb slot 9 n9 in
                 rw (e1, e5, e6, e9) (none_made (m (K.copied slot)))
@@ -99,47 +99,47 @@ is_measured layout K head m slot ok none =
     ]
 
 -- all slots
-total-slots : (layout : Layout) (K : Content) (head : List ℕ) (m : Option (List ℕ) → ℕ) → IsWritable K → m None ≡ 0
-    → total (λ slot. m (bytes_in_slot layout K head slot)) 0 16
-    ≡ total (λ slot. m (K.copied slot)) 0 16 + (m (Some (cmap_bytes layout (groups_of_content K))) + m (Some (glyf_bytes layout (outlines_of K))) + m (Some head) + m (Some (loca_bytes (outlines_of K))))
-total-slots layout K head m ok none =
-    let a = m (Some (cmap_bytes layout (groups_of_content K))) in
-    let b = m (Some (glyf_bytes layout (outlines_of K))) in
+total-slots : (writing : Writing) (K : Content) (head : List ℕ) (m : Option (List ℕ) → ℕ) → IsWritable K → m None ≡ 0
+    → total (λ slot. m (bytes_in_slot writing K head slot)) 0 16
+    ≡ total (λ slot. m (K.copied slot)) 0 16 + (m (Some (cmap_bytes writing (groups_of_content K))) + m (Some (glyf_bytes writing (outlines_of K))) + m (Some head) + m (Some (loca_bytes (outlines_of K))))
+total-slots writing K head m ok none =
+    let a = m (Some (cmap_bytes writing (groups_of_content K))) in
+    let b = m (Some (glyf_bytes writing (outlines_of K))) in
     let c = m (Some head) in
     let d = m (Some (loca_bytes (outlines_of K))) in
-    total-add (λ slot. m (bytes_in_slot layout K head slot)) (λ slot. m (K.copied slot)) (extra a b c d) 0 16 (λ slot. is_measured layout K head m slot ok none)
+    total-add (λ slot. m (bytes_in_slot writing K head slot)) (λ slot. m (K.copied slot)) (extra a b c d) 0 16 (λ slot. is_measured writing K head m slot ok none)
     ∙ ap (λ (n : ℕ). total (λ slot. m (K.copied slot)) 0 16 + n) (total-extra a b c d)
 
 -- how many tables are written
-pub length-last_tables : (layout : Layout) (K : Content) → IsWritable K → length (last_tables layout K) ≡ 4 + length (said_lines (map K.copied (range_with_len 0 16)))
-length-last_tables layout K ok =
-    let all = length-tables layout K (last_head layout K) 0 16 in
+pub length-last_tables : (writing : Writing) (K : Content) → IsWritable K → length (last_tables writing K) ≡ 4 + length (said_lines (map K.copied (range_with_len 0 16)))
+length-last_tables writing K ok =
+    let all = length-tables writing K (last_head writing K) 0 16 in
     let copied = length-said_lines-total K.copied 0 16 in
-    let parts = total-slots layout K (last_head layout K) one_of ok refl in
+    let parts = total-slots writing K (last_head writing K) one_of ok refl in
     omega (arith, all, copied, parts)
 
-pub length-last_bodies : (layout : Layout) (K : Content) → IsWritable K → length (bodies_of (last_tables layout K))
+pub length-last_bodies : (writing : Writing) (K : Content) → IsWritable K → length (bodies_of (last_tables writing K))
     ≡ sum (map (λ slot. padded_length (K.copied slot)) (range_with_len 0 16))
-    + (length (padded (cmap_bytes layout (groups_of_content K))) + length (padded (glyf_bytes layout (outlines_of K))) + length (padded K.head) + length (padded (loca_bytes (outlines_of K))))
-length-last_bodies layout K ok =
+    + (length (padded (cmap_bytes writing (groups_of_content K))) + length (padded (glyf_bytes writing (outlines_of K))) + length (padded K.head) + length (padded (loca_bytes (outlines_of K))))
+length-last_bodies writing K ok =
     let long = ok.head_size in
-    let all = length-bodies layout K (last_head layout K) 0 16 in
+    let all = length-bodies writing K (last_head writing K) 0 16 in
     let copied = sum-map (λ slot. padded_length (K.copied slot)) 0 16 in
-    let parts = total-slots layout K (last_head layout K) padded_length ok refl in
-    let same = length-with_adjustment (adjustment_in layout K) K.head (omega arith) in
-    let head : length (padded (last_head layout K)) ≡ length (padded K.head) =
-    length-padded-is (last_head layout K) ∙ (λ i. same i + padding_of (same i)) ∙ sym (length-padded-is K.head) in
+    let parts = total-slots writing K (last_head writing K) padded_length ok refl in
+    let same = length-with_adjustment (adjustment_in writing K) K.head (omega arith) in
+    let head : length (padded (last_head writing K)) ≡ length (padded K.head) =
+    length-padded-is (last_head writing K) ∙ (λ i. same i + padding_of (same i)) ∙ sym (length-padded-is K.head) in
     omega (arith, all, copied, parts, head)
 
 -- the length of a file
-pub length-file : (layout : Layout) (K : Content) → IsWritable K → length (file layout K) ≡ size_of layout K
+pub length-file : (writing : Writing) (K : Content) → IsWritable K → length (file writing K) ≡ size_of writing K
 unfolding size_of
-length-file layout K ok =
-    let whole = ap (λ (b : List ℕ). length b) (file-is layout K) ∙ length-file_of (last_tables layout K) (are_tables layout K (last_head layout K)) in
-    let count = length-last_tables layout K ok in
-    let bodies = length-last_bodies layout K ok in
-    let cmap_long = length-cmap_bytes layout (groups_of_content K) in
-    let cmap = ap (λ (b : List ℕ). length b) (padded-same (cmap_bytes layout (groups_of_content K)) (omega arith)) in
+length-file writing K ok =
+    let whole = ap (λ (b : List ℕ). length b) (file-is writing K) ∙ length-file_of (last_tables writing K) (are_tables writing K (last_head writing K)) in
+    let count = length-last_tables writing K ok in
+    let bodies = length-last_bodies writing K ok in
+    let cmap_long = length-cmap_bytes writing (groups_of_content K) in
+    let cmap = ap (λ (b : List ℕ). length b) (padded-same (cmap_bytes writing (groups_of_content K)) (omega arith)) in
     let loca_long = length-loca_bytes (outlines_of K) in
     let loca = ap (λ (b : List ℕ). length b) (padded-same (loca_bytes (outlines_of K)) (omega arith)) in
     let glyphs = length-outlines_of K in

@@ -7,7 +7,7 @@ use Rattle.sfnt_bytes.specs.Lines.{said_lines}
 use Rattle.sfnt_bytes.specs.Tag.{same_tag}
 use Rattle.sfnt_bytes.proofs.LineLemmas.{length-said_lines}
 use Rattle.font_theory.specs.Content.{Content}
-use Rattle.font_theory.specs.File.{Layout, Table, bytes_in_slot, checksum_in_slot, table_in, tables_from}
+use Rattle.font_theory.specs.File.{Writing, Table, bytes_in_slot, checksum_in_slot, table_in, tables_from}
 use Rattle.font_theory.proofs.TagLemmas.{length-kept_tag, same_tag-kept}
 use Rattle.font_theory.proofs.RecordLemmas.{AreTables, Each, HasFour}
 
@@ -31,12 +31,12 @@ find_same : (slot : ℕ) (o : Option (List ℕ)) (rest : List (Option Table)) �
 find_same slot None rest t none = none
 find_same slot (Some b) rest t none = rw t refl
 
-module _ (layout : Layout) (K : Content) (head : List ℕ) where
+module _ (writing : Writing) (K : Content) (head : List ℕ) where
   abbrev bytes_at : ℕ → Option (List ℕ)
-  bytes_at = bytes_in_slot layout K head
+  bytes_at = bytes_in_slot writing K head
 
   -- and nowhere else
-  pub found_nowhere : (slot k n : ℕ) → slot < 16 → k + n ≤ 16 → (slot < k) ⊎ (k + n ≤ slot) → find (is_of slot) (tables_from layout K head k n) ≡ None
+  pub found_nowhere : (slot k n : ℕ) → slot < 16 → k + n ≤ 16 → (slot < k) ⊎ (k + n ≤ slot) → find (is_of slot) (tables_from writing K head k n) ≡ None
   found_nowhere slot k zero low few out = refl
   found_nowhere slot k (suc n) low few out =
       let other : k ≢ slot = λ e. elim out [ inl h ↦ omega arith | inr h ↦ omega arith ] in
@@ -44,14 +44,14 @@ module _ (layout : Layout) (K : Content) (head : List ℕ) where
       find_other slot k (bytes_at k) _ (same_tag-kept k slot (omega arith) low ∙ ne_eqb k slot other) ∙ found_nowhere slot (k + 1) n low (omega arith) next
 
   -- the table in a slot is found under its tag
-  pub found_in_slot : (slot k n : ℕ) → slot < 16 → k + n ≤ 16 → k ≤ slot → slot < k + n → find (is_of slot) (tables_from layout K head k n) ≡ table_in layout K head slot
+  pub found_in_slot : (slot k n : ℕ) → slot < 16 → k + n ≤ 16 → k ≤ slot → slot < k + n → find (is_of slot) (tables_from writing K head k n) ≡ table_in writing K head slot
   found_in_slot slot k zero low few from to = absurd (omega arith)
   found_in_slot slot k (suc n) low few from to =
       elim (cases_eq k slot) [
         | inl e ↦
-            let rest = map (table_in layout K head) (range_with_len (k + 1) n) in
+            let rest = map (table_in writing K head) (range_with_len (k + 1) n) in
             let none = found_nowhere slot (k + 1) n low (omega arith) (inl (omega arith)) in
-            ap (λ (j : ℕ). find (is_of slot) (said_lines (table_in layout K head j ∷ rest))) e
+            ap (λ (j : ℕ). find (is_of slot) (said_lines (table_in writing K head j ∷ rest))) e
             ∙ find_same slot (bytes_at slot) rest (same_tag-kept slot slot low low ∙ eq-eqb slot slot refl) none
         | inr ne ↦
             find_other slot k (bytes_at k) _ (same_tag-kept k slot (omega arith) low ∙ ne_eqb k slot ne)
@@ -59,12 +59,12 @@ module _ (layout : Layout) (K : Content) (head : List ℕ) where
       ]
 
   -- what holds of the table of each slot holds of all tables
-  pub each_slot : (P : Table → Type 0) (k n : ℕ) → ((slot : ℕ) (b : List ℕ) → k ≤ slot → slot < k + n → bytes_at slot ≡ Some b → P (table_with slot b)) → Each P (tables_from layout K head k n)
+  pub each_slot : (P : Table → Type 0) (k n : ℕ) → ((slot : ℕ) (b : List ℕ) → k ≤ slot → slot < k + n → bytes_at slot ≡ Some b → P (table_with slot b)) → Each P (tables_from writing K head k n)
   each_slot P k zero h = tt
   each_slot P k (suc n) h = each_more P k n (bytes_at k) refl h (each_slot P (k + 1) n (λ slot b from to e. h slot b (omega arith) (omega arith) e))
     where
       each_more : (P : Table → Type 0) (k n : ℕ) (o : Option (List ℕ)) → bytes_at k ≡ o → ((slot : ℕ) (b : List ℕ) → k ≤ slot → slot < k + suc n → bytes_at slot ≡ Some b → P (table_with slot b))
-          → Each P (tables_from layout K head (k + 1) n) → Each P (said_lines (option_map (table_with k) o ∷ map (table_in layout K head) (range_with_len (k + 1) n)))
+          → Each P (tables_from writing K head (k + 1) n) → Each P (said_lines (option_map (table_with k) o ∷ map (table_in writing K head) (range_with_len (k + 1) n)))
       each_more P k n None e h rest = rest
       each_more P k n (Some b) e h rest = (h k b (omega arith) (omega arith) e, rest)
 
@@ -74,32 +74,32 @@ module _ (layout : Layout) (K : Content) (head : List ℕ) where
   said_lines-append (None ∷ xs) ys = said_lines-append xs ys
   said_lines-append (Some x ∷ xs) ys = ap (λ (l : List Table). x ∷ l) (said_lines-append xs ys)
 
-  pub tables_from-split : (k n m : ℕ) → tables_from layout K head k (n + m) ≡ tables_from layout K head k n ++ tables_from layout K head (k + n) m
+  pub tables_from-split : (k n m : ℕ) → tables_from writing K head k (n + m) ≡ tables_from writing K head k n ++ tables_from writing K head (k + n) m
   tables_from-split k n m =
-      ap (λ (l : List (Option Table)). said_lines l) (map_split k n m) ∙ said_lines-append (map (table_in layout K head) (range_with_len k n)) (map (table_in layout K head) (range_with_len (k + n) m))
+      ap (λ (l : List (Option Table)). said_lines l) (map_split k n m) ∙ said_lines-append (map (table_in writing K head) (range_with_len k n)) (map (table_in writing K head) (range_with_len (k + n) m))
     where
-      map_split : (k n m : ℕ) → map (table_in layout K head) (range_with_len k (n + m)) ≡ map (table_in layout K head) (range_with_len k n) ++ map (table_in layout K head) (range_with_len (k + n) m)
-      map_split k zero m = let a : 0 + m ≡ m = omega arith in let b : k ≡ k + 0 = omega arith in λ i. map (table_in layout K head) (range_with_len (b i) (a i))
+      map_split : (k n m : ℕ) → map (table_in writing K head) (range_with_len k (n + m)) ≡ map (table_in writing K head) (range_with_len k n) ++ map (table_in writing K head) (range_with_len (k + n) m)
+      map_split k zero m = let a : 0 + m ≡ m = omega arith in let b : k ≡ k + 0 = omega arith in λ i. map (table_in writing K head) (range_with_len (b i) (a i))
       map_split k (suc n) m =
           let a : suc n + m ≡ suc (n + m) = omega arith in
           let b : k + 1 + n ≡ k + suc n = omega arith in
-          ap (λ (j : ℕ). map (table_in layout K head) (range_with_len k j)) a
-          ∙ ap (λ (l : List (Option Table)). table_in layout K head k ∷ l) (map_split (k + 1) n m ∙ ap (λ (j : ℕ). map (table_in layout K head) (range_with_len (k + 1) n) ++ map (table_in layout K head) (range_with_len j m)) b)
+          ap (λ (j : ℕ). map (table_in writing K head) (range_with_len k j)) a
+          ∙ ap (λ (l : List (Option Table)). table_in writing K head k ∷ l) (map_split (k + 1) n m ∙ ap (λ (j : ℕ). map (table_in writing K head) (range_with_len (k + 1) n) ++ map (table_in writing K head) (range_with_len j m)) b)
 
-  pub tables_from-more : (n : ℕ) → tables_from layout K head 0 (n + 1) ≡ tables_from layout K head 0 n ++ said_lines (table_in layout K head n ∷ [])
-  tables_from-more n = tables_from-split 0 n 1 ∙ (let e : 0 + n ≡ n = omega arith in ap (λ (j : ℕ). tables_from layout K head 0 n ++ said_lines (table_in layout K head j ∷ [])) e)
+  pub tables_from-more : (n : ℕ) → tables_from writing K head 0 (n + 1) ≡ tables_from writing K head 0 n ++ said_lines (table_in writing K head n ∷ [])
+  tables_from-more n = tables_from-split 0 n 1 ∙ (let e : 0 + n ≡ n = omega arith in ap (λ (j : ℕ). tables_from writing K head 0 n ++ said_lines (table_in writing K head j ∷ [])) e)
 
   -- a directory can be written of all sixteen
-  pub are_tables : AreTables (tables_from layout K head 0 16)
+  pub are_tables : AreTables (tables_from writing K head 0 16)
   unfolding bytes_in_slot
   are_tables =
-      let few = length-said_lines (map (table_in layout K head) (range_with_len 0 16)) in
+      let few = length-said_lines (map (table_in writing K head) (range_with_len 0 16)) in
       record {
-        some = not_empty (tables_from layout K head 0 16) (found_in_slot 5 0 16 (omega arith) (omega arith) (omega arith) (omega arith));
+        some = not_empty (tables_from writing K head 0 16) (found_in_slot 5 0 16 (omega arith) (omega arith) (omega arith) (omega arith));
         few = omega arith;
         tags = each_slot (λ table. HasFour table.tag) 0 16 (λ slot b from to e. length-kept_tag slot (omega arith));
       }
     where
-      not_empty : (tables : List Table) → find (is_of 5) tables ≡ table_in layout K head 5 → 1 ≤ length tables
+      not_empty : (tables : List Table) → find (is_of 5) tables ≡ table_in writing K head 5 → 1 ≤ length tables
       not_empty [] e = absurd (let q : ⊥ = cc in q)
       not_empty (table ∷ tables) e = omega arith

@@ -8,7 +8,7 @@ use Rattle.font_file.specs.Font.{font_fault}
 use Rattle.font_file.specs.declared.font_error.FontError.{FontError}
 use Rattle.font_file.specs.declared.font_error.FontError.TheVariants.{Directory}
 use Rattle.font_theory.specs.Content.{Content, Font, IsFont, content, everything, font_of, read_back}
-use Rattle.font_theory.specs.File.{Layout, current_layout, file, layout_of}
+use Rattle.font_theory.specs.File.{Writing, current_writing, file, writing_of}
 use Rattle.font_theory.specs.Join.{Agree, both}
 use Rattle.font_theory.specs.declared.Profile.TheVariants.{First}
 pub use Rattle.codes.specs.Wanted.{either}
@@ -105,10 +105,10 @@ pub record CanJoin (R : Format) (X Y : List ℕ) : Type 0 where
   pub agree : Agree (content_of_all R X) (content_of_all R Y)
 
 -- the reader of this program, a form that is written, and one that is read as a cut too
-abbrev pub format_with : Layout → Layout → Format
-format_with layout old =
-    record { fault = font_fault; font = font_of; file = file layout; old = file old; limit = MAX_FILE }
+abbrev pub format_with : Writing → Writing → Format
+format_with writing old =
+    record { fault = font_fault; font = font_of; file = file writing; old = file old; limit = MAX_FILE }
 
 -- the reader and the writer of this program, which reads cuts of the first profile too
 unfoldable pub our_format : Format
-our_format = format_with current_layout (layout_of First)
+our_format = format_with current_writing (writing_of First)

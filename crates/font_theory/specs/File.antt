@@ -54,59 +54,59 @@ abbrev pub subtable_front : ℕ → List ℕ
 subtable_front n = 0x000C0000 ∷ (16 + 12 * n) ∷ 0 ∷ n ∷ []
 
 -- what a profile settles
-pub record Layout : Type 0 where
+pub record Writing : Type 0 where
   pub front : ℕ → List ℕ  -- `cmap` up to its n groups, word by word
   pub zeros : ℕ → ℕ  -- how many zeros stand in `glyf` after outlines of n bytes
 
 -- the first profile. `cmap`: version 0, and one record, 3/10, of a subtable right after it
-unfoldable pub first_layout : Layout
-first_layout = record {
+unfoldable pub first_writing : Writing
+first_writing = record {
   front = λ n. 0x00000001 ∷ 0x0003000A ∷ 12 ∷ subtable_front n;
   zeros = λ _. 0;
 }
 
 -- the second profile. `cmap`: two records, 0/4 and 3/10, of one subtable right after them. `glyf` is never
 -- empty
-unfoldable pub second_layout : Layout
-second_layout = record {
+unfoldable pub second_writing : Writing
+second_writing = record {
   front = λ n. 0x00000002 ∷ 0x00000004 ∷ 20 ∷ 0x0003000A ∷ 20 ∷ subtable_front n;
   zeros = λ n. if nat_eq n 0 then 4 else 0;
 }
 
 -- the form of a profile
-unfoldable pub layout_of : Profile → Layout
-layout_of First = first_layout
-layout_of Second = second_layout
+unfoldable pub writing_of : Profile → Writing
+writing_of First = first_writing
+writing_of Second = second_writing
 
 -- what this program writes
 abbrev pub current_profile : Profile
 current_profile = Second
 
-abbrev pub current_layout : Layout
-current_layout = layout_of current_profile
+abbrev pub current_writing : Writing
+current_writing = writing_of current_profile
 
 -- `cmap` up to its n groups
-unfoldable pub cmap_front : Layout → ℕ → List ℕ
-cmap_front layout n = flat_map bytes32 (layout.front n)
+unfoldable pub cmap_front : Writing → ℕ → List ℕ
+cmap_front writing n = flat_map bytes32 (writing.front n)
 
 -- `cmap`
-unfoldable pub cmap_bytes : Layout → List Run → List ℕ
-cmap_bytes layout runs = cmap_front layout (length runs) ++ flat_map group_bytes runs
+unfoldable pub cmap_bytes : Writing → List Run → List ℕ
+cmap_bytes writing runs = cmap_front writing (length runs) ++ flat_map group_bytes runs
 
 -- what stands in `glyf` after outlines
-abbrev pub behind : Layout → List ℕ → List ℕ
-behind layout outlines = replicate (layout.zeros (length outlines)) 0
+abbrev pub behind : Writing → List ℕ → List ℕ
+behind writing outlines = replicate (writing.zeros (length outlines)) 0
 
 -- `glyf`: the outlines end to end
-abbrev pub glyf_bytes : Layout → List (List ℕ) → List ℕ
-glyf_bytes layout outlines = concat outlines ++ behind layout (concat outlines)
+abbrev pub glyf_bytes : Writing → List (List ℕ) → List ℕ
+glyf_bytes writing outlines = concat outlines ++ behind writing (concat outlines)
 
 -- what is asked of a form: its `cmap` is accepted, and maps by its groups
-pub record IsLayout (layout : Layout) : Type 0 where
-  pub accepted : (runs : List Run) → map_fault (cmap_bytes layout runs) ≡ None
+pub record IsWriting (writing : Writing) : Type 0 where
+  pub accepted : (runs : List Run) → map_fault (cmap_bytes writing runs) ≡ None
   pub maps :
       (runs : List Run) (glyphs : ℕ) →
-      mapping_of (cmap_bytes layout runs) glyphs ≡ clipped glyphs (spelled runs)
+      mapping_of (cmap_bytes writing runs) glyphs ≡ clipped glyphs (spelled runs)
 
 -- a table that is written
 pub record Table : Type 0 where
@@ -115,10 +115,10 @@ pub record Table : Type 0 where
   pub bytes : List ℕ
 
 -- the bytes of the table in a slot, with this `head`
-unfoldable pub bytes_in_slot : Layout → Content → List ℕ → ℕ → Option (List ℕ)
-bytes_in_slot layout K head slot =
-    if nat_eq slot CMAP then Some (cmap_bytes layout (groups_of_content K))
-    else if nat_eq slot GLYF then Some (glyf_bytes layout (outlines_of K))
+unfoldable pub bytes_in_slot : Writing → Content → List ℕ → ℕ → Option (List ℕ)
+bytes_in_slot writing K head slot =
+    if nat_eq slot CMAP then Some (cmap_bytes writing (groups_of_content K))
+    else if nat_eq slot GLYF then Some (glyf_bytes writing (outlines_of K))
     else if nat_eq slot HEAD then Some head
     else if nat_eq slot LOCA then Some (loca_bytes (outlines_of K))
     else K.copied slot
@@ -129,17 +129,17 @@ checksum_in_slot slot bytes =
     if nat_eq slot HEAD then checksum_of (without_field bytes 8) else checksum_of bytes
 
 -- the table in a slot, where there is one
-abbrev pub table_in : Layout → Content → List ℕ → ℕ → Option Table
-table_in layout K head slot =
+abbrev pub table_in : Writing → Content → List ℕ → ℕ → Option Table
+table_in writing K head slot =
     option_map (λ bytes. record {
       tag = kept_tag slot;
       checksum = checksum_in_slot slot bytes;
       bytes = bytes;
-    }) (bytes_in_slot layout K head slot)
+    }) (bytes_in_slot writing K head slot)
 
 -- the tables in n slots from a given one on
-abbrev pub tables_from : Layout → Content → List ℕ → ℕ → ℕ → List Table
-tables_from layout K head slot n = said_lines (map (table_in layout K head) (range_with_len slot n))
+abbrev pub tables_from : Writing → Content → List ℕ → ℕ → ℕ → List Table
+tables_from writing K head slot n = said_lines (map (table_in writing K head) (range_with_len slot n))
 
 -- the records of tables that stand end to end from an offset on, each padded
 abbrev pub entries_at : ℕ → List Table → List Entry
@@ -173,16 +173,16 @@ file_of tables =
     ++ (flat_map entry_bytes (entries_at (12 + 16 * length tables) tables) ++ bodies_of tables)
 
 -- the file of a content with this `head`
-abbrev pub file_with : Layout → Content → List ℕ → List ℕ
-file_with layout K head = file_of (tables_from layout K head 0 SLOTS)
+abbrev pub file_with : Writing → Content → List ℕ → List ℕ
+file_with writing K head = file_of (tables_from writing K head 0 SLOTS)
 
 -- checksumAdjustment of its file, which is summed with that field 0
-unfoldable pub adjustment_in : Layout → Content → ℕ
-adjustment_in layout K = adjustment_of (checksum_of (file_with layout K K.head))
+unfoldable pub adjustment_in : Writing → Content → ℕ
+adjustment_in writing K = adjustment_of (checksum_of (file_with writing K K.head))
 
 -- the file of a content
-unfoldable pub file : Layout → Content → List ℕ
-file layout K = file_with layout K (with_adjustment (adjustment_in layout K) K.head)
+unfoldable pub file : Writing → Content → List ℕ
+file writing K = file_with writing K (with_adjustment (adjustment_in writing K) K.head)
 
 -- the length of the table in a slot, padded
 abbrev pub padded_length : Option (List ℕ) → ℕ
@@ -197,7 +197,7 @@ size_with K cmap glyf =
     + length (padded K.head) + sum (map (λ slot. padded_length (K.copied slot)) (range_with_len 0 SLOTS))
 
 -- that with the `cmap` and the `glyf` of a form
-unfoldable pub size_of : Layout → Content → ℕ
-size_of layout K =
-    size_with K (4 * length (layout.front (length (groups_of_content K))) + 12 * length (groups_of_content K))
-    (length (padded (glyf_bytes layout (outlines_of K))))
+unfoldable pub size_of : Writing → Content → ℕ
+size_of writing K =
+    size_with K (4 * length (writing.front (length (groups_of_content K))) + 12 * length (groups_of_content K))
+    (length (padded (glyf_bytes writing (outlines_of K))))

@@ -4,7 +4,7 @@ use Rattle.sfnt_bytes.specs.declared.directory.TheConstants.{MAX_FILE}
 use Rattle.font_file.specs.Font.{font_fault}
 use Rattle.font_theory.specs.Content.{Content}
 use Rattle.font_theory.specs.Cut.{Format, IsFormat, our_format}
-use Rattle.font_theory.specs.File.{current_layout, file}
+use Rattle.font_theory.specs.File.{current_writing, file}
 use Rattle.font_theory.specs.Lean.{lean_format, spelled_out}
 use Rattle.font_theory.specs.declared.kinds.Kind.{Kind}
 use Rattle.font_theory.specs.declared.kinds.Kind.TheVariants.{Full, Lean}
@@ -24,4 +24,4 @@ pub record IsKind (R : Format) (spelled : Content → Content) : Type 0 where
   pub law : IsFormat R
   pub fault : (X : List ℕ) → R.fault X ≡ font_fault X
   pub limit : R.limit ≡ MAX_FILE
-  pub writes : (K : Content) → R.file K ≡ file current_layout (spelled K)
+  pub writes : (K : Content) → R.file K ≡ file current_writing (spelled K)

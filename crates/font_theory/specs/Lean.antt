@@ -14,7 +14,7 @@ use Rattle.font_file.specs.Font.{font_fault}
 use Rattle.font_theory.specs.Bytes.{bytes32, padded}
 use Rattle.font_theory.specs.Content.{Content, Font, everything, font_of, is_kept, glyph_count, table_in_slot}
 use Rattle.font_theory.specs.Cut.{Format}
-use Rattle.font_theory.specs.File.{current_layout, file}
+use Rattle.font_theory.specs.File.{current_writing, file}
 
 -- the number of pairs in a table of metrics (OpenType 1.9, hhea, numberOfHMetrics; vhea,
 -- numOfLongVerMetrics), or 0 where the header does not describe the table
@@ -142,7 +142,7 @@ either_bytes first second =
 
 -- the file of a lean content
 abbrev pub lean_file : Content → List ℕ
-lean_file K = file current_layout (spelled_out K)
+lean_file K = file current_writing (spelled_out K)
 
 -- the reader and the writer of lean cuts
 unfoldable pub lean_format : Format

@@ -8,20 +8,20 @@ ghost use Rattle.font_theory.specs.Bytes.{padded};
 ghost use Rattle.font_theory.specs.Content.{Content, IsClosedContent, IsWritable, font_of, read_back};
 ghost use Rattle.sfnt_bytes.specs.declared.base6.TheConstants.{BASE6};
 ghost use Rattle.font_theory.specs.Cut.{Arises, IsCurrent, IsFormat, IsOld, Writes, cut, format_with, our_format};
-ghost use Rattle.font_theory.specs.File.{Layout, IsLayout, file, layout_of, glyf_bytes, groups_of_content, outlines_of, size_of, size_with};
+ghost use Rattle.font_theory.specs.File.{Writing, IsWriting, file, writing_of, glyf_bytes, groups_of_content, outlines_of, size_of, size_with};
 ghost use Rattle.font_theory.specs.declared.Profile.{Profile};
 ghost use Rattle.font_theory.specs.declared.Profile.TheVariants.{First, Second};
 ghost use Rattle.font_theory.specs.WorkedFiles.{aacute_file, nothing_file, nothing_second_file};
 
 /// What is read of the file of a content is the content.
 pub fn file_means()
-    ensures { (layout : Layout) → IsLayout layout → (K : Content) → IsWritable K
-        → font_of (file layout K) ≡ read_back K }
+    ensures { (writing : Writing) → IsWriting writing → (K : Content) → IsWritable K
+        → font_of (file writing K) ≡ read_back K }
 {}
 
 /// How many bytes the file of a content has.
 pub fn file_size()
-    ensures { (layout : Layout) (K : Content) → IsWritable K → length (file layout K) ≡ size_of layout K }
+    ensures { (writing : Writing) (K : Content) → IsWritable K → length (file writing K) ≡ size_of writing K }
 {}
 
 /// The outlines of a closed content take as many bytes in its file as they have.
@@ -34,37 +34,37 @@ pub fn outlines_size()
 /// its outlines have.
 pub fn size_in_first_profile()
     ensures { (K : Content) → IsClosedContent K
-        → size_of (layout_of First) K ≡ size_with K (28 + 12 * length (groups_of_content K))
+        → size_of (writing_of First) K ≡ size_with K (28 + 12 * length (groups_of_content K))
         (sum (map length (outlines_of K))) }
 {}
 
 /// The same in the second profile.
 pub fn size_in_second_profile()
     ensures { (K : Content) → IsClosedContent K
-        → size_of (layout_of Second) K ≡ size_with K (36 + 12 * length (groups_of_content K))
+        → size_of (writing_of Second) K ≡ size_with K (36 + 12 * length (groups_of_content K))
         (max (sum (map length (outlines_of K))) 4) }
 {}
 
 /// The file of a closed content is accepted, where it is not too large.
 pub fn file_is_accepted()
-    ensures { (layout : Layout) → IsLayout layout → (K : Content) → IsClosedContent K →
-        length (file layout K) ≤ MAX_FILE → font_fault (file layout K) ≡ None }
+    ensures { (writing : Writing) → IsWriting writing → (K : Content) → IsClosedContent K →
+        length (file writing K) ≤ MAX_FILE → font_fault (file writing K) ≡ None }
 {}
 
 /// Nothing is found in the file of a closed content.
 pub fn file_has_no_finding()
-    ensures { (layout : Layout) (K : Content) → IsClosedContent K → length (file layout K) ≤ MAX_FILE →
-        findings_of (file layout K) ≡ [] }
+    ensures { (writing : Writing) (K : Content) → IsClosedContent K → length (file writing K) ≤ MAX_FILE →
+        findings_of (file writing K) ≡ [] }
 {}
 
 /// Each profile has a form.
-pub fn profiles_are_layouts()
-    ensures { (profile : Profile) → IsLayout (layout_of profile) }
+pub fn profiles_are_writings()
+    ensures { (profile : Profile) → IsWriting (writing_of profile) }
 {}
 
 /// No file is written in both forms.
-pub fn layouts_are_apart()
-    ensures { (K L : Content) → file (layout_of First) K ≢ file (layout_of Second) L }
+pub fn writings_are_apart()
+    ensures { (K L : Content) → file (writing_of First) K ≢ file (writing_of Second) L }
 {}
 
 /// No file is both current and an old cut.
@@ -73,29 +73,29 @@ pub fn no_cut_is_both()
 {}
 
 /// The two files of a content differ in size.
-pub fn layout_sizes_are_apart()
-    ensures { (K : Content) → size_of (layout_of First) K ≢ size_of (layout_of Second) K }
+pub fn writing_sizes_are_apart()
+    ensures { (K : Content) → size_of (writing_of First) K ≢ size_of (writing_of Second) K }
 {}
 
 /// In the second form `glyf` has four bytes or the outlines alone.
 pub fn second_glyf_has_bytes()
     ensures { (outlines : List (List ℕ)) → (length (concat outlines) ≡ 0 →
-        length (glyf_bytes (layout_of Second) outlines) ≡ 4)
-        × (length (concat outlines) ≢ 0 → length (glyf_bytes (layout_of Second) outlines) ≡ length
+        length (glyf_bytes (writing_of Second) outlines) ≡ 4)
+        × (length (concat outlines) ≢ 0 → length (glyf_bytes (writing_of Second) outlines) ≡ length
         (concat outlines)) }
 {}
 
 /// The reader of this program goes with any form that is written, and any that is read as a cut
 /// too.
-pub fn layouts_are_formats()
-    ensures { (layout old : Layout) → IsLayout layout → IsLayout old → IsFormat (format_with layout old) }
+pub fn writings_are_formats()
+    ensures { (writing old : Writing) → IsWriting writing → IsWriting old → IsFormat (format_with writing old) }
 {}
 
 /// The reader and the writer of this program go together: it writes the second profile, and reads cuts of
 /// the first one too.
 pub fn our_format_is()
-    ensures { IsFormat our_format × (our_format.file ≡ file (layout_of Second))
-        × (our_format.old ≡ file (layout_of First)) × (our_format.limit ≡ MAX_FILE) }
+    ensures { IsFormat our_format × (our_format.file ≡ file (writing_of Second))
+        × (our_format.old ≡ file (writing_of First)) × (our_format.limit ≡ MAX_FILE) }
 {}
 
 /// A closed content whose file is not too large is one that accepted files come to: that file.
@@ -106,15 +106,15 @@ pub fn closed_arises()
 
 /// The cut of a small font for no code in the first profile, byte by byte.
 pub fn cut_of_nothing()
-    ensures { cut (format_with (layout_of First) (layout_of First)) BASE6 (λ c. false) ≡ nothing_file }
+    ensures { cut (format_with (writing_of First) (writing_of First)) BASE6 (λ c. false) ≡ nothing_file }
 {}
 
 /// The same in the second profile.
 pub fn cut_of_nothing_second()
-    ensures { cut (format_with (layout_of Second) (layout_of First)) BASE6 (λ c. false) ≡ nothing_second_file }
+    ensures { cut (format_with (writing_of Second) (writing_of First)) BASE6 (λ c. false) ≡ nothing_second_file }
 {}
 
 /// Its cut for the code of a composite glyph, byte by byte.
 pub fn cut_of_aacute()
-    ensures { cut (format_with (layout_of First) (layout_of First)) BASE6 (λ c. nat_eq c 0xC1) ≡ aacute_file }
+    ensures { cut (format_with (writing_of First) (writing_of First)) BASE6 (λ c. nat_eq c 0xC1) ≡ aacute_file }
 {}

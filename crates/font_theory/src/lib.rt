@@ -16,9 +16,9 @@ pub use crate::cuts::{
 };
 pub use crate::files::{
     closed_arises, cut_of_aacute, cut_of_nothing, cut_of_nothing_second, file_has_no_finding,
-    file_is_accepted, file_means, file_size, layout_sizes_are_apart, layouts_are_apart,
-    layouts_are_formats, no_cut_is_both, our_format_is, outlines_size, profiles_are_layouts,
-    second_glyf_has_bytes, size_in_first_profile, size_in_second_profile,
+    file_is_accepted, file_means, file_size, no_cut_is_both, our_format_is, outlines_size,
+    profiles_are_writings, second_glyf_has_bytes, size_in_first_profile, size_in_second_profile,
+    writing_sizes_are_apart, writings_are_apart, writings_are_formats,
 };
 pub use crate::joins::{
     can_join_is_decided, join_of_cuts, join_of_one, least_upper_bound, no_difference,

@@ -8,7 +8,7 @@ use Rattle.std.proofs.lemmas.Grind.{flat_map-append}
 use Rattle.font_glyph.specs.Union.{record_in}
 use Rattle.font_theory.specs.Bytes.{bytes32}
 use Rattle.font_theory.specs.Content.{Content}
-use Rattle.font_theory.specs.File.{Layout, behind, loca_bytes, offsets_from, outlines_from}
+use Rattle.font_theory.specs.File.{Writing, behind, loca_bytes, offsets_from, outlines_from}
 use Rattle.sfnt_bytes.specs.Sums.{checksum_of}
 use Rattle.font_theory.proofs.SumLemmas.{checksum_of-append}
 use Rattle.font_write.specs.Parts.{IsNextKept, glyf_to}
@@ -100,8 +100,8 @@ loca_first K n =
     let z : 0 + n ≡ n = omega arith in
     (f.0, ap (λ (t : List ℕ). t ++ f.0) (sym (loca_start K)) ∙ f.1 ∙ ap (loca_to K) z)
 
-pub length-glyf_in : (layout : Layout) (K : Content) → length (glyf_in layout K) ≡ length (all_outlines K) + layout.zeros (length (all_outlines K))
-length-glyf_in layout K = omega (arith, length-append (all_outlines K) (behind layout (all_outlines K)), length-replicate {A = ℕ} (layout.zeros (length (all_outlines K))) 0)
+pub length-glyf_in : (writing : Writing) (K : Content) → length (glyf_in writing K) ≡ length (all_outlines K) + writing.zeros (length (all_outlines K))
+length-glyf_in writing K = omega (arith, length-append (all_outlines K) (behind writing (all_outlines K)), length-replicate {A = ℕ} (writing.zeros (length (all_outlines K))) 0)
 
 -- glyphs that are not kept have no outlines
 glyf_pass : (K : Content) (a n : ℕ) → ((h : ℕ) → a ≤ h → h < a + n → K.outline h ≡ None) → glyf_to K (a + n) ≡ glyf_to K a

@@ -1,6 +1,6 @@
 -- Words of private contracts and of proofs: no public clause names them.
 use Rattle.font_theory.specs.Content.{Content, glyph_count}
-use Rattle.font_theory.specs.File.{Layout, behind, entries_at, entry_bytes, layout_of, loca_bytes, outlines_from}
+use Rattle.font_theory.specs.File.{Writing, behind, entries_at, entry_bytes, writing_of, loca_bytes, outlines_from}
 use Rattle.font_write.specs.Parts.{IsNextKept, bodies_to, bytes_at, tables_to, start_of, glyf_to}
 use Rattle.font_write.specs.declared.made_loca.Walk.{Walk}
 use Rattle.font_write.specs.declared.plan.Plan.{Plan}
@@ -9,8 +9,8 @@ use Rattle.std.specs.List.{flat_map}
 use Rattle.std.specs.Prelude.{◌≡◌, ℕ, ◌++◌, List, length}
 
 -- the records of the tables in the first n slots
-unfoldable pub records_to : Layout → Content → ℕ → List ℕ
-records_to layout K n = flat_map entry_bytes (entries_at (start_of layout K) (tables_to layout K n))
+unfoldable pub records_to : Writing → Content → ℕ → List ℕ
+records_to writing K n = flat_map entry_bytes (entries_at (start_of writing K) (tables_to writing K n))
 
 -- the offsets of the outlines of the first n glyphs, with that of their end
 unfoldable pub loca_to : Content → ℕ → List ℕ
@@ -20,8 +20,8 @@ loca_to K n = loca_bytes (outlines_from K 0 n)
 abbrev pub all_outlines : Content → List ℕ
 all_outlines K = glyf_to K (glyph_count K.copied)
 
-abbrev pub glyf_in : Layout → Content → List ℕ
-glyf_in layout K = all_outlines K ++ behind layout (all_outlines K)
+abbrev pub glyf_in : Writing → Content → List ℕ
+glyf_in writing K = all_outlines K ++ behind writing (all_outlines K)
 
 -- all offsets
 abbrev pub all_offsets : Content → List ℕ
@@ -34,10 +34,10 @@ pub record IsWalk (K : Content) (g : ℕ) (walk : Walk) : Type 0 where
 
 -- the bytes of the table in a slot, in the profile of a plan; all records, and all tables, each padded
 abbrev pub planned_table : Plan → Content → ℕ → List ℕ
-planned_table plan K slot = bytes_at (layout_of plan.profile) K slot
+planned_table plan K slot = bytes_at (writing_of plan.profile) K slot
 
 abbrev pub planned_records : Plan → Content → List ℕ
-planned_records plan K = records_to (layout_of plan.profile) K SLOTS
+planned_records plan K = records_to (writing_of plan.profile) K SLOTS
 
 abbrev pub planned_bodies : Plan → Content → List ℕ
-planned_bodies plan K = bodies_to (layout_of plan.profile) K SLOTS
+planned_bodies plan K = bodies_to (writing_of plan.profile) K SLOTS

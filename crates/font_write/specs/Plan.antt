@@ -3,7 +3,7 @@ use Rattle.std.specs.Prelude.{◌≡◌, ℕ, ◌≤◌, ◌<◌, List, length, 
 use Rattle.sfnt_bytes.specs.Sums.{checksum_of}
 use Rattle.sfnt_bytes.specs.declared.tag.TheConstants.{SLOTS}
 use Rattle.font_theory.specs.Content.{Content, glyph_count}
-use Rattle.font_theory.specs.File.{Layout, adjustment_in, checksum_in_slot, file, layout_of, groups_of_content, size_of}
+use Rattle.font_theory.specs.File.{Writing, adjustment_in, checksum_in_slot, file, writing_of, groups_of_content, size_of}
 use Rattle.font_write.specs.Parts.{bytes_at, count_to, glyf_to, groups_bytes, table_at}
 use Rattle.font_write.specs.declared.plan.Measure.{Measure}
 use Rattle.font_write.specs.declared.plan.Plan.{Plan}
@@ -18,16 +18,16 @@ pub record AreCounts (K : Content) (c : Counts) : Type 0 where
   pub small : c.outlines ≤ 0x0001_0000_0000_0000
 
 -- so are the bytes of the file
-pub record IsSize (layout : Layout) (K : Content) (s : Size) : Type 0 where
+pub record IsSize (writing : Writing) (K : Content) (s : Size) : Type 0 where
   pub counts : AreCounts K s.counts
-  pub bytes : s.bytes ≡ size_of layout K
-  pub written : s.bytes ≡ length (file layout K)
+  pub bytes : s.bytes ≡ size_of writing K
+  pub written : s.bytes ≡ length (file writing K)
 
 -- whether there is a table in the slot, its length and its checksum
-pub record IsMeasure (layout : Layout) (K : Content) (slot : ℕ) (m : Measure) : Type 0 where
-  pub there : m.is_there ≡ is_some (table_at layout K slot)
-  pub long : m.length ≡ length (bytes_at layout K slot)
-  pub summed : m.checksum ≡ checksum_in_slot slot (bytes_at layout K slot)
+pub record IsMeasure (writing : Writing) (K : Content) (slot : ℕ) (m : Measure) : Type 0 where
+  pub there : m.is_there ≡ is_some (table_at writing K slot)
+  pub long : m.length ≡ length (bytes_at writing K slot)
+  pub summed : m.checksum ≡ checksum_in_slot slot (bytes_at writing K slot)
 
 -- the measure of a slot
 abbrev pub measure_at : List Measure → ℕ → Measure
@@ -35,16 +35,16 @@ measure_at measures slot =
     slice_index_or measures slot (record { is_there = false; length = 0; checksum = 0 })
 
 -- the first n slots are measured
-abbrev pub AreMeasures : Layout → Content → ℕ → List Measure → Type 0
-AreMeasures layout K n measures = (slot : ℕ) → slot < n → IsMeasure layout K slot (measure_at measures slot)
+abbrev pub AreMeasures : Writing → Content → ℕ → List Measure → Type 0
+AreMeasures writing K n measures = (slot : ℕ) → slot < n → IsMeasure writing K slot (measure_at measures slot)
 
 -- all slots are measured, and the tables, the groups, the outlines and checksumAdjustment are known
 pub record IsPlan (K : Content) (p : Plan) : Type 0 where
-  pub measures : AreMeasures (layout_of p.profile) K SLOTS p.measures
-  pub count : p.count ≡ count_to (layout_of p.profile) K SLOTS
+  pub measures : AreMeasures (writing_of p.profile) K SLOTS p.measures
+  pub count : p.count ≡ count_to (writing_of p.profile) K SLOTS
   pub counts : AreCounts K p.counts
-  pub adjustment : p.adjustment ≡ adjustment_in (layout_of p.profile) K
+  pub adjustment : p.adjustment ≡ adjustment_in (writing_of p.profile) K
 
 -- the file of a content in the profile of a plan
 abbrev pub planned_file : Plan → Content → List ℕ
-planned_file plan K = file (layout_of plan.profile) K
+planned_file plan K = file (writing_of plan.profile) K

@@ -4,7 +4,7 @@ use Rattle.sfnt_bytes.specs.declared.directory.TheConstants.{MAX_FILE}
 use Rattle.streams.specs.Outlet.{WentOut, broken_of, written_of}
 use Rattle.streams.specs.declared.outlet.Outlet.{Outlet}
 use Rattle.font_theory.specs.Content.{Content}
-use Rattle.font_theory.specs.File.{current_layout, current_profile, file}
+use Rattle.font_theory.specs.File.{current_writing, current_profile, file}
 use Rattle.font_write.specs.Plan.{IsPlan, IsSize}
 use Rattle.font_write.specs.declared.plan.Plan.{Plan}
 use Rattle.font_write.specs.declared.size.Size.{Size}
@@ -15,15 +15,15 @@ use Rattle.font_write.specs.declared.whole_file.SendError.TheVariants as send_er
 
 -- the file of a content is counted, and not too large
 pub record IsFileSize (K : Content) (size : Size) : Type 0 where
-  pub counted : IsSize current_layout K size
+  pub counted : IsSize current_writing K size
   pub small : size.bytes ≤ MAX_FILE
 
 -- the plan of the file of a content, and its length, which is not too large
 pub record IsMeasured (K : Content) (measured : Plan × ℕ) : Type 0 where
   pub plan : IsPlan K measured.0
   pub profile : measured.0.profile ≡ current_profile
-  pub size : measured.1 ≡ length (file current_layout K)
-  pub small : length (file current_layout K) ≤ MAX_FILE
+  pub size : measured.1 ≡ length (file current_writing K)
+  pub small : length (file current_writing K) ≤ MAX_FILE
 
 -- a size is that of a file, and too large
 abbrev pub IsTooLarge : List ℕ → ℕ → Type 0

@@ -4,7 +4,7 @@ ghost use Rattle.std.specs.Prelude.{◌≡◌, ◌+◌, ◌≤◌, ◌<◌, leng
 ghost use Rattle.std.specs.Option.{option_map, option_map_or};
 ghost use Rattle.sfnt_bytes.specs.Findings.{padding_of};
 ghost use Rattle.font_theory.specs.Bytes.{padded};
-ghost use Rattle.font_theory.specs.File.{layout_of};
+ghost use Rattle.font_theory.specs.File.{writing_of};
 ghost use Rattle.font_write.specs.Parts.{table_at};
 ghost use Rattle.font_write.specs.Plan.{AreCounts, IsSize};
 
@@ -41,7 +41,7 @@ pub(crate) fn table_length<S: Source>(
 ) -> Option<u64>
     requires counts { AreCounts (S.content_of source.now) counts }
     ensures exact { result ≡ option_map (λ bytes. length bytes)
-        (table_at (layout_of profile) (S.content_of source.now) slot) }
+        (table_at (writing_of profile) (S.content_of source.now) slot) }
     ensures small { MatchOption result Unit (λ n. n ≤ 0x0001_0000_0000_0004) }
 {
     match made_in(slot) {
@@ -68,7 +68,7 @@ fn padded_size(length: u64) -> u64
 fn slot_size<S: Source>(source: &S, profile: Profile, counts: Counts, slot: usize) -> u64
     requires counts { AreCounts (S.content_of source.now) counts }
     ensures exact { result ≡ option_map_or (λ bytes. 16 + length (padded bytes))
-        (table_at (layout_of profile) (S.content_of source.now) slot) 0 }
+        (table_at (writing_of profile) (S.content_of source.now) slot) 0 }
     ensures small { result ≤ 0x0002_0000_0000_0000 }
 {
     match table_length(source, profile, counts, slot) {
@@ -79,7 +79,7 @@ fn slot_size<S: Source>(source: &S, profile: Profile, counts: Counts, slot: usiz
 
 /// Counts the groups of a source, the bytes of its outlines and those of its file.
 pub fn file_size<S: Source>(source: &S, profile: Profile) -> Size
-    ensures { IsSize (layout_of profile) (S.content_of source.now) result }
+    ensures { IsSize (writing_of profile) (S.content_of source.now) result }
 {
     let (groups, group_sum) = measure_groups(source);
     let counts = Counts {
@@ -94,7 +94,7 @@ pub fn file_size<S: Source>(source: &S, profile: Profile) -> Size
 /// neither of them.
 pub fn counted_size<S: Source>(source: &S, profile: Profile, counts: Counts) -> Size
     requires { AreCounts (S.content_of source.now) counts }
-    ensures { IsSize (layout_of profile) (S.content_of source.now) result }
+    ensures { IsSize (writing_of profile) (S.content_of source.now) result }
 {
     source.recall_laws();
     let mut bytes: u64 = 12;

@@ -2,7 +2,7 @@
 //! Organization of an OpenType Font.
 ghost use Rattle.std.specs.Prelude.{◌≡◌, ◌≤◌, length, false, IfErr, IfOk, MatchResult, OnOk, IsTrue, true, ◌↔◌};
 ghost use Rattle.sfnt_bytes.specs.declared.directory.TheConstants.{MAX_FILE};
-ghost use Rattle.font_theory.specs.File.{file, layout_of, current_layout};
+ghost use Rattle.font_theory.specs.File.{file, writing_of, current_writing};
 ghost use Rattle.font_write.specs.Plan.{IsSize};
 ghost use Rattle.font_write.specs.WholeFile.{IsFileRefusal, IsFileSize, IsMeasured, IsTooLarge, IsWritten, StopsFile};
 ghost use Rattle.streams.specs.Outlet.{WentOut, broken_of, fresh_of};
@@ -51,7 +51,7 @@ pub enum SendError {
 /// The length of the file, where that is more than [`MAX_FILE`].
 pub fn measured<S: Source>(source: &S) -> Result<Size, u64>
     ensures { MatchResult result (IsFileSize (S.content_of source.now))
-        (IsTooLarge (file current_layout (S.content_of source.now))) }
+        (IsTooLarge (file current_writing (S.content_of source.now))) }
 {
     let size = file_size(source, CURRENT);
     if size.bytes > MAX_FILE {
@@ -63,7 +63,7 @@ pub fn measured<S: Source>(source: &S) -> Result<Size, u64>
 // Plans the file of a source, or returns its length as an error where that is too large.
 fn measure<S: Source>(source: &S) -> Result<(Plan, u64), u64>
     ensures { MatchResult result (IsMeasured (S.content_of source.now))
-        (IsTooLarge (file current_layout (S.content_of source.now))) }
+        (IsTooLarge (file current_writing (S.content_of source.now))) }
 {
     match measured(source) {
         Ok(size) => Ok((plan_of(source, CURRENT, size), size.bytes)),
@@ -81,8 +81,8 @@ pub fn file_in_memory<S: Source, A: Allocator + Copy>(
     source: &S,
 ) -> Result<Vec<u8, A>, FileError>
     ensures { MatchResult result
-        (λ v. IsWritten (file current_layout (S.content_of source.now)) v.items)
-        (IsFileRefusal (file current_layout (S.content_of source.now))) }
+        (λ v. IsWritten (file current_writing (S.content_of source.now)) v.items)
+        (IsFileRefusal (file current_writing (S.content_of source.now))) }
 {
     match measure(source) {
         Ok((plan, size)) => match write_file(alloc, source, &plan, size as usize) {
@@ -101,13 +101,13 @@ pub fn file_in_memory<S: Source, A: Allocator + Copy>(
 /// failed: the outlet is broken, and a front of the file went out.
 pub fn send_whole<S: Source, W: Write>(source: &S, out: &mut Outlet<W>) -> Result<u64, SendError>
     requires { fresh_of out.old ≡ true }
-    ensures size { IfOk result (λ size. size ≡ length (file current_layout (S.content_of source.now))) }
-    ensures small { OnOk result (length (file current_layout (S.content_of source.now)) ≤ MAX_FILE) }
+    ensures size { IfOk result (λ size. size ≡ length (file current_writing (S.content_of source.now))) }
+    ensures small { OnOk result (length (file current_writing (S.content_of source.now)) ≤ MAX_FILE) }
     ensures sends { OnOk result (WentOut W.contents out.old out.new
-        (file current_layout (S.content_of source.now))) }
+        (file current_writing (S.content_of source.now))) }
     ensures unbroken { OnOk result (broken_of out.new ≡ false) }
     ensures stops { IfErr result (StopsFile W.contents out.old out.new
-        (file current_layout (S.content_of source.now))) }
+        (file current_writing (S.content_of source.now))) }
 {
     let (plan, bytes) = match measure(source) {
         Ok(measured) => measured,
@@ -122,9 +122,9 @@ pub fn send_whole<S: Source, W: Write>(source: &S, out: &mut Outlet<W>) -> Resul
 /// Returns whether a file is that of a source in a profile, in which that has this number of bytes. A file of
 /// another length is not compared.
 pub fn is_whole_file<S: Source>(source: &S, profile: Profile, size: Size, bytes: &[u8]) -> bool
-    requires size { IsSize (layout_of profile) (S.content_of source.now) size }
+    requires size { IsSize (writing_of profile) (S.content_of source.now) size }
     requires small { length bytes.now ≤ MAX_FILE }
-    ensures { IsTrue result ↔ bytes.now ≡ file (layout_of profile) (S.content_of source.now) }
+    ensures { IsTrue result ↔ bytes.now ≡ file (writing_of profile) (S.content_of source.now) }
 {
     if size.bytes != bytes.len() as u64 {
         return false;

@@ -4,7 +4,7 @@ ghost use Rattle.std.specs.Prelude.{◌≡◌, ◌+◌, ◌≤◌, ◌<◌, leng
 ghost use Rattle.sfnt_bytes.specs.declared.directory.TheConstants.{MAX_FILE};
 ghost use Rattle.sfnt_bytes.specs.declared.tag.TheConstants.{SLOTS};
 ghost use Rattle.font_theory.specs.Bytes.{padded};
-ghost use Rattle.font_theory.specs.File.{entry_bytes, layout_of};
+ghost use Rattle.font_theory.specs.File.{entry_bytes, writing_of};
 ghost use Rattle.font_write.specs.Parts.{bodies_to, record_at, start_of};
 ghost use Rattle.font_write.specs.Inside.{planned_bodies, planned_records, planned_table};
 ghost use Rattle.font_write.specs.Plan.{IsMeasure, IsPlan, planned_file};
@@ -74,14 +74,14 @@ fn send_record<S: Source, K: Sink>(
     offset: u32,
     sink: &mut K,
 ) -> Result<(), Stopped>
-    requires measure { IsMeasure (layout_of profile) (S.content_of source.now) slot measure }
+    requires measure { IsMeasure (writing_of profile) (S.content_of source.now) slot measure }
     requires slot { slot < SLOTS }
-    requires offset { offset ≡ start_of (layout_of profile) (S.content_of source.now) + length
-        (bodies_to (layout_of profile) (S.content_of source.now) slot) }
+    requires offset { offset ≡ start_of (writing_of profile) (S.content_of source.now) + length
+        (bodies_to (writing_of profile) (S.content_of source.now) slot) }
     requires room { HasRoom (K.trace sink.old)
-        (length (record_at (layout_of profile) (S.content_of source.now) slot)) }
+        (length (record_at (writing_of profile) (S.content_of source.now) slot)) }
     ensures { Sends (K.trace sink.old) (K.trace sink.new)
-        (record_at (layout_of profile) (S.content_of source.now) slot) result }
+        (record_at (writing_of profile) (S.content_of source.now) slot) result }
 {
     if measure.is_there {
         return send_entry(KEPT[slot], measure.checksum, offset, measure.length, sink);

@@ -4,7 +4,7 @@ use Rattle.std.proofs.lemmas.Result.{MatchResult-weaker}
 use Rattle.sfnt_bytes.specs.declared.directory.TheConstants.{MAX_FILE}
 use Rattle.codes.specs.Wanted.{member}
 use Rattle.codes.specs.declared.code_range.CodeRange.{CodeRange}
-use Rattle.font_theory.specs.File.{current_layout, file}
+use Rattle.font_theory.specs.File.{current_writing, file}
 use Rattle.font_theory.specs.declared.kinds.Kind.{Kind}
 use Rattle.font_subset.specs.Content.{written_of}
 use Rattle.font_subset.specs.Kinds.{cut_in}
@@ -17,7 +17,7 @@ use Rattle.fontcut_c.specs.declared.refusal.Refusal.TheVariants.{BadRange, Font,
 
 -- the file of a source is the cut for the codes of ranges
 pub file_of_source : (kind : Kind) (font : List ℕ) (ranges : List CodeRange) (wanted : List CodeRange) (source : Held) → member wanted ≡ wanted_by ranges → source ≡ (kind, (font, Some wanted))
-    → file current_layout (written_of source.0 source.1) ≡ cut_in kind font (wanted_by ranges)
+    → file current_writing (written_of source.0 source.1) ≡ cut_in kind font (wanted_by ranges)
 file_of_source kind font ranges wanted source by is = cut_in_is kind font wanted source is ∙ ap (λ (w : ℕ → Bool). cut_in kind font w) by
 
 module _ (kind : Kind) (font : List ℕ) (ranges : List CodeRange) (made : List ℕ) (accepted : IsAccepted font ranges) (is : made ≡ cut_in kind font (wanted_by ranges)) where

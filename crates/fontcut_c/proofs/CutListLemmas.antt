@@ -5,7 +5,7 @@ use Rattle.std.proofs.lemmas.List.{length-map}
 use Rattle.std.proofs.lemmas.Simd.{map-map}
 use Rattle.codes.specs.Wanted.{member}
 use Rattle.codes.specs.declared.code_range.CodeRange.{CodeRange}
-use Rattle.font_theory.specs.File.{current_layout, file}
+use Rattle.font_theory.specs.File.{current_writing, file}
 use Rattle.font_theory.specs.declared.kinds.Kind.{Kind}
 use Rattle.font_subset.specs.Content.{written_of}
 use Rattle.font_subset.specs.Kinds.{cut_in}
@@ -27,7 +27,7 @@ made_of kind font set = (kind, (font, Some set))
 
 -- the file of the cut that is made of this
 abbrev pub made_file : Held → List ℕ
-made_file s = file current_layout (written_of s.0 s.1)
+made_file s = file current_writing (written_of s.0 s.1)
 
 -- what is passed on as slices is what stands in the vectors
 module _ (kind : Kind) (font : List ℕ) (ranges : List CodeRange) (counts : List ℕ) (sets given : List (List CodeRange)) (made seen : List Held)

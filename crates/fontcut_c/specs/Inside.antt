@@ -4,7 +4,7 @@ use Rattle.std.specs.List.{concat}
 use Rattle.sfnt_bytes.specs.declared.directory.TheConstants.{MAX_FILE}
 use Rattle.font_file.specs.Font.{font_fault}
 use Rattle.font_theory.specs.Content.{Content}
-use Rattle.font_theory.specs.File.{current_layout, file}
+use Rattle.font_theory.specs.File.{current_writing, file}
 use Rattle.font_write.specs.Trace.{Trace}
 use Rattle.fontcut_c.specs.Answers.{IsInRoom}
 use Rattle.fontcut_c.specs.Cuts.{AddUp, AreSmall, AreSmallTo, IsFirstLarge, sets_of, size_of_all}
@@ -87,7 +87,7 @@ pub record AreSetsTo (counts : List ℕ) (ranges : List CodeRange) (n from : ℕ
 
 -- the files of sources, by their contents
 abbrev pub files_of : {S : Type 0} → (S → Content) → List S → List (List ℕ)
-files_of content_of sources = map (λ source. file current_layout (content_of source)) sources
+files_of content_of sources = map (λ source. file current_writing (content_of source)) sources
 
 -- the first n files are counted, and none of them is too large
 pub record AreCounted (files : List (List ℕ)) (n total : ℕ) : Type 0 where

@@ -1,6 +1,6 @@
 //! The file of a source at the front of the caller's room.
 ghost use Rattle.std.specs.Prelude.{◌≡◌, ◌+◌, ◌≤◌, MatchResult, length};
-ghost use Rattle.font_theory.specs.File.{current_layout, file};
+ghost use Rattle.font_theory.specs.File.{current_writing, file};
 ghost use Rattle.font_write.specs.WholeFile.{IsFileSize};
 ghost use Rattle.fontcut_c.specs.Inside.{IsFileInRoom, IsFileLength, IsLargerFile, IsPutAt, IsSmallFile, RefusesFile, RefusesFileSize};
 
@@ -10,8 +10,8 @@ use font_write::{CURRENT, Size, Source, file_size, measured, plan_of};
 
 /// Returns how many bytes the file of a source has, where these are not too many.
 pub(crate) fn size_of<S: Source>(source: &S) -> Result<u64, Refusal>
-    ensures { MatchResult result (IsFileLength (file current_layout (S.content_of source.now)))
-        (RefusesFileSize (file current_layout (S.content_of source.now))) }
+    ensures { MatchResult result (IsFileLength (file current_writing (S.content_of source.now)))
+        (RefusesFileSize (file current_writing (S.content_of source.now))) }
 {
     match measured(source) {
         Ok(size) => Ok(size.bytes),
@@ -24,9 +24,9 @@ pub(crate) fn size_of<S: Source>(source: &S) -> Result<u64, Refusal>
 pub(crate) fn write_sized<S: Source>(source: &S, size: Size, out: &mut [u8]) -> Result<u64, u64>
     requires { IsFileSize (S.content_of source.now) size }
     ensures { MatchResult result
-        (IsFileInRoom (file current_layout (S.content_of source.now)) out.old out.new)
+        (IsFileInRoom (file current_writing (S.content_of source.now)) out.old out.new)
         (λ size. (out.new ≡ out.old)
-        × IsLargerFile (file current_layout (S.content_of source.now)) (length out.old) size) }
+        × IsLargerFile (file current_writing (S.content_of source.now)) (length out.old) size) }
 {
     if (out.len() as u64) < size.bytes {
         return Err(size.bytes);
@@ -39,9 +39,9 @@ pub(crate) fn write_sized<S: Source>(source: &S, size: Size, out: &mut [u8]) -> 
 /// Writes the file of a source to the front of room, and returns its length. It asks for no memory.
 pub(crate) fn write_to<S: Source>(source: &S, out: &mut [u8]) -> Result<u64, Refusal>
     ensures { MatchResult result
-        (IsFileInRoom (file current_layout (S.content_of source.now)) out.old out.new)
+        (IsFileInRoom (file current_writing (S.content_of source.now)) out.old out.new)
         (λ refusal. (out.new ≡ out.old)
-        × RefusesFile (file current_layout (S.content_of source.now)) (length out.old) refusal) }
+        × RefusesFile (file current_writing (S.content_of source.now)) (length out.old) refusal) }
 {
     let size = measured(source).map_err(Refusal::TooLarge)?;
     write_sized(source, size, out).map_err(Refusal::SmallRoom)
@@ -50,9 +50,9 @@ pub(crate) fn write_to<S: Source>(source: &S, out: &mut [u8]) -> Result<u64, Ref
 /// Writes the file of a source, which is not too large, to room from a place on, and returns its length. It asks for
 /// no memory.
 pub(crate) fn fill_at<S: Source>(source: &S, at: usize, out: &mut [u8]) -> usize
-    requires small { IsSmallFile (file current_layout (S.content_of source.now)) }
-    requires room { at + length (file current_layout (S.content_of source.now)) ≤ length out.old }
-    ensures { IsPutAt (file current_layout (S.content_of source.now)) at out.old out.new result }
+    requires small { IsSmallFile (file current_writing (S.content_of source.now)) }
+    requires room { at + length (file current_writing (S.content_of source.now)) ≤ length out.old }
+    ensures { IsPutAt (file current_writing (S.content_of source.now)) at out.old out.new result }
 {
     let size = file_size(source, CURRENT);
     let plan = plan_of(source, CURRENT, size);

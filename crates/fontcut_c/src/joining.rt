@@ -1,6 +1,6 @@
 //! The join of a list of files, of a kind, written to the caller's room.
 ghost use Rattle.std.specs.Prelude.{◌≡◌, IfErr, MatchResult, length, map};
-ghost use Rattle.font_theory.specs.File.{current_layout, file};
+ghost use Rattle.font_theory.specs.File.{current_writing, file};
 ghost use Rattle.font_theory.specs.Kinds.{format_of};
 ghost use Rattle.fontcut_c.specs.Inside.{IsFileInRoom, IsSmallFile, RefusesJoined};
 ghost use Rattle.fontcut_c.specs.Joining.{IsJoinInRoom, RefusesJoin};
@@ -15,8 +15,8 @@ use std::alloc::Global;
 
 // Writes the file of a union to the front of room, and returns its length.
 fn write_union<S: Source>(union: &S, out: &mut [u8]) -> Result<u64, JoinRefusal>
-    requires { IsSmallFile (file current_layout (S.content_of union.now)) }
-    ensures exact { let z = file current_layout (S.content_of union.now) in
+    requires { IsSmallFile (file current_writing (S.content_of union.now)) }
+    ensures exact { let z = file current_writing (S.content_of union.now) in
         MatchResult result (IsFileInRoom z out.old out.new)
         (λ refusal. (out.new ≡ out.old) × RefusesJoined z (length out.old) refusal) }
     ensures named { IfErr result NamesFile }

@@ -1,4 +1,4 @@
-use Rattle.font_theory.proofs.LayoutLemmas.{no_cut-both}
+use Rattle.font_theory.proofs.WritingLemmas.{no_cut-both}
 use Rattle.font_theory.proofs.files.no_cut_is_both.Goals as goal
 
 pub returns : goal.returns

@@ -1,4 +1,4 @@
-use Rattle.font_theory.proofs.LayoutSizeLemmas.{size-first}
+use Rattle.font_theory.proofs.WritingSizeLemmas.{size-first}
 use Rattle.font_theory.proofs.files.size_in_first_profile.Goals as goal
 
 pub returns : goal.returns

@@ -1,7 +1,7 @@
 use Rattle.std.proofs.Common.{◌≡◌, ℕ, length, sym, ap, subst, ◌∙◌, arith, length-append}
 use Rattle.sfnt_bytes.specs.Sums.{checksum_of}
 use Rattle.font_theory.specs.Bytes.{padded}
-use Rattle.font_theory.specs.File.{Layout, layout_of, header_bytes}
+use Rattle.font_theory.specs.File.{Writing, writing_of, header_bytes}
 use Rattle.font_theory.proofs.PaddingLemmas.{length-padded-is}
 use Rattle.font_write.specs.Parts.{bodies_to, bytes_at}
 use Rattle.font_write.specs.Plan.{IsMeasure, measure_at}
@@ -10,52 +10,52 @@ use Rattle.font_write.proofs.PartLemmas.{bodies_more, bodies_start, count_betwee
 use Rattle.font_write.proofs.plan.sum_file.Goals as goal
 
 pub header-requires-clause-some : goal.header-requires-clause-some
-header-requires-clause-some g c = let between = count_between (layout_of c.args.profile) (g.S.Source.content_of c.args.source.now) in omega (arith, between.0, c.requires.count)
+header-requires-clause-some g c = let between = count_between (writing_of c.args.profile) (g.S.Source.content_of c.args.source.now) in omega (arith, between.0, c.requires.count)
 
 pub header-requires-clause-few : goal.header-requires-clause-few
-header-requires-clause-few g c = let between = count_between (layout_of c.args.profile) (g.S.Source.content_of c.args.source.now) in omega (arith, between.1, c.requires.count)
+header-requires-clause-few g c = let between = count_between (writing_of c.args.profile) (g.S.Source.content_of c.args.source.now) in omega (arith, between.1, c.requires.count)
 
 pub loop-slot-init : goal.loop-slot-init
 loop-slot-init g c =
-    let layout : Layout = layout_of c.args.profile in
+    let writing : Writing = writing_of c.args.profile in
     let K = g.S.Source.content_of c.args.source.now in
     record {
-      summed = subst (IsSum layout K 0 (checksum_of (header_bytes c.args.count))) (sym (c.word_sum-sum.ensures ∙ ap checksum_of c.header.ensures)) (sum_start layout K (checksum_of (header_bytes c.args.count)) (checksum_of-small (header_bytes c.args.count)));
-      offset = omega (arith, c.requires.count, ap length (bodies_start layout K));
+      summed = subst (IsSum writing K 0 (checksum_of (header_bytes c.args.count))) (sym (c.word_sum-sum.ensures ∙ ap checksum_of c.header.ensures)) (sum_start writing K (checksum_of (header_bytes c.args.count)) (checksum_of-small (header_bytes c.args.count)));
+      offset = omega (arith, c.requires.count, ap length (bodies_start writing K));
     }
 
 pub overflow_add-offset-in-loop-slot : goal.overflow_add-offset-in-loop-slot
 overflow_add-offset-in-loop-slot g c =
-    let layout : Layout = layout_of c.args.profile in
+    let writing : Writing = writing_of c.args.profile in
     let K = g.S.Source.content_of c.args.source.now in
     let slot : ℕ = c.loop-slot.slot in
-    let m : IsMeasure layout K slot (measure_at c.args.measures.now slot) = c.requires.measures slot (omega arith) in
-    omega (arith, m.long, c.padding.ensures, c.requires.small, slot_ends layout K slot (omega arith), length-padded-is (bytes_at layout K slot))
+    let m : IsMeasure writing K slot (measure_at c.args.measures.now slot) = c.requires.measures slot (omega arith) in
+    omega (arith, m.long, c.padding.ensures, c.requires.small, slot_ends writing K slot (omega arith), length-padded-is (bytes_at writing K slot))
 
 pub overflow_add-offset-in-loop-slot-2 : goal.overflow_add-offset-in-loop-slot-2
 overflow_add-offset-in-loop-slot-2 g c =
-    let layout : Layout = layout_of c.args.profile in
+    let writing : Writing = writing_of c.args.profile in
     let K = g.S.Source.content_of c.args.source.now in
     let slot : ℕ = c.loop-slot.slot in
-    let m : IsMeasure layout K slot (measure_at c.args.measures.now slot) = c.requires.measures slot (omega arith) in
-    omega (arith, m.long, c.padding.ensures, c.requires.small, slot_ends layout K slot (omega arith), length-padded-is (bytes_at layout K slot), c.loop-slot.invariant.offset)
+    let m : IsMeasure writing K slot (measure_at c.args.measures.now slot) = c.requires.measures slot (omega arith) in
+    omega (arith, m.long, c.padding.ensures, c.requires.small, slot_ends writing K slot (omega arith), length-padded-is (bytes_at writing K slot), c.loop-slot.invariant.offset)
 
 pub loop-slot-preserved : goal.loop-slot-preserved
 loop-slot-preserved g c =
-    let layout : Layout = layout_of c.args.profile in
+    let writing : Writing = writing_of c.args.profile in
     let K = g.S.Source.content_of c.args.source.now in
     let slot : ℕ = c.loop-slot.slot in
-    let m : IsMeasure layout K slot (measure_at c.args.measures.now slot) = c.requires.measures slot (omega arith) in
-    let more = ap length (bodies_more layout K slot) in
+    let m : IsMeasure writing K slot (measure_at c.args.measures.now slot) = c.requires.measures slot (omega arith) in
+    let more = ap length (bodies_more writing K slot) in
     record {
-      summed = sum_more layout K slot _ _ _ c.recall_laws.ensures.writable (omega arith) c.loop-slot.invariant.summed c.sum_slot-sum.ensures;
-      offset = omega (arith, m.long, c.padding.ensures, more, length-append (bodies_to layout K slot) (padded (bytes_at layout K slot)), length-padded-is (bytes_at layout K slot), c.loop-slot.invariant.offset);
+      summed = sum_more writing K slot _ _ _ c.recall_laws.ensures.writable (omega arith) c.loop-slot.invariant.summed c.sum_slot-sum.ensures;
+      offset = omega (arith, m.long, c.padding.ensures, more, length-append (bodies_to writing K slot) (padded (bytes_at writing K slot)), length-padded-is (bytes_at writing K slot), c.loop-slot.invariant.offset);
     }
 
 pub returns : goal.returns
 returns g c =
-    let layout : Layout = layout_of c.args.profile in
+    let writing : Writing = writing_of c.args.profile in
     let K = g.S.Source.content_of c.args.source.now in
     let all : c.loop-slot.slot ≡ 16 = omega arith in
-    sum_end layout K (checksum_of (header_bytes c.args.count)) c.loop-slot.sum c.recall_laws.ensures.writable (ap (λ (n : ℕ). checksum_of (header_bytes n)) c.requires.count)
-    (subst (λ (n : ℕ). IsSum layout K n (checksum_of (header_bytes c.args.count)) c.loop-slot.sum) all c.loop-slot.invariant.summed)
+    sum_end writing K (checksum_of (header_bytes c.args.count)) c.loop-slot.sum c.recall_laws.ensures.writable (ap (λ (n : ℕ). checksum_of (header_bytes n)) c.requires.count)
+    (subst (λ (n : ℕ). IsSum writing K n (checksum_of (header_bytes c.args.count)) c.loop-slot.sum) all c.loop-slot.invariant.summed)
