@@ -21,10 +21,12 @@ pub enum FontError {
     /// The record of this glyph, the least such one, has 1 to 9 bytes, or is a composite whose list
     /// of components is cut off or names a glyph past the last.
     BadGlyph(u16),
+    /// Its `GSUB` cannot be read. Only layout cuts refuse it.
+    BadLayout,
 }
 
 impl FontError {
-    /// Returns the number of the refusal: that of the error that it holds, or 17.
+    /// Returns the number of the refusal: that of the error that it holds, or 17 or 27.
     pub fn number(&self) -> u8
         ensures { result ≡ error_number self.now }
     {
@@ -33,6 +35,7 @@ impl FontError {
             FontError::Tables(error) => error.number(),
             FontError::Mapping(error) => error.number(),
             FontError::BadGlyph(_) => 17,
+            FontError::BadLayout => 27,
         }
     }
 }
@@ -46,6 +49,7 @@ impl fmt::Display for FontError {
             FontError::Tables(error) => write!(f, "{error}"),
             FontError::Mapping(error) => write!(f, "{error}"),
             FontError::BadGlyph(glyph) => write!(f, "bad glyph {glyph}"),
+            FontError::BadLayout => f.write_str("bad writing"),
         }
     }
 }

@@ -1,6 +1,9 @@
 pub mod ComponentLemmas
 pub mod RecordLemmas
+pub mod FoundLemmas
 pub mod ReachLemmas
+pub mod LinkedLemmas
 pub mod UnionLemmas
 pub mod VisitLemmas
 pub mod ClosureLemmas
+pub mod FollowLemmas

@@ -1,8 +1,8 @@
 -- What a visit of some glyphs leaves marked, and in the work.
-use Rattle.std.proofs.Common.{◌≡◌, ℕ, zero, suc, ◌+◌, ◌<◌, ◌⊎◌, Bool, true, false, not, cond, List, [], ◌∷◌, ◌++◌, length, set, take, sym, ap, subst, ◌∙◌, refl, arith, inl, inr}
+use Rattle.std.proofs.Common.{◌≡◌, ℕ, zero, suc, ◌+◌, ◌<◌, ◌⊎◌, Bool, true, false, not, cond, List, [], ◌∷◌, ◌++◌, get_or, length, set, take, sym, ap, subst, ◌∙◌, refl, arith, inl, inr}
 use Rattle.std.specs.List.{All, AllByRecursion, Contains, count_by}
 use Rattle.std.proofs.lemmas.Bool.{cases_eq, cases_lt}
-use Rattle.std.proofs.lemmas.List.{length-set, get_or-set_same, get_or-set_other, get_or_past, set-get_or, length_push}
+use Rattle.std.proofs.lemmas.List.{length-set, get_or-set_same, get_or-set_other, get_or_past, get_or-take, set-get_or, length_push}
 use Rattle.std.proofs.lemmas.List.Elements.{All-push, All-weaker, Contains-append_left, Contains-push}
 use Rattle.std.proofs.lemmas.List.Sums.{sum_by-set, count_by_more_no, count_by_more_yes}
 use Rattle.font_glyph.specs.Marks.{has}
@@ -19,6 +19,11 @@ has-set_same m g l = get_or-set_same m g true false l
 pub has-set_other : (m : List Bool) (g h : ℕ) → (h ≡ g → ⊥) → has (set m g true) h ≡ has m h
 unfolding has
 has-set_other m g h n = get_or-set_other m g h true false n
+
+-- the marks below a count alone
+pub has-take : (m t : List Bool) (n : ℕ) → t ≡ take n m → (g : ℕ) → g < n → has t g ≡ has m g
+unfolding has
+has-take m t n is g low = ap (λ (l : List Bool). get_or l g false) is ∙ get_or-take n m g false low
 
 -- a mark stays when another glyph is marked
 pub has-set : (m : List Bool) (g h : ℕ) → has m h ≡ true → has (set m g true) h ≡ true

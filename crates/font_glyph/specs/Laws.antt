@@ -1,5 +1,6 @@
 -- Laws of closures, this project's own, each of them the contract of a function.
 use Rattle.std.specs.Prelude.{◌≡◌, ℕ, ◌<◌, ◌≤◌, ◌↔◌, Bool, true, List, ◌++◌, length, Some}
+use Rattle.font_glyph.specs.Linked.{IsLinkClosed, Linked, is_linked}
 use Rattle.font_glyph.specs.Record.{ComponentList, components_of}
 use Rattle.font_glyph.specs.Reach.{IsClosed, IsComponentOf, Reach, reached}
 use Rattle.font_glyph.specs.Union.{AreAmong, AreEqualWhereBoth, HoldsComponents, Records, record_in, union_of}
@@ -45,3 +46,17 @@ ReachOfUnion =
     Reach (record_in (union_of first second)) seeds g ↔ Reach (record_in first) seeds g)
     × ((seeds : ℕ → Bool) → AreAmong seeds second → (g : ℕ) →
     Reach (record_in (union_of first second)) seeds g ↔ Reach (record_in second) seeds g)
+
+-- rounds over the numbers below a limit find what links lead to
+abbrev pub LinkedIsComputed : Type 0
+LinkedIsComputed =
+    (links : ℕ → List ℕ) (seeds : ℕ → Bool) (limit g : ℕ) →
+    is_linked links seeds limit g ≡ true ↔ Linked links seeds limit g
+
+-- what links lead to is closed, and lies in each set that is
+abbrev pub LinkedIsLeast : Type 0
+LinkedIsLeast =
+    (links : ℕ → List ℕ) (seeds : ℕ → Bool) (limit : ℕ) →
+    IsLinkClosed links seeds limit (Linked links seeds limit)
+    × ((has : ℕ → Bool) → IsLinkClosed links seeds limit (λ g. has g ≡ true) → (g : ℕ) →
+    Linked links seeds limit g → has g ≡ true)

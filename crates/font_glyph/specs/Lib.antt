@@ -1,6 +1,7 @@
 pub mod Closure
 pub mod Component
 pub mod Laws
+pub mod Linked
 pub mod Marks
 pub mod Reach
 pub mod Record

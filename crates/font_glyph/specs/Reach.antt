@@ -30,13 +30,13 @@ abbrev pub any_below : (ℕ → Bool) → ℕ → Bool
 any_below p zero = false
 any_below p (suc n) = p n || any_below p n
 
--- a chain of at most k steps from a seed, through numbers below a count, ends at g
-abbrev pub reached_within : (ℕ → List ℕ) → (ℕ → Bool) → ℕ → ℕ → ℕ → Bool
-reached_within records seeds count zero g = seeds g
-reached_within records seeds count (suc k) g =
-    reached_within records seeds count k g
-    || any_below (λ s. reached_within records seeds count k s && names (records s) g) count
+-- a chain of at most k steps from a seed, each from a number below a count, ends at g
+abbrev pub found_within : (ℕ → ℕ → Bool) → (ℕ → Bool) → ℕ → ℕ → ℕ → Bool
+found_within leads seeds count zero g = seeds g
+found_within leads seeds count (suc k) g =
+    found_within leads seeds count k g
+    || any_below (λ s. found_within leads seeds count k s && leads s g) count
 
 -- what is found in enough rounds that no more can be found
 unfoldable pub reached : (ℕ → List ℕ) → (ℕ → Bool) → ℕ → ℕ → Bool
-reached records seeds count g = reached_within records seeds count (suc count) g
+reached records seeds count g = found_within (λ s. names (records s)) seeds count (suc count) g

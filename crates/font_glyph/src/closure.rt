@@ -13,7 +13,7 @@ use sfnt_bytes::NoMemory;
 use std::alloc::Allocator;
 
 // Puts a glyph at the end of the work.
-fn put<A: Allocator>(work: &mut Vec<u16, A>, g: u16) -> Result<(), NoMemory>
+pub(crate) fn put<A: Allocator>(work: &mut Vec<u16, A>, g: u16) -> Result<(), NoMemory>
     ensures { OnOk result (work.new.items ≡ work.old.items ++ g ∷ []) }
 {
     match work.push(g) {
@@ -44,7 +44,11 @@ fn visit<A: Allocator>(
 }
 
 // Returns the marked glyphs, in a list that has room for all others.
-fn marked<A: Allocator>(alloc: A, marks: &Marks<A>, count: u16) -> Result<Vec<u16, A>, NoMemory>
+pub(crate) fn marked<A: Allocator>(
+    alloc: A,
+    marks: &Marks<A>,
+    count: u16,
+) -> Result<Vec<u16, A>, NoMemory>
     requires { length marks.now ≡ count }
     ensures all { IfOk result (λ work. (g : ℕ) → has marks.now g ≡ true → Contains work.items g) }
     ensures only { IfOk result (λ work. All (λ g. (g < count) × (has marks.now g ≡ true)) work.items) }

@@ -1,5 +1,5 @@
 //! The laws of components and of what they reach: the contract of each function is the law.
-ghost use Rattle.font_glyph.specs.Laws.{BytesBehindRecord, ComponentsAreComputed, OneComponentList, ReachIsLeast, ReachOfUnion, ReachedIsReach};
+ghost use Rattle.font_glyph.specs.Laws.{BytesBehindRecord, ComponentsAreComputed, LinkedIsComputed, LinkedIsLeast, OneComponentList, ReachIsLeast, ReachOfUnion, ReachedIsReach};
 
 /// A record has at most one list of components.
 pub fn one_component_list()
@@ -32,4 +32,15 @@ pub fn reach_is_least()
 /// one of them it reaches what that one reaches.
 pub fn reach_of_a_union()
     ensures { ReachOfUnion }
+{}
+
+/// What is found in rounds over the numbers below a limit is what links lead to.
+pub fn linked_is_computed()
+    ensures { LinkedIsComputed }
+{}
+
+/// What links lead to has the seeds and the links of all that it has below a limit, and no more than
+/// each set that has these.
+pub fn linked_is_least()
+    ensures { LinkedIsLeast }
 {}

@@ -5,6 +5,7 @@
 mod closure;
 mod component;
 mod laws;
+mod linked;
 mod marks;
 mod outlines;
 mod record;
@@ -12,9 +13,10 @@ mod record;
 pub use crate::closure::close;
 pub use crate::component::{Component, Components};
 pub use crate::laws::{
-    bytes_after_a_record, components_are_computed, one_component_list, reach_is_least,
-    reach_of_a_union, reached_is_reach,
+    bytes_after_a_record, components_are_computed, linked_is_computed, linked_is_least,
+    one_component_list, reach_is_least, reach_of_a_union, reached_is_reach,
 };
+pub use crate::linked::{Links, NUMBERS, follow};
 pub use crate::marks::Marks;
 pub use crate::outlines::Outlines;
 pub use crate::record::{GlyphFault, check_record};

@@ -77,14 +77,22 @@ impl<A: Allocator> Model for Marks<A> {
 }
 
 impl<A: Allocator> Marks<A> {
-    /// Returns a set with no mark at all, for glyphs below `count`.
+    /// Returns a set with no mark at all, for numbers below `count`.
     #[tactic(auto, unfolding(crate::specs::Marks::has))]
+    pub(crate) fn unmarked(alloc: A, count: usize) -> Result<Marks<A>, NoMemory>
+        ensures count { IfOk result (λ marks. length marks ≡ count) }
+        ensures none { IfOk result (λ marks. (g : ℕ) → has marks g ≡ false) }
+    {
+        let marks = vec![in alloc; false; count].map_err(|_| NoMemory)?;
+        Ok(Marks { marks })
+    }
+
+    /// Returns a set with no mark at all, for glyphs below `count`.
     pub fn new(alloc: A, count: u16) -> Result<Marks<A>, NoMemory>
         ensures count { IfOk result (λ marks. length marks ≡ count) }
         ensures none { IfOk result (λ marks. (g : ℕ) → has marks g ≡ false) }
     {
-        let marks = vec![in alloc; false; count as usize].map_err(|_| NoMemory)?;
-        Ok(Marks { marks })
+        Marks::unmarked(alloc, count as usize)
     }
 
     /// Returns the same marks.
@@ -93,6 +101,15 @@ impl<A: Allocator> Marks<A> {
     {
         let marks = Vec::from_slice(alloc, &self.marks).map_err(|_| NoMemory)?;
         Ok(Marks { marks })
+    }
+
+    /// Lets all marks go but those below a count.
+    pub(crate) fn narrow(&mut self, count: usize)
+        requires { count ≤ length self.old }
+        ensures count { length self.new ≡ count }
+        ensures same { (g : ℕ) → g < count → has self.new g ≡ has self.old g }
+    {
+        self.marks.truncate(count);
     }
 
     /// Returns whether a glyph is marked.

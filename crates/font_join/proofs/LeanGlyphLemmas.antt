@@ -9,15 +9,14 @@ use Rattle.std.proofs.lemmas.Slice.Eq.{bytes_eq-Decides}
 use Rattle.sfnt_bytes.specs.Lines.{when}
 use Rattle.font_theory.specs.Bytes.{padded}
 use Rattle.font_theory.specs.Content.{Content, Font, IsFont, content, everything, glyph_count, is_kept, read_back}
-use Rattle.font_theory.specs.Cut.{Arises}
+use Rattle.font_theory.specs.Cut.{Arises, Format}
 use Rattle.font_theory.specs.Difference.{are_different, difference, is_different_glyph}
-use Rattle.font_theory.specs.Lean.{lean_format, metrics_at, spelled_out, thin, with_metrics}
+use Rattle.font_theory.specs.Lean.{metrics_at, spelled_out, thin, with_metrics}
 use Rattle.font_theory.specs.declared.Difference.TheVariants.{AtGlyph}
 use Rattle.font_theory.proofs.ArisesLemmas.{IsClosed-arises}
+use Rattle.font_theory.proofs.LeanContentLemmas.{IsClosed-spelled}
 use Rattle.font_theory.proofs.LeanCopiedLemmas.{AreAlike-spelled, glyph_count-alike}
 use Rattle.font_theory.proofs.LeanCutLemmas.{outline-records, records-same, same-records}
-use Rattle.font_theory.proofs.LeanFileLemmas.{IsClosed-lean}
-use Rattle.font_theory.proofs.LeanFormatLemmas.{IsLean-arises, lean_format-is}
 use Rattle.font_theory.proofs.LeanLemmas.{IsFont-spelled, thin-spelled}
 use Rattle.font_theory.proofs.LeastLemmas.{find-least_from}
 use Rattle.font_write.specs.Parts.{IsNextKept}
@@ -26,7 +25,7 @@ use Rattle.font_join.specs.KindInside.{has_other_metrics, least_of}
 use Rattle.font_join.specs.Union.{is_other}
 use Rattle.font_join.proofs.AddFaultLemmas.{difference-late}
 use Rattle.font_join.proofs.FirstLemmas.{fails_skip, first_absent, first_of}
-use Rattle.font_join.proofs.LeanTableLemmas.{all_true, bool_same, both_true, same_count}
+use Rattle.font_join.proofs.LeanTableLemmas.{IsThin, all_true, bool_same, both_true, same_count}
 
 -- the first number that passes one of two tests
 least_first : (k : ℕ) (o : Option ℕ) → ((j : ℕ) → o ≡ Some j → k ≤ j) → least_of (Some k) o ≡ Some k
@@ -98,21 +97,21 @@ not_both true y = refl
 not_both false y = refl
 
 -- what accepted files come to, as it is written
-module _ (K : Content) (arises : Arises lean_format K) where
+module _ {R : Format} (is_thin : IsThin R) (K : Content) (arises : Arises R K) where
   abbrev F : Font
   F = read_back (spelled_out K)
 
   lean_font : IsFont F
-  lean_font = IsFont-spelled K (IsClosed-arises lean_format lean_format-is.is_font K arises).font (IsLean-arises K arises)
+  lean_font = IsFont-spelled K (IsClosed-arises R is_thin.law.is_font K arises).font (is_thin.lean K arises)
 
   lean_whole : content (thin F) everything ≡ K
-  lean_whole = ap (λ G. content G everything) (thin-spelled K (IsLean-arises K arises)) ∙ (IsClosed-arises lean_format lean_format-is.is_font K arises).closed
+  lean_whole = ap (λ G. content G everything) (thin-spelled K (is_thin.lean K arises)) ∙ (IsClosed-arises R is_thin.law.is_font K arises).closed
 
   lean_record : (g : ℕ) → K.outline g ≡ when (is_kept F everything g) (with_metrics (F.outline g) (metrics_at F.copied g))
   lean_record g = sym (ap (λ C. C.outline g) lean_whole) ∙ ap (λ o. o g) (outline-records F lean_font everything)
 
   lean_outline : (g : ℕ) → (spelled_out K).outline g ≡ when (is_kept F everything g) (padded (F.outline g))
-  lean_outline g = sym (ap (λ C. C.outline g) (IsClosed-lean K arises).closed)
+  lean_outline g = sym (ap (λ C. C.outline g) (IsClosed-spelled K (IsClosed-arises R is_thin.law.is_font K arises) (is_thin.lean K arises)).closed)
 
   absent : (g : ℕ) → (spelled_out K).outline g ≡ None → K.outline g ≡ None
   absent g h = let no = when_none (is_kept F everything g) _ (sym (lean_outline g) ∙ h) in lean_record g ∙ ap (λ b. when b (with_metrics (F.outline g) (metrics_at F.copied g))) no
@@ -127,7 +126,7 @@ abbrev told_by : Bool → Option (List ℕ) → Option (List ℕ) → Bool
 told_by same o p = are_different o p || (is_some o && (is_some p && not same))
 
 -- two such contents differ in a glyph in its outline or in its metrics
-module _ (K L : Content) (first : Arises lean_format K) (second : Arises lean_format L) (count : glyph_count K.copied ≡ glyph_count L.copied) (g : ℕ) where
+module _ {R : Format} (is_thin : IsThin R) (K L : Content) (first : Arises R K) (second : Arises R L) (count : glyph_count K.copied ≡ glyph_count L.copied) (g : ℕ) where
   abbrev C : Content
   C = spelled_out K
 
@@ -141,10 +140,10 @@ module _ (K L : Content) (first : Arises lean_format K) (second : Arises lean_fo
   records_told : (a b : List ℕ) → C.outline g ≡ Some a → D.outline g ≡ Some b
       → are_different (K.outline g) (L.outline g) ≡ (not (bytes_eq a b) || not (bytes_eq (metrics_at C.copied g) (metrics_at D.copied g)))
   records_told a b p q =
-      let x = there K first g a p in
-      let y = there L second g b q in
-      let fontK = lean_font K first in
-      let fontL = lean_font L second in
+      let x = there is_thin K first g a p in
+      let y = there is_thin L second g b q in
+      let fontK = lean_font is_thin K first in
+      let fontL = lean_font is_thin L second in
       let test : (bytes_eq a b && bytes_eq (metrics_at C.copied g) (metrics_at D.copied g))
       ≡ bytes_eq (with_metrics ((read_back C).outline g) (metrics_at C.copied g)) (with_metrics ((read_back D).outline g) (metrics_at D.copied g)) =
       bool_same _ _
@@ -161,17 +160,17 @@ module _ (K L : Content) (first : Arises lean_format K) (second : Arises lean_fo
   glyph_told = go (C.outline g) (D.outline g) refl refl
     where
       go : (o p : Option (List ℕ)) → C.outline g ≡ o → D.outline g ≡ p → are_different (K.outline g) (L.outline g) ≡ (is_other C.outline D.outline g || has_other_metrics C D g)
-      go None p x y = ap (λ (k : Option (List ℕ)). are_different k (L.outline g)) (absent K first g x) ∙ sym (λ i. told_by (bytes_eq (metrics_at C.copied g) (metrics_at D.copied g)) (x i) (y i))
-      go (Some a) None x y = ap (λ (l : Option (List ℕ)). are_different (K.outline g) l) (absent L second g y) ∙ different_none (K.outline g) ∙ sym (λ i. told_by (bytes_eq (metrics_at C.copied g) (metrics_at D.copied g)) (x i) (y i))
+      go None p x y = ap (λ (k : Option (List ℕ)). are_different k (L.outline g)) (absent is_thin K first g x) ∙ sym (λ i. told_by (bytes_eq (metrics_at C.copied g) (metrics_at D.copied g)) (x i) (y i))
+      go (Some a) None x y = ap (λ (l : Option (List ℕ)). are_different (K.outline g) l) (absent is_thin L second g y) ∙ different_none (K.outline g) ∙ sym (λ i. told_by (bytes_eq (metrics_at C.copied g) (metrics_at D.copied g)) (x i) (y i))
       go (Some a) (Some b) x y = records_told a b x y ∙ sym (λ i. told_by (bytes_eq (metrics_at C.copied g) (metrics_at D.copied g)) (x i) (y i))
 
 -- so the first one that they differ in is the lesser of two
-pub glyphs_told : (C D K L : Content) → Spells lean_format spelled_out C K → Spells lean_format spelled_out D L → early_difference K L ≡ None → (found metrics : Option ℕ) (n : ℕ) → n ≡ glyph_count C.copied
+pub glyphs_told : {R : Format} → IsThin R → (C D K L : Content) → Spells R spelled_out C K → Spells R spelled_out D L → early_difference K L ≡ None → (found metrics : Option ℕ) (n : ℕ) → n ≡ glyph_count C.copied
     → found ≡ find (is_other C.outline D.outline) (range_with_len 0 n) → metrics ≡ find (has_other_metrics C D) (range_with_len 0 n) → difference K L ≡ option_map AtGlyph (least_of metrics found)
-glyphs_told C D K L h k early found metrics n size outlines others =
+glyphs_told is_thin C D K L h k early found metrics n size outlines others =
     let same : n ≡ glyph_count K.copied = size ∙ ap (λ (M : Content). glyph_count M.copied) h.is ∙ glyph_count-alike K.copied (spelled_out K).copied (AreAlike-spelled K) in
     let told : is_different_glyph K L ≡ (λ g. has_other_metrics C D g || is_other C.outline D.outline g) =
-    fun_ext (λ g. glyph_told K L h.arises k.arises (same_count K L early) g ∙ or_swapped (is_other (spelled_out K).outline (spelled_out L).outline g) (has_other_metrics (spelled_out K) (spelled_out L) g)
+    fun_ext (λ g. glyph_told is_thin K L h.arises k.arises (same_count K L early) g ∙ or_swapped (is_other (spelled_out K).outline (spelled_out L).outline g) (has_other_metrics (spelled_out K) (spelled_out L) g)
     ∙ (λ i. has_other_metrics (sym h.is i) (sym k.is i) g || is_other (sym h.is i).outline (sym k.is i).outline g)) in
     difference-late K L early
     ∙ (λ i. option_map AtGlyph (find (told i) (range_with_len 0 (sym same i))))

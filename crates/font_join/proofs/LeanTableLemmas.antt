@@ -6,19 +6,25 @@ use Rattle.std.proofs.Math.Path.{fun_ext}
 use Rattle.std.proofs.lemmas.Bool.{cases_eq, ne_eqb}
 use Rattle.std.proofs.lemmas.Slice.Eq.{bytes_eq-Decides}
 use Rattle.sfnt_bytes.specs.Lines.{first_of_lines}
-use Rattle.sfnt_bytes.specs.declared.tag.TheConstants.{HHEA, HMTX, MAXP, POST, SLOTS, VHEA, VMTX}
+use Rattle.sfnt_bytes.specs.declared.tag.TheConstants.{HHEA, HMTX, MAXP, POST, VHEA, VMTX}
 use Rattle.font_tables.specs.Fields.{num_glyphs, number_of_h_metrics}
 use Rattle.font_tables.specs.Refusals.{is_bad_hhea, is_bad_hmtx}
-use Rattle.font_theory.specs.Content.{Content, IsClosedContent, IsWritable, KeepsComponents, glyph_count, is_made, table_in_slot}
+use Rattle.font_theory.specs.Content.{Content, IsClosedContent, IsWritable, KeepsComponents, AreFixed, glyph_count, is_never_copied, table_in_slot}
+use Rattle.font_theory.specs.Cut.{Arises, Format, IsFormat}
 use Rattle.font_theory.specs.Difference.{is_different_code, is_different_table}
+use Rattle.font_theory.specs.LayoutCut.{layout_format}
 use Rattle.font_theory.specs.Lean.{entry_at, entry_size, lean_format, metric_bytes, metrics_at, pairs_in, spelled_copied, spelled_out, thin_copied}
 use Rattle.font_theory.specs.declared.Difference.{Difference}
 use Rattle.font_theory.specs.declared.Difference.TheVariants.{AtTable}
+use Rattle.font_theory.specs.Links.{fixed}
+use Rattle.sfnt_bytes.specs.Directory.{is_layout_slot}
+use Rattle.font_theory.proofs.ArisesLemmas.{IsClosed-arises}
+use Rattle.font_theory.proofs.LayoutCutLemmas.{IsLean-arises_layout, layout_format-is}
+use Rattle.font_theory.proofs.LeanContentLemmas.{IsClosed-spelled}
 use Rattle.font_theory.proofs.LeanCopiedLemmas.{thin_copied-other, thin_copied-spelled}
-use Rattle.font_theory.proofs.LeanFileLemmas.{IsClosed-lean}
-use Rattle.font_theory.proofs.LeanFormatLemmas.{IsLean-arises}
+use Rattle.font_theory.proofs.LeanFormatLemmas.{IsLean-arises, lean_format-is}
 use Rattle.font_theory.proofs.LeanLemmas.{IsLean}
-use Rattle.font_theory.proofs.LeastLemmas.{find-none}
+use Rattle.font_theory.proofs.DifferenceLemmas.{first_slot-none}
 use Rattle.font_join.specs.Inside.{Spells, early_difference}
 use Rattle.font_join.specs.KindInside.{blank_in, blanked, metrics_by}
 use Rattle.font_join.specs.Union.{replaced}
@@ -57,12 +63,21 @@ module _ (c : Tables) (h v : Option (List ℕ)) where
     ]
   ])
 
-  pub replaced_made : ((slot : ℕ) → is_made slot ≡ true → c slot ≡ None) → (slot : ℕ) → is_made slot ≡ true → replaced c h v slot ≡ None
+  pub replaced_made : ((slot : ℕ) → is_never_copied slot ≡ true → c slot ≡ None) → (slot : ℕ) → is_never_copied slot ≡ true → replaced c h v slot ≡ None
   replaced_made none slot made = elim (cases_eq slot HMTX) [
-    | inl e ↦ let no : is_made HMTX ≡ true = ap is_made (sym e) ∙ made in let q : false ≡ true = no in cc
+    | inl e ↦ let no : is_never_copied HMTX ≡ true = ap is_never_copied (sym e) ∙ made in let q : false ≡ true = no in cc
     | inr a ↦ elim (cases_eq slot VMTX) [
-      | inl e ↦ let no : is_made VMTX ≡ true = ap is_made (sym e) ∙ made in let q : false ≡ true = no in cc
+      | inl e ↦ let no : is_never_copied VMTX ≡ true = ap is_never_copied (sym e) ∙ made in let q : false ≡ true = no in cc
       | inr b ↦ sym (replaced_copied slot a b) ∙ none slot made
+    ]
+  ]
+
+  pub replaced_fixed : AreFixed c → AreFixed (replaced c h v)
+  replaced_fixed fine slot layout = elim (cases_eq slot HMTX) [
+    | inl e ↦ let no : is_layout_slot HMTX ≡ true = ap is_layout_slot (sym e) ∙ layout in let q : false ≡ true = no in cc
+    | inr a ↦ elim (cases_eq slot VMTX) [
+      | inl e ↦ let no : is_layout_slot VMTX ≡ true = ap is_layout_slot (sym e) ∙ layout in let q : false ≡ true = no in cc
+      | inr b ↦ ap (option_map (fixed slot)) (sym (replaced_copied slot a b)) ∙ fine slot layout ∙ replaced_copied slot a b
     ]
   ]
 
@@ -74,6 +89,7 @@ writable_blanked K ok =
       mapped_below = λ c. subst (λ (n : ℕ). K.map c < n) (sym count) (ok.mapped_below c);
       mapped_codes = ok.mapped_codes;
       slots = replaced_made K.copied (blank_in K.copied HHEA HMTX) (blank_in K.copied VHEA VMTX) ok.slots;
+      fixed = replaced_fixed K.copied (blank_in K.copied HHEA HMTX) (blank_in K.copied VHEA VMTX) ok.fixed;
       head_form = ok.head_form;
       head_size = ok.head_size;
       past = λ g low. ok.past g (subst (λ (n : ℕ). n ≤ g) count low);
@@ -107,14 +123,25 @@ blanked_copied K lean = replaced_is (spelled_copied K) (blank_in (spelled_copied
     (blanked_vmtx (spelled_copied K) ∙ ap (λ (c : Tables). c VMTX) (thin_copied-spelled K ∙ lean.copied))
     (other_slot K lean)
 
--- the tables of metrics with zeros for each glyph are those of the lean content
-pub blank-across : (C K : Content) → Spells lean_format spelled_out C K → blank_in C.copied HHEA HMTX ≡ K.copied HMTX
-blank-across C K h =
-    (λ i. blank_in (h.is i).copied HHEA HMTX) ∙ blanked_hmtx (spelled_copied K) ∙ ap (λ (c : Tables). c HMTX) (thin_copied-spelled K ∙ (IsLean-arises K h.arises).copied)
+-- cuts of a format have the metrics of the kept glyphs alone, and no names of glyphs
+pub record IsThin (R : Format) : Type 0 where
+  pub law : IsFormat R
+  pub lean : (K : Content) → Arises R K → IsLean K
 
-pub blank-down : (C K : Content) → Spells lean_format spelled_out C K → blank_in C.copied VHEA VMTX ≡ K.copied VMTX
-blank-down C K h =
-    (λ i. blank_in (h.is i).copied VHEA VMTX) ∙ blanked_vmtx (spelled_copied K) ∙ ap (λ (c : Tables). c VMTX) (thin_copied-spelled K ∙ (IsLean-arises K h.arises).copied)
+pub lean_thin : IsThin lean_format
+lean_thin = record { law = lean_format-is; lean = IsLean-arises }
+
+pub layout_thin : IsThin layout_format
+layout_thin = record { law = layout_format-is; lean = IsLean-arises_layout }
+
+-- the tables of metrics with zeros for each glyph are those of the lean content
+pub blank-across : {R : Format} → IsThin R → (C K : Content) → Spells R spelled_out C K → blank_in C.copied HHEA HMTX ≡ K.copied HMTX
+blank-across thin C K h =
+    (λ i. blank_in (h.is i).copied HHEA HMTX) ∙ blanked_hmtx (spelled_copied K) ∙ ap (λ (c : Tables). c HMTX) (thin_copied-spelled K ∙ (thin.lean K h.arises).copied)
+
+pub blank-down : {R : Format} → IsThin R → (C K : Content) → Spells R spelled_out C K → blank_in C.copied VHEA VMTX ≡ K.copied VMTX
+blank-down thin C K h =
+    (λ i. blank_in (h.is i).copied VHEA VMTX) ∙ blanked_vmtx (spelled_copied K) ∙ ap (λ (c : Tables). c VMTX) (thin_copied-spelled K ∙ (thin.lean K h.arises).copied)
 
 -- what is read of contents before their outlines
 early_alike : (K L M N : Content) → K.copied ≡ M.copied → K.head ≡ M.head → K.map ≡ M.map → L.copied ≡ N.copied → L.head ≡ N.head → L.map ≡ N.map → early_difference K L ≡ early_difference M N
@@ -122,10 +149,10 @@ unfolding early_difference is_different_table is_different_code
 early_alike K L M N a b c d e f =
     λ i. early_difference (record { copied = a i; head = b i; map = c i; outline = M.outline }) (record { copied = d i; head = e i; map = f i; outline = N.outline })
 
-pub early_spelled : (C D K L : Content) → Spells lean_format spelled_out C K → Spells lean_format spelled_out D L → early_difference (blanked C) (blanked D) ≡ early_difference K L
-early_spelled C D K L h k =
+pub early_spelled : {R : Format} → IsThin R → (C D K L : Content) → Spells R spelled_out C K → Spells R spelled_out D L → early_difference (blanked C) (blanked D) ≡ early_difference K L
+early_spelled thin C D K L h k =
     (λ i. early_difference (blanked (h.is i)) (blanked (k.is i)))
-    ∙ early_alike (blanked (spelled_out K)) (blanked (spelled_out L)) K L (blanked_copied K (IsLean-arises K h.arises)) refl refl (blanked_copied L (IsLean-arises L k.arises)) refl refl
+    ∙ early_alike (blanked (spelled_out K)) (blanked (spelled_out L)) K L (blanked_copied K (thin.lean K h.arises)) refl refl (blanked_copied L (thin.lean L k.arises)) refl refl
 
 -- contents with no difference in a table have as many glyphs
 option_same : (o p : Option (List ℕ)) → option_eq bytes_eq o p ≡ true → o ≡ p
@@ -150,13 +177,13 @@ pub same_count : (K L : Content) → early_difference K L ≡ None → glyph_cou
 unfolding early_difference is_different_table glyph_count
 same_count K L h =
     let none = mapped_none _ (first_of_none _ _ h) in
-    let same : is_different_table K L MAXP ≡ false = find-none (is_different_table K L) SLOTS MAXP none (omega arith) in
+    let same : is_different_table K L MAXP ≡ false = first_slot-none (is_different_table K L) MAXP none (omega arith) in
     let e : K.copied MAXP ≡ L.copied MAXP = option_same _ _ (not_false _ same) in
     ap (λ o. num_glyphs (unwrap_or o [])) e
 
 -- what is written of a lean content is closed
-pub closed_spelled : (C K : Content) → Spells lean_format spelled_out C K → IsClosedContent C
-closed_spelled C K h = subst IsClosedContent (sym h.is) (IsClosed-lean K h.arises)
+pub closed_spelled : {R : Format} → IsThin R → (C K : Content) → Spells R spelled_out C K → IsClosedContent C
+closed_spelled {R} thin C K h = subst IsClosedContent (sym h.is) (IsClosed-spelled K (IsClosed-arises R thin.law.is_font K h.arises) (thin.lean K h.arises))
 
 -- the metrics of a glyph in one table
 pub metric_four : (k : ℕ) (t : List ℕ) (g a b c d : ℕ)

@@ -24,7 +24,7 @@ use Rattle.font_theory.proofs.ArisesLemmas.{IsClosed-arises}
 use Rattle.font_theory.proofs.CutLemmas.{IsCut-current}
 use Rattle.font_theory.proofs.DifferenceLemmas.{Agree-from_none}
 use Rattle.font_theory.proofs.FontLemmas.{glyph_count-file}
-use Rattle.font_theory.proofs.LeanAgreeLemmas.{union-is}
+use Rattle.font_theory.proofs.LeanAgreeLemmas.{union-lean}
 use Rattle.font_theory.proofs.LeanCopiedLemmas.{AreAlike-spelled, glyph_count-alike}
 use Rattle.font_theory.proofs.LeanFileLemmas.{IsCurrent-full, content_of_all-full}
 use Rattle.font_theory.proofs.KindLemmas.{kind_is}
@@ -38,7 +38,7 @@ use Rattle.font_join.specs.KindInside.{HasBlanks, IsUnion, SpellsIn, blanked, co
 use Rattle.font_join.specs.Union.{Held, content_in, is_other, listed_outline, tables_in}
 use Rattle.font_join.proofs.AddFaultLemmas.{difference-late}
 use Rattle.font_join.proofs.LeanGlyphLemmas.{glyphs_told}
-use Rattle.font_join.proofs.LeanTableLemmas.{Tables, blank-across, blank-down, closed_spelled, count_of_replaced, early_spelled, replaced_copied, replaced_hmtx, replaced_is, replaced_vmtx}
+use Rattle.font_join.proofs.LeanTableLemmas.{Tables, blank-across, blank-down, closed_spelled, count_of_replaced, early_spelled, lean_thin, replaced_copied, replaced_hmtx, replaced_is, replaced_vmtx}
 use Rattle.font_join.proofs.OutlineListLemmas.{taken_whole}
 
 -- a lean cut has one form
@@ -90,20 +90,20 @@ head_spelled Lean K = refl
 -- what the union of two contents is written as
 both_spelled : (k : Kind) (K L : Content) → Arises (format_of k) K → Agree K L → (spelled_by k (both K L)).outline ≡ union_of (spelled_by k K).outline (spelled_by k L).outline
 both_spelled Full K L arises agree = refl
-both_spelled Lean K L arises agree = (union-is K L arises agree).1
+both_spelled Lean K L arises agree = (union-lean K L (lean_thin.lean K arises) agree).1
 
 tables_both : (k : Kind) (c : Tables) (h v p q : Option (List ℕ)) (K L : Content) → Arises (format_of k) K → Agree K L → tables_in k c h v ≡ (spelled_by k K).copied
     → p ≡ option_map (λ t. either_bytes t (unwrap_or ((spelled_by k L).copied HMTX) [])) h → q ≡ option_map (λ t. either_bytes t (unwrap_or ((spelled_by k L).copied VMTX) [])) v
     → tables_in k c p q ≡ (spelled_by k (both K L)).copied
 tables_both Full c h v p q K L arises agree is across down = is
 tables_both Lean c h v p q K L arises agree is across down = replaced_is c p q (spelled_copied (both K L))
-    (across ∙ (λ i. option_map (λ t. either_bytes t (unwrap_or ((spelled_out L).copied HMTX) [])) ((replaced_hmtx c h v HMTX refl ∙ ap (λ (t : Tables). t HMTX) is) i)) ∙ sym (union-is K L arises agree).3)
-    (down ∙ (λ i. option_map (λ t. either_bytes t (unwrap_or ((spelled_out L).copied VMTX) [])) ((replaced_vmtx c h v VMTX refl ∙ ap (λ (t : Tables). t VMTX) is) i)) ∙ sym (union-is K L arises agree).4)
-    (λ slot a b. replaced_copied c h v slot a b ∙ ap (λ (t : Tables). t slot) is ∙ sym ((union-is K L arises agree).2 slot a b))
+    (across ∙ (λ i. option_map (λ t. either_bytes t (unwrap_or ((spelled_out L).copied HMTX) [])) ((replaced_hmtx c h v HMTX refl ∙ ap (λ (t : Tables). t HMTX) is) i)) ∙ sym (union-lean K L (lean_thin.lean K arises) agree).3)
+    (down ∙ (λ i. option_map (λ t. either_bytes t (unwrap_or ((spelled_out L).copied VMTX) [])) ((replaced_vmtx c h v VMTX refl ∙ ap (λ (t : Tables). t VMTX) is) i)) ∙ sym (union-lean K L (lean_thin.lean K arises) agree).4)
+    (λ slot a b. replaced_copied c h v slot a b ∙ ap (λ (t : Tables). t slot) is ∙ sym ((union-lean K L (lean_thin.lean K arises) agree).2 slot a b))
 
 pub closed_in : (k : Kind) (C K : Content) → SpellsIn k C K → IsClosedContent C
 closed_in Full C K h = subst IsClosedContent (sym h.is) (IsClosed-arises our_format (kind_is Full).law.is_font K h.arises)
-closed_in Lean C K h = closed_spelled C K h
+closed_in Lean C K h = closed_spelled lean_thin C K h
 
 -- the lengths of tables
 length_either : (x y : List ℕ) → length (either_bytes x y) ≡ length x
@@ -145,7 +145,7 @@ metrics_lean k C D lean = ap (λ (q : Kind). metrics_told q C D) (sym lean)
 -- what tells two contents apart before their glyphs do
 pub early_told : (k : Kind) (C D K L : Content) → SpellsIn k C K → SpellsIn k D L → early_difference (compared k C) (compared k D) ≡ early_difference K L
 early_told Full C D K L h g = λ i. early_difference (h.is i) (g.is i)
-early_told Lean C D K L h g = early_spelled C D K L h g
+early_told Lean C D K L h g = early_spelled lean_thin C D K L h g
 
 -- and in a glyph: the first with other metrics, where these are compared, or another outline
 pub told_merged : (k : Kind) (C D K L : Content) → SpellsIn k C K → SpellsIn k D L → early_difference K L ≡ None → (other metrics : Option ℕ) (n : ℕ) → n ≡ glyph_count C.copied
@@ -158,7 +158,7 @@ told_merged Full C D K L h g early other metrics n count outlines told =
     ∙ ap (option_map AtGlyph) (sym outlines)
     ∙ ap (λ (m : Option ℕ). option_map AtGlyph (least_of m other)) (sym told)
 told_merged Lean C D K L h g early other metrics n count outlines told =
-    glyphs_told C D K L h g early other metrics n count outlines (told ∙ ap (λ (m : ℕ). find (has_other_metrics C D) (range_with_len 0 m)) (sym count))
+    glyphs_told lean_thin C D K L h g early other metrics n count outlines (told ∙ ap (λ (m : ℕ). find (has_other_metrics C D) (range_with_len 0 m)) (sym count))
 
 pub form_of : (u v : Held) → u ≡ v → (y : List ℕ) → IsCut (format_of v.kind) y → IsCut (format_of u.kind) y
 form_of u v same y cut = subst (λ (w : Held). IsCut (format_of w.kind) y) (sym same) cut
@@ -186,8 +186,8 @@ module _ (u v : Held) (same : u ≡ v) (y : List ℕ) (cut : IsCut (format_of v.
 blanks_kept : (k : Kind) (C D K M : Content) (blanks : Option (List ℕ) × Option (List ℕ)) → SpellsIn k C K → SpellsIn k D M → K.copied ≡ M.copied → HasBlanks k C.copied blanks → HasBlanks k D.copied blanks
 blanks_kept Full C D K M blanks h g same are = tt
 blanks_kept Lean C D K M blanks h g same are = record {
-  across = are.across ∙ blank-across C K h ∙ ap (λ (c : Tables). c HMTX) same ∙ sym (blank-across D M g);
-  down = are.down ∙ blank-down C K h ∙ ap (λ (c : Tables). c VMTX) same ∙ sym (blank-down D M g);
+  across = are.across ∙ blank-across lean_thin C K h ∙ ap (λ (c : Tables). c HMTX) same ∙ sym (blank-across lean_thin D M g);
+  down = are.down ∙ blank-down lean_thin C K h ∙ ap (λ (c : Tables). c VMTX) same ∙ sym (blank-down lean_thin D M g);
 }
 
 module _ (u : Held) (y : List ℕ) (K : Content) (spells : SpellsIn u.kind (content_in u) K) (form : IsCut (format_of u.kind) y) (agree : Agree K (content_of_all (format_of u.kind) y)) where

@@ -2,7 +2,7 @@
 use Rattle.std.proofs.Common.{◌≡◌, ℕ, ◌<◌, Bool, false, not, List, [], ◌∷◌, sym, Option, Some}
 use Rattle.std.specs.Option.{option_map}
 use Rattle.sfnt_bytes.specs.Lines.{first_of_lines, when}
-use Rattle.sfnt_bytes.specs.declared.tag.TheConstants.{SLOTS}
+use Rattle.sfnt_bytes.specs.declared.tag.TheConstants.{ALL_SLOTS}
 use Rattle.font_theory.specs.Content.{Content}
 use Rattle.font_theory.specs.Cut.{Format, is_cut, content_of_all}
 use Rattle.font_theory.specs.Difference.{difference}
@@ -24,5 +24,5 @@ module _ (R : Format) (x y : List ℕ) where
   first_no_cut e = λ i. lines_at (sym e i) (is_cut R y) (difference (content_of_all R x) (content_of_all R y))
 
 -- the slot of a difference
-pub slot_below : (K L : Content) (slot : ℕ) → difference K L ≡ Some (AtTable slot) → slot < SLOTS
-slot_below K L slot h = (difference-table K L slot h).below
+pub slot_below : (K L : Content) (slot : ℕ) → difference K L ≡ Some (AtTable slot) → slot < ALL_SLOTS
+slot_below K L slot h = difference-table K L slot h

@@ -11,14 +11,13 @@ use Rattle.font_file.specs.declared.font_error.FontError.{FontError}
 use Rattle.font_glyph.specs.Union.{Records, union_of}
 use Rattle.font_theory.specs.Content.{CODES, Content}
 use Rattle.font_theory.specs.Cut.{Arises, Format, IsCurrent, IsCut, is_cut, content_of_all}
-use Rattle.font_theory.specs.Difference.{difference, is_different_code, is_different_table}
+use Rattle.font_theory.specs.Difference.{difference, first_slot, is_different_code, is_different_table}
 use Rattle.font_theory.specs.File.{file, current_writing}
 use Rattle.font_theory.specs.declared.Difference.{Difference}
 use Rattle.font_theory.specs.declared.Difference.TheVariants.{AtCode, AtTable}
 use Rattle.font_theory.specs.Tree.{file_at}
 use Rattle.sfnt_bytes.specs.Lines.{first_of_lines, when}
 use Rattle.sfnt_bytes.specs.declared.directory.TheConstants.{MAX_FILE}
-use Rattle.sfnt_bytes.specs.declared.tag.TheConstants.{SLOTS}
 use Rattle.std.specs.List.{range_with_len}
 use Rattle.std.specs.Option.{option_map}
 use Rattle.std.specs.Prelude.{◌≡◌, ℕ, ◌<◌, ◌≤◌, List, length, Option, Some, [], false, not, find, ◌∷◌}
@@ -73,7 +72,7 @@ IsFormRefusal R which x error = (is_cut R x ≡ false) × (error ≡ NotACut whi
 -- the first table or code that tells two contents apart
 unfoldable pub early_difference : Content → Content → Option Difference
 early_difference K L = first_of_lines
-    (option_map AtTable (find (is_different_table K L) (range_with_len 0 SLOTS))
+    (option_map AtTable (first_slot (is_different_table K L))
     ∷ option_map AtCode (find (is_different_code K L) (range_with_len 0 CODES))
     ∷ [])
 

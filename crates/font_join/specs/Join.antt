@@ -2,7 +2,7 @@
 -- `our_format`, or `lean_format` of lean cuts.
 use Rattle.std.specs.Prelude.{◌≡◌, ◌≢◌, ℕ, ◌<◌, nat_lt, not, List, [], ◌∷◌, ◌++◌, length, Option, None, Some}
 use Rattle.std.specs.Option.{option_map}
-use Rattle.sfnt_bytes.specs.Directory.{kept_tag}
+use Rattle.sfnt_bytes.specs.Directory.{slot_tag}
 use Rattle.sfnt_bytes.specs.Lines.{first_of_lines, when}
 use Rattle.sfnt_bytes.specs.declared.directory.DirError.TheVariants.{FileTooLarge}
 use Rattle.sfnt_bytes.specs.declared.directory.TheConstants.{MAX_FILE}
@@ -21,7 +21,7 @@ use Rattle.font_join.specs.declared.join_error.Which.TheVariants.{First, Second}
 
 -- the refusal for a difference
 abbrev pub different : Difference → JoinError
-different (AtTable slot) = DifferentTable (kept_tag slot)
+different (AtTable slot) = DifferentTable (slot_tag slot)
 different (AtCode code) = DifferentMapping code
 different (AtGlyph g) = DifferentGlyph g
 

@@ -1,13 +1,13 @@
 //! Where two contents differ first, in a table or in the glyph of a code, and the refusal for that.
 //! OpenType 1.9, `head` and `cmap`.
-ghost use Rattle.std.specs.Prelude.{◌≡◌, ◌<◌, ◌≤◌, ℕ, length, find, None, Some};
+ghost use Rattle.std.specs.Prelude.{◌≡◌, ◌<◌, ◌≤◌, ℕ, length, find, None, Some, IfSome};
 ghost use Rattle.std.specs.List.{range_with_len};
 ghost use Rattle.std.specs.Str.{bytes_eq};
 ghost use Rattle.font_theory.specs.Bytes.{cut_head};
 ghost use Rattle.font_theory.specs.Content.{CODES, Content};
-ghost use Rattle.font_theory.specs.Difference.{is_different_code, is_different_table};
-ghost use Rattle.sfnt_bytes.specs.Directory.{kept_tag};
-ghost use Rattle.sfnt_bytes.specs.declared.tag.TheConstants.{SLOTS};
+ghost use Rattle.font_theory.specs.Difference.{first_slot, is_different_code, is_different_table};
+ghost use Rattle.sfnt_bytes.specs.Directory.{slot_at};
+ghost use Rattle.sfnt_bytes.specs.declared.tag.TheConstants.{ALL_SLOTS as SLOT_COUNT};
 ghost use Rattle.font_join.specs.Join.{different};
 ghost use Rattle.font_join.specs.Inside.{early_difference};
 
@@ -15,7 +15,7 @@ use crate::join_error::JoinError;
 use font_map::Pieces;
 use font_theory::Difference;
 use font_write::Source;
-use sfnt_bytes::{HEAD, KEPT, SLOTS, Tag};
+use sfnt_bytes::{ALL_SLOTS, HEAD, slot_in, tag_of};
 
 /// Returns whether two slices hold the same bytes.
 pub(crate) fn is_same(a: &[u8], b: &[u8]) -> bool
@@ -53,18 +53,29 @@ fn is_other_table<K: Source, L: Source>(k: &K, l: &L, slot: usize) -> bool
     }
 }
 
-// Returns the first slot whose tables differ.
+// Returns the first place at which tables differ.
 #[tactic(auto, using(crate::proofs::FirstLemmas::first_found, font_file::proofs::FontLemmas::find_step, crate::proofs::FirstLemmas::first_end))]
-fn different_table<K: Source, L: Source>(k: &K, l: &L) -> Option<u8>
-    ensures { result ≡ find (is_different_table (K.content_of k.now) (L.content_of l.now))
-        (range_with_len 0 SLOTS) }
+fn different_place<K: Source, L: Source>(k: &K, l: &L) -> Option<usize>
+    ensures place { result ≡ find (λ place. is_different_table (K.content_of k.now) (L.content_of l.now)
+        (slot_at place)) (range_with_len 0 SLOT_COUNT) }
+    ensures low { IfSome result (λ place. place < SLOT_COUNT) }
 {
-    for slot in 0..SLOTS as u8 {
-        if is_other_table(k, l, usize::from(slot)) {
-            return Some(slot);
+    for place in 0..ALL_SLOTS {
+        if is_other_table(k, l, slot_in(place)) {
+            return Some(place);
         }
     }
     None
+}
+
+// Returns the slot of the least tag whose tables differ.
+fn different_table<K: Source, L: Source>(k: &K, l: &L) -> Option<u8>
+    ensures { result ≡ first_slot (is_different_table (K.content_of k.now) (L.content_of l.now)) }
+{
+    match different_place(k, l) {
+        Some(place) => Some(slot_in(place) as u8),
+        None => None,
+    }
 }
 
 // Returns the first code that both map, to two glyphs. The first content is known by its map: a piece of
@@ -109,22 +120,13 @@ pub(crate) fn early_difference<K: Source, P: Pieces, L: Source>(
     None
 }
 
-// Returns the tag of a slot.
-#[tactic(auto, unfolding(sfnt_bytes::specs::Directory::kept_tag))]
-fn tag_of(slot: u8) -> Tag
-    requires { slot < SLOTS }
-    ensures { result ≡ kept_tag slot }
-{
-    KEPT[usize::from(slot)]
-}
-
 /// Returns the refusal for a difference.
 pub(crate) fn refusal_of(difference: Difference) -> JoinError
-    requires { (slot : ℕ) → difference ≡ Difference.AtTable slot → slot < SLOTS }
+    requires { (slot : ℕ) → difference ≡ Difference.AtTable slot → slot < SLOT_COUNT }
     ensures { result ≡ different difference }
 {
     match difference {
-        Difference::AtTable(slot) => JoinError::DifferentTable(tag_of(slot)),
+        Difference::AtTable(slot) => JoinError::DifferentTable(tag_of(usize::from(slot))),
         Difference::AtCode(code) => JoinError::DifferentMapping(code),
         Difference::AtGlyph(g) => JoinError::DifferentGlyph(g),
     }

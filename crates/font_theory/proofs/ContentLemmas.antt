@@ -1,17 +1,21 @@
 -- The content of a font for wanted codes.
-use Rattle.std.proofs.Common.{◌≡◌, ◌≢◌, ℕ, Bool, true, false, cond, nat_eq, ◌&&◌, ◌⊎◌, inl, inr, [], refl, sym, ◌∙◌, ap, subst, unwrap_or, Some}
+use Rattle.std.proofs.Common.{◌≡◌, ◌≢◌, ◌<◌, ℕ, Bool, true, false, cond, nat_eq, ◌&&◌, ◌⊎◌, inl, inr, [], refl, sym, ◌∙◌, ap, subst, unwrap_or, Some}
 use Rattle.std.proofs.Math.Bool.{and_comm}
 use Rattle.std.proofs.Math.Path.{fun_ext}
-use Rattle.std.proofs.lemmas.Bool.{cases_eq, eqb-true}
+use Rattle.std.proofs.lemmas.Bool.{cases_eq, eq-eqb, eqb-true}
 use Rattle.std.proofs.lemmas.Bool.Decides.{same_from_decides, Decides-like}
 use Rattle.sfnt_bytes.specs.Lines.{when}
 use Rattle.codes.specs.CharacterMap.{restricted}
 use Rattle.codes.proofs.MapLemmas.{restricted-restricted, same_cond}
 use Rattle.font_glyph.specs.Reach.{IsComponentOf, Reach}
+use Rattle.font_glyph.specs.Linked.{Linked}
+use Rattle.font_glyph.specs.Linked.Linked.{start}
+use Rattle.font_glyph.proofs.LinkedLemmas.{Linked-more}
 use Rattle.font_glyph.specs.Record.{IsRecord}
 use Rattle.font_theory.specs.Bytes.{padded}
-use Rattle.font_theory.specs.Content.{Content, Font, IsClosedContent, IsFont, content, everything, glyph_count, is_kept, is_seed, read_back}
-use Rattle.font_theory.proofs.WantedLemmas.{IsKept, Reach-along, Reach-back, is_kept-decides, is_seed-code, is_seed-more, restricted-below, restricted-past}
+use Rattle.font_theory.specs.Content.{Content, Font, IsClosedContent, IsFont, NUMBERS, content, everything, glyph_count, is_kept, is_root, is_seed, links_in, read_back}
+use Rattle.font_theory.proofs.RootLemmas.{is_root-decides, is_root-more}
+use Rattle.font_theory.proofs.WantedLemmas.{IsKept, Reach-along, Reach-back, is_kept-decides, is_seed-code, is_seed-more, restricted-below, restricted-past, seeds-roots}
 use Rattle.font_theory.proofs.PaddedLemmas.{IsRecord-nil, IsRecord-padded, component-alike, padded-padded}
 
 -- contents of equal parts are equal
@@ -37,6 +41,8 @@ IsFont-read_back F A ok = record {
   maxp = ok.maxp;
   hhea = ok.hhea;
   hmtx = ok.hmtx;
+  readable = ok.readable;
+  fixed = ok.fixed;
 }
 
 -- a content depends on the tables, on the map on the wanted codes, and on the padded outlines of what is kept
@@ -51,9 +57,10 @@ module _ (F G : Font) (A B : ℕ → Bool) (okF : IsFont F) (okG : IsFont G)
 
   kept_same : (g : ℕ) → is_kept F A g ≡ is_kept G B g
   kept_same g =
-      let P : (ℕ → ℕ) → Type 0 = λ m. Reach F.outline (is_seed m) g in
+      let P : (ℕ → Bool) → Type 0 = λ s. Reach F.outline s g in
+      let roots : is_root F.copied (restricted A F.map) ≡ is_root G.copied (restricted B G.map) = λ i. is_root (copied i) (map i) in
       same_from_decides {P = IsKept G B g} _ _
-      (Decides-like _ (λ r. Reach-back _ _ _ names_from g (subst P map r)) (λ r. subst P (sym map) (Reach-along _ _ _ _ (λ _ h. h) names_to g r)) (is_kept-decides F A okF g))
+      (Decides-like _ (λ r. Reach-back _ _ _ names_from g (subst P roots r)) (λ r. subst P (sym roots) (Reach-along _ _ _ _ (λ _ h. h) names_to g r)) (is_kept-decides F A okF g))
       (is_kept-decides G B okG g)
 
   outline_same : (g : ℕ) → (content F A).outline g ≡ (content G B).outline g
@@ -78,7 +85,7 @@ module _ (F : Font) (A B : ℕ → Bool) (ok : IsFont F) where
 
   -- fewer wanted codes keep fewer glyphs
   pub IsKept-less : (g : ℕ) → IsKept F (λ c. A c && B c) g → IsKept F A g
-  IsKept-less = Reach-along _ _ _ _ (is_seed-more _ _ (restricted-past F A ok) restricted_less) (λ g h r c. c)
+  IsKept-less = Reach-along _ _ _ _ (is_root-more F.copied _ _ (is_seed-more _ _ (restricted-past F A ok) restricted_less)) (λ g h r c. c)
 
 pub read_back-reached : (F : Font) (A : ℕ → Bool) → IsFont F → (g : ℕ) → IsKept F A g → (read_back (content F A)).outline g ≡ padded (F.outline g)
 read_back-reached F A ok g r = read_back-kept F A g ((is_kept-decides F A ok g).1 r)
@@ -112,9 +119,23 @@ content-mapped F A B ok h = content-same F F A B ok ok refl refl (fun_ext (λ c.
 pub wanted-map : (F : Font) (A : ℕ → Bool) (c : ℕ) → A c ≡ true → (content F A).map c ≡ F.map c
 wanted-map F A c h = ap (λ b. cond b (F.map c) 0) h
 
--- and what that glyph leads to is kept
+seed-wanted : (F : Font) (A : ℕ → Bool) → IsFont F → (c : ℕ) → A c ≡ true → (g : ℕ) → nat_eq (F.map c) g ≡ true → is_seed (restricted A F.map) g ≡ true
+seed-wanted F A ok c h g e = subst (λ (y : ℕ). is_seed (restricted A F.map) y ≡ true) (wanted-map F A c h ∙ eqb-true (F.map c) g e) (is_seed-code _ (restricted-past F A ok) c)
+
+-- a glyph that its glyph leads to by links may be shaped
+root-wanted : (F : Font) (A : ℕ → Bool) → IsFont F → (c : ℕ) → A c ≡ true → (r : ℕ) → r < glyph_count F.copied → Linked (links_in F.copied) (nat_eq (F.map c)) NUMBERS r → is_root F.copied (restricted A F.map) r ≡ true
+root-wanted F A ok c h r low l =
+    (is_root-decides F.copied (restricted A F.map) r).1
+    (low, Linked-more (links_in F.copied) NUMBERS (nat_eq (F.map c)) (is_seed (restricted A F.map)) (seed-wanted F A ok c h) r l)
+
+-- and what components lead to from there is kept
+pub IsKept-linked : (F : Font) (A : ℕ → Bool) → IsFont F → (c : ℕ) → A c ≡ true → (r : ℕ) → r < glyph_count F.copied → Linked (links_in F.copied) (nat_eq (F.map c)) NUMBERS r → (g : ℕ) → Reach F.outline (nat_eq r) g → IsKept F A g
+IsKept-linked F A ok c h r low l =
+    Reach-along _ _ _ _ (λ x e. subst (λ (y : ℕ). is_root F.copied (restricted A F.map) y ≡ true) (eqb-true r x e) (root-wanted F A ok c h r low l)) (λ g x q p. p)
+
+-- and so what components lead to from its glyph itself
 pub IsKept-wanted : (F : Font) (A : ℕ → Bool) → IsFont F → (c : ℕ) → A c ≡ true → (g : ℕ) → Reach F.outline (nat_eq (F.map c)) g → IsKept F A g
-IsKept-wanted F A ok c h =
-    Reach-along _ _ _ _
-    (λ x e. subst (λ (y : ℕ). is_seed (restricted A F.map) y ≡ true) (wanted-map F A c h ∙ eqb-true (F.map c) x e) (is_seed-code _ (restricted-past F A ok) c))
-    (λ g x r p. p)
+IsKept-wanted F A ok c h = IsKept-linked F A ok c h (F.map c) (ok.mapped_below c) (start (eq-eqb _ _ refl))
+
+pub IsKept-seeds : (F : Font) (A : ℕ → Bool) → IsFont F → (g : ℕ) → Reach F.outline (is_seed (restricted A F.map)) g → IsKept F A g
+IsKept-seeds F A ok = Reach-along _ _ _ _ (seeds-roots F A ok) (λ _ _ _ p. p)

@@ -5,16 +5,21 @@ use Rattle.std.specs.Option.{option_eq, option_map}
 use Rattle.std.specs.Str.{bytes_eq}
 use Rattle.std.proofs.lemmas.Bool.{cases_eq, cases_lt, eqb-true, eq-eqb, le-leb, lt-ltb, ltb-true, ne_eqb, not-false, or_right}
 use Rattle.std.proofs.lemmas.Slice.Eq.{bytes_eq-Decides}
+use Rattle.sfnt_bytes.specs.Directory.{slot_at}
 use Rattle.sfnt_bytes.specs.Lines.{first_of_lines}
+use Rattle.sfnt_bytes.specs.declared.tag.TheConstants.{ALL_SLOTS}
+use Rattle.sfnt_bytes.proofs.LineLemmas.{option_map-none}
+use Rattle.sfnt_bytes.proofs.PlaceLemmas.{slot_at_low}
 use Rattle.codes.proofs.OrderLemmas.{find_none}
-use Rattle.font_theory.specs.Content.{CODES, Content, IsClosedContent, everything, glyph_count, is_made, read_back}
-use Rattle.font_theory.specs.Difference.{are_different, difference, is_different_code, is_different_glyph, is_different_table}
+use Rattle.font_theory.specs.Content.{CODES, Content, IsClosedContent, everything, glyph_count, is_never_copied, read_back}
+use Rattle.font_theory.specs.Difference.{are_different, difference, first_slot, is_different_code, is_different_glyph, is_different_table}
 use Rattle.font_theory.specs.Join.{Agree}
 use Rattle.font_theory.specs.declared.Difference.{Difference}
 use Rattle.font_theory.specs.declared.Difference.TheVariants.{AtCode, AtGlyph, AtTable}
 use Rattle.font_theory.proofs.HeldLemmas.{cases_option, some-held}
 use Rattle.font_theory.proofs.WantedLemmas.{IsKept-below}
-use Rattle.font_theory.proofs.LeastLemmas.{IsLeast, find-least, find-none}
+use Rattle.font_theory.proofs.LeastLemmas.{find-least, find-none}
+use Rattle.font_theory.proofs.TagLemmas.{place_of, place_of-low, slot_at-place_of}
 
 bytes_eq-self : (a : List ℕ) → bytes_eq a a ≡ true
 bytes_eq-self a = (bytes_eq-Decides a a).1 refl
@@ -45,40 +50,27 @@ line_of-table None (Some c) g s h = cc
 line_of-table None None (Some g) s h = cc
 line_of-table None None None s h = cc
 
-line_of-code : (slot c g : Option ℕ) (s : ℕ) → line_of slot c g ≡ Some (AtCode s) → (slot ≡ None) × (c ≡ Some s)
-line_of-code (Some t) c g s h = cc
-line_of-code None (Some c) g s h = let e : Some c ≡ Some s = cc in (refl, e)
-line_of-code None None (Some g) s h = cc
-line_of-code None None None s h = cc
+some_from : (f : ℕ → ℕ) (o : Option ℕ) (y : ℕ) → option_map f o ≡ Some y → (x : ℕ) × ((o ≡ Some x) × (f x ≡ y))
+some_from f None y h = cc
+some_from f (Some x) y h = let e : f x ≡ y = cc in (x, (refl, e))
 
-line_of-glyph : (slot c g : Option ℕ) (s : ℕ) → line_of slot c g ≡ Some (AtGlyph s) → (slot ≡ None) × (c ≡ None) × (g ≡ Some s)
-line_of-glyph (Some t) c g s h = cc
-line_of-glyph None (Some c) g s h = cc
-line_of-glyph None None (Some g) s h = let e : Some g ≡ Some s = cc in (refl, refl, e)
-line_of-glyph None None None s h = cc
+-- the first slot that passes is one that there is, and where none does, none of them passes
+pub first_slot-low : (p : ℕ → Bool) (slot : ℕ) → first_slot p ≡ Some slot → slot < ALL_SLOTS
+first_slot-low p slot h =
+    let place = some_from slot_at (find (λ k. p (slot_at k)) (range_with_len 0 ALL_SLOTS)) slot h in
+    subst (λ (s : ℕ). s < ALL_SLOTS) place.1.1 (slot_at_low place.0 (find-least (λ k. p (slot_at k)) ALL_SLOTS place.0 place.1.0).below)
 
--- a difference is the least of its kind, and there is none of the kinds before it
-pub difference-table : (K L : Content) (slot : ℕ) → difference K L ≡ Some (AtTable slot) → IsLeast (is_different_table K L) 0 16 slot
+pub first_slot-none : (p : ℕ → Bool) (slot : ℕ) → first_slot p ≡ None → slot < ALL_SLOTS → p slot ≡ false
+first_slot-none p slot h low =
+    subst (λ (s : ℕ). p s ≡ false) (slot_at-place_of slot low) (find-none (λ k. p (slot_at k)) ALL_SLOTS (place_of slot) (option_map-none slot_at _ h) (place_of-low slot low))
+
+pub no_slot : (p : ℕ → Bool) → ((slot : ℕ) → p slot ≡ false) → first_slot p ≡ None
+no_slot p fails = ap (option_map slot_at) (find_none (λ k. p (slot_at k)) 0 (range_with_len 0 ALL_SLOTS) (λ k low. fails (slot_at (get_or (range_with_len 0 ALL_SLOTS) k 0))))
+
+-- a table that tells two contents apart is one of those that there are
+pub difference-table : (K L : Content) (slot : ℕ) → difference K L ≡ Some (AtTable slot) → slot < ALL_SLOTS
 unfolding difference
-difference-table K L slot h = find-least (is_different_table K L) 16 slot (line_of-table _ _ _ slot h)
-
-pub difference-code : (K L : Content) (c : ℕ) → difference K L ≡ Some (AtCode c)
-    → ((slot : ℕ) → slot < 16 → is_different_table K L slot ≡ false) × IsLeast (is_different_code K L) 0 CODES c
-unfolding difference
-difference-code K L c h =
-    let w = line_of-code _ _ _ c h in
-    ((λ slot low. find-none (is_different_table K L) 16 slot w.0 low), find-least (is_different_code K L) CODES c w.1)
-
-pub difference-glyph : (K L : Content) (g : ℕ) → difference K L ≡ Some (AtGlyph g)
-    → ((slot : ℕ) → slot < 16 → is_different_table K L slot ≡ false) × ((c : ℕ) → c < CODES → is_different_code K L c ≡ false)
-    × IsLeast (is_different_glyph K L) 0 (glyph_count K.copied) g
-unfolding difference
-difference-glyph K L g h =
-    let w = line_of-glyph _ _ _ g h in (
-      (λ slot low. find-none (is_different_table K L) 16 slot w.0 low),
-      (λ c low. find-none (is_different_code K L) CODES c w.1 low),
-      find-least (is_different_glyph K L) (glyph_count K.copied) g w.2,
-    )
+difference-table K L slot h = first_slot-low (is_different_table K L) slot (line_of-table _ _ _ slot h)
 
 -- where a test finds no difference
 same_head : (K L : Content) → is_different_table K L 6 ≡ false → K.head ≡ L.head
@@ -135,26 +127,26 @@ glyph_same K L g h = go (K.outline g) (L.outline g) refl refl
     go (Some a) (Some b) x y = ap not ((bytes_eq-Decides a b).1 (h a b x y))
 
 -- the slots that a cut makes anew
-made_past : (slot : ℕ) → 16 ≤ slot → is_made slot ≡ true
-made_past slot past = or_right _ _ (le-leb 16 slot past)
+never_past : (slot : ℕ) → 21 ≤ slot → is_never_copied slot ≡ true
+never_past slot past = or_right _ _ (le-leb 21 slot past)
 
 module _ (K L : Content) (okK : IsClosedContent K) (okL : IsClosedContent L) where
-  both_none : (slot : ℕ) → is_made slot ≡ true → K.copied slot ≡ L.copied slot
+  both_none : (slot : ℕ) → is_never_copied slot ≡ true → K.copied slot ≡ L.copied slot
   both_none slot made = okK.font.slots slot made ∙ sym (okL.font.slots slot made)
 
   pub Agree-from_none : difference K L ≡ None → Agree K L
   unfolding difference
   Agree-from_none h =
-      let w : (find (is_different_table K L) (range_with_len 0 16) ≡ None) × (find (is_different_code K L) (range_with_len 0 CODES) ≡ None)
+      let w : (first_slot (is_different_table K L) ≡ None) × (find (is_different_code K L) (range_with_len 0 CODES) ≡ None)
       × (find (is_different_glyph K L) (range_with_len 0 (glyph_count K.copied)) ≡ None) = line_of-none _ _ _ h in
       record {
-        head = same_head K L (find-none (is_different_table K L) 16 6 w.0 (omega arith));
-        copied = λ slot. elim (cases_lt slot 16) [
+        head = same_head K L (first_slot-none (is_different_table K L) 6 w.0 (omega arith));
+        copied = λ slot. elim (cases_lt slot 21) [
           | inl low ↦ elim (cases_eq slot 6) [
-            | inl e ↦ both_none slot (subst (λ (x : ℕ). is_made x ≡ true) (sym e) refl)
-            | inr other ↦ same_table K L slot other (find-none (is_different_table K L) 16 slot w.0 low)
+            | inl e ↦ both_none slot (subst (λ (x : ℕ). is_never_copied x ≡ true) (sym e) refl)
+            | inr other ↦ same_table K L slot other (first_slot-none (is_different_table K L) slot w.0 low)
           ]
-          | inr past ↦ both_none slot (made_past slot past)
+          | inr past ↦ both_none slot (never_past slot past)
         ];
         map = λ c some also. elim (cases_lt c CODES) [
           | inl low ↦ same_code K L c (find-none (is_different_code K L) CODES c w.1 low) some also
@@ -168,7 +160,7 @@ module _ (K L : Content) (okK : IsClosedContent K) (okL : IsClosedContent L) whe
   pub none_from-Agree : Agree K L → difference K L ≡ None
   unfolding difference
   none_from-Agree agree =
-      let t = find_none (is_different_table K L) 0 (range_with_len 0 16) (λ k low. let slot = get_or (range_with_len 0 16) k 0 in table_same K L slot agree.head (agree.copied slot)) in
+      let t = no_slot (is_different_table K L) (λ slot. table_same K L slot agree.head (agree.copied slot)) in
       let c = find_none (is_different_code K L) 0 (range_with_len 0 CODES) (λ k low. let x = get_or (range_with_len 0 CODES) k 0 in code_same K L x (agree.map x)) in
       let g = find_none (is_different_glyph K L) 0 (range_with_len 0 (glyph_count K.copied))
       (λ k low. let x = get_or (range_with_len 0 (glyph_count K.copied)) k 0 in glyph_same K L x (agree.outline x)) in

@@ -5,7 +5,7 @@ use Rattle.std.specs.Option.{option_map_or}
 use Rattle.std.proofs.lemmas.Bool.{and_from, cases_Bool, false_from_ne_true, le-leb, le-ltb, lt-ltb}
 use Rattle.std.proofs.lemmas.List.Sums.{sum_by-cons}
 use Rattle.std.proofs.lemmas.Slice.Eq.{bytes_eq-Decides}
-use Rattle.sfnt_bytes.specs.Directory.{has_tag, is_within, kept_tag, records_of, table_count, table_entry}
+use Rattle.sfnt_bytes.specs.Directory.{has_tag, is_within, records_of, slot_at, table_count, table_entry}
 use Rattle.sfnt_bytes.specs.Findings.{is_ascending}
 use Rattle.sfnt_bytes.specs.Lines.{first_of_lines, said_lines, when}
 use Rattle.sfnt_bytes.specs.Number.{u32_at}
@@ -19,8 +19,8 @@ use Rattle.sfnt_bytes.specs.declared.tag.TheConstants.{KEPT}
 use Rattle.codes.proofs.OrderLemmas.{find_none}
 use Rattle.font_theory.specs.Bytes.{padded}
 use Rattle.font_theory.specs.Content.{Content}
-use Rattle.font_theory.specs.File.{Writing, Table, bytes_in_slot, entries_at, file_of, table_in, tables_from}
-use Rattle.font_theory.proofs.TagLemmas.{kept_tag-ascends}
+use Rattle.font_theory.specs.File.{Writing, Table, bytes_in_slot, entries_at, file_of, table_at_place, tables_from}
+use Rattle.font_theory.proofs.TagLemmas.{place_tag, place_tag-ascends}
 use Rattle.font_theory.proofs.RecordLemmas.{AreTables, length-entries_at, length-file_of, records_of-file_of, table_count-file_of, version-file_of}
 use Rattle.font_theory.proofs.SlotLemmas.{table_with}
 use Rattle.font_theory.proofs.TableLemmas.{Both, IsPlaced, all_placed}
@@ -35,17 +35,17 @@ climb-lower low lower [] le h = tt
 climb-lower low lower (entry ∷ entries) le h = let first = h.0 in (omega arith, h.1)
 
 module _ (writing : Writing) (K : Content) (head : List ℕ) where
-  climb-slot : (low k n at : ℕ) (o : Option (List ℕ)) → low ≤ tag_number (kept_tag k) → ((place : ℕ) → Climb (tag_number (kept_tag k) + 1) (entries_at place (tables_from writing K head (k + 1) n)))
-      → Climb low (entries_at at (said_lines (option_map (table_with k) o ∷ map (table_in writing K head) (range_with_len (k + 1) n))))
-  climb-slot low k n at None le rest = climb-lower (tag_number (kept_tag k) + 1) low (entries_at at (tables_from writing K head (k + 1) n)) (omega arith) (rest at)
+  climb-slot : (low k n at : ℕ) (o : Option (List ℕ)) → low ≤ tag_number (place_tag k) → ((offset : ℕ) → Climb (tag_number (place_tag k) + 1) (entries_at offset (tables_from writing K head (k + 1) n)))
+      → Climb low (entries_at at (said_lines (option_map (table_with (slot_at k)) o ∷ map (table_at_place writing K head) (range_with_len (k + 1) n))))
+  climb-slot low k n at None le rest = climb-lower (tag_number (place_tag k) + 1) low (entries_at at (tables_from writing K head (k + 1) n)) (omega arith) (rest at)
   climb-slot low k n at (Some b) le rest = (le, rest (at + length (padded b)))
 
-  pub climb-slots : (k n low at : ℕ) → k + n ≤ 16 → (0 < n → low ≤ tag_number (kept_tag k)) → Climb low (entries_at at (tables_from writing K head k n))
+  pub climb-slots : (k n low at : ℕ) → k + n ≤ 21 → (0 < n → low ≤ tag_number (place_tag k)) → Climb low (entries_at at (tables_from writing K head k n))
   climb-slots k zero low at few le = tt
   climb-slots k (suc n) low at few le =
-      climb-slot low k n at (bytes_in_slot writing K head k) (le (omega arith))
-      (λ place. climb-slots (k + 1) n (tag_number (kept_tag k) + 1) place (omega arith)
-      (λ some. let next : k + 1 ≡ suc k = omega arith in let same = ap (λ (j : ℕ). tag_number (kept_tag j)) next in let up = kept_tag-ascends k (omega arith) in omega arith))
+      climb-slot low k n at (bytes_in_slot writing K head (slot_at k)) (le (omega arith))
+      (λ place. climb-slots (k + 1) n (tag_number (place_tag k) + 1) place (omega arith)
+      (λ some. let next : k + 1 ≡ suc k = omega arith in let same = ap (λ (j : ℕ). tag_number (place_tag j)) next in let up = place_tag-ascends k (omega arith) in omega arith))
 
 -- so they ascend
 pub is_ascending-climb : (low : ℕ) (entries : List Entry) → Climb low entries → is_ascending entries ≡ true
@@ -107,7 +107,16 @@ inside_all : (file : List ℕ) (tables : List Table) (tag : Tag) → length (rec
 unfolding is_outside table_entry
 inside_all file tables tag same h = outside_none file tables (records_of file) (has_tag tag) same h
 
--- the directory of tables that climb is accepted, where the file is not too large
+-- of tables that climb none stands twice, and none out of the file
+pub nothing_twice : (tables : List Table) (low : ℕ) (tags : List Tag) → Climb low (records_of (file_of tables)) → find (is_duplicate (file_of tables)) tags ≡ None
+nothing_twice tables low tags climb = find_none (is_duplicate (file_of tables)) (record { 0 = [] }) tags (λ k inside. duplicate_none (file_of tables) _ low climb)
+
+pub nothing_outside : (tables : List Table) (tags : List Tag) → AreTables tables → find (is_outside (file_of tables)) tags ≡ None
+nothing_outside tables tags ok =
+    find_none (is_outside (file_of tables)) (record { 0 = [] }) tags
+    (λ k inside. inside_all (file_of tables) tables _ (ap (λ (l : List Entry). length l) (records_of-file_of tables ok) ∙ length-entries_at (12 + 16 * length tables) tables) (all_placed tables ok))
+
+-- their directory is accepted, where the file is not too large
 pub directory_fault-file_of : (tables : List Table) (low : ℕ) → AreTables tables → Climb low (records_of (file_of tables)) → length (file_of tables) ≤ MAX_FILE → directory_fault (file_of tables) ≡ None
 unfolding directory_fault
 directory_fault-file_of tables low ok climb small =
@@ -122,9 +131,8 @@ directory_fault-file_of tables low ok climb small =
     let second : nat_lt (length file) 12 || (is_truetype file && nat_lt (length file) (12 + 16 * table_count file)) ≡ false = λ i. whole i || (truetype i && records i) in
     let third : is_collection file ≡ false = ap (λ (n : ℕ). nat_eq n 0x74746366) version in
     let fourth : not (is_truetype file) ≡ false = ap (λ (b : Bool). not b) truetype in
-    let fifth : find (is_duplicate file) KEPT ≡ None = find_none (is_duplicate file) (record { 0 = [] }) KEPT (λ k inside. duplicate_none file _ low climb) in
-    let sixth : find (is_outside file) KEPT ≡ None =
-    find_none (is_outside file) (record { 0 = [] }) KEPT (λ k inside. inside_all file tables _ (ap (λ (l : List Entry). length l) (records_of-file_of tables ok) ∙ length-entries_at (12 + 16 * length tables) tables) (all_placed tables ok)) in
+    let fifth : find (is_duplicate file) KEPT ≡ None = nothing_twice tables low KEPT climb in
+    let sixth : find (is_outside file) KEPT ≡ None = nothing_outside tables KEPT ok in
     λ i. first_of_lines
     (when (first i) FileTooLarge ∷ when (second i) Truncated ∷ when (third i) Collection ∷ when (fourth i) NotTrueType
     ∷ option_map DuplicateTable (fifth i) ∷ option_map TableOutOfFile (sixth i) ∷ [])

@@ -1,5 +1,5 @@
 -- What a file keeps for wanted codes, in the words of the file.
-use Rattle.std.proofs.Common.{◌≡◌, ℕ, ◌<◌, Bool, true, cond, nat_eq, List, [], None, sym, ◌∙◌, ap, subst}
+use Rattle.std.proofs.Common.{◌≡◌, ℕ, ◌<◌, Bool, true, cond, nat_eq, List, [], None, refl, sym, ◌∙◌, ap, subst}
 use Rattle.std.specs.Bool.{Decides}
 use Rattle.std.proofs.lemmas.Bool.{eqb-true, lt-ltb}
 use Rattle.std.proofs.lemmas.Bool.Decides.{Decides-like}
@@ -11,9 +11,11 @@ use Rattle.font_tables.specs.Outlines.{outline_of}
 use Rattle.font_file.specs.Font.{font_fault, map_of}
 use Rattle.font_file.proofs.FontLemmas.{is_record-accepted}
 use Rattle.font_theory.specs.Bytes.{padded}
-use Rattle.font_theory.specs.Content.{content, font_of, glyph_count, is_kept, is_seed, read_back}
+use Rattle.font_theory.specs.Content.{content, font_of, glyph_count, is_kept, is_root, is_seed, read_back}
 use Rattle.font_theory.proofs.ContentLemmas.{IsKept-wanted, read_back-reached, wanted-map}
 use Rattle.font_theory.proofs.FontLemmas.{IsFont-accepted, glyph_count-file}
+use Rattle.font_theory.proofs.LinkLemmas.{links_in-none}
+use Rattle.font_theory.proofs.RootLemmas.{is_root-alone}
 use Rattle.font_theory.proofs.WantedLemmas.{component-below, is_kept-decides, seeds-below}
 
 -- below its count a glyph of a font has the outline of the file
@@ -37,6 +39,10 @@ module _ (file : List ℕ) (accepted : font_fault file ≡ None) (seeds : ℕ �
       let c' = subst (λ (b : List ℕ). IsComponentOf b g) (outline-file file s w.1) c in
       (part w.0 c', component-accepted s g w.1 c')
 
+-- a plain reader sees no links
+pub roots-font : (file : List ℕ) (wanted : ℕ → Bool) → font_fault file ≡ None → is_root (font_of file).copied (restricted wanted (map_of file)) ≡ is_seed (restricted wanted (map_of file))
+roots-font file wanted accepted = is_root-alone (font_of file).copied (restricted wanted (map_of file)) (links_in-none (font_of file).copied refl) (seeds-below (font_of file) wanted (IsFont-accepted file accepted))
+
 -- what is kept of an accepted file is what its outlines lead to
 pub is_kept-file : (file : List ℕ) (wanted : ℕ → Bool) → font_fault file ≡ None → (g : ℕ)
     → Decides (is_kept (font_of file) wanted g) (Reach (outline_of file) (is_seed (restricted wanted (map_of file))) g)
@@ -44,7 +50,9 @@ is_kept-file file wanted accepted g =
     let ok = IsFont-accepted file accepted in
     let below : (h : ℕ) → is_seed (restricted wanted (map_of file)) h ≡ true → h < glyph_count_of file =
     λ h s. subst (λ (n : ℕ). h < n) (glyph_count-file file) (seeds-below (font_of file) wanted ok h s) in
-    Decides-like _ (λ r. (Reach-file file accepted _ below g r).0) (λ r. (Reach-font file accepted _ below g r).0) (is_kept-decides (font_of file) wanted ok g)
+    let P : (ℕ → Bool) → Type 0 = λ s. Reach (font_of file).outline s g in
+    let same = roots-font file wanted accepted in
+    Decides-like _ (λ r. (Reach-file file accepted _ below g (subst P same r)).0) (λ r. subst P (sym same) (Reach-font file accepted _ below g r).0) (is_kept-decides (font_of file) wanted ok g)
 
 -- a file of which a content of an accepted one is read back
 module _ (file other : List ℕ) (wanted : ℕ → Bool) (accepted : font_fault file ≡ None) (same : font_of other ≡ read_back (content (font_of file) wanted)) where

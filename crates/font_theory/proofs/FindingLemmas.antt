@@ -4,7 +4,7 @@ use Rattle.std.specs.Option.{option_map_or}
 use Rattle.std.proofs.lemmas.Bool.{cases_eq, eq-eqb, le-leb, ne_eqb}
 use Rattle.std.proofs.lemmas.List.{length-replicate}
 use Rattle.std.proofs.lemmas.Slice.Eq.{bytes_eq-Decides}
-use Rattle.sfnt_bytes.specs.Directory.{is_within, kept_tag, records_of, table_count}
+use Rattle.sfnt_bytes.specs.Directory.{is_within, records_of, slot_at, slot_tag, table_count}
 use Rattle.sfnt_bytes.specs.Findings.{entry_findings, findings_of, has_file_sum, has_search_fields, has_wrong_file_sum, is_ascending, is_padded, padding_of, table_sum}
 use Rattle.sfnt_bytes.specs.Lines.{said_lines, when}
 use Rattle.sfnt_bytes.specs.Number.{u16_at}
@@ -87,20 +87,21 @@ module _ (writing : Writing) (K : Content) (ok : IsWritable K) where
       let same = length-with_adjustment (adjustment_in writing K) K.head (omega arith) in
       omega arith
 
-  summed-slot : (slot : ℕ) (b : List ℕ) → slot < 16 → bytes_in_slot writing K (last_head writing K) slot ≡ Some b → IsSummed (table_with slot b)
+  summed-slot : (place : ℕ) (b : List ℕ) → place < 21 → bytes_in_slot writing K (last_head writing K) (slot_at place) ≡ Some b → IsSummed (table_with (slot_at place) b)
   unfolding bytes_in_slot
-  summed-slot slot b low is =
+  summed-slot place b low is =
+      let slot : ℕ = slot_at place in
       elim (cases_eq slot 6) [
         | inl e ↦
             let here : Some (last_head writing K) ≡ Some b = ap (bytes_in_slot writing K (last_head writing K)) (sym e) ∙ is in
             let same : last_head writing K ≡ b = cc in
             let whole : nat_le 12 (length b) ≡ true = le-leb 12 (length b) (subst (λ (l : List ℕ). 12 ≤ length l) same long_head) in
             let t = eq-eqb slot 6 e in
-            let tag : same_tag (kept_tag slot) (named (codes "head")) ≡ true = same_tag-head slot low ∙ t in
+            let tag : same_tag (slot_tag slot) (named (codes "head")) ≡ true = same_tag-head place low ∙ t in
             (λ i. cond (t i) (checksum_of (without_field b 8)) (checksum_of b)) ∙ sym (λ i. cond (tag i && whole i) (checksum_of (without_field b 8)) (checksum_of b))
         | inr ne ↦
             let f = ne_eqb slot 6 ne in
-            let tag : same_tag (kept_tag slot) (named (codes "head")) ≡ false = same_tag-head slot low ∙ f in
+            let tag : same_tag (slot_tag slot) (named (codes "head")) ≡ false = same_tag-head place low ∙ f in
             (λ i. cond (f i) (checksum_of (without_field b 8)) (checksum_of b)) ∙ sym (λ i. cond (tag i && nat_le 12 (length b)) (checksum_of (without_field b 8)) (checksum_of b))
       ]
 
@@ -111,7 +112,7 @@ module _ (writing : Writing) (K : Content) (ok : IsWritable K) where
       let same : length (records_of (file_of tables)) ≡ length tables = ap (λ (l : List Entry). length l) (records_of-file_of tables are) ∙ length-entries_at (12 + 16 * length tables) tables in
       subst (λ (b : List ℕ). flat_map (entry_findings b) (records_of b) ≡ []) (sym (file-is writing K))
       (nothing_found (file_of tables) tables (records_of (file_of tables)) same (all_placed tables are)
-      (each_slot writing K (last_head writing K) IsSummed 0 16 (λ slot b from to e. summed-slot slot b (omega arith) e)))
+      (each_slot writing K (last_head writing K) IsSummed 0 21 (λ place b from to e. summed-slot place b (omega arith) e)))
 
   has_file_sum-file : has_file_sum (file writing K) (head_at writing K + 8) ≡ true
   unfolding has_file_sum adjustment_in

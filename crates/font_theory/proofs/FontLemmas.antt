@@ -1,7 +1,7 @@
 -- What an accepted file means is a font.
-use Rattle.std.proofs.Common.{◌≡◌, ◌≢◌, ℕ, ◌<◌, ◌≤◌, true, false, nat_lt, inl, inr, List, [], length, get_or, refl, sym, ◌∙◌, ap, subst, arith, unwrap_or, Option, Some, None}
+use Rattle.std.proofs.Common.{◌≡◌, ◌≢◌, ℕ, ◌<◌, ◌≤◌, true, false, nat_le, nat_lt, inl, inr, List, [], length, get_or, refl, sym, ◌∙◌, ap, subst, arith, unwrap_or, Option, Some, None}
 use Rattle.std.specs.Option.{option_map, option_map_or, option_or}
-use Rattle.std.proofs.lemmas.Bool.{cases_Bool, cases_lt, le-ltb, lt-ltb, ltb-false}
+use Rattle.std.proofs.lemmas.Bool.{cases_Bool, cases_lt, le-leb, le-ltb, leb-true, lt-ltb, ltb-false, or_cases, or_left, or_right}
 use Rattle.sfnt_bytes.specs.Directory.{table_of}
 use Rattle.sfnt_bytes.specs.Refusals.{directory_fault}
 use Rattle.sfnt_bytes.specs.declared.directory.DirError.TheVariants.{FileTooLarge}
@@ -24,7 +24,8 @@ use Rattle.font_file.specs.Font.{cmap_of, font_fault, map_of}
 use Rattle.font_file.specs.declared.font_error.FontError.{FontError}
 use Rattle.font_file.specs.declared.font_error.FontError.TheVariants.{Directory, Tables}
 use Rattle.font_file.proofs.FontLemmas.{directory_fault-accepted, font_fault_is, is_record-accepted}
-use Rattle.font_theory.specs.Content.{CODES, IsFont, font_of, glyph_count, metric_count, table_in_slot}
+use Rattle.font_theory.specs.Content.{CODES, IsFont, IsPlain, font_of, glyph_count, is_made, is_never_copied, metric_count, table_in_slot}
+use Rattle.font_theory.proofs.LinkLemmas.{AreFixed-plain, is_bad_layout_in-none}
 use Rattle.font_theory.proofs.CutHeadLemmas.{cut_head-cut_head, head-size, is_bad_head-cut_head}
 use Rattle.font_theory.proofs.PaddedLemmas.{IsRecord-nil}
 
@@ -91,6 +92,17 @@ map_of-past : (file : List ℕ) (c : ℕ) → CODES ≤ c → map_of file c ≡ 
 unfolding mapping_of CODES
 map_of-past file c past = clipped_past (glyph_count_of file) (λ x. option_map_or (λ k. listed_glyph (subtable_at (cmap_of file) k) x) (chosen_record (cmap_of file)) 0) c past
 
+-- what no cut copies, a plain one does not copy
+pub never-made : (slot : ℕ) → is_never_copied slot ≡ true → is_made slot ≡ true
+never-made slot h = elim (or_cases _ (nat_le 21 slot) h) [
+  | inl one ↦ or_left _ (nat_le 16 slot) one
+  | inr past ↦ let far = leb-true 21 slot past in or_right _ (nat_le 16 slot) (le-leb 16 slot (omega arith))
+]
+
+-- and a plain reader gives no table of layout
+pub IsPlain-font_of : (file : List ℕ) → IsPlain (font_of file).copied
+IsPlain-font_of file slot made = rw made refl
+
 pub IsFont-accepted : (file : List ℕ) → font_fault file ≡ None → IsFont (font_of file)
 IsFont-accepted file accepted =
     let no_fault = table_fault-accepted file accepted in
@@ -103,12 +115,14 @@ IsFont-accepted file accepted =
         | inl low ↦ let t = lt-ltb g (glyph_count_of file) low in rw (t, n) (is_record-accepted file g accepted low)
         | inr past ↦ let f = le-ltb g (glyph_count_of file) past in rw f (IsRecord-nil _)
       ];
-      slots = λ slot made. rw made refl;
+      slots = λ slot never. IsPlain-font_of file slot (never-made slot never);
       head_form = cut_head-cut_head (head_of file) (head-size (head_of file) sound.head);
       head = is_bad_head-cut_head (head_of file) sound.head;
       maxp = subst (λ (b : List ℕ). is_bad_maxp b ≡ false) (sym (maxp-slot file)) sound.maxp;
       hhea = (λ i. is_bad_hhea (hhea-slot file i) (n i)) ∙ sound.hhea;
       hmtx = (λ i. is_bad_hmtx (hmtx-slot file i) (metric_count-file file i) (n i)) ∙ sound.hmtx;
+      readable = is_bad_layout_in-none (font_of file).copied refl;
+      fixed = AreFixed-plain (font_of file).copied (IsPlain-font_of file);
     }
 
 -- a file that is accepted, or refused for another reason, is not too large

@@ -1,10 +1,10 @@
 -- `head` among the tables of a file: what stands before and after it, and its field as zeros.
-use Rattle.std.proofs.Common.{◌≡◌, ◌≢◌, ℕ, zero, suc, ◌+◌, ◌*◌, ◌<◌, ◌≤◌, ◌⊎◌, true, codes, List, [], ◌∷◌, ◌++◌, find, take, drop, length, map, replicate, refl, sym, ap, ◌∙◌, arith, Some, None, option_map, inl, inr, flat_map}
+use Rattle.std.proofs.Common.{◌≡◌, ◌≢◌, ℕ, zero, suc, ◌+◌, ◌*◌, ◌<◌, ◌≤◌, ◌⊎◌, true, codes, List, [], ◌∷◌, ◌++◌, find, take, drop, length, map, replicate, refl, sym, ap, subst, ◌∙◌, arith, Some, None, option_map, inl, inr, flat_map}
 use Rattle.std.specs.List.{range_with_len}
-use Rattle.std.proofs.lemmas.Bool.{cond_both, ne_eqb}
+use Rattle.std.proofs.lemmas.Bool.{cond_both, eqb-false, ne_eqb}
 use Rattle.std.proofs.lemmas.List.{append_assoc, drop_at, get_or_append_left, length-append, length-drop, length-take-le, take-append-drop, take_at}
 use Rattle.std.proofs.lemmas.List.Concat.{flat_map-append}
-use Rattle.sfnt_bytes.specs.Directory.{has_tag, kept_tag, records_of, table_entry}
+use Rattle.sfnt_bytes.specs.Directory.{has_tag, kept_tag, records_of, slot_at, slot_tag, table_entry}
 use Rattle.sfnt_bytes.specs.Findings.{padding_of}
 use Rattle.sfnt_bytes.specs.Lines.{said_lines}
 use Rattle.sfnt_bytes.specs.Number.{number, u32_at}
@@ -15,15 +15,15 @@ use Rattle.sfnt_bytes.specs.declared.tag.Tag.{Tag}
 use Rattle.font_tables.specs.Tables.{named}
 use Rattle.font_theory.specs.Bytes.{padded}
 use Rattle.font_theory.specs.Content.{Content, IsWritable}
-use Rattle.font_theory.specs.File.{Writing, Table, adjustment_in, bodies_of, bytes_in_slot, checksum_in_slot, entries_at, entry_bytes, file, file_of, file_with, header_bytes, table_in, tables_from}
+use Rattle.font_theory.specs.File.{Writing, Table, adjustment_in, bodies_of, bytes_in_slot, checksum_in_slot, entries_at, entry_bytes, file, file_of, file_with, header_bytes, table_at_place, tables_from}
 use Rattle.font_theory.proofs.AdjustmentLemmas.{length-with_adjustment, u32_at-with_adjustment, with_adjustment-zero, without_field-head, without_field-with_adjustment}
 use Rattle.font_theory.proofs.MeaningLemmas.{file-is, last_head, last_tables}
 use Rattle.font_theory.proofs.NumberLemmas.{u32_at-drop}
 use Rattle.font_theory.proofs.PaddingLemmas.{length-padded-is}
 use Rattle.font_theory.proofs.RecordLemmas.{bodies_at, length-front_of, records_of-file_of}
-use Rattle.font_theory.proofs.SlotLemmas.{are_tables, found_nowhere, table_with, tables_from-split}
+use Rattle.font_theory.proofs.SlotLemmas.{are_tables, found_nowhere, is_of, table_with, tables_from-split}
 use Rattle.font_theory.proofs.TableLemmas.{entry_of}
-use Rattle.font_theory.proofs.TagLemmas.{same_tag-kept}
+use Rattle.font_theory.proofs.TagLemmas.{slot_at-head, slot_at-place_of}
 
 pub bodies_of-append : (us vs : List Table) → bodies_of (us ++ vs) ≡ bodies_of us ++ bodies_of vs
 bodies_of-append us vs = flat_map-append (λ table. padded table.bytes) us vs
@@ -91,40 +91,40 @@ u32_at-append b z at inside =
     let fourth = get_or_append_left b z 0 (at + 3) (omega arith) in
     λ i. number (first i) (second i) (third i) (fourth i)
 
-head_tag_is : kept_tag 6 ≡ named (codes "head")
-unfolding kept_tag
+head_tag_is : slot_tag 6 ≡ named (codes "head")
+unfolding kept_tag slot_tag
 head_tag_is = refl
 
 module _ (writing : Writing) (K : Content) where
   -- the tables before `head`, and those after it
   abbrev pub before_head : List Table
-  before_head = tables_from writing K K.head 0 6
+  before_head = tables_from writing K K.head 0 10
 
   abbrev pub behind_head : List Table
-  behind_head = tables_from writing K K.head 7 9
+  behind_head = tables_from writing K K.head 11 10
 
   same_slot : (head : List ℕ) (slot : ℕ) → slot ≢ 6 → bytes_in_slot writing K head slot ≡ bytes_in_slot writing K K.head slot
   unfolding bytes_in_slot
   same_slot head slot other = let f = ne_eqb slot 6 other in rw f refl
 
-  same_lines : (head : List ℕ) (k n : ℕ) → (6 < k) ⊎ (k + n ≤ 6) → map (table_in writing K head) (range_with_len k n) ≡ map (table_in writing K K.head) (range_with_len k n)
-  same_lines head k zero out = refl
-  same_lines head k (suc n) out =
-      let other : k ≢ 6 = λ e. elim out [ inl h ↦ omega arith | inr h ↦ omega arith ] in
-      let next : (6 < k + 1) ⊎ (k + 1 + n ≤ 6) = elim out [ inl h ↦ inl (omega arith) | inr h ↦ inr (omega arith) ] in
-      let here = same_slot head k other in
-      λ i. option_map (table_with k) (here i) ∷ same_lines head (k + 1) n next i
+  same_lines : (head : List ℕ) (k n : ℕ) → k + n ≤ 21 → (10 < k) ⊎ (k + n ≤ 10) → map (table_at_place writing K head) (range_with_len k n) ≡ map (table_at_place writing K K.head) (range_with_len k n)
+  same_lines head k zero few out = refl
+  same_lines head k (suc n) few out =
+      let other : k ≢ 10 = λ e. elim out [ inl h ↦ omega arith | inr h ↦ omega arith ] in
+      let next : (10 < k + 1) ⊎ (k + 1 + n ≤ 10) = elim out [ inl h ↦ inl (omega arith) | inr h ↦ inr (omega arith) ] in
+      let here = same_slot head (slot_at k) (eqb-false _ _ (slot_at-head k (omega arith) ∙ ne_eqb k 10 other)) in
+      λ i. option_map (table_with (slot_at k)) (here i) ∷ same_lines head (k + 1) n (omega arith) next i
 
-  head_slot : (head : List ℕ) → tables_from writing K head 6 10 ≡ table_with 6 head ∷ tables_from writing K head 7 9
-  unfolding bytes_in_slot
+  head_slot : (head : List ℕ) → tables_from writing K head 10 11 ≡ table_with 6 head ∷ tables_from writing K head 11 10
+  unfolding bytes_in_slot slot_at
   head_slot head = refl
 
   -- `head` in their midst
-  pub split_at_head : (head : List ℕ) → tables_from writing K head 0 16 ≡ before_head ++ table_with 6 head ∷ behind_head
+  pub split_at_head : (head : List ℕ) → tables_from writing K head 0 21 ≡ before_head ++ table_with 6 head ∷ behind_head
   split_at_head head =
-      tables_from-split writing K head 0 6 10
-      ∙ ap (λ (l : List Table). tables_from writing K head 0 6 ++ l) (head_slot head)
-      ∙ (λ i. said_lines (same_lines head 0 6 (inr (omega arith)) i) ++ table_with 6 head ∷ said_lines (same_lines head 7 9 (inl (omega arith)) i))
+      tables_from-split writing K head 0 10 11
+      ∙ ap (λ (l : List Table). tables_from writing K head 0 10 ++ l) (head_slot head)
+      ∙ (λ i. said_lines (same_lines head 0 10 (omega arith) (inr (omega arith)) i) ++ table_with 6 head ∷ said_lines (same_lines head 11 10 (omega arith) (inl (omega arith)) i))
 
   -- where `head` stands
   abbrev pub head_at : ℕ
@@ -140,17 +140,24 @@ module _ (writing : Writing) (K : Content) where
       let long = length-front_of (last_tables writing K) (are_tables writing K (last_head writing K)) in
       length-append front (bodies_of before_head) ∙ ap (λ (n : ℕ). n + length (bodies_of before_head)) long
 
+  head_nowhere : find (is_of 6) before_head ≡ None
+  head_nowhere = subst (λ (slot : ℕ). find (is_of slot) before_head ≡ None) (slot_at-place_of 6 (omega arith)) (found_nowhere writing K K.head 10 0 10 (omega arith) (omega arith) (inr (omega arith)))
+
+  head_same : same_tag (slot_tag 6) (slot_tag 6) ≡ true
+  unfolding slot_tag kept_tag
+  head_same = refl
+
   pub table_entry-head : table_entry (file writing K) (named (codes "head")) ≡ Some (entry_of head_at (table_with 6 (last_head writing K)))
   unfolding table_entry
   table_entry-head =
       let ok = are_tables writing K (last_head writing K) in
       let at = 12 + 16 * length (last_tables writing K) in
       ap (λ (tag : Tag). find (has_tag tag) (records_of (file writing K))) (sym head_tag_is)
-      ∙ ap (λ (b : List ℕ). find (has_tag (kept_tag 6)) (records_of b)) (file-is writing K)
-      ∙ ap (λ (l : List Entry). find (has_tag (kept_tag 6)) l) (records_of-file_of (last_tables writing K) ok)
-      ∙ ap (λ (l : List Table). find (has_tag (kept_tag 6)) (entries_at at l)) (split_at_head (last_head writing K))
-      ∙ entry_found before_head (table_with 6 (last_head writing K)) behind_head at (kept_tag 6)
-      (found_nowhere writing K K.head 6 0 6 (omega arith) (omega arith) (inr (omega arith))) (same_tag-kept 6 6 (omega arith) (omega arith))
+      ∙ ap (λ (b : List ℕ). find (has_tag (slot_tag 6)) (records_of b)) (file-is writing K)
+      ∙ ap (λ (l : List Entry). find (has_tag (slot_tag 6)) l) (records_of-file_of (last_tables writing K) ok)
+      ∙ ap (λ (l : List Table). find (has_tag (slot_tag 6)) (entries_at at l)) (split_at_head (last_head writing K))
+      ∙ entry_found before_head (table_with 6 (last_head writing K)) behind_head at (slot_tag 6)
+      head_nowhere head_same
 
   module _ (ok : IsWritable K) where
     -- the field as zeros gives the padded `head` back
@@ -180,12 +187,12 @@ module _ (writing : Writing) (K : Content) where
         ∙ sym (append_assoc (header ++ records) (bodies_of before_head) rest)
 
     -- either `head` leaves the records
-    pub same_count : length (last_tables writing K) ≡ length (tables_from writing K K.head 0 16)
+    pub same_count : length (last_tables writing K) ≡ length (tables_from writing K K.head 0 21)
     same_count =
         ap (λ (l : List Table). length l) (split_at_head (last_head writing K)) ∙ length-append before_head (table_with 6 (last_head writing K) ∷ behind_head)
         ∙ sym (length-append before_head (table_with 6 K.head ∷ behind_head)) ∙ ap (λ (l : List Table). length l) (sym (split_at_head K.head))
 
-    same_records : (at : ℕ) → entries_at at (last_tables writing K) ≡ entries_at at (tables_from writing K K.head 0 16)
+    same_records : (at : ℕ) → entries_at at (last_tables writing K) ≡ entries_at at (tables_from writing K K.head 0 21)
     same_records at =
         let long = ok.head_size in
         let same = length-with_adjustment (adjustment_in writing K) K.head (omega arith) in
@@ -193,14 +200,14 @@ module _ (writing : Writing) (K : Content) where
         ∙ sym (same_entries at before_head behind_head (table_with 6 K.head) (table_with 6 (last_head writing K)) refl checksum-head (sym same))
         ∙ ap (entries_at at) (sym (split_at_head K.head))
 
-    pub all_records : entries_at (12 + 16 * length (last_tables writing K)) (last_tables writing K) ≡ entries_at (12 + 16 * length (tables_from writing K K.head 0 16)) (tables_from writing K K.head 0 16)
+    pub all_records : entries_at (12 + 16 * length (last_tables writing K)) (last_tables writing K) ≡ entries_at (12 + 16 * length (tables_from writing K K.head 0 21)) (tables_from writing K K.head 0 21)
     all_records =
-        same_records (12 + 16 * length (last_tables writing K)) ∙ ap (λ (n : ℕ). entries_at (12 + 16 * n) (tables_from writing K K.head 0 16)) same_count
+        same_records (12 + 16 * length (last_tables writing K)) ∙ ap (λ (n : ℕ). entries_at (12 + 16 * n) (tables_from writing K K.head 0 21)) same_count
 
     other_split : file_with writing K K.head ≡ before_bytes ++ (padded K.head ++ bodies_of behind_head)
     unfolding file_of
     other_split =
-        let tables = tables_from writing K K.head 0 16 in
+        let tables = tables_from writing K K.head 0 21 in
         let header = header_bytes (length tables) in
         let records = flat_map entry_bytes (entries_at (12 + 16 * length tables) tables) in
         let rest = padded K.head ++ bodies_of behind_head in

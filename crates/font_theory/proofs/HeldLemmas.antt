@@ -1,5 +1,5 @@
 -- What a closed content keeps.
-use Rattle.std.proofs.Common.{◌≡◌, ℕ, ◌⊎◌, inl, inr, List, [], refl, sym, ◌∙◌, ap, subst, arith, unwrap_or, Option, Some, None}
+use Rattle.std.proofs.Common.{◌≡◌, ℕ, ◌⊎◌, true, inl, inr, List, [], refl, sym, ◌∙◌, ap, subst, arith, unwrap_or, Option, Some, None}
 use Rattle.std.specs.Option.{IsSome}
 use Rattle.std.proofs.lemmas.Bool.{cases_Bool}
 use Rattle.sfnt_bytes.specs.Lines.{when}
@@ -7,7 +7,8 @@ use Rattle.font_glyph.specs.Reach.{IsComponentOf, Reach}
 use Rattle.font_glyph.specs.Reach.Reach.{seed, part}
 use Rattle.font_glyph.specs.Union.{HoldsComponents}
 use Rattle.font_theory.specs.Bytes.{padded}
-use Rattle.font_theory.specs.Content.{KeepsComponents, Content, IsClosedContent, everything, is_kept, is_seed, read_back}
+use Rattle.font_theory.specs.Content.{KeepsComponents, Content, IsClosedContent, everything, is_kept, is_root, read_back}
+use Rattle.font_theory.proofs.RootLemmas.{is_root-seed}
 use Rattle.font_theory.proofs.PaddedLemmas.{IsRecord-nil}
 use Rattle.font_theory.proofs.WantedLemmas.{component-below, is_kept-decides, is_seed-code, is_seed-zero}
 
@@ -18,7 +19,7 @@ cases_option (Some a) = inr (a, refl)
 
 -- what a content's own codes reach in it
 abbrev pub IsHeld : Content → ℕ → Type 0
-IsHeld K g = Reach (read_back K).outline (is_seed K.map) g
+IsHeld K g = Reach (read_back K).outline (is_root K.copied K.map) g
 
 -- an empty record names nothing
 component-nil : (g : ℕ) → IsComponentOf [] g → ⊥
@@ -52,10 +53,10 @@ module _ (K : Content) (ok : IsClosedContent K) where
 
   -- .notdef, the glyph of each code, and each component of what it keeps
   pub zero-kept : IsSome (K.outline 0)
-  zero-kept = some-is 0 (seed (is_seed-zero K.map))
+  zero-kept = let low = ok.font.mapped_below 0 in some-is 0 (seed (is_root-seed K.copied K.map 0 (omega arith) (is_seed-zero K.map)))
 
   pub code-kept : (c : ℕ) → IsSome (K.outline (K.map c))
-  code-kept c = some-is (K.map c) (seed (is_seed-code K.map ok.font.mapped_codes c))
+  code-kept c = some-is (K.map c) (seed (is_root-seed K.copied K.map (K.map c) (ok.font.mapped_below c) (is_seed-code K.map ok.font.mapped_codes c)))
 
   pub components-kept : HoldsComponents K.outline
   components-kept s g p = go (cases_option (K.outline s))
@@ -63,6 +64,11 @@ module _ (K : Content) (ok : IsClosedContent K) where
       go : ((K.outline s ≡ None) ⊎ ((b : List ℕ) × (K.outline s ≡ Some b))) → IsSome (K.outline g)
       go (inl none) = absurd (component-nil g (subst (λ (b : List ℕ). IsComponentOf b g) (ap (λ o. unwrap_or o []) none) p))
       go (inr some) = some-is g (part (some-held s some.0 some.1) p)
+
+module _ (K : Content) (ok : IsClosedContent K) where
+  -- and each glyph that may be shaped
+  pub roots-kept : (g : ℕ) → is_root K.copied K.map g ≡ true → IsSome (K.outline g)
+  roots-kept g h = some-is K ok g (seed h)
 
 pub KeepsComponents-closed : (K : Content) → IsClosedContent K → KeepsComponents K
 KeepsComponents-closed K ok = record { notdef = zero-kept K ok; mapped = code-kept K ok; components = components-kept K ok }

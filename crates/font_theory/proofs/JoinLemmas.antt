@@ -11,11 +11,12 @@ use Rattle.font_glyph.specs.Reach.{IsComponentOf}
 use Rattle.font_glyph.specs.Reach.Reach.{seed, part}
 use Rattle.font_glyph.specs.Record.{IsRecord}
 use Rattle.font_theory.specs.Bytes.{padded}
-use Rattle.font_theory.specs.Content.{Content, Font, IsClosedContent, IsFont, content, everything, glyph_count, is_kept, is_seed, read_back}
+use Rattle.font_theory.specs.Content.{Content, Font, IsClosedContent, IsFont, content, everything, glyph_count, is_kept, is_root, is_seed, read_back}
 use Rattle.font_theory.specs.Cut.{either}
 use Rattle.font_theory.specs.Join.{Agree, both}
 use Rattle.font_theory.proofs.ContentLemmas.{content-path, content-same}
 use Rattle.font_theory.proofs.HeldLemmas.{IsHeld, cases_option, held-some, some-held, some-padded}
+use Rattle.font_theory.proofs.RootLemmas.{is_root-more, is_root-split}
 use Rattle.font_theory.proofs.WantedLemmas.{IsKept, Reach-along, is_kept-decides, is_seed-code, is_seed-more, is_seed-tells, is_seed-zero, restricted-past}
 
 pub Agree-sym : (K L : Content) → Agree K L → Agree L K
@@ -81,6 +82,8 @@ IsFont-both K L okK okL agree =
       maxp = okK.font.maxp;
       hhea = okK.font.hhea;
       hmtx = okK.font.hmtx;
+      readable = okK.font.readable;
+      fixed = okK.font.fixed;
     }
 
 own_code : (x y : ℕ) → cond (nat_lt 0 x) (cond (nat_eq x 0) y x) 0 ≡ x
@@ -109,7 +112,7 @@ content-right K L okK okL agree =
 IsHeld-left : (K L : Content) → IsClosedContent K → IsClosedContent L → Agree K L → (g : ℕ) → IsHeld K g → IsHeld (both K L) g
 IsHeld-left K L okK okL agree =
     Reach-along _ _ _ _
-    (is_seed-more _ _ (IsFont-both K L okK okL agree).mapped_codes (λ c. go c (cases_lt 0 (K.map c))))
+    (is_root-more K.copied _ _ (is_seed-more _ _ (IsFont-both K L okK okL agree).mapped_codes (λ c. go c (cases_lt 0 (K.map c)))))
     (λ g h r p. subst (λ (b : List ℕ). IsComponentOf b h) (sym (read_back-left K L okK okL agree g r)) p)
   where
     go : (c : ℕ) → ((0 < K.map c) ⊎ (K.map c ≤ 0)) → (K.map c ≡ 0) ⊎ (K.map c ≡ (both K L).map c)
@@ -120,18 +123,26 @@ IsHeld-right : (K L : Content) → IsClosedContent K → IsClosedContent L → A
 IsHeld-right K L okK okL agree g r =
     subst (λ C. IsHeld C g) (sym (both-swapped K L agree)) (IsHeld-left L K okL okK (Agree-sym K L agree) g r)
 
+-- a seed of the union is one of a part
+seeds_of-both : (K L : Content) → IsClosedContent K → IsClosedContent L → (g : ℕ) → is_seed (both K L).map g ≡ true → (is_seed K.map g ≡ true) ⊎ (is_seed L.map g ≡ true)
+seeds_of-both K L okK okL g h =
+    elim (is_seed-tells _ g h) [
+      | inl e ↦ inl (subst (λ (x : ℕ). is_seed K.map x ≡ true) (sym e) (is_seed-zero K.map))
+      | inr w ↦
+          elim (both-map K L (λ x. (is_seed K.map x ≡ true) ⊎ (is_seed L.map x ≡ true)) w.0
+          (inl (is_seed-code K.map okK.font.mapped_codes w.0))
+          (inr (is_seed-code L.map okL.font.mapped_codes w.0))) [
+            | inl x ↦ inl (subst (λ (y : ℕ). is_seed K.map y ≡ true) w.1 x)
+            | inr x ↦ inr (subst (λ (y : ℕ). is_seed L.map y ≡ true) w.1 x)
+          ]
+    ]
+
 -- what the union's codes reach is reached in one of its parts
 IsHeld-split : (K L : Content) → IsClosedContent K → IsClosedContent L → Agree K L → (g : ℕ) → IsHeld (both K L) g → IsHeld K g ⊎ IsHeld L g
 IsHeld-split K L okK okL agree g (seed h) =
-    elim (is_seed-tells _ g h) [
-      | inl e ↦ inl (seed (subst (λ (x : ℕ). is_seed K.map x ≡ true) (sym e) (is_seed-zero K.map)))
-      | inr w ↦
-          elim (both-map K L (λ x. IsHeld K x ⊎ IsHeld L x) w.0
-          (inl (seed (is_seed-code K.map okK.font.mapped_codes w.0)))
-          (inr (seed (is_seed-code L.map okL.font.mapped_codes w.0)))) [
-            | inl x ↦ inl (subst (λ (y : ℕ). IsHeld K y) w.1 x)
-            | inr x ↦ inr (subst (λ (y : ℕ). IsHeld L y) w.1 x)
-          ]
+    elim (is_root-split K.copied (both K L).map K.map L.map (seeds_of-both K L okK okL) g h) [
+      | inl x ↦ inl (seed x)
+      | inr x ↦ inr (seed (subst (λ (c : ℕ → Option (List ℕ)). is_root c L.map g ≡ true) (fun_ext agree.copied) x))
     ]
 IsHeld-split K L okK okL agree g (part {s = s} r p) =
     elim (IsHeld-split K L okK okL agree s r) [
@@ -220,16 +231,16 @@ module _ (F : Font) (A B : ℕ → Bool) (ok : IsFont F) where
       go false b x = inr refl
 
   kept-one : (g : ℕ) → IsKept F (either A B) g → IsKept F A g ⊎ IsKept F B g
-  kept-one g (seed h) = elim (seeds_either g h) [ inl e ↦ inl (seed e) | inr e ↦ inr (seed e) ]
+  kept-one g (seed h) = elim (is_root-split F.copied _ (restricted A F.map) (restricted B F.map) seeds_either g h) [ inl e ↦ inl (seed e) | inr e ↦ inr (seed e) ]
   kept-one g (part {s = s} r p) = elim (kept-one s r) [ inl h ↦ inl (part h p) | inr h ↦ inr (part h p) ]
 
   kept-either : (g : ℕ) → IsKept F A g ⊎ IsKept F B g → IsKept F (either A B) g
-  kept-either g (inl h) = Reach-along _ _ _ _ (is_seed-more _ _ (restricted-past F (either A B) ok) (λ c. go (A c) (B c) (F.map c))) (λ _ _ _ p. p) g h
+  kept-either g (inl h) = Reach-along _ _ _ _ (is_root-more F.copied _ _ (is_seed-more _ _ (restricted-past F (either A B) ok) (λ c. go (A c) (B c) (F.map c)))) (λ _ _ _ p. p) g h
     where
       go : (a b : Bool) (x : ℕ) → (cond a x 0 ≡ 0) ⊎ (cond a x 0 ≡ cond (a || b) x 0)
       go true b x = inr refl
       go false b x = inl refl
-  kept-either g (inr h) = Reach-along _ _ _ _ (is_seed-more _ _ (restricted-past F (either A B) ok) (λ c. go (A c) (B c) (F.map c))) (λ _ _ _ p. p) g h
+  kept-either g (inr h) = Reach-along _ _ _ _ (is_root-more F.copied _ _ (is_seed-more _ _ (restricted-past F (either A B) ok) (λ c. go (A c) (B c) (F.map c)))) (λ _ _ _ p. p) g h
     where
       go : (a b : Bool) (x : ℕ) → (cond b x 0 ≡ 0) ⊎ (cond b x 0 ≡ cond (a || b) x 0)
       go true true x = inr refl

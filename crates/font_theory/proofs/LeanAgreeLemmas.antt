@@ -3,7 +3,7 @@ use Rattle.std.proofs.Common.{◌≡◌, ℕ, Bool, true, false, List, None, Som
 use Rattle.std.proofs.Math.Path.{fun_ext}
 use Rattle.sfnt_bytes.specs.Lines.{when}
 use Rattle.font_file.specs.Font.{font_fault}
-use Rattle.font_theory.specs.Content.{Content, Font, IsFont, content, everything, font_of, glyph_count, is_kept, read_back, table_in_slot}
+use Rattle.font_theory.specs.Content.{Content, Font, IsClosedContent, IsFont, content, everything, font_of, glyph_count, is_kept, read_back, table_in_slot}
 use Rattle.font_theory.specs.Cut.{Arises, content_of_all}
 use Rattle.font_theory.specs.Join.{Agree, both}
 use Rattle.font_theory.specs.Lean.{AgreeLean, either_bytes, spelled_out, lean_format, metrics_at, thin, thin_copied, with_metrics}
@@ -14,7 +14,7 @@ use Rattle.font_glyph.specs.Union.{union_of}
 use Rattle.font_theory.proofs.ArisesLemmas.{IsClosed-arises}
 use Rattle.font_theory.proofs.LeanFormatLemmas.{IsLean-arises, lean_format-is}
 use Rattle.font_theory.proofs.LeanJoinLemmas.{hmtx-both, outline-both, vmtx-both}
-use Rattle.font_theory.proofs.LeanLemmas.{IsFont-spelled, thin-spelled}
+use Rattle.font_theory.proofs.LeanLemmas.{IsLean, IsFont-spelled, thin-spelled}
 use Rattle.font_theory.proofs.FontLemmas.{IsFont-accepted}
 use Rattle.font_theory.proofs.LeanCopiedLemmas.{glyph_count-alike, spelled_copied-other, AreAlike-thin}
 use Rattle.font_theory.proofs.LeanCutLemmas.{outline-records, records-same, same-records}
@@ -77,13 +77,9 @@ agree-files X Y x y =
 agree-both : (K L M N : Content) → K ≡ M → L ≡ N → Agree K L → Agree M N
 agree-both K L M N p q h = subst (λ C. Agree M C) q (subst (λ C. Agree C L) p h)
 
-pub agree-contents : (K L : Content) → Arises lean_format K → Arises lean_format L
+pub agree-lean : (K L : Content) → IsClosedContent K → IsClosedContent L → IsLean K → IsLean L
     → (Agree K L → AgreeLean (read_back (spelled_out K)) (read_back (spelled_out L))) × (AgreeLean (read_back (spelled_out K)) (read_back (spelled_out L)) → Agree K L)
-agree-contents K L k l =
-    let leanK = IsLean-arises K k in
-    let leanL = IsLean-arises L l in
-    let closedK = IsClosed-arises lean_format lean_format-is.is_font K k in
-    let closedL = IsClosed-arises lean_format lean_format-is.is_font L l in
+agree-lean K L closedK closedL leanK leanL =
     let fontK = IsFont-spelled K closedK.font leanK in
     let fontL = IsFont-spelled L closedL.font leanL in
     let eK : content (thin (read_back (spelled_out K))) everything ≡ K = ap (λ F. content F everything) (thin-spelled K leanK) ∙ closedK.closed in
@@ -92,16 +88,28 @@ agree-contents K L k l =
       λ h. agree-both _ _ K L eK eL (AgreeLean-to (read_back (spelled_out K)) (read_back (spelled_out L)) fontK fontL h),
     )
 
+pub agree-contents : (K L : Content) → Arises lean_format K → Arises lean_format L
+    → (Agree K L → AgreeLean (read_back (spelled_out K)) (read_back (spelled_out L))) × (AgreeLean (read_back (spelled_out K)) (read_back (spelled_out L)) → Agree K L)
+agree-contents K L k l =
+    agree-lean K L (IsClosed-arises lean_format lean_format-is.is_font K k) (IsClosed-arises lean_format lean_format-is.is_font L l) (IsLean-arises K k) (IsLean-arises L l)
+
 -- and of what is written of both
+pub union-lean : (K L : Content) → IsLean K → Agree K L
+    → ((spelled_out (both K L)).map ≡ united (spelled_out K).map (spelled_out L).map) × ((spelled_out (both K L)).outline ≡ union_of (spelled_out K).outline (spelled_out L).outline)
+    × ((slot : ℕ) → slot ≢ HMTX → slot ≢ VMTX → (spelled_out (both K L)).copied slot ≡ (spelled_out K).copied slot)
+    × ((spelled_out (both K L)).copied HMTX ≡ option_map (λ t. either_bytes t (table_in_slot (spelled_out L).copied HMTX)) ((spelled_out K).copied HMTX))
+    × ((spelled_out (both K L)).copied VMTX ≡ option_map (λ t. either_bytes t (table_in_slot (spelled_out L).copied VMTX)) ((spelled_out K).copied VMTX))
+union-lean K L lean agree = (
+  refl,
+  outline-both K L,
+  λ slot a b. let e = ne_eqb slot HMTX a in let h = ne_eqb slot VMTX b in spelled_copied-other (both K L) slot e h ∙ sym (spelled_copied-other K slot e h),
+  hmtx-both K L agree lean,
+  vmtx-both K L agree lean,
+)
+
 pub union-is : (K L : Content) → Arises lean_format K → Agree K L
     → ((spelled_out (both K L)).map ≡ united (spelled_out K).map (spelled_out L).map) × ((spelled_out (both K L)).outline ≡ union_of (spelled_out K).outline (spelled_out L).outline)
     × ((slot : ℕ) → slot ≢ HMTX → slot ≢ VMTX → (spelled_out (both K L)).copied slot ≡ (spelled_out K).copied slot)
     × ((spelled_out (both K L)).copied HMTX ≡ option_map (λ t. either_bytes t (table_in_slot (spelled_out L).copied HMTX)) ((spelled_out K).copied HMTX))
     × ((spelled_out (both K L)).copied VMTX ≡ option_map (λ t. either_bytes t (table_in_slot (spelled_out L).copied VMTX)) ((spelled_out K).copied VMTX))
-union-is K L k agree = (
-  refl,
-  outline-both K L,
-  λ slot a b. let e = ne_eqb slot HMTX a in let h = ne_eqb slot VMTX b in spelled_copied-other (both K L) slot e h ∙ sym (spelled_copied-other K slot e h),
-  hmtx-both K L agree (IsLean-arises K k),
-  vmtx-both K L agree (IsLean-arises K k),
-)
+union-is K L k agree = union-lean K L (IsLean-arises K k) agree

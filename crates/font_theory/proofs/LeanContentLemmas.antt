@@ -10,13 +10,13 @@ use Rattle.font_glyph.specs.Reach.{IsComponentOf}
 use Rattle.font_glyph.specs.Record.{IsRecord}
 use Rattle.font_glyph.specs.Union.{record_in}
 use Rattle.font_theory.specs.Bytes.{padded}
-use Rattle.font_theory.specs.Content.{Content, Font, IsClosedContent, IsFont, content, everything, glyph_count, is_kept, read_back}
+use Rattle.font_theory.specs.Content.{Content, Font, IsClosedContent, IsFont, content, everything, glyph_count, is_kept, is_root, read_back}
 use Rattle.font_theory.specs.Join.{Agree, both}
-use Rattle.font_theory.specs.Lean.{metrics_at, spelled_out, stripped, thin, thin_copied, with_metrics}
+use Rattle.font_theory.specs.Lean.{metrics_at, spelled_copied, spelled_out, stripped, thin, thin_copied, with_metrics}
 use Rattle.font_theory.proofs.ContentLemmas.{content-path}
 use Rattle.font_theory.proofs.JoinLemmas.{both-outline}
 use Rattle.font_theory.proofs.HeldLemmas.{outline_is}
-use Rattle.font_theory.proofs.LeanCopiedLemmas.{glyph_count-alike, AreAlike-thin, thin_copied-thin_copied}
+use Rattle.font_theory.proofs.LeanCopiedLemmas.{glyph_count-alike, is_root-alike, AreAlike-spelled, AreAlike-thin, thin_copied-thin_copied}
 use Rattle.font_theory.proofs.LeanLemmas.{IsFont-spelled, IsLean, length-metrics_at, metrics_from, metrics_from-none, metrics_from-some, read_record}
 use Rattle.font_theory.proofs.LeanRecordLemmas.{component-with_metrics, padded-with_metrics, stripped-nil, stripped-with_metrics, with_metrics-cases, component-outline, with_metrics-padded, zeros}
 use Rattle.font_theory.proofs.PaddedLemmas.{IsRecord-nil, IsRecord-padded, length-padded, padded-nil, padded-same}
@@ -168,12 +168,15 @@ module _ (K : Content) (ok : IsClosedContent K) (lean : IsLean K) where
             subst (λ (b : List ℕ). IsComponentOf b h) (sym (ap stripped none ∙ stripped-nil ∙ sym none)) c
       ]
 
+  roots-spelled : (m : ℕ → ℕ) → is_root (spelled_copied K) m ≡ is_root K.copied m
+  roots-spelled = is_root-alike K.copied (spelled_copied K) (AreAlike-spelled K)
+
   kept-spelled : (g : ℕ) → is_kept (read_back (spelled_out K)) everything g ≡ is_kept (read_back K) everything g
   kept-spelled g =
       same_from_decides {P = IsKept (read_back K) everything g} _ _
       (Decides-like _
-      (Reach-along _ _ _ _ (λ _ h. h) (λ s h r c. names_more s h (subst (λ (b : List ℕ). IsComponentOf b h) (spelled s) c)) g)
-      (Reach-along _ _ _ _ (λ _ h. h) (λ s h r c. subst (λ (b : List ℕ). IsComponentOf b h) (sym (spelled s)) (names_less s h c)) g)
+      (Reach-along _ _ _ _ (λ x h. subst (λ (p : ℕ → Bool). p x ≡ true) (roots-spelled K.map) h) (λ s h r c. names_more s h (subst (λ (b : List ℕ). IsComponentOf b h) (spelled s) c)) g)
+      (Reach-along _ _ _ _ (λ x h. subst (λ (p : ℕ → Bool). p x ≡ true) (sym (roots-spelled K.map)) h) (λ s h r c. subst (λ (b : List ℕ). IsComponentOf b h) (sym (spelled s)) (names_less s h c)) g)
       (is_kept-decides (read_back (spelled_out K)) everything fontS g))
       (is_kept-decides (read_back K) everything ok.font g)
 

@@ -8,10 +8,14 @@ use Rattle.font_tables.specs.Fields.{num_glyphs, number_of_h_metrics}
 use Rattle.font_tables.specs.Refusals.{is_bad_head, is_bad_hhea, is_bad_hmtx, is_bad_maxp}
 use Rattle.font_glyph.specs.Record.{IsRecord}
 use Rattle.font_theory.specs.Bytes.{bytes32, cut_head}
-use Rattle.font_theory.specs.Content.{Content, Font, IsFont, content, glyph_count, is_made, metric_count, table_in_slot}
+use Rattle.font_theory.specs.Content.{Content, Font, IsFont, IsPlain, content, glyph_count, is_made, is_root, links_in, metric_count, table_in_slot}
 use Rattle.font_theory.specs.Lean.{blank, laid, pairs_in, spelled_copied, thin, thin_copied, thin_post}
+use Rattle.font_theory.proofs.FontLemmas.{never-made}
+use Rattle.font_theory.proofs.LinkLemmas.{is_bad_layout_in-same, layout-made, links_in-same}
+use Rattle.font_theory.specs.Links.{fixed}
+use Rattle.font_theory.proofs.RootLemmas.{is_root-same}
 use Rattle.font_theory.proofs.LeanEntryLemmas.{AreThere, blank-blank, blank-laid, length-blank, length-laid}
-use Rattle.sfnt_bytes.specs.declared.tag.TheConstants.{HHEA, HMTX, MAXP, POST, VHEA, VMTX}
+use Rattle.sfnt_bytes.specs.declared.tag.TheConstants.{GSUB, HHEA, HMTX, MAXP, POST, VHEA, VMTX}
 
 abbrev Tables : Type 0
 Tables = ℕ → Option (List ℕ)
@@ -60,6 +64,19 @@ module _ (c d : Tables) (alike : AreAlike c d) where
   pairs_in-down = λ i. cond (is_bad_hhea (alike.vhea i) (glyph_count-alike i)
       || nat_lt (alike.vmtx i) (4 * number_of_h_metrics (alike.vhea i) + 2 * (glyph_count-alike i - number_of_h_metrics (alike.vhea i)))) 0 (number_of_h_metrics (alike.vhea i))
 
+  -- no table of layout is touched
+  pub gsub-alike : table_in_slot d GSUB ≡ table_in_slot c GSUB
+  gsub-alike = ap (λ (o : Option (List ℕ)). unwrap_or o []) (alike.made GSUB refl)
+
+  links_in-alike : links_in d ≡ links_in c
+  links_in-alike = links_in-same c d gsub-alike
+
+  pub is_root-alike : (m : ℕ → ℕ) → is_root d m ≡ is_root c m
+  is_root-alike m = is_root-same c d m links_in-alike glyph_count-alike
+
+  pub IsPlain-alike : IsPlain c → IsPlain d
+  IsPlain-alike plain slot made = alike.made slot made ∙ plain slot made
+
 -- a font with such tables, and records
 pub IsFont-alike : (F G : Font) → IsFont F → G.head ≡ F.head → G.map ≡ F.map → AreAlike F.copied G.copied → ((g : ℕ) → IsRecord (glyph_count F.copied) (G.outline g)) → IsFont G
 IsFont-alike F G ok head map alike records =
@@ -69,12 +86,14 @@ IsFont-alike F G ok head map alike records =
       mapped_below = λ c. subst (λ (m : ℕ → ℕ). m c < glyph_count G.copied) (sym map) (subst (λ (x : ℕ). F.map c < x) (sym n) (ok.mapped_below c));
       mapped_codes = λ c past. ap (λ (m : ℕ → ℕ). m c) map ∙ ok.mapped_codes c past;
       records = λ g. subst (λ (x : ℕ). IsRecord x (G.outline g)) (sym n) (records g);
-      slots = λ slot made. alike.made slot made ∙ ok.slots slot made;
+      slots = λ slot never. alike.made slot (never-made slot never) ∙ ok.slots slot never;
       head_form = subst (λ (h : List ℕ). cut_head h ≡ h) (sym head) ok.head_form;
       head = ap is_bad_head head ∙ ok.head;
       maxp = ap is_bad_maxp alike.maxp ∙ ok.maxp;
       hhea = (λ i. is_bad_hhea (alike.hhea i) (n i)) ∙ ok.hhea;
       hmtx = (λ i. nat_lt (alike.hmtx i) (4 * k i + 2 * (n i - k i))) ∙ ok.hmtx;
+      readable = is_bad_layout_in-same F.copied G.copied (gsub-alike F.copied G.copied alike) ∙ ok.readable;
+      fixed = λ slot h. let same = alike.made slot (layout-made slot h) in ap (option_map (fixed slot)) same ∙ ok.fixed slot h ∙ sym same;
     }
 
 -- a table that may be missing

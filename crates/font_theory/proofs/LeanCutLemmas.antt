@@ -9,8 +9,10 @@ use Rattle.font_glyph.specs.Reach.{IsComponentOf}
 use Rattle.font_glyph.specs.Record.{IsRecord}
 use Rattle.font_glyph.specs.Union.{record_in}
 use Rattle.font_theory.specs.Bytes.{padded}
-use Rattle.font_theory.specs.Content.{Font, IsFont, content, glyph_count, is_kept}
+use Rattle.font_theory.specs.Content.{Font, IsFont, content, glyph_count, is_kept, is_root}
 use Rattle.font_theory.specs.Lean.{metrics_at, spelled_copied, spelled_out, stripped, thin, thin_copied, with_metrics}
+use Rattle.codes.specs.CharacterMap.{restricted}
+use Rattle.font_theory.proofs.LeanCopiedLemmas.{AreAlike-thin, is_root-alike}
 use Rattle.font_theory.proofs.LeanContentLemmas.{thin_count}
 use Rattle.font_theory.proofs.LeanLemmas.{IsFont-thin, length-metrics_at, metrics_at-spelled, metrics_from, metrics_from-none, metrics_from-some}
 use Rattle.font_theory.proofs.LeanRecordLemmas.{component-with_metrics, padded-with_metrics, same-with_metrics, with_metrics-same, stripped-with_metrics, with_metrics-cases, component-outline, zeros}
@@ -29,13 +31,18 @@ module _ (F : Font) (ok : IsFont F) where
   pub below : (A : ℕ → Bool) (g : ℕ) → IsKept (thin F) A g → g < n
   below A g r = subst (λ (k : ℕ). g < k) (thin_count F A ok) (IsKept-below (thin F) A (IsFont-thin F ok) g r)
 
+  roots-thin : (k : ℕ → ℕ) → is_root (thin_copied F.copied) k ≡ is_root F.copied k
+  roots-thin = is_root-alike F.copied (thin_copied F.copied) (AreAlike-thin F.copied)
+
   -- the same glyphs are kept
   pub is_kept-thin : (A : ℕ → Bool) (g : ℕ) → is_kept (thin F) A g ≡ is_kept F A g
   is_kept-thin A g =
       same_from_decides {P = IsKept F A g} _ _
       (Decides-like _
-      (Reach-along _ _ _ _ (λ _ h. h) (λ s h r c. component-outline n (F.outline s) (m s) h (length-metrics_at F.copied s) (ok.records s) (subst (λ (b : List ℕ). IsComponentOf b h) (outline-thin s (below A s r)) c)) g)
-      (Reach-along _ _ _ _ (λ _ h. h) (λ s h r c. subst (λ (b : List ℕ). IsComponentOf b h) (sym (outline-thin s (IsKept-below F A ok s r))) (component-with_metrics (F.outline s) (m s) h (length-metrics_at F.copied s) c)) g)
+      (Reach-along _ _ _ _ (λ x h. subst (λ (p : ℕ → Bool). p x ≡ true) (roots-thin (restricted A F.map)) h)
+      (λ s h r c. component-outline n (F.outline s) (m s) h (length-metrics_at F.copied s) (ok.records s) (subst (λ (b : List ℕ). IsComponentOf b h) (outline-thin s (below A s r)) c)) g)
+      (Reach-along _ _ _ _ (λ x h. subst (λ (p : ℕ → Bool). p x ≡ true) (sym (roots-thin (restricted A F.map))) h)
+      (λ s h r c. subst (λ (b : List ℕ). IsComponentOf b h) (sym (outline-thin s (IsKept-below F A ok s r))) (component-with_metrics (F.outline s) (m s) h (length-metrics_at F.copied s) c)) g)
       (is_kept-decides (thin F) A (IsFont-thin F ok) g))
       (is_kept-decides F A ok g)
 

@@ -29,7 +29,7 @@ use Rattle.font_glyph.specs.Union.{union_of}
 use Rattle.font_theory.proofs.LeanCopiedLemmas.{spelled_copied-other}
 use Rattle.font_theory.proofs.LeanContentLemmas.{IsClosed-spelled, IsLean-content}
 use Rattle.font_theory.proofs.LeanCutLemmas.{is_kept-thin, outline-lean, outline-thin, below}
-use Rattle.font_theory.proofs.LeanFormatLemmas.{IsLean-arises, lean_format-is, reads-spelled}
+use Rattle.font_theory.proofs.LeanFormatLemmas.{IsLean-arises, IsPlain-thin, lean_format-is, reads-spelled}
 use Rattle.font_theory.proofs.LeanLemmas.{IsFont-thin, IsLean}
 use Rattle.font_theory.proofs.LeanMetricLemmas.{glyph_count-lean}
 use Rattle.font_theory.proofs.LeanRecordLemmas.{with_metrics-padded}
@@ -56,7 +56,7 @@ module _ (font : List ℕ) (wanted : ℕ → Bool) (accepted : font_fault font �
 
   -- a lean cut is accepted, and what is spelled of the lean content is read of it
   pub font_of-lean_cut : (made : List ℕ) → made ≡ cut lean_format font wanted → length made ≤ MAX_FILE → (font_fault made ≡ None) × (font_of made ≡ read_back (spelled_out lean_content))
-  font_of-lean_cut made is small = reads-spelled lean_content made closed (IsLean-content (font_of font) wanted ok) (sym (is ∙ cut-lean_file)) small
+  font_of-lean_cut made is small = reads-spelled lean_content made closed (IsPlain-thin font) (IsLean-content (font_of font) wanted ok) (sym (is ∙ cut-lean_file)) small
 
   -- nothing is found in it
   pub findings_of-lean : (made : List ℕ) → made ≡ cut lean_format font wanted → findings_of made ≡ []
@@ -127,7 +127,7 @@ IsCurrent-full X writing =
     let ok = IsFont-accepted X accepted in
     let closed = IsClosed-content (thin (font_of X)) everything (IsFont-thin (font_of X) ok) in
     let lean = IsLean-content (font_of X) everything ok in
-    let read = reads-spelled K X closed lean writing.written (size-accepted X accepted) in
+    let read = reads-spelled K X closed (IsPlain-thin X) lean writing.written (size-accepted X accepted) in
     record {
       accepted = accepted;
       written = ap (λ G. file current_writing (content G everything)) read.1 ∙ ap (file current_writing) (IsClosed-spelled K closed lean).closed ∙ writing.written;
@@ -145,7 +145,7 @@ read-current X writing =
     let ok = IsFont-accepted X accepted in
     let K : Content = content (thin (font_of X)) everything in
     let lean = IsLean-content (font_of X) everything ok in
-    ((reads-spelled K X (IsClosed-content (thin (font_of X)) everything (IsFont-thin (font_of X) ok)) lean writing.written (size-accepted X accepted)).1, lean)
+    ((reads-spelled K X (IsClosed-content (thin (font_of X)) everything (IsFont-thin (font_of X) ok)) (IsPlain-thin X) lean writing.written (size-accepted X accepted)).1, lean)
 
 -- `hmtx` and `vmtx` of a join of lean cuts: those of both, byte by byte
 pub tables-joined : (X Y : List ℕ) → IsCurrent lean_format X → IsCurrent lean_format Y → Agree (content_of_all lean_format X) (content_of_all lean_format Y)

@@ -139,7 +139,7 @@ some-font F ok =
     subst (λ (x : ℕ). 0 < x) (sym e) some
 
 -- the metric of a glyph of a file, in the words of its tables
-metric_of-tables : (file : List ℕ) (g : ℕ) → metric_of file g ≡ metric_in (table_in_slot (font_of file).copied HMTX) (metric_count (font_of file).copied) g
+pub metric_of-tables : (file : List ℕ) (g : ℕ) → metric_of file g ≡ metric_in (table_in_slot (font_of file).copied HMTX) (metric_count (font_of file).copied) g
 unfolding metric_of
 metric_of-tables file g = λ i. metric_in (sym (hmtx-slot file) i) (sym (metric_count-file file) i) g
 

@@ -19,6 +19,13 @@ pub mod GrownLemmas
 pub mod HeadTableLemmas
 pub mod HeldLemmas
 pub mod JoinLemmas
+pub mod LeanedLemmas
+pub mod LinkLemmas
+pub mod RootLemmas
+pub mod LayoutCutLemmas
+pub mod LayoutFileLemmas
+pub mod LayoutJoinLemmas
+pub mod LayoutLeanLemmas
 pub mod LeanAgreeLemmas
 pub mod LeanContentLemmas
 pub mod LeanCopiedLemmas

@@ -8,7 +8,8 @@ use Rattle.sfnt_bytes.specs.Findings.{padding_of}
 use Rattle.sfnt_bytes.specs.Lines.{said_lines}
 use Rattle.font_theory.specs.Bytes.{padded}
 use Rattle.font_theory.specs.Content.{Content, IsWritable, glyph_count}
-use Rattle.font_theory.specs.File.{Writing, adjustment_in, bodies_of, bytes_in_slot, cmap_bytes, file, glyf_bytes, groups_of_content, loca_bytes, outlines_from, outlines_of, padded_length, size_of, table_in, tables_from}
+use Rattle.font_theory.specs.File.{Writing, adjustment_in, bodies_of, bytes_in_slot, cmap_bytes, file, glyf_bytes, groups_of_content, loca_bytes, outlines_from, outlines_of, padded_length, size_of, table_at_place, tables_from}
+use Rattle.sfnt_bytes.specs.Directory.{slot_at}
 use Rattle.font_theory.proofs.AdjustmentLemmas.{length-with_adjustment}
 use Rattle.font_theory.proofs.CmapLemmas.{length-cmap_bytes}
 use Rattle.font_theory.proofs.MeaningLemmas.{file-is, last_head, last_tables}
@@ -45,19 +46,19 @@ length-said_lines-total f k (suc n) = step (f k) (map f (range_with_len (k + 1) 
     step (Some b) rest = omega arith
 
 module _ (writing : Writing) (K : Content) (head : List ℕ) where
-  length-tables : (k n : ℕ) → length (tables_from writing K head k n) ≡ total (λ slot. one_of (bytes_in_slot writing K head slot)) k n
+  length-tables : (k n : ℕ) → length (tables_from writing K head k n) ≡ total (λ place. one_of (bytes_in_slot writing K head (slot_at place))) k n
   length-tables k zero = refl
-  length-tables k (suc n) = step (bytes_in_slot writing K head k) ∙ ap (λ (x : ℕ). one_of (bytes_in_slot writing K head k) + x) (length-tables (k + 1) n)
+  length-tables k (suc n) = step (bytes_in_slot writing K head (slot_at k)) ∙ ap (λ (x : ℕ). one_of (bytes_in_slot writing K head (slot_at k)) + x) (length-tables (k + 1) n)
     where
-      step : (o : Option (List ℕ)) → length (said_lines (option_map (table_with k) o ∷ map (table_in writing K head) (range_with_len (k + 1) n))) ≡ one_of o + length (tables_from writing K head (k + 1) n)
+      step : (o : Option (List ℕ)) → length (said_lines (option_map (table_with (slot_at k)) o ∷ map (table_at_place writing K head) (range_with_len (k + 1) n))) ≡ one_of o + length (tables_from writing K head (k + 1) n)
       step None = omega arith
       step (Some b) = omega arith
 
-  length-bodies : (k n : ℕ) → length (bodies_of (tables_from writing K head k n)) ≡ total (λ slot. padded_length (bytes_in_slot writing K head slot)) k n
+  length-bodies : (k n : ℕ) → length (bodies_of (tables_from writing K head k n)) ≡ total (λ place. padded_length (bytes_in_slot writing K head (slot_at place))) k n
   length-bodies k zero = refl
-  length-bodies k (suc n) = step (bytes_in_slot writing K head k) ∙ ap (λ (x : ℕ). padded_length (bytes_in_slot writing K head k) + x) (length-bodies (k + 1) n)
+  length-bodies k (suc n) = step (bytes_in_slot writing K head (slot_at k)) ∙ ap (λ (x : ℕ). padded_length (bytes_in_slot writing K head (slot_at k)) + x) (length-bodies (k + 1) n)
     where
-      step : (o : Option (List ℕ)) → length (bodies_of (said_lines (option_map (table_with k) o ∷ map (table_in writing K head) (range_with_len (k + 1) n)))) ≡ padded_length o + length (bodies_of (tables_from writing K head (k + 1) n))
+      step : (o : Option (List ℕ)) → length (bodies_of (said_lines (option_map (table_with (slot_at k)) o ∷ map (table_at_place writing K head) (range_with_len (k + 1) n)))) ≡ padded_length o + length (bodies_of (tables_from writing K head (k + 1) n))
       step None = omega arith
       step (Some b) = length-append (padded b) (bodies_of (tables_from writing K head (k + 1) n))
 
@@ -65,7 +66,7 @@ module _ (writing : Writing) (K : Content) (head : List ℕ) where
 abbrev extra : ℕ → ℕ → ℕ → ℕ → ℕ → ℕ
 extra a b c d slot = cond (nat_eq slot 1) a (cond (nat_eq slot 5) b (cond (nat_eq slot 6) c (cond (nat_eq slot 9) d 0)))
 
-total-extra : (a b c d : ℕ) → total (extra a b c d) 0 16 ≡ a + b + c + d
+total-extra : (a b c d : ℕ) → total (extra a b c d) 0 21 ≡ a + b + c + d
 total-extra a b c d = omega arith
 
 -- a measure of a slot is that of the copied table, or of one of the four
@@ -98,33 +99,39 @@ is_measured writing K head m slot ok none =
       ]
     ]
 
+-- the places have all slots
+total-places : (h : ℕ → ℕ) → total (λ place. h (slot_at place)) 0 21 ≡ total h 0 21
+unfolding slot_at
+total-places h = omega arith
+
 -- all slots
 total-slots : (writing : Writing) (K : Content) (head : List ℕ) (m : Option (List ℕ) → ℕ) → IsWritable K → m None ≡ 0
-    → total (λ slot. m (bytes_in_slot writing K head slot)) 0 16
-    ≡ total (λ slot. m (K.copied slot)) 0 16 + (m (Some (cmap_bytes writing (groups_of_content K))) + m (Some (glyf_bytes writing (outlines_of K))) + m (Some head) + m (Some (loca_bytes (outlines_of K))))
+    → total (λ place. m (bytes_in_slot writing K head (slot_at place))) 0 21
+    ≡ total (λ slot. m (K.copied slot)) 0 21 + (m (Some (cmap_bytes writing (groups_of_content K))) + m (Some (glyf_bytes writing (outlines_of K))) + m (Some head) + m (Some (loca_bytes (outlines_of K))))
 total-slots writing K head m ok none =
     let a = m (Some (cmap_bytes writing (groups_of_content K))) in
     let b = m (Some (glyf_bytes writing (outlines_of K))) in
     let c = m (Some head) in
     let d = m (Some (loca_bytes (outlines_of K))) in
-    total-add (λ slot. m (bytes_in_slot writing K head slot)) (λ slot. m (K.copied slot)) (extra a b c d) 0 16 (λ slot. is_measured writing K head m slot ok none)
-    ∙ ap (λ (n : ℕ). total (λ slot. m (K.copied slot)) 0 16 + n) (total-extra a b c d)
+    total-places (λ slot. m (bytes_in_slot writing K head slot))
+    ∙ total-add (λ slot. m (bytes_in_slot writing K head slot)) (λ slot. m (K.copied slot)) (extra a b c d) 0 21 (λ slot. is_measured writing K head m slot ok none)
+    ∙ ap (λ (n : ℕ). total (λ slot. m (K.copied slot)) 0 21 + n) (total-extra a b c d)
 
 -- how many tables are written
-pub length-last_tables : (writing : Writing) (K : Content) → IsWritable K → length (last_tables writing K) ≡ 4 + length (said_lines (map K.copied (range_with_len 0 16)))
+pub length-last_tables : (writing : Writing) (K : Content) → IsWritable K → length (last_tables writing K) ≡ 4 + length (said_lines (map K.copied (range_with_len 0 21)))
 length-last_tables writing K ok =
-    let all = length-tables writing K (last_head writing K) 0 16 in
-    let copied = length-said_lines-total K.copied 0 16 in
+    let all = length-tables writing K (last_head writing K) 0 21 in
+    let copied = length-said_lines-total K.copied 0 21 in
     let parts = total-slots writing K (last_head writing K) one_of ok refl in
     omega (arith, all, copied, parts)
 
 pub length-last_bodies : (writing : Writing) (K : Content) → IsWritable K → length (bodies_of (last_tables writing K))
-    ≡ sum (map (λ slot. padded_length (K.copied slot)) (range_with_len 0 16))
+    ≡ sum (map (λ slot. padded_length (K.copied slot)) (range_with_len 0 21))
     + (length (padded (cmap_bytes writing (groups_of_content K))) + length (padded (glyf_bytes writing (outlines_of K))) + length (padded K.head) + length (padded (loca_bytes (outlines_of K))))
 length-last_bodies writing K ok =
     let long = ok.head_size in
-    let all = length-bodies writing K (last_head writing K) 0 16 in
-    let copied = sum-map (λ slot. padded_length (K.copied slot)) 0 16 in
+    let all = length-bodies writing K (last_head writing K) 0 21 in
+    let copied = sum-map (λ slot. padded_length (K.copied slot)) 0 21 in
     let parts = total-slots writing K (last_head writing K) padded_length ok refl in
     let same = length-with_adjustment (adjustment_in writing K) K.head (omega arith) in
     let head : length (padded (last_head writing K)) ≡ length (padded K.head) =

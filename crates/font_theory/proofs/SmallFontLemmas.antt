@@ -29,10 +29,12 @@ use Rattle.font_file.specs.Font.{cmap_of, font_fault, is_bad_glyph, is_record}
 use Rattle.font_file.specs.declared.font_error.FontError.TheVariants.{Directory, Mapping, Tables}
 use Rattle.font_file.proofs.FontLemmas.{font_fault_is, glyph_fault}
 use Rattle.font_theory.specs.Bytes.{bytes16, cut_head, padded}
-use Rattle.font_theory.specs.Content.{Content, Font, IsFont, content, font_of, is_kept, is_made, is_seed}
+use Rattle.font_theory.specs.Content.{Content, Font, IsFont, content, font_of, is_kept, is_made, is_root, is_seed}
+use Rattle.font_theory.proofs.LinkLemmas.{links_in-none}
+use Rattle.font_theory.proofs.RootLemmas.{is_root-alone}
 use Rattle.font_theory.specs.WorkedFiles.{of_words}
 use Rattle.font_theory.proofs.FontLemmas.{IsFont-accepted}
-use Rattle.font_theory.proofs.WantedLemmas.{IsKept, is_kept-decides, is_seed-code, is_seed-tells, is_seed-zero, restricted-past}
+use Rattle.font_theory.proofs.WantedLemmas.{IsKept, is_kept-decides, is_seed-code, is_seed-tells, is_seed-zero, restricted-past, seeds-below, seeds-roots}
 
 -- the bytes of numbers of 16 bits
 abbrev of_halves : List ℕ → List ℕ
@@ -160,16 +162,26 @@ component_of-small s g low h = cases s low (there ∙ (names_decides (font.outli
         ]
     cases (suc (suc (suc (suc k)))) l e = absurd (omega arith)
 
+-- it has no `GSUB`, and so no links
+roots_are : (wanted : ℕ → Bool) → is_root font.copied (restricted wanted font.map) ≡ is_seed (restricted wanted font.map)
+roots_are wanted = is_root-alone font.copied (restricted wanted font.map) (links_in-none font.copied refl) (seeds-below font wanted is_font)
+
+first : (wanted : ℕ → Bool) (g : ℕ) → is_seed (restricted wanted font.map) g ≡ true → IsKept font wanted g
+first wanted g h = seed (seeds-roots font wanted is_font g h)
+
 -- what is kept are the glyphs below a number, where seeds and components stay below it and each of them is
 -- reached
 kept_below : (wanted : ℕ → Bool) (n : ℕ) → ((g : ℕ) → is_seed (restricted wanted font.map) g ≡ true → g < n) → ((s g : ℕ) → s < n → IsComponentOf (font.outline s) g → g < n)
     → ((g : ℕ) → g < n → IsKept font wanted g) → (g : ℕ) → is_kept font wanted g ≡ nat_lt g n
 kept_below wanted n seeds parts back g =
     same_from_decides {P = IsKept font wanted g} (is_kept font wanted g) (nat_lt g n) (is_kept-decides font wanted is_font g)
-    ((λ t. back g (ltb-true g n t)), (λ r. Reach-within font.outline (is_seed (restricted wanted font.map)) (λ h. nat_lt h n) closed g r))
+    ((λ t. back g (ltb-true g n t)), (λ r. Reach-within font.outline (is_root font.copied (restricted wanted font.map)) (λ h. nat_lt h n) closed g r))
   where
-    closed : IsClosed font.outline (is_seed (restricted wanted font.map)) (λ h. nat_lt h n ≡ true)
-    closed = record { has_seeds = λ h e. lt-ltb h n (seeds h e); has_parts = λ s h e c. lt-ltb h n (parts s h (ltb-true s n e) c) }
+    closed : IsClosed font.outline (is_root font.copied (restricted wanted font.map)) (λ h. nat_lt h n ≡ true)
+    closed = record {
+      has_seeds = λ h e. lt-ltb h n (seeds h (subst (λ (p : ℕ → Bool). p h ≡ true) (roots_are wanted) e));
+      has_parts = λ s h e c. lt-ltb h n (parts s h (ltb-true s n e) c);
+    }
 
 -- for no code: .notdef alone
 abbrev pub nothing : ℕ → Bool
@@ -185,7 +197,7 @@ nothing_kept g = kept_below nothing 1 seeds parts back g
     parts s h low c = let w = component_of-small s h (omega arith) c in let three : s ≡ 3 = w.0 in absurd (omega arith)
 
     back : (h : ℕ) → h < 1 → IsKept font nothing h
-    back h low = let e : 0 ≡ h = omega arith in subst (IsKept font nothing) e (seed (is_seed-zero (restricted nothing font.map)))
+    back h low = let e : 0 ≡ h = omega arith in subst (IsKept font nothing) e (first nothing 0 (is_seed-zero (restricted nothing font.map)))
 
 -- for 0xC1: its glyph 3, the components 1 and 2 of that, and .notdef
 abbrev pub only_aacute : ℕ → Bool
@@ -227,13 +239,13 @@ aacute_kept g = kept_below only_aacute 4 seeds parts back g
     parts s h low c = let w = component_of-small s h low c in elim w.1 [ inl one ↦ omega arith | inr two ↦ omega arith ]
 
     third : IsKept font only_aacute 3
-    third = seed (subst (λ (k : ℕ). is_seed aacute_map k ≡ true) three (is_seed-code aacute_map (restricted-past font only_aacute is_font) 0xC1))
+    third = first only_aacute 3 (subst (λ (k : ℕ). is_seed aacute_map k ≡ true) three (is_seed-code aacute_map (restricted-past font only_aacute is_font) 0xC1))
 
     named : (h : ℕ) → (nat_eq 1 h || (nat_eq 2 h || false)) ≡ true → IsKept font only_aacute h
     named h e = part third ((names_decides (font.outline 3) h).0 (ap (λ (l : List Bool). get_or l 3 false) (named_listed h) ∙ e))
 
     back : (h : ℕ) → h < 4 → IsKept font only_aacute h
-    back zero low = seed (is_seed-zero aacute_map)
+    back zero low = first only_aacute 0 (is_seed-zero aacute_map)
     back (suc zero) low = named 1 refl
     back (suc (suc zero)) low = named 2 refl
     back (suc (suc (suc zero))) low = third

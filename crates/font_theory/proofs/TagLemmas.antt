@@ -1,31 +1,57 @@
--- The kept tags: four bytes each, ascending, and no two the same.
-use Rattle.std.proofs.Common.{◌≡◌, ℕ, suc, ◌+◌, ◌*◌, ◌/◌, ◌%◌, ◌<◌, true, codes, eqb, ltb, length, refl, sym, ◌∙◌, arith}
-use Rattle.std.proofs.lemmas.Bool.{agree_below_at, eqb-true, ltb-true}
-use Rattle.sfnt_bytes.specs.Directory.{kept_tag}
+-- The tags of slots: four bytes each, ascending by place, and no two the same.
+use Rattle.std.proofs.Common.{◌≡◌, ℕ, suc, ◌+◌, ◌-◌, ◌*◌, ◌/◌, ◌%◌, ◌<◌, true, cond, codes, eqb, ltb, nat_lt, length, refl, sym, ◌∙◌, arith}
+use Rattle.std.proofs.lemmas.Bool.{agree_below_at, eqb-true, lt-ltb, ltb-true}
+use Rattle.sfnt_bytes.specs.Directory.{kept_tag, slot_at, slot_tag}
+use Rattle.sfnt_bytes.specs.declared.tag.Tag.{Tag}
 use Rattle.sfnt_bytes.specs.Tag.{same_tag, tag_number}
 use Rattle.sfnt_bytes.specs.Number.{u32_at}
 use Rattle.font_tables.specs.Tables.{named}
 
-pub length-kept_tag : (slot : ℕ) → slot < 16 → length (kept_tag slot).0 ≡ 4
-unfolding kept_tag
-length-kept_tag slot low = eqb-true _ 4 (agree_below_at (λ i. eqb (length (kept_tag i).0) 4) (λ _. true) 16 slot refl low)
+-- the tag of the slot at a place
+abbrev pub place_tag : ℕ → Tag
+place_tag place = slot_tag (slot_at place)
 
-pub kept_tag-ascends : (slot : ℕ) → suc slot < 16 → tag_number (kept_tag slot) < tag_number (kept_tag (suc slot))
-unfolding kept_tag u32_at
-kept_tag-ascends slot low = ltb-true _ _ (agree_below_at (λ i. ltb (tag_number (kept_tag i)) (tag_number (kept_tag (suc i)))) (λ _. true) 15 slot refl (omega arith))
+pub length-place_tag : (place : ℕ) → place < 21 → length (place_tag place).0 ≡ 4
+unfolding kept_tag slot_at slot_tag
+length-place_tag place low = eqb-true _ 4 (agree_below_at (λ i. eqb (length (place_tag i).0) 4) (λ _. true) 21 place refl low)
 
-pub same_tag-head : (slot : ℕ) → slot < 16 → same_tag (kept_tag slot) (named (codes "head")) ≡ eqb slot 6
-unfolding kept_tag
-same_tag-head slot low = agree_below_at (λ i. same_tag (kept_tag i) (named (codes "head"))) (λ i. eqb i 6) 16 slot refl low
+pub place_tag-ascends : (place : ℕ) → suc place < 21 → tag_number (place_tag place) < tag_number (place_tag (suc place))
+unfolding kept_tag slot_at slot_tag u32_at
+place_tag-ascends place low = ltb-true _ _ (agree_below_at (λ i. ltb (tag_number (place_tag i)) (tag_number (place_tag (suc i)))) (λ _. true) 20 place refl (omega arith))
 
--- two slots in one number
-pair_same : (pair : ℕ) → pair < 256 → same_tag (kept_tag (pair / 16)) (kept_tag (pair % 16)) ≡ eqb (pair / 16) (pair % 16)
-unfolding kept_tag
-pair_same pair low = agree_below_at (λ i. same_tag (kept_tag (i / 16)) (kept_tag (i % 16))) (λ i. eqb (i / 16) (i % 16)) 256 pair refl low
+pub same_tag-head : (place : ℕ) → place < 21 → same_tag (place_tag place) (named (codes "head")) ≡ eqb (slot_at place) 6
+unfolding kept_tag slot_at slot_tag
+same_tag-head place low = agree_below_at (λ i. same_tag (place_tag i) (named (codes "head"))) (λ i. eqb (slot_at i) 6) 21 place refl low
 
-pub same_tag-kept : (slot other : ℕ) → slot < 16 → other < 16 → same_tag (kept_tag slot) (kept_tag other) ≡ eqb slot other
-same_tag-kept slot other low below =
-    let pair = 16 * slot + other in
-    let first : pair / 16 ≡ slot = omega arith in
-    let second : pair % 16 ≡ other = omega arith in
-    (λ i. same_tag (kept_tag (sym first i)) (kept_tag (sym second i))) ∙ pair_same pair (omega arith) ∙ (λ i. eqb (first i) (second i))
+-- two places in one number
+pair_same : (pair : ℕ) → pair < 441 → same_tag (place_tag (pair / 21)) (place_tag (pair % 21)) ≡ eqb (pair / 21) (pair % 21)
+unfolding kept_tag slot_at slot_tag
+pair_same pair low = agree_below_at (λ i. same_tag (place_tag (i / 21)) (place_tag (i % 21))) (λ i. eqb (i / 21) (i % 21)) 441 pair refl low
+
+pub same_tag-places : (place other : ℕ) → place < 21 → other < 21 → same_tag (place_tag place) (place_tag other) ≡ eqb place other
+same_tag-places place other low below =
+    let pair = 21 * place + other in
+    let first : pair / 21 ≡ place = omega arith in
+    let second : pair % 21 ≡ other = omega arith in
+    (λ i. same_tag (place_tag (sym first i)) (place_tag (sym second i))) ∙ pair_same pair (omega arith) ∙ (λ i. eqb (first i) (second i))
+
+-- `head` stands at one place
+pub slot_at-head : (place : ℕ) → place < 21 → eqb (slot_at place) 6 ≡ eqb place 10
+unfolding slot_at
+slot_at-head place low = agree_below_at (λ i. eqb (slot_at i) 6) (λ i. eqb i 10) 21 place refl low
+
+-- the place of a slot
+abbrev pub place_of : ℕ → ℕ
+place_of slot = cond (nat_lt slot 9) (slot + 4) (cond (nat_lt slot 16) (slot + 5) (cond (nat_lt slot 20) (slot - 16) 13))
+
+pub slot_at-place_of : (slot : ℕ) → slot < 21 → slot_at (place_of slot) ≡ slot
+unfolding slot_at
+slot_at-place_of slot low = eqb-true _ _ (agree_below_at (λ i. eqb (slot_at (place_of i)) i) (λ _. true) 21 slot refl low)
+
+pub place_of-low : (slot : ℕ) → slot < 21 → place_of slot < 21
+place_of-low slot low = ltb-true _ _ (agree_below_at (λ i. ltb (place_of i) 21) (λ _. true) 21 slot refl low)
+
+-- and the tag of a slot of a plain cut
+pub slot_tag-kept : (slot : ℕ) → slot < 16 → slot_tag slot ≡ kept_tag slot
+unfolding slot_tag
+slot_tag-kept slot low = let t = lt-ltb slot 16 low in rw t refl

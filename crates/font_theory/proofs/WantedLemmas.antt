@@ -1,5 +1,5 @@
 -- What a font keeps for wanted codes.
-use Rattle.std.proofs.Common.{◌≡◌, ℕ, ◌<◌, ◌≤◌, Bool, true, false, cond, nat_eq, ◌⊎◌, inl, inr, List, refl, sym, ◌∙◌, subst, arith}
+use Rattle.std.proofs.Common.{◌≡◌, ℕ, ◌<◌, ◌≤◌, Bool, true, false, cond, nat_eq, ◌⊎◌, inl, inr, List, Option, refl, sym, ◌∙◌, subst, arith}
 use Rattle.std.specs.Bool.{Decides}
 use Rattle.std.proofs.lemmas.Bool.{cases_lt, or_cases, or_left, or_right, eqb-true, eq-eqb}
 use Rattle.std.proofs.lemmas.List.Elements.{All-from_recursion, All-contains}
@@ -8,9 +8,11 @@ use Rattle.font_glyph.specs.Reach.{IsComponentOf, Reach}
 use Rattle.font_glyph.specs.Reach.Reach.{seed, part}
 use Rattle.font_glyph.specs.Record.{IsRecord, glyphs_of}
 use Rattle.font_glyph.proofs.ClosureLemmas.{glyphs_small}
-use Rattle.font_glyph.proofs.ReachLemmas.{Reach-below, any_decides, reached_decides}
+use Rattle.font_glyph.proofs.ReachLemmas.{Reach-below, reached_decides}
+use Rattle.font_glyph.proofs.FoundLemmas.{any_decides}
 use Rattle.font_glyph.proofs.RecordLemmas.{IsRecord-list}
-use Rattle.font_theory.specs.Content.{CODES, Font, IsFont, glyph_count, is_kept, is_seed}
+use Rattle.font_theory.specs.Content.{CODES, Font, IsFont, glyph_count, is_kept, is_root, is_seed}
+use Rattle.font_theory.proofs.RootLemmas.{is_root-below, is_root-seed}
 
 -- a seed is glyph 0 or the glyph of some code
 abbrev pub IsSeed : (ℕ → ℕ) → ℕ → Type 0
@@ -49,6 +51,14 @@ is_seed-more m k past less g h =
       ]
     ]
 
+-- the seeds of a map to glyphs below the count are below it
+pub is_seed-below : (copied : ℕ → Option (List ℕ)) (m : ℕ → ℕ) → ((c : ℕ) → m c < glyph_count copied) → (g : ℕ) → is_seed m g ≡ true → g < glyph_count copied
+is_seed-below copied m below g h =
+    elim (is_seed-tells m g h) [
+      | inl e ↦ let b = below 0 in omega arith
+      | inr w ↦ subst (λ (x : ℕ). x < glyph_count copied) w.1 (below w.0)
+    ]
+
 -- more seeds, and records that name no less where something is reached, reach no less
 pub Reach-along : (p q : ℕ → List ℕ) (s t : ℕ → Bool) → ((g : ℕ) → s g ≡ true → t g ≡ true)
     → ((g h : ℕ) → Reach p s g → IsComponentOf (p g) h → IsComponentOf (q g) h) → (g : ℕ) → Reach p s g → Reach q t g
@@ -68,9 +78,9 @@ component-below count b g ok h =
 pub restricted-cases : (wanted : ℕ → Bool) (m : ℕ → ℕ) (P : ℕ → Type 0) (c : ℕ) → P (m c) → P 0 → P (restricted wanted m c)
 restricted-cases wanted m P c x y = elim (wanted c) as (λ b. P (cond b (m c) 0)) [ true ↦ x | false ↦ y ]
 
--- what the glyphs of the wanted codes, and .notdef, lead to
+-- what components lead to from the glyphs that may be shaped for the wanted codes
 abbrev pub IsKept : Font → (ℕ → Bool) → ℕ → Type 0
-IsKept F wanted g = Reach F.outline (is_seed (restricted wanted F.map)) g
+IsKept F wanted g = Reach F.outline (is_root F.copied (restricted wanted F.map)) g
 
 module _ (F : Font) (wanted : ℕ → Bool) (ok : IsFont F) where
   pub restricted-below : (c : ℕ) → restricted wanted F.map c < glyph_count F.copied
@@ -80,18 +90,21 @@ module _ (F : Font) (wanted : ℕ → Bool) (ok : IsFont F) where
   restricted-past c past = restricted-cases wanted F.map (λ g. g ≡ 0) c (ok.mapped_codes c past) refl
 
   pub seeds-below : (g : ℕ) → is_seed (restricted wanted F.map) g ≡ true → g < glyph_count F.copied
-  seeds-below g h =
-      elim (is_seed-tells _ g h) [
-        | inl e ↦ let b = ok.mapped_below 0 in omega arith
-        | inr w ↦ subst (λ (x : ℕ). x < glyph_count F.copied) w.1 (restricted-below w.0)
-      ]
+  seeds-below = is_seed-below F.copied (restricted wanted F.map) restricted-below
 
   components_below : (s g : ℕ) → s < glyph_count F.copied → IsComponentOf (F.outline s) g → g < glyph_count F.copied
   components_below s g low c = component-below (glyph_count F.copied) (F.outline s) g (ok.records s) c
 
+  roots-below : (g : ℕ) → is_root F.copied (restricted wanted F.map) g ≡ true → g < glyph_count F.copied
+  roots-below = is_root-below F.copied (restricted wanted F.map)
+
+  -- a seed may be shaped
+  pub seeds-roots : (g : ℕ) → is_seed (restricted wanted F.map) g ≡ true → is_root F.copied (restricted wanted F.map) g ≡ true
+  seeds-roots g h = is_root-seed F.copied (restricted wanted F.map) g (seeds-below g h) h
+
   pub is_kept-decides : (g : ℕ) → Decides (is_kept F wanted g) (IsKept F wanted g)
   unfolding is_kept
-  is_kept-decides = reached_decides F.outline (is_seed (restricted wanted F.map)) (glyph_count F.copied) seeds-below components_below
+  is_kept-decides = reached_decides F.outline (is_root F.copied (restricted wanted F.map)) (glyph_count F.copied) roots-below components_below
 
   pub IsKept-below : (g : ℕ) → IsKept F wanted g → g < glyph_count F.copied
-  IsKept-below = Reach-below F.outline (is_seed (restricted wanted F.map)) (glyph_count F.copied) seeds-below components_below
+  IsKept-below = Reach-below F.outline (is_root F.copied (restricted wanted F.map)) (glyph_count F.copied) roots-below components_below

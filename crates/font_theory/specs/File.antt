@@ -2,13 +2,13 @@
 use Rattle.std.specs.Prelude.{◌≡◌, ℕ, ◌+◌, ◌*◌, nat_eq, List, [], ◌∷◌, ◌++◌, length, map, replicate, if◌then◌else◌, Option, None, Some, sum}
 use Rattle.std.specs.List.{concat, flat_map, range_with_len}
 use Rattle.std.specs.Option.{option_map, option_map_or}
-use Rattle.sfnt_bytes.specs.Directory.{kept_tag}
+use Rattle.sfnt_bytes.specs.Directory.{slot_at, slot_tag}
 use Rattle.sfnt_bytes.specs.Lines.{said_lines}
 use Rattle.sfnt_bytes.specs.SearchFields.{search_fields_of}
 use Rattle.sfnt_bytes.specs.Sums.{adjustment_of, checksum_of, without_field}
 use Rattle.sfnt_bytes.specs.declared.records.Entry.{Entry}
 use Rattle.sfnt_bytes.specs.declared.tag.Tag.{Tag}
-use Rattle.sfnt_bytes.specs.declared.tag.TheConstants.{CMAP, GLYF, HEAD, LOCA, SLOTS}
+use Rattle.sfnt_bytes.specs.declared.tag.TheConstants.{ALL_SLOTS, CMAP, GLYF, HEAD, LOCA}
 use Rattle.codes.specs.CharacterMap.{clipped}
 use Rattle.font_map.specs.Mapping.{mapping_of}
 use Rattle.font_map.specs.Refusals.{map_fault}
@@ -132,14 +132,18 @@ checksum_in_slot slot bytes =
 abbrev pub table_in : Writing → Content → List ℕ → ℕ → Option Table
 table_in writing K head slot =
     option_map (λ bytes. record {
-      tag = kept_tag slot;
+      tag = slot_tag slot;
       checksum = checksum_in_slot slot bytes;
       bytes = bytes;
     }) (bytes_in_slot writing K head slot)
 
--- the tables in n slots from a given one on
+-- the table at a place, in order of tag, where there is one
+abbrev pub table_at_place : Writing → Content → List ℕ → ℕ → Option Table
+table_at_place writing K head place = table_in writing K head (slot_at place)
+
+-- the tables at n places from a given one on
 abbrev pub tables_from : Writing → Content → List ℕ → ℕ → ℕ → List Table
-tables_from writing K head slot n = said_lines (map (table_in writing K head) (range_with_len slot n))
+tables_from writing K head place n = said_lines (map (table_at_place writing K head) (range_with_len place n))
 
 -- the records of tables that stand end to end from an offset on, each padded
 abbrev pub entries_at : ℕ → List Table → List Entry
@@ -174,7 +178,7 @@ file_of tables =
 
 -- the file of a content with this `head`
 abbrev pub file_with : Writing → Content → List ℕ → List ℕ
-file_with writing K head = file_of (tables_from writing K head 0 SLOTS)
+file_with writing K head = file_of (tables_from writing K head 0 ALL_SLOTS)
 
 -- checksumAdjustment of its file, which is summed with that field 0
 unfoldable pub adjustment_in : Writing → Content → ℕ
@@ -192,9 +196,9 @@ padded_length bytes = option_map_or (λ b. length (padded b)) bytes 0
 -- and a record for each of k tables; `loca`; and the other tables, padded
 abbrev pub size_with : Content → ℕ → ℕ → ℕ
 size_with K cmap glyf =
-    let k = 4 + length (said_lines (map K.copied (range_with_len 0 SLOTS))) in
+    let k = 4 + length (said_lines (map K.copied (range_with_len 0 ALL_SLOTS))) in
     12 + 16 * k + cmap + glyf + 4 * (glyph_count K.copied + 1)
-    + length (padded K.head) + sum (map (λ slot. padded_length (K.copied slot)) (range_with_len 0 SLOTS))
+    + length (padded K.head) + sum (map (λ slot. padded_length (K.copied slot)) (range_with_len 0 ALL_SLOTS))
 
 -- that with the `cmap` and the `glyf` of a form
 unfoldable pub size_of : Writing → Content → ℕ

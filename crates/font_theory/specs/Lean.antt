@@ -1,6 +1,6 @@
 -- Lean cuts, this project's own: cuts with the metrics of the kept glyphs alone, and without the names of
 -- glyphs. A lean reader takes as the record of a glyph its outline with its metrics after it.
-use Rattle.std.specs.Prelude.{◌≡◌, true, bit_or, ℕ, ◌+◌, ◌-◌, ◌*◌, ◌/◌, ◌%◌, nat_eq, nat_le, nat_lt, not, Bool, ◌&&◌, ◌||◌, List, [], ◌++◌, drop, length, map, replicate, slice_index, take, if◌then◌else◌, Option}
+use Rattle.std.specs.Prelude.{◌≡◌, true, bit_or, ℕ, ◌+◌, ◌-◌, ◌*◌, ◌/◌, ◌%◌, nat_eq, nat_le, nat_lt, not, Bool, ◌&&◌, ◌||◌, List, [], ◌++◌, drop, length, map, replicate, slice_index, take, if◌then◌else◌, Option, is_some}
 use Rattle.std.specs.List.{range_with_len}
 use Rattle.std.specs.Option.{option_map}
 use Rattle.std.specs.Str.{bytes_eq}
@@ -133,6 +133,22 @@ spelled_out K = record {
   head = K.head;
   map = K.map;
   outline = λ g. option_map stripped (K.outline g);
+}
+
+-- what a lean cut is written of, by the content without the lean reader: tables of metrics with zeros for the
+-- glyphs that are not kept, and no names
+unfoldable pub leaned : Content → Content
+leaned K = record {
+  copied = λ slot. let keeps : ℕ → Bool = λ g. is_some (K.outline g) in
+      if nat_eq slot HMTX then
+      option_map (cleared keeps (pairs_in K.copied HHEA HMTX) (glyph_count K.copied)) (K.copied slot)
+      else if nat_eq slot POST then option_map thin_post (K.copied slot)
+      else if nat_eq slot VMTX then
+      option_map (cleared keeps (pairs_in K.copied VHEA VMTX) (glyph_count K.copied)) (K.copied slot)
+      else K.copied slot;
+  head = K.head;
+  map = K.map;
+  outline = K.outline;
 }
 
 -- the bits of two tables, byte by byte: where one has 0, the byte of the other

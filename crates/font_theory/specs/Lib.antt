@@ -5,6 +5,8 @@ pub mod Difference
 pub mod File
 pub mod Join
 pub mod Kinds
+pub mod LayoutCut
 pub mod Lean
+pub mod Links
 pub mod Tree
 pub mod WorkedFiles

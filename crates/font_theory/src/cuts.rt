@@ -1,16 +1,18 @@
 //! The laws of fonts, contents and cuts: the contract of each function is the law.
-ghost use Rattle.std.specs.Prelude.{◌≡◌, ◌≢◌, ℕ, ◌≤◌, ◌↔◌, ◌⊎◌, nat_eq, Bool, true, ◌&&◌, List, length, None, Some};
+ghost use Rattle.std.specs.Prelude.{◌≡◌, ◌≢◌, ℕ, ◌<◌, ◌≤◌, ◌↔◌, ◌⊎◌, nat_eq, Bool, true, ◌&&◌, List, [], length, IsSome, Option, None, Some};
 ghost use Rattle.sfnt_bytes.specs.declared.directory.DirError.TheVariants.{FileTooLarge};
 ghost use Rattle.sfnt_bytes.specs.declared.directory.TheConstants.{MAX_FILE};
+ghost use Rattle.sfnt_bytes.specs.declared.tag.TheConstants.{GSUB};
 ghost use Rattle.font_tables.specs.Metrics.{metric_of};
 ghost use Rattle.font_tables.specs.Outlines.{outline_of};
 ghost use Rattle.codes.specs.CharacterMap.{restricted};
+ghost use Rattle.font_glyph.specs.Linked.{Linked};
 ghost use Rattle.font_glyph.specs.Reach.{Reach};
 ghost use Rattle.font_file.specs.Font.{font_fault, map_of};
 ghost use Rattle.font_file.specs.declared.font_error.FontError.{FontError};
 ghost use Rattle.font_file.specs.declared.font_error.FontError.TheVariants.{Directory};
 ghost use Rattle.font_theory.specs.Bytes.{padded};
-ghost use Rattle.font_theory.specs.Content.{Content, Font, IsClosedContent, IsFont, IsWritable, KeepsComponents, content, font_of, is_kept, is_seed, read_back};
+ghost use Rattle.font_theory.specs.Content.{Content, Font, IsClosedContent, IsFont, IsPlain, IsWritable, KeepsComponents, NUMBERS, content, font_of, glyph_count, is_kept, is_root, is_seed, links_in, read_back};
 ghost use Rattle.font_theory.specs.Cut.{Format, IsCurrent, IsCut, IsFormat, IsOld, Writes, cut, is_current, is_cut, is_old, old_cut, content_of_all};
 
 /// What an accepted file means is a font.
@@ -57,6 +59,35 @@ pub fn wanted_is_kept()
         × ((c : ℕ) → wanted c ≡ true → ((content F wanted).map c ≡ F.map c)
         × ((g : ℕ) → Reach F.outline (nat_eq (F.map c)) g →
         (read_back (content F wanted)).outline g ≡ padded (F.outline g))) }
+{}
+
+/// The same of each glyph that links lead to from that glyph, and so of all that may be shaped for the wanted
+/// codes.
+pub fn linked_is_kept()
+    ensures { (F : Font) (wanted : ℕ → Bool) → IsFont F
+        → ((g : ℕ) → Reach F.outline (is_root F.copied (restricted wanted F.map)) g →
+        (read_back (content F wanted)).outline g ≡ padded (F.outline g))
+        × ((c : ℕ) → wanted c ≡ true → (r g : ℕ) → r < glyph_count F.copied →
+        Linked (links_in F.copied) (nat_eq (F.map c)) NUMBERS r → Reach F.outline (nat_eq r) g →
+        (read_back (content F wanted)).outline g ≡ padded (F.outline g)) }
+{}
+
+/// A glyph may be shaped where links lead to it from .notdef or the glyph of a mapped code; in a closed content
+/// it has an outline.
+pub fn roots_are_linked()
+    ensures { ((copied : ℕ → Option (List ℕ)) (m : ℕ → ℕ) (g : ℕ) →
+        is_root copied m g ≡ true ↔ (g < glyph_count copied) × Linked (links_in copied) (is_seed m) NUMBERS g)
+        × ((K : Content) → IsClosedContent K → (g : ℕ) → is_root K.copied K.map g ≡ true →
+        IsSome (K.outline g)) }
+{}
+
+/// Where no `GSUB` is copied there is no link: only .notdef and the glyphs of the mapped codes may be shaped. An
+/// plain reader copies none.
+pub fn plain_has_no_links()
+    ensures { ((copied : ℕ → Option (List ℕ)) → copied GSUB ≡ None → ((g : ℕ) → links_in copied g ≡ [])
+        × ((m : ℕ → ℕ) → ((c : ℕ) → m c < glyph_count copied) → is_root copied m ≡ is_seed m))
+        × ((file : List ℕ) → IsPlain (font_of file).copied)
+        × ((copied : ℕ → Option (List ℕ)) → IsPlain copied → copied GSUB ≡ None) }
 {}
 
 /// What is kept of an accepted file is what its outlines lead to from .notdef and the glyphs of the

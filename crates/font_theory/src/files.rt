@@ -1,22 +1,33 @@
 //! The laws of files: the contract of each function is the law.
-ghost use Rattle.std.specs.Prelude.{◌≡◌, ◌≢◌, ℕ, ◌+◌, ◌*◌, ◌≤◌, List, [], false, length, map, max, nat_eq, None, sum};
-ghost use Rattle.std.specs.List.{concat};
+ghost use Rattle.std.specs.Prelude.{◌≡◌, ◌≢◌, ℕ, ◌+◌, ◌*◌, ◌<◌, ◌≤◌, List, [], false, length, map, max, nat_eq, None, sum};
+ghost use Rattle.std.specs.List.{concat, range_with_len};
+ghost use Rattle.sfnt_bytes.specs.Directory.{kept_tag, slot_tag};
+ghost use Rattle.sfnt_bytes.specs.Lines.{said_lines};
+ghost use Rattle.sfnt_bytes.specs.declared.tag.TheConstants.{ALL_SLOTS, SLOTS};
 ghost use Rattle.sfnt_bytes.specs.Findings.{findings_of};
 ghost use Rattle.sfnt_bytes.specs.declared.directory.TheConstants.{MAX_FILE};
 ghost use Rattle.font_file.specs.Font.{font_fault};
 ghost use Rattle.font_theory.specs.Bytes.{padded};
-ghost use Rattle.font_theory.specs.Content.{Content, IsClosedContent, IsWritable, font_of, read_back};
+ghost use Rattle.font_theory.specs.Content.{Content, IsClosedContent, IsPlain, IsWritable, font_of, read_back};
 ghost use Rattle.sfnt_bytes.specs.declared.base6.TheConstants.{BASE6};
 ghost use Rattle.font_theory.specs.Cut.{Arises, IsCurrent, IsFormat, IsOld, Writes, cut, format_with, our_format};
-ghost use Rattle.font_theory.specs.File.{Writing, IsWriting, file, writing_of, glyf_bytes, groups_of_content, outlines_of, size_of, size_with};
+ghost use Rattle.font_theory.specs.File.{Writing, IsWriting, file, writing_of, glyf_bytes, groups_of_content, outlines_of, size_of, size_with, table_in, tables_from};
 ghost use Rattle.font_theory.specs.declared.Profile.{Profile};
 ghost use Rattle.font_theory.specs.declared.Profile.TheVariants.{First, Second};
 ghost use Rattle.font_theory.specs.WorkedFiles.{aacute_file, nothing_file, nothing_second_file};
 
 /// What is read of the file of a content is the content.
 pub fn file_means()
-    ensures { (writing : Writing) → IsWriting writing → (K : Content) → IsWritable K
+    ensures { (writing : Writing) → IsWriting writing → (K : Content) → IsWritable K → IsPlain K.copied
         → font_of (file writing K) ≡ read_back K }
+{}
+
+/// Of a content without tables of layout, the tables stand slot by slot, with the kept tags.
+pub fn plain_tables_are()
+    ensures { (writing : Writing) (K : Content) (head : List ℕ) → IsPlain K.copied
+        → (tables_from writing K head 0 ALL_SLOTS ≡ said_lines
+        (map (table_in writing K head) (range_with_len 0 SLOTS)))
+        × ((slot : ℕ) → slot < SLOTS → slot_tag slot ≡ kept_tag slot) }
 {}
 
 /// How many bytes the file of a content has.
@@ -100,8 +111,8 @@ pub fn our_format_is()
 
 /// A closed content whose file is not too large is one that accepted files come to: that file.
 pub fn closed_arises()
-    ensures { (K : Content) (X : List ℕ) → IsClosedContent K → Writes our_format K X → length X ≤ MAX_FILE →
-        Arises our_format K }
+    ensures { (K : Content) (X : List ℕ) → IsClosedContent K → IsPlain K.copied → Writes our_format K X →
+        length X ≤ MAX_FILE → Arises our_format K }
 {}
 
 /// The cut of a small font for no code in the first profile, byte by byte.

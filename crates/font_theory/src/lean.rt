@@ -16,7 +16,7 @@ ghost use Rattle.font_theory.specs.Bytes.{padded};
 ghost use Rattle.font_theory.specs.Content.{Content, Font, IsClosedContent, IsFont, content, font_of, glyph_count, is_kept, read_back, table_in_slot};
 ghost use Rattle.font_theory.specs.Cut.{Arises, CanJoin, IsCurrent, IsFormat, Under, Writes, cut, either, joined, our_format, content_of_all};
 ghost use Rattle.font_theory.specs.Join.{Agree, both};
-ghost use Rattle.font_theory.specs.Lean.{AgreeLean, cleared, either_bytes, lean_file, lean_format, metrics_at, pairs_in, spelled_out, thin, thin_copied, thin_post, with_metrics};
+ghost use Rattle.font_theory.specs.Lean.{AgreeLean, cleared, either_bytes, lean_file, lean_format, leaned, metrics_at, pairs_in, spelled_out, thin, thin_copied, thin_post, with_metrics};
 ghost use Rattle.font_theory.specs.Tree.{IsSmall, JoinTree, Value, cuts, union_in};
 ghost use Rattle.sfnt_bytes.specs.declared.tag.TheConstants.{HHEA, HMTX, POST, VHEA, VMTX};
 
@@ -61,6 +61,13 @@ pub fn lean_content_is()
         × ((slot : ℕ) → slot ≢ HMTX → slot ≢ POST → slot ≢ VMTX →
         (spelled_out (content (thin F) wanted)).copied slot ≡ F.copied slot)
         × ((spelled_out (content (thin F) wanted)).copied POST ≡ option_map thin_post (F.copied POST)) }
+{}
+
+/// It is the content of the font for the same codes, with zeros in `hmtx` and `vmtx` for the glyphs that are
+/// not kept, and without names in `post`.
+pub fn leaned_is()
+    ensures { (F : Font) (wanted : ℕ → Bool) → IsFont F → spelled_out (content (thin F) wanted) ≡ leaned
+        (content F wanted) }
 {}
 
 /// It has the metrics of the kept glyphs, and zeros for all others.

@@ -4,11 +4,11 @@ use Rattle.font_theory.specs.File.{Writing, behind, entries_at, entry_bytes, wri
 use Rattle.font_write.specs.Parts.{IsNextKept, bodies_to, bytes_at, tables_to, start_of, glyf_to}
 use Rattle.font_write.specs.declared.made_loca.Walk.{Walk}
 use Rattle.font_write.specs.declared.plan.Plan.{Plan}
-use Rattle.sfnt_bytes.specs.declared.tag.TheConstants.{SLOTS}
+use Rattle.sfnt_bytes.specs.declared.tag.TheConstants.{ALL_SLOTS}
 use Rattle.std.specs.List.{flat_map}
 use Rattle.std.specs.Prelude.{◌≡◌, ℕ, ◌++◌, List, length}
 
--- the records of the tables in the first n slots
+-- the records of the tables at the first n places
 unfoldable pub records_to : Writing → Content → ℕ → List ℕ
 records_to writing K n = flat_map entry_bytes (entries_at (start_of writing K) (tables_to writing K n))
 
@@ -37,7 +37,7 @@ abbrev pub planned_table : Plan → Content → ℕ → List ℕ
 planned_table plan K slot = bytes_at (writing_of plan.profile) K slot
 
 abbrev pub planned_records : Plan → Content → List ℕ
-planned_records plan K = records_to (writing_of plan.profile) K SLOTS
+planned_records plan K = records_to (writing_of plan.profile) K ALL_SLOTS
 
 abbrev pub planned_bodies : Plan → Content → List ℕ
-planned_bodies plan K = bodies_to (writing_of plan.profile) K SLOTS
+planned_bodies plan K = bodies_to (writing_of plan.profile) K ALL_SLOTS

@@ -1,7 +1,8 @@
 -- What is counted and measured of the tables of a file before they are sent, this project's own.
 use Rattle.std.specs.Prelude.{◌≡◌, ℕ, ◌≤◌, ◌<◌, List, length, slice_index_or, is_some, false}
 use Rattle.sfnt_bytes.specs.Sums.{checksum_of}
-use Rattle.sfnt_bytes.specs.declared.tag.TheConstants.{SLOTS}
+use Rattle.sfnt_bytes.specs.declared.tag.TheConstants.{ALL_SLOTS}
+use Rattle.sfnt_bytes.specs.Directory.{slot_at}
 use Rattle.font_theory.specs.Content.{Content, glyph_count}
 use Rattle.font_theory.specs.File.{Writing, adjustment_in, checksum_in_slot, file, writing_of, groups_of_content, size_of}
 use Rattle.font_write.specs.Parts.{bytes_at, count_to, glyf_to, groups_bytes, table_at}
@@ -29,19 +30,20 @@ pub record IsMeasure (writing : Writing) (K : Content) (slot : ℕ) (m : Measure
   pub long : m.length ≡ length (bytes_at writing K slot)
   pub summed : m.checksum ≡ checksum_in_slot slot (bytes_at writing K slot)
 
--- the measure of a slot
+-- the measure of the table at a place
 abbrev pub measure_at : List Measure → ℕ → Measure
-measure_at measures slot =
-    slice_index_or measures slot (record { is_there = false; length = 0; checksum = 0 })
+measure_at measures place =
+    slice_index_or measures place (record { is_there = false; length = 0; checksum = 0 })
 
--- the first n slots are measured
+-- the tables at the first n places are measured
 abbrev pub AreMeasures : Writing → Content → ℕ → List Measure → Type 0
-AreMeasures writing K n measures = (slot : ℕ) → slot < n → IsMeasure writing K slot (measure_at measures slot)
+AreMeasures writing K n measures =
+    (place : ℕ) → place < n → IsMeasure writing K (slot_at place) (measure_at measures place)
 
--- all slots are measured, and the tables, the groups, the outlines and checksumAdjustment are known
+-- all tables are measured, and the tables, the groups, the outlines and checksumAdjustment are known
 pub record IsPlan (K : Content) (p : Plan) : Type 0 where
-  pub measures : AreMeasures (writing_of p.profile) K SLOTS p.measures
-  pub count : p.count ≡ count_to (writing_of p.profile) K SLOTS
+  pub measures : AreMeasures (writing_of p.profile) K ALL_SLOTS p.measures
+  pub count : p.count ≡ count_to (writing_of p.profile) K ALL_SLOTS
   pub counts : AreCounts K p.counts
   pub adjustment : p.adjustment ≡ adjustment_in (writing_of p.profile) K
 

@@ -1,7 +1,7 @@
 //! Numbers and padding as bytes. OpenType 1.9, Data Types; Organization of an OpenType Font.
 ghost use Rattle.std.specs.Prelude.{◌≡◌, ◌+◌, ◌<◌, ◌≤◌, ◌++◌, length, take, replicate};
 ghost use Rattle.sfnt_bytes.specs.Findings.{padding_of};
-ghost use Rattle.sfnt_bytes.specs.declared.tag.TheConstants.{SLOTS};
+ghost use Rattle.sfnt_bytes.specs.declared.tag.TheConstants.{ALL_SLOTS};
 ghost use Rattle.font_theory.specs.Bytes.{bytes16, bytes32, padded};
 ghost use Rattle.font_theory.specs.File.{header_bytes};
 ghost use Rattle.font_write.specs.Trace.{HasRoom, Sends};
@@ -73,7 +73,7 @@ fn header_of(count: u16, range: u16, selector: u16, shift: u16) -> [u8; 12]
 /// Returns the header of a file of this number of tables.
 pub(crate) fn header(count: u16) -> [u8; 12]
     requires some { 0 < count }
-    requires few { count ≤ SLOTS }
+    requires few { count ≤ ALL_SLOTS }
     ensures { result ≡ header_bytes count }
 {
     let (range, selector, shift) = search_fields(count).unwrap_or((0, 0, 0));

@@ -15,7 +15,7 @@ use crate::made_glyf::{glyf_length, outlines_size};
 use crate::made_loca::loca_length;
 use crate::source::Source;
 use font_theory::Profile;
-use sfnt_bytes::SLOTS;
+use sfnt_bytes::{ALL_SLOTS, slot_in};
 
 /// How many groups a map has, what their words sum to, and how many bytes all outlines have.
 #[derive(Clone, Copy, Debug, PartialEq, Eq)]
@@ -98,8 +98,8 @@ pub fn counted_size<S: Source>(source: &S, profile: Profile, counts: Counts) -> 
 {
     source.recall_laws();
     let mut bytes: u64 = 12;
-    for slot in 0..SLOTS {
-        bytes += slot_size(source, profile, counts, slot);
+    for place in 0..ALL_SLOTS {
+        bytes += slot_size(source, profile, counts, slot_in(place));
     }
     Size { counts, bytes }
 }

@@ -2,7 +2,8 @@
 //! Organization of an OpenType Font.
 ghost use Rattle.std.specs.Prelude.{◌≡◌, ◌+◌, ◌≤◌, ◌<◌, length};
 ghost use Rattle.sfnt_bytes.specs.declared.directory.TheConstants.{MAX_FILE};
-ghost use Rattle.sfnt_bytes.specs.declared.tag.TheConstants.{SLOTS};
+ghost use Rattle.sfnt_bytes.specs.declared.tag.TheConstants.{ALL_SLOTS};
+ghost use Rattle.sfnt_bytes.specs.Directory.{slot_at};
 ghost use Rattle.font_theory.specs.Bytes.{padded};
 ghost use Rattle.font_theory.specs.File.{entry_bytes, writing_of};
 ghost use Rattle.font_write.specs.Parts.{bodies_to, record_at, start_of};
@@ -20,7 +21,7 @@ use crate::plan::{Measure, Plan};
 use crate::sink::{Sink, Stopped};
 use crate::source::Source;
 use font_theory::Profile;
-use sfnt_bytes::{KEPT, SLOTS, Tag};
+use sfnt_bytes::{ALL_SLOTS, Tag, slot_in, tag_of};
 
 // Sends the table in a slot, where there is one.
 fn send_table<S: Source, K: Sink>(
@@ -31,7 +32,7 @@ fn send_table<S: Source, K: Sink>(
 ) -> Result<(), Stopped>
     requires plan { IsPlan (S.content_of source.now) plan.now }
     requires small { length (planned_file plan.now (S.content_of source.now)) ≤ MAX_FILE }
-    requires slot { slot < SLOTS }
+    requires slot { slot < ALL_SLOTS }
     requires room { HasRoom (K.trace sink.old)
         (length (planned_table plan.now (S.content_of source.now) slot)) }
     ensures { Sends (K.trace sink.old) (K.trace sink.new)
@@ -65,26 +66,32 @@ fn send_entry<K: Sink>(
     sink.take(&three_words(checksum, offset, length))
 }
 
-// Sends the record of a slot, where there is a table.
+// Sends the record at a place, where there is a table.
 fn send_record<S: Source, K: Sink>(
     source: &S,
     profile: Profile,
     measure: Measure,
-    slot: usize,
+    place: usize,
     offset: u32,
     sink: &mut K,
 ) -> Result<(), Stopped>
-    requires measure { IsMeasure (writing_of profile) (S.content_of source.now) slot measure }
-    requires slot { slot < SLOTS }
+    requires measure { IsMeasure (writing_of profile) (S.content_of source.now) (slot_at place) measure }
+    requires place { place < ALL_SLOTS }
     requires offset { offset ≡ start_of (writing_of profile) (S.content_of source.now) + length
-        (bodies_to (writing_of profile) (S.content_of source.now) slot) }
+        (bodies_to (writing_of profile) (S.content_of source.now) place) }
     requires room { HasRoom (K.trace sink.old)
-        (length (record_at (writing_of profile) (S.content_of source.now) slot)) }
+        (length (record_at (writing_of profile) (S.content_of source.now) place)) }
     ensures { Sends (K.trace sink.old) (K.trace sink.new)
-        (record_at (writing_of profile) (S.content_of source.now) slot) result }
+        (record_at (writing_of profile) (S.content_of source.now) place) result }
 {
     if measure.is_there {
-        return send_entry(KEPT[slot], measure.checksum, offset, measure.length, sink);
+        return send_entry(
+            tag_of(slot_in(place)),
+            measure.checksum,
+            offset,
+            measure.length,
+            sink,
+        );
     }
     Ok(())
 }
@@ -98,31 +105,31 @@ fn send_records<S: Source, K: Sink>(source: &S, plan: &Plan, sink: &mut K) -> Re
         (planned_records plan.now (S.content_of source.now)) result }
 {
     let mut offset = 12 + 16 * u32::from(plan.count);
-    for slot in 0..SLOTS {
-        let measure = plan.measures[slot];
-        send_record(source, plan.profile, measure, slot, offset, sink)?;
+    for place in 0..ALL_SLOTS {
+        let measure = plan.measures[place];
+        send_record(source, plan.profile, measure, place, offset, sink)?;
         offset += measure.length + padding(measure.length as usize) as u32;
     }
     Ok(())
 }
 
-// Sends the table in a slot, padded.
+// Sends the table at a place, padded.
 fn send_body<S: Source, K: Sink>(
     source: &S,
     plan: &Plan,
-    slot: usize,
+    place: usize,
     sink: &mut K,
 ) -> Result<(), Stopped>
     requires plan { IsPlan (S.content_of source.now) plan.now }
     requires small { length (planned_file plan.now (S.content_of source.now)) ≤ MAX_FILE }
-    requires slot { slot < SLOTS }
+    requires place { place < ALL_SLOTS }
     requires room { HasRoom (K.trace sink.old)
-        (length (padded (planned_table plan.now (S.content_of source.now) slot))) }
+        (length (padded (planned_table plan.now (S.content_of source.now) (slot_at place)))) }
     ensures { Sends (K.trace sink.old) (K.trace sink.new)
-        (padded (planned_table plan.now (S.content_of source.now) slot)) result }
+        (padded (planned_table plan.now (S.content_of source.now) (slot_at place))) result }
 {
-    send_table(source, plan, slot, sink)?;
-    send_padding(plan.measures[slot].length as usize, sink)
+    send_table(source, plan, slot_in(place), sink)?;
+    send_padding(plan.measures[place].length as usize, sink)
 }
 
 // Sends all tables, each padded.
@@ -133,8 +140,8 @@ fn send_bodies<S: Source, K: Sink>(source: &S, plan: &Plan, sink: &mut K) -> Res
     ensures { Sends (K.trace sink.old) (K.trace sink.new)
         (planned_bodies plan.now (S.content_of source.now)) result }
 {
-    for slot in 0..SLOTS {
-        send_body(source, plan, slot, sink)?;
+    for place in 0..ALL_SLOTS {
+        send_body(source, plan, place, sink)?;
     }
     Ok(())
 }

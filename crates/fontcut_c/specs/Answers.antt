@@ -6,7 +6,7 @@ use Rattle.sfnt_bytes.specs.declared.directory.DirError.TheVariants.{DuplicateTa
 use Rattle.font_tables.specs.declared.tables.TableError.TheVariants.{BadLoca, MissingTable}
 use Rattle.font_file.specs.Text.{error_number}
 use Rattle.font_file.specs.declared.font_error.FontError.{FontError}
-use Rattle.font_file.specs.declared.font_error.FontError.TheVariants.{BadGlyph, Directory, Mapping, Tables}
+use Rattle.font_file.specs.declared.font_error.FontError.TheVariants.{BadGlyph, BadLayout, Directory, Mapping, Tables}
 use Rattle.font_subset.specs.declared.forms.CutForm.{CutForm}
 use Rattle.font_subset.specs.declared.forms.CutForm.TheVariants.{Current, Not, Old}
 use Rattle.font_join.specs.JoinText.{join_all_error_number, join_error_number}
@@ -61,6 +61,7 @@ font_argument (Tables (BadLoca index)) = index
 font_argument (Tables _) = 0
 font_argument (Mapping _) = 0
 font_argument (BadGlyph glyph) = glyph
+font_argument BadLayout = 0
 
 -- a font is refused
 abbrev pub font_answer : FontError → Answer

@@ -11,7 +11,7 @@ use Rattle.codes.specs.declared.wanted.WantedError.TheVariants.{BadRange, NoMemo
 use Rattle.font_map.specs.declared.mapping.MapError.TheVariants.{BadCmap, NoMapping}
 use Rattle.font_file.specs.Text.{error_text}
 use Rattle.font_file.specs.declared.font_error.FontError.{FontError}
-use Rattle.font_file.specs.declared.font_error.FontError.TheVariants.{BadGlyph, Directory, Mapping, Tables}
+use Rattle.font_file.specs.declared.font_error.FontError.TheVariants.{BadGlyph, BadLayout, Directory, Mapping, Tables}
 use Rattle.font_join.specs.JoinText.{join_all_error_text}
 use Rattle.font_join.specs.declared.join_error.JoinAllError.{JoinAllError}
 use Rattle.font_join.specs.declared.join_error.JoinAllError.TheVariants.{At, NothingToJoin}
@@ -47,6 +47,7 @@ font_error_lines number detail =
     ∷ when (is 13) (Mapping NoMapping)
     ∷ when (is 14) (Mapping BadCmap)
     ∷ when (is 17 && nat_lt detail 0x10000) (BadGlyph detail)
+    ∷ when (is 27) BadLayout
     ∷ []
 
 -- the one that has it

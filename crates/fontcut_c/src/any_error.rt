@@ -53,6 +53,7 @@ fn font_error(number: u32, detail: u32) -> Option<FontError>
         13 => Some(FontError::Mapping(MapError::NoMapping)),
         14 => Some(FontError::Mapping(MapError::BadCmap)),
         17 => u16::try_from(detail).ok().map(FontError::BadGlyph),
+        27 => Some(FontError::BadLayout),
         _ => None,
     }
 }

@@ -120,6 +120,7 @@ fn argument_of(error: FontError) -> u32
         FontError::Tables(_) => 0,
         FontError::Mapping(_) => 0,
         FontError::BadGlyph(glyph) => u32::from(glyph),
+        FontError::BadLayout => 0,
     }
 }
 

@@ -1,12 +1,12 @@
 -- Records, and the table of a tag (OpenType 1.9, Organization of an OpenType Font, Table Directory).
-use Rattle.std.specs.Prelude.{ℕ, ◌+◌, ◌*◌, ◌≤◌, nat_le, not, Bool, List, [], ◌∷◌, filter, find, length, map, slice_index, slice_index_or, slice_range, Option}
+use Rattle.std.specs.Prelude.{ℕ, ◌+◌, ◌*◌, ◌-◌, ◌≤◌, nat_le, nat_lt, not, ◌&&◌, if◌then◌else◌, Bool, List, [], ◌∷◌, filter, find, length, map, slice_index, slice_index_or, slice_range, Option}
 use Rattle.std.specs.List.{range_with_len}
 use Rattle.std.specs.Option.{option_map}
 use Rattle.sfnt_bytes.specs.Number.{u16_at, u32_at}
 use Rattle.sfnt_bytes.specs.Tag.{is_kept_tag, same_tag}
 use Rattle.sfnt_bytes.specs.declared.records.Entry.{Entry}
 use Rattle.sfnt_bytes.specs.declared.tag.Tag.{Tag}
-use Rattle.sfnt_bytes.specs.declared.tag.TheConstants.{KEPT}
+use Rattle.sfnt_bytes.specs.declared.tag.TheConstants.{ALL_SLOTS, IN_ORDER, KEPT, LAYOUT, SLOTS}
 
 -- numTables
 abbrev pub table_count : List ℕ → ℕ
@@ -65,6 +65,19 @@ table_of file tag = option_map (table_bytes file) (table_entry file tag)
 -- the kept tag of a slot
 unfoldable pub kept_tag : ℕ → Tag
 kept_tag slot = slice_index_or KEPT slot (record { 0 = [] })
+
+-- the slot of a table that layout cuts alone keep
+abbrev pub is_layout_slot : ℕ → Bool
+is_layout_slot slot = nat_le SLOTS slot && nat_lt slot ALL_SLOTS
+
+-- the tag of a slot of any cut
+unfoldable pub slot_tag : ℕ → Tag
+slot_tag slot =
+    if nat_lt slot SLOTS then kept_tag slot else slice_index_or LAYOUT (slot - SLOTS) (record { 0 = [] })
+
+-- the slot of the table at a place
+unfoldable pub slot_at : ℕ → ℕ
+slot_at place = slice_index_or IN_ORDER place ALL_SLOTS
 
 -- no cut keeps the record's table
 unfoldable pub is_dropped : Entry → Bool

@@ -5,7 +5,7 @@ use Rattle.sfnt_bytes.specs.Number.{u32_at}
 use Rattle.sfnt_bytes.specs.Lines.{when, first_of_lines}
 use Rattle.sfnt_bytes.specs.Directory.{table_count, has_tag, is_within, records_of, table_entry}
 use Rattle.sfnt_bytes.specs.declared.tag.Tag.{Tag}
-use Rattle.sfnt_bytes.specs.declared.tag.TheConstants.{KEPT}
+use Rattle.sfnt_bytes.specs.declared.tag.TheConstants.{KEPT, LAYOUT}
 use Rattle.sfnt_bytes.specs.declared.directory.DirError.{DirError}
 use Rattle.sfnt_bytes.specs.declared.directory.DirError.TheVariants.{FileTooLarge, Truncated, Collection, NotTrueType, DuplicateTable, TableOutOfFile}
 use Rattle.sfnt_bytes.specs.declared.directory.TheConstants.{MAX_FILE}
@@ -41,3 +41,14 @@ directory_lines file =
 -- the first refusal that applies
 unfoldable pub directory_fault : List ℕ → Option DirError
 directory_fault file = first_of_lines (directory_lines file)
+
+-- the refusals of the tables of layout, where `find` gives the least tag, as LAYOUT is ascending
+abbrev pub layout_directory_lines : List ℕ → List (Option DirError)
+layout_directory_lines file =
+    option_map DuplicateTable (find (is_duplicate file) LAYOUT)
+    ∷ option_map TableOutOfFile (find (is_outside file) LAYOUT)
+    ∷ []
+
+-- the first refusal of these that applies
+unfoldable pub layout_directory_fault : List ℕ → Option DirError
+layout_directory_fault file = first_of_lines (layout_directory_lines file)

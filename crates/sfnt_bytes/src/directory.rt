@@ -1,17 +1,17 @@
 //! The table directory. OpenType 1.9, Organization of an OpenType Font, Table Directory.
-ghost use Rattle.std.specs.Prelude.{◌≡◌, ◌<◌, ◌^◌, None, Some, MatchResult, find, length, option_copied};
-ghost use Rattle.sfnt_bytes.specs.Directory.{HasRecords, dropped_of, kept_tag, records_of, table_of};
+ghost use Rattle.std.specs.Prelude.{◌≡◌, ◌<◌, ◌≤◌, ◌^◌, None, Some, MatchResult, find, length, option_copied};
+ghost use Rattle.sfnt_bytes.specs.Directory.{HasRecords, dropped_of, kept_tag, records_of, slot_tag, table_of};
 ghost use Rattle.sfnt_bytes.specs.Findings.{findings_of};
-ghost use Rattle.sfnt_bytes.specs.Refusals.{directory_fault, is_duplicate, is_outside};
+ghost use Rattle.sfnt_bytes.specs.Refusals.{directory_fault, is_duplicate, is_outside, layout_directory_fault};
 ghost use Rattle.sfnt_bytes.specs.SearchFields.{search_fields_of};
-ghost use Rattle.sfnt_bytes.specs.declared.tag.TheConstants.{SLOTS};
+ghost use Rattle.sfnt_bytes.specs.declared.tag.TheConstants.{ALL_SLOTS, SLOTS};
 
 use crate::findings::{Findings, findings_in};
 use crate::number::{be16, be32};
 use crate::records::{
     Dropped, HEADER, RECORD, Records, count_of, dropped_in, find_entry, records_in,
 };
-use crate::tag::{KEPT, Tag};
+use crate::tag::{KEPT, LAYOUT, Tag, tag_of};
 use std::marker::Model;
 
 /// The most bytes that a file may have, to be read or to be written.
@@ -196,6 +196,38 @@ impl<'a> Directory<'a> {
         ensures { option_copied result ≡ table_of self.now (kept_tag slot) }
     {
         let entry = find_entry(self.file, KEPT[slot])?;
+        let start = entry.offset as usize;
+        Some(&self.file[start..start + entry.length as usize])
+    }
+
+    /// Tells whether each table of layout stands once at most and lies within the file.
+    ///
+    /// # Errors
+    ///
+    /// `DuplicateTable` or `TableOutOfFile` of a tag of [`LAYOUT`], the first that applies.
+    #[tactic(auto, unfolding(crate::specs::Refusals::layout_directory_fault))]
+    pub fn check_layout(&self) -> Result<(), DirError>
+        ensures { MatchResult result (λ _. layout_directory_fault self.now ≡ None)
+            (λ error. layout_directory_fault self.now ≡ Some error) }
+    {
+        if let Some(tag) = first_duplicate(self.file, &LAYOUT) {
+            return Err(DirError::DuplicateTable(tag));
+        }
+        if let Some(tag) = first_outside(self.file, &LAYOUT) {
+            return Err(DirError::TableOutOfFile(tag));
+        }
+        Ok(())
+    }
+
+    /// Returns the table of a slot of layout, which has the tag `LAYOUT[slot - SLOTS]`, without its padding, where
+    /// there is one. Of several records of the tag the first counts.
+    pub fn layout_table(&self, slot: usize) -> Option<&'a [u8]>
+        requires inside { layout_directory_fault self.now ≡ None }
+        requires from { SLOTS ≤ slot }
+        requires to { slot < ALL_SLOTS }
+        ensures { option_copied result ≡ table_of self.now (slot_tag slot) }
+    {
+        let entry = find_entry(self.file, tag_of(slot))?;
         let start = entry.offset as usize;
         Some(&self.file[start..start + entry.length as usize])
     }

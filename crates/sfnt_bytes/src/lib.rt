@@ -22,5 +22,6 @@ pub use crate::number::{be16, be32};
 pub use crate::records::{Dropped, Entry, Records};
 pub use crate::sums::{adjustment, word_sum};
 pub use crate::tag::{
-    CMAP, GLYF, HEAD, HHEA, HMTX, KEPT, LOCA, MAXP, POST, SLOTS, Tag, VHEA, VMTX,
+    ALL_SLOTS, BASE, CMAP, GDEF, GLYF, GPOS, GSUB, HEAD, HHEA, HMTX, IN_ORDER, KEPT, KERN, LAYOUT,
+    LAYOUT_SLOTS, LOCA, MAXP, POST, SLOTS, Tag, VHEA, VMTX, slot_in, tag_of,
 };

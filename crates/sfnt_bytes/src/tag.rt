@@ -1,8 +1,10 @@
 //! The names of tables. OpenType 1.9, Organization of an OpenType Font, Table Tags.
-ghost use Rattle.std.specs.Prelude.{◌≡◌};
+ghost use Rattle.std.specs.Prelude.{◌≡◌, ◌<◌};
 ghost use Rattle.std.specs.List.{list_any};
 ghost use Rattle.std.specs.Str.{bytes_eq};
+ghost use Rattle.sfnt_bytes.specs.Directory.{slot_at, slot_tag};
 ghost use Rattle.sfnt_bytes.specs.Tag.{is_kept_tag, tag_number};
+ghost use Rattle.sfnt_bytes.specs.declared.tag.TheConstants.{ALL_SLOTS as SLOT_COUNT};
 
 use crate::number::be32;
 
@@ -10,7 +12,7 @@ use crate::number::be32;
 #[derive(Clone, Copy, Debug, PartialEq, Eq)]
 pub struct Tag(pub [u8; 4]);
 
-/// How many slots there are.
+/// How many slots there are for the tables of [`KEPT`].
 pub const SLOTS: usize = 16;
 
 /// The tables that a cut keeps, ascending by tag. A *slot* is a place in this list.
@@ -32,6 +34,42 @@ pub const KEPT: [Tag; SLOTS] = [
     Tag(*b"vhea"),
     Tag(*b"vmtx"),
 ];
+
+/// How many tables of layout there are.
+pub const LAYOUT_SLOTS: usize = 5;
+
+/// The tables of layout, ascending by tag: layout cuts keep them too. Their slots come after those of
+/// [`KEPT`].
+pub const LAYOUT: [Tag; LAYOUT_SLOTS] = [
+    Tag(*b"BASE"),
+    Tag(*b"GDEF"),
+    Tag(*b"GPOS"),
+    Tag(*b"GSUB"),
+    Tag(*b"kern"),
+];
+
+/// How many slots there are for the tables of any cut.
+pub const ALL_SLOTS: usize = 21;
+
+/// All slots, ascending by tag. A *place* is one in this list: the tables of a cut stand in this order.
+pub const IN_ORDER: [usize; ALL_SLOTS] = [
+    16, 17, 18, 19, 0, 1, 2, 3, 4, 5, 6, 7, 8, 20, 9, 10, 11, 12, 13, 14, 15,
+];
+
+/// The slot of `BASE`.
+pub const BASE: usize = 16;
+
+/// The slot of `GDEF`.
+pub const GDEF: usize = 17;
+
+/// The slot of `GPOS`.
+pub const GPOS: usize = 18;
+
+/// The slot of `GSUB`.
+pub const GSUB: usize = 19;
+
+/// The slot of `kern`.
+pub const KERN: usize = 20;
 
 /// The slot of `cmap`.
 pub const CMAP: usize = 1;
@@ -65,6 +103,28 @@ pub const VMTX: usize = 15;
 
 /// The table whose checksum leaves a field out.
 pub(crate) const HEAD_TAG: Tag = Tag(*b"head");
+
+/// Returns the slot of the table at a place.
+#[tactic(auto, using(crate::proofs::PlaceLemmas::slot_at_low), unfolding(crate::specs::Directory::slot_at))]
+pub fn slot_in(place: usize) -> usize
+    requires { place < SLOT_COUNT }
+    ensures slot { result ≡ slot_at place }
+    ensures low { result < SLOT_COUNT }
+{
+    IN_ORDER[place]
+}
+
+/// Returns the tag of a slot.
+#[tactic(auto, unfolding(crate::specs::Directory::slot_tag, crate::specs::Directory::kept_tag))]
+pub fn tag_of(slot: usize) -> Tag
+    requires { slot < SLOT_COUNT }
+    ensures { result ≡ slot_tag slot }
+{
+    if slot < SLOTS {
+        return KEPT[slot];
+    }
+    LAYOUT[slot - SLOTS]
+}
 
 fn is_among(tags: &[Tag], tag: Tag) -> bool
     ensures { result ≡ list_any (λ kept. bytes_eq kept.0 tag.0) tags.now }

@@ -15,6 +15,10 @@ mod closures;
 #[cfg(test)]
 mod fonts;
 #[cfg(test)]
+mod layouts;
+#[cfg(test)]
+mod links;
+#[cfg(test)]
 mod refusals_of_memory;
 #[cfg(test)]
 mod wanted_sets;

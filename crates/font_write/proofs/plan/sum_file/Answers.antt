@@ -1,3 +1,4 @@
+use Rattle.sfnt_bytes.specs.Directory.{slot_at}
 use Rattle.std.proofs.Common.{◌≡◌, ℕ, length, sym, ap, subst, ◌∙◌, arith, length-append}
 use Rattle.sfnt_bytes.specs.Sums.{checksum_of}
 use Rattle.font_theory.specs.Bytes.{padded}
@@ -15,8 +16,8 @@ header-requires-clause-some g c = let between = count_between (writing_of c.args
 pub header-requires-clause-few : goal.header-requires-clause-few
 header-requires-clause-few g c = let between = count_between (writing_of c.args.profile) (g.S.Source.content_of c.args.source.now) in omega (arith, between.1, c.requires.count)
 
-pub loop-slot-init : goal.loop-slot-init
-loop-slot-init g c =
+pub loop-place-init : goal.loop-place-init
+loop-place-init g c =
     let writing : Writing = writing_of c.args.profile in
     let K = g.S.Source.content_of c.args.source.now in
     record {
@@ -24,38 +25,38 @@ loop-slot-init g c =
       offset = omega (arith, c.requires.count, ap length (bodies_start writing K));
     }
 
-pub overflow_add-offset-in-loop-slot : goal.overflow_add-offset-in-loop-slot
-overflow_add-offset-in-loop-slot g c =
+pub overflow_add-offset-in-loop-place : goal.overflow_add-offset-in-loop-place
+overflow_add-offset-in-loop-place g c =
     let writing : Writing = writing_of c.args.profile in
     let K = g.S.Source.content_of c.args.source.now in
-    let slot : ℕ = c.loop-slot.slot in
-    let m : IsMeasure writing K slot (measure_at c.args.measures.now slot) = c.requires.measures slot (omega arith) in
-    omega (arith, m.long, c.padding.ensures, c.requires.small, slot_ends writing K slot (omega arith), length-padded-is (bytes_at writing K slot))
+    let slot : ℕ = c.loop-place.place in
+    let m : IsMeasure writing K (slot_at slot) (measure_at c.args.measures.now slot) = c.requires.measures slot (omega arith) in
+    omega (arith, m.long, c.padding.ensures, c.requires.small, slot_ends writing K slot (omega arith), length-padded-is (bytes_at writing K (slot_at slot)))
 
-pub overflow_add-offset-in-loop-slot-2 : goal.overflow_add-offset-in-loop-slot-2
-overflow_add-offset-in-loop-slot-2 g c =
+pub overflow_add-offset-in-loop-place-2 : goal.overflow_add-offset-in-loop-place-2
+overflow_add-offset-in-loop-place-2 g c =
     let writing : Writing = writing_of c.args.profile in
     let K = g.S.Source.content_of c.args.source.now in
-    let slot : ℕ = c.loop-slot.slot in
-    let m : IsMeasure writing K slot (measure_at c.args.measures.now slot) = c.requires.measures slot (omega arith) in
-    omega (arith, m.long, c.padding.ensures, c.requires.small, slot_ends writing K slot (omega arith), length-padded-is (bytes_at writing K slot), c.loop-slot.invariant.offset)
+    let slot : ℕ = c.loop-place.place in
+    let m : IsMeasure writing K (slot_at slot) (measure_at c.args.measures.now slot) = c.requires.measures slot (omega arith) in
+    omega (arith, m.long, c.padding.ensures, c.requires.small, slot_ends writing K slot (omega arith), length-padded-is (bytes_at writing K (slot_at slot)), c.loop-place.invariant.offset)
 
-pub loop-slot-preserved : goal.loop-slot-preserved
-loop-slot-preserved g c =
+pub loop-place-preserved : goal.loop-place-preserved
+loop-place-preserved g c =
     let writing : Writing = writing_of c.args.profile in
     let K = g.S.Source.content_of c.args.source.now in
-    let slot : ℕ = c.loop-slot.slot in
-    let m : IsMeasure writing K slot (measure_at c.args.measures.now slot) = c.requires.measures slot (omega arith) in
+    let slot : ℕ = c.loop-place.place in
+    let m : IsMeasure writing K (slot_at slot) (measure_at c.args.measures.now slot) = c.requires.measures slot (omega arith) in
     let more = ap length (bodies_more writing K slot) in
     record {
-      summed = sum_more writing K slot _ _ _ c.recall_laws.ensures.writable (omega arith) c.loop-slot.invariant.summed c.sum_slot-sum.ensures;
-      offset = omega (arith, m.long, c.padding.ensures, more, length-append (bodies_to writing K slot) (padded (bytes_at writing K slot)), length-padded-is (bytes_at writing K slot), c.loop-slot.invariant.offset);
+      summed = sum_more writing K slot _ _ _ c.recall_laws.ensures.writable (omega arith) c.loop-place.invariant.summed c.sum_slot-sum.ensures;
+      offset = omega (arith, m.long, c.padding.ensures, more, length-append (bodies_to writing K slot) (padded (bytes_at writing K (slot_at slot))), length-padded-is (bytes_at writing K (slot_at slot)), c.loop-place.invariant.offset);
     }
 
 pub returns : goal.returns
 returns g c =
     let writing : Writing = writing_of c.args.profile in
     let K = g.S.Source.content_of c.args.source.now in
-    let all : c.loop-slot.slot ≡ 16 = omega arith in
-    sum_end writing K (checksum_of (header_bytes c.args.count)) c.loop-slot.sum c.recall_laws.ensures.writable (ap (λ (n : ℕ). checksum_of (header_bytes n)) c.requires.count)
-    (subst (λ (n : ℕ). IsSum writing K n (checksum_of (header_bytes c.args.count)) c.loop-slot.sum) all c.loop-slot.invariant.summed)
+    let all : c.loop-place.place ≡ 21 = omega arith in
+    sum_end writing K (checksum_of (header_bytes c.args.count)) c.loop-place.sum c.recall_laws.ensures.writable (ap (λ (n : ℕ). checksum_of (header_bytes n)) c.requires.count)
+    (subst (λ (n : ℕ). IsSum writing K n (checksum_of (header_bytes c.args.count)) c.loop-place.sum) all c.loop-place.invariant.summed)

@@ -1,0 +1,75 @@
+//! The numbers that links lead to, this project's own.
+ghost use Rattle.std.specs.Prelude.{◌≡◌, ◌<◌, ◌↔◌, ℕ, List, IfOk, OnOk, length, true};
+ghost use Rattle.std.specs.List.{AllByRecursion};
+ghost use Rattle.font_glyph.specs.Closure.{marks_after, work_after};
+ghost use Rattle.font_glyph.specs.Linked.{Linked};
+ghost use Rattle.font_glyph.specs.Marks.{has};
+
+use crate::closure::{marked, put};
+use crate::marks::Marks;
+use sfnt_bytes::NoMemory;
+use std::alloc::Allocator;
+
+/// How many numbers a table may name glyphs by: 0 to 0xFFFF (OpenType 1.9, Data Types, uint16).
+pub const NUMBERS: usize = 65_536;
+
+/// Links: the other numbers that a number leads to.
+pub trait Links {
+    /// The links of each number.
+    ghost links_at: { Self → ℕ → List ℕ };
+
+    /// Returns the links of a number, in any order.
+    fn of(&self, g: u16) -> &[u16]
+        ensures { result.now ≡ links_at self.now g };
+}
+
+// Marks each link, and puts those that had no mark at the end of the work.
+#[tactic(auto, unfolding(crate::specs::Marks::has))]
+fn visit_links<A: Allocator>(
+    links: &[u16],
+    marks: &mut Marks<A>,
+    work: &mut Vec<u16, A>,
+) -> Result<(), NoMemory>
+    requires { length marks.old ≡ NUMBERS }
+    ensures below { AllByRecursion (λ h. h < NUMBERS) links.now }
+    ensures marks { OnOk result (marks.new ≡ marks_after links.now marks.old) }
+    ensures work { OnOk result (work.new.items ≡ work_after links.now marks.old work.old.items) }
+{
+    for link in links {
+        if !marks.has(*link) {
+            marks.set(*link);
+            put(work, *link)?;
+        }
+    }
+    Ok(())
+}
+
+/// Marks the glyphs below `count` that chains of links lead to from the seeds, also over numbers that are
+/// no glyphs, and no others.
+///
+/// Each number is looked at once at the most, so the time is linear in the numbers and in their links.
+///
+/// # Errors
+///
+/// `NoMemory` where memory is refused.
+pub fn follow<L: Links, A: Allocator + Copy>(
+    alloc: A,
+    links: &L,
+    seeds: &Marks<A>,
+    count: u16,
+) -> Result<Marks<A>, NoMemory>
+    requires { length seeds.now ≡ count }
+    ensures count { IfOk result (λ marks. length marks ≡ count) }
+    ensures linked { IfOk result (λ marks. (g : ℕ) → has marks g ≡ true ↔ (g < count)
+        × Linked (L.links_at links.now) (has seeds.now) NUMBERS g) }
+{
+    let seeded = marked(alloc, seeds, count)?;
+    let mut marks = Marks::unmarked(alloc, NUMBERS)?;
+    let mut work = Vec::new(alloc);
+    visit_links(&seeded, &mut marks, &mut work)?;
+    while let Some(g) = work.pop() {
+        visit_links(links.of(g), &mut marks, &mut work)?;
+    }
+    marks.narrow(count as usize);
+    Ok(marks)
+}

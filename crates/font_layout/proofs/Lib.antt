@@ -1,0 +1,9 @@
+pub mod CountedLemmas
+pub mod RuleLemmas
+pub mod WalkLemmas
+pub mod LayoutLemmas
+pub mod KeptLemmas
+pub mod LinkLemmas
+pub mod LawLemmas
+pub mod NumberLemmas
+pub mod CleaningLemmas

@@ -1,0 +1,10 @@
+pub mod Cleaning
+pub mod Counted
+pub mod Coverage
+pub mod Inside
+pub mod Laws
+pub mod Layout
+pub mod Rule
+pub mod Steps
+pub mod Text
+pub mod Worked

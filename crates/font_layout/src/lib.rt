@@ -1,0 +1,23 @@
+//! The glyphs that a font may put in place of others: the links of its GSUB.
+//! OpenType 1.9, GSUB and OpenType Layout Common Table Formats.
+#![tactic(auto)]
+
+mod cleaning;
+mod counted;
+mod coverage;
+mod entry;
+mod kept;
+mod laws;
+mod layout;
+mod links;
+mod lookup;
+mod rule;
+mod step;
+mod subtable;
+mod walk;
+
+pub use crate::cleaning::fixed_table;
+pub use crate::laws::{leads_are_links, leads_are_listed, worked_links, worked_refusals};
+pub use crate::layout::{BadLayout, Layout, STEP_LIMIT};
+pub use crate::links::Links;
+pub use crate::step::Link;
