@@ -127,6 +127,11 @@ def fontcut(*words, **how):
     return run(FONTCUT, *words, **how)
 
 
+def quiet(*words, program=PROGRAM, **how):
+    """Runs the program so that it says the first lines of its messages alone."""
+    return run(program, *words[:1], "--quiet", *words[1:], **how)
+
+
 def same(name, wanted, found):
     check(name, wanted == found, f"wanted {wanted}", f"found  {found}")
 

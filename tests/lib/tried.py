@@ -2,7 +2,7 @@
 import os
 import tempfile
 
-from checks import PROGRAM, built, check, end, put, run, same, same_bytes
+from checks import built, check, end, put, quiet, same, same_bytes
 from font_changing import cut_for
 import font_reading
 from font_reading import table
@@ -25,7 +25,9 @@ class Tried:
         for path, file in zip(paths, files):
             put(path, file)
         line = {"subset": [*paths, "-"], "join": ["-", *paths]}.get(command, paths)
-        return run(PROGRAM, command, *line, *words)
+        if command == "subset" and not words:
+            words = ["--text", ""]
+        return quiet(command, *line, *words)
 
     def made(self, command, *files, words=()):
         """The cut or the join that the program makes, or what it says in its place."""

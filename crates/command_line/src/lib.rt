@@ -1,8 +1,10 @@
 //! The command line of `fontcut`, read by `clap`: this crate alone names `clap`, and gives plain things.
 #![tactic(auto)]
 
+mod peers;
 mod texts;
 
+use crate::peers::served;
 use clap::error::ErrorKind;
 use clap::{Arg, ArgAction, ArgMatches, Command, Error};
 use std::alloc::{AllocError, Global};
@@ -12,6 +14,12 @@ pub const VERSION: &str = "0.10.0";
 
 /// The word that stands for standard input where a file is read, and for standard output as OUT.
 pub const STANDARD: &str = "-";
+
+// What `clap` says before an option that it does not know.
+const UNEXPECTED: &str = "unexpected argument '";
+
+// The option that asks for the first lines of messages alone.
+const QUIET: &str = "--quiet";
 
 // What `clap` says before the option that it suggests for an unknown one.
 const SUGGESTION: &str = "  tip: a similar argument exists: '--";
@@ -29,8 +37,19 @@ const SUBCOMMANDS: [&str; 8] = [
 pub struct Line<'a> {
     /// What it asks for.
     pub task: Task<'a>,
-    /// Whether the system's reason is said where a file cannot be read or written.
-    pub is_verbose: bool,
+    /// How much is said where something fails.
+    pub verbosity: Verbosity,
+}
+
+/// How much is said where something fails.
+#[derive(Clone, Copy, Debug, PartialEq, Eq)]
+pub enum Verbosity {
+    /// The first line of a message alone, as `--quiet` asks.
+    Quiet,
+    /// The first line, and the file or the system's reason.
+    Plain,
+    /// What to do as well, as `--verbose` asks.
+    Verbose,
 }
 
 /// What a command line asks for.
@@ -93,6 +112,8 @@ pub struct Subset<'a> {
     pub is_strict: bool,
     /// Whether the lean cut is written.
     pub is_lean: bool,
+    /// Whether OUT may have the ending of a packed font.
+    pub is_forced: bool,
     /// Whether a report shows characters beside their codes.
     pub shows_characters: bool,
 }
@@ -108,8 +129,14 @@ pub struct Slices<'a> {
     pub slices: &'a str,
     /// The name of the family in the rules of a style sheet, where these are printed.
     pub family: Option<&'a str>,
+    /// Whether nothing is written where the font maps no code of a slice.
+    pub is_strict: bool,
     /// Whether lean cuts are written.
     pub is_lean: bool,
+    /// Whether the folder may have the ending of a packed font.
+    pub is_forced: bool,
+    /// Whether the first lines of messages are said alone.
+    pub is_quiet: bool,
 }
 
 /// What `join` asks for.
@@ -119,8 +146,12 @@ pub struct Join<'a> {
     pub out: &'a str,
     /// The paths of the cuts, one at least.
     pub files: Vec<&'a str>,
+    /// Whether the path that is written to is the first word, and not the value of an option.
+    pub has_out_first: bool,
     /// Whether the files are lean cuts, and their lean join is asked for.
     pub is_lean: bool,
+    /// Whether OUT may have the ending of a packed font.
+    pub is_forced: bool,
 }
 
 /// Why a command line asks for nothing that can be done.
@@ -196,6 +227,7 @@ fn subset_command<'a>(alloc: Global) -> Result<Command<'a>, AllocError> {
         .arg(flag(alloc, "report", texts::REPORT))?
         .arg(flag(alloc, "strict", texts::STRICT))?
         .arg(flag(alloc, "lean", texts::LEAN))?
+        .arg(flag(alloc, "force", texts::FORCE))?
         .arg(words)
 }
 
@@ -213,7 +245,9 @@ fn slice_command<'a>(alloc: Global) -> Result<Command<'a>, AllocError> {
         .arg(required(alloc, "FOLDER").help(texts::FOLDER))?
         .arg(slices)?
         .arg(css)?
-        .arg(flag(alloc, "lean", texts::LEAN_SLICES))
+        .arg(flag(alloc, "strict", texts::STRICT_SLICES))?
+        .arg(flag(alloc, "lean", texts::LEAN_SLICES))?
+        .arg(flag(alloc, "force", texts::FORCE))
 }
 
 fn join_command<'a>(alloc: Global) -> Result<Command<'a>, AllocError> {
@@ -222,11 +256,24 @@ fn join_command<'a>(alloc: Global) -> Result<Command<'a>, AllocError> {
         .action(ArgAction::Append)
         .required(true)
         .help(texts::FILES);
+    let out = Arg::new(alloc, "output")
+        .short('o')
+        .long("output")
+        .value_name("OUT")
+        .help(texts::OUT);
     Command::new(alloc, "join")
         .about(texts::JOIN)
-        .arg(Arg::new(alloc, "OUT").required(true).help(texts::OUT))?
+        .override_usage(texts::JOIN_USAGE)
+        .arg(out)?
         .arg(flag(alloc, "lean", texts::LEAN_JOIN))?
+        .arg(flag(alloc, "force", texts::FORCE))?
         .arg(files)
+}
+
+// Returns the error of a line of `join` that names no output, and one file at most.
+fn no_output(alloc: Global) -> Result<Error, AllocError> {
+    let mut command = join_command(alloc)?.bin_name("fontcut join")?;
+    command.error(ErrorKind::MissingRequiredArgument, texts::NO_OUTPUT)
 }
 
 fn demo_command<'a>(alloc: Global) -> Command<'a> {
@@ -257,7 +304,8 @@ fn bare_command<'a>(alloc: Global) -> Result<Command<'a>, AllocError> {
         .after_help(texts::AFTER_PROGRAM)
         .no_binary_name(true)
         .subcommand_required(true)
-        .arg(flag(alloc, "verbose", texts::VERBOSE).global(true))
+        .arg(flag(alloc, "verbose", texts::VERBOSE).global(true))?
+        .arg(flag(alloc, "quiet", texts::QUIET).global(true))
 }
 
 // Returns the program's command with all subcommands, in the order in which help lists them.
@@ -287,13 +335,39 @@ fn without_suggestion(alloc: Global, text: String) -> Result<String, AllocError>
     Ok(kept)
 }
 
+// Returns the option that a text of `clap` calls unexpected, or no text.
+fn unexpected(text: &str) -> &str {
+    let (_, rest) = text.split_once(UNEXPECTED).unwrap_or(("", ""));
+    rest.split_once("'").map_or("", |(option, _)| option)
+}
+
+// Returns what is said of a line that has an option of another subsetter: the text, and what serves in its place.
+fn with_peer(alloc: Global, text: String) -> Result<String, AllocError> {
+    let option = unexpected(text.as_str());
+    let Some(answer) = served(option) else {
+        return Ok(text);
+    };
+    let mut said = String::from_str(alloc, text.as_str())?;
+    write!(said, "fontcut: {option}: {answer}\n")?;
+    Ok(said)
+}
+
+// Returns what is said of a line at fault, of which this is the text of `clap`.
+fn said_of_fault(alloc: Global, text: String, is_quiet: bool) -> Result<String, AllocError> {
+    let text = without_suggestion(alloc, text)?;
+    if is_quiet {
+        return Ok(text);
+    }
+    with_peer(alloc, text)
+}
+
 // Returns what an error of `clap` comes to, by which it also answers a call for help or the version.
-fn explained(alloc: Global, fault: &Error) -> LineError {
+fn explained(alloc: Global, fault: &Error, is_quiet: bool) -> LineError {
     if fault.kind() == ErrorKind::OutOfMemory {
         return LineError::NoMemory;
     }
     match fault.to_string(alloc) {
-        Ok(text) if fault.use_stderr() => match without_suggestion(alloc, text) {
+        Ok(text) if fault.use_stderr() => match said_of_fault(alloc, text, is_quiet) {
             Ok(text) => LineError::Words(text),
             Err(_) => LineError::NoMemory,
         },
@@ -314,7 +388,7 @@ fn values_of<'a>(
 fn subset_task<'a>(
     alloc: Global,
     matches: &ArgMatches<'a>,
-    is_verbose: bool,
+    verbosity: Verbosity,
 ) -> Result<Option<Task<'a>>, AllocError> {
     let (Some(font), Some(out)) = (matches.get_str("FONT"), matches.get_str("OUT")) else {
         return Ok(None);
@@ -332,7 +406,8 @@ fn subset_task<'a>(
         reports: matches.get_flag("report"),
         is_strict: matches.get_flag("strict"),
         is_lean: matches.get_flag("lean"),
-        shows_characters: is_verbose,
+        is_forced: matches.get_flag("force"),
+        shows_characters: verbosity == Verbosity::Verbose,
     })))
 }
 
@@ -354,24 +429,50 @@ fn belongs_task<'a>(matches: &ArgMatches<'a>) -> Option<Task<'a>> {
     }))
 }
 
-fn slice_task<'a>(matches: &ArgMatches<'a>) -> Option<Task<'a>> {
+fn slice_task<'a>(matches: &ArgMatches<'a>, verbosity: Verbosity) -> Option<Task<'a>> {
     Some(Task::Slice(Slices {
         font: matches.get_str("FONT")?,
         folder: matches.get_str("FOLDER")?,
         slices: matches.get_str("slices")?,
         family: matches.get_str("css"),
+        is_strict: matches.get_flag("strict"),
         is_lean: matches.get_flag("lean"),
+        is_forced: matches.get_flag("force"),
+        is_quiet: verbosity == Verbosity::Quiet,
     }))
 }
 
+// Returns the output of a line of `join` and its files, where it has both: an option names the output, or else the
+// first word does.
+fn out_and_files<'a, 'm>(
+    named: Option<&'a str>,
+    words: &'m [&'a str],
+) -> Option<(&'a str, &'m [&'a str])> {
+    let (out, files) = match named {
+        Some(out) => (out, words),
+        None => {
+            let (first, rest) = words.split_first()?;
+            (*first, rest)
+        }
+    };
+    if files.is_empty() {
+        return None;
+    }
+    Some((out, files))
+}
+
 fn join_task<'a>(alloc: Global, matches: &ArgMatches<'a>) -> Result<Option<Task<'a>>, AllocError> {
-    let (Some(out), Some(_)) = (matches.get_str("OUT"), matches.get_strs("FILES")) else {
+    let named = matches.get_str("output");
+    let words = matches.get_strs("FILES").unwrap_or(&[]);
+    let Some((out, files)) = out_and_files(named, words) else {
         return Ok(None);
     };
     Ok(Some(Task::Join(Join {
         out,
-        files: values_of(alloc, matches, "FILES")?,
+        files: Vec::from_slice(alloc, files)?,
+        has_out_first: named.is_none(),
         is_lean: matches.get_flag("lean"),
+        is_forced: matches.get_flag("force"),
     })))
 }
 
@@ -379,19 +480,35 @@ fn task_of<'a>(
     alloc: Global,
     name: &str,
     matches: &ArgMatches<'a>,
-    is_verbose: bool,
+    verbosity: Verbosity,
 ) -> Result<Option<Task<'a>>, AllocError> {
     Ok(match name {
         "check" => matches.get_str("FONT").map(|font| Task::Check { font }),
         "show" => matches.get_str("FONT").map(|font| Task::Show { font }),
         "codes" => codes_task(matches),
         "belongs" => belongs_task(matches),
-        "subset" => subset_task(alloc, matches, is_verbose)?,
-        "slice" => slice_task(matches),
+        "subset" => subset_task(alloc, matches, verbosity)?,
+        "slice" => slice_task(matches, verbosity),
         "join" => join_task(alloc, matches)?,
         "demo" => Some(Task::Demo),
         _ => None,
     })
+}
+
+// Returns whether a flag of every command stands in a line, before the command's name or after it.
+fn has_flag(matches: &ArgMatches<'_>, inner: &ArgMatches<'_>, id: &str) -> bool {
+    matches.get_flag(id) || inner.get_flag(id)
+}
+
+// Returns how much is said where something fails. `--quiet` has the last word.
+fn verbosity_of(matches: &ArgMatches<'_>, inner: &ArgMatches<'_>) -> Verbosity {
+    if has_flag(matches, inner, "quiet") {
+        Verbosity::Quiet
+    } else if has_flag(matches, inner, "verbose") {
+        Verbosity::Verbose
+    } else {
+        Verbosity::Plain
+    }
 }
 
 // Returns what a line asks for, by what `clap` found in it.
@@ -399,9 +516,9 @@ fn line_of<'a>(alloc: Global, matches: &ArgMatches<'a>) -> Result<Option<Line<'a
     let Some((name, inner)) = matches.subcommand() else {
         return Ok(None);
     };
-    let is_verbose = matches.get_flag("verbose") || inner.get_flag("verbose");
-    match task_of(alloc, name, inner, is_verbose)? {
-        Some(task) => Ok(Some(Line { task, is_verbose })),
+    let verbosity = verbosity_of(matches, inner);
+    match task_of(alloc, name, inner, verbosity)? {
+        Some(task) => Ok(Some(Line { task, verbosity })),
         None => Ok(None),
     }
 }
@@ -424,12 +541,16 @@ fn matched_alone<'a>(alloc: Global, words: &'a [String]) -> Result<Option<ArgMat
 }
 
 // All subcommands take longer to make than most lines to read, and only help and faults tell of them.
-fn parse_line<'a>(alloc: Global, words: &'a [String]) -> Result<Option<Line<'a>>, Error> {
+fn parse_line<'a>(alloc: Global, words: &'a [String]) -> Result<Line<'a>, Error> {
     let matches = match matched_alone(alloc, words)? {
         Some(matches) => matches,
         None => whole_command(alloc)?.try_get_matches_from(words)?,
     };
-    Ok(line_of(alloc, &matches)?)
+    match line_of(alloc, &matches)? {
+        Some(line) => Ok(line),
+        // Each word that is required is there, so this is a line of `join` with one word.
+        None => Err(no_output(alloc)?),
+    }
 }
 
 // Returns how many of some paths stand for standard input.
@@ -452,16 +573,23 @@ fn reads_input_twice(task: &Task<'_>) -> bool {
     1 < count
 }
 
+/// Returns whether a line asks for the first lines of messages alone, be it at fault or not.
+pub fn is_quiet(words: &[String]) -> bool {
+    words.iter().any(|word| word.as_str() == QUIET)
+}
+
 /// Reads the arguments of a line, the program's own name not among them.
 ///
 /// # Errors
-/// `Help` and `Words` with the text of `clap`; `InputTwice` where standard input is named more than once
+/// `Help` and `Words` with the text of `clap`, and what serves in the place of an option of other subsetters; `InputTwice` where standard input is named more than once
 /// among the inputs; `NoMemory` where memory was refused.
 pub fn parse<'a>(alloc: Global, words: &'a [String]) -> Result<Line<'a>, LineError> {
     match parse_line(alloc, words) {
-        Ok(Some(line)) if reads_input_twice(&line.task) => Err(LineError::InputTwice),
-        Ok(Some(line)) => Ok(line),
-        Ok(None) => Err(LineError::Words(String::new(alloc))),
-        Err(fault) => Err(explained(alloc, &fault)),
+        Ok(line) if reads_input_twice(&line.task) => Err(LineError::InputTwice),
+        Ok(line) => Ok(line),
+        Err(fault) => {
+            let is_quiet = is_quiet(words);
+            Err(explained(alloc, &fault, is_quiet))
+        }
     }
 }

@@ -8,10 +8,12 @@ CUT or FONT, OUT and one of FILES may be -, which is standard input or standard 
 OUT is overwritten when all of it is written, and never left half done.
 
 Statuses: 0 done; 1 a font is refused, check finds something, belongs says no, or memory is refused;
-2 the words of the line are at fault; 3 a file cannot be read or written";
+2 usage error; 3 a file cannot be read or written";
 
 pub(crate) const VERBOSE: &str =
-    "Says more where something fails: the system's reason, the file, what it is";
+    "Says more where something fails: what to do, and characters beside their codes";
+
+pub(crate) const QUIET: &str = "Says the first line alone where something fails";
 
 pub(crate) const CHECK: &str = "Checks FONT: prints each finding, then whether it is accepted";
 
@@ -77,10 +79,12 @@ pub(crate) const REPORT: &str =
     "Says on standard error which wanted codes FONT lacks, and what the cut drops";
 
 pub(crate) const STRICT: &str =
-    "Writes nothing and reports, with status 1, where FONT lacks a wanted code";
+    "Writes nothing and reports, with status 1, where FONT lacks a wanted code or none is wanted";
 
 pub(crate) const LEAN: &str =
     "Writes the lean cut: no metrics of glyphs that are not kept, and no names of glyphs";
+
+pub(crate) const FORCE: &str = "Writes to a name that ends in .woff2 or .woff all the same";
 
 pub(crate) const LEAN_CUT: &str = "Asks for a lean cut, as subset --lean writes it";
 
@@ -106,6 +110,7 @@ variations (fvar, gvar ..), of colours and bitmaps, and signatures; fontcut show
 of a cut is that of its font: --lean with the word all makes a cut lean.
 
 Examples:
+  fontcut subset font.ttf cut.ttf all
   fontcut subset font.ttf cut.ttf --text 'Hello, world'
   fontcut subset font.ttf lean.ttf U+20-7E --lean
   fontcut subset font.ttf cut.ttf U+20-7E --text-file page.txt --report
@@ -124,11 +129,14 @@ pub(crate) const SLICES: &str =
 pub(crate) const CSS: &str =
     "Prints the rules of a style sheet for the slices, as parts of the family FAMILY";
 
+pub(crate) const STRICT_SLICES: &str =
+    "Writes nothing, with status 1, where FONT maps no code of a slice";
+
 pub(crate) const LEAN_SLICES: &str = "Writes lean cuts, as subset --lean does";
 
 pub(crate) const AFTER_SLICE: &str = "\
 A line of the file of slices: latin U+20-7E,U+A0-FF. The font is tested once for all slices. A rule lists
-those codes of its slice that the font maps; a slice of none has no rule.
+those codes of its slice that the font maps; a slice of none has no rule, and is named on standard error.
 
 Examples:
   fontcut slice font.ttf slices --slices slices.txt --lean
@@ -137,10 +145,14 @@ Examples:
 Statuses: 0 done; 1 the font is refused; 2 words, or a line of the file of slices; 3 files";
 
 pub(crate) const JOIN: &str =
-    "Joins FILES, cuts of one font, into OUT: the cut for all their characters. OUT comes first and \
-     is overwritten";
+    "Joins FILES, cuts of one font, into OUT: the cut for all their characters. OUT is overwritten";
 
-pub(crate) const FILES: &str = "Cuts of one font, in any order";
+pub(crate) const JOIN_USAGE: &str = "fontcut join [OPTIONS] -o <OUT> <FILES>...";
+
+pub(crate) const NO_OUTPUT: &str =
+    "no file to join into: name it by -o <OUT>, and the cuts after it";
+
+pub(crate) const FILES: &str = "Cuts of one font, in any order; without -o, the first word is OUT";
 
 pub(crate) const LEAN_JOIN: &str =
     "Joins lean cuts, as subset --lean writes them, into the lean cut";
@@ -150,9 +162,9 @@ A join keeps what its cuts kept, and drops nothing. It is the cut of the font fo
 Lean cuts join with --lean, and with lean cuts alone; subset --lean with the word all makes a cut lean.
 
 Examples:
-  fontcut join all.ttf latin.ttf greek.ttf
-  fontcut join all.ttf all.ttf more.ttf
-  fontcut join --lean all.ttf latin.ttf greek.ttf
+  fontcut join -o all.ttf latin.ttf greek.ttf
+  fontcut join -o all.ttf all.ttf more.ttf
+  fontcut join --lean -o all.ttf latin.ttf greek.ttf
 
 Statuses: 0 done; 1 a file is refused, or they are no cuts of one font; 2 words; 3 files";
 

@@ -5,13 +5,17 @@ use font_cut::{CODES, Chart, Font, Kind};
 use std::alloc::{AllocError, Global};
 
 // How many ranges of codes are listed.
-const LISTED: usize = 100;
+const LISTED: usize = 20;
 
 // What a lean cut leaves out.
 const LEAN_LINES: &str = "without metrics of glyphs that are not kept\nwithout names of glyphs\n";
 
 // What is said first where a strict line is not done.
 const UNWRITTEN: &str = "fontcut: nothing was written: the font lacks wanted codes\n";
+
+const NONE_MAPPED: &str = "fontcut: nothing was written: the font maps none of the wanted codes\n";
+
+const NONE_WANTED: &str = "fontcut: nothing was written: no codes are wanted\n";
 
 // Room for the last line, which is written after the cut is.
 const LAST_LINE: &str = "cut 134217728 bytes\n";
@@ -20,7 +24,9 @@ const LAST_LINE: &str = "cut 134217728 bytes\n";
 #[derive(Drop)]
 pub(crate) struct Coverage {
     text: String,
-    is_full: bool,
+    // How many codes are wanted, and how many of these the font does not map.
+    wanted: u32,
+    lacking: u32,
 }
 
 /// Returns the codes that a font maps.
@@ -76,7 +82,7 @@ fn add_characters(text: &mut String, first: u32, last: u32) -> Result<(), AllocE
 }
 
 // Adds a line for each range of codes, up to some number, and one that says how many more there are.
-fn add_unmapped(
+fn add_ranges(
     text: &mut String,
     ranges: &[(u32, u32)],
     shows_characters: bool,
@@ -96,6 +102,23 @@ fn add_unmapped(
         write!(text, "unmapped {more} more ranges\n")?;
     }
     Ok(())
+}
+
+// Adds how many codes are not mapped where their ranges are many, and their ranges unless all codes are wanted.
+fn add_unmapped(
+    text: &mut String,
+    ranges: &[(u32, u32)],
+    is_of_all: bool,
+    shows_characters: bool,
+) -> Result<(), AllocError> {
+    if LISTED < ranges.len() || is_of_all {
+        let count = count_of(ranges);
+        write!(text, "unmapped {count} codes\n")?;
+    }
+    if is_of_all {
+        return Ok(());
+    }
+    add_ranges(text, ranges, shows_characters)
 }
 
 // Adds a line for each table that is dropped, and one for the bytes of the file.
@@ -123,18 +146,30 @@ impl Coverage {
         let unmapped = unmapped_ranges(alloc, font, wanted)?;
         let (count, lacking) = (code_count(alloc, wanted)?, count_of(&unmapped));
         let mut text = first_lines(alloc, count, lacking)?;
-        add_unmapped(&mut text, &unmapped, shows_characters)?;
+        add_unmapped(&mut text, &unmapped, count == CODES, shows_characters)?;
         add_font(&mut text, font)?;
         text.reserve(LEAN_LINES.len() + LAST_LINE.len())?;
         Ok(Coverage {
             text,
-            is_full: lacking == 0,
+            wanted: count,
+            lacking,
         })
     }
 
-    /// Returns whether the font maps each code that is wanted.
-    pub(crate) fn is_full(&self) -> bool {
-        self.is_full
+    /// Returns whether a code is wanted, and the font maps each that is.
+    pub(crate) fn is_whole(&self) -> bool {
+        self.wanted != 0 && self.lacking == 0
+    }
+
+    // Returns the line that says that nothing was written, and why.
+    fn unwritten_line(&self) -> &'static str {
+        if self.wanted == 0 {
+            NONE_WANTED
+        } else if self.wanted == self.lacking {
+            NONE_MAPPED
+        } else {
+            UNWRITTEN
+        }
     }
 
     /// Returns a line that says that nothing was written, and the other lines.
@@ -142,7 +177,7 @@ impl Coverage {
     /// # Errors
     /// `AllocError` where memory is refused.
     pub(crate) fn unwritten_text(self, alloc: Global) -> Result<String, AllocError> {
-        let mut text = String::from_str(alloc, UNWRITTEN)?;
+        let mut text = String::from_str(alloc, self.unwritten_line())?;
         text.push_str(self.text.as_str())?;
         Ok(text)
     }

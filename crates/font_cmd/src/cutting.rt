@@ -8,7 +8,7 @@ use crate::held_files::HeldFiles;
 use crate::inputs::{inlet_at, sources};
 use crate::listed_word::is_range_word;
 use crate::outcome::Outcome;
-use crate::output::{outlet, placed};
+use crate::output::{outlet, packed_out, placed};
 use crate::report::Fault;
 use crate::system::System;
 use crate::wanted::{add_files, add_lists, codes_of};
@@ -89,7 +89,7 @@ fn cut_of_file<'a, F: HeldFiles, I, O: Write + Copy + Drop>(
     codes: CodeSet,
 ) -> Result<Outcome, Fault<'a>> {
     let coverage = covered(system.alloc, line, file, &codes)?;
-    if line.is_strict && !coverage.is_full() {
+    if line.is_strict && !coverage.is_whole() {
         let text = coverage.unwritten_text(system.alloc)?;
         return Ok(Outcome::saying(false, text));
     }
@@ -165,6 +165,26 @@ fn add_all_files<'a, F: HeldFiles, I: Read + Copy + Drop, O>(
     )
 }
 
+// Returns whether a line names a set of characters, be it empty.
+fn names_set(line: &Subset<'_>) -> bool {
+    let has_text = !line.texts.is_empty() || !line.text_files.is_empty();
+    let has_codes = !line.code_files.is_empty() || !line.lists.is_empty();
+    has_text || has_codes || !line.words.is_empty()
+}
+
+// Looks at the OUT of a line, and at whether it names a set of characters.
+fn check_line<'a>(line: &Subset<'a>) -> Result<(), Fault<'a>> {
+    if is_range_word(line.out) {
+        return Err(Fault::OutIsWord(line.out));
+    }
+    packed_out(line.out, line.is_forced)?;
+    if names_set(line) {
+        Ok(())
+    } else {
+        Err(Fault::NoSet)
+    }
+}
+
 /// Writes the cut of a font for the wanted codes. The words are looked at before the font is opened, and the
 /// font is opened before files of wanted codes.
 ///
@@ -175,9 +195,7 @@ pub(crate) fn subset<'a, F: HeldFiles, I: Read + Copy + Drop, O: Write + Copy + 
     kind: Kind,
     line: &Subset<'a>,
 ) -> Result<Outcome, Fault<'a>> {
-    if is_range_word(line.out) {
-        return Err(Fault::OutIsWord(line.out));
-    }
+    check_line(line)?;
     let mut choice = Choice::of(system.alloc, line)?;
     let mut inlet = inlet_at(system, line.font)?;
     add_all_files(system, line, &mut choice)?;

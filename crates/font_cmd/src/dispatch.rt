@@ -4,18 +4,19 @@ ghost use Rattle.streams.specs.Outlet.{fresh_of};
 
 use crate::cutting::subset;
 use crate::demo::demo_text;
+use crate::details::{Details, NO_DETAILS};
 use crate::held_files::HeldFiles;
 use crate::inputs::inlet_at;
 use crate::joining::join;
-use crate::outcome::{Details, NO_DETAILS, Outcome, answered, ended, print, report, say};
-use crate::refused_file::refused_kind;
+use crate::outcome::{Outcome, answered, ended, print, report, say};
+use crate::refused_file::{Seen, look_again};
 use crate::report::{Fault, no_memory};
 use crate::slicing::slice;
 use crate::system::{Reason, System};
-use command_line::{Belongs, Line, LineError, Task, parse};
+use command_line::{Belongs, Line, LineError, Task, Verbosity, is_quiet, parse};
 use commands::{RunError, run_belongs, run_check, run_codes, run_glyphs, run_show};
 use font_cut::{Kind, Outlet, Which};
-use std::alloc::Global;
+use std::alloc::{AllocError, Global};
 use std::io::{Read, Write};
 
 fn check<'a, F: HeldFiles, I: Read + Copy + Drop, O, W: Write>(
@@ -120,6 +121,18 @@ fn done<'a, F: HeldFiles, I: Read + Copy + Drop, O: Write + Copy + Drop, W: Writ
     }
 }
 
+// Returns what is known of the files of a fault, where more than its first line is said.
+fn seen_of<F: HeldFiles, I, O>(
+    system: &System<'_, F, I, O>,
+    verbosity: Verbosity,
+    outcome: &Result<Outcome, Fault<'_>>,
+) -> Result<Seen, AllocError> {
+    match outcome {
+        Err(fault) if verbosity != Verbosity::Quiet => look_again(system, fault),
+        _ => Ok(Seen::Nothing),
+    }
+}
+
 // Does what a line asks for, and answers the status.
 fn run_line<'a, F: HeldFiles, I: Read + Copy + Drop, O: Write + Copy + Drop, W: Write, V: Write>(
     system: &System<'a, F, I, O>,
@@ -132,14 +145,33 @@ fn run_line<'a, F: HeldFiles, I: Read + Copy + Drop, O: Write + Copy + Drop, W: 
 {
     let outcome = done(system, &line.task, out);
     let reason = system.reason.number();
-    let kind = match &outcome {
-        Err(fault) if line.is_verbose => refused_kind(system, fault),
-        _ => None,
+    let Ok(seen) = seen_of(system, line.verbosity, &outcome) else {
+        return report(system.alloc, err, no_memory(), NO_DETAILS);
     };
     let details = Details {
-        is_wanted: line.is_verbose,
+        verbosity: line.verbosity,
         reason,
-        kind,
+        seen,
+    };
+    ended(system.alloc, err, outcome, details)
+}
+
+// Prints help or the version, and answers the status.
+fn help<F, I, O, W: Write, V: Write>(
+    system: &System<'_, F, I, O>,
+    verbosity: Verbosity,
+    text: &str,
+    out: &mut Outlet<W>,
+    err: &mut Outlet<V>,
+) -> u8
+    requires out { fresh_of out.old ≡ true }
+    requires err { fresh_of err.old ≡ true }
+{
+    let outcome = print(out, text);
+    let details = Details {
+        verbosity,
+        reason: system.reason.number(),
+        seen: Seen::Nothing,
     };
     ended(system.alloc, err, outcome, details)
 }
@@ -171,7 +203,14 @@ where
         Ok(line) => run_line(system, &line, out, err),
         Err(LineError::NoMemory) => report(alloc, err, no_memory(), NO_DETAILS),
         Err(LineError::InputTwice) => report(alloc, err, Fault::InputTwice, NO_DETAILS),
-        Err(LineError::Help(text)) => ended(alloc, err, print(out, text.as_str()), NO_DETAILS),
+        Err(LineError::Help(text)) => {
+            let verbosity = if is_quiet(words) {
+                Verbosity::Quiet
+            } else {
+                Verbosity::Plain
+            };
+            help(system, verbosity, text.as_str(), out, err)
+        }
         Err(LineError::Words(text)) => {
             let _said = say(err, text.as_str());
             2

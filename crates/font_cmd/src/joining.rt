@@ -4,14 +4,17 @@ ghost use Rattle.commands.specs.Join.{AreFresh};
 
 use crate::held_files::HeldFiles;
 use crate::inputs::inlets_at;
+use crate::out_file::standing_file;
 use crate::outcome::Outcome;
-use crate::output::{outlet, placed};
+use crate::output::{outlet, packed_out, placed};
 use crate::report::{Fault, refused_join};
 use crate::system::System;
-use command_line::Join;
+use command_line::{Join, STANDARD};
 use commands::{RunError, run_join_of_kind};
 use font_cut::Kind;
+use std::fs;
 use std::io::{Read, Write};
+use std::os::unix::fs::MetadataExt;
 use streams::Inlet;
 
 // Returns the path of the inlet whose reader has failed.
@@ -56,7 +59,41 @@ fn send_join<'a, F: HeldFiles, I, O: Write + Copy + Drop, R: Read>(
     Ok(Outcome::of(true))
 }
 
-/// Writes the join of files that are cuts of a kind.
+// Returns whether the file at a path is this one.
+fn is_file_at<F: HeldFiles>(files: &F, path: &str, stands: &fs::Metadata) -> bool {
+    if path == STANDARD {
+        return false;
+    }
+    match fs::metadata(files, path) {
+        Ok(other) => other.ino() == stands.ino() && other.dev() == stands.dev(),
+        Err(_) => false,
+    }
+}
+
+// Refuses a line whose first word is OUT where the one file that follows it would replace another file: so it is where
+// OUT is forgotten, and two cuts are named.
+fn keep_forgotten<'a, F: HeldFiles, I, O>(
+    system: &System<'a, F, I, O>,
+    line: &Join<'a>,
+) -> Result<(), Fault<'a>> {
+    let (out, count) = (line.out, line.files.len());
+    if count != 1 || !line.has_out_first || out == STANDARD {
+        return Ok(());
+    }
+    let Some(&file) = line.files.first() else {
+        return Ok(());
+    };
+    let Some(stands) = standing_file(system.files, system.alloc, out)? else {
+        return Ok(());
+    };
+    if file == out || is_file_at(system.files, file, &stands) {
+        return Ok(());
+    }
+    Err(Fault::Replaces { file, out })
+}
+
+/// Writes the join of files that are cuts of a kind. Whether OUT may be replaced is looked at after all files are
+/// open.
 ///
 /// # Errors
 /// The first fault.
@@ -65,6 +102,8 @@ pub(crate) fn join<'a, F: HeldFiles, I: Read + Copy + Drop, O: Write + Copy + Dr
     kind: Kind,
     line: &Join<'a>,
 ) -> Result<Outcome, Fault<'a>> {
+    packed_out(line.out, line.is_forced)?;
     let mut inlets = inlets_at(system, &line.files)?;
+    keep_forgotten(system, line)?;
     send_join(system, kind, line, &mut inlets)
 }

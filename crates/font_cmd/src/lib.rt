@@ -6,6 +6,7 @@ mod code_set;
 mod coverage;
 mod cutting;
 mod demo;
+mod details;
 mod dispatch;
 mod glyph_columns;
 mod held_files;

@@ -71,6 +71,26 @@ fn followed<F: HeldFiles>(files: &F, alloc: Global, path: &str) -> Result<PathBu
     Ok(path)
 }
 
+/// Returns what is known of the regular file at a path, its links followed, where one stands there and would be
+/// replaced.
+///
+/// # Errors
+/// `AllocError` where memory is refused.
+pub(crate) fn standing_file<F: HeldFiles>(
+    files: &F,
+    alloc: Global,
+    path: &str,
+) -> Result<Option<fs::Metadata>, AllocError> {
+    let path = followed(files, alloc, path)?;
+    if is_handle(&path) {
+        return Ok(None);
+    }
+    match fs::metadata(files, path.as_path()) {
+        Ok(stands) if stands.is_file() => Ok(Some(stands)),
+        _ => Ok(None),
+    }
+}
+
 // Returns a path of a file beside a path, with room for another name after its own: `set_file_name`
 // asks for that before it lets the old name go.
 fn longest_beside(alloc: Global, path: &PathBuf) -> Result<PathBuf, AllocError> {

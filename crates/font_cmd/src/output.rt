@@ -40,6 +40,26 @@ pub(crate) fn outlet<'a, 'p, F: HeldFiles, I, O: Write + Copy + Drop>(
     Ok(Outlet::new(block))
 }
 
+/// Returns the path before the ending of a packed font, where a path has one.
+pub(crate) fn before_packed(path: &str) -> Option<&str> {
+    let (before, ending) = path.rsplit_once('.')?;
+    if ending.eq_ignore_ascii_case("woff2") || ending.eq_ignore_ascii_case("woff") {
+        return Some(before);
+    }
+    None
+}
+
+/// Refuses an OUT with the ending of a packed font, unless that is forced.
+///
+/// # Errors
+/// `PackedOut` where it has one.
+pub(crate) fn packed_out(path: &str, is_forced: bool) -> Result<(), Fault<'_>> {
+    match before_packed(path) {
+        Some(before) if !is_forced => Err(Fault::PackedOut(before)),
+        _ => Ok(()),
+    }
+}
+
 /// Moves the finished file to OUT. Its outlet was flushed.
 ///
 /// # Errors

@@ -1,19 +1,81 @@
-//! What a file is that is refused as a font. OpenType 1.9, Organization of an OpenType Font; WOFF File Format 1.0
-//! and 2.0, the signature of a file.
+//! What files are that are refused as fonts or not joined: they are read again. OpenType 1.9, Organization of an
+//! OpenType Font; WOFF File Format 1.0 and 2.0, the signature of a file.
 use crate::report::Fault;
 use crate::system::System;
 use command_line::STANDARD;
 use commands::RunError;
+use font_cut::{
+    CutForm, Font, FontError, JoinAllError, JoinError, Kind, NoMemory, TableError, form_of_kind,
+};
+use std::alloc::{AllocError, Global};
+use std::fs;
 use std::fs::File;
 use std::io::Read;
 use std::rt::Files;
+use streams::{Inlet, ReadError};
 
 // What is said of a font whose mapping is not read.
 const UNMAPPED: &str =
     "a font without a mapping of Unicode that is read: one of symbols alone has none";
 
+// What is said of a file that is no cut.
+const NO_CUT: &str = "no cut as fontcut writes it";
+
+// What is said of a cut that makes a join too large.
+const TOO_LARGE: &str = "with this file the join is too large";
+
 // The number of the refusal of a font without a mapping.
 const NO_MAPPING: u8 = 13;
+
+// The bytes before the records of tables, the bytes of a record, and those that are read of a file: 64 records.
+const HEADER: usize = 12;
+
+const RECORD: usize = 16;
+
+const FIRST: usize = 1036;
+
+// What a font without `glyf` is that has one of these tables; the first one that it has decides.
+const WITHOUT_GLYF: [(&[u8], &str); 7] = [
+    (
+        b"CBDT",
+        "a font of colour bitmaps (CBDT), without outlines in glyf",
+    ),
+    (
+        b"sbix",
+        "a font of colour bitmaps (sbix), without outlines in glyf",
+    ),
+    (
+        b"CFF2",
+        "a font with CFF2 outlines, without outlines in glyf",
+    ),
+    (
+        b"CFF ",
+        "a font with CFF outlines, without outlines in glyf",
+    ),
+    (
+        b"SVG ",
+        "a colour font of SVG images, without outlines in glyf",
+    ),
+    (
+        b"EBDT",
+        "a font of bitmaps (EBDT), without outlines in glyf",
+    ),
+    (b"COLR", "a colour font (COLR), without outlines in glyf"),
+];
+
+/// What is known of files that are refused.
+#[derive(Clone, Copy)]
+pub(crate) enum Seen {
+    /// Nothing.
+    Nothing,
+    /// What the refused file is.
+    What(&'static str),
+    /// Of which kind the first file of a join is as a cut, and the one that is refused, where that is known.
+    Cuts {
+        first: Option<Kind>,
+        refused: Option<Kind>,
+    },
+}
 
 // Returns what a file is that begins with these bytes.
 fn kind_of(first: &[u8]) -> Option<&'static str> {
@@ -26,30 +88,177 @@ fn kind_of(first: &[u8]) -> Option<&'static str> {
     }
 }
 
-// Returns what the file at a path is by its first four bytes, where it can be read again.
-fn kind_at<F: Files>(files: &F, path: &str) -> Option<&'static str> {
+// Returns whether some records of tables have a tag.
+fn has_table(records: &[u8], tag: &[u8]) -> bool {
+    records
+        .chunks_exact(RECORD)
+        .any(|record| record.starts_with(tag))
+}
+
+// Returns what a font without `glyf` is by its records of tables.
+fn kind_without_glyf(rows: &[(&[u8], &'static str)], records: &[u8]) -> Option<&'static str> {
+    for (tag, kind) in rows {
+        if has_table(records, tag) {
+            return Some(*kind);
+        }
+    }
+    None
+}
+
+// Returns the records of tables among the first bytes of a font.
+fn records_of(first: &[u8]) -> &[u8] {
+    let count = match first.get(4..6) {
+        Some(bytes) => usize::from(u16::from_be_bytes([bytes[0], bytes[1]])),
+        None => 0,
+    };
+    let all = first.get(HEADER..).unwrap_or(&[]);
+    all.get(..count.saturating_mul(RECORD)).unwrap_or(all)
+}
+
+// Returns what a refused font is by its first bytes.
+fn kind_by(first: &[u8], is_without_glyf: bool) -> Option<&'static str> {
+    if is_without_glyf {
+        return kind_without_glyf(&WITHOUT_GLYF, records_of(first));
+    }
+    kind_of(first.get(..4).unwrap_or(&[]))
+}
+
+// Opens the file at a path once more. A pipe has no more bytes, and would be waited for.
+fn opened<F: Files>(files: &F, path: &str) -> Option<F::File> {
     if path == STANDARD {
         return None;
     }
-    let mut file = File::open(files, path).ok()?;
-    let mut first = [0u8; 4];
+    let stands = fs::metadata(files, path).ok()?;
+    if !stands.is_file() {
+        return None;
+    }
+    File::open(files, path).ok()
+}
+
+// Returns what the file at a path is by its first bytes, where it can be read again.
+fn kind_at<F: Files>(files: &F, path: &str, is_without_glyf: bool) -> Option<&'static str> {
+    let mut file = opened(files, path)?;
+    let mut first = [0u8; FIRST];
     match file.read(&mut first) {
-        Ok(4) => kind_of(&first),
+        Ok(count) => kind_by(first.get(..count)?, is_without_glyf),
+        Err(_) => None,
+    }
+}
+
+// Returns the kind of a font that is a cut. A lean cut has the form of a full one too.
+fn cut_kind(alloc: Global, font: &Font<'_>) -> Result<Option<Kind>, NoMemory> {
+    let form = form_of_kind(alloc, Kind::Lean, font)?;
+    if !matches!(form, CutForm::Not) {
+        return Ok(Some(Kind::Lean));
+    }
+    let form = form_of_kind(alloc, Kind::Full, font)?;
+    if !matches!(form, CutForm::Not) {
+        return Ok(Some(Kind::Full));
+    }
+    Ok(None)
+}
+
+// Returns the kind of a file that is a cut.
+fn file_kind(alloc: Global, file: &[u8]) -> Result<Option<Kind>, AllocError> {
+    let Ok(font) = Font::open(file) else {
+        return Ok(None);
+    };
+    cut_kind(alloc, &font).map_err(|_| AllocError)
+}
+
+// Returns the kind of the cut at a path, where it is one and can be read again.
+fn cut_kind_at<F: Files>(files: &F, alloc: Global, path: &str) -> Result<Option<Kind>, AllocError> {
+    let Some(file) = opened(files, path) else {
+        return Ok(None);
+    };
+    let mut inlet = Inlet::new(file);
+    match inlet.read_all(alloc) {
+        Ok(bytes) => file_kind(alloc, &bytes),
+        Err(ReadError::NoMemory) => Err(AllocError),
+        Err(_) => Ok(None),
+    }
+}
+
+// Returns why a file is refused as a font, where that is why a run is not done.
+fn font_error(error: &RunError) -> Option<&FontError> {
+    match error {
+        RunError::Font(error)
+        | RunError::OneOf(_, error)
+        | RunError::Join(
+            JoinAllError::At {
+                step: _,
+                error: JoinError::Font(_, error),
+            },
+        ) => Some(error),
         _ => None,
     }
 }
 
-/// Returns what a file is instead of a font that is read, where that is why a line is not done.
-pub(crate) fn refused_kind<F: Files, I, O>(
+// Returns what a file is that is no font, by the refusal and by its first bytes.
+fn refused_font<F: Files>(files: &F, path: &str, error: &FontError) -> Option<&'static str> {
+    if error.number() == NO_MAPPING {
+        return Some(UNMAPPED);
+    }
+    let is_without_glyf = match error {
+        FontError::Tables(TableError::MissingTable(tag)) => tag.0 == *b"glyf",
+        _ => false,
+    };
+    kind_at(files, path, is_without_glyf)
+}
+
+// Returns what a refused file is.
+fn refused_kind<F: Files>(files: &F, path: &str, error: &RunError) -> Option<&'static str> {
+    if let Some(error) = font_error(error) {
+        return refused_font(files, path, error);
+    }
+    match error {
+        RunError::Join(
+            JoinAllError::At {
+                step: _,
+                error: JoinError::NotACut(_),
+            },
+        ) => Some(NO_CUT),
+        RunError::Join(
+            JoinAllError::At {
+                step: _,
+                error: JoinError::TooLarge(_),
+            },
+        ) => Some(TOO_LARGE),
+        _ => None,
+    }
+}
+
+/// Returns what is known of the files that are why a line is not done. They are read again for that.
+///
+/// # Errors
+/// `AllocError` where memory is refused.
+pub(crate) fn look_again<F: Files, I, O>(
     system: &System<'_, F, I, O>,
     fault: &Fault<'_>,
-) -> Option<&'static str> {
+) -> Result<Seen, AllocError> {
+    let (files, alloc) = (system.files, system.alloc);
     match fault {
-        Fault::RefusedFile { path, error } => match error {
-            RunError::Font(font_error) | RunError::OneOf(_, font_error)
-                if font_error.number() == NO_MAPPING => Some(UNMAPPED),
-            _ => kind_at(system.files, path),
-        },
-        _ => None,
+        Fault::RefusedFile { path, error } => Ok(match refused_kind(files, path, error) {
+            Some(what) => Seen::What(what),
+            None => Seen::Nothing,
+        }),
+        Fault::NotJoined {
+            kind: Kind::Full,
+            path,
+            first,
+            error: _,
+        } => Ok(Seen::Cuts {
+            first: cut_kind_at(files, alloc, first)?,
+            refused: cut_kind_at(files, alloc, path)?,
+        }),
+        Fault::NotJoined { .. } => Ok(Seen::Cuts {
+            first: Some(Kind::Lean),
+            refused: Some(Kind::Lean),
+        }),
+        Fault::NotLean { path, .. } => Ok(Seen::Cuts {
+            first: Some(Kind::Lean),
+            refused: cut_kind_at(files, alloc, path)?,
+        }),
+        _ => Ok(Seen::Nothing),
     }
 }

@@ -1,11 +1,14 @@
 //! Why the program does not do what a line asks for.
 use crate::inputs::input_name;
-use crate::shown::Shown;
+use crate::shown::{Shown, ShownWord};
 use command_line::STANDARD;
 use commands::RunError;
-use font_cut::{JoinAllError, JoinError, Kind, Which};
+use font_cut::{JoinAllError, JoinError, Kind, MAX_FILE, Which};
 use std::alloc::AllocError;
 use std::fmt;
+
+/// How many bytes a line of a file of slices may have.
+pub(crate) const LONGEST_LINE: usize = 1_048_576;
 
 /// Why what a line asks for is not done.
 #[derive(Debug, Drop)]
@@ -20,18 +23,42 @@ pub(crate) enum Fault<'a> {
     },
     /// OUT is this word, which names a range of codes.
     OutIsWord(&'a str),
+    /// OUT has the ending of a packed font, and this path before it.
+    PackedOut(&'a str),
+    /// FOLDER has the ending of a packed font.
+    PackedFolder,
+    /// No set of characters is named.
+    NoSet,
+    /// The regular file at `out` would be replaced by the only file of a join, which has another path.
+    Replaces {
+        file: &'a str,
+        out: &'a str,
+    },
     /// A line of the file at this path is not UTF-8, or has this word, which names no range.
     BadLine {
         path: &'a str,
         line: u64,
         word: Option<String>,
     },
-    /// A line of the file of slices at this path has this name, which no slice can have, or another one has.
+    /// A line of the file of slices at this path has this name, which no slice can have.
     BadName {
         path: &'a str,
         line: u64,
         name: String,
     },
+    /// A line of the file of slices at this path has this name, which an earlier one has.
+    NameTwice {
+        path: &'a str,
+        line: u64,
+        name: String,
+    },
+    /// This line of the file of slices at this path is longer than a line may be.
+    LongLine {
+        path: &'a str,
+        line: u64,
+    },
+    /// The file of slices at this path is longer than a file may be.
+    LongFile(&'a str),
     /// The file at this path cannot be read.
     Unread(&'a str),
     /// The file at this path, or standard output, cannot be written.
@@ -47,8 +74,10 @@ pub(crate) enum Fault<'a> {
         path: &'a str,
         error: RunError,
     },
-    /// The cut at this path does not join with those before it, the first of which is at `first`.
+    /// The cut at this path does not join, as a cut of a kind, with those before it, the first of which is at
+    /// `first`.
     NotJoined {
+        kind: Kind,
         path: &'a str,
         first: &'a str,
         error: RunError,
@@ -83,9 +112,26 @@ impl<'a> Fault<'a> {
             | Fault::BadWord(_)
             | Fault::BadListed { .. }
             | Fault::OutIsWord(_)
+            | Fault::PackedOut(_)
+            | Fault::PackedFolder
+            | Fault::NoSet
+            | Fault::Replaces { .. }
             | Fault::BadLine { .. }
-            | Fault::BadName { .. } => 2,
+            | Fault::BadName { .. }
+            | Fault::NameTwice { .. }
+            | Fault::LongLine { .. }
+            | Fault::LongFile(_) => 2,
             Fault::Unread(_) | Fault::Unwritten(_) | Fault::UnwrittenIn { .. } => 3,
+        }
+    }
+
+    /// Returns what messages call the file that cannot be read or written.
+    pub(crate) fn file_name(&self) -> &str {
+        match self {
+            Fault::Unread(path) => input_name(path),
+            Fault::Unwritten(path) => output_name(path),
+            Fault::UnwrittenIn { path } => path.as_str(),
+            _ => "",
         }
     }
 }
@@ -124,7 +170,12 @@ pub(crate) fn refused_join<'a>(kind: Kind, paths: &[&'a str], error: RunError) -
     };
     let first = paths.first().copied().unwrap_or(path);
     if differs {
-        return Fault::NotJoined { path, first, error };
+        return Fault::NotJoined {
+            kind,
+            path,
+            first,
+            error,
+        };
     }
     if kind == Kind::Lean && !is_cut {
         return Fault::NotLean { path, error };
@@ -170,7 +221,7 @@ fn write_bad_line<W: fmt::Write>(
     let name = Shown(input_name(path));
     match word {
         Some(word) => {
-            let word = Shown(word.as_str());
+            let word = ShownWord(word.as_str());
             write!(f, "{name}: line {line}: bad word {word}")
         }
         None => write!(f, "{name}: line {line}: not UTF-8"),
@@ -184,7 +235,7 @@ fn write_bad_listed<W: fmt::Write>(
 ) -> fmt::Result {
     match word {
         Some(word) => {
-            let word = Shown(word.as_str());
+            let word = ShownWord(word.as_str());
             write!(f, "bad word {word}")
         }
         None => f.write_str("not UTF-8"),
@@ -210,34 +261,84 @@ fn write_refusal<W: fmt::Write>(f: &mut fmt::Formatter<W>, error: &RunError) -> 
     }
 }
 
+// Writes that a line of a file of slices is at fault.
+fn write_bad_slice<W: fmt::Write>(f: &mut fmt::Formatter<W>, fault: &Fault<'_>) -> fmt::Result {
+    match fault {
+        Fault::BadName { path, line, name } => {
+            let (path, name) = (Shown(input_name(path)), ShownWord(name.as_str()));
+            write!(f, "{path}: line {line}: bad name {name}")
+        }
+        Fault::NameTwice { path, line, name } => {
+            let (path, name) = (Shown(input_name(path)), ShownWord(name.as_str()));
+            write!(f, "{path}: line {line}: slice {name} stands twice")
+        }
+        Fault::LongLine { path, line } => {
+            let path = Shown(input_name(path));
+            write!(f, "{path}: line {line}: longer than {LONGEST_LINE} bytes")
+        }
+        Fault::LongFile(path) => {
+            let path = Shown(input_name(path));
+            write!(f, "{path}: longer than {MAX_FILE} bytes")
+        }
+        _ => Ok(()),
+    }
+}
+
+// Writes that the output that a line names is not what its files can be written to.
+fn write_bad_out<W: fmt::Write>(f: &mut fmt::Formatter<W>, fault: &Fault<'_>) -> fmt::Result {
+    match fault {
+        Fault::OutIsWord(out) => {
+            let out = Shown(out);
+            write!(f, "OUT is a range word: {out} (write ./{out} for the file)")
+        }
+        Fault::PackedOut(path) => {
+            let path = Shown(path);
+            write!(
+                f,
+                "OUT is a TrueType file; woff2_compress makes {path}.woff2 of {path}.ttf"
+            )
+        }
+        Fault::PackedFolder => {
+            f.write_str("FOLDER holds TrueType files; woff2_compress makes cut.woff2 of cut.ttf")
+        }
+        Fault::Replaces { file, out } => {
+            let (file, out) = (Shown(input_name(file)), Shown(out));
+            write!(
+                f,
+                "join has one file, {file}, and would overwrite {out} with it"
+            )
+        }
+        _ => Ok(()),
+    }
+}
+
 impl fmt::Display for Fault<'_> {
     fn fmt<W: fmt::Write>(&self, f: &mut fmt::Formatter<W>) -> fmt::Result {
         match self {
             Fault::InputTwice => f.write_str("standard input is named more than once"),
+            Fault::NoSet => f.write_str(
+                "no characters are named; fontcut subset wants a set, as in",
+            ),
             Fault::BadWord(word) => {
-                let word = Shown(word);
+                let word = ShownWord(word);
                 write!(f, "bad word {word}")
             }
             Fault::BadListed { word } => write_bad_listed(f, word),
-            Fault::OutIsWord(out) => {
-                let out = Shown(out);
-                write!(f, "OUT is a range word: {out} (write ./{out} for the file)")
-            }
             Fault::BadLine { path, line, word } => write_bad_line(f, path, *line, word),
-            Fault::BadName { path, line, name } => {
-                let (path, name) = (Shown(input_name(path)), Shown(name.as_str()));
-                write!(f, "{path}: line {line}: bad name {name}")
-            }
-            Fault::UnwrittenIn { path } => {
-                let name = Shown(path.as_str());
-                write!(f, "cannot write {name}")
-            }
-            Fault::Unread(path) => {
-                let name = Shown(input_name(path));
+            Fault::OutIsWord(_)
+            | Fault::PackedOut(_)
+            | Fault::PackedFolder
+            | Fault::Replaces { .. } => write_bad_out(f, self),
+            Fault::BadName { .. }
+            | Fault::NameTwice { .. }
+            | Fault::LongLine { .. }
+            | Fault::LongFile(_) => write_bad_slice(f, self),
+            Fault::Unread(_) => {
+                let name = Shown(self.file_name());
                 write!(f, "cannot read {name}")
             }
-            Fault::Unwritten(path) => {
-                let name = Shown(output_name(path));
+            Fault::Unwritten(_) | Fault::UnwrittenIn { .. } => {
+                let name = Shown(self.file_name());
                 write!(f, "cannot write {name}")
             }
             Fault::Refused(error)

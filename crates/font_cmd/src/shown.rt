@@ -19,6 +19,38 @@ impl fmt::Display for Shown<'_> {
     }
 }
 
+// How many bytes of a word are shown.
+const LONGEST: usize = 200;
+
+// How many bytes a character has at most.
+const CHARACTER: usize = 4;
+
+/// A word of the caller, of which the first 200 bytes at most are shown, as [`Shown`] shows them.
+#[derive(Clone, Copy)]
+pub(crate) struct ShownWord<'a>(pub(crate) &'a str);
+
+// Returns the beginning of a longer word that is shown, which ends between two characters.
+fn beginning(word: &str) -> &str {
+    for back in 0..CHARACTER {
+        if let Some(begins) = word.get(..LONGEST - back) {
+            return begins;
+        }
+    }
+    ""
+}
+
+impl fmt::Display for ShownWord<'_> {
+    fn fmt<W: fmt::Write>(&self, f: &mut fmt::Formatter<W>) -> fmt::Result {
+        let word = self.0;
+        if word.len() <= LONGEST {
+            let whole = Shown(word);
+            return write!(f, "{whole}");
+        }
+        let begins = Shown(beginning(word));
+        write!(f, "{begins}..")
+    }
+}
+
 // Returns whether a character is seen where it is printed, and changes nothing of the text around it. Those that only
 // change how text runs, those for private use and those beyond the planes of characters are not. Unicode, chapter 23.
 fn is_seen(letter: char) -> bool {

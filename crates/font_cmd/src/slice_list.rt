@@ -1,9 +1,20 @@
 //! Files of slices: in each line the name of a slice and the list of its codes. This project's own.
 use crate::code_set::CodeSet;
-use crate::report::{Fault, no_memory};
+use crate::report::{Fault, LONGEST_LINE, no_memory};
 use crate::wanted_files::{FileFault, FileKind, add_listed};
+use font_cut::MAX_FILE;
 use std::alloc::Global;
 use std::collections::BTreeSet;
+use std::io::Read;
+
+// The most bytes of one read.
+const PIECE: usize = 16 * 1024;
+
+// How many bytes a name may have: each file system takes a file of that name and `.ttf`.
+const LONGEST_NAME: usize = 200;
+
+// A byte order mark, which is no part of the first line.
+const MARK: char = '\u{FEFF}';
 
 /// A slice: the name of its file, but for `.ttf`, and its codes.
 #[derive(Drop)]
@@ -19,6 +30,7 @@ fn is_name(name: &str) -> bool {
         .next()
         .is_some_and(|byte| byte.is_ascii_alphanumeric());
     begins
+        && name.len() <= LONGEST_NAME
         && name.bytes().all(|byte| byte.is_ascii_alphanumeric()
             || matches!(byte, b'-' | b'_' | b'.'))
 }
@@ -27,6 +39,14 @@ fn is_name(name: &str) -> bool {
 fn bad_name<'a>(alloc: Global, path: &'a str, line: u64, name: &str) -> Fault<'a> {
     match String::from_str(alloc, name) {
         Ok(name) => Fault::BadName { path, line, name },
+        Err(_) => no_memory(),
+    }
+}
+
+// Returns the fault that a line has the name of an earlier one.
+fn name_twice<'a>(alloc: Global, path: &'a str, line: u64, name: &str) -> Fault<'a> {
+    match String::from_str(alloc, name) {
+        Ok(name) => Fault::NameTwice { path, line, name },
         Err(_) => no_memory(),
     }
 }
@@ -77,11 +97,77 @@ fn line_of(bytes: &[u8], at: usize) -> u64 {
     (ends as u64).saturating_add(1)
 }
 
+// The lines of a file of slices so far.
+#[derive(Drop)]
+struct Lines {
+    bytes: Vec<u8>,
+    // The number of the last line, counted from one, and how many bytes it has.
+    line: u64,
+    length: usize,
+}
+
+impl Lines {
+    // Counts the bytes of lines, and returns whether one is longer than a line may be.
+    fn count(&mut self, piece: &[u8]) -> bool {
+        for &byte in piece {
+            if byte == b'\n' {
+                self.line = self.line.saturating_add(1);
+                self.length = 0;
+            } else {
+                self.length = self.length.saturating_add(1);
+            }
+            if LONGEST_LINE < self.length {
+                return true;
+            }
+        }
+        false
+    }
+
+    // Takes the next bytes of the file at a path.
+    fn take<'a>(&mut self, path: &'a str, piece: &[u8]) -> Result<(), Fault<'a>> {
+        if self.count(piece) {
+            let line = self.line;
+            return Err(Fault::LongLine { path, line });
+        }
+        self.bytes.extend_from_slice(piece)?;
+        if MAX_FILE < self.bytes.len() as u64 {
+            return Err(Fault::LongFile(path));
+        }
+        Ok(())
+    }
+}
+
+/// Reads the file of slices at a path to its end.
+///
+/// # Errors
+/// `Unread` where a read fails, `LongLine` with the first line that is longer than a line may be, `LongFile` where the
+/// file is longer than a file may be, `Refused` where memory is.
+pub(crate) fn read_lines<'a, R: Read>(
+    alloc: Global,
+    path: &'a str,
+    file: &mut R,
+) -> Result<Vec<u8>, Fault<'a>> {
+    let mut lines = Lines {
+        bytes: Vec::new(alloc),
+        line: 1,
+        length: 0,
+    };
+    let mut piece = [0u8; PIECE];
+    for _ in 0..u64::MAX {
+        match file.read(&mut piece) {
+            Ok(0) => break,
+            Ok(count) => lines.take(path, &piece[..count])?,
+            Err(_) => return Err(Fault::Unread(path)),
+        }
+    }
+    Ok(lines.bytes)
+}
+
 /// Returns the slices of a file, whose path and bytes these are.
 ///
 /// # Errors
 /// `BadLine` with the first line that is not UTF-8 or has a word that names no range, `BadName` with the first one
-/// whose name is none or stands twice, `Refused` where memory is.
+/// whose name is none, `NameTwice` with the first one whose name an earlier one has, `Refused` where memory is.
 pub(crate) fn slices_of<'t, 'a>(
     alloc: Global,
     path: &'a str,
@@ -100,13 +186,13 @@ pub(crate) fn slices_of<'t, 'a>(
     };
     let (mut slices, mut names) = (Vec::new(alloc), BTreeSet::new(alloc));
     let mut number: u64 = 0;
-    for line in text.lines() {
+    for line in text.strip_prefix(MARK).unwrap_or(text).lines() {
         number = number.saturating_add(1);
         let Some(slice) = slice_of(alloc, path, number, line)? else {
             continue;
         };
         if !names.insert(slice.name).map_err(|_| no_memory())? {
-            return Err(bad_name(alloc, path, number, slice.name));
+            return Err(name_twice(alloc, path, number, slice.name));
         }
         if slices.push(slice).is_err() {
             return Err(no_memory());

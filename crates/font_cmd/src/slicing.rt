@@ -5,11 +5,12 @@ ghost use Rattle.streams.specs.Outlet.{fresh_of};
 use crate::code_set::CodeSet;
 use crate::coverage::mapped_codes;
 use crate::held_files::HeldFiles;
-use crate::inputs::inlet_at;
+use crate::inputs::{inlet_at, source};
 use crate::outcome::{Outcome, print};
-use crate::output::{outlet, placed};
+use crate::output::{before_packed, outlet, placed};
 use crate::report::{Fault, no_memory};
-use crate::slice_list::{Slice, slices_of};
+use crate::shown::ShownWord;
+use crate::slice_list::{Slice, read_lines, slices_of};
 use crate::style_sheet::add_rule;
 use crate::system::System;
 use command_line::Slices;
@@ -18,6 +19,9 @@ use font_cut::{Font, Kind, Outlet, Wanted, cut_of_kind_into};
 use std::alloc::{AllocError, Global};
 use std::fs;
 use std::io::{ErrorKind, Read, Write};
+
+// What is said first where a strict line is not done.
+const UNWRITTEN: &str = "fontcut: nothing was written: the font maps no character of some slices\n";
 
 // Writes the cut of a font for the wanted codes to the file at a path.
 fn write_cut<'p, F: HeldFiles, I, O: Write + Copy + Drop>(
@@ -69,35 +73,75 @@ fn write_slice<'a, F: HeldFiles, I, O: Write + Copy + Drop>(
     }
 }
 
-// Adds the rule of a slice, of which the font maps some codes.
-fn add_slice_rule(
-    alloc: Global,
-    text: &mut String,
-    family: &str,
-    mapped: &CodeSet,
-    slice: &Slice<'_>,
-) -> Result<(), AllocError> {
-    let lacking = slice.codes.without(alloc, mapped)?;
-    let ranges = slice.codes.without(alloc, &lacking)?.ranges(alloc)?;
-    if ranges.is_empty() {
-        return Ok(());
-    }
-    add_rule(text, family, slice.name, &ranges)
+// What is said of slices.
+#[derive(Drop)]
+struct Said {
+    // The rules of a style sheet for them.
+    rules: String,
+    // A line for each of which the font maps nothing.
+    unmapped: String,
 }
 
-// Returns the rules of a style sheet for slices.
-fn rules_of(
+// Returns those codes of a slice that are among the mapped ones, as ranges.
+fn mapped_ranges(
     alloc: Global,
-    font: &Font<'_>,
-    family: &str,
-    slices: &[Slice<'_>],
-) -> Result<String, AllocError> {
-    let mapped = mapped_codes(alloc, font)?;
-    let mut text = String::new(alloc);
-    for slice in slices {
-        add_slice_rule(alloc, &mut text, family, &mapped, slice)?;
+    mapped: &CodeSet,
+    slice: &Slice<'_>,
+) -> Result<Vec<(u32, u32)>, AllocError> {
+    let lacking = slice.codes.without(alloc, mapped)?;
+    slice.codes.without(alloc, &lacking)?.ranges(alloc)
+}
+
+impl Said {
+    // Adds what is said of a slice.
+    fn add(
+        &mut self,
+        alloc: Global,
+        family: Option<&str>,
+        mapped: &CodeSet,
+        slice: &Slice<'_>,
+    ) -> Result<(), AllocError> {
+        let ranges = mapped_ranges(alloc, mapped, slice)?;
+        if ranges.is_empty() {
+            let name = ShownWord(slice.name);
+            write!(
+                self.unmapped,
+                "fontcut: slice {name}: the font maps none of its characters\n"
+            )?;
+            return Ok(());
+        }
+        match family {
+            Some(family) => add_rule(&mut self.rules, family, slice.name, &ranges),
+            None => Ok(()),
+        }
     }
-    Ok(text)
+
+    // Returns what is said of slices.
+    fn of(
+        alloc: Global,
+        font: &Font<'_>,
+        family: Option<&str>,
+        slices: &[Slice<'_>],
+    ) -> Result<Said, AllocError> {
+        let mapped = mapped_codes(alloc, font)?;
+        let mut said = Said {
+            rules: String::new(alloc),
+            unmapped: String::new(alloc),
+        };
+        for slice in slices {
+            said.add(alloc, family, &mapped, slice)?;
+        }
+        Ok(said)
+    }
+
+    // Returns what a strict line comes to that writes nothing.
+    fn unwritten(self, alloc: Global, is_quiet: bool) -> Result<Outcome, AllocError> {
+        let mut text = String::from_str(alloc, UNWRITTEN)?;
+        if !is_quiet {
+            text.push_str(self.unmapped.as_str())?;
+        }
+        Ok(Outcome::saying(false, text))
+    }
 }
 
 // Makes a folder where there is none.
@@ -126,28 +170,47 @@ fn read_whole<'a, F: HeldFiles, I: Read + Copy + Drop, O>(
         .map_err(|error| Fault::of_run(path, path, RunError::from(error)))
 }
 
-// Writes the files of slices of a font, whose file this is, and returns the rules for them.
+// Writes the files of slices of a font.
 fn write_slices<'a, F: HeldFiles, I, O: Write + Copy + Drop>(
+    system: &System<'a, F, I, O>,
+    kind: Kind,
+    line: &Slices<'a>,
+    font: &Font<'_>,
+    slices: Vec<Slice<'_>>,
+) -> Result<(), Fault<'a>> {
+    make_folder(system, line.folder)?;
+    for slice in slices {
+        write_slice(system, kind, line, font, slice)?;
+    }
+    Ok(())
+}
+
+// Writes the files of slices of a font, whose file this is, and prints the rules for them.
+fn slice_file<'a, F: HeldFiles, I, O: Write + Copy + Drop, W: Write>(
     system: &System<'a, F, I, O>,
     kind: Kind,
     line: &Slices<'a>,
     file: &[u8],
     slices: Vec<Slice<'_>>,
-) -> Result<String, Fault<'a>> {
+    out: &mut Outlet<W>,
+) -> Result<Outcome, Fault<'a>>
+    requires { fresh_of out.old ≡ true }
+{
     let font = Font::open(file).map_err(|error| Fault::of_run(
         line.font,
         line.folder,
         RunError::from(error),
     ))?;
-    let rules = match line.family {
-        Some(family) => rules_of(system.alloc, &font, family, &slices)?,
-        None => String::new(system.alloc),
-    };
-    make_folder(system, line.folder)?;
-    for slice in slices {
-        write_slice(system, kind, line, &font, slice)?;
+    let said = Said::of(system.alloc, &font, line.family, &slices)?;
+    if line.is_strict && !said.unmapped.is_empty() {
+        return Ok(said.unwritten(system.alloc, line.is_quiet)?);
     }
-    Ok(rules)
+    write_slices(system, kind, line, &font, slices)?;
+    let printed = print(out, said.rules.as_str())?;
+    if line.is_quiet {
+        return Ok(printed);
+    }
+    Ok(Outcome::noting(said.unmapped))
 }
 
 /// Writes the cut of a font for each slice of a file, and prints the rules of a style sheet for them where these are
@@ -163,9 +226,12 @@ pub(crate) fn slice<'a, F: HeldFiles, I: Read + Copy + Drop, O: Write + Copy + D
 ) -> Result<Outcome, Fault<'a>>
     requires { fresh_of out.old ≡ true }
 {
-    let list = read_whole(system, line.slices)?;
+    if before_packed(line.folder).is_some() && !line.is_forced {
+        return Err(Fault::PackedFolder);
+    }
+    let mut lines = source(system, line.slices)?;
+    let list = read_lines(system.alloc, line.slices, &mut lines)?;
     let slices = slices_of(system.alloc, line.slices, &list)?;
     let file = read_whole(system, line.font)?;
-    let rules = write_slices(system, kind, line, &file, slices)?;
-    print(out, rules.as_str())
+    slice_file(system, kind, line, &file, slices, out)
 }

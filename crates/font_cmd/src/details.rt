@@ -1,0 +1,279 @@
+//! What is said of a fault after its first line: which file it is and what it is, the system's reason, what to do.
+use crate::inputs::input_name;
+use crate::refused_file::Seen;
+use crate::report::Fault;
+use crate::shown::{Shown, shown_character};
+use command_line::Verbosity;
+use commands::RunError;
+use font_cut::{JoinAllError, JoinError, Kind};
+use std::alloc::{AllocError, Global};
+use std::io;
+
+// The number of the system's error that a process has as many files open as it may, EMFILE.
+const TOO_MANY_FILES: i32 = 24;
+
+// What to do then.
+const IN_SEVERAL_CALLS: &str = "\
+fontcut: this is the limit of open files, which ulimit -n shows; cuts can be joined in several calls, and
+fontcut: these joins in one more
+";
+
+// How ranges are written.
+const RANGES: &str =
+    "fontcut: a range is written U+41, U+41-5A or all; in lists 41-5A and U+4?? too\n";
+
+// How sets of characters are named.
+const SETS: &str = "\
+fontcut: fontcut subset FONT OUT all
+fontcut: fontcut subset FONT OUT U+20-7E
+fontcut: fontcut subset FONT OUT --text 'Hello'
+";
+
+// What names slices have.
+const NAMES: &str = "\
+fontcut: the name of a slice has letters and digits of ASCII, and -, _ and . after the first, 200 at most
+";
+
+// How a TrueType file is written to such a name.
+const FORCE: &str = "fontcut: --force writes the TrueType file under this name\n";
+
+// How cuts of one kind are made of those of the other.
+const MADE_FULL: &str = "fontcut: a lean cut cannot be made full again: cut the font anew\n";
+
+const LEAN_JOIN: &str = "fontcut: lean cuts are joined by join --lean\n";
+
+// What separates the system's reason from its number.
+const NUMBER: &str = " (os error";
+
+/// How much is said of a fault after its first line, and what is known of it.
+#[derive(Clone, Copy)]
+pub(crate) struct Details {
+    /// How much is said.
+    pub(crate) verbosity: Verbosity,
+    /// The system's reason, where it is known.
+    pub(crate) reason: Option<i32>,
+    /// What is known of files that are refused.
+    pub(crate) seen: Seen,
+}
+
+/// The details of a fault that has none.
+pub(crate) const NO_DETAILS: Details = Details {
+    verbosity: Verbosity::Quiet,
+    reason: None,
+    seen: Seen::Nothing,
+};
+
+// Returns the system's text for an error without its number.
+fn without_number(text: &str) -> &str {
+    match text.split_once(NUMBER) {
+        Some((reason, _)) => reason,
+        None => text,
+    }
+}
+
+// Adds why the file of this name is not read or written, where that is known.
+fn add_reason(
+    alloc: Global,
+    text: &mut String,
+    name: &str,
+    reason: Option<i32>,
+) -> Result<(), AllocError> {
+    let Some(number) = reason else {
+        return Ok(());
+    };
+    let error = io::Error::from_raw_os_error(number);
+    let said = format!(in alloc; "{error}")?;
+    let (name, reason) = (Shown(name), without_number(said.as_str()));
+    write!(text, "fontcut: {name}: {reason}\n")?;
+    Ok(())
+}
+
+// Adds the path of the file that is refused, and what it is where that is known.
+fn add_refused(text: &mut String, path: &str, seen: Seen) -> Result<(), AllocError> {
+    let path = Shown(input_name(path));
+    match seen {
+        Seen::What(what) => write!(text, "fontcut: {path}: {what}\n")?,
+        _ => write!(text, "fontcut: {path} is refused\n")?,
+    }
+    Ok(())
+}
+
+// Returns what a cut of a kind is called.
+fn cut_name(kind: Kind) -> &'static str {
+    match kind {
+        Kind::Full => "a full cut",
+        Kind::Lean => "a lean cut",
+    }
+}
+
+// Adds how the full cut at a path is made lean.
+fn add_made_lean(text: &mut String, path: &str) -> Result<(), AllocError> {
+    let path = Shown(path);
+    write!(
+        text,
+        "fontcut: fontcut subset --lean {path} OUT all makes a full cut lean\n"
+    )?;
+    Ok(())
+}
+
+// Adds of which kinds the first and the refused file are as cuts, and what to do, where one is lean at least.
+fn add_kinds(
+    text: &mut String,
+    first: (&str, Kind),
+    refused: (&str, Kind),
+) -> Result<(), AllocError> {
+    let (first_path, first_kind) = first;
+    let (path, kind) = refused;
+    let (first_name, name) = (Shown(input_name(first_path)), Shown(input_name(path)));
+    let (first_cut, cut) = (cut_name(first_kind), cut_name(kind));
+    write!(text, "fontcut: {first_name}: {first_cut}\n")?;
+    write!(text, "fontcut: {name}: {cut}\n")?;
+    if first_kind == kind {
+        return text.push_str(LEAN_JOIN);
+    }
+    let full = if kind == Kind::Full { path } else { first_path };
+    add_made_lean(text, full)?;
+    text.push_str(MADE_FULL)
+}
+
+// Adds why two files are not joined.
+fn add_not_joined(
+    text: &mut String,
+    is_lean: bool,
+    path: &str,
+    first: &str,
+    seen: Seen,
+) -> Result<(), AllocError> {
+    let (name, first_name) = (Shown(input_name(path)), Shown(input_name(first)));
+    match seen {
+        Seen::Cuts {
+            first: Some(first_kind),
+            refused: Some(kind),
+        } if !is_lean && (first_kind == Kind::Lean || kind == Kind::Lean) => {
+            add_kinds(text, (first, first_kind), (path, kind))
+        }
+        Seen::Cuts {
+            first: Some(_),
+            refused: Some(_),
+        } => {
+            write!(
+                text,
+                "fontcut: {name} is no cut of the font of {first_name}\n"
+            )?;
+            Ok(())
+        }
+        _ => {
+            write!(
+                text,
+                "fontcut: {name} is no cut of the font of {first_name}, or one of them is a lean cut\n"
+            )?;
+            Ok(())
+        }
+    }
+}
+
+// Adds what a file is that is no lean cut, and how it is made one.
+fn add_not_lean(text: &mut String, path: &str, seen: Seen) -> Result<(), AllocError> {
+    let name = Shown(input_name(path));
+    match seen {
+        Seen::Cuts {
+            refused: Some(Kind::Full),
+            ..
+        } => {
+            write!(text, "fontcut: {name}: a full cut, and no lean one\n")?;
+            add_made_lean(text, path)?;
+            text.push_str(MADE_FULL)
+        }
+        _ => {
+            write!(text, "fontcut: {name}: no lean cut\n")?;
+            Ok(())
+        }
+    }
+}
+
+// Adds how both the file that would be replaced and the only file of a join are joined.
+fn add_both(text: &mut String, file: &str, out: &str) -> Result<(), AllocError> {
+    let (file, out) = (Shown(file), Shown(out));
+    write!(
+        text,
+        "fontcut: write join -o OUT {out} {file} to join both, or remove {out} first\n"
+    )?;
+    Ok(())
+}
+
+// Adds which file a fault is about, and what is known of it.
+fn add_known(
+    alloc: Global,
+    text: &mut String,
+    fault: &Fault<'_>,
+    details: Details,
+) -> Result<(), AllocError> {
+    let seen = details.seen;
+    match fault {
+        Fault::Unread(_) | Fault::Unwritten(_) | Fault::UnwrittenIn { .. } => {
+            add_reason(alloc, text, fault.file_name(), details.reason)
+        }
+        Fault::RefusedFile { path, .. } => add_refused(text, path, seen),
+        Fault::NotJoined {
+            kind,
+            path,
+            first,
+            ..
+        } => add_not_joined(text, *kind == Kind::Lean, path, first, seen),
+        Fault::NotLean { path, .. } => add_not_lean(text, path, seen),
+        Fault::Replaces { file, out } => add_both(text, file, out),
+        Fault::NoSet => text.push_str(SETS),
+        Fault::PackedOut(_) | Fault::PackedFolder => text.push_str(FORCE),
+        _ => Ok(()),
+    }
+}
+
+// Adds the character that two files map differently.
+fn add_character(text: &mut String, error: &RunError) -> Result<(), AllocError> {
+    let RunError::Join(
+        JoinAllError::At {
+            step: _,
+            error: JoinError::DifferentMapping(code),
+        },
+    ) = error
+    else {
+        return Ok(());
+    };
+    if let Some(character) = shown_character(*code) {
+        write!(text, "fontcut: U+{code:04X} is {character}\n")?;
+    }
+    Ok(())
+}
+
+// Adds what to do, and the characters of codes.
+fn add_hints(text: &mut String, fault: &Fault<'_>, reason: Option<i32>) -> Result<(), AllocError> {
+    match fault {
+        Fault::Unread(_) if reason == Some(TOO_MANY_FILES) => text.push_str(IN_SEVERAL_CALLS),
+        Fault::BadWord(_) | Fault::BadListed { .. } | Fault::BadLine { word: Some(_), .. } => {
+            text.push_str(RANGES)
+        }
+        Fault::BadName { .. } => text.push_str(NAMES),
+        Fault::NotJoined { error, .. } => add_character(text, error),
+        _ => Ok(()),
+    }
+}
+
+/// Adds what is said of a fault after its first line.
+///
+/// # Errors
+/// `AllocError` where memory is refused.
+pub(crate) fn add_details(
+    alloc: Global,
+    text: &mut String,
+    fault: &Fault<'_>,
+    details: Details,
+) -> Result<(), AllocError> {
+    if details.verbosity == Verbosity::Quiet {
+        return Ok(());
+    }
+    add_known(alloc, text, fault, details)?;
+    if details.verbosity == Verbosity::Plain {
+        return Ok(());
+    }
+    add_hints(text, fault, details.reason)
+}
