@@ -4,15 +4,16 @@
 # Prints the options of a command; those of every command where it has no other.
 _fontcut_options() {
     case $1 in
-    '') echo '--verbose --version --help' ;;
+    '') echo '--quiet --verbose --version --help' ;;
     subset)
         echo '--text --text-file --codes-file --unicodes --exclude --exclude-file'
-        echo '--report --strict --lean --verbose --help'
+        echo '--report --strict --lean --force --quiet --verbose --help'
         ;;
-    codes) echo '--glyphs --verbose --help' ;;
-    slice) echo '--slices --css --lean --verbose --help' ;;
-    belongs | join) echo '--lean --verbose --help' ;;
-    *) echo '--verbose --help' ;;
+    codes) echo '--glyphs --quiet --verbose --help' ;;
+    slice) echo '--slices --css --strict --lean --force --quiet --verbose --help' ;;
+    belongs) echo '--lean --quiet --verbose --help' ;;
+    join) echo '-o --output --lean --force --quiet --verbose --help' ;;
+    *) echo '--quiet --verbose --help' ;;
     esac
 }
 
@@ -54,7 +55,7 @@ _fontcut() {
             option=''
         elif ! $ended && [ "$word" = -- ]; then
             ended=true
-        elif ! $ended && [[ $word =~ ^--(text|(text|codes|exclude)-file|unicodes|exclude|slices|css)$ ]]; then
+        elif ! $ended && [[ $word =~ ^--(text|(text|codes|exclude)-file|unicodes|exclude|slices|css|output)$ ]]; then
             option=$word
         elif ! $ended && [[ $word == -?* ]]; then
             :
@@ -69,7 +70,7 @@ _fontcut() {
     [ "$word" != = ] || word=''
     case $option in
     --text | --unicodes | --exclude | --css) ;;
-    --text-file | --codes-file | --exclude-file | --slices) _fontcut_files "$word" ;;
+    --text-file | --codes-file | --exclude-file | --slices | --output) _fontcut_files "$word" ;;
     *)
         if [[ $word == -* ]] && ! $ended; then
             _fontcut_words "$(_fontcut_options "$command")" "$word"

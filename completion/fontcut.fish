@@ -6,18 +6,20 @@ set -g __fontcut_commands check show codes belongs subset slice join demo help
 function __fontcut_options
     switch "$argv[1]"
         case ''
-            printf '%s\n' --verbose --version --help
+            printf '%s\n' --quiet --verbose --version --help
         case subset
             printf '%s\n' --text --text-file --codes-file --unicodes --exclude --exclude-file
-            printf '%s\n' --report --strict --lean --verbose --help
+            printf '%s\n' --report --strict --lean --force --quiet --verbose --help
         case codes
-            printf '%s\n' --glyphs --verbose --help
+            printf '%s\n' --glyphs --quiet --verbose --help
         case slice
-            printf '%s\n' --slices --css --lean --verbose --help
-        case belongs join
-            printf '%s\n' --lean --verbose --help
+            printf '%s\n' --slices --css --strict --lean --force --quiet --verbose --help
+        case belongs
+            printf '%s\n' --lean --quiet --verbose --help
+        case join
+            printf '%s\n' -o --output --lean --force --quiet --verbose --help
         case '*'
-            printf '%s\n' --verbose --help
+            printf '%s\n' --quiet --verbose --help
     end
 end
 
@@ -55,7 +57,7 @@ function __fontcut_complete
             set option ''
         else if test $ended = false -a "$before" = --
             set ended true
-        else if test $ended = false; and string match -q -r -- '^--(text|(text|codes|exclude)-file|unicodes|exclude|slices|css)$' $before
+        else if test $ended = false; and string match -q -r -- '^--(text|(text|codes|exclude)-file|unicodes|exclude|slices|css|output)$' $before
             set option $before
         else if test $ended = false; and string match -q -- '-?*' $before
             continue
@@ -69,7 +71,7 @@ function __fontcut_complete
         return
     else if test -n "$option"
         __fish_complete_path $word
-    else if test $ended = false; and string match -q -r -- '^--((text|codes|exclude)-file|slices)=' $word
+    else if test $ended = false; and string match -q -r -- '^--((text|codes|exclude)-file|slices|output)=' $word
         set -l parts (string split -m 1 = -- $word)
         printf '%s\n' $parts[1]=(__fish_complete_path $parts[2])
     else if test $ended = false; and string match -q -- '-*' $word
