@@ -1,9 +1,9 @@
-"""Builds the wheel, with the library inside: the build backend that pyproject.toml names (PEP 517).
+"""Builds the wheel, with the library and the program inside: the build backend that pyproject.toml names (PEP 517).
 
-The library is the file that the variable FONTCUT_LIBRARY names; where that is not set, it is what `bindings/c/build` of
-the checkout makes. The platform in the wheel's name is the oldest one that has what the library needs (PEP 600). With
-SOURCE_DATE_EPOCH as the time of all files, the same files give the same bytes. It needs Python 3.11, for `tomllib`, and
-`objdump`.
+The library is the file that the variable FONTCUT_LIBRARY names, and the program the one that FONTCUT_PROGRAM names; where
+these are not set, they are what `bindings/c/build` and `./fontcut` of the checkout make. The platform in the wheel's name
+is the oldest one that has what both need (PEP 600). With SOURCE_DATE_EPOCH as the time of all files, the same files give
+the same bytes. It needs Python 3.11, for `tomllib`, and `objdump`.
 """
 import base64
 import hashlib
@@ -17,7 +17,9 @@ import zipfile
 HERE = os.path.dirname(os.path.abspath(__file__))
 # A module of one file cannot say that it has types (PEP 561), so it becomes a package in the wheel. The commands of the
 # wheel are a module of it, which finds what these need, or says what to install.
-MODULE, COMMANDS, PACKAGE = "fontcut", "wheel_commands", "fontcut_pdf"
+MODULE, COMMANDS, SHARED = "fontcut", "wheel_commands", "fontcut_output"
+PACKAGES = "fontcut_pdf", "fontcut_web"
+LIBRARY, PROGRAM = "fontcut/libfontcut.so.0", "fontcut/bin/fontcut"
 # No installer knows a platform of an older C library by its number.
 OLDEST = 17
 # 1980, where the time of files in a zip begins.
@@ -42,9 +44,18 @@ def library():
     return subprocess.run([build], check=True, stdout=subprocess.PIPE, text=True).stdout.splitlines()[1]
 
 
-def platform_of(path):
-    """The platform that a library asks for: its processor, and the greatest version of the C library among those that it
-    needs."""
+def program():
+    """The path of the program."""
+    named = os.environ.get("FONTCUT_PROGRAM")
+    if named:
+        return named
+    top = os.path.join(HERE, "..", "..")
+    subprocess.run([os.path.join(top, "fontcut"), "--version"], check=True, stdout=subprocess.DEVNULL)
+    return os.path.join(top, "crates", "fontcut", "out", "bin", "fontcut")
+
+
+def oldest(path):
+    """The version of the C library that a library or a program asks for: the greatest one among those that it needs."""
     told = subprocess.run(["objdump", "-f", "-p", path], check=True, stdout=subprocess.PIPE, text=True,
                           env={**os.environ, "LC_ALL": "C"}).stdout
     needed = set(re.findall(r"^ +NEEDED +(\S+)$", told, re.M))
@@ -52,7 +63,12 @@ def platform_of(path):
     wanted = [re.fullmatch(r"GLIBC_2\.(\d+)(?:\.\d+)?", version) for version in versions]
     if "elf64-x86-64" not in told or not needed <= {"libc.so.6"} or not all(wanted):
         raise ValueError(f"{path}: no tag of a platform is known for {sorted(needed)}, {sorted(set(versions))}")
-    return f"manylinux_2_{max([OLDEST, *(int(version[1]) for version in wanted)])}_x86_64"
+    return max([OLDEST, *(int(version[1]) for version in wanted)])
+
+
+def platform_of(*paths):
+    """The platform that a library and a program ask for: their processor, and a version of the C library."""
+    return f"manylinux_2_{max(map(oldest, paths))}_x86_64"
 
 
 def project():
@@ -73,21 +89,24 @@ def metadata(said):
 
 def packages():
     """The packages of the wheel: a path and bytes for each file."""
-    held = {f"{name}/py.typed": b"" for name in (MODULE, PACKAGE)}
+    held = {f"{name}/py.typed": b"" for name in (MODULE, *PACKAGES)}
     held[f"{MODULE}/__init__.py"] = text_of(f"{MODULE}.py").encode()
     held[f"{MODULE}/{COMMANDS}.py"] = text_of(f"{COMMANDS}.py").encode()
-    for name in os.listdir(os.path.join(HERE, PACKAGE)):
-        if name.endswith(".py"):
-            held[f"{PACKAGE}/{name}"] = text_of(os.path.join(PACKAGE, name)).encode()
+    held[f"{SHARED}.py"] = text_of(f"{SHARED}.py").encode()
+    for package in PACKAGES:
+        for name in os.listdir(os.path.join(HERE, package)):
+            if name.endswith(".py"):
+                held[f"{package}/{name}"] = text_of(os.path.join(package, name)).encode()
     return held
 
 
-def files(said, tag, shared):
+def files(said, tag, built):
     """What the wheel holds but for its list of files, in the order in which it stands, and the path of that list."""
     held, info = packages(), f"{said['name']}-{said['version']}.dist-info"
     scripts = [f"{name} = {call}\n" for name, call in said["scripts"].items()]
-    with open(shared, "rb") as opened:
-        held["fontcut/libfontcut.so.0"] = opened.read()
+    for name, path in built.items():
+        with open(path, "rb") as opened:
+            held[name] = opened.read()
     held = dict(sorted(held.items()))
     held[f"{info}/METADATA"] = metadata(said).encode()
     held[f"{info}/WHEEL"] = f"Wheel-Version: 1.0\nGenerator: fontcut\nRoot-Is-Purelib: false\nTag: {tag}\n".encode()
@@ -109,16 +128,16 @@ def put(archive, name, data):
     epoch = max(FIRST_TIME, int(os.environ.get("SOURCE_DATE_EPOCH", time.time())))
     entry = zipfile.ZipInfo(name, time.gmtime(epoch)[:6])
     entry.create_system = 3
-    entry.external_attr = (0o100755 if name.endswith(".so.0") else 0o100644) << 16
+    entry.external_attr = (0o100755 if name in (LIBRARY, PROGRAM) else 0o100644) << 16
     entry.compress_type = zipfile.ZIP_DEFLATED
     archive.writestr(entry, data)
 
 
 def build_wheel(wheel_directory, config_settings=None, metadata_directory=None):
     """Makes the wheel in a folder, and returns its name (PEP 517)."""
-    shared, said = library(), project()
-    tag = f"py3-none-{platform_of(shared)}"
-    held, listed = files(said, tag, shared)
+    built, said = {LIBRARY: library(), PROGRAM: program()}, project()
+    tag = f"py3-none-{platform_of(*built.values())}"
+    held, listed = files(said, tag, built)
     name = f"{said['name']}-{said['version']}-{tag}.whl"
     with zipfile.ZipFile(os.path.join(wheel_directory, name), "w") as archive:
         for path, data in {**held, listed: record(held, listed)}.items():

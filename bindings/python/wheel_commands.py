@@ -1,17 +1,31 @@
 """The commands of the wheel. One whose packages are not there says in a line what to install."""
 import importlib
+import os
 import sys
 
+_INSTALL = "pip install 'fontcut[{}]'"
 
-def _run(command: str, module: str, extra: str) -> int:
+
+def program() -> int:
+    """The command `fontcut`: runs the program, which the wheel has inside, in the place of this process."""
+    path = os.path.join(os.path.dirname(os.path.abspath(__file__)), "bin", "fontcut")
     try:
-        main = importlib.import_module(module).main
-    except ModuleNotFoundError as error:
-        print(f"{command}: there is no module {error.name}: pip install 'fontcut[{extra}]' brings it", file=sys.stderr)
+        os.execv(path, ["fontcut", *sys.argv[1:]])
+    except OSError as error:
+        print(f"fontcut: cannot run {path}: {error.strerror}", file=sys.stderr)
         return 3
-    return main()
 
 
 def pdf() -> int:
     """The command `fontcut-pdf`."""
-    return _run("fontcut-pdf", "fontcut_pdf", "pdf")
+    try:
+        main = importlib.import_module("fontcut_pdf").main
+    except ImportError as error:
+        print(f"fontcut-pdf: needs {error.name or 'pikepdf'}: {_INSTALL.format('pdf')}", file=sys.stderr)
+        return 3
+    return main()
+
+
+def web() -> int:
+    """The command `fontcut-web`, which looks for its packages itself."""
+    return importlib.import_module("fontcut_web").main(install=_INSTALL.format("web"))

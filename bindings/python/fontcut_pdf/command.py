@@ -5,20 +5,20 @@ import argparse
 import io
 import logging
 import os
-import shutil
 import sys
-import tempfile
 from contextlib import ExitStack, contextmanager
 from typing import Iterator, List, Optional, Sequence, Tuple
 
 import fontcut
 import pikepdf
+from fontcut_output import CommandParser, Progress, print_line, read, reason, write
 from pikepdf import Pdf
 
 from .common import Outcome, Refused, line, place
 from .drawing import DEEPEST
 from .files import opened
 from .font import MOST_WORK
+from .joining import MOST_CLASSES
 from .merging import merge
 from .shrinking import shrink
 from .streams import MOST_OF_CONTENT, MOST_OF_OTHER, MOST_OF_PROGRAM, MOST_OF_TEXTS
@@ -29,6 +29,7 @@ Limits: of the content of a page, of a form or of a glyph {MOST_OF_CONTENT >> 20
 or {MOST_OF_OTHER >> 20} MiB where it has comments or pictures; of a font {MOST_OF_PROGRAM >> 20} MiB, and of its ToUnicode {MOST_OF_TEXTS >> 20} MiB.
 Where there is more, the fonts in question stay as they are. A file is refused whose fonts have more than
 {MOST_WORK // 1_000_000} million widths and texts, or whose page tree is more than {DEEPEST} nodes deep.
+Of fonts of one name that do not join with each other, the first {MOST_CLASSES} are compared with each of the others.
 
 Exit status: 0 done; 1 a file is refused, and nothing was written; 2 usage error; 3 a file cannot be read or
 written.
@@ -71,77 +72,12 @@ def _saved(pdf: Pdf, **how: object) -> bytes:
     return made.getvalue()
 
 
-def _write(path: str, data: bytes) -> None:
-    """Replaces a file by bytes, when all of them are written. An error names the file."""
-    try:
-        if os.path.exists(path) and not os.path.isfile(path):
-            # A device and a pipe stay what they are, and a folder raises an error.
-            with open(path, "wb") as out:
-                out.write(data)
-        else:
-            _replace(os.path.realpath(path), data)
-    except OSError as error:
-        raise OSError(error.errno, error.strerror, path) from error
-
-
-def _replace(path: str, data: bytes) -> None:
-    handle, new = tempfile.mkstemp(prefix=".fontcut-", dir=os.path.dirname(path))
-    try:
-        with os.fdopen(handle, "wb") as out:
-            out.write(data)
-        if os.path.exists(path):
-            shutil.copymode(path, new)
-        else:
-            mask = os.umask(0)
-            os.umask(mask)
-            os.chmod(new, 0o666 & ~mask)
-        os.replace(new, path)
-    except BaseException:
-        os.unlink(new)
-        raise
-
-
-def _bytes_of(path: str) -> bytes:
-    with open(path, "rb") as file:
-        return file.read()
-
-
-def _print(line: str) -> None:
-    """Prints a line at once, the bytes of a path that are no text as `\\udcff`. Raises `OSError` where that fails."""
-    encoding = sys.stdout.encoding or "utf-8"
-    try:
-        print(line.encode(encoding, "backslashreplace").decode(encoding), flush=True)
-    except OSError as error:
-        # Python would try it again when it ends, and say so.
-        with open(os.devnull, "wb") as nowhere:
-            os.dup2(nowhere.fileno(), sys.stdout.fileno())
-        raise OSError(error.errno, error.strerror, "standard output") from error
-
-
-class _Progress:
-    """Says on a terminal how far a long command is, in one line that it takes away at the end."""
-
-    def __init__(self) -> None:
-        self.is_shown = sys.stderr is not None and sys.stderr.isatty()
-
-    def say(self, text: str) -> None:
-        if self.is_shown:
-            print(f"\r\x1b[Kfontcut-pdf: {text}", end="", file=sys.stderr, flush=True)
-
-    def __enter__(self) -> _Progress:
-        return self
-
-    def __exit__(self, *_: object) -> None:
-        if self.is_shown:
-            print("\r\x1b[K", end="", file=sys.stderr, flush=True)
-
-
 def _say(outcome: Outcome, file: str, page: int) -> str:
     size = f"{outcome.before} bytes" if outcome.after is None else f"{outcome.before} bytes, now {outcome.after}"
     return f"{file}: {place(page)}: {outcome.name}: {size}: {outcome.said}"
 
 
-def _shrunk(source: str, progress: _Progress) -> Tuple[List[Outcome], Optional[bytes]]:
+def _shrunk(source: str, progress: Progress) -> Tuple[List[Outcome], Optional[bytes]]:
     """What became of the fonts of a file, and the bytes of the smaller file, or None where there is none."""
     progress.say("reading")
     with _named([source]), opened(source) as pdf:
@@ -159,16 +95,16 @@ def _shrunk(source: str, progress: _Progress) -> Tuple[List[Outcome], Optional[b
 
 def _run_shrink(given: argparse.Namespace) -> None:
     before = os.path.getsize(given.source)
-    with _Progress() as progress:
+    with Progress("fontcut-pdf") as progress:
         outcomes, data = _shrunk(given.source, progress)
-        _write(given.out, _bytes_of(given.source) if data is None else data)
+        write(given.out, read(given.source) if data is None else data)
     for outcome in outcomes:
         if given.report:
-            _print(_say(outcome, given.source, outcome.page))
+            print_line(_say(outcome, given.source, outcome.page))
         elif outcome.expected:
             print(f"fontcut-pdf: {_say(outcome, given.source, outcome.page)}", file=sys.stderr)
     if given.report:
-        _print(f"{given.out}: {os.path.getsize(given.out)} bytes of {before}{': kept' if data is None else ''}")
+        print_line(f"{given.out}: {os.path.getsize(given.out)} bytes of {before}{': kept' if data is None else ''}")
 
 
 def _title(path: str) -> str:
@@ -181,7 +117,7 @@ def _run_merge(given: argparse.Namespace) -> None:
     before = sum(map(os.path.getsize, given.files))
     pages: List[Tuple[str, int]] = []
     with ExitStack() as stack:
-        progress, sources = stack.enter_context(_Progress()), []
+        progress, sources = stack.enter_context(Progress("fontcut-pdf")), []
         for number, path in enumerate(given.files, 1):
             progress.say(f"reading {number} of {len(given.files)} files")
             with _named([path]):
@@ -192,26 +128,26 @@ def _run_merge(given: argparse.Namespace) -> None:
             pdf, outcomes = merge(sources, list(map(_title, given.files)))
         progress.say(f"writing {len(pages)} pages")
         version = max(source.pdf_version for source in sources)
-        _write(given.out, _saved(pdf, min_version=version, object_stream_mode=pikepdf.ObjectStreamMode.generate))
+        write(given.out, _saved(pdf, min_version=version, object_stream_mode=pikepdf.ObjectStreamMode.generate))
     if given.report:
         for outcome in outcomes:
-            _print(_say(outcome, *(pages[outcome.page - 1] if outcome.page else (given.out, 0))))
-        _print(f"{given.out}: {os.path.getsize(given.out)} bytes of {before}")
+            print_line(_say(outcome, *(pages[outcome.page - 1] if outcome.page else (given.out, 0))))
+        print_line(f"{given.out}: {os.path.getsize(given.out)} bytes of {before}")
 
 
 def _run_fonts(given: argparse.Namespace) -> None:
     with _named([given.file]), opened(given.file) as pdf:
         for outcome in fonts(pdf):
-            _print(f"{place(outcome.page)}: {outcome.name}: {outcome.before} bytes: {outcome.said}")
+            print_line(f"{place(outcome.page)}: {outcome.name}: {outcome.before} bytes: {outcome.said}")
 
 
 @contextmanager
 def _named(paths: Sequence[str]) -> Iterator[None]:
-    """Within it, a refusal names its file. What a merge says of no page may be one of all its files."""
+    """Within it, a refusal names its file, or all files together where none of them is refused by itself."""
     try:
         yield
     except Refused as refusal:
-        place_of = paths[refusal.file or 0] if refusal.file is not None or len(paths) == 1 else "one of the files"
+        place_of = paths[refusal.file or 0] if refusal.file is not None or len(paths) == 1 else "all files together"
         raise Refused(f"{place_of}: {refusal}") from refusal
 
 
@@ -228,7 +164,7 @@ def _parser() -> argparse.ArgumentParser:
     parser = argparse.ArgumentParser(prog="fontcut-pdf", description=_WHAT,
                                      epilog=f"Not kept by merge: {_NOT_KEPT}\n{_LIMITS}", **raw)
     parser.add_argument("--version", action="version", version=f"fontcut-pdf {fontcut.__version__}")
-    commands = parser.add_subparsers(dest="command", required=True, metavar="COMMAND")
+    commands = parser.add_subparsers(dest="command", required=True, metavar="COMMAND", parser_class=CommandParser)
     command = commands.add_parser("shrink", help="make lean cuts of whole fonts, for what the pages show",
                                   description=_SHRINK, epilog=_LIMITS, **raw)
     command.add_argument("source", metavar="IN")
@@ -287,5 +223,9 @@ def main(words: Optional[Sequence[str]] = None) -> int:
         print(f"fontcut-pdf: {line(error)}", file=sys.stderr)
         return 1
     except OSError as error:
-        print(f"fontcut-pdf: {f'{error.filename}: {error.strerror}' if error.filename else error}", file=sys.stderr)
+        print(f"fontcut-pdf: {reason(error)}", file=sys.stderr)
         return 3
+    except KeyboardInterrupt:
+        # The line of progress is gone, and no file is half written.
+        os.write(2, b"\n")
+        return 130

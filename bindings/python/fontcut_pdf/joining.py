@@ -13,6 +13,10 @@ from .embedding import composite_font, descendant_font, postscript_name, program
 from .font import Font
 from .shrinking import described, put
 from .survey import stays, surveyed
+from .versions import different_item, different_table, kept, shared
+
+# With how many classes of fonts that do not agree, or do not join, a font is compared.
+MOST_CLASSES = 16
 
 
 @dataclass
@@ -51,28 +55,19 @@ def _member(font: Font) -> _Member:
     return _Member(font, lean, font.box(), font.widths(shown), font.texts(shown))
 
 
-def _joined(members: List[_Member]) -> Tuple[bytes, List[_Member], List[Tuple[_Member, str]]]:
-    """The join of the first of some fonts and of all that join with it, these, and the others with the reason."""
-    joining, others = list(members), []
-    while True:
-        try:
-            return fontcut.join([member.cut for member in joining], lean=True), joining, others
-        except fontcut.Refused as refusal:
-            others.append((joining.pop(min(refusal.file, len(joining) - 1)), refusal.text))
-
-
 def _agree(one: Optional[Dict], other: Optional[Dict]) -> bool:
     """Whether two dictionaries have the same at all keys that both have."""
-    return one is not None and other is not None and all(other.get(key, value) == value for key, value in one.items())
+    return one is not None and other is not None and all(one.get(key, value) == value for key, value in other.items())
 
 
 def _classes(members: Sequence[_Member], of: Callable[[_Member], Optional[Dict]]
              ) -> List[Tuple[Optional[Dict], List[_Member]]]:
-    """Fonts in classes, in each of which all agree, with what they have together."""
+    """Fonts in classes, in each of which all agree, with what they have together. A font is compared with the first classes
+    alone: one that agrees with none of them has a class of its own."""
     found: List[Tuple[Optional[Dict], List[_Member]]] = []
     for member in members:
         mine = of(member)
-        place = next((place for place in found if _agree(place[0], mine)), None)
+        place = next((place for place in found[:MOST_CLASSES] if _agree(place[0], mine)), None)
         if place is None:
             found.append((None if mine is None else dict(mine), [member]))
         else:
@@ -103,21 +98,57 @@ def _unite(members: Sequence[_Member], joined: bytes) -> Name:
     return name
 
 
-def _unite_all(members: List[_Member]) -> Iterator[Outcome]:
-    """Unites what joins among fonts of one name, the first with all that join with it, and then those that are left."""
-    refusals: Dict[int, str] = {}
-    while members:
-        joined, joining, others = _joined(members)
-        if len(joining) > 1:
-            name = str(_unite(joining, joined))[1:]
-            for member in joining:
-                font = member.font
-                yield Outcome(font.page, font.name, font.program.size, len(joined), f"joined into {name}")
-        else:
-            alone = joining[0]
-            yield stays(alone.font, f"stays as it is: {refusals.get(id(alone), 'no other cut of this font')}")
-        refusals.update((id(member), f"it does not join: {why}") for member, why in others)
-        members = [member for member, _ in others]
+def _joined(members: Sequence[_Member]) -> Tuple[bytes, List[_Member], List[Tuple[_Member, str]]]:
+    """The join of the first of some fonts and of those that join with it, these, and the others with the reason. After some
+    refusals the first one is left alone."""
+    joining, others = list(members), []
+    while True:
+        try:
+            return fontcut.join([member.cut for member in joining], lean=True), joining, others
+        except fontcut.Refused as refusal:
+            last = min(refusal.file or 0, len(joining) - 1)
+            others.append((joining.pop(last), refusal.text))
+            if len(others) == MOST_CLASSES:
+                others += [(member, refusal.text) for member in joining[1:]]
+                joining = joining[:1]
+
+
+def _united(members: Sequence[_Member], why: Optional[str]) -> Iterator[Outcome]:
+    """Unites fonts that should join. Where one is left alone, this is why it does not join with the first of its name."""
+    joined, joining, others = _joined(members)
+    if len(joining) > 1:
+        name = str(_unite(joining, joined))[1:]
+        for member in joining:
+            font = member.font
+            yield Outcome(font.page, font.name, font.program.size, len(joined), f"joined into {name}")
+    else:
+        others = [(joining[0], why or ""), *others]
+    for member, reason in others:
+        said = f"it does not join: {reason}" if reason else "no other cut of this font"
+        yield stays(member.font, f"stays as it is: {said}")
+
+
+def _unite_alike(members: Sequence[_Member], why: Optional[str]) -> Iterator[Outcome]:
+    """Unites fonts whose tables are alike, so that they join but where a character or a glyph differs."""
+    try:
+        fontcut.join([member.cut for member in members], lean=True)
+    except fontcut.Refused:
+        classes = _classes(members, lambda member: kept(member.cut))
+    else:
+        classes = [(None, list(members))]
+    first = classes[0][0] or {}
+    for number, (items, alike) in enumerate(classes):
+        yield from _united(alike, why or (different_item(first, items or {}) if number else None))
+
+
+def _unite_all(members: Sequence[_Member]) -> Iterator[Outcome]:
+    """Unites what joins among fonts of one name. Fonts whose tables differ are told apart by digests of these."""
+    alike: Dict[Tuple[Tuple[str, bytes], ...], List[_Member]] = {}
+    for member in members:
+        alike.setdefault(tuple(sorted(shared(member.cut).items())), []).append(member)
+    first = dict(next(iter(alike)))
+    for tables, some in alike.items():
+        yield from _unite_alike(some, different_table(first, dict(tables)))
 
 
 def _share_programs(fonts: Sequence[Font]) -> None:

@@ -89,8 +89,9 @@ def _refusing_file(number: int) -> Iterator[None]:
 
 
 @contextmanager
-def _refusing_page(first: Sequence[int]) -> Iterator[None]:
-    """Within it, a refusal of a page is one of its file. Each file begins after so many pages."""
+def _refusing_page(sources: Sequence[Pdf], first: Sequence[int]) -> Iterator[None]:
+    """Within it, a refusal of a page is one of its file. Each file begins after so many pages. A refusal that names no page is
+    one of the first file that is refused by itself too."""
     try:
         yield
     except Refused as refusal:
@@ -99,7 +100,22 @@ def _refusing_page(first: Sequence[int]) -> Iterator[None]:
             refusal.page -= first[refusal.file]
         elif refusal.args == (NO_FONT,):
             refusal.file = 0
+        else:
+            refusal.file = _refused_alone(sources, refusal)
         raise
+
+
+def _refused_alone(sources: Sequence[Pdf], refusal: Refused) -> Optional[int]:
+    """The first file whose pages are refused for this by themselves, or None where all files together are."""
+    for number, source in enumerate(sources):
+        pdf = Pdf.new()
+        pdf.pages.extend(source.pages)
+        try:
+            join_fonts(pdf)
+        except Refused as alone:
+            if alone.args == refusal.args:
+                return number
+    return None
 
 
 def _refuse_without_fonts(first: Sequence[int], outcomes: Sequence[Outcome]) -> None:
@@ -131,7 +147,7 @@ def merge(sources: Sequence[Pdf], titles: Optional[Sequence[str]] = None) -> Tup
     for number, one in enumerate(added):
         with _refusing_file(number), refusing():
             _lead_links(one)
-    with _refusing_page(first):
+    with _refusing_page(sources, first):
         outcomes = join_fonts(pdf)
     _refuse_without_fonts(first, outcomes)
     add_outline(pdf, added)

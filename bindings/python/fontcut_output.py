@@ -1,0 +1,98 @@
+"""What the commands `fontcut-pdf` and `fontcut-web` share: command lines whose options stand anywhere, files that are replaced
+when they are complete, lines on standard output, and a line on a terminal that says how far a command is."""
+from __future__ import annotations
+
+import argparse
+import os
+import shutil
+import sys
+import tempfile
+from typing import Any
+
+
+class CommandParser(argparse.ArgumentParser):
+    """Reads the words of a command. Options may stand between files, which Python reads so where it is asked to."""
+
+    _is_mixed = False
+
+    def parse_known_args(self, args: Any = None, namespace: Any = None) -> Any:
+        """Reads the words, as `argparse` does with options and files in any order."""
+        if self._is_mixed:
+            return super().parse_known_args(args, namespace)
+        self._is_mixed = True
+        try:
+            return self.parse_known_intermixed_args(args, namespace)
+        finally:
+            self._is_mixed = False
+
+
+def write(path: str, data: bytes) -> None:
+    """Replaces a file by bytes, when all of them are written. An error names the file."""
+    try:
+        if os.path.exists(path) and not os.path.isfile(path):
+            # A device and a pipe stay what they are, and a folder raises an error.
+            with open(path, "wb") as out:
+                out.write(data)
+        else:
+            _replace(os.path.realpath(path), data)
+    except OSError as error:
+        raise OSError(error.errno, error.strerror, path) from error
+
+
+def _replace(path: str, data: bytes) -> None:
+    handle, new = tempfile.mkstemp(prefix=".fontcut-", dir=os.path.dirname(path))
+    try:
+        with os.fdopen(handle, "wb") as out:
+            out.write(data)
+        if os.path.exists(path):
+            shutil.copymode(path, new)
+        else:
+            mask = os.umask(0)
+            os.umask(mask)
+            os.chmod(new, 0o666 & ~mask)
+        os.replace(new, path)
+    except BaseException:
+        os.unlink(new)
+        raise
+
+
+def read(path: str) -> bytes:
+    """The bytes of a file."""
+    with open(path, "rb") as file:
+        return file.read()
+
+
+def print_line(line: str) -> None:
+    """Prints a line at once, the bytes of a path that are no text as `\\udcff`. Raises `OSError` where that fails."""
+    encoding = sys.stdout.encoding or "utf-8"
+    try:
+        print(line.encode(encoding, "backslashreplace").decode(encoding), flush=True)
+    except OSError as error:
+        # Python would try it again when it ends, and say so.
+        with open(os.devnull, "wb") as nowhere:
+            os.dup2(nowhere.fileno(), sys.stdout.fileno())
+        raise OSError(error.errno, error.strerror, "standard output") from error
+
+
+def reason(error: OSError) -> str:
+    """What an error of the system says, with the file that it is about."""
+    return f"{error.filename}: {error.strerror}" if error.filename else str(error)
+
+
+class Progress:
+    """Says on a terminal how far a long command is, in one line that it takes away at the end."""
+
+    def __init__(self, command: str) -> None:
+        self.command = command
+        self.is_shown = sys.stderr is not None and sys.stderr.isatty()
+
+    def say(self, text: str) -> None:
+        if self.is_shown:
+            print(f"\r\x1b[K{self.command}: {text}", end="", file=sys.stderr, flush=True)
+
+    def __enter__(self) -> Progress:
+        return self
+
+    def __exit__(self, *_: object) -> None:
+        if self.is_shown:
+            print("\r\x1b[K", end="", file=sys.stderr, flush=True)

@@ -1,0 +1,229 @@
+"""The command `fontcut-web`."""
+from __future__ import annotations
+
+import argparse
+import importlib
+import json
+import os
+import sys
+from types import ModuleType
+from typing import Optional, Sequence, Set
+
+import fontcut
+from fontcut_output import CommandParser, Progress, print_line, read, reason, write
+
+from . import pages
+from .common import Missing, Refused, UsageError, need
+from .sets import MOST_EQUAL, PRESETS, WEB, asked, range_words
+
+INSTALL = "pip install 'fontcut[web]'"
+_DISPLAYS = "auto", "block", "swap", "fallback", "optional"
+_CUT_KINDS = "Cuts are lean, for what is drawn; with --full they have the metrics and names of all glyphs."
+
+_WHAT = """\
+Fonts for the web, cut by fontcut: slices with a style sheet, cuts for the text of pages, and WOFF files that are
+read back.
+
+  fontcut-web slice Sans.ttf Sans-Bold.ttf --out site --slices web --woff2 --css
+  fontcut-web text index.html about.html Sans.ttf sans.woff2
+  fontcut-web decode sans.woff2 sans.ttf --lean
+"""
+
+_STATUS = """\
+Exit status: 0 done; 1 a file is refused, or there was no memory; 2 usage error; 3 a file cannot be read or
+written, or a package that is needed is not installed.
+"""
+
+_SLICE = f"""\
+Writes a cut of each FONT for each slice to DIR, as FONT-SLICE.ttf. A browser loads a slice when a page has one
+of its characters. A character is in the first slice that names it, and in no other; a slice of no character
+that the font maps is not written.
+
+SLICES is a preset, or a file with a name and ranges in each line, as fontcut slice reads it. Given again, it
+adds slices. The presets are
+  {', '.join(PRESETS)}
+                     the subsets of Google Fonts of these names
+  {WEB}                all of them
+  equal:COUNT        COUNT slices of what is left, which have as many characters each; {MOST_EQUAL} at most
+"""
+
+_TEXT = """\
+Writes to OUT the cut of FONT for the characters that pages of HTML show: their text without scripts and styles,
+and the attributes alt, placeholder, title and value. OUT is WOFF2 where it ends in .woff2. What a style sheet or
+a script adds is not known (content, numbers of lists, text-transform): give it by --text.
+"""
+
+_DECODE = """\
+Writes to OUT the font in a WOFF or WOFF2 file, which fontcut does not take as it is.
+
+A cut that went through WOFF is the same file again. One that went through WOFF2 is no cut as it comes back, for
+WOFF2 lays out its outlines anew. --lean and --full cut it anew for all its characters: such cuts join with each
+other, and not with cuts that were never packed.
+"""
+
+
+def _part(name: str) -> ModuleType:
+    """A module of the package that stands over fontTools."""
+    need("fontTools")
+    return importlib.import_module(f".{name}", __package__)
+
+
+def _run_slice(given: argparse.Namespace) -> None:
+    need("fontTools", *["brotli"] if given.woff2 else [])
+    slicing = _part("slicing")
+    how = slicing.How(not given.full, given.woff2, given.css, given.display)
+    wanted = asked(given.slices)
+    if not wanted:
+        raise UsageError("the list names no slice")
+    with Progress("fontcut-web") as progress:
+        progress.say(f"reading {len(given.fonts)} fonts")
+        told = slicing.write_slices(slicing.opened(given.fonts, wanted, how), given.out, how, progress)
+    if given.json:
+        print_line(json.dumps(told, indent=2))
+
+
+def _page_texts(paths: Sequence[str]) -> Set[str]:
+    """The characters that all pages show."""
+    letters: Set[str] = set()
+    for path in paths:
+        data = read(path)
+        try:
+            letters |= pages.shown(data)
+        except Refused as refusal:
+            raise Refused(f"{path}: {refusal}") from refusal
+    return letters
+
+
+def _accepted(path: str) -> fontcut.Font:
+    """The font in a file."""
+    try:
+        return fontcut.Font(read(path))
+    except fontcut.Refused as refusal:
+        hint = ": fontcut-web decode unpacks WOFF files" if refusal.number == 2 else ""
+        raise Refused(f"{path}: {refusal}{hint}") from refusal
+
+
+def _run_text(given: argparse.Namespace) -> None:
+    *paths, source, out = given.files
+    if not paths:
+        raise UsageError("text wants one page at least, and then FONT and OUT")
+    if out.lower().endswith((".html", ".htm", ".xhtml")):
+        raise UsageError(f"{out} would be replaced by a font: FONT and OUT come last")
+    is_packed = out.lower().endswith(".woff2")
+    need(*["fontTools", "brotli"] if is_packed else [])
+    codes = sorted(map(ord, _page_texts(paths) | set(given.text)))
+    font = _accepted(source)
+    lacking = fontcut.missing(font, codes)
+    if lacking:
+        said = f"{source} lacks {len(lacking)} of {len(codes)} characters: {range_words(lacking)}"
+        if given.strict:
+            raise Refused(said)
+        if not given.json:
+            print(f"fontcut-web: {said}", file=sys.stderr)
+    data = fontcut.cut(font, codes, lean=not given.full)
+    data = _part("woff").packed(data) if is_packed else data
+    write(out, data)
+    if given.json:
+        kept = range_words(code for code in codes if code not in set(lacking))
+        print_line(json.dumps({"file": out, "bytes": len(data), "characters": len(codes) - len(lacking),
+                               "unicode_range": kept, "lacking": range_words(lacking)}, indent=2))
+
+
+def _run_decode(given: argparse.Namespace) -> None:
+    data = read(given.file)
+    try:
+        font = _part("woff").unpacked(data)
+        if given.lean or given.full:
+            font = fontcut.cut(font, fontcut.codes(font), lean=given.lean)
+        form = fontcut.form(font)
+    except (fontcut.Refused, Refused) as refusal:
+        raise Refused(f"{given.file}: {refusal}") from refusal
+    write(given.out, font)
+    print_line(f"{given.out}: {_joins(form, data[:4] == b'wOF2')}")
+
+
+def _joins(form: fontcut.Form, is_woff2: bool) -> str:
+    """What is said of a file that was unpacked, by the form that it has."""
+    kind = {fontcut.Form.LEAN: "a lean cut", fontcut.Form.CURRENT: "a cut", fontcut.Form.OLD: "an old cut"}.get(form)
+    if kind is None:
+        return "no cut; with --lean or --full it is cut anew, and joins with what was unpacked so too"
+    return f"{kind}, which joins with what was unpacked so too" if is_woff2 else f"{kind}"
+
+
+def _kinds(command: argparse.ArgumentParser, lean: str, full: str) -> None:
+    """Adds the options for the two kinds of cuts."""
+    group = command.add_mutually_exclusive_group()
+    group.add_argument("--lean", action="store_true", help=lean)
+    group.add_argument("--full", action="store_true", help=full)
+
+
+def _add_slice(commands: argparse._SubParsersAction, **how: object) -> None:
+    command = commands.add_parser(
+        "slice", help="cut fonts in slices, with a style sheet", description=f"{_SLICE}\n{_CUT_KINDS}\n", **how,
+        usage="fontcut-web slice FONT.. --out DIR --slices SLICES [--lean | --full] [--woff2] [--css] [--display VALUE] "
+              "[--json]")
+    command.add_argument("fonts", metavar="FONT", nargs="+")
+    command.add_argument("--out", metavar="DIR", required=True, help="the folder that the files go to")
+    command.add_argument("--slices", metavar="SLICES", action="append", required=True, help="a preset or a file")
+    _kinds(command, "write lean cuts, as is done without it", "write full cuts")
+    command.add_argument("--woff2", action="store_true", help="write FONT-SLICE.woff2 too, which browsers load")
+    command.add_argument("--css", action="store_true",
+                         help="write fonts.css, and index.html, a page that shows the fonts and asks for the first slice")
+    command.add_argument("--display", metavar="VALUE", choices=_DISPLAYS, default="swap",
+                         help=f"font-display in the style sheet: {', '.join(_DISPLAYS)} (swap)")
+    command.add_argument("--json", action="store_true", help="print what was written")
+    command.set_defaults(run=_run_slice)
+
+
+def _add_text(commands: argparse._SubParsersAction, **how: object) -> None:
+    command = commands.add_parser(
+        "text", help="cut a font for the characters that pages show", description=f"{_TEXT}\n{_CUT_KINDS}\n", **how,
+        usage="fontcut-web text PAGE.. FONT OUT [--lean | --full] [--text TEXT] [--strict] [--json]")
+    command.add_argument("files", metavar="PAGE.. FONT OUT", nargs="+", help=argparse.SUPPRESS)
+    _kinds(command, "write a lean cut, as is done without it", "write a full cut")
+    command.add_argument("--text", metavar="TEXT", default="", help="more characters")
+    command.add_argument("--strict", action="store_true", help="write nothing where the font lacks a character")
+    command.add_argument("--json", action="store_true", help="print what was written")
+    command.set_defaults(run=_run_text)
+
+
+def _add_decode(commands: argparse._SubParsersAction, **how: object) -> None:
+    command = commands.add_parser("decode", help="unpack a WOFF or WOFF2 file", description=_DECODE, **how,
+                                  usage="fontcut-web decode FILE OUT [--lean | --full]")
+    command.add_argument("file", metavar="FILE")
+    command.add_argument("out", metavar="OUT")
+    _kinds(command, "write the lean cut for all its characters", "write the full cut for all its characters")
+    command.set_defaults(run=_run_decode)
+
+
+def _parser() -> argparse.ArgumentParser:
+    raw = {"formatter_class": argparse.RawDescriptionHelpFormatter, "epilog": _STATUS}
+    parser = argparse.ArgumentParser(prog="fontcut-web", description=_WHAT, **raw)
+    parser.add_argument("--version", action="version", version=f"fontcut-web {fontcut.__version__}")
+    commands = parser.add_subparsers(dest="command", required=True, metavar="COMMAND", parser_class=CommandParser)
+    for add in _add_slice, _add_text, _add_decode:
+        add(commands, **raw)
+    return parser
+
+
+def _status(error: BaseException, install: str) -> int:
+    """Says what went wrong, and returns the exit status."""
+    said = {Missing: f"needs {error}: {install}", MemoryError: "no memory"}.get(type(error), str(error))
+    if isinstance(error, OSError):
+        said = reason(error)
+    print(f"fontcut-web: {said}", file=sys.stderr)
+    return {UsageError: 2, Refused: 1, fontcut.Refused: 1, MemoryError: 1}.get(type(error), 3)
+
+
+def main(words: Optional[Sequence[str]] = None, install: str = INSTALL) -> int:
+    """Runs the command, and returns its exit status. `install` is what to do where a package is not there."""
+    given = _parser().parse_args(words)
+    try:
+        given.run(given)
+    except (Missing, Refused, UsageError, fontcut.Refused, MemoryError, OSError) as error:
+        return _status(error, install)
+    except KeyboardInterrupt:
+        # The line of progress is gone, and no file is half written.
+        os.write(2, b"\n")
+        return 130
+    return 0

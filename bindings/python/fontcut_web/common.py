@@ -1,0 +1,30 @@
+"""What the modules of the package share: errors, and the packages that a command needs."""
+from __future__ import annotations
+
+from importlib.util import find_spec
+from typing import Dict, List, Sequence, Tuple
+
+# The modules that a package may be imported as. fontTools takes either of those for Brotli.
+_MODULES: Dict[str, Tuple[str, ...]] = {"fontTools": ("fontTools",), "brotli": ("brotli", "brotlicffi")}
+
+
+class Refused(Exception):
+    """A file is refused, and nothing was written."""
+
+
+class UsageError(Exception):
+    """The words of the command line, or those of a list of slices, are wrong."""
+
+
+class Missing(Exception):
+    """A package that is needed is not installed."""
+
+    def __init__(self, packages: Sequence[str]):
+        super().__init__(" and ".join(packages))
+
+
+def need(*packages: str) -> None:
+    """Raises `Missing`, with all packages that are not there."""
+    lacking: List[str] = [package for package in packages if not any(map(find_spec, _MODULES[package]))]
+    if lacking:
+        raise Missing(lacking)

@@ -1,0 +1,67 @@
+"""What a style sheet says of a font, which is what the tables `name`, `OS/2` and `head` of the font say (OpenType 1.9)."""
+from __future__ import annotations
+
+import io
+import struct
+from typing import NamedTuple
+
+from fontTools.misc.textTools import Tag
+from fontTools.ttLib import TTFont, TTLibError
+
+# What fontTools raises where a table is malformed.
+_MALFORMED = (TTLibError, struct.error, AssertionError, AttributeError, IndexError, KeyError, OverflowError, TypeError,
+              ValueError)
+# The widths that usWidthClass stands for, from 1 on (CSS Fonts 4, 2.5).
+_WIDTHS = "50%", "62.5%", "75%", "87.5%", "100%", "112.5%", "125%", "150%", "200%"
+_ITALIC, _OBLIQUE = 0x001, 0x200
+
+
+class Face(NamedTuple):
+    """A font as a style sheet names it: the values of font-family, font-style, font-weight and font-stretch."""
+
+    family: str
+    style: str
+    weight: int
+    stretch: str
+
+    def __str__(self) -> str:
+        return f"{self.family}, {self.style}, {self.weight}, {self.stretch}"
+
+
+def face_of(data: bytes, name: str) -> Face:
+    """The face of a font. One without a name of its own has this one."""
+    font = TTFont(io.BytesIO(data), lazy=True)
+    return Face(_family(font) or name, _style(font), _weight(font), _stretch(font))
+
+
+def _family(font: TTFont) -> str:
+    try:
+        return font["name"].getBestFamilyName() or ""
+    except _MALFORMED:
+        return ""
+
+
+def _number(font: TTFont, table: str, key: str, otherwise: int) -> int:
+    """A number of a table, or another one where the table is not there, or is malformed."""
+    try:
+        return int(getattr(font[Tag(table)], key))
+    except _MALFORMED:
+        return otherwise
+
+
+def _style(font: TTFont) -> str:
+    selection = _number(font, "OS/2", "fsSelection", 0)
+    if selection & _OBLIQUE:
+        return "oblique"
+    return "italic" if selection & _ITALIC or _number(font, "head", "macStyle", 0) & 2 else "normal"
+
+
+def _weight(font: TTFont) -> int:
+    weight = _number(font, "OS/2", "usWeightClass", 400)
+    # Some old fonts have 1 to 9 there, by which the hundreds are meant.
+    return min(1000, 100 * weight if weight < 10 else weight) or 400
+
+
+def _stretch(font: TTFont) -> str:
+    width = _number(font, "OS/2", "usWidthClass", 5)
+    return _WIDTHS[width - 1] if 1 <= width <= len(_WIDTHS) else "100%"

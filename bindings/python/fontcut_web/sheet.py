@@ -1,0 +1,96 @@
+"""The style sheet of slices, and a page that shows them."""
+from __future__ import annotations
+
+import html
+import re
+import unicodedata
+from typing import Iterable, Iterator, List, NamedTuple, Sequence
+from urllib.parse import quote
+
+from .faces import Face
+from .sets import Slice, range_words
+
+# How many slices of a font the page shows, and how many characters of each.
+_SHOWN_SLICES, _SHOWN_CHARACTERS = 8, 40
+_FORMATS = {".ttf": "truetype", ".woff2": "woff2"}
+_TYPES = {".ttf": "font/ttf", ".woff2": "font/woff2"}
+
+
+class Placed(NamedTuple):
+    """A slice, and the name of the file that a browser loads for it."""
+
+    slice: Slice
+    file: str
+
+    @property
+    def ending(self) -> str:
+        return self.file[self.file.rindex("."):]
+
+
+class Styled(NamedTuple):
+    """A font as the style sheet has it: its face, and its slices."""
+
+    face: Face
+    placed: List[Placed]
+
+
+def string(text: str) -> str:
+    """A text as a string of CSS, fit for a style element of HTML too."""
+    escaped = re.sub(r'["\\]', r"\\\g<0>", text)
+    return '"' + re.sub(r"[\0-\x1f\x7f<]", lambda found: f"\\{ord(found[0]):x} ", escaped) + '"'
+
+
+def _declarations(face: Face) -> List[str]:
+    """What rules and pages say of a font."""
+    lines = [f"font-family: {string(face.family)};", f"font-style: {face.style};", f"font-weight: {face.weight};"]
+    return lines + ([] if face.stretch == "100%" else [f"font-stretch: {face.stretch};"])
+
+
+def _block(selector: str, declarations: Iterable[str]) -> str:
+    return "".join([f"{selector} {{\n", *(f"  {line}\n" for line in declarations), "}\n"])
+
+
+def style_sheet(fonts: Sequence[Styled], display: str) -> str:
+    """A rule for each slice. A browser loads a slice when a page has one of its characters."""
+    rules = ['@charset "utf-8";\n']
+    for font in fonts:
+        for placed in font.placed:
+            rules.append(_block("@font-face", [
+                *_declarations(font.face), f"font-display: {display};",
+                f'src: url("{quote(placed.file)}") format("{_FORMATS[placed.ending]}");',
+                f"unicode-range: {range_words(placed.slice.codes)};"]))
+    return "".join(rules)
+
+
+def preloads(fonts: Sequence[Styled]) -> List[str]:
+    """A line for the head of a page for each font, by which a browser asks for the first slice at once."""
+    return [f'<link rel="preload" as="font" type="{_TYPES[first.ending]}" href="{quote(first.file)}" crossorigin>'
+            for first in (font.placed[0] for font in fonts)]
+
+
+def _letters(codes: Iterable[int]) -> str:
+    """Some letters and digits among characters."""
+    letters = [chr(code) for code in codes if unicodedata.category(chr(code)) in ("Lu", "Ll", "Lo", "Nd")]
+    return "".join(letters[:_SHOWN_CHARACTERS])
+
+
+def _shown(number: int, font: Styled) -> Iterator[str]:
+    """What the page shows of a font."""
+    yield f"<h2>{html.escape(font.face.family)}, {font.face.style} {font.face.weight}</h2>\n"
+    yield f'<section class="font-{number}">\n'
+    for placed in font.placed[:_SHOWN_SLICES]:
+        letters = _letters(placed.slice.codes)
+        if letters:
+            yield f"<p>{html.escape(letters)}</p>\n"
+    yield "</section>\n"
+
+
+def page(fonts: Sequence[Styled], sheet: str) -> str:
+    """A page that shows letters of the slices of each font."""
+    classes = [_block(f".font-{number}", _declarations(font.face)) for number, font in enumerate(fonts, 1)]
+    return "".join([
+        '<!DOCTYPE html>\n<html lang="en">\n<head>\n<meta charset="utf-8">\n<title>Fonts in slices</title>\n',
+        *(f"{line}\n" for line in preloads(fonts)),
+        f'<link rel="stylesheet" href="{sheet}">\n<style>\nsection {{\n  font-size: 32px;\n}}\n', *classes,
+        "</style>\n</head>\n<body>\n",
+        *(part for number, font in enumerate(fonts, 1) for part in _shown(number, font)), "</body>\n</html>\n"])

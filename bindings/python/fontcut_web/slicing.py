@@ -1,0 +1,147 @@
+"""Fonts in slices: the cuts, their WOFF2 files, a style sheet and a page."""
+from __future__ import annotations
+
+import os
+from contextlib import contextmanager
+from typing import Dict, Iterator, List, NamedTuple, Optional, Sequence, Set, Tuple
+
+import fontcut
+from fontcut_output import Progress, read, write
+
+from .common import Refused
+from .faces import Face, face_of
+from .sets import Asked, Slice, divided, range_words
+from .sheet import Placed, Styled, page, preloads, style_sheet
+from .woff import WOFF, WOFF2, packed
+
+SHEET, PAGE = "fonts.css", "index.html"
+# How many slices are cut by one call, which holds all of them in memory.
+_AT_ONCE = 16
+
+
+class Font(NamedTuple):
+    """A font that is accepted, with the slices that are wanted of it. `base` begins the names of their files."""
+
+    path: str
+    font: fontcut.Font
+    face: Face
+    slices: List[Slice]
+    base: str
+
+
+class Written(NamedTuple):
+    """A slice that is written: its files, with the bytes of each; no WOFF2 file where none is wanted."""
+
+    slice: Slice
+    cut: Tuple[str, int]
+    woff2: Optional[Tuple[str, int]]
+
+
+class How(NamedTuple):
+    """How slices are written."""
+
+    lean: bool = True
+    woff2: bool = False
+    css: bool = False
+    display: str = "swap"
+
+
+@contextmanager
+def refusing(path: str) -> Iterator[None]:
+    """Within it, a refusal names its file."""
+    try:
+        yield
+    except (fontcut.Refused, Refused) as refusal:
+        raise Refused(f"{path}: {refusal}") from refusal
+
+
+def accepted(path: str) -> fontcut.Font:
+    """The font in a file. Raises `Refused`, with what to do about a file that is packed."""
+    data = read(path)
+    with refusing(path):
+        if data[:4] in (WOFF, WOFF2):
+            raise Refused("it is a WOFF file: fontcut-web decode unpacks it")
+        return fontcut.Font(data)
+
+
+def _base(path: str, slices: Sequence[Slice], taken: Set[str]) -> str:
+    """What begins the names of a font's files: the name of its file, with a number where another font has these names."""
+    stem = os.path.splitext(os.path.basename(path))[0]
+    base, number = stem, 1
+    while any(f"{base}-{one.name}".casefold() in taken for one in slices):
+        number += 1
+        base = f"{stem}-{number}"
+    taken.update(f"{base}-{one.name}".casefold() for one in slices)
+    return base
+
+
+def opened(paths: Sequence[str], asked: Sequence[Asked], how: How) -> List[Font]:
+    """The fonts and their slices. Raises `Refused` where one is refused, or maps none of the characters, or where two could
+    not be told apart in a style sheet."""
+    found: List[Font] = []
+    taken: Set[str] = set()
+    seen: Dict[Face, str] = {}
+    for path in paths:
+        font = accepted(path)
+        face = face_of(font.data, os.path.splitext(os.path.basename(path))[0])
+        slices = divided(font, asked)
+        if not slices:
+            raise Refused(f"{path}: it maps no character of these slices")
+        if how.css and face in seen:
+            raise Refused(f"{path}: it has the family, style, weight and width of {seen[face]}: {face}")
+        seen[face] = path
+        found.append(Font(path, font, face, slices, _base(path, slices, taken)))
+    return found
+
+
+def _put(folder: str, name: str, data: bytes) -> Tuple[str, int]:
+    write(os.path.join(folder, name), data)
+    return name, len(data)
+
+
+def _cuts(font: Font, lean: bool) -> Iterator[Tuple[Slice, bytes]]:
+    """The slices of a font, each with its cut."""
+    for at in range(0, len(font.slices), _AT_ONCE):
+        some = font.slices[at:at + _AT_ONCE]
+        with refusing(font.path):
+            cuts = fontcut.slices(font.font, [one.codes for one in some], lean=lean)
+        yield from zip(some, cuts)
+
+
+def _slices(fonts: Sequence[Font], folder: str, how: How, progress: Progress) -> Iterator[List[Written]]:
+    """Writes the slices of each font."""
+    count, number = sum(len(font.slices) for font in fonts), 0
+    for font in fonts:
+        made: List[Written] = []
+        for one, cut in _cuts(font, how.lean):
+            number += 1
+            progress.say(f"slice {number} of {count}")
+            name = f"{font.base}-{one.name}"
+            made.append(Written(one, _put(folder, f"{name}.ttf", cut),
+                                _put(folder, f"{name}.woff2", packed(cut)) if how.woff2 else None))
+        yield made
+
+
+def write_slices(fonts: Sequence[Font], folder: str, how: How, progress: Progress) -> Dict[str, object]:
+    """Writes the slices of fonts to a folder, and then, where they are wanted, a style sheet and a page. Returns what was
+    written, as `--json` prints it."""
+    os.makedirs(folder, exist_ok=True)
+    written = list(_slices(fonts, folder, how, progress))
+    told: Dict[str, object] = {"fonts": [_told(font, made) for font, made in zip(fonts, written)]}
+    if how.css:
+        styled = [Styled(font.face, [Placed(one.slice, (one.woff2 or one.cut)[0]) for one in made])
+                  for font, made in zip(fonts, written)]
+        # The style sheet names files that are all there, and the page names the style sheet.
+        _put(folder, SHEET, style_sheet(styled, how.display).encode())
+        _put(folder, PAGE, page(styled, SHEET).encode())
+        told.update(css=SHEET, page=PAGE, preload=preloads(styled))
+    return told
+
+
+def _told(font: Font, made: Sequence[Written]) -> Dict[str, object]:
+    rows = []
+    for one in made:
+        row = {"name": one.slice.name, "file": one.cut[0], "bytes": one.cut[1], "characters": len(one.slice.codes),
+               "unicode_range": range_words(one.slice.codes)}
+        rows.append({**row, **({"woff2": one.woff2[0], "woff2_bytes": one.woff2[1]} if one.woff2 else {})})
+    return {"font": font.path, **font.face._asdict(), "slices": rows}

@@ -1,0 +1,48 @@
+"""WOFF2 is written, and WOFF and WOFF2 are read, by fontTools."""
+from __future__ import annotations
+
+import io
+import struct
+import zlib
+
+from fontTools.ttLib import TTFont, TTLibError, woff2
+
+from .common import Refused, need
+
+WOFF, WOFF2 = b"wOFF", b"wOF2"
+# What fontcut takes at most, unpacked.
+MOST_UNPACKED = 128 << 20
+# What fontTools and what it calls raise where a file is malformed. Brotli has an error of its own, which is an Exception.
+_MALFORMED = (TTLibError, struct.error, zlib.error, ArithmeticError, AssertionError, AttributeError, LookupError, TypeError,
+              ValueError)
+
+
+def packed(data: bytes) -> bytes:
+    """A font as WOFF2."""
+    need("brotli")
+    made = io.BytesIO()
+    woff2.compress(io.BytesIO(data), made)
+    return made.getvalue()
+
+
+def unpacked(data: bytes) -> bytes:
+    """The font that a WOFF or WOFF2 file has. Raises `Refused` where it is neither, or is damaged."""
+    if data[:4] not in (WOFF, WOFF2):
+        raise Refused("it is neither WOFF nor WOFF2")
+    if data[:4] == WOFF2:
+        need("brotli")
+    # The length that it says the font has (WOFF 1.0, 4; WOFF 2.0, 4.1).
+    if len(data) < 20 or struct.unpack_from(">I", data, 16)[0] > MOST_UNPACKED:
+        raise Refused(f"it is damaged, or has more than {MOST_UNPACKED} bytes of tables")
+    try:
+        return _unpacked(data)
+    except _MALFORMED as error:
+        raise Refused(f"it is damaged: {' '.join(str(error).split()) or type(error).__name__}") from error
+
+
+def _unpacked(data: bytes) -> bytes:
+    font = TTFont(io.BytesIO(data), recalcBBoxes=False, recalcTimestamp=False)
+    font.flavor = font.flavorData = None
+    made = io.BytesIO()
+    font.save(made, reorderTables=False)
+    return made.getvalue()
