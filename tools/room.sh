@@ -1,15 +1,15 @@
-# Functions for ./fontcut, ./mutate and tools/build: a room is a folder with a copy of some crates, in which rt proves
+# Functions for ./fontcut, ./mutate, bindings/c/build and tools/build: a room is a folder with a copy of some crates, in which rt proves
 # them without touching the checkout. Its path is in $room. What reads the checkout is called at its top.
 # shellcheck shell=sh
 
-# make_room STATUS: makes the room. Whatever ends the script, what works in the room ends with it, and the room is
-# removed; a signal ends it with this status.
+# make_room STATUS [FOLDER]: makes the room, in a folder where one is named. Whatever ends the script, what works in the
+# room ends with it, and the room is removed; a signal ends it with this status.
 make_room() {
     room='' worker=''
     trap leave_room EXIT
     # shellcheck disable=SC2064 # it is the status of now
     trap "exit $1" HUP INT TERM
-    room=$(mktemp -d) || exit "$1"
+    room=$(mktemp -d ${2:+"$2/room.XXXXXX"}) || exit "$1"
 }
 
 # work FOLDER WORD..: runs a program in the folder, and waits for it. It heads a process group of its own, so that all
