@@ -23,6 +23,8 @@ COMPLETIONS = {"bash": COMPLETION, "zsh": os.path.join(TOP, "completion", "_font
 
 PDF_MANUAL = os.path.join(TOP, "docs", "fontcut-pdf.1")
 PDF_COMPLETION = os.path.join(TOP, "completion", "fontcut-pdf.bash")
+WEB_MANUAL = os.path.join(TOP, "docs", "fontcut-web.1")
+WEB_COMPLETION = os.path.join(TOP, "completion", "fontcut-web.bash")
 
 with open(os.path.join(TOP, "VERSION"), encoding="ascii") as opened:
     VERSION = opened.read().strip()

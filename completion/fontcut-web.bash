@@ -1,0 +1,69 @@
+# Completion of the command line of fontcut-web for bash. It needs no other file.
+# shellcheck shell=bash
+
+# Prints the options of a command; those that stand before one where there is none.
+_fontcut_web_options() {
+    case $1 in
+    '') echo '--version --help' ;;
+    slice) echo '--out --slices --lean --full --woff2 --css --display --json --help' ;;
+    text) echo '--lean --full --text --strict --json --help' ;;
+    *) echo '--lean --full --help' ;;
+    esac
+}
+
+# Proposes files whose names match a pattern, and folders.
+_fontcut_web_files() {
+    mapfile -t COMPREPLY < <(compgen -f -X "!*.$1" -- "$2"; compgen -d -- "$2")
+    # This fails outside a completion.
+    compopt -o filenames 2>/dev/null
+}
+
+# Proposes what may follow an option.
+_fontcut_web_value() {
+    case $1 in
+    --display) mapfile -t COMPREPLY < <(compgen -W 'auto block swap fallback optional' -- "$2") ;;
+    --slices)
+        mapfile -t COMPREPLY < <(
+            compgen -W 'latin latin-ext vietnamese greek greek-ext cyrillic cyrillic-ext web equal:' -- "$2"
+            compgen -f -- "$2"
+        )
+        ;;
+    --out) mapfile -t COMPREPLY < <(compgen -d -- "$2") ;;
+    esac
+}
+
+_fontcut_web() {
+    local word='' option='' command='' at
+    COMPREPLY=()
+    # The words before the one that is completed: the command, and whether the value of an option comes next. Bash makes a
+    # word of its own of the sign in --out=DIR.
+    for ((at = 1; at < COMP_CWORD; at++)); do
+        word=${COMP_WORDS[at]}
+        if [ "$word" = = ]; then
+            :
+        elif [ -n "$option" ]; then
+            option=''
+        elif [[ $word == --@(out|slices|display|text) ]]; then
+            option=$word
+        elif [[ $word != -?* ]] && [ -z "$command" ]; then
+            command=$word
+        fi
+    done
+    word=${COMP_WORDS[COMP_CWORD]}
+    [ "$word" != = ] || word=''
+    if [ -n "$option" ]; then
+        _fontcut_web_value "$option" "$word"
+    elif [[ $word == -* ]]; then
+        mapfile -t COMPREPLY < <(compgen -W "$(_fontcut_web_options "$command")" -- "$word")
+    elif [ -z "$command" ]; then
+        mapfile -t COMPREPLY < <(compgen -W 'slice text decode' -- "$word")
+    elif [ "$command" = text ]; then
+        _fontcut_web_files '@([hH][tT][mM]?([lL])|[tT][tT][fF])' "$word"
+    elif [ "$command" = decode ]; then
+        _fontcut_web_files '@([wW][oO][fF][fF]?(2)|[tT][tT][fF])' "$word"
+    else
+        _fontcut_web_files '[tT][tT][fF]' "$word"
+    fi
+}
+
+complete -F _fontcut_web fontcut-web
