@@ -11,11 +11,14 @@ _fontcut_web_options() {
     esac
 }
 
-# Proposes files whose names match a pattern, and folders.
+# Prints files of these endings, and folders.
 _fontcut_web_files() {
-    mapfile -t COMPREPLY < <(compgen -f -X "!*.$1" -- "$2"; compgen -d -- "$2")
-    # This fails outside a completion.
-    compopt -o filenames 2>/dev/null
+    local word=$1 ending
+    compgen -d -- "$word"
+    shift
+    for ending; do
+        compgen -f -X "!*.$ending" -- "$word"
+    done
 }
 
 # Proposes what may follow an option.
@@ -57,12 +60,14 @@ _fontcut_web() {
         mapfile -t COMPREPLY < <(compgen -W "$(_fontcut_web_options "$command")" -- "$word")
     elif [ -z "$command" ]; then
         mapfile -t COMPREPLY < <(compgen -W 'slice text decode' -- "$word")
-    elif [ "$command" = text ]; then
-        _fontcut_web_files '@([hH][tT][mM]?([lL])|[tT][tT][fF])' "$word"
-    elif [ "$command" = decode ]; then
-        _fontcut_web_files '@([wW][oO][fF][fF]?(2)|[tT][tT][fF])' "$word"
     else
-        _fontcut_web_files '[tT][tT][fF]' "$word"
+        case $command in
+        text) mapfile -t COMPREPLY < <(_fontcut_web_files "$word" '[tT][tT][fF]' '[hH][tT][mM]' '[hH][tT][mM][lL]') ;;
+        decode) mapfile -t COMPREPLY < <(_fontcut_web_files "$word" '[tT][tT][fF]' '[wW][oO][fF][fF]' '[wW][oO][fF][fF]2') ;;
+        *) mapfile -t COMPREPLY < <(_fontcut_web_files "$word" '[tT][tT][fF]') ;;
+        esac
+        # This fails outside a completion.
+        compopt -o filenames 2>/dev/null
     fi
 }
 
