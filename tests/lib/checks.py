@@ -10,6 +10,10 @@ PROGRAM = os.path.join(TOP, "crates", "fontcut", "out", "bin", "fontcut")
 # The same proved code as rt links it, with the C library of the machine: a library can stand before that.
 DYNAMIC = os.path.join(TOP, "crates", "fontcut", "out", "fontcut")
 
+# Debian's own Python sees what Debian's packages bring; another one may come first on PATH.
+PYTHON = "/usr/bin/python3"
+FONTCUT_WEB = os.path.join(TOP, "bindings", "python", "fontcut-web")
+
 DEJAVU = "/usr/share/fonts/truetype/dejavu"  # Debian's package fonts-dejavu-core
 LIBERATION = "/usr/share/fonts/truetype/liberation2"  # Debian's package fonts-liberation2
 BABELSTONE = "/usr/share/fonts/truetype/babelstone"  # Debian's package fonts-babelstone-han

@@ -104,9 +104,9 @@ def _accepted(path: str) -> fontcut.Font:
 
 
 def _run_text(given: argparse.Namespace) -> None:
+    if len(given.files) < 3:
+        raise UsageError("text needs one page at least, and then FONT and OUT")
     *paths, source, out = given.files
-    if not paths:
-        raise UsageError("text wants one page at least, and then FONT and OUT")
     if out.lower().endswith((".html", ".htm", ".xhtml")):
         raise UsageError(f"{out} would be replaced by a font: FONT and OUT come last")
     is_packed = out.lower().endswith(".woff2")

@@ -17,7 +17,7 @@ _MARKS = {codecs.BOM_UTF8: "utf-8-sig", codecs.BOM_UTF16_LE: "utf-16", codecs.BO
 # What browsers take these names for (Encoding Standard, 4.2).
 _BROWSERS = {"iso8859-1": "windows-1252", "ascii": "windows-1252", "utf-16": "utf-8", "utf-16-le": "utf-8",
              "utf-16-be": "utf-8"}
-_SOFT_HYPHEN, _HYPHENS = "\u00ad", "-\u2010"
+_SOFT_HYPHEN, _HYPHENS, _BLANKS = "\u00ad", "-\u2010", set("\t\n\f\r")
 
 
 class _Reader(HTMLParser):
@@ -68,6 +68,6 @@ def shown(data: bytes) -> Set[str]:
         # The parser of Python knows no way on from some markup that is malformed.
         raise Refused(f"it is malformed: {error}") from error
     found = set("".join(reader.texts))
-    # A line that is broken there shows a hyphen.
-    found.update(_HYPHENS if _SOFT_HYPHEN in found else "")
+    # A line that is broken at a soft hyphen shows a hyphen, and the end of a line of the page shows a blank.
+    found.update(_HYPHENS if _SOFT_HYPHEN in found else "", " " if found & _BLANKS else "")
     return {letter for letter in found if unicodedata.category(letter) not in ("Cc", "Cs")}
