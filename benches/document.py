@@ -279,6 +279,15 @@ def merged_table(rows):
                  [[row.font, row.count, *(cell(row.sizes, way) for way in merged_sizes.WAYS)] for row in rows])
 
 
+def ways_table(ways):
+    """The seconds and the bytes of each way, with their ratios to the first."""
+    if not ways:
+        return "Not measured, for a package was not there."
+    rows = [[way.name, number(way.seconds), ratio(way.seconds / ways[0].seconds), f"{way.size:,}",
+             ratio(way.size / ways[0].size)] for way in ways]
+    return table(["way", "seconds", "ratio", "bytes", "ratio"], rows)
+
+
 def first_line(*words):
     """What a program says of its version."""
     try:

@@ -1,0 +1,102 @@
+"""How long the commands of the module for Python take: slices of a Chinese font as WOFF2 beside a loop of pyftsubset, and a merge of
+letters beside qpdf."""
+import importlib
+import os
+import re
+import subprocess
+import sys
+import time
+from collections import namedtuple
+
+from checks import DEJAVU, FONTCUT_WEB, TOP, held, skip
+from document_texts import document_lines
+from join_timing import SOURCE
+from measure import DEBIAN_PYTHON, need
+
+BINDINGS = os.path.join(TOP, "bindings", "python")
+LETTER_FONT = f"{DEJAVU}/DejaVuSans.ttf"
+SLICES, LETTERS, RUNS = 100, 40, 5
+
+# One way to do something: the seconds by the clock on the wall, and the bytes of what it made.
+Way = namedtuple("Way", "name seconds size")
+
+
+def seconds_of(*lines):
+    """The seconds that command lines take one after the other, each of which has to end well."""
+    begin = time.perf_counter()
+    for words in lines:
+        ran = subprocess.run(words, stdin=subprocess.DEVNULL, capture_output=True, check=False)
+        need(f"{words[0]} ends well", ran.returncode == 0, words, ran.stderr)
+    return time.perf_counter() - begin
+
+
+def sizes_below(folder, ending):
+    """The bytes of all files of a folder with an ending."""
+    return sum(os.path.getsize(os.path.join(folder, name)) for name in os.listdir(folder) if name.endswith(ending))
+
+
+def sliced(folder, count):
+    """Slices of the font as WOFF2, in each way."""
+    site, other = f"{folder}/site", f"{folder}/other"
+    os.mkdir(other)
+    words = [DEBIAN_PYTHON, FONTCUT_WEB, "slice", SOURCE, "--out", site, "--slices", f"equal:{count}", "--css"]
+    yield Way("`fontcut-web slice`", seconds_of([*words, "--woff2"]), sizes_below(site, ".woff2"))
+    ranges = re.findall(r"unicode-range: (.*);", held(f"{site}/fonts.css").decode())
+    lines = [[DEBIAN_PYTHON, "-m", "fontTools.subset", SOURCE, f"--unicodes={one.replace(' ', '')}", "--flavor=woff2",
+              f"--output-file={other}/{number}.woff2"] for number, one in enumerate(ranges)]
+    yield Way("`pyftsubset`, a call a slice", seconds_of(*lines), sizes_below(other, ".woff2"))
+    yield Way("`fontcut-web slice` without `--woff2`", seconds_of(words), sizes_below(site, ".ttf"))
+
+
+def letters(folder, count):
+    """Writes letters of a page each, whose fonts are lean cuts."""
+    sys.path.insert(0, BINDINGS)
+    pikepdf, fontcut, fontcut_pdf = map(importlib.import_module, ("pikepdf", "fontcut", "fontcut_pdf"))
+    font = held(LETTER_FONT)
+    codes = {code for first, last in fontcut.codes(font) for code in range(first, last + 1)}
+    for number, lines in enumerate(document_lines("letters", codes, count)):
+        pdf = pikepdf.Pdf.new()
+        used = fontcut_pdf.embed(pdf, font, "".join(lines))
+        body = b"BT /F 12 Tf 16 TL 20 380 Td " + b" ".join(used.show(line) + b" Tj T*" for line in lines) + b" ET"
+        fonts = pikepdf.Dictionary(F=used.font)
+        pdf.pages.append(pikepdf.Page(pdf.make_indirect(pikepdf.Dictionary(
+            Type=pikepdf.Name.Page, MediaBox=pikepdf.Array([0, 0, 300, 400]), Contents=pikepdf.Stream(pdf, body),
+            Resources=pikepdf.Dictionary(Font=fonts)))))
+        path = f"{folder}/letter-{number}.pdf"
+        pdf.save(path, object_stream_mode=pikepdf.ObjectStreamMode.generate)
+        yield path
+
+
+def merged(folder, count):
+    """A merge of letters, in each way: the least of some runs."""
+    paths, out = list(letters(folder, count)), f"{folder}/merged.pdf"
+    ways = {"`fontcut-pdf merge`": [DEBIAN_PYTHON, f"{BINDINGS}/fontcut-pdf", "merge", "-o", out, *paths],
+            "`qpdf --empty --pages`": ["qpdf", "--empty", "--object-streams=generate", "--pages", *paths, "--", out]}
+    for name, words in ways.items():
+        yield Way(name, min(seconds_of(words) for _ in range(RUNS)), os.path.getsize(out))
+
+
+def measured(folder, library, is_quick):
+    """What was measured, by the name of its table. Where a package is not there, or in a quick run, that is left out."""
+    os.environ["FONTCUT_LIBRARY"] = library
+    found = {"slices": [], "letters": []}
+    if is_quick or not os.path.exists(SOURCE) or not is_there("import brotli, fontTools"):
+        skip("slices of LXGW WenKai", "a quick run, or a package is not installed")
+    else:
+        print("LXGWWenKai-Regular: slices", file=sys.stderr, flush=True)
+        found["slices"] = list(sliced(folder, SLICES))
+    if os.path.exists(LETTER_FONT) and is_there("import pikepdf", "qpdf"):
+        print("DejaVuSans: letters", file=sys.stderr, flush=True)
+        found["letters"] = list(merged(folder, LETTERS))
+    else:
+        skip("letters", "python3-pikepdf or qpdf is not installed")
+    return found
+
+
+def is_there(line, program="true"):
+    """Whether Debian's Python runs a line, and a program is there."""
+    lines = [DEBIAN_PYTHON, "-c", line], [program, "--version"]
+    try:
+        return all(subprocess.run(words, capture_output=True, check=False).returncode == 0 for words in lines)
+    except FileNotFoundError:
+        return False
