@@ -1,11 +1,11 @@
-"""How long the commands of the module for Python take: slices of a Chinese font as WOFF2 beside a loop of pyftsubset, and a merge of
-letters beside qpdf."""
+"""How long the commands of the module for Python take: slices of a Chinese font as WOFF2 beside a loop of pyftsubset,
+and a merge of letters beside qpdf."""
 import importlib
 import os
 import re
+import resource
 import subprocess
 import sys
-import time
 from collections import namedtuple
 
 from checks import DEJAVU, FONTCUT_WEB, TOP, held, skip
@@ -17,17 +17,18 @@ BINDINGS = os.path.join(TOP, "bindings", "python")
 LETTER_FONT = f"{DEJAVU}/DejaVuSans.ttf"
 SLICES, LETTERS, RUNS = 100, 40, 5
 
-# One way to do something: the seconds by the clock on the wall, and the bytes of what it made.
+# One way to do something: the seconds of the processor, and the bytes of what it made.
 Way = namedtuple("Way", "name seconds size")
 
 
 def seconds_of(*lines):
-    """The seconds that command lines take one after the other, each of which has to end well."""
-    begin = time.perf_counter()
+    """The processor's seconds that command lines take one after the other, each of which has to end well."""
+    before = resource.getrusage(resource.RUSAGE_CHILDREN)
     for words in lines:
         ran = subprocess.run(words, stdin=subprocess.DEVNULL, capture_output=True, check=False)
         need(f"{words[0]} ends well", ran.returncode == 0, words, ran.stderr)
-    return time.perf_counter() - begin
+    after = resource.getrusage(resource.RUSAGE_CHILDREN)
+    return after.ru_utime + after.ru_stime - before.ru_utime - before.ru_stime
 
 
 def sizes_below(folder, ending):
@@ -77,7 +78,8 @@ def merged(folder, count):
 
 
 def measured(folder, library, is_quick):
-    """What was measured, by the name of its table. Where a package is not there, or in a quick run, that is left out."""
+    """What was measured, by the name of its table. Where a package is not there, or in a quick run, that is left
+    out."""
     os.environ["FONTCUT_LIBRARY"] = library
     found = {"slices": [], "letters": []}
     if is_quick or not os.path.exists(SOURCE) or not is_there("import brotli, fontTools"):

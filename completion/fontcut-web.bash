@@ -38,8 +38,8 @@ _fontcut_web_value() {
 _fontcut_web() {
     local word='' option='' command='' at
     COMPREPLY=()
-    # The words before the one that is completed: the command, and whether the value of an option comes next. Bash makes a
-    # word of its own of the sign in --out=DIR.
+    # The words before the one that is completed: the command, and whether the value of an option comes next. Bash
+    # makes a word of its own of the sign in --out=DIR.
     for ((at = 1; at < COMP_CWORD; at++)); do
         word=${COMP_WORDS[at]}
         if [ "$word" = = ]; then
@@ -63,7 +63,7 @@ _fontcut_web() {
     else
         case $command in
         text) mapfile -t COMPREPLY < <(_fontcut_web_files "$word" '[tT][tT][fF]' '[hH][tT][mM]' '[hH][tT][mM][lL]') ;;
-        decode) mapfile -t COMPREPLY < <(_fontcut_web_files "$word" '[tT][tT][fF]' '[wW][oO][fF][fF]' '[wW][oO][fF][fF]2') ;;
+        decode) mapfile -t COMPREPLY < <(_fontcut_web_files "$word" '[tT][tT][fF]' '[wW][oO][fF][fF]*') ;;
         *) mapfile -t COMPREPLY < <(_fontcut_web_files "$word" '[tT][tT][fF]') ;;
         esac
         # This fails outside a completion.

@@ -1,10 +1,9 @@
 """Builds the wheel, with the library and the program inside: the build backend that pyproject.toml names (PEP 517).
 
-The library is the file that the variable FONTCUT_LIBRARY names, and the program the one that FONTCUT_PROGRAM names; where
-these are not set, they are what `bindings/c/build` and `./fontcut` of the checkout make. The platform in the wheel's name
-is the oldest one that has what both need (PEP 600). With SOURCE_DATE_EPOCH as the time of all files, the same files give
-the same bytes. It needs Python 3.11, for `tomllib`, and `objdump`.
-"""
+The library is the file that the variable FONTCUT_LIBRARY names, and the program the one that FONTCUT_PROGRAM names;
+where these are not set, they are what `bindings/c/build` and `./fontcut` of the checkout make. The platform in the
+wheel's name is the oldest one that has what both need (PEP 600). With SOURCE_DATE_EPOCH as the time of all files, the
+same files give the same bytes. It needs Python 3.11, for `tomllib`, and `objdump`."""
 import base64
 import hashlib
 import os
@@ -55,7 +54,8 @@ def program():
 
 
 def oldest(path):
-    """The version of the C library that a library or a program asks for: the greatest one among those that it needs."""
+    """The version of the C library that a library or a program asks for: the greatest one among those that it
+    needs."""
     told = subprocess.run(["objdump", "-f", "-p", path], check=True, stdout=subprocess.PIPE, text=True,
                           env={**os.environ, "LC_ALL": "C"}).stdout
     needed = set(re.findall(r"^ +NEEDED +(\S+)$", told, re.M))

@@ -1,5 +1,5 @@
-"""What the commands `fontcut-pdf` and `fontcut-web` share: command lines whose options stand anywhere, files that are replaced
-when they are complete, lines on standard output, and a line on a terminal that says how far a command is."""
+"""What the commands `fontcut-pdf` and `fontcut-web` share: command lines whose options stand anywhere, files that are
+replaced when they are complete, lines on standard output, and a line on a terminal that says how far a command is."""
 from __future__ import annotations
 
 import argparse

@@ -62,8 +62,8 @@ def _agree(one: Optional[Dict], other: Optional[Dict]) -> bool:
 
 def _classes(members: Sequence[_Member], of: Callable[[_Member], Optional[Dict]]
              ) -> List[Tuple[Optional[Dict], List[_Member]]]:
-    """Fonts in classes, in each of which all agree, with what they have together. A font is compared with the first classes
-    alone: one that agrees with none of them has a class of its own."""
+    """Fonts in classes, in each of which all agree, with what they have together. A font is compared with the first
+    classes alone: one that agrees with none of them has a class of its own."""
     found: List[Tuple[Optional[Dict], List[_Member]]] = []
     for member in members:
         mine = of(member)
@@ -99,8 +99,8 @@ def _unite(members: Sequence[_Member], joined: bytes) -> Name:
 
 
 def _joined(members: Sequence[_Member]) -> Tuple[bytes, List[_Member], List[Tuple[_Member, str]]]:
-    """The join of the first of some fonts and of those that join with it, these, and the others with the reason. After some
-    refusals the first one is left alone."""
+    """The join of the first of some fonts and of those that join with it, these, and the others with the reason.
+    After some refusals the first one is left alone."""
     joining, others = list(members), []
     while True:
         try:
@@ -114,7 +114,8 @@ def _joined(members: Sequence[_Member]) -> Tuple[bytes, List[_Member], List[Tupl
 
 
 def _united(members: Sequence[_Member], why: Optional[str]) -> Iterator[Outcome]:
-    """Unites fonts that should join. Where one is left alone, this is why it does not join with the first of its name."""
+    """Unites fonts that should join. Where one is left alone, this is why it does not join with the first of its
+    name."""
     joined, joining, others = _joined(members)
     if len(joining) > 1:
         name = str(_unite(joining, joined))[1:]
@@ -152,17 +153,17 @@ def _unite_all(members: Sequence[_Member]) -> Iterator[Outcome]:
 
 
 def _share_programs(fonts: Sequence[Font]) -> None:
-    """Where the same program stands in a file again, byte for byte, all fonts name the first one. Nothing names the others
-    then, and they are not written."""
+    """Where the same program stands in a file again, byte for byte, all fonts name the first one. Nothing names the
+    others then, and they are not written."""
     for font in fonts:
         if font.descriptor[font.key].objgen != font.program.stream.objgen:
             font.descriptor[font.key] = font.program.stream
 
 
 def join_fonts(pdf: Pdf) -> List[Outcome]:
-    """Fonts by glyph numbers whose programs are cuts of one font become one font, of their join; and of other programs,
-    whole fonts among them, those that are the same bytes stand in the file once. Raises `Refused` where there is no
-    embedded font."""
+    """Fonts by glyph numbers whose programs are cuts of one font become one font, of their join; and of other
+    programs, whole fonts among them, those that are the same bytes stand in the file once. Raises `Refused` where
+    there is no embedded font."""
     outcomes: List[Outcome] = []
     groups: Dict[str, List[_Member]] = {}
     fonts = surveyed(pdf, lambda font: font.is_by_glyph and font.kind in ("lean cut", "cut"))

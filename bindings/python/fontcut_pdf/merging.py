@@ -60,9 +60,9 @@ def _places(page: Object) -> Iterator[Array]:
 
 
 def _lead_links(source: Source) -> None:
-    """Lets links lead to the copies of their pages. What a page names is copied with it, but for pages: those that come
-    later are null where a link leads to them. A page that stands twice in its file has two copies, and links lead to the
-    first."""
+    """Lets links lead to the copies of their pages. What a page names is copied with it, but for pages: those that
+    come later are null where a link leads to them. A page that stands twice in its file has two copies, and links
+    lead to the first."""
     for page, copied in zip(source.pages, source.copied):
         for place, copy in zip(_places(page), _places(copied)):
             if isinstance(place[0], Dictionary) and place[0].objgen in source.copies:
@@ -90,8 +90,8 @@ def _refusing_file(number: int) -> Iterator[None]:
 
 @contextmanager
 def _refusing_page(sources: Sequence[Pdf], first: Sequence[int]) -> Iterator[None]:
-    """Within it, a refusal of a page is one of its file. Each file begins after so many pages. A refusal that names no page is
-    one of the first file that is refused by itself too."""
+    """Within it, a refusal of a page is one of its file. Each file begins after so many pages. A refusal that names
+    no page is one of the first file that is refused by itself too."""
     try:
         yield
     except Refused as refusal:
@@ -128,14 +128,14 @@ def _refuse_without_fonts(first: Sequence[int], outcomes: Sequence[Outcome]) -> 
 
 
 def merge(sources: Sequence[Pdf], titles: Optional[Sequence[str]] = None) -> Tuple[Pdf, List[Outcome]]:
-    """A file of the pages of all files, in order, in which fonts that join are one font; and what became of each font.
-    The files have to stay open until it is saved. Raises `Refused` where a file has no embedded font, or a layer that may
-    be hidden, and its `file` is then the place of that file among all, from 0.
+    """A file of the pages of all files, in order, in which fonts that join are one font; and what became of each
+    font. The files have to stay open until it is saved. Raises `Refused` where a file has no embedded font, or a
+    layer that may be hidden, and its `file` is then the place of that file among all, from 0.
 
-    Pages keep what they have, their annotations too, with links to other pages of their file. Where a file has an outline
-    (bookmarks), each file has an entry at the top with its title, and its own outline below that. What else belongs to a
-    file as a whole is not kept: labels of pages, names that links lead to, fields of forms, tags, attachments, output
-    intents and metadata."""
+    Pages keep what they have, their annotations too, with links to other pages of their file. Where a file has an
+    outline (bookmarks), each file has an entry at the top with its title, and its own outline below that. What else
+    belongs to a file as a whole is not kept: labels of pages, names that links lead to, fields of forms, tags,
+    attachments, output intents and metadata."""
     pdf, first, count = Pdf.new(), [], 0
     for number, source in enumerate(sources):
         with _refusing_file(number), refusing():

@@ -1,5 +1,5 @@
-"""What cuts have to have in common to join, by which those are told apart that do not: fonts of one name may be many, and are
-not compared each with each."""
+"""What cuts have to have in common to join, by which those are told apart that do not: fonts of one name may be many,
+and are not compared each with each."""
 from __future__ import annotations
 
 import hashlib
@@ -26,8 +26,8 @@ def _pairs(tables: Mapping[bytes, bytes], header: bytes) -> int:
 
 
 def shared(cut: bytes) -> Dict[str, bytes]:
-    """A digest for each table of a lean cut, of what a join wants to be the same in all files: of `head` all but its sum, and
-    of metrics what is of no single glyph."""
+    """A digest for each table of a lean cut, of what a join wants to be the same in all files: of `head` all but its
+    sum, and of metrics what is of no single glyph."""
     tables, found = _tables(cut), {}
     glyphs = struct.unpack_from(">H", tables[b"maxp"], 4)[0]
     for tag, data in tables.items():
@@ -58,8 +58,8 @@ def _outlines(tables: Mapping[bytes, bytes]) -> Iterator[Tuple[int, bytes]]:
 
 
 def kept(cut: bytes) -> Kept:
-    """What a lean cut keeps: the glyph of each character, and the metrics and outline of each glyph that has a character or
-    an outline."""
+    """What a lean cut keeps: the glyph of each character, and the metrics and outline of each glyph that has a
+    character or an outline."""
     by_glyph, found = codes_by_glyph(cut), {}
     for glyph, codes in by_glyph.items():
         found.update(((CODE, code), glyph) for code in codes)

@@ -4,11 +4,11 @@
     fontcut-web text PAGE.html.. FONT OUT                      a cut for the characters that pages show
     fontcut-web decode FILE OUT                                WOFF and WOFF2 as fontcut reads them
 
-`python3 -m fontcut_web` is the command too. `fontcut` cuts; fontTools reads the names of fonts, and writes and reads WOFF2.
+`python3 -m fontcut_web` is the command too. `fontcut` cuts; fontTools reads the names of fonts, and writes and reads
+WOFF2.
 
-Exit status: 0 done; 1 a file is refused, or there was no memory; 2 usage error; 3 a file cannot be read or written, or a
-package that is needed is not installed.
-"""
+Exit status: 0 done; 1 a file is refused, or there was no memory; 2 usage error; 3 a file cannot be read or written,
+or a package that is needed is not installed."""
 from .command import main
 
 __all__ = ["main"]

@@ -160,15 +160,15 @@ def _kinds(command: argparse.ArgumentParser, lean: str, full: str) -> None:
 def _add_slice(commands: argparse._SubParsersAction, **how: object) -> None:
     command = commands.add_parser(
         "slice", help="cut fonts in slices, with a style sheet", description=f"{_SLICE}\n{_CUT_KINDS}\n", **how,
-        usage="fontcut-web slice FONT.. --out DIR --slices SLICES [--lean | --full] [--woff2] [--css] [--display VALUE] "
-              "[--json]")
+        usage="fontcut-web slice FONT.. --out DIR --slices SLICES [--lean | --full] [--woff2] [--css] "
+              "[--display VALUE] [--json]")
     command.add_argument("fonts", metavar="FONT", nargs="+")
     command.add_argument("--out", metavar="DIR", required=True, help="the folder that the files go to")
     command.add_argument("--slices", metavar="SLICES", action="append", required=True, help="a preset or a file")
     _kinds(command, "write lean cuts, as is done without it", "write full cuts")
     command.add_argument("--woff2", action="store_true", help="write FONT-SLICE.woff2 too, which browsers load")
-    command.add_argument("--css", action="store_true",
-                         help="write fonts.css, and index.html, a page that shows the fonts and asks for the first slice")
+    command.add_argument("--css", action="store_true", help="write fonts.css, and index.html, a page that shows the "
+                                                            "fonts and asks for the first slice")
     command.add_argument("--display", metavar="VALUE", choices=_DISPLAYS, default="swap",
                          help=f"font-display in the style sheet: {', '.join(_DISPLAYS)} (swap)")
     command.add_argument("--json", action="store_true", help="print what was written")

@@ -1,4 +1,5 @@
-"""What a style sheet says of a font, which is what the tables `name`, `OS/2` and `head` of the font say (OpenType 1.9)."""
+"""What a style sheet says of a font, which is what the tables `name`, `OS/2` and `head` of the font say (OpenType
+1.9)."""
 from __future__ import annotations
 
 import io

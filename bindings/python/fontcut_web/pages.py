@@ -58,8 +58,9 @@ def _decoded(data: bytes) -> str:
 
 
 def shown(data: bytes) -> Set[str]:
-    """The characters that a page shows, with those of titles, of alternative texts and of fields. What a style sheet or a
-    script adds is not known. Raises `Refused` for a page whose encoding is not known, or is another than it says."""
+    """The characters that a page shows, with those of titles, of alternative texts and of fields. What a style sheet
+    or a script adds is not known. Raises `Refused` for a page whose encoding is not known, or is another than it
+    says."""
     reader = _Reader()
     try:
         reader.feed(_decoded(data))

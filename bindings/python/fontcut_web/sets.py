@@ -13,8 +13,8 @@ from .common import UsageError
 
 # The subsets of Google Fonts by their names there, in the order in which a character of two of them is given to one.
 PRESETS: Dict[str, str] = {
-    "latin": "U+0-FF, U+131, U+152-153, U+2BB-2BC, U+2C6, U+2DA, U+2DC, U+304, U+308, U+329, U+2000-206F, U+20AC, U+2122, "
-             "U+2191, U+2193, U+2212, U+2215, U+FEFF, U+FFFD",
+    "latin": "U+0-FF, U+131, U+152-153, U+2BB-2BC, U+2C6, U+2DA, U+2DC, U+304, U+308, U+329, U+2000-206F, U+20AC, "
+             "U+2122, U+2191, U+2193, U+2212, U+2215, U+FEFF, U+FFFD",
     "latin-ext": "U+100-2BA, U+2BD-2C5, U+2C7-2CC, U+2CE-2D7, U+2DD-2FF, U+1D00-1DBF, U+1E00-1E9F, U+1EF2-1EFF, "
                  "U+20A0-20AB, U+20AD-20C0, U+2113, U+2C60-2C7F, U+A720-A7FF",
     "vietnamese": "U+102-103, U+110-111, U+128-129, U+168-169, U+1A0-1A1, U+1AF-1B0, U+300-301, U+303-304, U+308-309, "
@@ -56,8 +56,8 @@ Asked = Union[Listed, Equal]
 
 
 def asked(words: Sequence[str]) -> List[Asked]:
-    """The slices that presets and files name. Raises `UsageError` for a list that names no slices, or two of one name, and
-    `OSError` for a file that cannot be read."""
+    """The slices that presets and files name. Raises `UsageError` for a list that names no slices, or two of one
+    name, and `OSError` for a file that cannot be read."""
     found = [one for word in words for one in _named(word)]
     name, count = Counter(name for one in found for name in _names(one)).most_common(1)[0] if found else ("", 0)
     if count > 1:
@@ -90,7 +90,7 @@ def _lines(path: str) -> Iterator[Listed]:
     for number, line in enumerate(text.split("\n"), 1):
         name, _, words = line.partition("#")[0].replace("\t", " ").strip().partition(" ")
         if name and not _NAME.fullmatch(name):
-            raise UsageError(f"{path}: line {number}: bad name {name[:40]!r}: a name is of letters of ASCII, digits and . _ -")
+            raise UsageError(f"{path}: line {number}: bad name {name[:40]!r}: write letters of ASCII, digits and . _ -")
         if name:
             try:
                 yield Listed(name, fontcut.ranges(words))
@@ -106,8 +106,8 @@ def _names(one: Asked) -> List[str]:
 
 
 def divided(font: fontcut.Font, wanted: Iterable[Asked]) -> List[Slice]:
-    """The slices of a font that have a character. A character is in the first slice that names it, and in no other, so that
-    a browser loads it once."""
+    """The slices of a font that have a character. A character is in the first slice that names it, and in no other,
+    so that a browser loads it once."""
     left = [code for first, last in fontcut.codes(font) for code in range(first, last + 1)]
     found: List[Slice] = []
     for one in wanted:

@@ -65,7 +65,8 @@ def accepted(path: str) -> fontcut.Font:
 
 
 def _base(path: str, slices: Sequence[Slice], taken: Set[str]) -> str:
-    """What begins the names of a font's files: the name of its file, with a number where another font has these names."""
+    """What begins the names of a font's files: the name of its file, with a number where another font has these
+    names."""
     stem = os.path.splitext(os.path.basename(path))[0]
     base, number = stem, 1
     while any(f"{base}-{one.name}".casefold() in taken for one in slices):
@@ -76,8 +77,8 @@ def _base(path: str, slices: Sequence[Slice], taken: Set[str]) -> str:
 
 
 def opened(paths: Sequence[str], asked: Sequence[Asked], how: How) -> List[Font]:
-    """The fonts and their slices. Raises `Refused` where one is refused, or maps none of the characters, or where two could
-    not be told apart in a style sheet."""
+    """The fonts and their slices. Raises `Refused` where one is refused, or maps none of the characters, or where two
+    could not be told apart in a style sheet."""
     found: List[Font] = []
     taken: Set[str] = set()
     seen: Dict[Face, str] = {}
@@ -123,8 +124,8 @@ def _slices(fonts: Sequence[Font], folder: str, how: How, progress: Progress) ->
 
 
 def write_slices(fonts: Sequence[Font], folder: str, how: How, progress: Progress) -> Dict[str, object]:
-    """Writes the slices of fonts to a folder, and then, where they are wanted, a style sheet and a page. Returns what was
-    written, as `--json` prints it."""
+    """Writes the slices of fonts to a folder, and then, where they are wanted, a style sheet and a page. Returns what
+    was written, as `--json` prints it."""
     os.makedirs(folder, exist_ok=True)
     written = list(_slices(fonts, folder, how, progress))
     told: Dict[str, object] = {"fonts": [_told(font, made) for font, made in zip(fonts, written)]}

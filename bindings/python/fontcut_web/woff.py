@@ -13,8 +13,8 @@ WOFF, WOFF2 = b"wOFF", b"wOF2"
 # What fontcut takes at most, unpacked.
 MOST_UNPACKED = 128 << 20
 # What fontTools and what it calls raise where a file is malformed.
-_MALFORMED = (TTLibError, struct.error, zlib.error, ArithmeticError, AssertionError, AttributeError, LookupError, TypeError,
-              ValueError, *([woff2.brotli.error] if woff2.haveBrotli else []))
+_MALFORMED = (TTLibError, struct.error, zlib.error, ArithmeticError, AssertionError, AttributeError, LookupError,
+              TypeError, ValueError, *([woff2.brotli.error] if woff2.haveBrotli else []))
 
 
 def packed(data: bytes) -> bytes:
