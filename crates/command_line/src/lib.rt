@@ -581,8 +581,8 @@ pub fn is_quiet(words: &[String]) -> bool {
 /// Reads the arguments of a line, the program's own name not among them.
 ///
 /// # Errors
-/// `Help` and `Words` with the text of `clap`, and what serves in the place of an option of other subsetters; `InputTwice` where standard input is named more than once
-/// among the inputs; `NoMemory` where memory was refused.
+/// `Help` and `Words` with the text of `clap`, and what serves in the place of an option of another subsetter;
+/// `InputTwice` where standard input is named more than once among the inputs; `NoMemory` where memory was refused.
 pub fn parse<'a>(alloc: Global, words: &'a [String]) -> Result<Line<'a>, LineError> {
     match parse_line(alloc, words) {
         Ok(line) if reads_input_twice(&line.task) => Err(LineError::InputTwice),

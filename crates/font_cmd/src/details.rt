@@ -24,9 +24,9 @@ const RANGES: &str =
 
 // How sets of characters are named.
 const SETS: &str = "\
-fontcut: fontcut subset FONT OUT all
-fontcut: fontcut subset FONT OUT U+20-7E
-fontcut: fontcut subset FONT OUT --text 'Hello'
+fontcut: write fontcut subset FONT OUT all
+fontcut: or fontcut subset FONT OUT U+20-7E
+fontcut: or fontcut subset FONT OUT --text 'Hello'
 ";
 
 // What names slices have.

@@ -316,9 +316,7 @@ impl fmt::Display for Fault<'_> {
     fn fmt<W: fmt::Write>(&self, f: &mut fmt::Formatter<W>) -> fmt::Result {
         match self {
             Fault::InputTwice => f.write_str("standard input is named more than once"),
-            Fault::NoSet => f.write_str(
-                "no characters are named; fontcut subset wants a set, as in",
-            ),
+            Fault::NoSet => f.write_str("no set of characters is named"),
             Fault::BadWord(word) => {
                 let word = ShownWord(word);
                 write!(f, "bad word {word}")
