@@ -1,0 +1,94 @@
+/** Bytes of a font: an ArrayBuffer or a view of one. */
+export type Bytes = ArrayBuffer | ArrayBufferView;
+
+/** A code point, or the first and the last one of a range, both included. */
+export type Code = number | readonly [first: number, last: number];
+
+/**
+ * The kind of a cut: a full one has the metrics and names of all glyphs, a lean one the metrics of the kept glyphs and
+ * no names.
+ */
+export type Kind = 'full' | 'lean';
+
+/** The options of a call; a kind that is not given is 'full'. */
+export interface OfKind {
+    kind?: Kind;
+}
+
+/** The characters of a text, code points and ranges (or range words: 'U+20-7E, U+4??'), or both. */
+export interface Characters {
+    text?: string;
+    unicodes?: Iterable<Code> | string;
+}
+
+export type Wanted = Characters & OfKind;
+
+/** A font or a list of cuts is refused, with the number and the text that `fontcut` prints; 16 is out of memory. */
+export class FontcutError extends Error {
+    readonly number: number;
+    readonly text: string;
+    /** What it is about: a tag as text, or an index, glyph, code or size. */
+    readonly argument?: string | number;
+    /** Of several files the index of the one that is refused. */
+    readonly file?: number;
+}
+
+/** A font that stays in the module's memory and is tested once. */
+export class Font {
+    /** @throws FontcutError where the font is refused */
+    constructor(data: Bytes);
+    /** Frees its memory. No call takes it then. */
+    free(): void;
+}
+
+export interface FontInfo {
+    glyphCount: number;
+    unitsPerEm: number;
+    xMin: number;
+    yMin: number;
+    xMax: number;
+    yMax: number;
+    ascender: number;
+    descender: number;
+}
+
+export interface Metric {
+    advance: number;
+    bearing: number;
+}
+
+export type Source = string | URL | Response | BufferSource | WebAssembly.Module;
+
+/** Compiles the module, and returns it; with no source it is `fontcut.wasm` beside `fontcut.js`, compiled once. */
+export function init(source?: Source | Promise<Source>): Promise<WebAssembly.Module>;
+/** Frees all memory of the module. Each Font is freed. */
+export function release(): void;
+/** Limits the memory of the module, in bytes. */
+export function limit(bytes: number): void;
+/** How many bytes of memory the module has, and how many of them are in use. */
+export function memory(): { bytes: number; inUse: number };
+/** The version of the module, such as '0.10.0'. */
+export function version(): string;
+
+/** @throws FontcutError where the font is not accepted */
+export function check(font: Bytes | Font): void;
+/** The cut of a font for the wanted characters. Those that the font does not map are passed over. */
+export function subset(font: Bytes | Font, wanted: Wanted): Uint8Array;
+/** The length in bytes of the cut that `subset` makes. */
+export function subsetSize(font: Bytes | Font, wanted: Wanted): number;
+/** The cuts of a font for many sets of characters, in their order. */
+export function cuts(font: Bytes | Font, sets: Iterable<Characters>, options?: OfKind): Uint8Array[];
+/** The join of cuts of one font, all of one kind: that font's cut for the characters of all of them. */
+export function join(cuts: Iterable<Bytes | Font>, options?: OfKind): Uint8Array;
+/** In which form a font is a cut: 'old' is the first profile of the format. */
+export function cutForm(font: Bytes | Font, options?: OfKind): 'none' | 'current' | 'old';
+/** Whether a file is a cut of a font for some characters. */
+export function belongs(cut: Bytes | Font, font: Bytes | Font, options?: OfKind): boolean;
+/** The code points that a font maps, as ranges in ascending order. */
+export function codes(font: Bytes | Font): [first: number, last: number][];
+/** The glyph of each character of a text, or of each code point, 0 where there is none. */
+export function glyphs(font: Bytes | Font, wanted: string | Iterable<number>): Uint16Array;
+/** The advance width and the left side bearing of each glyph, in font units. */
+export function metrics(font: Bytes | Font, glyphs: Iterable<number>): Metric[];
+/** The numbers of a whole font. */
+export function info(font: Bytes | Font): FontInfo;

@@ -1,0 +1,457 @@
+// Cuts of OpenType fonts with TrueType outlines for wanted characters, and joins of cuts, by fontcut.wasm.
+//
+//     import { init, subset, join } from './fontcut.js';
+//     await init();                                                   // or init(url), init(bytes), init(module)
+//     const cut = subset(font, { text: 'Hello', kind: 'lean' });      // a Uint8Array
+//     const both = join([cut, other], { kind: 'lean' });              // the cut for the characters of both
+//
+// A font is an ArrayBuffer or a view of one. Calls are synchronous: a worker keeps a long one off the page's thread.
+// Each call copies what it reads into the module's memory, and frees all that it took when it returns or throws.
+
+const LAST_CODE = 0x10FFFF;
+const NO_GLYPH_OF_ANY = 0xFFFF; // a font has 65,535 glyphs at most
+const KINDS = ['full', 'lean'];
+const FORMS = ['none', 'current', 'old'];
+
+// Statuses of include/fontcut.h, and those whose detail is a tag or a number.
+const DONE = 0, NO_MEMORY = 16, TOO_LARGE = 18, NOTHING_TO_JOIN = 24, SMALL_ROOM = 100, NO_GLYPH = 102;
+const OF_TAGS = [5, 6, 7, 21], OF_NUMBERS = [12, 15, 17, 22, 23, NO_GLYPH];
+
+const BYTES_OF_ANSWER = 24, BYTES_OF_INFO = 16, LONGEST_TEXT = 64;
+
+/** A font or a list of cuts is refused, or memory is: `number` and `text` are those that `fontcut` prints. */
+export class FontcutError extends Error {
+    constructor(number, text, argument, file) {
+        super(file === undefined ? text : `file ${file}: ${text}`);
+        this.name = 'FontcutError';
+        this.number = number;
+        this.text = text;
+        this.argument = argument;
+        this.file = file;
+    }
+}
+
+// The compiled module, the exports of its one instance, and the limit of its memory as a 64-bit number.
+let module, instance, most = 2n ** 64n - 1n;
+
+function exportsOf() {
+    if (!module) {
+        throw new Error('fontcut: await init() first');
+    }
+    if (!instance) {
+        instance = new WebAssembly.Instance(module, {}).exports;
+        instance.fontcut_limit(most);
+    }
+    return instance;
+}
+
+async function readOfNode(url) {
+    const { readFile } = await import(/* webpackIgnore: true */ /* @vite-ignore */ 'node:fs/promises');
+    return readFile(new URL(url));
+}
+
+async function compiled(source) {
+    if (source instanceof WebAssembly.Module) {
+        return source;
+    }
+    if (ArrayBuffer.isView(source) || source instanceof ArrayBuffer) {
+        return WebAssembly.compile(source);
+    }
+    if (String(source).startsWith('file:') && globalThis.process?.versions?.node) {
+        return WebAssembly.compile(await readOfNode(source));
+    }
+    const isAnswer = typeof Response === 'function' && source instanceof Response;
+    const answer = isAnswer ? source : await fetch(source);
+    if (!answer.ok) {
+        throw new Error(`fontcut: ${answer.url} answers ${answer.status}`);
+    }
+    // A browser compiles while the bytes arrive only where the server names their type.
+    const isTyped = (answer.headers.get('content-type') ?? '').startsWith('application/wasm');
+    return isTyped ? WebAssembly.compileStreaming(answer) : WebAssembly.compile(await answer.arrayBuffer());
+}
+
+/** Compiles the module, and returns it. With no source it is `fontcut.wasm` beside this file, compiled once. */
+export async function init(source) {
+    if (source !== undefined || !module) {
+        const made = await compiled(await (source ?? new URL('fontcut.wasm', import.meta.url)));
+        // Of calls at the same time with no source the first one's module stays, so that no instance is lost.
+        if (source !== undefined || !module) {
+            module = made;
+            release();
+        }
+    }
+    exportsOf();
+    return module;
+}
+
+/** Frees all memory of the module, which never shrinks otherwise. The next call makes a new instance. */
+export function release() {
+    instance = undefined;
+}
+
+/** Limits the memory of the module, in bytes. A call that needs more throws a FontcutError with the number 16. */
+export function limit(bytes) {
+    most = BigInt.asUintN(64, BigInt(bytes));
+    exportsOf().fontcut_limit(most);
+}
+
+/** How many bytes of memory the module has, and how many of them are in use now. */
+export function memory() {
+    const { memory: own, fontcut_in_use: inUse } = exportsOf();
+    return { bytes: own.buffer.byteLength, inUse: Number(inUse()) };
+}
+
+function bytesOf(data) {
+    if (data instanceof ArrayBuffer) {
+        return new Uint8Array(data);
+    }
+    if (!ArrayBuffer.isView(data)) {
+        throw new TypeError('fontcut: a font is an ArrayBuffer or a view of one');
+    }
+    return new Uint8Array(data.buffer, data.byteOffset, data.byteLength);
+}
+
+const tagOf = (number) => String.fromCharCode(number >>> 24, number >> 16 & 255, number >> 8 & 255, number & 255);
+
+function argumentOf({ status, detail, size }) {
+    if (OF_TAGS.includes(status)) {
+        return tagOf(detail);
+    }
+    return OF_NUMBERS.includes(status) ? detail : status === TOO_LARGE ? size : undefined;
+}
+
+/** The areas in the module's memory of one call of this file. `leave` frees them. */
+class Areas {
+    #exports = exportsOf();
+    #held = [];
+    #answer = this.room(BYTES_OF_ANSWER);
+
+    // The address of so many new bytes. Views are made anew after each, for a memory that grows detaches those before.
+    room(length) {
+        const at = this.#exports.fontcut_alloc(BigInt(Math.max(1, length)));
+        if (at === 0n) {
+            throw new FontcutError(NO_MEMORY, 'no memory');
+        }
+        this.#held.push(at);
+        return at;
+    }
+
+    // A file, as the address and the length that a call takes.
+    file(font) {
+        if (font instanceof Font) {
+            return font.place();
+        }
+        const bytes = bytesOf(font), at = this.room(bytes.length);
+        this.bytes(at, bytes.length).set(bytes);
+        return [at, BigInt(bytes.length)];
+    }
+
+    // The numbers of a list, as the address and the count of items that a call takes.
+    numbers(Kind, list, each = 1) {
+        const at = this.room(list.length * Kind.BYTES_PER_ELEMENT);
+        new Kind(this.#exports.memory.buffer, Number(at), list.length).set(list);
+        return [at, BigInt(list.length / each)];
+    }
+
+    bytes(at, length) {
+        return new Uint8Array(this.#exports.memory.buffer, Number(at), length);
+    }
+
+    view(at, length) {
+        return new DataView(this.#exports.memory.buffer, Number(at), length);
+    }
+
+    // What a call of the module answers. Where it traps its memory may be half written, and is used no more.
+    answer(name, ...given) {
+        try {
+            this.#exports[`fontcut_${name}`](this.#answer, ...given);
+        } catch (error) {
+            this.#held = [];
+            if (instance === this.#exports) {
+                release();
+            }
+            throw error;
+        }
+        const said = this.view(this.#answer, BYTES_OF_ANSWER);
+        return {
+            status: said.getUint32(0, true), detail: said.getUint32(4, true),
+            size: Number(said.getBigUint64(8, true)), step: Number(said.getBigUint64(16, true)),
+        };
+    }
+
+    // The answer of a call that is done; otherwise throws what it says. Of several files it says which one.
+    done(answer, isOfSeveral = false) {
+        const { status, detail, step } = answer;
+        if (status === DONE) {
+            return answer;
+        }
+        if (status === NO_MEMORY) {
+            throw new FontcutError(status, 'no memory');
+        }
+        const text = status === NO_GLYPH ? `no such glyph at ${detail}` : this.#textOfLast();
+        const file = isOfSeveral && status !== NOTHING_TO_JOIN ? step : undefined;
+        throw new FontcutError(status, text, argumentOf(answer), file);
+    }
+
+    #textOfLast() {
+        const again = this.room(BYTES_OF_ANSWER), text = this.room(LONGEST_TEXT);
+        this.bytes(again, BYTES_OF_ANSWER).set(this.bytes(this.#answer, BYTES_OF_ANSWER));
+        const { size } = this.done(this.answer('refusal_text', again, text, BigInt(LONGEST_TEXT)));
+        return new TextDecoder().decode(this.bytes(text, size));
+    }
+
+    // What a call writes into room for so many items, or for as many as it then says that it needs.
+    written(items, bytesOfItem, make, isOfSeveral = false) {
+        let room = this.room(items * bytesOfItem), answer = make(room, BigInt(items));
+        if (answer.status === SMALL_ROOM) {
+            this.#exports.fontcut_free(this.#held.pop());
+            room = this.room(answer.size * bytesOfItem);
+            answer = make(room, BigInt(answer.size));
+        }
+        const { size } = this.done(answer, isOfSeveral);
+        return this.bytes(room, size * bytesOfItem).slice();
+    }
+
+    leave() {
+        for (const at of this.#held.reverse()) {
+            this.#exports.fontcut_free(at);
+        }
+    }
+}
+
+function within(work) {
+    const areas = new Areas();
+    try {
+        return work(areas);
+    } finally {
+        areas.leave();
+    }
+}
+
+function charactersOf(text) {
+    const codes = Array.from(text, (character) => character.codePointAt(0));
+    const place = codes.findIndex((code) => code >= 0xD800 && code <= 0xDFFF);
+    if (place >= 0) {
+        throw new RangeError(`fontcut: item ${place} of the text is a lone surrogate`);
+    }
+    return codes;
+}
+
+// The first and the last code of a word: all, U+41, U+41-5A or U+4??, also without U+.
+function rangeOfWord(word) {
+    const span = /^(?:U\+)?([0-9A-F]{1,6})(?:-(?:U\+)?([0-9A-F]{1,6}))?$/i.exec(word);
+    if (span) {
+        return [parseInt(span[1], 16), parseInt(span[2] ?? span[1], 16)];
+    }
+    if (/^(?:U\+)?(?=.{1,6}$)[0-9A-F]*\?+$/i.test(word)) {
+        const digits = word.replace(/^U\+/i, '');
+        return [parseInt(digits.replaceAll('?', '0'), 16), parseInt(digits.replaceAll('?', 'F'), 16)];
+    }
+    if (word === 'all') {
+        return [0, LAST_CODE];
+    }
+    throw new RangeError(`fontcut: bad word ${word}: a range is written U+41, U+41-5A, U+4?? or all`);
+}
+
+function pairsOf({ text, unicodes }) {
+    if (text === undefined && unicodes === undefined) {
+        throw new TypeError('fontcut: say what is wanted by text or unicodes');
+    }
+    const isWords = typeof unicodes === 'string';
+    const pairs = isWords ? unicodes.split(/[\s,]+/).filter(Boolean).map(rangeOfWord) : [...unicodes ?? []];
+    return [...pairs, ...new Set(charactersOf(text ?? ''))].map((one) => typeof one === 'number' ? [one, one] : one);
+}
+
+// The wanted codes as first, last, first, last and so on, ascending, no range touching another.
+function rangesOf(wanted) {
+    const pairs = pairsOf(wanted), merged = [];
+    for (const [first, last] of pairs) {
+        if (!(Number.isInteger(first) && Number.isInteger(last) && 0 <= first && first <= last && last <= LAST_CODE)) {
+            throw new RangeError(`fontcut: not a range of code points: ${first} to ${last}`);
+        }
+    }
+    for (const [first, last] of pairs.sort(([one], [other]) => one - other)) {
+        if (merged.length && first <= merged.at(-1) + 1) {
+            merged[merged.length - 1] = Math.max(last, merged.at(-1));
+        } else {
+            merged.push(first, last);
+        }
+    }
+    return merged;
+}
+
+function kindOf({ kind = 'full' } = {}) {
+    const number = KINDS.indexOf(kind);
+    if (number < 0) {
+        throw new RangeError(`fontcut: no kind of cut: ${kind}: it is ${KINDS.join(' or ')}`);
+    }
+    return number;
+}
+
+function integersOf(list, what) {
+    const given = Array.from(list);
+    const place = given.findIndex((one) => !Number.isInteger(one));
+    if (place >= 0) {
+        throw new TypeError(`fontcut: item ${place} is no ${what}`);
+    }
+    return given;
+}
+
+// A Font was tested when it was made, so the calls that do not test it again are called.
+const untested = (name, font) => font instanceof Font ? `${name}_checked` : name;
+
+/** The version of the module, such as '0.10.0'. */
+export function version() {
+    const number = exportsOf().fontcut_version();
+    return `${number >> 16}.${number >> 8 & 255}.${number & 255}`;
+}
+
+/** Returns where the font is accepted, and throws a FontcutError where it is not. */
+export function check(font) {
+    within((areas) => { areas.done(areas.answer('check', ...areas.file(font))); });
+}
+
+/** The length in bytes of the cut that `subset` makes. None is made. */
+export function subsetSize(font, wanted) {
+    const ranges = rangesOf(wanted), kind = kindOf(wanted);
+    return within((areas) => {
+        const given = [kind, ...areas.file(font), ...areas.numbers(Uint32Array, ranges, 2)];
+        return areas.done(areas.answer(untested('subset_size', font), ...given)).size;
+    });
+}
+
+/** The cut of a font for the wanted characters. Those that the font does not map are passed over. */
+export function subset(font, wanted) {
+    const ranges = rangesOf(wanted), kind = kindOf(wanted);
+    return within((areas) => {
+        const given = [kind, ...areas.file(font), ...areas.numbers(Uint32Array, ranges, 2)];
+        // The room is just what the cut needs. The call that measures it tests the font, so the next one need not.
+        const { size } = areas.done(areas.answer(untested('subset_size', font), ...given));
+        return areas.written(size, 1, (...room) => areas.answer('subset_checked', ...given, ...room));
+    });
+}
+
+/** The cuts of a font for many sets of characters, in their order. The font is looked through once for all of them. */
+export function cuts(font, sets, options) {
+    const kind = kindOf(options), ranges = Array.from(sets, rangesOf);
+    return within((areas) => {
+        const given = [kind, ...areas.file(font), ...areas.numbers(Uint32Array, ranges.flat(), 2),
+            ...areas.numbers(BigUint64Array, ranges.map((one) => BigInt(one.length / 2)))];
+        const sizes = areas.numbers(BigUint64Array, ranges.map(() => 0n));
+        const all = areas.written(0, 1, (...room) => areas.answer('cuts', ...given, ...room, ...sizes));
+        const lengths = areas.view(sizes[0], 8 * ranges.length);
+        let end = 0;
+        return ranges.map((_, i) => all.slice(end, end += Number(lengths.getBigUint64(8 * i, true))));
+    });
+}
+
+/** The join of cuts of one font, all of one kind: that font's cut for the characters of all of them. */
+export function join(files, options) {
+    const kind = kindOf(options), given = Array.from(files);
+    return within((areas) => {
+        const places = given.map((one) => areas.file(one));
+        const list = areas.numbers(BigUint64Array, places.flat(), 2);
+        const room = places.reduce((sum, [, length]) => sum + Number(length), 4096);
+        return areas.written(room, 1, (...out) => areas.answer('join', kind, ...list, ...out), true);
+    });
+}
+
+/** The code points that a font maps, as pairs of the first and the last of a range, ascending. */
+export function codes(font) {
+    const numbers = new Uint32Array(within((areas) => {
+        const file = areas.file(font);
+        return areas.written(1024, 8, (...room) => areas.answer('codes', ...file, ...room));
+    }).buffer);
+    return Array.from({ length: numbers.length / 2 }, (_, i) => [numbers[2 * i], numbers[2 * i + 1]]);
+}
+
+/** The glyph of each character of a text, or of each code point, 0 where there is none. */
+export function glyphs(font, wanted) {
+    const given = typeof wanted === 'string' ? charactersOf(wanted) : integersOf(wanted, 'code point');
+    // No number above the last code point is mapped, and those below 0 are taken as such.
+    const known = given.map((one) => 0 <= one && one <= LAST_CODE ? one : LAST_CODE + 1);
+    return new Uint16Array(within((areas) => {
+        const [file, list] = [areas.file(font), areas.numbers(Uint32Array, known)];
+        return areas.written(known.length, 2, (...room) =>
+            areas.answer(untested('glyphs', font), ...file, ...list, ...room));
+    }).buffer);
+}
+
+/** The advance width and the left side bearing of each glyph, in font units. */
+export function metrics(font, glyphNumbers) {
+    const given = integersOf(glyphNumbers, 'glyph');
+    const known = given.map((one) => 0 <= one && one < NO_GLYPH_OF_ANY ? one : NO_GLYPH_OF_ANY);
+    const view = new DataView(within((areas) => {
+        const [file, list] = [areas.file(font), areas.numbers(Uint16Array, known)];
+        return areas.written(known.length, 4, (...room) =>
+            areas.answer(untested('metrics', font), ...file, ...list, ...room));
+    }).buffer);
+    return given.map((_, i) => ({ advance: view.getUint16(4 * i, true), bearing: view.getInt16(4 * i + 2, true) }));
+}
+
+/** The numbers of a whole font: how many glyphs it has, its units, its box, and how high its lines are. */
+export function info(font) {
+    return within((areas) => {
+        const room = areas.room(BYTES_OF_INFO);
+        areas.done(areas.answer('info', ...areas.file(font), room));
+        const view = areas.view(room, BYTES_OF_INFO);
+        const names = ['xMin', 'yMin', 'xMax', 'yMax', 'ascender', 'descender'];
+        return {
+            glyphCount: view.getUint16(0, true), unitsPerEm: view.getUint16(2, true),
+            ...Object.fromEntries(names.map((name, i) => [name, view.getInt16(4 + 2 * i, true)])),
+        };
+    });
+}
+
+/** In which form a font is a cut of a kind: 'none', 'current', or 'old', as the first profile of the format had it. */
+export function cutForm(font, options) {
+    const kind = kindOf(options);
+    return within((areas) => FORMS[areas.done(areas.answer('cut_form', kind, ...areas.file(font))).detail]);
+}
+
+/** Whether a file is a cut of a kind of a font, for some characters. */
+export function belongs(cut, font, options) {
+    const kind = kindOf(options);
+    return within((areas) => {
+        const files = [...areas.file(cut), ...areas.file(font)];
+        return areas.done(areas.answer('belongs', kind, ...files), true).detail === 1;
+    });
+}
+
+/** A font that stays in the module's memory and is tested once: each call takes it in the place of the bytes. */
+export class Font {
+    #at;
+    #length;
+    #home; // the exports of the instance that it lies in
+
+    constructor(data) {
+        const bytes = bytesOf(data), home = exportsOf(), at = home.fontcut_alloc(BigInt(Math.max(1, bytes.length)));
+        if (at === 0n) {
+            throw new FontcutError(NO_MEMORY, 'no memory');
+        }
+        [this.#at, this.#length, this.#home] = [at, BigInt(bytes.length), home];
+        new Uint8Array(home.memory.buffer, Number(at), bytes.length).set(bytes);
+        try {
+            check(this);
+        } catch (error) {
+            this.free();
+            throw error;
+        }
+    }
+
+    /** Frees its memory. No call takes it then. */
+    free() {
+        if (this.#home && this.#home === instance) {
+            this.#home.fontcut_free(this.#at);
+        }
+        this.#home = undefined;
+    }
+
+    /** @internal */
+    place() {
+        if (!this.#home || this.#home !== instance) {
+            throw new Error('fontcut: the font was freed');
+        }
+        return [this.#at, this.#length];
+    }
+}

@@ -1,0 +1,107 @@
+// A font of a page that grows with its text: at each time it is byte for byte the cut for all characters so far.
+//
+//     import { GrowingFont } from 'fontcut/growing';
+//     const font = new GrowingFont('Wenkai', '/LXGWWenKai-Regular.ttf');
+//     await font.add('漢字');                  // fetches a cut for what is missing, and joins it to what is there
+//
+// The server answers `?unicodes=6F22,5B57&lean=1` with the cut for these code points, as examples/server does.
+import { init, join } from './fontcut.js';
+
+const MOST_RANGES = 500; // of one request, so that its query stays below 8,000 characters
+
+const isSurrogate = (code) => code >= 0xD800 && code <= 0xDFFF;
+const hexOf = (code) => code.toString(16).toUpperCase();
+
+// Code points in ascending order as words: 41 or 41-5A.
+function wordsOf(codes) {
+    const ranges = [];
+    for (const code of codes) {
+        if (ranges.length && code === ranges.at(-1)[1] + 1) {
+            ranges.at(-1)[1] = code;
+        } else {
+            ranges.push([code, code]);
+        }
+    }
+    return ranges.map(([first, last]) => first === last ? hexOf(first) : `${hexOf(first)}-${hexOf(last)}`);
+}
+
+export class GrowingFont {
+    #family;
+    #url;
+    #kind;
+    #descriptors;
+    #known = new Set(); // the code points that were asked for
+    #bytes;
+    #face;
+    #last = Promise.resolve();
+
+    /** `url` is where cuts of the font are fetched; `descriptors` are those of FontFace. */
+    constructor(family, url, { kind = 'lean', descriptors = {} } = {}) {
+        if (kind !== 'full' && kind !== 'lean') {
+            throw new RangeError(`fontcut: no kind of cut: ${kind}: it is full or lean`);
+        }
+        this.#family = family;
+        this.#url = String(url);
+        this.#kind = kind;
+        this.#descriptors = descriptors;
+    }
+
+    /** The bytes of the font as it is now: a cut for all characters that were added. */
+    get bytes() {
+        return this.#bytes;
+    }
+
+    /**
+     * Returns when the font has what the text needs. Calls at the same time are done one after the other. Where one
+     * fails, the font stays as it was, and the next call asks for these characters again.
+     */
+    add(text) {
+        const done = this.#last.then(() => this.#grow(text));
+        this.#last = done.catch(() => {});
+        return done;
+    }
+
+    async #grow(text) {
+        const codes = [...new Set(Array.from(text, (character) => character.codePointAt(0)))];
+        const missing = codes.filter((code) => !this.#known.has(code) && !isSurrogate(code)).sort((a, b) => a - b);
+        if (!missing.length) {
+            return;
+        }
+        const [parts] = await Promise.all([this.#fetched(wordsOf(missing)), init()]);
+        // A single part is joined too, so that what is no cut is refused. Cuts of another font are refused by the join.
+        const bytes = join(this.#bytes ? [this.#bytes, ...parts] : parts, { kind: this.#kind });
+        await this.#show(bytes);
+        this.#bytes = bytes;
+        missing.forEach((code) => this.#known.add(code));
+    }
+
+    #fetched(words) {
+        const requests = [];
+        for (let at = 0; at < words.length; at += MOST_RANGES) {
+            requests.push(this.#fetchedOne(words.slice(at, at + MOST_RANGES)));
+        }
+        return Promise.all(requests);
+    }
+
+    async #fetchedOne(words) {
+        const query = `unicodes=${words.join(',')}${this.#kind === 'lean' ? '&lean=1' : ''}`;
+        const url = `${this.#url}${this.#url.includes('?') ? '&' : '?'}${query}`;
+        const answer = await fetch(url);
+        if (!answer.ok) {
+            throw new Error(`fontcut: ${url} answers ${answer.status}`);
+        }
+        return answer.arrayBuffer();
+    }
+
+    // The new face is loaded and added before the old one goes, so that no text is without a font in between.
+    async #show(bytes) {
+        const fonts = globalThis.document?.fonts ?? globalThis.fonts;
+        const face = new FontFace(this.#family, bytes, this.#descriptors);
+        await face.load();
+        fonts.add(face);
+        if (this.#face) {
+            fonts.delete(this.#face);
+        }
+        this.#face = face;
+    }
+}
