@@ -1,0 +1,131 @@
+"""Cases for tests/web_module: calls over real and broken fonts, with what the native library answers by fontcut.py."""
+import hashlib
+import json
+import os
+import random
+
+KINDS = ("full", "lean")
+BROKEN = 130  # files of each of two fonts
+
+
+def digest(data):
+    return hashlib.sha256(data).hexdigest()
+
+
+def spread(ranges, count):
+    """So many of the codes of the ranges, spread evenly."""
+    codes = [code for first, last in ranges for code in range(first, last + 1)]
+    return codes[::max(1, len(codes) // count)][:count]
+
+
+class Cases:
+    """The cases, and the folder of their files."""
+
+    def __init__(self, folder, library):
+        self.folder, self.library, self.rows = folder, library, []
+        self.count = 0
+
+    def put(self, data):
+        """Keeps a file, and returns its name."""
+        self.count += 1
+        name = f"{self.count}.bin"
+        with open(os.path.join(self.folder, name), "wb") as out:
+            out.write(data)
+        return name
+
+    def add(self, call, files, answer, **given):
+        """Adds what the native library answers: a value, or what it refuses."""
+        try:
+            wanted = {"value": answer()}
+        except self.library.NoGlyph as refused:
+            wanted = {"refused": [102, f"no such glyph at {refused.index}", refused.index, None]}
+        except self.library.Refused as refused:
+            wanted = {"refused": [refused.number, refused.text, refused.argument, refused.file]}
+        self.rows.append({"call": call, "files": files, "given": given, "wanted": wanted})
+
+    def written(self):
+        with open(os.path.join(self.folder, "cases.json"), "w", encoding="ascii") as out:
+            json.dump(self.rows, out)
+
+
+def numbers_of(cases, name, font):
+    """The calls that answer numbers of a font."""
+    library, mapped = cases.library, cases.library.codes(font)
+    count = library.info(font).glyph_count
+    codes, glyphs = [*range(0x20, 0x7F), *spread(mapped, 50), 0x10FFFF], spread([(0, count - 1)], 200)
+    cases.add("check", [name], lambda: library.check(font))
+    cases.add("codes", [name], lambda: [list(one) for one in library.codes(font)])
+    cases.add("info", [name], lambda: list(library.info(font)))
+    cases.add("glyphs", [name], lambda: library.glyphs(font, codes), codes=codes)
+    for some in glyphs, [*glyphs, count], [0, -1], [65536, 0], []:
+        cases.add("metrics", [name], lambda some=some: [list(one) for one in library.metrics(font, some)], glyphs=some)
+
+
+def cuts_of(cases, name, font, kind, chance):
+    """The cuts of a font for six sets, by one call for each and by one for all, and joins of twenty cuts by chance."""
+    library, lean, mapped = cases.library, kind == "lean", cases.library.codes(font)
+    ascii_codes = (0x20, 0x7E)
+    sets = [[ascii_codes], [ascii_codes, (0xA0, 0xFF)], spread(mapped, 100), spread(mapped, 1000), [(0, 0x10FFFF)], []]
+    for some in sets:
+        cases.add("subset", [name], lambda some=some: digest(library.cut(font, some, lean=lean)),
+                  unicodes=some, kind=kind)
+        cases.add("subsetSize", [name], lambda some=some: library.cut_size(font, some, lean=lean),
+                  unicodes=some, kind=kind)
+    for some in sets, []:
+        cases.add("cuts", [name], lambda some=some: list(map(digest, library.slices(font, some, lean=lean))),
+                  sets=[{"unicodes": one} for one in some], kind=kind)
+    pool = spread(mapped, 2000)
+    parts = [library.cut(font, chance.sample(pool, min(len(pool), 60)), lean=lean) for _ in range(20)]
+    names = [cases.put(part) for part in parts]
+    for some in 1, 2, 20:
+        cases.add("join", names[:some], lambda some=some: digest(library.join(parts[:some], lean=lean)), kind=kind)
+    cases.add("join", [names[0], name], lambda: digest(library.join([parts[0], font], lean=lean)), kind=kind)
+    cases.add("belongs", [names[0], name], lambda: library.belongs(parts[0], font, lean=lean), kind=kind)
+    cases.add("belongs", [name, names[0]], lambda: library.belongs(font, parts[0], lean=lean), kind=kind)
+    for file, data in (name, font), (names[0], parts[0]):
+        cases.add("cutForm", [file], lambda data=data: library._form(data, lean).name, kind=kind)
+    return parts[0]
+
+
+def broken(font, chance):
+    """Broken files of a font."""
+    yield from (b"", font[:11], font[:100], font[:-1], font[:len(font) // 2], b"ttcf" + font[4:], b"OTTO" + font[4:])
+    for _ in range(BROKEN):
+        data = bytearray(font)
+        for _ in range(chance.choice([1, 3, 20])):
+            place = chance.randrange(min(400, len(data))) if chance.random() < 0.7 else chance.randrange(len(data))
+            data[place] = chance.choice([0, 1, 0x7F, 0x80, 0xFF, chance.randrange(256)])
+        yield bytes(data)
+
+
+def of_broken(cases, data, good):
+    """The calls over a broken file, and its join with a good cut."""
+    library, name = cases.library, cases.put(data)
+    cases.add("check", [name], lambda: library.check(data))
+    cases.add("codes", [name], lambda: [list(one) for one in library.codes(data)])
+    cases.add("info", [name], lambda: list(library.info(data)))
+    for kind in KINDS:
+        lean = kind == "lean"
+        cases.add("subset", [name], lambda: digest(library.cut(data, "Hello", lean=lean)), text="Hello", kind=kind)
+    cases.add("join", [good[0], name], lambda: digest(library.join([good[1], data], lean=True)), kind="lean")
+    cases.add("belongs", [name, good[0]], lambda: library.belongs(data, good[1], lean=True), kind="lean")
+
+
+def make(folder, library, fonts, small):
+    """Writes the cases of some fonts, and of broken files of a small font and of a lean cut."""
+    cases, chance, leans = Cases(folder, library), random.Random(1), []
+    for path in fonts:
+        with open(path, "rb") as opened:
+            font = opened.read()
+        name = cases.put(font)
+        numbers_of(cases, name, font)
+        leans.append([cuts_of(cases, name, font, kind, chance) for kind in KINDS][-1])
+    good = cases.put(leans[-1]), leans[-1]
+    for base in small, leans[-1]:
+        for data in broken(base, chance):
+            of_broken(cases, data, good)
+    names = [cases.put(one) for one in leans]
+    cases.add("join", names, lambda: digest(library.join(leans, lean=True)), kind="lean")
+    cases.add("join", [], lambda: digest(library.join([], lean=True)), kind="lean")
+    cases.written()
+    return cases.rows
