@@ -18,7 +18,7 @@ export interface OfKind {
 /** The characters of a text, code points and ranges (or range words: 'U+20-7E, U+4??'), or both. */
 export interface Characters {
     text?: string;
-    unicodes?: Iterable<Code> | string;
+    unicodes?: readonly Code[] | Iterable<Code> | string;
 }
 
 export type Wanted = Characters & OfKind;
@@ -77,7 +77,9 @@ export function subset(font: Bytes | Font, wanted: Wanted): Uint8Array;
 /** The length in bytes of the cut that `subset` makes. */
 export function subsetSize(font: Bytes | Font, wanted: Wanted): number;
 /** The cuts of a font for many sets of characters, in their order. */
-export function cuts(font: Bytes | Font, sets: Iterable<Characters>, options?: OfKind): Uint8Array[];
+export function cuts(
+    font: Bytes | Font, sets: readonly Characters[] | Iterable<Characters>, options?: OfKind,
+): Uint8Array[];
 /** The join of cuts of one font, all of one kind: that font's cut for the characters of all of them. */
 export function join(cuts: Iterable<Bytes | Font>, options?: OfKind): Uint8Array;
 /** In which form a font is a cut: 'old' is the first profile of the format. */

@@ -88,6 +88,22 @@ const checks = {
         assert.equal(fontcut.memory().inUse, 0);
     },
 
+    'an instance that traps is used no more, nor a font in it': () => {
+        const Own = WebAssembly.Instance, trap = () => { throw new WebAssembly.RuntimeError('unreachable'); };
+        WebAssembly.Instance = class {
+            constructor(...given) {
+                this.exports = { ...new Own(...given).exports, fontcut_info: trap };
+            }
+        };
+        fontcut.release();
+        const font = new fontcut.Font(bytes);
+        WebAssembly.Instance = Own;
+        assert.throws(() => fontcut.info(font), WebAssembly.RuntimeError);
+        assert.throws(() => fontcut.info(font), freed);
+        assert.equal(fontcut.info(bytes).unitsPerEm, fontcut.info(otherBytes).unitsPerEm);
+        assert.equal(fontcut.memory().inUse, 0);
+    },
+
     'with a limit of memory a call gives the right bytes or the number 16': () => {
         const wanted = { unicodes: 'all' }, cut = fontcut.subset(bytes, wanted), counts = { done: 0, refused: 0 };
         fontcut.release();
