@@ -118,7 +118,8 @@ static void one_dealloc(int i) {
 /* What no memory can have is refused, and so is an alignment that no block has. */
 static void refuses(void) {
     fontcut_limit((size_t)-1);
-    size_t lengths[] = {(size_t)-1, (size_t)1 << 61, ((size_t)1 << 48) - 64, ((size_t)1 << 32) + 1};
+    /* The last needs 2^32 pages beside the free block at the end, of which 32 bits have none. */
+    size_t lengths[] = {(size_t)-1, (size_t)1 << 61, ((size_t)1 << 32) + 1, ((size_t)1 << 48) + end->before - 4096};
     for (size_t i = 0; i < sizeof lengths / sizeof *lengths; i++) {
         assert(!rattle_alloc(lengths[i], 1).ok && !fontcut_alloc(lengths[i]));
     }
