@@ -60,7 +60,7 @@ def wanted_sets(folder):
         Wanted("ASCII", [(0x20, 0x7E)], ["U+20-7E"], "--unicodes=20-7E", "--unicodes=20-7E"),
         Wanted("3,000 ideographs", [(code, code) for code in IDEOGRAPHS], ["--codes-file", codes], by_file, by_file),
         Wanted("all", [(0, 0x10FFFF)], ["U+0-10FFFF"], "--unicodes=*", "--unicodes=*"),
-        Wanted("none", [], [], "--unicodes=", "--gids=0"),
+        Wanted("none", [], ["--text", ""], "--unicodes=", "--gids=0"),
     ]
 
 
