@@ -1,5 +1,7 @@
+pub mod BelongsLemmas
 pub mod CheckLemmas
 pub mod CodesLemmas
+pub mod DropLemmas
 pub mod GlyphsLemmas
 pub mod JoinRunLemmas
 pub mod LineLemmas

@@ -1,16 +1,20 @@
 -- How a run over one font leaves its inlet and its outlet.
-use Rattle.std.proofs.Common.{rules, arith, ◌≡◌, ◌≤◌, ◌+◌, ℕ, List, [], Option, None, Some, Result, Ok, Err, false, true, length, refl, subst, sym, take, take_all}
+use Rattle.std.proofs.Common.{Bool, rules, arith, ◌≡◌, ◌≤◌, ◌+◌, ℕ, List, [], Option, None, Some, Result, Ok, Err, false, true, length, refl, subst, sym, take, take_all}
 use Rattle.std.specs.Option.{IfSome}
 use Rattle.std.specs.Result.{IsErrAnd}
 use Rattle.std.proofs.lemmas.Option.{IfSome_then}
 use Rattle.font_subset.specs.Cut.{IsTooLarge, StopsCut}
 use Rattle.font_subset.specs.declared.cut_font.CutIntoError.{CutIntoError}
 use Rattle.font_subset.specs.declared.cut_font.CutIntoError.TheVariants as cut_errors
-use Rattle.font_cut.specs.Fonts.{FontError, MAX_FILE, font_fault}
+use Rattle.font_cut.specs.Fonts.{FontError, Kind, MAX_FILE, fault_of}
+use Rattle.font_subset.specs.Kinds.{cut_in}
+use Rattle.font_subset.specs.OpenedFont.{IsOpenRefusal}
+use Rattle.font_subset.specs.declared.layout_font.OpenError.{OpenError}
+use Rattle.font_subset.specs.declared.layout_font.OpenError.TheVariants as open_errors
 use Rattle.streams.specs.Outlet as outlets
 use Rattle.streams.specs.declared.outlet.Outlet.{Outlet}
 use Rattle.streams.specs.Inlet.{StopsAs, inlet_broken_of, inlet_fresh_of, reader_of}
-use Rattle.commands.specs.Run.{HasMade, RefusesMade, RunStops, SendsText, got, of_cut_error, of_read_error}
+use Rattle.commands.specs.Run.{HasCutIn, RefusesCutIn, RunStops, SendsText, got, of_cut_error, of_open_error, of_read_error}
 use Rattle.streams.specs.declared.inlet.Inlet.{Inlet}
 use Rattle.streams.specs.declared.inlet.ReadError.{ReadError}
 use Rattle.streams.specs.declared.inlet.ReadError.TheVariants.{NoMemory, ReadFault}
@@ -49,33 +53,46 @@ pub read_stops : {R W : Type 0} (remaining : R → Option (List ℕ)) (contents 
 read_stops remaining contents serves text refuses i j o (ReadFault count) stops = (stops.0, stops.1, refl)
 read_stops remaining contents serves text refuses i j o NoMemory stops = (stops, refl)
 
--- a file that is refused as a font: nothing was sent
-pub font_stops : {R W : Type 0} (remaining : R → Option (List ℕ)) (contents : W → Option (List ℕ)) (made : List ℕ → List ℕ) (i j : Inlet R) (o : Outlet W) (file : List ℕ) → inlet_broken_of j ≡ false → Came remaining i file
-    → (error : FontError) → font_fault file ≡ Some error → RunStops remaining contents (HasMade made) made (RefusesMade remaining i made) i j o o (Font error)
-font_stops remaining contents made i j o file whole came error refused =
-    (whole, refl, got_of remaining i (λ (f : List ℕ). font_fault f ≡ Some error) file came refused)
+module _ (kind : Kind) (wanted : ℕ → Bool) where
+  abbrev made : List ℕ → List ℕ
+  made file = cut_in kind file wanted
 
--- what is made of a font was not sent, or not all of it
-pub made_stops : {R W : Type 0} (remaining : R → Option (List ℕ)) (contents : W → Option (List ℕ)) (made : List ℕ → List ℕ) (i j : Inlet R) (o p : Outlet W) (file : List ℕ) → inlet_broken_of j ≡ false → Came remaining i file → font_fault file ≡ None
-    → (error : CutIntoError) → StopsCut contents o p (made file) error → RunStops remaining contents (HasMade made) made (RefusesMade remaining i made) i j o p (of_cut_error error)
-made_stops remaining contents made i j o p file whole came accepted cut_errors.NoMemory stops = (whole, stops)
-made_stops remaining contents made i j o p file whole came accepted (cut_errors.TooLarge size) stops =
-    (whole, stops.0, got_of remaining i (λ (f : List ℕ). (font_fault f ≡ None) × IsTooLarge (made f) size) file came (accepted, stops.1))
-made_stops remaining contents made i j o p file whole came accepted (cut_errors.WriteFault count) stops =
-    (whole, stops.1, sym stops.2, got_of remaining i (λ (f : List ℕ). HasMade made f × outlets.WentOut contents o p (take count (made f))) file came ((accepted, stops.0), stops.3))
+  abbrev Has : List ℕ → Type 0
+  Has = HasCutIn kind wanted
 
--- all of it was sent, and was not flushed
-pub flush_stops : {R W : Type 0} (remaining : R → Option (List ℕ)) (contents : W → Option (List ℕ)) (made : List ℕ → List ℕ) (i j : Inlet R) (o m p : Outlet W) (file : List ℕ) → inlet_broken_of j ≡ false → Came remaining i file → HasMade made file
-    → outlets.fresh_of o ≡ true → outlets.WentOut contents o m (made file) → outlets.WentOut contents m p [] → (count : ℕ) → count ≡ outlets.written_of p → outlets.broken_of p ≡ true
-    → RunStops remaining contents (HasMade made) made (RefusesMade remaining i made) i j o p (Write count)
-flush_stops remaining contents made i j o m p file whole came has fresh sent flushed count is broken =
-    (whole, broken, sym is, got_of remaining i (λ (f : List ℕ). HasMade made f × outlets.WentOut contents o p (take count (made f))) file came (has, sends_all contents o m p (made file) fresh sent flushed count is))
+  -- a file that is refused for cuts of the kind: nothing was sent
+  pub font_stops : {R W : Type 0} (remaining : R → Option (List ℕ)) (contents : W → Option (List ℕ)) (i j : Inlet R) (o : Outlet W) (file : List ℕ) → inlet_broken_of j ≡ false → Came remaining i file
+      → (error : FontError) → fault_of kind file ≡ Some error → RunStops remaining contents Has made (RefusesCutIn kind remaining i wanted) i j o o (Font error)
+  font_stops remaining contents i j o file whole came error refused =
+      (whole, refl, got_of remaining i (λ (f : List ℕ). fault_of kind f ≡ Some error) file came refused)
 
--- all of it was sent and flushed
-pub made_sent : {R W : Type 0} (remaining : R → Option (List ℕ)) (contents : W → Option (List ℕ)) (made : List ℕ → List ℕ) (i : Inlet R) (o m p : Outlet W) (file : List ℕ) → Came remaining i file → HasMade made file
-    → outlets.WentOut contents o m (made file) → outlets.WentOut contents m p [] → got remaining i (λ f. HasMade made f × outlets.WentOut contents o p (made f))
-made_sent remaining contents made i o m p file came has sent flushed =
-    got_of remaining i (λ (f : List ℕ). HasMade made f × outlets.WentOut contents o p (made f)) file came (has, sends_end contents o m p (made file) sent flushed)
+  -- or for which memory is refused
+  pub open_stops : {R W : Type 0} (remaining : R → Option (List ℕ)) (contents : W → Option (List ℕ)) (i j : Inlet R) (o : Outlet W) (file : List ℕ) → inlet_broken_of j ≡ false → Came remaining i file
+      → (error : OpenError) → IsOpenRefusal kind file error → RunStops remaining contents Has made (RefusesCutIn kind remaining i wanted) i j o o (of_open_error error)
+  open_stops remaining contents i j o file whole came open_errors.NoMemory refused = (whole, refl)
+  open_stops remaining contents i j o file whole came (open_errors.Refused error) refused = font_stops remaining contents i j o file whole came error refused
+
+  -- a cut was not sent, or not all of it
+  pub made_stops : {R W : Type 0} (remaining : R → Option (List ℕ)) (contents : W → Option (List ℕ)) (i j : Inlet R) (o p : Outlet W) (file : List ℕ) → inlet_broken_of j ≡ false → Came remaining i file → fault_of kind file ≡ None
+      → (error : CutIntoError) → StopsCut contents o p (made file) error → RunStops remaining contents Has made (RefusesCutIn kind remaining i wanted) i j o p (of_cut_error error)
+  made_stops remaining contents i j o p file whole came accepted cut_errors.NoMemory stops = (whole, stops)
+  made_stops remaining contents i j o p file whole came accepted (cut_errors.TooLarge size) stops =
+      (whole, stops.0, got_of remaining i (λ (f : List ℕ). (fault_of kind f ≡ None) × IsTooLarge (made f) size) file came (accepted, stops.1))
+  made_stops remaining contents i j o p file whole came accepted (cut_errors.WriteFault count) stops =
+      (whole, stops.1, sym stops.2, got_of remaining i (λ (f : List ℕ). Has f × outlets.WentOut contents o p (take count (made f))) file came ((accepted, stops.0), stops.3))
+
+  -- all of it was sent, and was not flushed
+  pub flush_stops : {R W : Type 0} (remaining : R → Option (List ℕ)) (contents : W → Option (List ℕ)) (i j : Inlet R) (o m p : Outlet W) (file : List ℕ) → inlet_broken_of j ≡ false → Came remaining i file → Has file
+      → outlets.fresh_of o ≡ true → outlets.WentOut contents o m (made file) → outlets.WentOut contents m p [] → (count : ℕ) → count ≡ outlets.written_of p → outlets.broken_of p ≡ true
+      → RunStops remaining contents Has made (RefusesCutIn kind remaining i wanted) i j o p (Write count)
+  flush_stops remaining contents i j o m p file whole came has fresh sent flushed count is broken =
+      (whole, broken, sym is, got_of remaining i (λ (f : List ℕ). Has f × outlets.WentOut contents o p (take count (made f))) file came (has, sends_all contents o m p (made file) fresh sent flushed count is))
+
+  -- all of it was sent and flushed
+  pub made_sent : {R W : Type 0} (remaining : R → Option (List ℕ)) (contents : W → Option (List ℕ)) (i : Inlet R) (o m p : Outlet W) (file : List ℕ) → Came remaining i file → Has file
+      → outlets.WentOut contents o m (made file) → outlets.WentOut contents m p [] → got remaining i (λ f. Has f × outlets.WentOut contents o p (made f))
+  made_sent remaining contents i o m p file came has sent flushed =
+      got_of remaining i (λ (f : List ℕ). Has f × outlets.WentOut contents o p (made f)) file came (has, sends_end contents o m p (made file) sent flushed)
 
 -- a run that ends with an error: what is said of the run follows from what is said of the error
 pub ends_err : {R W T : Type 0} (remaining : R → Option (List ℕ)) (contents : W → Option (List ℕ)) (serves : List ℕ → Type 0) (text : List ℕ → List ℕ) (refuses : RunError → Type 0) (i j : Inlet R) (o p : Outlet W) (result : Result T RunError) (error : RunError)

@@ -1,6 +1,7 @@
 pub mod Belongs
 pub mod Check
 pub mod Codes
+pub mod Drop
 pub mod Glyphs
 pub mod Join
 pub mod Places

@@ -2,9 +2,11 @@
 use Rattle.std.specs.Prelude.{◌≡◌, ℕ, ◌+◌, ◌≤◌, Bool, false, true, length, List, None, Option, IfErr, IfSome, OnOk, Result, Some, take}
 use Rattle.font_subset.specs.Cut.{IsTooLarge}
 use Rattle.font_subset.specs.Kinds.{cut_in}
-use Rattle.font_cut.specs.Fonts.{Full, Kind, MAX_FILE, NO_MEMORY, READ_FAULT, TOO_LARGE, WRITE_FAULT, error_number, font_fault}
+use Rattle.font_cut.specs.Fonts.{Full, Kind, MAX_FILE, NO_MEMORY, READ_FAULT, TOO_LARGE, WRITE_FAULT, error_number, fault_of, font_fault}
 use Rattle.font_subset.specs.declared.cut_font.CutIntoError.{CutIntoError}
 use Rattle.font_subset.specs.declared.cut_font.CutIntoError.TheVariants as cut_errors
+use Rattle.font_subset.specs.declared.layout_font.OpenError.{OpenError}
+use Rattle.font_subset.specs.declared.layout_font.OpenError.TheVariants as open_errors
 use Rattle.font_join.specs.JoinText.{join_all_error_number}
 use Rattle.font_join.specs.declared.join_error.JoinAllIntoError.{JoinAllIntoError}
 use Rattle.font_join.specs.declared.join_error.JoinAllIntoError.TheVariants as join_into_errors
@@ -66,13 +68,9 @@ AnyFile file = Unit {0}
 abbrev pub IsAccepted : List ℕ → Type 0
 IsAccepted file = font_fault file ≡ None
 
--- a file is accepted, and what is made of it is not too large
-abbrev pub HasMade : (List ℕ → List ℕ) → List ℕ → Type 0
-HasMade made file = (font_fault file ≡ None) × (length (made file) ≤ MAX_FILE)
-
--- a file is accepted, and its cut of a kind for the wanted codes is not too large
+-- a file is accepted for cuts of a kind, and its cut for the wanted codes is not too large
 abbrev pub HasCutIn : Kind → (ℕ → Bool) → List ℕ → Type 0
-HasCutIn kind wanted = HasMade (λ file. cut_in kind file wanted)
+HasCutIn kind wanted file = (fault_of kind file ≡ None) × (length (cut_in kind file wanted) ≤ MAX_FILE)
 
 -- a file is accepted, and its cut for the wanted codes is not too large
 abbrev pub HasCut : (ℕ → Bool) → List ℕ → Type 0
@@ -92,21 +90,17 @@ RefusesFont remaining inlet (Read count) = ⊥
 RefusesFont remaining inlet Memory = ⊥
 RefusesFont remaining inlet (Write count) = ⊥
 
--- a file is refused as a font, or is one and what is made of it has this size, more than a file may have
-abbrev pub RefusesMade : {R : Type 0} → (R → Option (List ℕ)) → Inlet R → (List ℕ → List ℕ) → RunError →
-    Type 0
-RefusesMade remaining inlet made (Font error) = got remaining inlet (λ file. font_fault file ≡ Some error)
-RefusesMade remaining inlet made (TooLarge size) =
-    got remaining inlet (λ file. (font_fault file ≡ None) × IsTooLarge (made file) size)
-RefusesMade remaining inlet made (OneOf which error) = ⊥
-RefusesMade remaining inlet made (Join error) = ⊥
-RefusesMade remaining inlet made (Read count) = ⊥
-RefusesMade remaining inlet made Memory = ⊥
-RefusesMade remaining inlet made (Write count) = ⊥
-
--- a file is refused as a font, or its cut of a kind is too large
+-- a file is refused for cuts of a kind, or is accepted and its cut has this size, more than a file may have
 abbrev pub RefusesCutIn : {R : Type 0} → Kind → (R → Option (List ℕ)) → Inlet R → (ℕ → Bool) → RunError → Type 0
-RefusesCutIn kind remaining inlet wanted = RefusesMade remaining inlet (λ file. cut_in kind file wanted)
+RefusesCutIn kind remaining inlet wanted (Font error) =
+    got remaining inlet (λ file. fault_of kind file ≡ Some error)
+RefusesCutIn kind remaining inlet wanted (TooLarge size) =
+    got remaining inlet (λ file. (fault_of kind file ≡ None) × IsTooLarge (cut_in kind file wanted) size)
+RefusesCutIn kind remaining inlet wanted (OneOf which error) = ⊥
+RefusesCutIn kind remaining inlet wanted (Join error) = ⊥
+RefusesCutIn kind remaining inlet wanted (Read count) = ⊥
+RefusesCutIn kind remaining inlet wanted Memory = ⊥
+RefusesCutIn kind remaining inlet wanted (Write count) = ⊥
 
 -- a file is refused as a font, or its cut is too large
 abbrev pub RefusesCut : {R : Type 0} → (R → Option (List ℕ)) → Inlet R → (ℕ → Bool) → RunError → Type 0
@@ -116,6 +110,11 @@ RefusesCut = RefusesCutIn Full
 abbrev pub of_read_error : ReadError → RunError
 of_read_error (ReadFault count) = Read count
 of_read_error NoMemory = Memory
+
+-- the error of a run whose font is not opened for cuts of a kind
+abbrev pub of_open_error : OpenError → RunError
+of_open_error open_errors.NoMemory = Memory
+of_open_error (open_errors.Refused error) = Font error
 
 -- the error of a run whose cut was not sent
 abbrev pub of_cut_error : CutIntoError → RunError

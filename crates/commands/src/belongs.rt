@@ -1,26 +1,51 @@
 //! `belongs`: whether a file is a cut of a font.
 ghost use Rattle.std.specs.Prelude.{◌≡◌, None, IfErr, IfOk, MatchResult, OnOk, false, true};
 ghost use Rattle.streams.specs.Outlet.{WentOut, broken_of, fresh_of};
-ghost use Rattle.font_subset.specs.Kinds.{IsCutIn};
-ghost use Rattle.font_cut.specs.Fonts.{font_fault};
-ghost use Rattle.commands.specs.Belongs.{Answers, BelongsStops, IsNoFont, IsUnanswered, answer_text, got_both};
+ghost use Rattle.font_cut.specs.Fonts.{Kind, fault_of};
+ghost use Rattle.commands.specs.Belongs.{Answers, BelongsStops, IsUnanswered, IsUnopened, answer_text, got_both, of_unopened};
 ghost use Rattle.streams.specs.Inlet.{inlet_fresh_of};
 ghost use Rattle.commands.specs.Join.{IsSpent};
 
 use crate::run_error::{RunError, send};
-use font_cut::{Font, Kind, Outlet, Which, belongs};
+use font_cut::{Font, FontOfKind, Kind, OpenError, Outlet, Which, belongs};
 use std::alloc::Allocator;
 use std::io::{Read, Write};
 use streams::Inlet;
 
 // Opens one of two files, or returns why that one is refused as a font.
 fn opened_as(which: Which, file: &[u8]) -> Result<Font<'_>, RunError>
-    ensures { MatchResult result (λ font. (font ≡ file.now) × (font_fault file.now ≡ None))
-        (IsNoFont which file.now) }
+    ensures { MatchResult result (λ font. font ≡ file.now)
+        (λ error. (kind : Kind) → IsUnopened kind which file.now error) }
 {
     match Font::open(file) {
         Ok(font) => Ok(font),
         Err(error) => Err(RunError::OneOf(which, error)),
+    }
+}
+
+// Returns the error of a run one of whose fonts is not opened for cuts of a kind.
+fn unopened(which: Which, error: OpenError) -> RunError
+    ensures { result ≡ of_unopened which error }
+{
+    match error {
+        OpenError::NoMemory => RunError::Memory,
+        OpenError::Refused(error) => RunError::OneOf(which, error),
+    }
+}
+
+// Opens one of two fonts for cuts of a kind, or returns why it is refused for them.
+fn opened_for<'f, 'a, A: Allocator + Copy>(
+    alloc: A,
+    kind: Kind,
+    which: Which,
+    font: &'f Font<'a>,
+) -> Result<FontOfKind<'f, 'a, A>, RunError>
+    ensures { MatchResult result (λ opened. (opened ≡ (kind, font.entry.now))
+        × (fault_of kind font.entry.now ≡ None)) (IsUnopened kind which font.entry.now) }
+{
+    match FontOfKind::open(alloc, kind, font) {
+        Ok(opened) => Ok(opened),
+        Err(error) => Err(unopened(which, error)),
     }
 }
 
@@ -31,11 +56,13 @@ fn is_cut_in<A: Allocator + Copy>(
     cut: &[u8],
     font: &[u8],
 ) -> Result<bool, RunError>
-    ensures { MatchResult result (Answers kind cut.now font.now) (IsUnanswered cut.now font.now) }
+    ensures { MatchResult result (Answers kind cut.now font.now) (IsUnanswered kind cut.now font.now) }
 {
-    let cut = opened_as(Which::First, cut)?;
-    let font = opened_as(Which::Second, font)?;
-    Ok(belongs(alloc, kind, &cut, &font)?)
+    let first = opened_as(Which::First, cut)?;
+    let cut_opened = opened_for(alloc, kind, Which::First, &first)?;
+    let second = opened_as(Which::Second, font)?;
+    let font_opened = opened_for(alloc, kind, Which::Second, &second)?;
+    Ok(belongs(alloc, &cut_opened, &font_opened)?)
 }
 
 // Returns what is printed of an answer.
@@ -71,7 +98,7 @@ pub fn run_belongs<R: Read, W: Write, A: Allocator + Copy>(
     ensures whole { OnOk result (IsSpent cut.new × IsSpent font.new × (broken_of outlet.new ≡ false)) }
 
     ensures error { IfErr result
-        (BelongsStops (IsCutIn kind) R.remaining W.contents cut.old cut.new font.old font.new
+        (BelongsStops kind R.remaining W.contents cut.old cut.new font.old font.new
         outlet.old outlet.new) }
 {
     let cut_file = cut.read_all(alloc)?;

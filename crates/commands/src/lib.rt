@@ -4,6 +4,7 @@
 
 mod belongs;
 mod check;
+mod drop_tables;
 mod join;
 mod mapped_codes;
 mod mapped_glyphs;
@@ -13,6 +14,7 @@ mod subset;
 
 pub use crate::belongs::run_belongs;
 pub use crate::check::run_check;
+pub use crate::drop_tables::without_tables;
 pub use crate::join::{run_join, run_join_of_kind};
 pub use crate::mapped_codes::{codes_laws, next_range, run_codes};
 pub use crate::mapped_glyphs::{glyphs_law, run_glyphs};

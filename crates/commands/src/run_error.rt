@@ -1,12 +1,12 @@
 //! What the runs share: their error, and how they send what they have made.
 ghost use Rattle.std.specs.Prelude.{◌≡◌, false, true, take, IfErr, OnErr, OnOk};
 ghost use Rattle.streams.specs.Outlet.{WentOut, broken_of, fresh_of, written_of};
-ghost use Rattle.commands.specs.Run.{of_cut_error, of_join_error, of_join_into_error, of_read_error, run_error_number};
+ghost use Rattle.commands.specs.Run.{of_cut_error, of_join_error, of_join_into_error, of_open_error, of_read_error, run_error_number};
 ghost use Rattle.commands.specs.declared.run_error.RunError.TheVariants.{Font, Memory, Write};
 
 use font_cut::{
-    CutIntoError, FontError, JoinAllError, JoinAllIntoError, JoinError, NoMemory, Outlet, Which,
-    WriteFault, numbers,
+    CutIntoError, FontError, JoinAllError, JoinAllIntoError, JoinError, NoMemory, OpenError,
+    Outlet, Which, WriteFault, numbers,
 };
 use std::alloc::AllocError;
 use std::io;
@@ -96,6 +96,17 @@ impl From<FontError> for RunError {
 
     fn from(error: FontError) -> RunError {
         RunError::Font(error)
+    }
+}
+
+impl From<OpenError> for RunError {
+    ghost from_gives = { λ held error. error ≡ of_open_error held };
+
+    fn from(error: OpenError) -> RunError {
+        match error {
+            OpenError::NoMemory => RunError::Memory,
+            OpenError::Refused(error) => RunError::Font(error),
+        }
     }
 }
 

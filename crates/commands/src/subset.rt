@@ -8,7 +8,7 @@ ghost use Rattle.streams.specs.Inlet.{inlet_fresh_of};
 ghost use Rattle.commands.specs.Run.{HasCut, HasCutIn, RefusesCut, RefusesCutIn, SendsText, got};
 
 use crate::run_error::RunError;
-use font_cut::{Font, Kind, Outlet, Wanted, cut_of_kind_into};
+use font_cut::{Font, FontOfKind, Kind, Outlet, Wanted, cut_of_kind_into};
 use std::alloc::Allocator;
 use std::io::{Read, Write};
 use streams::Inlet;
@@ -39,7 +39,8 @@ pub fn run_subset_of_kind<R: Read, W: Write, A: Allocator + Copy>(
 {
     let file = inlet.read_all(alloc)?;
     let font = Font::open(&file)?;
-    let size = cut_of_kind_into(alloc, kind, &font, wanted, outlet)?;
+    let opened = FontOfKind::open(alloc, kind, &font)?;
+    let size = cut_of_kind_into(alloc, &opened, wanted, outlet)?;
     outlet.finish()?;
     Ok(size)
 }

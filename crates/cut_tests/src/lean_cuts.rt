@@ -1,7 +1,8 @@
 //! Lean cuts, by the calls that take a kind.
 use crate::samples::wanted_of;
 use font_cut::{
-    CutForm, Font, Kind, Outlet, belongs, cut_of_kind, cut_of_kind_into, form_of_kind, is_of_kind,
+    CutForm, Font, FontOfKind, Kind, Outlet, belongs, cut_of_kind, cut_of_kind_into, form_of_kind,
+    is_of_kind,
 };
 use sample_fonts::known_cuts::{AACUTE, LEAN_AACUTE};
 use sfnt_bytes::BASE6;
@@ -11,7 +12,7 @@ use std::test::Fail;
 fn lean_cut_of_aacute(rt: HostRuntime) -> Result<(), Fail> {
     let font = Font::open(&BASE6)?;
     let wanted = wanted_of(rt.alloc(), &[(0xC1, 0xC1)])?;
-    let made = cut_of_kind(rt.alloc(), Kind::Lean, &font, &wanted)?;
+    let made = cut_of_kind(rt.alloc(), &FontOfKind::lean(&font), &wanted)?;
     assert_eq!(rt; made.as_slice(), LEAN_AACUTE.as_slice());
     Ok(())
 }
@@ -21,7 +22,8 @@ fn sends_the_lean_cut(rt: HostRuntime) -> Result<(), Fail> {
     let font = Font::open(&BASE6)?;
     let wanted = wanted_of(rt.alloc(), &[(0xC1, 0xC1)])?;
     let mut outlet = Outlet::new(Vec::new(rt.alloc()));
-    let answer = cut_of_kind_into(rt.alloc(), Kind::Lean, &font, &wanted, &mut outlet);
+    let lean = FontOfKind::lean(&font);
+    let answer = cut_of_kind_into(rt.alloc(), &lean, &wanted, &mut outlet);
     assert_eq!(rt; answer, Ok(412));
     assert_eq!(rt; outlet.into_inner().as_slice(), LEAN_AACUTE.as_slice());
     Ok(())
@@ -30,13 +32,22 @@ fn sends_the_lean_cut(rt: HostRuntime) -> Result<(), Fail> {
 #[test]
 fn lean_cut_form_of_files(rt: HostRuntime) -> Result<(), Fail> {
     let (lean, made) = (Font::open(&LEAN_AACUTE)?, Font::open(&AACUTE)?);
-    assert_eq!(rt; is_of_kind(rt.alloc(), Kind::Lean, &lean), Ok(true));
-    assert_eq!(rt; is_of_kind(rt.alloc(), Kind::Lean, &made), Ok(false));
-    assert_eq!(rt;
-        form_of_kind(rt.alloc(), Kind::Lean, &lean),
-        Ok(CutForm::Current)
-    );
-    assert_eq!(rt; belongs(rt.alloc(), Kind::Lean, &lean, &made), Ok(true));
-    assert_eq!(rt; belongs(rt.alloc(), Kind::Lean, &made, &lean), Ok(false));
+    assert_eq!(rt; is_of_kind(rt.alloc(), &FontOfKind::lean(&lean)), Ok(true));
+    assert_eq!(rt; is_of_kind(rt.alloc(), &FontOfKind::lean(&made)), Ok(false));
+    let (cut, font) = (FontOfKind::lean(&lean), FontOfKind::lean(&made));
+    assert_eq!(rt; form_of_kind(rt.alloc(), &cut), Ok(CutForm::Current));
+    assert_eq!(rt; belongs(rt.alloc(), &cut, &font), Ok(true));
+    assert_eq!(rt; belongs(rt.alloc(), &font, &cut), Ok(false));
+    Ok(())
+}
+
+// The font has no table of layout, so its layout cut is its lean one.
+#[test]
+fn layout_cut_of_aacute(rt: HostRuntime) -> Result<(), Fail> {
+    let font = Font::open(&BASE6)?;
+    let opened = FontOfKind::open(rt.alloc(), Kind::Layout, &font)?;
+    let wanted = wanted_of(rt.alloc(), &[(0xC1, 0xC1)])?;
+    let made = cut_of_kind(rt.alloc(), &opened, &wanted)?;
+    assert_eq!(rt; made.as_slice(), LEAN_AACUTE.as_slice());
     Ok(())
 }

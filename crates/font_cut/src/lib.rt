@@ -14,8 +14,8 @@ pub use font_map::{
     read_word,
 };
 pub use font_subset::{
-    CutError, CutForm, CutIntoError, CutOf, CutOfKind, belongs, cut, cut_form, cut_into,
-    cut_of_kind, cut_of_kind_into, form_of_kind, is_cut, is_cut_of, is_of_kind,
+    CutError, CutForm, CutIntoError, CutOf, CutOfKind, FontOfKind, OpenError, belongs, cut,
+    cut_form, cut_into, cut_of_kind, cut_of_kind_into, form_of_kind, is_cut, is_cut_of, is_of_kind,
 };
 pub use font_tables::{LocaForm, TableError, Tables};
 pub use font_theory::Kind;

@@ -13,7 +13,7 @@ error_text (Directory error) = directory.error_text error
 error_text (Tables error) = tables.error_text error
 error_text (Mapping error) = mapping.error_text error
 error_text (BadGlyph g) = codes "bad glyph " ++ decimal g
-error_text BadLayout = codes "bad writing"
+error_text BadLayout = codes "bad layout"
 
 -- its number
 abbrev pub error_number : FontError → ℕ

@@ -49,7 +49,7 @@ impl fmt::Display for FontError {
             FontError::Tables(error) => write!(f, "{error}"),
             FontError::Mapping(error) => write!(f, "{error}"),
             FontError::BadGlyph(glyph) => write!(f, "bad glyph {glyph}"),
-            FontError::BadLayout => f.write_str("bad writing"),
+            FontError::BadLayout => f.write_str("bad layout"),
         }
     }
 }

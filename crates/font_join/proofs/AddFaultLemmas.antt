@@ -1,57 +1,47 @@
 -- Why a file is not added to a content, of any format, and the first difference of two contents.
-use Rattle.std.proofs.Common.{◌≡◌, ℕ, Bool, true, false, not, List, [], ◌∷◌, find, Option, None, Some, refl, sym, ap, ◌∙◌}
+use Rattle.std.proofs.Common.{◌≡◌, ℕ, List, [], ◌∷◌, find, Option, None, Some, refl, sym, ap, ◌∙◌}
 use Rattle.std.specs.List.{range_with_len}
 use Rattle.std.specs.Option.{option_map}
-use Rattle.sfnt_bytes.specs.Lines.{first_of_lines, when}
+use Rattle.sfnt_bytes.specs.Lines.{first_of_lines}
 use Rattle.font_theory.specs.Content.{Content, glyph_count}
-use Rattle.font_theory.specs.Cut.{Format, is_cut, content_of_all}
+use Rattle.font_theory.specs.Cut.{Format, content_of_all}
 use Rattle.font_theory.specs.Difference.{difference, is_different_glyph}
 use Rattle.font_theory.specs.declared.Difference.{Difference}
 use Rattle.font_theory.specs.declared.Difference.TheVariants.{AtCode, AtGlyph, AtTable}
 use Rattle.font_join.specs.Inside.{IsAddRefusal, IsFormRefusal, add_fault, early_difference}
-use Rattle.font_join.specs.Join.{different}
+use Rattle.font_join.specs.Join.{different, form_fault}
 use Rattle.font_join.specs.declared.join_error.JoinError.{JoinError}
 use Rattle.font_join.specs.declared.join_error.JoinError.TheVariants.{DifferentGlyph, DifferentMapping, DifferentTable, Font, NoMemory, NotACut, TooLarge}
 use Rattle.font_join.specs.declared.join_error.Which.TheVariants.{Second}
 
 -- the lines, at what they test
-abbrev lines_at : Bool → Option Difference → Option JoinError
-lines_at cy d = first_of_lines (when (not cy) (NotACut Second) ∷ option_map different d ∷ [])
+abbrev lines_at : Option JoinError → Option Difference → Option JoinError
+lines_at cy d = first_of_lines (cy ∷ option_map different d ∷ [])
 
-lines_at-difference : (d : Option Difference) → lines_at true d ≡ option_map different d
+lines_at-difference : (d : Option Difference) → lines_at None d ≡ option_map different d
 lines_at-difference None = refl
 lines_at-difference (Some d) = refl
 
 module _ (R : Format) (K : Content) (y : List ℕ) where
-  pub no_cut_fault : is_cut R y ≡ false → add_fault R K y ≡ Some (NotACut Second)
+  form_first : (error : JoinError) → form_fault R Second y ≡ Some error → add_fault R K y ≡ Some error
   unfolding add_fault
-  no_cut_fault e = λ i. lines_at (e i) (difference K (content_of_all R y))
+  form_first error e = λ i. lines_at (e i) (difference K (content_of_all R y))
 
-  pub difference_fault : is_cut R y ≡ true → (d : Option Difference) → d ≡ difference K (content_of_all R y) → add_fault R K y ≡ option_map different d
+  pub difference_fault : form_fault R Second y ≡ None → (d : Option Difference) → d ≡ difference K (content_of_all R y) → add_fault R K y ≡ option_map different d
   unfolding add_fault
   difference_fault e d h = (λ i. lines_at (e i) (sym h i)) ∙ lines_at-difference d
 
-  -- what holds where there is none
-  pub unfaulted : add_fault R K y ≡ None → (is_cut R y ≡ true) × (difference K (content_of_all R y) ≡ None)
-  unfolding add_fault
-  unfaulted h = go (is_cut R y) (difference K (content_of_all R y)) refl refl h
-    where
-      go : (cy : Bool) (d : Option Difference) → is_cut R y ≡ cy → difference K (content_of_all R y) ≡ d → lines_at cy d ≡ None → (is_cut R y ≡ true) × (difference K (content_of_all R y) ≡ None)
-      go false d a b h = cc
-      go true (Some d) a b h = cc
-      go true None a b h = (a, b)
-
-  -- a file that is no cut, and one that differs
+  -- a file that is not taken for a cut, and one that differs
   pub form_refused : (error : JoinError) → IsFormRefusal R Second y error → IsAddRefusal R K y error
   form_refused NoMemory r = tt
-  form_refused (Font which f) r = cc
-  form_refused (NotACut which) r = no_cut_fault r.0 ∙ ap Some (sym r.1)
-  form_refused (DifferentTable tag) r = cc
-  form_refused (DifferentMapping code) r = cc
-  form_refused (DifferentGlyph g) r = cc
-  form_refused (TooLarge s) r = cc
+  form_refused (Font which f) r = form_first _ r
+  form_refused (NotACut which) r = form_first _ r
+  form_refused (DifferentTable tag) r = form_first _ r
+  form_refused (DifferentMapping code) r = form_first _ r
+  form_refused (DifferentGlyph g) r = form_first _ r
+  form_refused (TooLarge s) r = form_first _ r
 
-  pub difference_refused : (d : Difference) → is_cut R y ≡ true → Some d ≡ difference K (content_of_all R y) → IsAddRefusal R K y (different d)
+  pub difference_refused : (d : Difference) → form_fault R Second y ≡ None → Some d ≡ difference K (content_of_all R y) → IsAddRefusal R K y (different d)
   difference_refused (AtTable slot) e h = difference_fault e (Some (AtTable slot)) h
   difference_refused (AtCode code) e h = difference_fault e (Some (AtCode code)) h
   difference_refused (AtGlyph g) e h = difference_fault e (Some (AtGlyph g)) h

@@ -1,12 +1,12 @@
 -- The first refusal of a join of cuts of one kind, and what its answers tell.
 use Rattle.std.proofs.Common.{◌≡◌, ℕ, ◌<◌, ◌≤◌, ◌⊎◌, inl, inr, Bool, true, false, not, nat_lt, List, [], ◌∷◌, length, refl, sym, ◌∙◌, ap, subst, arith, Option, Some, None}
-use Rattle.std.specs.Option.{option_map}
+use Rattle.std.specs.Option.{option_map, option_or}
 use Rattle.std.proofs.lemmas.Bool.{le-ltb, lt-ltb, ltb-false, ltb-true}
 use Rattle.sfnt_bytes.specs.Lines.{first_of_lines, when}
 use Rattle.sfnt_bytes.specs.declared.directory.TheConstants.{MAX_FILE}
 use Rattle.font_file.specs.Font.{font_fault}
 use Rattle.font_file.specs.declared.font_error.FontError.{FontError}
-use Rattle.font_theory.specs.Content.{Content, content, everything}
+use Rattle.font_theory.specs.Content.{Content, Font as FontRead, content, everything}
 use Rattle.font_theory.specs.Cut.{CanJoin, Format, IsCut, Under, Writes, cut, either, is_cut, joined, renewed, content_of_all}
 use Rattle.font_theory.specs.Difference.{difference}
 use Rattle.font_theory.specs.File.{file, current_writing}
@@ -21,48 +21,71 @@ use Rattle.font_write.specs.declared.whole_file.FileError.{FileError}
 use Rattle.font_write.specs.declared.whole_file.FileError.TheVariants as file_errors
 use Rattle.font_theory.specs.Kinds.{IsKind}
 use Rattle.font_join.specs.Inside.{IsNoFont}
-use Rattle.font_join.specs.Join.{IsForSize, IsJoin, IsJoinRefusal, IsLeastUpper, RefusalIsRight, IsUnionRefusal, different, join_fault, of_file_error, union_fault}
+use Rattle.font_join.specs.Join.{IsForSize, IsJoin, IsJoinRefusal, IsLeastUpper, RefusalIsRight, IsUnionRefusal, different, form_fault, join_fault, of_file_error, union_fault}
 use Rattle.font_join.specs.declared.join_error.JoinError.{JoinError}
 use Rattle.font_join.specs.declared.join_error.JoinError.TheVariants.{DifferentGlyph, DifferentMapping, DifferentTable, Font, NoMemory, NotACut, TooLarge}
+use Rattle.font_join.specs.declared.join_error.Which.{Which}
 use Rattle.font_join.specs.declared.join_error.Which.TheVariants.{First, Second}
 
 -- the lines, at what they test
-abbrev lines_at : Option FontError → Option FontError → Bool → Bool → Option Difference → Bool → ℕ → Option JoinError
+abbrev lines_at : Option FontError → Option FontError → Option JoinError → Option JoinError → Option Difference → Bool → ℕ → Option JoinError
 lines_at fx fy cx cy d big size =
-    first_of_lines (option_map (Font First) fx ∷ option_map (Font Second) fy ∷ when (not cx) (NotACut First) ∷ when (not cy) (NotACut Second)
-    ∷ option_map different d ∷ when big (TooLarge size) ∷ [])
+    first_of_lines (option_map (Font First) fx ∷ option_map (Font Second) fy ∷ cx ∷ cy ∷ option_map different d ∷ when big (TooLarge size) ∷ [])
 
-abbrev union_at : Bool → Bool → Option Difference → Option JoinError
-union_at cx cy d = first_of_lines (when (not cx) (NotACut First) ∷ when (not cy) (NotACut Second) ∷ option_map different d ∷ [])
+abbrev union_at : Option JoinError → Option JoinError → Option Difference → Option JoinError
+union_at cx cy d = first_of_lines (cx ∷ cy ∷ option_map different d ∷ [])
 
-last_line : (big : Bool) (size : ℕ) → lines_at None None true true None big size ≡ when big (TooLarge size)
+last_line : (big : Bool) (size : ℕ) → lines_at None None None None None big size ≡ when big (TooLarge size)
 last_line true size = refl
 last_line false size = refl
 
 -- a refusal of the union is one of the join
-union_first : (cx cy : Bool) (d : Option Difference) (big : Bool) (size : ℕ) (error : JoinError) → union_at cx cy d ≡ Some error → lines_at None None cx cy d big size ≡ Some error
-union_first false cy d big size error h = h
-union_first true false d big size error h = h
-union_first true true (Some d) big size error h = h
-union_first true true None big size error h = cc
+union_first : (cx cy : Option JoinError) (d : Option Difference) (big : Bool) (size : ℕ) (error : JoinError) → union_at cx cy d ≡ Some error → lines_at None None cx cy d big size ≡ Some error
+union_first (Some c) cy d big size error h = h
+union_first None (Some c) d big size error h = h
+union_first None None (Some d) big size error h = h
+union_first None None None big size error h = cc
 
 -- where there is none, the size is left
-size_last : (cx cy : Bool) (d : Option Difference) (big : Bool) (size : ℕ) → union_at cx cy d ≡ None → lines_at None None cx cy d big size ≡ when big (TooLarge size)
-size_last false cy d big size h = cc
-size_last true false d big size h = cc
-size_last true true (Some d) big size h = cc
-size_last true true None big size h = last_line big size
+size_last : (cx cy : Option JoinError) (d : Option Difference) (big : Bool) (size : ℕ) → union_at cx cy d ≡ None → lines_at None None cx cy d big size ≡ when big (TooLarge size)
+size_last (Some c) cy d big size h = cc
+size_last None (Some c) d big size h = cc
+size_last None None (Some d) big size h = cc
+size_last None None None big size h = last_line big size
+
+-- what is taken for a cut, and why another file is not
+taken_at : (which : Which) (fault : Option FontError) (cut : Bool) → option_or (option_map (Font which) fault) (when (not cut) (NotACut which)) ≡ None → (fault ≡ None) × (cut ≡ true)
+taken_at which None true h = (refl, refl)
+taken_at which None false h = cc
+taken_at which (Some f) cut h = cc
+
+module _ (R : Format) (which : Which) (x : List ℕ) where
+  pub form_taken : form_fault R which x ≡ None → (R.fault x ≡ None) × (is_cut R x ≡ true)
+  unfolding form_fault
+  form_taken h = taken_at which (R.fault x) (is_cut R x) h
+
+  pub form_whole : R.fault x ≡ None → is_cut R x ≡ true → form_fault R which x ≡ None
+  unfolding form_fault
+  form_whole a b = λ i. option_or (option_map (Font which) (a i)) (when (not (b i)) (NotACut which))
+
+  pub form_unread : (fault : FontError) → R.fault x ≡ Some fault → form_fault R which x ≡ Some (Font which fault)
+  unfolding form_fault
+  form_unread fault a = λ i. option_or (option_map (Font which) (a i)) (when (not (is_cut R x)) (NotACut which))
+
+  pub form_no_cut : R.fault x ≡ None → is_cut R x ≡ false → form_fault R which x ≡ Some (NotACut which)
+  unfolding form_fault
+  form_no_cut a b = λ i. option_or (option_map (Font which) (a i)) (when (not (b i)) (NotACut which))
 
 module _ (R : Format) (x y : List ℕ) where
   first_fault : (fault : FontError) → font_fault x ≡ Some fault → join_fault R x y ≡ Some (Font First fault)
   unfolding join_fault
   first_fault fault h =
-      λ i. lines_at (h i) (font_fault y) (is_cut R x) (is_cut R y) (difference (content_of_all R x) (content_of_all R y)) (nat_lt MAX_FILE (length (joined R x y))) (length (joined R x y))
+      λ i. lines_at (h i) (font_fault y) (form_fault R First x) (form_fault R Second y) (difference (content_of_all R x) (content_of_all R y)) (nat_lt MAX_FILE (length (joined R x y))) (length (joined R x y))
 
   second_fault : (fault : FontError) → font_fault x ≡ None → font_fault y ≡ Some fault → join_fault R x y ≡ Some (Font Second fault)
   unfolding join_fault
   second_fault fault e h =
-      λ i. lines_at (e i) (h i) (is_cut R x) (is_cut R y) (difference (content_of_all R x) (content_of_all R y)) (nat_lt MAX_FILE (length (joined R x y))) (length (joined R x y))
+      λ i. lines_at (e i) (h i) (form_fault R First x) (form_fault R Second y) (difference (content_of_all R x) (content_of_all R y)) (nat_lt MAX_FILE (length (joined R x y))) (length (joined R x y))
 
   -- a file that is not opened is not joined
   pub first_refused : (error : JoinError) → IsNoFont First x error → IsJoinRefusal R x y error
@@ -71,18 +94,26 @@ module _ (R : Format) (x y : List ℕ) where
   pub second_refused : (error : JoinError) → font_fault x ≡ None → IsNoFont Second y error → IsJoinRefusal R x y error
   second_refused error e told = subst (IsJoinRefusal R x y) (sym told.2) (second_fault told.0 e told.1)
 
-module _ {R : Format} {spelled : Content → Content} (kind : IsKind R spelled) where
+module _ {R : Format} {fault : List ℕ → Option FontError} {font : List ℕ → FontRead} {spelled : Content → Content} (kind : IsKind R fault font spelled) where
+  -- what is accepted as a font of the kind is one
+  pub font_accepted : (x : List ℕ) → R.fault x ≡ None → font_fault x ≡ None
+  font_accepted x ok = go (font_fault x) refl
+    where
+      go : (o : Option FontError) → font_fault x ≡ o → font_fault x ≡ None
+      go None h = h
+      go (Some f) h = let n : None ≡ Some f = sym ok ∙ kind.fault_is x ∙ kind.refused x f h in cc
+
   module _ (x y : List ℕ) where
     -- what is left where both are accepted
     accepted_lines : font_fault x ≡ None → font_fault y ≡ None
-        → join_fault R x y ≡ lines_at None None (is_cut R x) (is_cut R y) (difference (content_of_all R x) (content_of_all R y)) (nat_lt MAX_FILE (length (joined R x y))) (length (joined R x y))
+        → join_fault R x y ≡ lines_at None None (form_fault R First x) (form_fault R Second y) (difference (content_of_all R x) (content_of_all R y)) (nat_lt MAX_FILE (length (joined R x y))) (length (joined R x y))
     unfolding join_fault
     accepted_lines e f =
-        λ i. lines_at (e i) (f i) (is_cut R x) (is_cut R y) (difference (content_of_all R x) (content_of_all R y)) (nat_lt MAX_FILE (length (joined R x y))) (length (joined R x y))
+        λ i. lines_at (e i) (f i) (form_fault R First x) (form_fault R Second y) (difference (content_of_all R x) (content_of_all R y)) (nat_lt MAX_FILE (length (joined R x y))) (length (joined R x y))
 
     fault_before : font_fault x ≡ None → font_fault y ≡ None → (error : JoinError) → union_fault R x y ≡ Some error → join_fault R x y ≡ Some error
     unfolding union_fault
-    fault_before e f error h = accepted_lines e f ∙ union_first (is_cut R x) (is_cut R y) (difference (content_of_all R x) (content_of_all R y)) _ _ error h
+    fault_before e f error h = accepted_lines e f ∙ union_first (form_fault R First x) (form_fault R Second y) (difference (content_of_all R x) (content_of_all R y)) _ _ error h
 
     pub union_refused : font_fault x ≡ None → font_fault y ≡ None → (error : JoinError) → IsUnionRefusal R x y error → IsJoinRefusal R x y error
     union_refused e f NoMemory h = (e, f)
@@ -95,7 +126,7 @@ module _ {R : Format} {spelled : Content → Content} (kind : IsKind R spelled) 
 
     fault_after : font_fault x ≡ None → font_fault y ≡ None → union_fault R x y ≡ None → join_fault R x y ≡ when (nat_lt MAX_FILE (length (joined R x y))) (TooLarge (length (joined R x y)))
     unfolding union_fault
-    fault_after e f h = accepted_lines e f ∙ size_last (is_cut R x) (is_cut R y) (difference (content_of_all R x) (content_of_all R y)) _ _ h
+    fault_after e f h = accepted_lines e f ∙ size_last (form_fault R First x) (form_fault R Second y) (difference (content_of_all R x) (content_of_all R y)) _ _ h
 
     -- the file of what is spelled of both contents
     joined-spelled : (C : Content) → C ≡ spelled (both (content_of_all R x) (content_of_all R y)) → file current_writing C ≡ joined R x y
@@ -124,19 +155,21 @@ module _ {R : Format} {spelled : Content → Content} (kind : IsKind R spelled) 
     -- what follows where there is no refusal
     pub joinable : join_fault R x y ≡ None → CanJoin R x y × (length (joined R x y) ≤ MAX_FILE)
     unfolding join_fault
-    joinable h = go (font_fault x) (font_fault y) (is_cut R x) (is_cut R y) (difference (content_of_all R x) (content_of_all R y)) (nat_lt MAX_FILE (length (joined R x y))) refl refl refl refl refl refl h
+    joinable h = go (font_fault x) (font_fault y) (form_fault R First x) (form_fault R Second y) (difference (content_of_all R x) (content_of_all R y)) (nat_lt MAX_FILE (length (joined R x y))) refl refl refl refl h
       where
-        go : (fx fy : Option FontError) (cx cy : Bool) (d : Option Difference) (big : Bool)
-            → font_fault x ≡ fx → font_fault y ≡ fy → is_cut R x ≡ cx → is_cut R y ≡ cy → difference (content_of_all R x) (content_of_all R y) ≡ d → nat_lt MAX_FILE (length (joined R x y)) ≡ big
+        go : (fx fy : Option FontError) (cx cy : Option JoinError) (d : Option Difference) (big : Bool)
+            → form_fault R First x ≡ cx → form_fault R Second y ≡ cy → difference (content_of_all R x) (content_of_all R y) ≡ d → nat_lt MAX_FILE (length (joined R x y)) ≡ big
             → lines_at fx fy cx cy d big (length (joined R x y)) ≡ None → CanJoin R x y × (length (joined R x y) ≤ MAX_FILE)
-        go (Some f) fy cx cy d big a b e f' g k h = cc
-        go None (Some f) cx cy d big a b e f' g k h = cc
-        go None None false cy d big a b e f' g k h = cc
-        go None None true false d big a b e f' g k h = cc
-        go None None true true (Some d) big a b e f' g k h = cc
-        go None None true true None true a b e f' g k h = cc
-        go None None true true None false a b e f' g k h =
-            (CanJoin-tested R kind.law x y (kind.fault x ∙ a) (kind.fault y ∙ b) (e, f', g), ltb-false _ _ k)
+        go (Some f) fy cx cy d big a b g k h = cc
+        go None (Some f) cx cy d big a b g k h = cc
+        go None None (Some c) cy d big a b g k h = cc
+        go None None None (Some c) d big a b g k h = cc
+        go None None None None (Some d) big a b g k h = cc
+        go None None None None None true a b g k h = cc
+        go None None None None None false a b g k h =
+            let first = form_taken R First x a in
+            let second = form_taken R Second y b in
+            (CanJoin-tested R kind.law x y first.0 second.0 (first.1, second.1, g), ltb-false _ _ k)
 
     -- two that can be joined are refused for the size of their join alone
     fault_joinable : CanJoin R x y → join_fault R x y ≡ when (nat_lt MAX_FILE (length (joined R x y))) (TooLarge (length (joined R x y)))
@@ -144,8 +177,8 @@ module _ {R : Format} {spelled : Content → Content} (kind : IsKind R spelled) 
         let okx = can.first.accepted in
         let oky = can.second.accepted in
         let w = tested-CanJoin R kind.law x y okx oky can in
-        accepted_lines (sym (kind.fault x) ∙ okx) (sym (kind.fault y) ∙ oky)
-        ∙ (λ i. lines_at None None (w.0 i) (w.1 i) (w.2 i) (nat_lt MAX_FILE (length (joined R x y))) (length (joined R x y)))
+        accepted_lines (font_accepted x okx) (font_accepted y oky)
+        ∙ (λ i. lines_at None None (form_whole R First x okx w.0 i) (form_whole R Second y oky w.1 i) (w.2 i) (nat_lt MAX_FILE (length (joined R x y))) (length (joined R x y)))
         ∙ last_line (nat_lt MAX_FILE (length (joined R x y))) (length (joined R x y))
 
     -- a refusal is refused memory, or the first line that applies
@@ -185,45 +218,62 @@ module _ {R : Format} {spelled : Content → Content} (kind : IsKind R spelled) 
 
     -- a refusal is a true one
     pub true_refusal : (error : JoinError) → IsJoinRefusal R x y error → RefusalIsRight R x y error
-    unfolding join_fault
+    unfolding join_fault form_fault
     true_refusal error h = elim (refusal_cases error h) [
       | inl m ↦ subst (RefusalIsRight R x y) (sym m) tt
       | inr r ↦ at_line error r
     ]
       where
-        different_both : (d : Difference) → font_fault x ≡ None → font_fault y ≡ None → difference (content_of_all R x) (content_of_all R y) ≡ Some d → (F : List ℕ) → Under R x F → Under R y F → ⊥
-        different_both d a b g F u v =
-            different-under R kind.law x y (kind.fault x ∙ a) (kind.fault y ∙ b) F (λ e. let n : None ≡ Some d = sym e ∙ g in cc) u v
+        different_both : (d : Difference) → R.fault x ≡ None → R.fault y ≡ None → difference (content_of_all R x) (content_of_all R y) ≡ Some d → (F : List ℕ) → Under R x F → Under R y F → ⊥
+        different_both d a b g F u v = different-under R kind.law x y a b F (λ e. let n : None ≡ Some d = sym e ∙ g in cc) u v
+
+        at : (d error : JoinError) → RefusalIsRight R x y d → Some d ≡ Some error → RefusalIsRight R x y error
+        at d error t q = let q' : d ≡ error = cc in subst (RefusalIsRight R x y) q' t
+
+        -- a file that is not taken for a cut is no cut of any
+        first_form : (fault : Option FontError) (cut : Bool) (error : JoinError) → R.fault x ≡ fault → is_cut R x ≡ cut → option_or (option_map (Font First) fault) (when (not cut) (NotACut First)) ≡ Some error → RefusalIsRight R x y error
+        first_form (Some f) cut error a c h = at (Font First f) error (λ other F u v. refused-under R kind.law x F f a other u) h
+        first_form None false error a c h = at (NotACut First) error (λ F u v. no_cut-under R kind.law x F a c u) h
+        first_form None true error a c h = cc
+
+        second_form : (fault : Option FontError) (cut : Bool) (error : JoinError) → R.fault y ≡ fault → is_cut R y ≡ cut → option_or (option_map (Font Second) fault) (when (not cut) (NotACut Second)) ≡ Some error → RefusalIsRight R x y error
+        second_form (Some f) cut error a c h = at (Font Second f) error (λ other F u v. refused-under R kind.law y F f a other v) h
+        second_form None false error a c h = at (NotACut Second) error (λ F u v. no_cut-under R kind.law y F a c v) h
+        second_form None true error a c h = cc
+
+        first_right : (error : JoinError) → form_fault R First x ≡ Some error → RefusalIsRight R x y error
+        first_right error h = first_form (R.fault x) (is_cut R x) error refl refl h
+
+        second_right : (error : JoinError) → form_fault R Second y ≡ Some error → RefusalIsRight R x y error
+        second_right error h = second_form (R.fault y) (is_cut R y) error refl refl h
 
         at_line : (error : JoinError) → join_fault R x y ≡ Some error → RefusalIsRight R x y error
-        at_line error h = go (font_fault x) (font_fault y) (is_cut R x) (is_cut R y) (difference (content_of_all R x) (content_of_all R y)) (nat_lt MAX_FILE (length (joined R x y))) refl refl refl refl refl refl h
+        at_line error h = go (font_fault x) (font_fault y) (form_fault R First x) (form_fault R Second y) (difference (content_of_all R x) (content_of_all R y)) (nat_lt MAX_FILE (length (joined R x y))) refl refl refl refl refl refl h
           where
-            at : (d : JoinError) → RefusalIsRight R x y d → Some d ≡ Some error → RefusalIsRight R x y error
-            at d t q = let q' : d ≡ error = cc in subst (RefusalIsRight R x y) q' t
-
-            go : (fx fy : Option FontError) (cx cy : Bool) (d : Option Difference) (big : Bool)
-                → font_fault x ≡ fx → font_fault y ≡ fy → is_cut R x ≡ cx → is_cut R y ≡ cy → difference (content_of_all R x) (content_of_all R y) ≡ d → nat_lt MAX_FILE (length (joined R x y)) ≡ big
+            go : (fx fy : Option FontError) (cx cy : Option JoinError) (d : Option Difference) (big : Bool)
+                → font_fault x ≡ fx → font_fault y ≡ fy → form_fault R First x ≡ cx → form_fault R Second y ≡ cy → difference (content_of_all R x) (content_of_all R y) ≡ d → nat_lt MAX_FILE (length (joined R x y)) ≡ big
                 → lines_at fx fy cx cy d big (length (joined R x y)) ≡ Some error → RefusalIsRight R x y error
-            go (Some f) fy cx cy d big a b c c' g k h = at (Font First f) (λ other F u v. refused-under R kind.law x F f (kind.fault x ∙ a) other u) h
-            go None (Some f) cx cy d big a b c c' g k h = at (Font Second f) (λ other F u v. refused-under R kind.law y F f (kind.fault y ∙ b) other v) h
-            go None None false cy d big a b c c' g k h = at (NotACut First) (λ F u v. no_cut-under R kind.law x F (kind.fault x ∙ a) c u) h
-            go None None true false d big a b c c' g k h = at (NotACut Second) (λ F u v. no_cut-under R kind.law y F (kind.fault y ∙ b) c' v) h
-            go None None true true (Some (AtTable s)) big a b c c' g k h = at (different (AtTable s)) (different_both (AtTable s) a b g) h
-            go None None true true (Some (AtCode s)) big a b c c' g k h = at (different (AtCode s)) (different_both (AtCode s) a b g) h
-            go None None true true (Some (AtGlyph s)) big a b c c' g k h = at (different (AtGlyph s)) (different_both (AtGlyph s) a b g) h
-            go None None true true None true a b c c' g k h =
-                at (TooLarge (length (joined R x y)))
-                ((CanJoin-tested R kind.law x y (kind.fault x ∙ a) (kind.fault y ∙ b) (c, c', g)).agree, refl, ltb-true _ _ k) h
-            go None None true true None false a b c c' g k h = cc
+            go (Some f) fy cx cy d big a b c c' g k h = at (Font First f) error (λ other F u v. refused-under R kind.law x F f (kind.fault_is x ∙ kind.refused x f a) other u) h
+            go None (Some f) cx cy d big a b c c' g k h = at (Font Second f) error (λ other F u v. refused-under R kind.law y F f (kind.fault_is y ∙ kind.refused y f b) other v) h
+            go None None (Some e) cy d big a b c c' g k h = at e error (first_right e c) h
+            go None None None (Some e) d big a b c c' g k h = at e error (second_right e c') h
+            go None None None None (Some (AtTable s)) big a b c c' g k h = at (different (AtTable s)) error (different_both (AtTable s) (form_taken R First x c).0 (form_taken R Second y c').0 g) h
+            go None None None None (Some (AtCode s)) big a b c c' g k h = at (different (AtCode s)) error (different_both (AtCode s) (form_taken R First x c).0 (form_taken R Second y c').0 g) h
+            go None None None None (Some (AtGlyph s)) big a b c c' g k h = at (different (AtGlyph s)) error (different_both (AtGlyph s) (form_taken R First x c).0 (form_taken R Second y c').0 g) h
+            go None None None None None true a b c c' g k h =
+                let first = form_taken R First x c in
+                let second = form_taken R Second y c' in
+                at (TooLarge (length (joined R x y))) error ((CanJoin-tested R kind.law x y first.0 second.0 (first.1, second.1, g)).agree, refl, ltb-true _ _ k) h
+            go None None None None None false a b c c' g k h = cc
 
   -- cuts of one font
-  module _ (F : List ℕ) (A B : ℕ → Bool) (x y : List ℕ) (accepted : font_fault F ≡ None) (ex : Writes R (content (R.font F) A) x) (ey : Writes R (content (R.font F) B) y) (sx : length x ≤ MAX_FILE) (sy : length y ≤ MAX_FILE) where
+  module _ (F : List ℕ) (A B : ℕ → Bool) (x y : List ℕ) (accepted : R.fault F ≡ None) (ex : Writes R (content (R.font F) A) x) (ey : Writes R (content (R.font F) B) y) (sx : length x ≤ MAX_FILE) (sy : length y ≤ MAX_FILE) where
     pub can_join_cuts : CanJoin R x y
-    can_join_cuts = CanJoin-cuts R kind.law F (kind.fault F ∙ accepted) A B x y ex ey
+    can_join_cuts = CanJoin-cuts R kind.law F accepted A B x y ex ey
         (subst (λ (n : ℕ). length x ≤ n) (sym kind.limit) sx) (subst (λ (n : ℕ). length y ≤ n) (sym kind.limit) sy)
 
     is_union : joined R x y ≡ cut R F (either A B)
-    is_union = joined-cuts R kind.law F (kind.fault F ∙ accepted) A B x y ex ey
+    is_union = joined-cuts R kind.law F accepted A B x y ex ey
         (subst (λ (n : ℕ). length x ≤ n) (sym kind.limit) sx) (subst (λ (n : ℕ). length y ≤ n) (sym kind.limit) sy)
 
     pub cuts_joined : (z : List ℕ) → IsJoin R x y z → z ≡ cut R F (either A B)
@@ -241,7 +291,7 @@ module _ {R : Format} {spelled : Content → Content} (kind : IsKind R spelled) 
     renewed_refused error r = subst (λ (b : List ℕ). IsForSize (length b) error) (joined-self R x) (only_size x x (CanJoin-self R x form) error r)
 
   -- a current file and itself
-  module _ (x : List ℕ) (accepted : font_fault x ≡ None) (form : cut R x everything ≡ x) where
+  module _ (x : List ℕ) (accepted : R.fault x ≡ None) (form : cut R x everything ≡ x) where
     same_join : joined R x x ≡ x
     same_join = joined-self R x ∙ form
 
@@ -249,10 +299,10 @@ module _ {R : Format} {spelled : Content → Content} (kind : IsKind R spelled) 
     self_joined z ok = ok.is ∙ same_join
 
     pub self_refused : (error : JoinError) → IsJoinRefusal R x x error → error ≡ NoMemory
-    self_refused error r = go error (only_size x x (CanJoin-self R x (record { accepted = kind.fault x ∙ accepted; written = inl form })) error r)
+    self_refused error r = go error (only_size x x (CanJoin-self R x (record { accepted = accepted; written = inl form })) error r)
       where
         small : length (joined R x x) ≤ MAX_FILE
-        small = subst (λ (b : List ℕ). length b ≤ MAX_FILE) (sym same_join) (size-accepted x accepted)
+        small = subst (λ (b : List ℕ). length b ≤ MAX_FILE) (sym same_join) (size-accepted x (font_accepted x accepted))
 
         go : (error : JoinError) → IsForSize (length (joined R x x)) error → error ≡ NoMemory
         go NoMemory o = refl

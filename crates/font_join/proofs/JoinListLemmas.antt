@@ -3,8 +3,8 @@ use Rattle.std.proofs.Common.{◌≡◌, ℕ, zero, suc, ◌+◌, ◌<◌, ◌�
 use Rattle.std.proofs.lemmas.List.{get_or-map}
 use Rattle.std.proofs.lemmas.Result.{MatchResult-weaker}
 use Rattle.sfnt_bytes.specs.declared.directory.TheConstants.{MAX_FILE}
-use Rattle.font_file.specs.Font.{font_fault}
-use Rattle.font_theory.specs.Content.{Content}
+use Rattle.font_file.specs.declared.font_error.FontError.{FontError}
+use Rattle.font_theory.specs.Content.{Content, Font as FontRead}
 use Rattle.font_theory.specs.Cut.{Format, IsCurrent, IsCut, cut, renewed}
 use Rattle.font_theory.specs.Tree.{Differs, IsOver, IsSmall, JoinTree, Value, cuts, file_at, grown, union_below}
 use Rattle.font_theory.proofs.FontLemmas.{size-accepted}
@@ -20,7 +20,7 @@ use Rattle.streams.specs.declared.outlet.Outlet.{Outlet}
 use Rattle.font_join.specs.declared.join_error.JoinAllError.TheVariants.{At, NothingToJoin}
 use Rattle.font_join.specs.declared.join_error.JoinError.{JoinError}
 use Rattle.font_join.specs.declared.join_error.JoinError.TheVariants.{DifferentGlyph, DifferentMapping, DifferentTable, Font, NoMemory, NotACut, TooLarge}
-use Rattle.font_join.proofs.JoinLemmas.{joinable, least_upper, only_size, small_join}
+use Rattle.font_join.proofs.JoinLemmas.{font_accepted, joinable, least_upper, only_size, small_join}
 
 pub file_at-map : {X : Type 0} (f : X → List ℕ) (xs : List X) (k : ℕ) (d : X) → k < length xs → f (get_or xs k d) ≡ file_at (map f xs) k
 file_at-map f xs k d low = sym (get_or-map f xs k d [] low)
@@ -30,7 +30,7 @@ pub result_cases : {T E : Type 0} (P : T → Type 0) (Q : E → Type 0) (r : Res
 result_cases P Q (Ok x) a b = a
 result_cases P Q (Err e) a b = b
 
-module _ {R : Format} {spelled : Content → Content} (kind : IsKind R spelled) where
+module _ {R : Format} {fault : List ℕ → Option FontError} {font : List ℕ → FontRead} {spelled : Content → Content} (kind : IsKind R fault font spelled) where
   -- a size that is no more than the program's is no more than the format's
   to_most : (b : List ℕ) → length b ≤ MAX_FILE → length b ≤ R.limit
   to_most b small = subst (λ (n : ℕ). length b ≤ n) (sym kind.limit) small
@@ -78,10 +78,10 @@ module _ {R : Format} {spelled : Content → Content} (kind : IsKind R spelled) 
     same_of_tree z all forms t over few =
         Value-grown_same R kind.law files all.some z (Value-stands (length files) z all.stands) (to_most z (small_joined z all)) forms t over few
 
-    pub value_of_cuts : (z : List ℕ) → IsAllJoined R files z → (F : List ℕ) → font_fault F ≡ None → (t : JoinTree (ℕ → Bool)) → IsOver files (cuts R F t) → IsSmall R (cuts R F t)
+    pub value_of_cuts : (z : List ℕ) → IsAllJoined R files z → (F : List ℕ) → R.fault F ≡ None → (t : JoinTree (ℕ → Bool)) → IsOver files (cuts R F t) → IsSmall R (cuts R F t)
         → Value R (cuts R F t) z
     value_of_cuts z all F accepted t over few =
-        Value-grown_cuts R kind.law files all.some z (Value-stands (length files) z all.stands) (to_most z (small_joined z all)) F (kind.fault F ∙ accepted) t over few
+        Value-grown_cuts R kind.law files all.some z (Value-stands (length files) z all.stands) (to_most z (small_joined z all)) F accepted t over few
 
     -- a difference met in turn is met in each tree
     clash_at : (k : ℕ) (error : JoinError) → IsRefusedAt R files k error → ((n : ℕ) → IsForSize n error → ⊥)
@@ -91,7 +91,7 @@ module _ {R : Format} {spelled : Content → Content} (kind : IsKind R spelled) 
         let some : 0 < length files = omega arith in
         let x = r.before in
         let form = stands_cut k x (forms 0 some) r.stands in
-        let small : length x ≤ MAX_FILE = size-accepted x (sym (kind.fault x) ∙ form.accepted) in
+        let small : length x ≤ MAX_FILE = size-accepted x (font_accepted kind x form.accepted) in
         Differs-grown R kind.law files forms k low x (Value-stands k x r.stands) (to_most x small)
         (λ agree. other _ (only_size kind x (file_at files k) (record { first = form; second = forms k low; agree = agree }) error r.refused)) t over few
 
@@ -116,13 +116,13 @@ module _ {R : Format} {spelled : Content → Content} (kind : IsKind R spelled) 
         where
           go : (n : ℕ) → n ≡ length files → Stands R files n z → z ≡ cut R F (union_below A n)
           go zero e s = let h = all.some in absurd (omega arith)
-          go (suc n) e s = grown-cuts R kind.law files F (kind.fault F ∙ are.accepted) A are.cuts most n (omega (arith, e)) z (Value-stands (suc n) z s)
+          go (suc n) e s = grown-cuts R kind.law files F are.accepted A are.cuts most n (omega (arith, e)) z (Value-stands (suc n) z s)
 
       cuts_refused_at : (k : ℕ) (error : JoinError) → IsRefusedAt R files k error → IsForSize (length (cut R F (union_below A (suc k)))) error
       cuts_refused_at k error r =
           let low = r.below in
           let some : 0 < length files = omega arith in
-          let w = grown-joins R kind.law files F (kind.fault F ∙ are.accepted) A are.cuts most k low r.before (Value-stands k r.before r.stands)
+          let w = grown-joins R kind.law files F are.accepted A are.cuts most k low r.before (Value-stands k r.before r.stands)
           (to_most r.before (stands_small k r.before (are.small 0 some) r.stands)) in
           subst (λ (b : List ℕ). IsForSize (length b) error) w.1 (only_size kind r.before (file_at files k) w.0 error r.refused)
 

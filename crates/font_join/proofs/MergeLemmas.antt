@@ -12,98 +12,103 @@ use Rattle.sfnt_bytes.specs.declared.tag.TheConstants.{HMTX, VMTX}
 use Rattle.font_tables.specs.Fields.{glyph_count_of}
 use Rattle.codes.specs.CharacterMap.{AreCompatible, united}
 use Rattle.font_glyph.specs.Union.{union_of}
-use Rattle.font_file.specs.Font.{font_fault}
 use Rattle.font_theory.specs.Content.{Content, IsClosedContent, content, everything, font_of, glyph_count}
-use Rattle.font_theory.specs.Cut.{Arises, IsCurrent, IsCut, our_format, content_of_all}
+use Rattle.font_theory.specs.Cut.{Arises, IsCut, our_format, content_of_all}
 use Rattle.font_theory.specs.Cut.Arises.{of_file, of_two}
 use Rattle.font_theory.specs.Difference.{difference, is_different_glyph}
 use Rattle.font_theory.specs.Join.{Agree, both}
-use Rattle.font_theory.specs.Lean.{either_bytes, lean_format, spelled_copied, spelled_out}
+use Rattle.font_theory.specs.Lean.{either_bytes, spelled_copied, spelled_out}
 use Rattle.font_theory.specs.declared.Difference.TheVariants.{AtGlyph}
 use Rattle.font_theory.proofs.ArisesLemmas.{IsClosed-arises}
-use Rattle.font_theory.proofs.CutLemmas.{IsCut-current}
 use Rattle.font_theory.proofs.DifferenceLemmas.{Agree-from_none}
-use Rattle.font_theory.proofs.FontLemmas.{glyph_count-file}
 use Rattle.font_theory.proofs.LeanAgreeLemmas.{union-lean}
 use Rattle.font_theory.proofs.LeanCopiedLemmas.{AreAlike-spelled, glyph_count-alike}
-use Rattle.font_theory.proofs.LeanFileLemmas.{IsCurrent-full, content_of_all-full}
+use Rattle.font_theory.proofs.LeanLemmas.{IsLean}
+use Rattle.font_subset.proofs.SourceLemmas.{count_as}
 use Rattle.font_theory.proofs.KindLemmas.{kind_is}
-use Rattle.font_theory.specs.Kinds.{format_of, spelled_by}
+use Rattle.font_theory.specs.Kinds.{fault_of, font_as, format_of, spelled_by, tables_as}
 use Rattle.font_theory.specs.declared.kinds.Kind.{Kind}
-use Rattle.font_theory.specs.declared.kinds.Kind.TheVariants.{Full, Lean}
-use Rattle.font_subset.proofs.ContentOfAllLemmas.{our_format-whole}
+use Rattle.font_theory.specs.declared.kinds.Kind.TheVariants.{Full, Layout, Lean}
 use Rattle.map_union.specs.RunLists.{TwoLists, map_in}
 use Rattle.font_join.specs.Inside.{AreTaken, early_difference}
 use Rattle.font_join.specs.KindInside.{HasBlanks, IsUnion, SpellsIn, blanked, compared, has_other_metrics, least_of, metrics_told, own_in}
-use Rattle.font_join.specs.Union.{Held, content_in, is_other, listed_outline, tables_in}
+use Rattle.font_join.specs.Union.{Held, content_in, is_other, listed_outline, replaced, tables_in}
 use Rattle.font_join.proofs.AddFaultLemmas.{difference-late}
 use Rattle.font_join.proofs.LeanGlyphLemmas.{glyphs_told}
-use Rattle.font_join.proofs.LeanTableLemmas.{Tables, blank-across, blank-down, closed_spelled, count_of_replaced, early_spelled, lean_thin, replaced_copied, replaced_hmtx, replaced_is, replaced_vmtx}
+use Rattle.font_join.proofs.LeanTableLemmas.{Tables, blank-across, blank-down, closed_spelled, count_of_replaced, early_spelled, layout_thin, lean_thin, replaced_copied, replaced_hmtx, replaced_is, replaced_vmtx}
 use Rattle.font_join.proofs.OutlineListLemmas.{taken_whole}
 
--- a lean cut has one form
-current_lean : (y : List ℕ) → IsCut lean_format y → IsCurrent lean_format y
-unfolding lean_format
-current_lean y form = record { accepted = form.accepted; written = elim form.written [ inl e ↦ e | inr e ↦ e ] }
-
 -- a cut of a kind is read as what is spelled of its content
-pub accepted_in : (k : Kind) (y : List ℕ) → IsCut (format_of k) y → font_fault y ≡ None
-accepted_in k y form = sym ((kind_is k).fault y) ∙ form.accepted
+pub accepted_in : (k : Kind) (y : List ℕ) → IsCut (format_of k) y → fault_of k y ≡ None
+accepted_in k y form = sym ((kind_is k).fault_is y) ∙ form.accepted
 
-spelled_file : (k : Kind) (y : List ℕ) → IsCut (format_of k) y → content (font_of y) everything ≡ spelled_by k (content_of_all (format_of k) y)
-spelled_file Full y form = sym (our_format-whole y)
-spelled_file Lean y form = sym (our_format-whole y) ∙ content_of_all-full y (current_lean y form)
-
-pub spells_file : (k : Kind) (y : List ℕ) → IsCut (format_of k) y → SpellsIn k (content (font_of y) everything) (content_of_all (format_of k) y)
-spells_file k y form = record { arises = of_file y everything form.accepted refl; is = spelled_file k y form }
-
-pub full_form : (k : Kind) (y : List ℕ) → IsCut (format_of k) y → IsCut our_format y
-full_form Full y form = form
-full_form Lean y form = IsCut-current our_format y (IsCurrent-full y (current_lean y form))
+pub spells_file : (k : Kind) (y : List ℕ) → IsCut (format_of k) y → SpellsIn k (content (font_as k y) everything) (content_of_all (format_of k) y)
+spells_file k y form = record { arises = of_file y everything form.accepted refl; is = (kind_is k).means y form }
 
 -- what is the same in a content and in what it is written as
 pub count_in : (k : Kind) (c : Tables) (h v : Option (List ℕ)) → glyph_count (tables_in k c h v) ≡ glyph_count c
 count_in Full c h v = refl
 count_in Lean c h v = count_of_replaced c h v
+count_in Layout c h v = count_of_replaced c h v
 
-pub lean_hmtx : (k : Kind) (c : Tables) (h v : Option (List ℕ)) (slot : ℕ) → k ≡ Lean → slot ≡ HMTX → h ≡ tables_in k c h v slot
-lean_hmtx k c h v slot lean e = replaced_hmtx c h v slot e ∙ ap (λ (q : Kind). tables_in q c h v slot) (sym lean)
+pub own_hmtx : (k : Kind) (c : Tables) (h v : Option (List ℕ)) (slot : ℕ) → k ≢ Full → slot ≡ HMTX → h ≡ tables_in k c h v slot
+own_hmtx Full c h v slot other e = absurd (other refl)
+own_hmtx Lean c h v slot other e = replaced_hmtx c h v slot e
+own_hmtx Layout c h v slot other e = replaced_hmtx c h v slot e
 
-pub lean_vmtx : (k : Kind) (c : Tables) (h v : Option (List ℕ)) (slot : ℕ) → k ≡ Lean → slot ≡ VMTX → v ≡ tables_in k c h v slot
-lean_vmtx k c h v slot lean e = replaced_vmtx c h v slot e ∙ ap (λ (q : Kind). tables_in q c h v slot) (sym lean)
+pub own_vmtx : (k : Kind) (c : Tables) (h v : Option (List ℕ)) (slot : ℕ) → k ≢ Full → slot ≡ VMTX → v ≡ tables_in k c h v slot
+own_vmtx Full c h v slot other e = absurd (other refl)
+own_vmtx Lean c h v slot other e = replaced_vmtx c h v slot e
+own_vmtx Layout c h v slot other e = replaced_vmtx c h v slot e
 
-pub lean_copied : (k : Kind) (c : Tables) (h v : Option (List ℕ)) (slot : ℕ) → k ≡ Lean → slot ≢ HMTX → slot ≢ VMTX → c slot ≡ tables_in k c h v slot
-lean_copied k c h v slot lean a b = replaced_copied c h v slot a b ∙ ap (λ (q : Kind). tables_in q c h v slot) (sym lean)
+pub own_copied : (k : Kind) (c : Tables) (h v : Option (List ℕ)) (slot : ℕ) → slot ≢ HMTX → slot ≢ VMTX → c slot ≡ tables_in k c h v slot
+own_copied Full c h v slot a b = refl
+own_copied Lean c h v slot a b = replaced_copied c h v slot a b
+own_copied Layout c h v slot a b = replaced_copied c h v slot a b
+
+pub full_copied : (k : Kind) (c : Tables) (h v : Option (List ℕ)) (slot : ℕ) → k ≡ Full → c slot ≡ tables_in k c h v slot
+full_copied k c h v slot full = ap (λ (q : Kind). tables_in q c h v slot) (sym full)
 
 count_spelled : (k : Kind) (K : Content) → glyph_count (spelled_by k K).copied ≡ glyph_count K.copied
 count_spelled Full K = refl
 count_spelled Lean K = glyph_count-alike K.copied (spelled_copied K) (AreAlike-spelled K)
+count_spelled Layout K = glyph_count-alike K.copied (spelled_copied K) (AreAlike-spelled K)
 
 map_spelled : (k : Kind) (K : Content) → (spelled_by k K).map ≡ K.map
 map_spelled Full K = refl
 map_spelled Lean K = refl
+map_spelled Layout K = refl
 
 head_spelled : (k : Kind) (K : Content) → (spelled_by k K).head ≡ K.head
 head_spelled Full K = refl
 head_spelled Lean K = refl
+head_spelled Layout K = refl
 
 -- what the union of two contents is written as
 both_spelled : (k : Kind) (K L : Content) → Arises (format_of k) K → Agree K L → (spelled_by k (both K L)).outline ≡ union_of (spelled_by k K).outline (spelled_by k L).outline
 both_spelled Full K L arises agree = refl
 both_spelled Lean K L arises agree = (union-lean K L (lean_thin.lean K arises) agree).1
+both_spelled Layout K L arises agree = (union-lean K L (layout_thin.lean K arises) agree).1
+
+thin_both : (c : Tables) (h v p q : Option (List ℕ)) (K L : Content) → IsLean K → Agree K L → replaced c h v ≡ spelled_copied K
+    → p ≡ option_map (λ t. either_bytes t (unwrap_or ((spelled_out L).copied HMTX) [])) h → q ≡ option_map (λ t. either_bytes t (unwrap_or ((spelled_out L).copied VMTX) [])) v
+    → replaced c p q ≡ spelled_copied (both K L)
+thin_both c h v p q K L lean agree is across down = replaced_is c p q (spelled_copied (both K L))
+    (across ∙ (λ i. option_map (λ t. either_bytes t (unwrap_or ((spelled_out L).copied HMTX) [])) ((replaced_hmtx c h v HMTX refl ∙ ap (λ (t : Tables). t HMTX) is) i)) ∙ sym (union-lean K L lean agree).3)
+    (down ∙ (λ i. option_map (λ t. either_bytes t (unwrap_or ((spelled_out L).copied VMTX) [])) ((replaced_vmtx c h v VMTX refl ∙ ap (λ (t : Tables). t VMTX) is) i)) ∙ sym (union-lean K L lean agree).4)
+    (λ slot a b. replaced_copied c h v slot a b ∙ ap (λ (t : Tables). t slot) is ∙ sym ((union-lean K L lean agree).2 slot a b))
 
 tables_both : (k : Kind) (c : Tables) (h v p q : Option (List ℕ)) (K L : Content) → Arises (format_of k) K → Agree K L → tables_in k c h v ≡ (spelled_by k K).copied
     → p ≡ option_map (λ t. either_bytes t (unwrap_or ((spelled_by k L).copied HMTX) [])) h → q ≡ option_map (λ t. either_bytes t (unwrap_or ((spelled_by k L).copied VMTX) [])) v
     → tables_in k c p q ≡ (spelled_by k (both K L)).copied
 tables_both Full c h v p q K L arises agree is across down = is
-tables_both Lean c h v p q K L arises agree is across down = replaced_is c p q (spelled_copied (both K L))
-    (across ∙ (λ i. option_map (λ t. either_bytes t (unwrap_or ((spelled_out L).copied HMTX) [])) ((replaced_hmtx c h v HMTX refl ∙ ap (λ (t : Tables). t HMTX) is) i)) ∙ sym (union-lean K L (lean_thin.lean K arises) agree).3)
-    (down ∙ (λ i. option_map (λ t. either_bytes t (unwrap_or ((spelled_out L).copied VMTX) [])) ((replaced_vmtx c h v VMTX refl ∙ ap (λ (t : Tables). t VMTX) is) i)) ∙ sym (union-lean K L (lean_thin.lean K arises) agree).4)
-    (λ slot a b. replaced_copied c h v slot a b ∙ ap (λ (t : Tables). t slot) is ∙ sym ((union-lean K L (lean_thin.lean K arises) agree).2 slot a b))
+tables_both Lean c h v p q K L arises agree is across down = thin_both c h v p q K L (lean_thin.lean K arises) agree is across down
+tables_both Layout c h v p q K L arises agree is across down = thin_both c h v p q K L (layout_thin.lean K arises) agree is across down
 
 pub closed_in : (k : Kind) (C K : Content) → SpellsIn k C K → IsClosedContent C
 closed_in Full C K h = subst IsClosedContent (sym h.is) (IsClosed-arises our_format (kind_is Full).law.is_font K h.arises)
 closed_in Lean C K h = closed_spelled lean_thin C K h
+closed_in Layout C K h = closed_spelled layout_thin C K h
 
 -- the lengths of tables
 length_either : (x y : List ℕ) → length (either_bytes x y) ≡ length x
@@ -133,19 +138,24 @@ agree_tested k C K y h form none = Agree-from_none K (content_of_all (format_of 
 pub compared_full : (k : Kind) (C D : Content) → k ≡ Full → early_difference C D ≡ early_difference (compared k C) (compared k D)
 compared_full k C D full = ap (λ (q : Kind). early_difference (compared q C) (compared q D)) (sym full)
 
-pub compared_lean : (k : Kind) (C D : Content) → k ≡ Lean → early_difference (blanked C) (blanked D) ≡ early_difference (compared k C) (compared k D)
-compared_lean k C D lean = ap (λ (q : Kind). early_difference (compared q C) (compared q D)) (sym lean)
+pub compared_other : (k : Kind) (C D : Content) → k ≢ Full → early_difference (blanked C) (blanked D) ≡ early_difference (compared k C) (compared k D)
+compared_other Full C D other = absurd (other refl)
+compared_other Lean C D other = refl
+compared_other Layout C D other = refl
 
 pub metrics_full : (k : Kind) (C D : Content) → k ≡ Full → None ≡ metrics_told k C D
 metrics_full k C D full = ap (λ (q : Kind). metrics_told q C D) (sym full)
 
-pub metrics_lean : (k : Kind) (C D : Content) → k ≡ Lean → find (has_other_metrics C D) (range_with_len 0 (glyph_count C.copied)) ≡ metrics_told k C D
-metrics_lean k C D lean = ap (λ (q : Kind). metrics_told q C D) (sym lean)
+pub metrics_other : (k : Kind) (C D : Content) → k ≢ Full → find (has_other_metrics C D) (range_with_len 0 (glyph_count C.copied)) ≡ metrics_told k C D
+metrics_other Full C D other = absurd (other refl)
+metrics_other Lean C D other = refl
+metrics_other Layout C D other = refl
 
 -- what tells two contents apart before their glyphs do
 pub early_told : (k : Kind) (C D K L : Content) → SpellsIn k C K → SpellsIn k D L → early_difference (compared k C) (compared k D) ≡ early_difference K L
 early_told Full C D K L h g = λ i. early_difference (h.is i) (g.is i)
 early_told Lean C D K L h g = early_spelled lean_thin C D K L h g
+early_told Layout C D K L h g = early_spelled layout_thin C D K L h g
 
 -- and in a glyph: the first with other metrics, where these are compared, or another outline
 pub told_merged : (k : Kind) (C D K L : Content) → SpellsIn k C K → SpellsIn k D L → early_difference K L ≡ None → (other metrics : Option ℕ) (n : ℕ) → n ≡ glyph_count C.copied
@@ -159,6 +169,8 @@ told_merged Full C D K L h g early other metrics n count outlines told =
     ∙ ap (λ (m : Option ℕ). option_map AtGlyph (least_of m other)) (sym told)
 told_merged Lean C D K L h g early other metrics n count outlines told =
     glyphs_told lean_thin C D K L h g early other metrics n count outlines (told ∙ ap (λ (m : ℕ). find (has_other_metrics C D) (range_with_len 0 m)) (sym count))
+told_merged Layout C D K L h g early other metrics n count outlines told =
+    glyphs_told layout_thin C D K L h g early other metrics n count outlines (told ∙ ap (λ (m : ℕ). find (has_other_metrics C D) (range_with_len 0 m)) (sym count))
 
 pub form_of : (u v : Held) → u ≡ v → (y : List ℕ) → IsCut (format_of v.kind) y → IsCut (format_of u.kind) y
 form_of u v same y cut = subst (λ (w : Held). IsCut (format_of w.kind) y) (sym same) cut
@@ -167,14 +179,14 @@ form_of u v same y cut = subst (λ (w : Held). IsCut (format_of w.kind) y) (sym 
 module _ (u v : Held) (same : u ≡ v) (y : List ℕ) (cut : IsCut (format_of v.kind) y)
     (early : (M : Content) → SpellsIn v.kind (content_in v) M → early_difference M (content_of_all (format_of v.kind) y) ≡ None)
     (K : Content) (spells : SpellsIn u.kind (content_in u) K) (n : ℕ) (count : n ≡ glyph_count_of u.tables) (other metrics : Option ℕ)
-    (differs : other ≡ find (is_other (listed_outline u.outlines) (content (font_of y) everything).outline) (range_with_len 0 n))
-    (measured : metrics ≡ metrics_told v.kind (content_in v) (content (font_of y) everything)) where
+    (differs : other ≡ find (is_other (listed_outline u.outlines) (content (font_as u.kind y) everything).outline) (range_with_len 0 n))
+    (measured : metrics ≡ metrics_told v.kind (content_in v) (content (font_as u.kind y) everything)) where
   pub told_of : difference K (content_of_all (format_of u.kind) y) ≡ option_map AtGlyph (least_of metrics other)
   told_of =
-      told_merged u.kind (content_in u) (content (font_of y) everything) K (content_of_all (format_of u.kind) y) spells (spells_file u.kind y (form_of u v same y cut))
+      told_merged u.kind (content_in u) (content (font_as u.kind y) everything) K (content_of_all (format_of u.kind) y) spells (spells_file u.kind y (form_of u v same y cut))
       (subst (λ (w : Held). (M : Content) → SpellsIn w.kind (content_in w) M → early_difference M (content_of_all (format_of w.kind) y) ≡ None) (sym same) early K spells)
-      other metrics n (count ∙ sym (glyph_count-file u.tables) ∙ sym (count_in u.kind (font_of u.tables).copied u.hmtx u.vmtx)) differs
-      (subst (λ (w : Held). metrics ≡ metrics_told w.kind (content_in w) (content (font_of y) everything)) (sym same) measured)
+      other metrics n (count ∙ count_as u.kind u.tables ∙ sym (count_in u.kind (tables_as u.kind u.tables) u.hmtx u.vmtx)) differs
+      (subst (λ (w : Held). metrics ≡ metrics_told w.kind (content_in w) (content (font_as u.kind y) everything)) (sym same) measured)
 
   pub none_of : least_of metrics other ≡ None → difference K (content_of_all (format_of u.kind) y) ≡ None
   none_of least = told_of ∙ ap (option_map AtGlyph) least
@@ -189,13 +201,17 @@ blanks_kept Lean C D K M blanks h g same are = record {
   across = are.across ∙ blank-across lean_thin C K h ∙ ap (λ (c : Tables). c HMTX) same ∙ sym (blank-across lean_thin D M g);
   down = are.down ∙ blank-down lean_thin C K h ∙ ap (λ (c : Tables). c VMTX) same ∙ sym (blank-down lean_thin D M g);
 }
+blanks_kept Layout C D K M blanks h g same are = record {
+  across = are.across ∙ blank-across layout_thin C K h ∙ ap (λ (c : Tables). c HMTX) same ∙ sym (blank-across layout_thin D M g);
+  down = are.down ∙ blank-down layout_thin C K h ∙ ap (λ (c : Tables). c VMTX) same ∙ sym (blank-down layout_thin D M g);
+}
 
 module _ (u : Held) (y : List ℕ) (K : Content) (spells : SpellsIn u.kind (content_in u) K) (form : IsCut (format_of u.kind) y) (agree : Agree K (content_of_all (format_of u.kind) y)) where
   abbrev L : Content
   L = content_of_all (format_of u.kind) y
 
   abbrev D : Content
-  D = content (font_of y) everything
+  D = content (font_as u.kind y) everything
 
   second : SpellsIn u.kind D L
   second = spells_file u.kind y form
@@ -209,15 +225,15 @@ module _ (u : Held) (y : List ℕ) (K : Content) (spells : SpellsIn u.kind (cont
   pub compatible : AreCompatible (map_in u.runs) D.map
   compatible = subst (λ (m : ℕ → ℕ). AreCompatible m D.map) (sym map_first) (subst (λ (m : ℕ → ℕ). AreCompatible K.map m) (sym map_second) agree.map)
 
-  count_merged : glyph_count_of u.tables ≡ glyph_count (font_of y).copied
+  count_merged : glyph_count_of u.tables ≡ glyph_count (tables_as u.kind y)
   count_merged =
-      sym (glyph_count-file u.tables) ∙ sym (count_in u.kind (font_of u.tables).copied u.hmtx u.vmtx) ∙ ap (λ (C : Content). glyph_count C.copied) spells.is
+      count_as u.kind u.tables ∙ sym (count_in u.kind (tables_as u.kind u.tables) u.hmtx u.vmtx) ∙ ap (λ (C : Content). glyph_count C.copied) spells.is
       ∙ count_spelled u.kind K ∙ ap glyph_count (fun_ext agree.copied)
       ∙ sym (count_spelled u.kind L) ∙ sym (ap (λ (C : Content). glyph_count C.copied) second.is)
 
   pub taken_merged : (outlines : List (Option (List ℕ))) (n : ℕ) → n ≡ glyph_count_of u.tables → length u.outlines ≡ glyph_count_of u.tables → AreTaken u.outlines outlines D.outline n
       → (g : ℕ) → listed_outline outlines g ≡ union_of (listed_outline u.outlines) D.outline g
-  taken_merged outlines n e size are = taken_whole u.outlines outlines y n (full_form u.kind y form) (e ∙ count_merged) (size ∙ sym e) are
+  taken_merged outlines n e size are = taken_whole u.outlines outlines u.kind y n form (e ∙ count_merged) (size ∙ sym e) are
 
   module _ (runs : TwoLists) (outlines : List (Option (List ℕ))) (hmtx vmtx : Option (List ℕ)) (maps : map_in runs ≡ united (map_in u.runs) D.map)
       (taken : (g : ℕ) → listed_outline outlines g ≡ union_of (listed_outline u.outlines) D.outline g)
@@ -226,7 +242,7 @@ module _ (u : Held) (y : List ℕ) (K : Content) (spells : SpellsIn u.kind (cont
     merged = record { kind = u.kind; tables = u.tables; runs = runs; outlines = outlines; hmtx = hmtx; vmtx = vmtx }
 
     tables_merged : (content_in merged).copied ≡ (spelled_by u.kind (both K L)).copied
-    tables_merged = tables_both u.kind (font_of u.tables).copied u.hmtx u.vmtx hmtx vmtx K L spells.arises agree (ap (λ (C : Content). C.copied) spells.is)
+    tables_merged = tables_both u.kind (tables_as u.kind u.tables) u.hmtx u.vmtx hmtx vmtx K L spells.arises agree (ap (λ (C : Content). C.copied) spells.is)
         (across ∙ (λ i. option_map (λ t. either_bytes t (unwrap_or ((second.is i).copied HMTX) [])) u.hmtx))
         (down ∙ (λ i. option_map (λ t. either_bytes t (unwrap_or ((second.is i).copied VMTX) [])) u.vmtx))
 
@@ -247,7 +263,6 @@ module _ (u : Held) (y : List ℕ) (K : Content) (spells : SpellsIn u.kind (cont
 
     pub union_merged : (blanks : Option (List ℕ) × Option (List ℕ)) → IsUnion u blanks → length outlines ≡ length u.outlines → IsUnion merged blanks
     union_merged blanks ok count = record {
-      accepted = ok.accepted;
       count = count ∙ ok.count;
       whole = both K L;
       spells = spells_merged;
@@ -260,29 +275,30 @@ module _ (u : Held) (y : List ℕ) (K : Content) (spells : SpellsIn u.kind (cont
 tables_of_first : (k : Kind) (c : Tables) (h v : Option (List ℕ)) → h ≡ own_in k (c HMTX) → v ≡ own_in k (c VMTX) → tables_in k c h v ≡ c
 tables_of_first Full c h v across down = refl
 tables_of_first Lean c h v across down = replaced_is c h v c across down (λ slot a b. refl)
+tables_of_first Layout c h v across down = replaced_is c h v c across down (λ slot a b. refl)
 
 pub small_own : {X : Type 0} (k : Kind) (bytes : X → List ℕ) (o : Option X) (p : Option (List ℕ)) → p ≡ own_in k (option_map bytes o) → MatchOption o (Unit {0}) (λ x. length (bytes x) ≤ MAX_FILE) → length (unwrap_or p []) ≤ MAX_FILE
 small_own Full bytes o p e h = subst (λ (q : Option (List ℕ)). length (unwrap_or q []) ≤ MAX_FILE) (sym e) (omega arith)
 small_own Lean bytes o p e h = small_copied bytes o p e h
+small_own Layout bytes o p e h = small_copied bytes o p e h
 
-module _ (k : Kind) (x : List ℕ) (form : IsCut (format_of k) x) (runs : TwoLists) (outlines : List (Option (List ℕ))) (hmtx vmtx : Option (List ℕ)) (spells : map_in runs ≡ (content (font_of x) everything).map)
-    (taken : (g : ℕ) → listed_outline outlines g ≡ (content (font_of x) everything).outline g) (across : hmtx ≡ own_in k ((font_of x).copied HMTX)) (down : vmtx ≡ own_in k ((font_of x).copied VMTX)) where
+module _ (k : Kind) (x : List ℕ) (form : IsCut (format_of k) x) (runs : TwoLists) (outlines : List (Option (List ℕ))) (hmtx vmtx : Option (List ℕ)) (spells : map_in runs ≡ (content (font_as k x) everything).map)
+    (taken : (g : ℕ) → listed_outline outlines g ≡ (content (font_as k x) everything).outline g) (across : hmtx ≡ own_in k (tables_as k x HMTX)) (down : vmtx ≡ own_in k (tables_as k x VMTX)) where
   abbrev of_one : Held
   of_one = record { kind = k; tables = x; runs = runs; outlines = outlines; hmtx = hmtx; vmtx = vmtx }
 
-  tables_first : (content_in of_one).copied ≡ (font_of x).copied
-  tables_first = tables_of_first k (font_of x).copied hmtx vmtx across down
+  tables_first : (content_in of_one).copied ≡ tables_as k x
+  tables_first = tables_of_first k (tables_as k x) hmtx vmtx across down
 
-  content_first : content_in of_one ≡ content (font_of x) everything
+  content_first : content_in of_one ≡ content (font_as k x) everything
   content_first = λ i. record { copied = tables_first i; head = (font_of x).head; map = spells i; outline = fun_ext taken i }
 
   pub spells_first : SpellsIn k (content_in of_one) (content_of_all (format_of k) x)
   spells_first = record { arises = (spells_file k x form).arises; is = content_first ∙ (spells_file k x form).is }
 
-  pub union_first : (blanks : Option (List ℕ) × Option (List ℕ)) → HasBlanks k (content (font_of x) everything).copied blanks → length outlines ≡ glyph_count_of x → length (unwrap_or hmtx []) ≤ MAX_FILE → length (unwrap_or vmtx []) ≤ MAX_FILE
+  pub union_first : (blanks : Option (List ℕ) × Option (List ℕ)) → HasBlanks k (content (font_as k x) everything).copied blanks → length outlines ≡ glyph_count_of x → length (unwrap_or hmtx []) ≤ MAX_FILE → length (unwrap_or vmtx []) ≤ MAX_FILE
       → IsUnion of_one blanks
   union_first blanks are count h v = record {
-    accepted = accepted_in k x form;
     count = count;
     whole = content_of_all (format_of k) x;
     spells = spells_first;

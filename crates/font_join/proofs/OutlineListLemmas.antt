@@ -11,10 +11,13 @@ use Rattle.font_theory.specs.Bytes.{padded}
 use Rattle.std.proofs.lemmas.Bool.{cases_eq, cases_lt}
 use Rattle.sfnt_bytes.specs.declared.directory.TheConstants.{MAX_FILE}
 use Rattle.font_glyph.specs.Union.{Records, union_of}
-use Rattle.font_theory.specs.Content.{content, everything, font_of, glyph_count}
-use Rattle.font_theory.specs.Cut.{IsCut, our_format}
-use Rattle.font_theory.proofs.CutLemmas.{IsClosed-whole}
-use Rattle.font_theory.proofs.OurFormatLemmas.{our_format-is}
+use Rattle.font_theory.specs.Content.{content, everything, glyph_count}
+use Rattle.font_theory.specs.Cut.{IsCut}
+use Rattle.font_theory.specs.Kinds.{font_as, format_of, tables_as}
+use Rattle.font_theory.specs.declared.kinds.Kind.{Kind}
+use Rattle.font_theory.proofs.ContentLemmas.{IsClosed-content}
+use Rattle.font_theory.proofs.KindLemmas.{kind_is}
+use Rattle.font_subset.proofs.SourceLemmas.{is_font}
 use Rattle.font_theory.proofs.WritableLemmas.{IsWritable-closed}
 use Rattle.font_join.specs.Union.{AreCounted, AreSmall, is_other, listed_outline, outlines_length}
 use Rattle.font_join.specs.Inside.{AreTaken}
@@ -132,13 +135,12 @@ other_end K L n m k past end below = sym (first_absent (is_other K L) m (λ g lo
 ]))
 
 -- a file in cut form keeps no glyph past its count
-pub whole_past : (X : List ℕ) → IsCut our_format X → (g : ℕ) → glyph_count (font_of X).copied ≤ g → (content (font_of X) everything).outline g ≡ None
-unfolding our_format
-whole_past X form g h = (IsWritable-closed _ (IsClosed-whole our_format our_format-is X form.accepted)).past g h
+pub whole_past : (kind : Kind) (X : List ℕ) → IsCut (format_of kind) X → (g : ℕ) → glyph_count (tables_as kind X) ≤ g → (content (font_as kind X) everything).outline g ≡ None
+whole_past kind X form g h = (IsWritable-closed _ (IsClosed-content (font_as kind X) everything (is_font kind X (sym ((kind_is kind).fault_is X) ∙ form.accepted)))).past g h
 
-pub taken_whole : (old now : List (Option (List ℕ))) (X : List ℕ) (n : ℕ) → IsCut our_format X → n ≡ glyph_count (font_of X).copied → length old ≡ n → AreTaken old now (content (font_of X) everything).outline n
-    → (g : ℕ) → listed_outline now g ≡ union_of (listed_outline old) (content (font_of X) everything).outline g
-taken_whole old now X n form e count are = taken_all old now (content (font_of X) everything).outline n are count (λ g h. whole_past X form g (omega (arith, h, e)))
+pub taken_whole : (old now : List (Option (List ℕ))) (kind : Kind) (X : List ℕ) (n : ℕ) → IsCut (format_of kind) X → n ≡ glyph_count (tables_as kind X) → length old ≡ n → AreTaken old now (content (font_as kind X) everything).outline n
+    → (g : ℕ) → listed_outline now g ≡ union_of (listed_outline old) (content (font_as kind X) everything).outline g
+taken_whole old now kind X n form e count are = taken_all old now (content (font_as kind X) everything).outline n are count (λ g h. whole_past kind X form g (omega (arith, h, e)))
 
 pub outline_none : {X : Type 0} (f : X → Option (List ℕ)) (x : X) → f x ≡ None → (n g : ℕ) → listed_outline (map f (replicate n x)) g ≡ None
 outline_none f x e zero g = refl

@@ -1,11 +1,12 @@
 -- The union of cuts of one kind that are joined in turn: what it holds, and why a file is not added.
-use Rattle.std.proofs.Common.{◌≡◌, ℕ, zero, suc, ◌+◌, ◌-◌, ◌≤◌, ◌<◌, inl, not, List, [], ◌∷◌, length, None, Some, refl, sym, ap, ◌∙◌, subst, arith}
+use Rattle.std.proofs.Common.{◌≡◌, ℕ, zero, suc, ◌+◌, ◌-◌, ◌≤◌, ◌<◌, inl, List, [], ◌∷◌, length, Option, None, Some, refl, sym, ap, ◌∙◌, subst, arith}
 use Rattle.std.specs.Option.{option_map}
-use Rattle.sfnt_bytes.specs.Lines.{first_of_lines, when}
+use Rattle.sfnt_bytes.specs.Lines.{first_of_lines}
 use Rattle.sfnt_bytes.specs.declared.directory.TheConstants.{MAX_FILE}
 use Rattle.font_file.specs.Font.{font_fault}
-use Rattle.font_theory.specs.Content.{Content, everything}
-use Rattle.font_theory.specs.Cut.{Arises, Format, IsCut, is_cut, content_of_all}
+use Rattle.font_file.specs.declared.font_error.FontError.{FontError}
+use Rattle.font_theory.specs.Content.{Content, Font as FontRead, everything}
+use Rattle.font_theory.specs.Cut.{Arises, Format, IsCut, content_of_all}
 use Rattle.font_theory.specs.Cut.Arises.{of_file, of_two}
 use Rattle.font_theory.specs.Difference.{difference}
 use Rattle.font_theory.specs.File.{file, current_writing}
@@ -17,25 +18,36 @@ use Rattle.font_theory.proofs.RefusalLemmas.{tested-CanJoin}
 use Rattle.font_write.specs.WholeFile.{IsFileRefusal, IsWritten}
 use Rattle.font_write.specs.declared.whole_file.FileError.{FileError}
 use Rattle.font_write.specs.declared.whole_file.FileError.TheVariants as file_errors
-use Rattle.font_theory.specs.Kinds.{IsKind}
-use Rattle.font_join.specs.Inside.{HoldsFile, IsAddRefusal, IsFirstUnion, IsFormRefusal, IsTooLargeFile, IsUnited, Spells, add_fault}
-use Rattle.font_join.specs.Join.{IsJoin, IsJoinRefusal, IsUnionRefusal, different, of_file_error, union_fault}
+use Rattle.font_theory.specs.Kinds.{IsKind, format_of}
+use Rattle.font_theory.specs.declared.kinds.Kind.{Kind}
+use Rattle.font_theory.proofs.KindLemmas.{kind_is}
+use Rattle.font_subset.specs.OpenedFont.{IsOpenRefusal}
+use Rattle.font_subset.specs.declared.layout_font.OpenError.{OpenError}
+use Rattle.font_subset.specs.declared.layout_font.OpenError.TheVariants as open_errors
+use Rattle.font_join.specs.Inside.{HoldsFile, IsAddRefusal, IsFirstUnion, IsFormRefusal, IsTooLargeFile, IsUnited, Spells, add_fault, of_open_error}
+use Rattle.font_join.specs.Join.{IsJoin, IsJoinRefusal, IsUnionRefusal, different, form_fault, of_file_error, union_fault}
 use Rattle.font_join.specs.JoinList.{IsAllJoined, IsRefusedAt, Stands}
 use Rattle.font_join.specs.declared.join_error.JoinError.{JoinError}
 use Rattle.font_join.specs.declared.join_error.JoinError.TheVariants.{DifferentGlyph, DifferentMapping, DifferentTable, Font, NoMemory, NotACut, TooLarge}
+use Rattle.font_join.specs.declared.join_error.Which.{Which}
 use Rattle.font_join.specs.declared.join_error.Which.TheVariants.{First, Second}
-use Rattle.font_join.proofs.JoinLemmas.{is_join, is_too_large, joinable, union_refused}
+use Rattle.font_join.proofs.JoinLemmas.{font_accepted, form_unread, form_whole, is_join, is_too_large, joinable, union_refused}
 use Rattle.font_join.proofs.JoinListLemmas.{stands_more}
-use Rattle.font_join.proofs.UnionLemmas.{first_no_cut}
+use Rattle.font_join.proofs.UnionLemmas.{first_form}
+
+-- a font that is not opened for cuts of a kind is not taken for a cut
+pub unopened_refused : (kind : Kind) (which : Which) (x : List ℕ) (error : OpenError) → IsOpenRefusal kind x error → IsFormRefusal (format_of kind) which x (of_open_error which error)
+unopened_refused kind which x open_errors.NoMemory h = tt
+unopened_refused kind which x (open_errors.Refused error) h = form_unread (format_of kind) which x error ((kind_is kind).fault_is x ∙ h)
 
 -- a first file that is refused, joined with itself
 pub refused_at_first : (R : Format) (files : List (List ℕ)) (x : List ℕ) (error : JoinError) → 0 < length files → x ≡ file_at files 0 → IsJoinRefusal R x x error → IsRefusedAt R files 0 error
 refused_at_first R files x error some e r = record { before = x; stands = e; below = some; refused = subst (λ (y : List ℕ). IsJoinRefusal R x y error) e r }
 
-module _ {R : Format} {spelled : Content → Content} (kind : IsKind R spelled) where
+module _ {R : Format} {fault : List ℕ → Option FontError} {font : List ℕ → FontRead} {spelled : Content → Content} (kind : IsKind R fault font spelled) where
   -- the content of a file is spelled as it is read
-  pub spells_whole : (C : Content) (x : List ℕ) → font_fault x ≡ None → C ≡ spelled (content_of_all R x) → Spells R spelled C (content_of_all R x)
-  spells_whole C x accepted is = record { arises = of_file x everything (kind.fault x ∙ accepted) refl; is = is }
+  pub spells_whole : (C : Content) (x : List ℕ) → R.fault x ≡ None → C ≡ spelled (content_of_all R x) → Spells R spelled C (content_of_all R x)
+  spells_whole C x accepted is = record { arises = of_file x everything accepted refl; is = is }
 
   -- so is that of both, where they agree
   pub spells_both : (C D K L : Content) → Spells R spelled C K → Arises R L → Agree K L → D ≡ spelled (both K L) → Spells R spelled D (both K L)
@@ -51,32 +63,26 @@ module _ {R : Format} {spelled : Content → Content} (kind : IsKind R spelled) 
   pub union_small : (files : List (List ℕ)) (C : Content) → IsUnited R spelled files C → length (file current_writing C) ≤ MAX_FILE
   union_small files C h = subst (λ (z : List ℕ). length z ≤ MAX_FILE) h.holds.written h.holds.small
 
-  -- why a first file is refused, joined with itself
-  pub refused_first : (x : List ℕ) (error : JoinError) → font_fault x ≡ None → IsFormRefusal R First x error → IsJoinRefusal R x x error
-  refused_first x NoMemory a r = (a, a)
-  refused_first x (Font which f) a r = cc
-  refused_first x (NotACut which) a r = subst (IsJoinRefusal R x x) (sym r.1) (union_refused kind x x a a (NotACut First) (sym (first_no_cut R x x r.0)))
-  refused_first x (DifferentTable tag) a r = cc
-  refused_first x (DifferentMapping code) a r = cc
-  refused_first x (DifferentGlyph g) a r = cc
-  refused_first x (TooLarge s) a r = cc
-
-  -- and for two
+  -- why two files are refused whose first is not taken for a cut
   pub refused_one : (x y : List ℕ) (error : JoinError) → IsFormRefusal R First x error → IsUnionRefusal R x y error
   refused_one x y NoMemory r = tt
-  refused_one x y (Font which f) r = cc
-  refused_one x y (NotACut which) r = sym (first_no_cut R x y r.0) ∙ ap Some (sym r.1)
-  refused_one x y (DifferentTable tag) r = cc
-  refused_one x y (DifferentMapping code) r = cc
-  refused_one x y (DifferentGlyph g) r = cc
-  refused_one x y (TooLarge s) r = cc
+  refused_one x y (Font which f) r = first_form R x y _ r
+  refused_one x y (NotACut which) r = first_form R x y _ r
+  refused_one x y (DifferentTable tag) r = first_form R x y _ r
+  refused_one x y (DifferentMapping code) r = first_form R x y _ r
+  refused_one x y (DifferentGlyph g) r = first_form R x y _ r
+  refused_one x y (TooLarge s) r = first_form R x y _ r
+
+  -- and a first file, joined with itself
+  pub refused_first : (x : List ℕ) (error : JoinError) → font_fault x ≡ None → IsFormRefusal R First x error → IsJoinRefusal R x x error
+  refused_first x error a r = union_refused kind x x a a error (refused_one x x error r)
 
   -- the refusals of a second file that is added to a first one are those of the two
   pub fault_of_two : (x y : List ℕ) → IsCut R x → union_fault R x y ≡ add_fault R (content_of_all R x) y
   unfolding union_fault add_fault
   fault_of_two x y form =
-      let t = is_cut-of R kind.law x form in
-      λ i. first_of_lines (when (not (t i)) (NotACut First) ∷ when (not (is_cut R y)) (NotACut Second) ∷ option_map different (difference (content_of_all R x) (content_of_all R y)) ∷ [])
+      let t = form_whole R First x form.accepted (is_cut-of R kind.law x form) in
+      λ i. first_of_lines (t i ∷ form_fault R Second y ∷ option_map different (difference (content_of_all R x) (content_of_all R y)) ∷ [])
 
   pub refused_two : (K : Content) (x y : List ℕ) (error : JoinError) → union_fault R x y ≡ add_fault R K y → IsAddRefusal R K y error → IsUnionRefusal R x y error
   refused_two K x y NoMemory e r = tt
@@ -104,7 +110,7 @@ module _ {R : Format} {spelled : Content → Content} (kind : IsKind R spelled) 
   -- a file that is added to one that stands
   module _ (C : Content) (x y : List ℕ) (holds : HoldsFile R spelled C x) (accepted : font_fault y ≡ None) where
     pub first_accepted : font_fault x ≡ None
-    first_accepted = sym (kind.fault x) ∙ holds.form.accepted
+    first_accepted = font_accepted kind x holds.form.accepted
 
     -- the refusals are those of the two files
     same_fault : union_fault R x y ≡ add_fault R (content_of_all R x) y
@@ -131,12 +137,12 @@ module _ {R : Format} {spelled : Content → Content} (kind : IsKind R spelled) 
   unfolding union_fault
   unfault_self x form =
       let w = tested-CanJoin R kind.law x x form.accepted form.accepted (CanJoin-self R x form) in
-      λ i. first_of_lines (when (not (w.0 i)) (NotACut First) ∷ when (not (w.1 i)) (NotACut Second) ∷ option_map different (w.2 i) ∷ [])
+      λ i. first_of_lines (form_whole R First x form.accepted w.0 i ∷ form_whole R Second x form.accepted w.1 i ∷ option_map different (w.2 i) ∷ [])
 
   -- a first file in cut form, which is written anew where that is not too large
   module _ (C : Content) (x : List ℕ) (spells : Spells R spelled C (content_of_all R x)) (form : IsCut R x) where
     self_accepted : font_fault x ≡ None
-    self_accepted = sym (kind.fault x) ∙ form.accepted
+    self_accepted = font_accepted kind x form.accepted
 
     self_spells : C ≡ spelled (both (content_of_all R x) (content_of_all R x))
     self_spells = spells.is ∙ ap spelled (sym (both-self (content_of_all R x)))
@@ -187,7 +193,7 @@ module _ {R : Format} {spelled : Content → Content} (kind : IsKind R spelled) 
               let can = (joinable kind s.0 (file_at files n) s.2.unrefused).0 in
               let at : n ≡ length files - 1 = omega arith in
               subst (λ (k : ℕ). IsRefusedAt R files k NoMemory) at
-              (record { before = s.0; stands = s.1; below = omega (arith, e); refused = (sym (kind.fault s.0) ∙ can.first.accepted, sym (kind.fault (file_at files n)) ∙ can.second.accepted) })
+              (record { before = s.0; stands = s.1; below = omega (arith, e); refused = (font_accepted kind s.0 can.first.accepted, font_accepted kind (file_at files n) can.second.accepted) })
 
       -- where its file is not in memory, that is a refusal of the last step, and its size is none
       pub united_refused : (error : FileError) → IsFileRefusal (file current_writing C) error → IsRefusedAt R files (length files - 1) (of_file_error error)

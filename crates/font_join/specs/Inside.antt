@@ -1,26 +1,28 @@
 -- Words of private contracts and of proofs: no public clause names them.
-use Rattle.font_join.specs.Join.{different}
+use Rattle.font_join.specs.Join.{different, form_fault}
 use Rattle.font_join.specs.JoinList.{Stands}
 use Rattle.font_join.specs.Union.{listed_outline}
 use Rattle.font_join.specs.declared.join_error.JoinError.{JoinError}
-use Rattle.font_join.specs.declared.join_error.JoinError.TheVariants.{Font, NoMemory, NotACut, TooLarge}
+use Rattle.font_join.specs.declared.join_error.JoinError.TheVariants.{Font, NoMemory, TooLarge}
 use Rattle.font_join.specs.declared.join_error.Which.{Which}
 use Rattle.font_join.specs.declared.join_error.Which.TheVariants.{Second}
 use Rattle.font_file.specs.Font.{font_fault}
 use Rattle.font_file.specs.declared.font_error.FontError.{FontError}
 use Rattle.font_glyph.specs.Union.{Records, union_of}
+use Rattle.font_subset.specs.declared.layout_font.OpenError.{OpenError}
+use Rattle.font_subset.specs.declared.layout_font.OpenError.TheVariants as open_errors
 use Rattle.font_theory.specs.Content.{CODES, Content}
-use Rattle.font_theory.specs.Cut.{Arises, Format, IsCurrent, IsCut, is_cut, content_of_all}
+use Rattle.font_theory.specs.Cut.{Arises, Format, IsCurrent, IsCut, content_of_all}
 use Rattle.font_theory.specs.Difference.{difference, first_slot, is_different_code, is_different_table}
 use Rattle.font_theory.specs.File.{file, current_writing}
 use Rattle.font_theory.specs.declared.Difference.{Difference}
 use Rattle.font_theory.specs.declared.Difference.TheVariants.{AtCode, AtTable}
 use Rattle.font_theory.specs.Tree.{file_at}
-use Rattle.sfnt_bytes.specs.Lines.{first_of_lines, when}
+use Rattle.sfnt_bytes.specs.Lines.{first_of_lines}
 use Rattle.sfnt_bytes.specs.declared.directory.TheConstants.{MAX_FILE}
 use Rattle.std.specs.List.{range_with_len}
 use Rattle.std.specs.Option.{option_map}
-use Rattle.std.specs.Prelude.{◌≡◌, ℕ, ◌<◌, ◌≤◌, List, length, Option, Some, [], false, not, find, ◌∷◌}
+use Rattle.std.specs.Prelude.{◌≡◌, ℕ, ◌<◌, ◌≤◌, List, length, Option, Some, [], find, ◌∷◌}
 
 -- K is a content that accepted files come to, and C is what it is written as
 pub record Spells (R : Format) (spelled : Content → Content) (C K : Content) : Type 0 where
@@ -64,10 +66,15 @@ pub record AreTaken (old now : List (Option (List ℕ))) (L : Records) (n : ℕ)
 abbrev pub IsNoFont : Which → List ℕ → JoinError → Type 0
 IsNoFont which x error = (fault : FontError) × (font_fault x ≡ Some fault) × (error ≡ Font which fault)
 
--- why a file is not taken for a cut: memory is refused, or it is none
+-- the refusal of a join one of whose fonts is not opened for cuts of a kind
+abbrev pub of_open_error : Which → OpenError → JoinError
+of_open_error which open_errors.NoMemory = NoMemory
+of_open_error which (open_errors.Refused error) = Font which error
+
+-- why an accepted file is not taken for a cut: memory is refused, or it is none
 abbrev pub IsFormRefusal : Format → Which → List ℕ → JoinError → Type 0
 IsFormRefusal R which x NoMemory = Unit {0}
-IsFormRefusal R which x error = (is_cut R x ≡ false) × (error ≡ NotACut which)
+IsFormRefusal R which x error = form_fault R which x ≡ Some error
 
 -- the first table or code that tells two contents apart
 unfoldable pub early_difference : Content → Content → Option Difference
@@ -79,7 +86,7 @@ early_difference K L = first_of_lines
 -- the first refusal of a file that is added to a content, but for the size
 unfoldable pub add_fault : Format → Content → List ℕ → Option JoinError
 add_fault R K y =
-    first_of_lines (when (not (is_cut R y)) (NotACut Second)
+    first_of_lines (form_fault R Second y
     ∷ option_map different (difference K (content_of_all R y)) ∷ [])
 
 -- why a file is not added

@@ -1,7 +1,7 @@
 -- What the join of two files answers, this project's own, over the format of the cuts that are joined:
--- `our_format`, or `lean_format` of lean cuts.
+-- `our_format`, or that of lean or layout cuts.
 use Rattle.std.specs.Prelude.{◌≡◌, ◌≢◌, ℕ, ◌<◌, nat_lt, not, List, [], ◌∷◌, ◌++◌, length, Option, None, Some}
-use Rattle.std.specs.Option.{option_map}
+use Rattle.std.specs.Option.{option_map, option_or}
 use Rattle.sfnt_bytes.specs.Directory.{slot_tag}
 use Rattle.sfnt_bytes.specs.Lines.{first_of_lines, when}
 use Rattle.sfnt_bytes.specs.declared.directory.DirError.TheVariants.{FileTooLarge}
@@ -17,6 +17,7 @@ use Rattle.font_theory.specs.declared.Difference.{Difference}
 use Rattle.font_theory.specs.declared.Difference.TheVariants.{AtCode, AtGlyph, AtTable}
 use Rattle.font_join.specs.declared.join_error.JoinError.{JoinError}
 use Rattle.font_join.specs.declared.join_error.JoinError.TheVariants.{DifferentGlyph, DifferentMapping, DifferentTable, Font, NoMemory, NotACut, TooLarge}
+use Rattle.font_join.specs.declared.join_error.Which.{Which}
 use Rattle.font_join.specs.declared.join_error.Which.TheVariants.{First, Second}
 
 -- the refusal for a difference
@@ -30,11 +31,16 @@ abbrev pub of_file_error : FileError → JoinError
 of_file_error file_errors.NoMemory = NoMemory
 of_file_error (file_errors.TooLarge size) = TooLarge size
 
+-- why an accepted file is not taken for a cut: what cuts of its kind read besides is refused, or it is no cut;
+-- of full and lean cuts the first cannot be
+unfoldable pub form_fault : Format → Which → List ℕ → Option JoinError
+form_fault R which x = option_or (option_map (Font which) (R.fault x)) (when (not (is_cut R x)) (NotACut which))
+
 -- the refusals of two accepted files but for the size of their join, in their order
 abbrev pub union_lines : Format → List ℕ → List ℕ → List (Option JoinError)
 union_lines R x y =
-    when (not (is_cut R x)) (NotACut First)
-    ∷ when (not (is_cut R y)) (NotACut Second)
+    form_fault R First x
+    ∷ form_fault R Second y
     ∷ option_map different (difference (content_of_all R x) (content_of_all R y))
     ∷ []
 

@@ -46,7 +46,7 @@ pub record IsFirst (files : List (List ℕ)) (x : List ℕ) : Type 0 where
 
 -- the files are cuts of F for some sets, in any forms, and none of them is too large
 pub record AreCuts (R : Format) (F : List ℕ) (A : ℕ → ℕ → Bool) (files : List (List ℕ)) : Type 0 where
-  pub accepted : font_fault F ≡ None
+  pub accepted : R.fault F ≡ None
   pub cuts : (k : ℕ) → k < length files → Writes R (content (R.font F) (A k)) (file_at files k)
   pub small : (k : ℕ) → k < length files → length (file_at files k) ≤ MAX_FILE
 
@@ -114,7 +114,7 @@ GivesValue R result gives t = IfOk result (λ answer. (z : List ℕ) × gives z 
 abbrev pub AgreesWithTreesOfCuts : {T E : Type 0} → Format → List (List ℕ) → Result T E →
     (List ℕ → T → Type 0) → Type 0
 AgreesWithTreesOfCuts R files result gives =
-    (F : List ℕ) (t : JoinTree (ℕ → Bool)) → font_fault F ≡ None → IsOver files (cuts R F t) →
+    (F : List ℕ) (t : JoinTree (ℕ → Bool)) → R.fault F ≡ None → IsOver files (cuts R F t) →
     IsSmall R (cuts R F t) → GivesValue R result gives (cuts R F t)
 
 -- that of each tree over the files where these are current

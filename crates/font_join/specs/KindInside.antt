@@ -6,7 +6,6 @@ use Rattle.std.specs.Str.{bytes_eq}
 use Rattle.sfnt_bytes.specs.declared.directory.TheConstants.{MAX_FILE}
 use Rattle.sfnt_bytes.specs.declared.tag.TheConstants.{HHEA, HMTX, VHEA, VMTX}
 use Rattle.font_tables.specs.Fields.{glyph_count_of}
-use Rattle.font_file.specs.Font.{font_fault}
 use Rattle.font_theory.specs.Content.{Content, glyph_count}
 use Rattle.font_theory.specs.Lean.{blank, metric_bytes, metrics_at, pairs_in}
 use Rattle.font_theory.specs.Cut.{content_of_all}
@@ -14,7 +13,7 @@ use Rattle.font_theory.specs.Difference.{difference}
 use Rattle.font_theory.specs.Join.{both}
 use Rattle.font_theory.specs.Kinds.{format_of, spelled_by}
 use Rattle.font_theory.specs.declared.kinds.Kind.{Kind}
-use Rattle.font_theory.specs.declared.kinds.Kind.TheVariants.{Full, Lean}
+use Rattle.font_theory.specs.declared.kinds.Kind.TheVariants.{Full, Layout, Lean}
 use Rattle.font_join.specs.Inside.{HoldsFile, IsUnited, Spells}
 use Rattle.font_join.specs.Union.{Held, content_in, replaced}
 
@@ -58,21 +57,25 @@ least_of (Some a) (Some b) = if nat_lt b a then Some b else Some a
 abbrev pub compared : Kind → Content → Content
 compared Full K = K
 compared Lean K = blanked K
+compared Layout K = blanked K
 
 -- the first glyph that two contents of a kind keep with other metrics, where the kind compares these
 abbrev pub metrics_told : Kind → Content → Content → Option ℕ
 metrics_told Full C D = None
 metrics_told Lean C D = find (has_other_metrics C D) (range_with_len 0 (glyph_count C.copied))
+metrics_told Layout C D = find (has_other_metrics C D) (range_with_len 0 (glyph_count C.copied))
 
 -- the table of its own that a union of a kind has of its first file
 abbrev pub own_in : Kind → Option (List ℕ) → Option (List ℕ)
 own_in Full table = None
 own_in Lean table = table
+own_in Layout table = table
 
 -- tables with zeros for each glyph, where the kind compares metrics
 abbrev pub HasBlanks : Kind → (ℕ → Option (List ℕ)) → Option (List ℕ) × Option (List ℕ) → Type 0
 HasBlanks Full copied tables = Unit {0}
 HasBlanks Lean copied tables = AreBlanks copied tables
+HasBlanks Layout copied tables = AreBlanks copied tables
 
 -- K is a content that accepted files of a kind come to, and C is what it is written as
 abbrev pub SpellsIn : Kind → Content → Content → Type 0
@@ -80,7 +83,6 @@ SpellsIn kind C K = Spells (format_of kind) (spelled_by kind) C K
 
 -- a union of cuts of a kind, and its tables of metrics with zeros for each glyph
 pub record IsUnion (u : Held) (blanks : Option (List ℕ) × Option (List ℕ)) : Type 0 where
-  pub accepted : font_fault u.tables ≡ None
   pub count : length u.outlines ≡ glyph_count_of u.tables
   pub whole : Content
   pub spells : SpellsIn u.kind (content_in u) whole

@@ -6,8 +6,9 @@ use Rattle.sfnt_bytes.specs.declared.tag.TheConstants.{HMTX, VMTX}
 use Rattle.font_glyph.specs.Union.{Records}
 use Rattle.font_theory.specs.Content.{Content, font_of}
 use Rattle.font_theory.specs.Difference.{are_different}
+use Rattle.font_theory.specs.Kinds.{tables_as}
 use Rattle.font_theory.specs.declared.kinds.Kind.{Kind}
-use Rattle.font_theory.specs.declared.kinds.Kind.TheVariants.{Full, Lean}
+use Rattle.font_theory.specs.declared.kinds.Kind.TheVariants.{Full, Layout, Lean}
 use Rattle.map_union.specs.RunLists.{TwoLists, map_in}
 
 -- the outline of a glyph in a list
@@ -34,11 +35,12 @@ abbrev pub tables_in : Kind → (ℕ → Option (List ℕ)) → Option (List ℕ
     Option (List ℕ)
 tables_in Full copied hmtx vmtx = copied
 tables_in Lean copied hmtx vmtx = replaced copied hmtx vmtx
+tables_in Layout copied hmtx vmtx = replaced copied hmtx vmtx
 
 -- its content, as it is written
 abbrev pub content_in : Held → Content
 content_in u = record {
-  copied = tables_in u.kind (font_of u.tables).copied u.hmtx u.vmtx;
+  copied = tables_in u.kind (tables_as u.kind u.tables) u.hmtx u.vmtx;
   head = (font_of u.tables).head;
   map = map_in u.runs;
   outline = listed_outline u.outlines;

@@ -65,7 +65,7 @@ impl<A: Allocator + Copy> Blanks<A> {
                 hmtx: None,
                 vmtx: None,
             }),
-            Kind::Lean => Blanks::of(alloc, source),
+            Kind::Lean | Kind::Layout => Blanks::of(alloc, source),
         }
     }
 }

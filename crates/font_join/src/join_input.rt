@@ -1,10 +1,14 @@
 //! The files of a join, as fonts. This is this project's own, and in no standard.
 ghost use Rattle.std.specs.Prelude.{◌≡◌, None, MatchResult};
 ghost use Rattle.font_file.specs.Font.{font_fault};
-ghost use Rattle.font_join.specs.Inside.{IsNoFont};
+ghost use Rattle.font_theory.specs.Kinds.{format_of};
+ghost use Rattle.font_join.specs.Inside.{IsFormRefusal, IsNoFont, of_open_error};
 
 use crate::join_error::{JoinError, Which};
 use font_file::Font;
+use font_subset::{FontOfKind, OpenError};
+use font_theory::Kind;
+use std::alloc::Allocator;
 
 /// Opens one of two files.
 ///
@@ -18,5 +22,35 @@ pub(crate) fn open_input<'a>(which: Which, file: &'a [u8]) -> Result<Font<'a>, J
     match Font::open(file) {
         Ok(font) => Ok(font),
         Err(error) => Err(JoinError::Font(which, error)),
+    }
+}
+
+// Returns the refusal of a join one of whose fonts is not opened for cuts of a kind.
+fn unopened(which: Which, error: OpenError) -> JoinError
+    ensures { result ≡ of_open_error which error }
+{
+    match error {
+        OpenError::NoMemory => JoinError::NoMemory,
+        OpenError::Refused(error) => JoinError::Font(which, error),
+    }
+}
+
+/// Opens one of two accepted fonts for cuts of a kind.
+///
+/// # Errors
+///
+/// `Font` where its tables of layout are refused, and `NoMemory` where memory is: both of layout cuts alone.
+pub(crate) fn open_for_kind<'f, 'a, A: Allocator + Copy>(
+    alloc: A,
+    kind: Kind,
+    font: &'f Font<'a>,
+    which: Which,
+) -> Result<FontOfKind<'f, 'a, A>, JoinError>
+    ensures { MatchResult result (λ opened. opened ≡ (kind, font.entry.now))
+        (IsFormRefusal (format_of kind) which font.entry.now) }
+{
+    match FontOfKind::open(alloc, kind, font) {
+        Ok(opened) => Ok(opened),
+        Err(error) => Err(unopened(which, error)),
     }
 }

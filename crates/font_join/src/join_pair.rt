@@ -4,7 +4,7 @@ ghost use Rattle.sfnt_bytes.specs.declared.directory.TheConstants.{MAX_FILE};
 ghost use Rattle.font_file.specs.Font.{font_fault};
 ghost use Rattle.font_theory.specs.Content.{content, everything};
 ghost use Rattle.font_theory.specs.Cut.{IsCut, Writes, either, our_format, renewed};
-ghost use Rattle.font_theory.specs.Kinds.{format_of};
+ghost use Rattle.font_theory.specs.Kinds.{fault_of, format_of};
 ghost use Rattle.font_subset.specs.Kinds.{cut_in};
 ghost use Rattle.font_subset.specs.Cut.{IsCutOf, cut_of};
 ghost use Rattle.font_join.specs.Join.{IsForSize, IsJoin, IsJoinRefusal, IsLeastUpper, RefusalIsRight};
@@ -45,13 +45,13 @@ pub fn join_of_kind<A: Allocator + Copy>(
 ) -> Result<Vec<u8, A>, JoinError>
     ensures exact { MatchResult result (λ z. IsJoin (format_of kind) x.now y.now z.items)
         (IsJoinRefusal (format_of kind) x.now y.now) }
-    ensures cuts { (F : List ℕ) (A B : ℕ → Bool) → font_fault F ≡ None →
+    ensures cuts { (F : List ℕ) (A B : ℕ → Bool) → fault_of kind F ≡ None →
         Writes (format_of kind) (content ((format_of kind).font F) A) x.now →
         Writes (format_of kind) (content ((format_of kind).font F) B) y.now →
         length x.now ≤ MAX_FILE → length y.now ≤ MAX_FILE →
         MatchResult result (λ z. z.items ≡ cut_in kind F (either A B))
         (IsForSize (length (cut_in kind F (either A B)))) }
-    ensures itself { font_fault x.now ≡ None → cut_in kind x.now everything ≡ x.now → y.now ≡ x.now →
+    ensures itself { fault_of kind x.now ≡ None → cut_in kind x.now everything ≡ x.now → y.now ≡ x.now →
         MatchResult result (λ z. z.items ≡ x.now) (λ error. error ≡ JoinError.NoMemory) }
     ensures renewal { IsCut (format_of kind) x.now → y.now ≡ x.now →
         MatchResult result (λ z. z.items ≡ renewed (format_of kind) x.now)

@@ -2,68 +2,67 @@
 //! search for a difference and the union read the list. OpenType 1.9, cmap, Format 12: Segmented coverage.
 ghost use Rattle.std.specs.Prelude.{◌≡◌, ◌≤◌, length, None, Some, IfOk, MatchOption, MatchResult};
 ghost use Rattle.sfnt_bytes.specs.declared.directory.TheConstants.{MAX_FILE};
-ghost use Rattle.font_theory.specs.Content.{content, everything, font_of};
-ghost use Rattle.font_theory.specs.Cut.{IsCut, our_format};
-ghost use Rattle.font_theory.specs.Kinds.{format_of};
+ghost use Rattle.font_theory.specs.Content.{content, everything};
+ghost use Rattle.font_theory.specs.Cut.{IsCut};
+ghost use Rattle.font_theory.specs.Kinds.{font_as, format_of};
 ghost use Rattle.font_join.specs.Inside.{IsFormRefusal};
 ghost use Rattle.font_subset.specs.ListedRuns.{AreRunsOf};
 
 use crate::join_error::{JoinError, Which};
-use font_file::Font;
 use font_map::Run;
-use font_subset::{CutForm, CutOf, listed_form, recall_accepted};
-use font_theory::Kind;
+use font_subset::{CutForm, FontOfKind, Selection, listed_form};
 use font_write::Source;
 use sfnt_bytes::NoMemory;
 use std::alloc::Allocator;
 use std::marker::Model;
 
-/// A font, the glyphs that its codes keep, and its runs.
+/// A font of a kind, the glyphs that its codes keep, and its runs.
 #[derive(Drop)]
 pub(crate) struct Listed<'f, 'a, A: Allocator> {
-    font: CutOf<'f, 'a, A>,
+    font: Selection<'f, 'a, A>,
 }
 
-// Its value is the file of the font.
+// Its value is the kind, and the file of the font.
 impl<'f, 'a, A: Allocator> Model for Listed<'f, 'a, A> {
     ghost use Rattle.std.specs.Prelude.{◌≡◌, ℕ, List, None};
+    ghost use Rattle.font_theory.specs.declared.kinds.Kind.{Kind};
 
-    ghost Value = { List ℕ };
+    ghost Value = { Kind × List ℕ };
 
-    ghost view = { λ l. l.font.0 };
+    ghost view = { λ l. (l.font.0, l.font.1.0) };
 
-    ghost invariant = { λ l. l.font.1 ≡ None };
+    ghost invariant = { λ l. l.font.1.1 ≡ None };
 }
 
 impl<'f, 'a, A: Allocator + Copy> Listed<'f, 'a, A> {
-    /// Marks what a cut of a kind keeps, and lists its runs.
+    /// Marks what a cut of the font's kind keeps, and lists its runs.
     ///
     /// # Errors
     ///
     /// `NotACut` where it is no cut of the kind, and `NoMemory` where memory is refused.
     pub(crate) fn new(
         alloc: A,
-        kind: Kind,
-        font: &'f Font<'a>,
+        font: &'f FontOfKind<'f, 'a, A>,
         which: Which,
     ) -> Result<Listed<'f, 'a, A>, JoinError>
         ensures { MatchResult result
-            (λ listed. (listed ≡ font.entry.now) × IsCut (format_of kind) font.entry.now)
-            (IsFormRefusal (format_of kind) which font.entry.now) }
+            (λ listed. (listed ≡ font.entry.now) × IsCut (format_of font.entry.now.0) font.entry.now.1)
+            (IsFormRefusal (format_of font.entry.now.0) which font.entry.now.1) }
     {
-        recall_accepted(font);
-        let (cut, form) = listed_form(alloc, kind, font)?;
+        let _kind = font.kind();
+        let (selection, form) = listed_form(alloc, font)?;
         match form {
             CutForm::Not => Err(JoinError::NotACut(which)),
-            _ => Ok(Listed { font: cut }),
+            _ => Ok(Listed { font: selection }),
         }
     }
 }
 
 impl<'f, 'a, A: Allocator> Source for Listed<'f, 'a, A> {
-    ghost use Rattle.font_theory.specs.Content.{content, everything, font_of};
+    ghost use Rattle.font_theory.specs.Content.{content, everything};
+    ghost use Rattle.font_theory.specs.Kinds.{font_as};
 
-    ghost content_of = { λ file. content (font_of file) everything };
+    ghost content_of = { λ file. content (font_as file.0 file.1) everything };
 
     fn recall_laws(&self) {
         self.font.recall_laws();
@@ -105,7 +104,7 @@ impl<'f, 'a, A: Allocator + Copy> Listed<'f, 'a, A> {
     ///
     /// `NoMemory` where memory is refused.
     pub(crate) fn into_runs(self, alloc: A) -> Result<Vec<Run, A>, NoMemory>
-        ensures { IfOk result (λ runs. AreRunsOf self.entry runs.items) }
+        ensures { IfOk result (λ runs. AreRunsOf self.entry.1 runs.items) }
     {
         self.font.into_runs(alloc)
     }
@@ -115,9 +114,10 @@ impl<'f, 'a, A: Allocator> Listed<'f, 'a, A> {
     /// Returns the outline of a glyph that is kept, as a file in cut form has it: with the zeros that fill
     /// it.
     pub(crate) fn written_outline(&self, g: u16) -> Option<&'a [u8]>
-        requires { IsCut our_format self.now }
-        ensures outline { MatchOption result ((content (font_of self.now) everything).outline g ≡ None)
-            (λ b. (content (font_of self.now) everything).outline g ≡ Some b.now) }
+        requires { IsCut (format_of self.now.0) self.now.1 }
+        ensures outline { MatchOption result
+            ((content (font_as self.now.0 self.now.1) everything).outline g ≡ None)
+            (λ b. (content (font_as self.now.0 self.now.1) everything).outline g ≡ Some b.now) }
         ensures small { MatchOption result Unit (λ b. length b.now ≤ MAX_FILE) }
     {
         self.font.written_outline(g)

@@ -3,8 +3,9 @@ ghost use Rattle.std.specs.Prelude.{◌≡◌, ◌≢◌, ◌<◌, ◌≤◌, �
 ghost use Rattle.std.specs.List.{range_with_len};
 ghost use Rattle.sfnt_bytes.specs.declared.directory.TheConstants.{MAX_FILE};
 ghost use Rattle.font_glyph.specs.Union.{union_of};
-ghost use Rattle.font_theory.specs.Content.{content, everything, font_of};
-ghost use Rattle.font_theory.specs.Cut.{IsCut, our_format};
+ghost use Rattle.font_theory.specs.Content.{content, everything};
+ghost use Rattle.font_theory.specs.Cut.{IsCut};
+ghost use Rattle.font_theory.specs.Kinds.{font_as, format_of};
 ghost use Rattle.font_join.specs.Union.{AreCounted, is_other, listed_outline};
 ghost use Rattle.font_join.specs.Inside.{AreTaken};
 
@@ -85,13 +86,13 @@ impl<'a, A: Allocator> Outlines<'a, A> {
 
     // Takes the outline of a glyph, where it has none yet. Returns whether it has another one.
     fn take_one<B: Allocator>(&mut self, file: &Listed<'_, 'a, B>, g: u16) -> bool
-        requires form { IsCut our_format file.now }
+        requires form { IsCut (format_of file.now.0) file.now.1 }
         requires within { g < length self.old }
         ensures differs { result ≡ is_other (listed_outline self.old)
-            (content (font_of file.now) everything).outline g }
+            (content (font_as file.now.0 file.now.1) everything).outline g }
         ensures count { length self.new ≡ length self.old }
         ensures taken { listed_outline self.new g ≡ union_of (listed_outline self.old)
-            (content (font_of file.now) everything).outline g }
+            (content (font_as file.now.0 file.now.1) everything).outline g }
         ensures others { (h : ℕ) → h ≢ g → listed_outline self.new h ≡ listed_outline self.old h }
     {
         let Some(outline) = file.written_outline(g) else {
@@ -107,12 +108,12 @@ impl<'a, A: Allocator> Outlines<'a, A> {
     /// Takes the outlines of a file in cut form, of each glyph below `count` that has none yet, and
     /// returns the first glyph that has another one. Those after that glyph are not taken.
     pub(crate) fn take<B: Allocator>(&mut self, file: &Listed<'_, 'a, B>, count: u16) -> Option<u16>
-        requires form { IsCut our_format file.now }
+        requires form { IsCut (format_of file.now.0) file.now.1 }
         requires count { length self.old ≡ count }
         ensures differs { result ≡ find (is_other (listed_outline self.old)
-            (content (font_of file.now) everything).outline) (range_with_len 0 count) }
+            (content (font_as file.now.0 file.now.1) everything).outline) (range_with_len 0 count) }
         ensures taken { result ≡ None → AreTaken self.old self.new
-            (content (font_of file.now) everything).outline count }
+            (content (font_as file.now.0 file.now.1) everything).outline count }
     {
         let end = count.min(file.glyph_count());
         let mut g = file.next_kept(0);

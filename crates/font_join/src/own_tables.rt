@@ -38,8 +38,8 @@ pub(crate) fn either_table<A: Allocator>(
     }
 }
 
-/// Returns the table that a union of a kind has of its first file: for lean cuts a copy of it, where it is
-/// there.
+/// Returns the table that a union of a kind has of its first file: for lean and layout cuts a copy of it,
+/// where it is there.
 ///
 /// # Errors
 ///
@@ -53,7 +53,7 @@ pub(crate) fn own_table<A: Allocator>(
 {
     match kind {
         Kind::Full => Ok(None),
-        Kind::Lean => owned(alloc, table),
+        Kind::Lean | Kind::Layout => owned(alloc, table),
     }
 }
 

@@ -4,10 +4,10 @@
 ghost use Rattle.std.specs.Prelude.{◌≡◌, ◌≤◌, length, None, Some, IfOk, MatchOption, MatchResult};
 ghost use Rattle.sfnt_bytes.specs.declared.directory.TheConstants.{MAX_FILE};
 ghost use Rattle.font_theory.specs.Bytes.{padded};
-ghost use Rattle.font_theory.specs.Content.{Content, content, everything, font_of};
+ghost use Rattle.font_theory.specs.Content.{Content, content, everything};
 ghost use Rattle.font_theory.specs.Cut.{IsCut, content_of_all};
 ghost use Rattle.font_theory.specs.File.{current_writing, file};
-ghost use Rattle.font_theory.specs.Kinds.{format_of};
+ghost use Rattle.font_theory.specs.Kinds.{font_as, format_of};
 ghost use Rattle.font_theory.specs.declared.kinds.Kind.{Kind};
 ghost use Rattle.font_write.specs.WholeFile.{IsTooLarge};
 ghost use Rattle.font_join.specs.Union.{content_in};
@@ -18,6 +18,7 @@ ghost use Rattle.font_join.specs.declared.join_error.Which.TheVariants.{First};
 use crate::blanked::{Blanked, Blanks};
 use crate::difference::{early_difference, refusal_of};
 use crate::join_error::{JoinError, Which};
+use crate::join_input::open_for_kind;
 use crate::listed::Listed;
 use crate::metrics::different_metrics;
 use crate::outlines::Outlines;
@@ -25,7 +26,7 @@ use crate::own_tables::{either_table, own_table};
 use crate::without_codes::size_if_too_large;
 use font_file::Font;
 use font_map::Run;
-use font_subset::{bytes_of, copied, head, recall_accepted};
+use font_subset::{FontOfKind, bytes_of, head};
 use font_theory::{Difference, Kind};
 use font_write::Source;
 use map_union::UnionMap;
@@ -45,12 +46,11 @@ fn least(first: Option<u16>, second: Option<u16>) -> Option<u16>
 }
 
 /// The union of cuts of one kind: the tables of the first of them, the maps of all in one, and for each glyph
-/// the slice of the first file that keeps it. A union of lean cuts has `hmtx` and `vmtx` of its own, which are
-/// those of all byte by byte.
+/// the slice of the first file that keeps it. A union of lean or of layout cuts has `hmtx` and `vmtx` of its own,
+/// which are those of all byte by byte.
 #[derive(Drop)]
 pub struct Union<'f, 'a, A: Allocator> {
-    kind: Kind,
-    first: &'f Font<'a>,
+    first: FontOfKind<'f, 'a, A>,
     map: UnionMap<A>,
     outlines: Outlines<'a, A>,
     hmtx: Option<Vec<u8, A>>,
@@ -68,8 +68,8 @@ impl<'f, 'a, A: Allocator> Model for Union<'f, 'a, A> {
     ghost Value = { Held };
 
     ghost view = { λ u. record {
-      kind = u.kind;
-      tables = u.first.now;
+      kind = u.first.0;
+      tables = u.first.1;
       runs = u.map;
       outlines = u.outlines;
       hmtx = option_map (λ v. v.items) u.hmtx;
@@ -77,8 +77,8 @@ impl<'f, 'a, A: Allocator> Model for Union<'f, 'a, A> {
     } };
 
     ghost invariant = { λ u. IsUnion (record {
-      kind = u.kind;
-      tables = u.first.now;
+      kind = u.first.0;
+      tables = u.first.1;
       runs = u.map;
       outlines = u.outlines;
       hmtx = option_map (λ v. v.items) u.hmtx;
@@ -92,30 +92,30 @@ impl<'f, 'a, A: Allocator> Source for Union<'f, 'a, A> {
     ghost content_of = { content_in };
 
     fn recall_laws(&self) {
-        recall_accepted(self.first);
+        let _kind = self.first.kind();
     }
 
     fn copied(&self, slot: usize) -> Option<&[u8]> {
-        match self.kind {
-            Kind::Full => copied(self.first, slot),
-            Kind::Lean => {
+        match self.first.kind() {
+            Kind::Full => self.first.copied(slot),
+            Kind::Lean | Kind::Layout => {
                 if slot == HMTX {
                     return bytes_of(&self.hmtx);
                 }
                 if slot == VMTX {
                     return bytes_of(&self.vmtx);
                 }
-                copied(self.first, slot)
+                self.first.copied(slot)
             }
         }
     }
 
     fn head(&self) -> &[u8] {
-        head(self.first)
+        head(self.first.font())
     }
 
     fn glyph_count(&self) -> u16 {
-        self.first.tables().glyph_count()
+        self.first.font().tables().glyph_count()
     }
 
     fn next_run(&self, from: u32) -> Option<Run> {
@@ -142,7 +142,7 @@ impl<'f, 'a, A: Allocator> Union<'f, 'a, A> {
         ensures filled { MatchOption result Unit (λ b. padded b.now ≡ b.now) }
         ensures small { MatchOption result Unit (λ b. length b.now ≤ MAX_FILE) }
     {
-        if g < self.first.tables().glyph_count() {
+        if g < self.first.font().tables().glyph_count() {
             return self.outlines.at(g);
         }
         None
@@ -152,13 +152,14 @@ impl<'f, 'a, A: Allocator> Union<'f, 'a, A> {
 impl<'f, 'a, A: Allocator + Copy> Union<'f, 'a, A> {
     // Returns the first table or code that tells a cut apart from the union.
     fn early(&self, alloc: A, file: &Listed<'_, 'a, A>) -> Result<Option<Difference>, NoMemory>
-        requires form { IsCut (format_of self.now.kind) file.now }
+        requires same { file.now.0 ≡ self.now.kind }
+        requires form { IsCut (format_of self.now.kind) file.now.1 }
         ensures { IfOk result (λ found. (K : Content) → SpellsIn self.now.kind (content_in self.now) K →
-            found ≡ early_difference K (content_of_all (format_of self.now.kind) file.now)) }
+            found ≡ early_difference K (content_of_all (format_of self.now.kind) file.now.1)) }
     {
-        match self.kind {
+        match self.first.kind() {
             Kind::Full => Ok(early_difference(self, &self.map, file)),
-            Kind::Lean => {
+            Kind::Lean | Kind::Layout => {
                 let blanks = Blanks::of(alloc, file)?;
                 let first = Blanked::new(self, &self.blanks);
                 let second = Blanked::new(file, &blanks);
@@ -169,12 +170,13 @@ impl<'f, 'a, A: Allocator + Copy> Union<'f, 'a, A> {
 
     // Returns why a cut is not added, before its glyphs are compared.
     fn tested(&self, alloc: A, file: &Listed<'_, 'a, A>) -> Result<(), JoinError>
-        requires form { IsCut (format_of self.now.kind) file.now }
+        requires same { file.now.0 ≡ self.now.kind }
+        requires form { IsCut (format_of self.now.kind) file.now.1 }
         ensures { (K : Content) → SpellsIn self.now.kind (content_in self.now) K → MatchResult result
-            (λ _. early_difference K (content_of_all (format_of self.now.kind) file.now) ≡ None)
-            (IsAddRefusal (format_of self.now.kind) K file.now) }
+            (λ _. early_difference K (content_of_all (format_of self.now.kind) file.now.1) ≡ None)
+            (IsAddRefusal (format_of self.now.kind) K file.now.1) }
     {
-        let _kind = self.kind;
+        let _kind = self.first.kind();
         match self.early(alloc, file)? {
             Some(difference) => Err(refusal_of(difference)),
             None => Ok(()),
@@ -184,25 +186,27 @@ impl<'f, 'a, A: Allocator + Copy> Union<'f, 'a, A> {
     // Returns the first glyph that a cut keeps with other metrics than the union, where these are compared.
     fn other_metrics(&self, file: &Listed<'_, 'a, A>) -> Option<u16>
         ensures { result ≡ metrics_told self.now.kind (content_in self.now)
-            (content (font_of file.now) everything) }
+            (content (font_as file.now.0 file.now.1) everything) }
     {
-        match self.kind {
+        match self.first.kind() {
             Kind::Full => None,
-            Kind::Lean => different_metrics(self, file),
+            Kind::Lean | Kind::Layout => different_metrics(self, file),
         }
     }
 
     // Returns the union with a cut that agrees with it in its tables and its map, or the first glyph in which
     // it differs.
     fn merged(self, alloc: A, file: Listed<'_, 'a, A>) -> Result<Union<'f, 'a, A>, JoinError>
-        requires form { IsCut (format_of self.kind) file }
+        requires same { file.0 ≡ self.kind }
+        requires form { IsCut (format_of self.kind) file.1 }
         requires early { (K : Content) → SpellsIn self.kind (content_in self) K →
-            early_difference K (content_of_all (format_of self.kind) file) ≡ None }
+            early_difference K (content_of_all (format_of self.kind) file.1) ≡ None }
         ensures { (K : Content) → SpellsIn self.entry.kind (content_in self.entry) K → MatchResult result
-            (IsGrown self.entry.kind file.entry K) (IsAddRefusal (format_of self.entry.kind) K file.entry) }
+            (IsGrown self.entry.kind file.entry.1 K)
+            (IsAddRefusal (format_of self.entry.kind) K file.entry.1) }
     {
         let metrics = self.other_metrics(&file);
-        let count = self.first.tables().glyph_count();
+        let count = self.first.font().tables().glyph_count();
         let mut outlines = self.outlines;
         let other = outlines.take(&file, count);
         if let Some(g) = least(metrics, other) {
@@ -213,7 +217,6 @@ impl<'f, 'a, A: Allocator + Copy> Union<'f, 'a, A> {
         let runs = file.into_runs(alloc)?;
         let map = self.map.with(alloc, runs)?;
         Ok(Union {
-            kind: self.kind,
             first: self.first,
             map,
             outlines,
@@ -227,7 +230,7 @@ impl<'f, 'a, A: Allocator + Copy> Union<'f, 'a, A> {
     ///
     /// # Errors
     ///
-    /// `NotACut` of the first, or `NoMemory`.
+    /// `Font` of the first where its tables of layout are refused, `NotACut` of the first, or `NoMemory`.
     pub(crate) fn of_first(
         alloc: A,
         kind: Kind,
@@ -238,7 +241,8 @@ impl<'f, 'a, A: Allocator + Copy> Union<'f, 'a, A> {
             × IsCut (format_of kind) font.entry.now)
             (IsFormRefusal (format_of kind) First font.entry.now) }
     {
-        let file = Listed::new(alloc, kind, &*font, Which::First)?;
+        let opened = open_for_kind(alloc, kind, font, Which::First)?;
+        let file = Listed::new(alloc, &opened, Which::First)?;
         let hmtx = own_table(alloc, kind, file.copied(HMTX))?;
         let vmtx = own_table(alloc, kind, file.copied(VMTX))?;
         let blanks = Blanks::for_kind(alloc, kind, &file)?;
@@ -248,8 +252,7 @@ impl<'f, 'a, A: Allocator + Copy> Union<'f, 'a, A> {
         let _other = outlines.take(&file, count);
         let runs = file.into_runs(alloc)?;
         Ok(Union {
-            kind,
-            first: font,
+            first: opened,
             map: UnionMap::of_runs(alloc, runs),
             outlines,
             hmtx,
@@ -262,14 +265,16 @@ impl<'f, 'a, A: Allocator + Copy> Union<'f, 'a, A> {
     ///
     /// # Errors
     ///
-    /// `NotACut` of the second, the first difference, or `NoMemory`.
+    /// `Font` of the second where its tables of layout are refused, `NotACut` of the second, the first difference,
+    /// or `NoMemory`.
     pub(crate) fn add(self, alloc: A, font: &Font<'a>) -> Result<Union<'f, 'a, A>, JoinError>
         ensures { (kind : Kind) (K : Content) → self.entry.kind ≡ kind → SpellsIn kind (content_in self.entry) K →
             MatchResult result
             (λ union. IsGrown kind font.now K union × (add_fault (format_of kind) K font.now ≡ None))
             (IsAddRefusal (format_of kind) K font.now) }
     {
-        let file = Listed::new(alloc, self.kind, font, Which::Second)?;
+        let opened = open_for_kind(alloc, self.first.kind(), font, Which::Second)?;
+        let file = Listed::new(alloc, &opened, Which::Second)?;
         self.tested(alloc, &file)?;
         self.merged(alloc, file)
     }
@@ -284,7 +289,6 @@ impl<'f, 'a, A: Allocator + Copy> Union<'f, 'a, A> {
         ensures content { IfOk result (λ union. content_in union ≡ content_in self.entry) }
     {
         Ok(Union {
-            kind: self.kind,
             first: self.first,
             map: self.map.settle(alloc)?,
             outlines: self.outlines,

@@ -18,11 +18,13 @@ use Rattle.font_theory.proofs.WritableLemmas.{IsWritable-closed}
 use Rattle.codes.specs.Wanted.{member}
 use Rattle.codes.specs.declared.code_range.CodeRange.{CodeRange}
 use Rattle.font_theory.specs.declared.kinds.Kind.{Kind}
-use Rattle.font_theory.specs.declared.kinds.Kind.TheVariants.{Full, Lean}
+use Rattle.font_theory.specs.declared.kinds.Kind.TheVariants.{Full, Layout, Lean}
+use Rattle.font_theory.specs.Kinds.{fault_of}
 use Rattle.font_theory.proofs.KindLemmas.{kind_is}
 use Rattle.font_subset.specs.Content.{written_of}
 use Rattle.font_subset.specs.Kinds.{IsSoundIn, cut_in}
-use Rattle.font_subset.proofs.KindSourceLemmas.{Held}
+use Rattle.font_subset.proofs.LayoutCutLemmas.{layout_sound}
+use Rattle.font_subset.proofs.SourceLemmas.{Held}
 use Rattle.font_subset.proofs.LeanCutLemmas.{lean_sound}
 use Rattle.font_subset.specs.Cut.{IsCutRefusal, IsSound, IsWritten, StopsCut, cut_of}
 use Rattle.font_subset.specs.Inside.{of_file_error, of_send_error}
@@ -83,10 +85,14 @@ is_sound font made wanted accepted written =
     }
 
 -- the cut of a kind is the file of what is written of it
-pub cut_in_is : (kind : Kind) (font : List ℕ) (ranges : List CodeRange) (held : Held) → held ≡ (kind, (font, Some ranges)) → file current_writing (written_of held.0 held.1) ≡ cut_in kind font (member ranges)
+pub cut_in_is : (font : Kind × List ℕ) (ranges : List CodeRange) (held : Held) → held ≡ (font.0, (font.1, Some ranges)) → file current_writing (written_of held) ≡ cut_in font.0 font.1 (member ranges)
 unfolding written_of
-cut_in_is kind font ranges held same = ap (λ (v : Held). file current_writing (written_of v.0 v.1)) same ∙ sym ((kind_is kind).writes _)
+cut_in_is font ranges held same = ap (λ (v : Held). file current_writing (written_of v)) same ∙ sym ((kind_is font.0).writes _)
 
-pub is_sound_in : (kind : Kind) (font made : List ℕ) (wanted : ℕ → Bool) → font_fault font ≡ None → IsWritten (cut_in kind font wanted) made → IsSoundIn kind font wanted made
-is_sound_in Full = is_sound
-is_sound_in Lean = lean_sound
+pub is_sound_in : (font : Kind × List ℕ) (made : List ℕ) (wanted : ℕ → Bool) → fault_of font.0 font.1 ≡ None → IsWritten (cut_in font.0 font.1 wanted) made → IsSoundIn font.0 font.1 wanted made
+is_sound_in font made wanted = by_kind font.0 font.1
+  where
+    by_kind : (kind : Kind) (file : List ℕ) → fault_of kind file ≡ None → IsWritten (cut_in kind file wanted) made → IsSoundIn kind file wanted made
+    by_kind Full file = is_sound file made wanted
+    by_kind Lean file = lean_sound file made wanted
+    by_kind Layout file = layout_sound file made wanted

@@ -5,28 +5,32 @@ use Rattle.font_theory.specs.Content.{Content, content}
 use Rattle.font_theory.specs.Cut.{our_format}
 use Rattle.font_theory.specs.File.{current_writing, file, writing_of}
 use Rattle.font_theory.specs.Kinds.{format_of, spelled_by}
+use Rattle.font_theory.specs.LayoutCut.{layout_format}
 use Rattle.font_theory.specs.Lean.{lean_format}
 use Rattle.font_theory.specs.declared.Profile.TheVariants.{First}
 use Rattle.font_theory.specs.declared.kinds.Kind.{Kind}
-use Rattle.font_theory.specs.declared.kinds.Kind.TheVariants.{Full, Lean}
+use Rattle.font_theory.specs.declared.kinds.Kind.TheVariants.{Full, Layout, Lean}
 use Rattle.font_theory.proofs.KindLemmas.{kind_is}
 use Rattle.font_subset.specs.Content.{codes_wanted, written_of}
 use Rattle.font_subset.specs.Inside.{IsFileIn}
 use Rattle.font_subset.specs.Kinds.{form_as}
 use Rattle.font_subset.specs.declared.forms.CutForm.{CutForm}
 use Rattle.font_subset.proofs.ContentOfAllLemmas.{form_by}
-use Rattle.font_subset.proofs.KindSourceLemmas.{Held, written_is}
+use Rattle.font_subset.proofs.KindSourceLemmas.{written_spelled}
+use Rattle.font_subset.proofs.SourceLemmas.{Held}
 
 -- what was written before, by the kinds
 old_full : (kind : Kind) (C K : Content) (X : List ℕ) → kind ≡ Full → C ≡ spelled_by kind K → (format_of kind).old K ≡ file (writing_of First) C
 unfolding our_format
 old_full Full C K X full spells = ap (λ L. file (writing_of First) L) (sym spells)
 old_full Lean C K X full spells = absurd (let n : Lean ≡ Full = full in cc)
+old_full Layout C K X full spells = absurd (let n : Layout ≡ Full = full in cc)
 
-old_lean : (kind : Kind) (K : Content) → kind ≡ Lean → (format_of kind).file K ≡ (format_of kind).old K
-unfolding lean_format
-old_lean Full K lean = absurd (let n : Full ≡ Lean = lean in cc)
-old_lean Lean K lean = refl
+old_other : (kind : Kind) (K : Content) → kind ≢ Full → (format_of kind).file K ≡ (format_of kind).old K
+unfolding lean_format layout_format
+old_other Full K other = absurd (other refl)
+old_other Lean K other = refl
+old_other Layout K other = refl
 
 module _ (kind : Kind) (C K : Content) (X : List ℕ) (spells : C ≡ spelled_by kind K) where
   pub now_is : X ≡ file current_writing C → (format_of kind).file K ≡ X
@@ -41,14 +45,20 @@ module _ (kind : Kind) (C K : Content) (X : List ℕ) (spells : C ≡ spelled_by
   pub not_old : kind ≡ Full → X ≢ file (writing_of First) C → (format_of kind).old K ≢ X
   not_old full n h = n (sym h ∙ old_full kind C K X full spells)
 
-  -- a lean cut has one form
-  pub not_lean : kind ≡ Lean → X ≢ file current_writing C → (format_of kind).old K ≢ X
-  not_lean lean n h = not_now n (old_lean kind K lean ∙ h)
+  -- cuts of other kinds have one form
+  pub not_other : kind ≢ Full → X ≢ file current_writing C → (format_of kind).old K ≢ X
+  not_other other n h = not_now n (old_other kind K other ∙ h)
+
+pub lean_other : (kind : Kind) → kind ≡ Lean → kind ≢ Full
+lean_other kind is full = let n : Lean ≡ Full = sym is ∙ full in cc
+
+pub layout_other : (kind : Kind) → kind ≡ Layout → kind ≢ Full
+layout_other kind is full = let n : Layout ≡ Full = sym is ∙ full in cc
 
 -- the form of a font's file, of what is held for all codes
-pub form_of_held : (kind : Kind) (held : Held) (X : List ℕ) (form : CutForm) → kind ≡ held.0 → held.1.1 ≡ None → X ≡ held.1.0 → ((K : Content) → written_of held.0 held.1 ≡ spelled_by kind K → IsFileIn (format_of kind) K X form) → form ≡ form_as held.0 held.1.0
+pub form_of_held : (kind : Kind) (held : Held) (X : List ℕ) (form : CutForm) → kind ≡ held.0 → held.1.1 ≡ None → X ≡ held.1.0 → ((K : Content) → written_of held ≡ spelled_by kind K → IsFileIn (format_of kind) K X form) → form ≡ form_as held.0 held.1.0
 form_of_held kind held X form same all is told =
-    let here : (K : Content) → written_of held.0 held.1 ≡ spelled_by held.0 K → IsFileIn (format_of held.0) K X form =
-    subst (λ (k : Kind). (K : Content) → written_of held.0 held.1 ≡ spelled_by k K → IsFileIn (format_of k) K X form) same told in
-    let whole = subst (λ (o : Option (List CodeRange)). IsFileIn (format_of held.0) (content ((format_of held.0).font held.1.0) (codes_wanted o)) X form) all (here _ (written_is held.0 held.1)) in
+    let here : (K : Content) → written_of held ≡ spelled_by held.0 K → IsFileIn (format_of held.0) K X form =
+    subst (λ (k : Kind). (K : Content) → written_of held ≡ spelled_by k K → IsFileIn (format_of k) K X form) same told in
+    let whole = subst (λ (o : Option (List CodeRange)). IsFileIn (format_of held.0) (content ((format_of held.0).font held.1.0) (codes_wanted o)) X form) all (here _ (written_spelled held)) in
     form_by (format_of held.0) form held.1.0 (subst (λ (b : List ℕ). IsFileIn (format_of held.0) (content ((format_of held.0).font held.1.0) (codes_wanted None)) b form) is whole)

@@ -1,135 +1,150 @@
 -- What a font gives to its cuts of each kind.
-use Rattle.std.proofs.Common.{◌≡◌, ◌≢◌, ℕ, suc, ◌<◌, ◌≤◌, ◌||◌, cond, Bool, true, false, refl, List, [], length, Option, None, Some, sym, ◌∙◌, ap, subst, arith, MatchOption}
+use Rattle.std.proofs.Common.{◌≡◌, ◌≢◌, ℕ, suc, ◌<◌, ◌≤◌, ◌||◌, cond, Bool, true, refl, List, [], length, Option, None, Some, sym, ◌∙◌, ap, subst, arith, MatchOption}
 use Rattle.std.specs.Option.{IsSome, is_some, option_map, option_or, unwrap_or}
 use Rattle.std.proofs.Math.Path.{fun_ext}
 use Rattle.std.proofs.lemmas.Bool.{lt-ltb}
 use Rattle.sfnt_bytes.specs.declared.directory.TheConstants.{MAX_FILE}
 use Rattle.sfnt_bytes.specs.declared.tag.TheConstants.{HHEA, HMTX, POST, VHEA, VMTX}
-use Rattle.sfnt_bytes.specs.Lines.{when}
-use Rattle.codes.specs.declared.code_range.CodeRange.{CodeRange}
 use Rattle.font_tables.specs.Fields.{number_of_h_metrics}
 use Rattle.font_tables.specs.Refusals.{is_bad_hhea, is_bad_hmtx}
-use Rattle.font_file.specs.Font.{font_fault}
-use Rattle.font_theory.specs.Bytes.{padded}
-use Rattle.font_theory.specs.Content.{Content, IsClosedContent, IsWritable, KeepsComponents, content, font_of, glyph_count, is_kept}
+use Rattle.font_theory.specs.Content.{Content, IsWritable, KeepsComponents, content, font_of, glyph_count, layout_font_of}
 use Rattle.font_theory.specs.Cut.{our_format}
-use Rattle.font_theory.specs.Kinds.{format_of, spelled_by}
-use Rattle.font_theory.specs.Lean.{blank, cleared, lean_format, pairs_in, spelled_out, thin, thin_post}
+use Rattle.font_theory.specs.Kinds.{fault_of, font_as, format_of, spelled_by}
+use Rattle.font_theory.specs.LayoutCut.{layout_format}
+use Rattle.font_theory.specs.Lean.{blank, cleared, lean_format, leaned, pairs_in, thin_post}
 use Rattle.font_theory.specs.declared.kinds.Kind.{Kind}
-use Rattle.font_theory.specs.declared.kinds.Kind.TheVariants.{Full, Lean}
-use Rattle.font_theory.proofs.ContentLemmas.{IsClosed-content}
+use Rattle.font_theory.specs.declared.kinds.Kind.TheVariants.{Full, Layout, Lean}
 use Rattle.font_theory.proofs.FontLemmas.{IsFont-accepted}
-use Rattle.font_theory.proofs.HeldLemmas.{KeepsComponents-closed}
-use Rattle.font_theory.proofs.LeanContentLemmas.{IsClosed-spelled, IsLean-content}
-use Rattle.font_theory.proofs.LeanCopiedLemmas.{spelled_copied-thin_other, spelled_copied-thin_post}
-use Rattle.font_theory.proofs.LeanCutLemmas.{outline-lean}
-use Rattle.font_theory.proofs.LeanLemmas.{IsFont-thin}
-use Rattle.font_theory.proofs.LeanMetricLemmas.{glyph_count-lean}
-use Rattle.font_theory.proofs.LeanTableLemmas.{spelled_copied-cleared_hmtx, spelled_copied-cleared_vmtx}
-use Rattle.font_theory.proofs.WritableLemmas.{IsWritable-closed}
+use Rattle.font_theory.proofs.LayoutCutLemmas.{IsFont-layout}
+use Rattle.font_theory.proofs.LeanedLemmas.{leaned-is}
 use Rattle.font_write.specs.Parts.{IsNextKept}
-use Rattle.font_subset.specs.Content.{codes_wanted, written_of}
+use Rattle.font_subset.specs.Content.{codes_wanted, selected, written_of}
 use Rattle.font_subset.specs.Inside.{IsMadeTable}
 use Rattle.font_subset.proofs.LeanTableLemmas.{cleared-none}
+use Rattle.font_subset.proofs.LeanedLemmas.{leaned_components, leaned_count, leaned_head, leaned_hmtx, leaned_map, leaned_other, leaned_outline, leaned_post, leaned_vmtx, leaned_writable}
+use Rattle.font_subset.proofs.SourceLemmas.{Held, is_writable, keeps_components}
 
-abbrev pub Cut : Type 0
-Cut = List ℕ × Option (List CodeRange)
+-- what is written of a content of a kind, where that is of the font itself and not of a lean reading
+abbrev kept_by : Kind → Content → Content
+kept_by Full K = K
+kept_by Lean K = leaned K
+kept_by Layout K = leaned K
 
-abbrev pub plain : Cut → Content
-plain cut = content (font_of cut.0) (codes_wanted cut.1)
+by_kind : (kind : Kind) (font : List ℕ) (wanted : ℕ → Bool) → fault_of kind font ≡ None → spelled_by kind (content ((format_of kind).font font) wanted) ≡ kept_by kind (content (font_as kind font) wanted)
+unfolding our_format lean_format layout_format
+by_kind Full font wanted ok = refl
+by_kind Lean font wanted ok = leaned-is (font_of font) (IsFont-accepted font ok) wanted
+by_kind Layout font wanted ok = leaned-is (layout_font_of font) (IsFont-layout font ok) wanted
 
-abbrev pub Held : Type 0
-Held = Kind × Cut
-
--- what is written of a cut, by the kinds
-pub written_is : (kind : Kind) (cut : Cut) → written_of kind cut ≡ spelled_by kind (content ((format_of kind).font cut.0) (codes_wanted cut.1))
+pub written_spelled : (cut : Held) → written_of cut ≡ spelled_by cut.0 (content ((format_of cut.0).font cut.1.0) (codes_wanted cut.1.1))
 unfolding written_of
-written_is kind cut = refl
+written_spelled cut = refl
 
-written-full : (cut : Cut) → written_of Full cut ≡ plain cut
-unfolding written_of our_format
-written-full cut = refl
+written_is : (cut : Held) → fault_of cut.0 cut.1.0 ≡ None → written_of cut ≡ kept_by cut.0 (selected cut)
+written_is cut ok = written_spelled cut ∙ by_kind cut.0 cut.1.0 (codes_wanted cut.1.1) ok
 
-written-lean : (cut : Cut) → written_of Lean cut ≡ spelled_out (content (thin (font_of cut.0)) (codes_wanted cut.1))
-unfolding written_of lean_format
-written-lean cut = refl
+-- what it has of that content
+kept_head : (kind : Kind) (K : Content) → (kept_by kind K).head ≡ K.head
+kept_head Full K = refl
+kept_head Lean K = leaned_head K
+kept_head Layout K = leaned_head K
 
-pub in_head : (kind : Kind) (cut : Cut) → (written_of kind cut).head ≡ (plain cut).head
-unfolding written_of our_format lean_format
-in_head Full cut = refl
-in_head Lean cut = refl
+kept_map : (kind : Kind) (K : Content) → (kept_by kind K).map ≡ K.map
+kept_map Full K = refl
+kept_map Lean K = leaned_map K
+kept_map Layout K = leaned_map K
 
-pub in_map : (kind : Kind) (cut : Cut) → (written_of kind cut).map ≡ (plain cut).map
-unfolding written_of our_format lean_format
-in_map Full cut = refl
-in_map Lean cut = refl
+kept_outline : (kind : Kind) (K : Content) → (kept_by kind K).outline ≡ K.outline
+kept_outline Full K = refl
+kept_outline Lean K = leaned_outline K
+kept_outline Layout K = leaned_outline K
 
-module _ (cut : Cut) (accepted : font_fault cut.0 ≡ None) where
-  closed : (kind : Kind) → IsClosedContent (written_of kind cut)
-  closed Full = subst IsClosedContent (sym (written-full cut)) (IsClosed-content (font_of cut.0) (codes_wanted cut.1) (IsFont-accepted cut.0 accepted))
-  closed Lean =
-      let ok = IsFont-accepted cut.0 accepted in
-      subst IsClosedContent (sym (written-lean cut))
-      (IsClosed-spelled (content (thin (font_of cut.0)) (codes_wanted cut.1)) (IsClosed-content (thin (font_of cut.0)) (codes_wanted cut.1) (IsFont-thin (font_of cut.0) ok)) (IsLean-content (font_of cut.0) (codes_wanted cut.1) ok))
+kept_count : (kind : Kind) (K : Content) → glyph_count (kept_by kind K).copied ≡ glyph_count K.copied
+kept_count Full K = refl
+kept_count Lean K = leaned_count K
+kept_count Layout K = leaned_count K
 
-  pub in_writable : (kind : Kind) → IsWritable (written_of kind cut)
-  in_writable kind = IsWritable-closed (written_of kind cut) (closed kind)
+kept_other : (kind : Kind) (K : Content) (slot : ℕ) → slot ≢ HMTX → slot ≢ POST → slot ≢ VMTX → (kept_by kind K).copied slot ≡ K.copied slot
+kept_other Full K slot a b c = refl
+kept_other Lean K slot a b c = leaned_other K slot a b c
+kept_other Layout K slot a b c = leaned_other K slot a b c
 
-  pub in_components : (kind : Kind) → KeepsComponents (written_of kind cut)
-  in_components kind = KeepsComponents-closed (written_of kind cut) (closed kind)
+kept_writable : (kind : Kind) (K : Content) → IsWritable K → IsWritable (kept_by kind K)
+kept_writable Full K ok = ok
+kept_writable Lean K ok = leaned_writable K ok
+kept_writable Layout K ok = leaned_writable K ok
 
-  pub in_count : (kind : Kind) → glyph_count (written_of kind cut).copied ≡ glyph_count (font_of cut.0).copied
-  in_count Full = ap (λ (K : Content). glyph_count K.copied) (written-full cut)
-  in_count Lean = ap (λ (K : Content). glyph_count K.copied) (written-lean cut) ∙ glyph_count-lean (font_of cut.0) (IsFont-accepted cut.0 accepted) (codes_wanted cut.1)
+kept_components : (kind : Kind) (K : Content) → KeepsComponents K → KeepsComponents (kept_by kind K)
+kept_components Full K ok = ok
+kept_components Lean K ok = leaned_components K ok
+kept_components Layout K ok = leaned_components K ok
 
-  pub in_outline : (kind : Kind) → (written_of kind cut).outline ≡ (plain cut).outline
-  in_outline Full = ap (λ (K : Content). K.outline) (written-full cut)
-  in_outline Lean = ap (λ (K : Content). K.outline) (written-lean cut) ∙ outline-lean (font_of cut.0) (IsFont-accepted cut.0 accepted) (codes_wanted cut.1)
+kept_full : (kind : Kind) (K : Content) → kind ≡ Full → kept_by kind K ≡ K
+kept_full kind K full = ap (λ (k : Kind). kept_by k K) full
 
-  pub in_keeps : (kind : Kind) (g : ℕ) → is_some ((written_of kind cut).outline g) ≡ is_some ((plain cut).outline g)
-  in_keeps kind g = ap (λ o. is_some (o g)) (in_outline kind)
+kept_leaned : (kind : Kind) (K : Content) → kind ≢ Full → kept_by kind K ≡ leaned K
+kept_leaned Full K n = absurd (n refl)
+kept_leaned Lean K n = refl
+kept_leaned Layout K n = refl
 
-  pub in_outline_at : (kind : Kind) (g : ℕ) (b : List ℕ) → (IsSome ((plain cut).outline g) → (plain cut).outline g ≡ Some b) → IsSome ((written_of kind cut).outline g) → (written_of kind cut).outline g ≡ Some b
-  in_outline_at kind g b h some = ap (λ o. o g) (in_outline kind) ∙ h (subst (λ o. IsSome (o g)) (in_outline kind) some)
+module _ (cut : Held) (ok : fault_of cut.0 cut.1.0 ≡ None) where
+  pub in_writable : IsWritable (written_of cut)
+  in_writable = subst IsWritable (sym (written_is cut ok)) (kept_writable cut.0 (selected cut) (is_writable cut ok))
 
-  pub in_next : (kind : Kind) (from g : ℕ) → IsNextKept (plain cut) from g → IsNextKept (written_of kind cut) from g
-  in_next kind from g next = record {
+  pub in_components : KeepsComponents (written_of cut)
+  in_components = subst KeepsComponents (sym (written_is cut ok)) (kept_components cut.0 (selected cut) (keeps_components cut ok))
+
+  pub in_head : (written_of cut).head ≡ (selected cut).head
+  in_head = ap (λ (K : Content). K.head) (written_is cut ok) ∙ kept_head cut.0 (selected cut)
+
+  pub in_map : (written_of cut).map ≡ (selected cut).map
+  in_map = ap (λ (K : Content). K.map) (written_is cut ok) ∙ kept_map cut.0 (selected cut)
+
+  pub in_outline : (written_of cut).outline ≡ (selected cut).outline
+  in_outline = ap (λ (K : Content). K.outline) (written_is cut ok) ∙ kept_outline cut.0 (selected cut)
+
+  pub in_count : glyph_count (written_of cut).copied ≡ glyph_count (selected cut).copied
+  in_count = ap (λ (K : Content). glyph_count K.copied) (written_is cut ok) ∙ kept_count cut.0 (selected cut)
+
+  pub in_keeps : (g : ℕ) → is_some ((written_of cut).outline g) ≡ is_some ((selected cut).outline g)
+  in_keeps g = ap (λ o. is_some (o g)) in_outline
+
+  pub in_outline_at : (g : ℕ) (b : List ℕ) → (IsSome ((selected cut).outline g) → (selected cut).outline g ≡ Some b) → IsSome ((written_of cut).outline g) → (written_of cut).outline g ≡ Some b
+  in_outline_at g b h some = ap (λ o. o g) in_outline ∙ h (subst (λ o. IsSome (o g)) in_outline some)
+
+  pub in_next : (from g : ℕ) → IsNextKept (selected cut) from g → IsNextKept (written_of cut) from g
+  in_next from g next = record {
     from_on = next.from_on;
-    within = subst (λ (n : ℕ). g ≤ n) (sym (in_count kind)) next.within;
-    passed = λ h a b. ap (λ o. o h) (in_outline kind) ∙ next.passed h a b;
-    kept = λ low. subst (λ o. is_some (o g) ≡ true) (sym (in_outline kind)) (next.kept (subst (λ (n : ℕ). suc g ≤ n) (in_count kind) low));
+    within = subst (λ (n : ℕ). g ≤ n) (sym in_count) next.within;
+    passed = λ h a b. ap (λ o. o h) in_outline ∙ next.passed h a b;
+    kept = λ low. subst (λ o. is_some (o g) ≡ true) (sym in_outline) (next.kept (subst (λ (n : ℕ). suc g ≤ n) in_count low));
   }
 
-  -- the tables that a lean cut has anew
-  pub made_hmtx : (table : Option (List ℕ)) → option_or table ((font_of cut.0).copied HMTX) ≡ option_map (cleared (is_kept (font_of cut.0) (codes_wanted cut.1)) (pairs_in (font_of cut.0).copied HHEA HMTX) (glyph_count (font_of cut.0).copied)) ((font_of cut.0).copied HMTX)
-      → length (unwrap_or table []) ≤ MAX_FILE → IsMadeTable Lean cut HMTX table
-  unfolding written_of lean_format
-  made_hmtx table is small = record { is = is ∙ sym (spelled_copied-cleared_hmtx (font_of cut.0) (IsFont-accepted cut.0 accepted) (codes_wanted cut.1)); small = small }
+  pub other_slot : (slot : ℕ) → slot ≢ HMTX → slot ≢ POST → slot ≢ VMTX → (written_of cut).copied slot ≡ (selected cut).copied slot
+  other_slot slot a b c = ap (λ (K : Content). K.copied slot) (written_is cut ok) ∙ kept_other cut.0 (selected cut) slot a b c
 
-  pub made_vmtx : (table : Option (List ℕ)) → option_or table ((font_of cut.0).copied VMTX) ≡ option_map (cleared (is_kept (font_of cut.0) (codes_wanted cut.1)) (pairs_in (font_of cut.0).copied VHEA VMTX) (glyph_count (font_of cut.0).copied)) ((font_of cut.0).copied VMTX)
-      → length (unwrap_or table []) ≤ MAX_FILE → IsMadeTable Lean cut VMTX table
-  unfolding written_of lean_format
-  made_vmtx table is small = record { is = is ∙ sym (spelled_copied-cleared_vmtx (font_of cut.0) (IsFont-accepted cut.0 accepted) (codes_wanted cut.1)); small = small }
+  -- a full cut has no table anew
+  pub made_none : (slot : ℕ) → cut.0 ≡ Full → IsMadeTable cut slot None
+  made_none slot full = record { is = sym (ap (λ (K : Content). K.copied slot) (written_is cut ok ∙ kept_full cut.0 (selected cut) full)); small = omega arith }
 
-  pub made_post : (table : Option (List ℕ)) → option_or table ((font_of cut.0).copied POST) ≡ option_map thin_post ((font_of cut.0).copied POST) → length (unwrap_or table []) ≤ MAX_FILE → IsMadeTable Lean cut POST table
-  unfolding written_of lean_format
-  made_post table is small = record { is = is ∙ sym (spelled_copied-thin_post (font_of cut.0) (codes_wanted cut.1)); small = small }
+  -- the tables that others have anew
+  module _ (other : cut.0 ≢ Full) where
+    written_leaned : written_of cut ≡ leaned (selected cut)
+    written_leaned = written_is cut ok ∙ kept_leaned cut.0 (selected cut) other
 
--- a full cut has none anew
-pub made_none : (cut : Cut) (slot : ℕ) → IsMadeTable Full cut slot None
-made_none cut slot = record { is = sym (ap (λ (K : Content). K.copied slot) (written-full cut)); small = omega arith }
+    abbrev K : Content
+    K = selected cut
 
-pub other_slot : (kind : Kind) (cut : Cut) (slot : ℕ) → slot ≢ HMTX → slot ≢ POST → slot ≢ VMTX → (written_of kind cut).copied slot ≡ (font_of cut.0).copied slot
-other_slot Full cut slot a b c = ap (λ (K : Content). K.copied slot) (written-full cut)
-other_slot Lean cut slot a b c = ap (λ (K : Content). K.copied slot) (written-lean cut) ∙ spelled_copied-thin_other (font_of cut.0) (codes_wanted cut.1) slot a b c
+    pub made_hmtx : (table : Option (List ℕ)) → option_or table (K.copied HMTX) ≡ option_map (cleared (λ g. is_some (K.outline g)) (pairs_in K.copied HHEA HMTX) (glyph_count K.copied)) (K.copied HMTX)
+        → length (unwrap_or table []) ≤ MAX_FILE → IsMadeTable cut HMTX table
+    made_hmtx table is small = record { is = is ∙ sym (ap (λ (L : Content). L.copied HMTX) written_leaned ∙ leaned_hmtx K); small = small }
 
--- the outlines of a cut are those of the kept glyphs
-pub some_is_kept : (cut : Cut) (g : ℕ) → is_some ((plain cut).outline g) ≡ is_kept (font_of cut.0) (codes_wanted cut.1) g
-some_is_kept cut g = go (is_kept (font_of cut.0) (codes_wanted cut.1) g)
-  where
-    go : (b : Bool) → is_some (when b (padded ((font_of cut.0).outline g))) ≡ b
-    go true = refl
-    go false = refl
+    pub made_vmtx : (table : Option (List ℕ)) → option_or table (K.copied VMTX) ≡ option_map (cleared (λ g. is_some (K.outline g)) (pairs_in K.copied VHEA VMTX) (glyph_count K.copied)) (K.copied VMTX)
+        → length (unwrap_or table []) ≤ MAX_FILE → IsMadeTable cut VMTX table
+    made_vmtx table is small = record { is = is ∙ sym (ap (λ (L : Content). L.copied VMTX) written_leaned ∙ leaned_vmtx K); small = small }
+
+    pub made_post : (table : Option (List ℕ)) → option_or table (K.copied POST) ≡ option_map thin_post (K.copied POST) → length (unwrap_or table []) ≤ MAX_FILE → IsMadeTable cut POST table
+    made_post table is small = record { is = is ∙ sym (ap (λ (L : Content). L.copied POST) written_leaned ∙ leaned_post K); small = small }
 
 -- what is returned of a table that was made anew, or of none
 pub given_by : {X : Type 0} (bytes : X → List ℕ) (o : Option X) (made table lean : Option (List ℕ)) → MatchOption o (made ≡ None) (λ x. made ≡ Some (bytes x)) → option_or made table ≡ lean
@@ -143,12 +158,12 @@ small_by bytes None made none small = tt
 small_by bytes (Some x) made some small = subst (λ (o : Option (List ℕ)). length (unwrap_or o []) ≤ MAX_FILE) some small
 
 -- what a cut has at a slot at which it may have a table anew
-pub made_at : {X : Type 0} (bytes : X → List ℕ) (o : Option X) (held now : Held) (at slot : ℕ) (made : Option (List ℕ)) → held ≡ now → slot ≡ at → IsMadeTable held.0 held.1 at made → MatchOption o (made ≡ None) (λ x. made ≡ Some (bytes x))
-    → MatchOption o ((written_of now.0 now.1).copied slot ≡ (font_of now.1.0).copied slot) (λ x. (written_of now.0 now.1).copied slot ≡ Some (bytes x))
+pub made_at : {X : Type 0} (bytes : X → List ℕ) (o : Option X) (held now : Held) (at slot : ℕ) (made : Option (List ℕ)) → held ≡ now → slot ≡ at → IsMadeTable held at made → MatchOption o (made ≡ None) (λ x. made ≡ Some (bytes x))
+    → MatchOption o ((written_of now).copied slot ≡ (selected now).copied slot) (λ x. (written_of now).copied slot ≡ Some (bytes x))
 made_at bytes o held now at slot made same here anew given =
-    let there : option_or made ((font_of held.1.0).copied slot) ≡ (written_of held.0 held.1).copied slot =
-    subst (λ (s : ℕ). option_or made ((font_of held.1.0).copied s) ≡ (written_of held.0 held.1).copied s) (sym here) anew.is in
-    given_by bytes o made ((font_of now.1.0).copied slot) ((written_of now.0 now.1).copied slot) given (subst (λ (k : Held). option_or made ((font_of k.1.0).copied slot) ≡ (written_of k.0 k.1).copied slot) same there)
+    let there : option_or made ((selected held).copied slot) ≡ (written_of held).copied slot =
+    subst (λ (s : ℕ). option_or made ((selected held).copied s) ≡ (written_of held).copied s) (sym here) anew.is in
+    given_by bytes o made ((selected now).copied slot) ((written_of now).copied slot) given (subst (λ (k : Held). option_or made ((selected k).copied slot) ≡ (written_of k).copied slot) same there)
 
 pairs_same : (copied : ℕ → Option (List ℕ)) (h b count pairs : ℕ) (header table : List ℕ) → copied b ≡ Some table → unwrap_or (copied h) [] ≡ header → count ≡ glyph_count copied
     → pairs ≡ cond (is_bad_hhea header count || is_bad_hmtx table (number_of_h_metrics header) count) 0 (number_of_h_metrics header) → pairs ≡ pairs_in copied h b

@@ -1,10 +1,13 @@
+pub mod ContentOfAllLemmas
 pub mod CutLemmas
 pub mod FontLemmas
 pub mod FormLemmas
 pub mod KindSourceLemmas
+pub mod LayoutCutLemmas
+pub mod LayoutFontLemmas
 pub mod LeanCutLemmas
 pub mod LeanTableLemmas
+pub mod LeanedLemmas
 pub mod SeedLemmas
 pub mod SourceLemmas
 pub mod UnderLemmas
-pub mod ContentOfAllLemmas

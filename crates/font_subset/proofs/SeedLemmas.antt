@@ -1,5 +1,5 @@
 -- Marks of .notdef and of the glyphs of codes.
-use Rattle.std.proofs.Common.{◌≡◌, ℕ, zero, ◌+◌, ◌-◌, ◌<◌, ◌≤◌, ◌↔◌, inl, inr, Bool, true, ◌||◌, nat_eq, List, length, None, refl, sym, ◌∙◌, subst, arith}
+use Rattle.std.proofs.Common.{◌≡◌, ℕ, ◌+◌, ◌-◌, ◌<◌, ◌≤◌, ◌↔◌, inl, inr, Bool, true, ◌||◌, nat_eq, List, [], length, Option, None, Some, ap, unwrap_or, refl, sym, ◌∙◌, subst, arith}
 use mathlib.Core.Path.{fun_ext}
 use Rattle.std.proofs.lemmas.Bool.{cases_eq, cases_lt, eq-eqb, eqb-true, or_cases, or_left, or_right}
 use Rattle.std.specs.Cmp.{both_ways}
@@ -8,16 +8,25 @@ use Rattle.codes.specs.CharacterMap.{IsCharacterMap, restricted}
 use Rattle.codes.specs.Runs.{IsRun, NoRun}
 use Rattle.codes.specs.declared.runs.Run.{Run}
 use Rattle.font_glyph.specs.Reach.{Reach}
-use Rattle.font_theory.specs.Content.{CODES, everything, font_of, is_kept, is_seed}
+use Rattle.font_theory.specs.Content.{CODES, everything, font_of, glyph_count, is_kept, is_root, is_seed, layout_font_of, links_in}
+use Rattle.font_theory.specs.Kinds.{fault_of, font_as, tables_as}
+use Rattle.font_theory.specs.declared.kinds.Kind.{Kind}
+use Rattle.font_theory.specs.declared.kinds.Kind.TheVariants.{Full, Layout, Lean}
+use Rattle.font_theory.proofs.LayoutFileLemmas.{is_kept-layout}
+use Rattle.font_theory.proofs.RootLemmas.{roots_marked}
+use Rattle.font_glyph.specs.Linked.{Linked}
+use Rattle.font_glyph.specs.declared.linked.TheConstants as numbers
+use Rattle.std.specs.Bool.{Decides}
 use Rattle.font_theory.proofs.WantedLemmas.{is_seed-code, is_seed-tells, is_seed-zero}
 use Rattle.font_tables.specs.Fields.{glyph_count_of}
 use Rattle.font_tables.specs.Outlines.{outline_of}
 use Rattle.font_file.specs.Font.{font_fault, map_of}
-use Rattle.font_theory.proofs.FileWantedLemmas.{is_kept-file}
+use Rattle.font_theory.proofs.FileWantedLemmas.{is_kept-file, roots-font}
 use Rattle.font_theory.proofs.FontLemmas.{IsFont-accepted, glyph_count-file}
 use Rattle.font_theory.proofs.SpellingLemmas.{codes_are}
 use Rattle.font_theory.proofs.WantedLemmas.{restricted-cases}
-use Rattle.font_subset.specs.Content.{IsKeptSet}
+use Rattle.font_subset.specs.Content.{IsKeptSet, IsRootSet, layout_read}
+use Rattle.font_subset.proofs.SourceLemmas.{count_as}
 use Rattle.font_subset.specs.Inside.{AreMarked, AreSeedsTo, IsSeedSet}
 
 pub marked_start : (old : List Bool) (low : ℕ) → AreMarked old old low (low - low)
@@ -110,16 +119,50 @@ run_within file wanted from run accepted is =
     let low = wanted_below file wanted accepted run.last in
     omega arith
 
--- what is reached from the seeds is what a cut keeps
-pub kept_marked : (file : List ℕ) (wanted : ℕ → Bool) (seeds marks : List Bool) → font_fault file ≡ None → IsSeedSet file wanted seeds → length marks ≡ glyph_count_of file
-    → ((g : ℕ) → has marks g ≡ true ↔ Reach (outline_of file) (has seeds) g) → IsKeptSet file wanted marks
-kept_marked file wanted seeds marks accepted is count reached =
-    let same : has seeds ≡ is_seed (restricted wanted (map_of file)) = fun_ext is.seeds in
+-- where no table of layout is read the roots are the seeds
+pub seeds_alone : (kind : Kind) (file : List ℕ) (wanted : ℕ → Bool) (marks : List Bool) → fault_of kind file ≡ None → None ≡ layout_read kind file → IsSeedSet file wanted marks → IsRootSet kind file wanted marks
+seeds_alone Full file wanted marks accepted none is = record { count = is.count; roots = λ g. is.seeds g ∙ sym (ap (λ s. s g) (roots-font file wanted accepted)) }
+seeds_alone Lean file wanted marks accepted none is = record { count = is.count; roots = λ g. is.seeds g ∙ sym (ap (λ s. s g) (roots-font file wanted accepted)) }
+seeds_alone Layout file wanted marks accepted none is = cc
+
+-- and else what links lead to from the seeds
+pub roots_found : (file : List ℕ) (wanted : ℕ → Bool) (l : ℕ → List ℕ) (seeds marks : List Bool) (n : ℕ) → l ≡ links_in (layout_font_of file).copied → n ≡ glyph_count_of file → IsSeedSet file wanted seeds → length marks ≡ n
+    → ((g : ℕ) → has marks g ≡ true ↔ (g < n) × Linked l (has seeds) numbers.NUMBERS g) → IsRootSet Layout file wanted marks
+roots_found file wanted l seeds marks n same size is count found =
+    let whole : n ≡ glyph_count (layout_font_of file).copied = size ∙ count_as Layout file in
+    let P : ℕ → (ℕ → List ℕ) → ℕ → Type 0 = λ k m g. has marks g ≡ true ↔ (g < k) × Linked m (has seeds) numbers.NUMBERS g in
+    record {
+      count = count ∙ size;
+      roots = roots_marked (layout_font_of file).copied (restricted wanted (map_of file)) seeds marks is.seeds (λ g. subst (λ (X : Type 0). X) (λ i. P (whole i) (same i) g) (found g));
+    }
+
+pub roots_of_layout : (kind : Kind) (file held : List ℕ) (wanted : ℕ → Bool) (marks : List Bool) → Some held ≡ layout_read kind file → IsRootSet Layout held wanted marks → IsRootSet kind file wanted marks
+roots_of_layout Full file held wanted marks some is = cc
+roots_of_layout Lean file held wanted marks some is = cc
+roots_of_layout Layout file held wanted marks some is = subst (λ (o : Option (List ℕ)). IsRootSet Layout (unwrap_or o []) wanted marks) some is
+
+pub seeds_of_layout : (kind : Kind) (file held : List ℕ) (wanted : ℕ → Bool) (marks : List Bool) → Some held ≡ layout_read kind file → IsSeedSet file wanted marks → IsSeedSet held wanted marks
+seeds_of_layout Full file held wanted marks some is = cc
+seeds_of_layout Lean file held wanted marks some is = cc
+seeds_of_layout Layout file held wanted marks some is = subst (λ (o : Option (List ℕ)). IsSeedSet (unwrap_or o []) wanted marks) (sym some) is
+
+-- what is reached from the roots is what a cut keeps
+is_kept_as : (kind : Kind) (file : List ℕ) (wanted : ℕ → Bool) → fault_of kind file ≡ None → (g : ℕ) → Decides (is_kept (font_as kind file) wanted g) (Reach (outline_of file) (is_root (tables_as kind file) (restricted wanted (map_of file))) g)
+is_kept_as Full file wanted accepted g =
+    subst (λ s. Decides (is_kept (font_of file) wanted g) (Reach (outline_of file) s g)) (sym (roots-font file wanted accepted)) (is_kept-file file wanted accepted g)
+is_kept_as Lean file wanted accepted g =
+    subst (λ s. Decides (is_kept (font_of file) wanted g) (Reach (outline_of file) s g)) (sym (roots-font file wanted accepted)) (is_kept-file file wanted accepted g)
+is_kept_as Layout file wanted accepted g = is_kept-layout file wanted accepted g
+
+pub kept_marked : (kind : Kind) (file : List ℕ) (wanted : ℕ → Bool) (roots marks : List Bool) → fault_of kind file ≡ None → IsRootSet kind file wanted roots → length marks ≡ glyph_count_of file
+    → ((g : ℕ) → has marks g ≡ true ↔ Reach (outline_of file) (has roots) g) → IsKeptSet kind file wanted marks
+kept_marked kind file wanted roots marks accepted is count reached =
+    let same : has roots ≡ is_root (tables_as kind file) (restricted wanted (map_of file)) = fun_ext is.roots in
     record {
       count = count;
       kept = λ g.
-          let decided = is_kept-file file wanted accepted g in
-          both_ways (has marks g) (is_kept (font_of file) wanted g)
+          let decided = is_kept_as kind file wanted accepted g in
+          both_ways (has marks g) (is_kept (font_as kind file) wanted g)
           (λ h. decided.1 (subst (λ (s : ℕ → Bool). Reach (outline_of file) s g) same ((reached g).0 h)))
           (λ h. (reached g).1 (subst (λ (s : ℕ → Bool). Reach (outline_of file) s g) (sym same) (decided.0 h)));
     }

@@ -1,9 +1,10 @@
 -- What a font gives to its cuts.
-use Rattle.std.proofs.Common.{◌≡◌, ℕ, zero, suc, ◌+◌, ◌-◌, ◌<◌, ◌≤◌, Bool, true, false, List, [], ◌∷◌, nat_lt, length, slice_range, drop, Option, None, Some, refl, sym, ◌∙◌, ap, subst, arith, MatchOption}
+use Rattle.std.proofs.Common.{◌≡◌, ℕ, zero, suc, ◌+◌, ◌-◌, ◌<◌, ◌≤◌, Bool, true, false, cond, List, [], ◌∷◌, nat_le, nat_lt, length, slice_range, drop, Option, None, Some, refl, sym, ◌∙◌, ap, subst, arith, MatchOption}
 use Rattle.std.specs.Option.{option_map, unwrap_or, is_some, IsSome}
 use Rattle.std.proofs.lemmas.List.{length-drop, length-take}
-use Rattle.std.proofs.lemmas.Bool.{false_from_ne_true, le-ltb}
-use Rattle.sfnt_bytes.specs.Directory.{kept_tag, table_bytes, table_entry, table_of}
+use Rattle.std.proofs.lemmas.Bool.{and_from, false_from_ne_true, le-leb, le-ltb, lt-ltb, or_right}
+use Rattle.sfnt_bytes.specs.Directory.{is_layout_slot, kept_tag, table_bytes, table_entry, table_of}
+use Rattle.sfnt_bytes.specs.declared.tag.TheConstants.{ALL_SLOTS, SLOTS}
 use Rattle.sfnt_bytes.specs.Lines.{when}
 use Rattle.sfnt_bytes.specs.declared.directory.TheConstants.{MAX_FILE}
 use Rattle.sfnt_bytes.specs.declared.records.Entry.{Entry}
@@ -16,14 +17,25 @@ use Rattle.font_theory.specs.Bytes.{padded}
 use Rattle.font_glyph.specs.Marks.{NoMark, has}
 use Rattle.font_write.specs.Parts.{IsNextKept}
 use Rattle.font_write.proofs.MeasureLemmas.{none_if}
-use Rattle.font_theory.specs.Content.{IsWritable, KeepsComponents, content, font_of, glyph_count, is_kept}
+use Rattle.font_theory.specs.Content.{Content, IsFont, IsWritable, KeepsComponents, content, font_of, glyph_count, is_kept, is_made, is_never_copied, layout_font_of, table_read}
+use Rattle.font_theory.specs.Kinds.{fault_of, font_as, tables_as}
+use Rattle.font_theory.specs.declared.kinds.Kind.{Kind}
+use Rattle.font_theory.specs.declared.kinds.Kind.TheVariants.{Full, Layout, Lean}
+use Rattle.font_theory.proofs.LayoutCutLemmas.{IsFont-layout, layout_count}
+use Rattle.font_theory.proofs.LayoutLeanLemmas.{copied-below}
+use Rattle.font_theory.proofs.LinkLemmas.{layout-made}
+use Rattle.codes.specs.declared.code_range.CodeRange.{CodeRange}
 use Rattle.font_theory.proofs.ContentLemmas.{IsClosed-content}
 use Rattle.font_theory.proofs.FileWantedLemmas.{outline-file}
 use Rattle.font_theory.proofs.HeldLemmas.{KeepsComponents-closed}
 use Rattle.font_theory.proofs.WritableLemmas.{IsWritable-closed}
-use Rattle.font_subset.specs.Content.{IsKeptSet}
+use Rattle.font_subset.specs.Content.{IsKeptSet, codes_wanted, layout_read, selected}
 use Rattle.font_theory.proofs.FontLemmas.{IsFont-accepted, are_sound, glyph_count-file, size-accepted, table_fault-accepted}
 use Rattle.font_theory.proofs.CutHeadLemmas.{head-size}
+
+-- the kind of a cut, the file of its font, and the ranges of its codes
+abbrev pub Held : Type 0
+Held = Kind × (List ℕ × Option (List CodeRange))
 
 pub head_is : (file : List ℕ) → unwrap_or (table_of file (kept_tag 6)) [] ≡ head_of file
 unfolding kept_tag table_or_empty head_tag
@@ -58,17 +70,56 @@ unfolding outline_of table_or_empty
 outline_small file g accepted =
     omega (arith, slice_small (glyf_of file) (offset_at (loca_form_of file) (loca_of file) g) (offset_at (loca_form_of file) (loca_of file) (g + 1)), table_small file glyf_tag accepted)
 
+plain_past : (file : List ℕ) (slot : ℕ) → SLOTS ≤ slot → (font_of file).copied slot ≡ None
+plain_past file slot past =
+    let made : is_made slot ≡ true = or_right _ (nat_le SLOTS slot) (le-leb SLOTS slot past) in
+    ap (λ b. cond b None (table_of file (kept_tag slot))) made
+
+-- what an accepted file means to cuts of a kind is a font
+pub is_font : (kind : Kind) (file : List ℕ) → fault_of kind file ≡ None → IsFont (font_as kind file)
+is_font Full file accepted = IsFont-accepted file accepted
+is_font Lean file accepted = IsFont-accepted file accepted
+is_font Layout file accepted = IsFont-layout file accepted
+
 -- the count of glyphs is read of a table that is copied
-pub glyph_count_is : (file : List ℕ) → glyph_count_of file ≡ glyph_count (font_of file).copied
-glyph_count_is file = sym (glyph_count-file file)
+pub count_as : (kind : Kind) (file : List ℕ) → glyph_count_of file ≡ glyph_count (tables_as kind file)
+count_as Full file = sym (glyph_count-file file)
+count_as Lean file = sym (glyph_count-file file)
+count_as Layout file = sym (layout_count file ∙ glyph_count-file file)
 
--- a file of the content can be written
-pub is_writable : (file : List ℕ) (wanted : ℕ → Bool) → font_fault file ≡ None → IsWritable (content (font_of file) wanted)
-is_writable file wanted accepted = IsWritable-closed (content (font_of file) wanted) (IsClosed-content (font_of file) wanted (IsFont-accepted file accepted))
+-- a file of the content can be written, and it keeps what its own outlines are made of
+pub is_writable : (cut : Held) → fault_of cut.0 cut.1.0 ≡ None → IsWritable (selected cut)
+is_writable cut accepted = IsWritable-closed (selected cut) (IsClosed-content (font_as cut.0 cut.1.0) (codes_wanted cut.1.1) (is_font cut.0 cut.1.0 accepted))
 
--- and it keeps what its own outlines are made of
-pub keeps_components : (file : List ℕ) (wanted : ℕ → Bool) → font_fault file ≡ None → KeepsComponents (content (font_of file) wanted)
-keeps_components file wanted accepted = KeepsComponents-closed (content (font_of file) wanted) (IsClosed-content (font_of file) wanted (IsFont-accepted file accepted))
+pub keeps_components : (cut : Held) → fault_of cut.0 cut.1.0 ≡ None → KeepsComponents (selected cut)
+keeps_components cut accepted = KeepsComponents-closed (selected cut) (IsClosed-content (font_as cut.0 cut.1.0) (codes_wanted cut.1.1) (is_font cut.0 cut.1.0 accepted))
+
+-- the tables by slot
+pub copied_low : (kind : Kind) (file : List ℕ) (slot : ℕ) → slot < SLOTS → (font_of file).copied slot ≡ tables_as kind file slot
+copied_low Full file slot low = refl
+copied_low Lean file slot low = refl
+copied_low Layout file slot low = sym (copied-below file slot low)
+
+pub copied_past : (kind : Kind) (file : List ℕ) (slot : ℕ) → ALL_SLOTS ≤ slot → tables_as kind file slot ≡ None
+copied_past Full file slot past = plain_past file slot (omega (arith, past))
+copied_past Lean file slot past = plain_past file slot (omega (arith, past))
+copied_past Layout file slot past =
+    let never : is_never_copied slot ≡ true = or_right _ (nat_le ALL_SLOTS slot) (le-leb ALL_SLOTS slot past) in
+    ap (λ b. cond b None (table_read file slot)) never
+
+pub slot_between : (slot : ℕ) → SLOTS ≤ slot → slot < ALL_SLOTS → is_layout_slot slot ≡ true
+slot_between slot from to = and_from (nat_le SLOTS slot) (nat_lt slot ALL_SLOTS) (le-leb SLOTS slot from) (lt-ltb slot ALL_SLOTS to)
+
+-- where no table of layout is read there is none
+pub no_layout : (kind : Kind) (file : List ℕ) (slot : ℕ) → None ≡ layout_read kind file → is_layout_slot slot ≡ true → tables_as kind file slot ≡ None
+no_layout Full file slot none layout = ap (λ b. cond b None (table_of file (kept_tag slot))) (layout-made slot layout)
+no_layout Lean file slot none layout = ap (λ b. cond b None (table_of file (kept_tag slot))) (layout-made slot layout)
+no_layout Layout file slot none layout = cc
+
+pub layout_there : (kind : Kind) (file held : List ℕ) → Some held ≡ layout_read kind file → (slot : ℕ) → (layout_font_of held).copied slot ≡ tables_as kind file slot
+layout_there Full file held some slot = cc
+layout_there Lean file held some slot = cc
+layout_there Layout file held some slot = ap (λ (o : Option (List ℕ)). (layout_font_of (unwrap_or o [])).copied slot) some
 
 -- no mark stands past the marks
 has-past : (marks : List Bool) (g : ℕ) → has marks g ≡ true → g < length marks
@@ -85,32 +136,35 @@ is_some-when : (b : Bool) (x : List ℕ) → is_some (when b x) ≡ b
 is_some-when true x = refl
 is_some-when false x = refl
 
-module _ (file : List ℕ) (wanted : ℕ → Bool) (marks : List Bool) (kept : IsKeptSet file wanted marks) where
-  pub kept_below : (g : ℕ) → IsSome ((content (font_of file) wanted).outline g) → g < glyph_count_of file
+module _ (kind : Kind) (file : List ℕ) (wanted : ℕ → Bool) (marks : List Bool) (kept : IsKeptSet kind file wanted marks) where
+  abbrev K : Content
+  K = content (font_as kind file) wanted
+
+  pub kept_below : (g : ℕ) → IsSome (K.outline g) → g < glyph_count_of file
   kept_below g some =
-      let marked = kept.kept g ∙ when-some (is_kept (font_of file) wanted g) (padded ((font_of file).outline g)) some in
+      let marked = kept.kept g ∙ when-some (is_kept (font_as kind file) wanted g) (padded ((font_of file).outline g)) some in
       omega (arith, has-past marks g marked, kept.count)
 
-  pub kept_is : (g : ℕ) → has marks g ≡ is_some ((content (font_of file) wanted).outline g)
-  kept_is g = kept.kept g ∙ sym (is_some-when (is_kept (font_of file) wanted g) (padded ((font_of file).outline g)))
+  pub kept_is : (g : ℕ) → has marks g ≡ is_some (K.outline g)
+  kept_is g = kept.kept g ∙ sym (is_some-when (is_kept (font_as kind file) wanted g) (padded ((font_of file).outline g)))
 
-  pub not_kept : (g : ℕ) → glyph_count_of file ≤ g → nat_lt g (glyph_count_of file) ≡ is_some ((content (font_of file) wanted).outline g)
+  pub not_kept : (g : ℕ) → glyph_count_of file ≤ g → nat_lt g (glyph_count_of file) ≡ is_some (K.outline g)
   not_kept g past =
       let none : has marks g ≡ false = false_from_ne_true (has marks g) (λ h. let low = has-past marks g h in omega (arith, low, kept.count)) in
       le-ltb g (glyph_count_of file) past ∙ sym none ∙ kept_is g
 
-  pub kept_outline : (g : ℕ) → IsSome ((content (font_of file) wanted).outline g) → (content (font_of file) wanted).outline g ≡ Some (padded (outline_of file g))
+  pub kept_outline : (g : ℕ) → IsSome (K.outline g) → K.outline g ≡ Some (padded (outline_of file g))
   kept_outline g some =
-      let is = when-some (is_kept (font_of file) wanted g) (padded ((font_of file).outline g)) some in
-      rw is (ap (λ (b : List ℕ). Some (padded b)) (outline-file file g (kept_below g some)))
+      let is = when-some (is_kept (font_as kind file) wanted g) (padded ((font_of file).outline g)) some in
+      ap (λ b. when b (padded ((font_of file).outline g))) is ∙ ap (λ (b : List ℕ). Some (padded b)) (outline-file file g (kept_below g some))
 
-  pub next_is : (from g : ℕ) → from ≤ g → g ≤ length marks → NoMark marks from g → (g < length marks → has marks g ≡ true) → IsNextKept (content (font_of file) wanted) from g
+  pub next_is : (from g : ℕ) → from ≤ g → g ≤ length marks → NoMark marks from g → (g < length marks → has marks g ≡ true) → IsNextKept K from g
   next_is from g on within none here =
-      let count : length marks ≡ glyph_count (font_of file).copied = kept.count ∙ glyph_count_is file in
+      let count : length marks ≡ glyph_count (tables_as kind file) = kept.count ∙ count_as kind file in
       record {
         from_on = on;
         within = omega (arith, within, count);
-        passed = λ h a b. none_if ((content (font_of file) wanted).outline h) (sym (kept_is h) ∙ none h a b);
+        passed = λ h a b. none_if (K.outline h) (sym (kept_is h) ∙ none h a b);
         kept = λ low. sym (kept_is g) ∙ here (omega (arith, low, count));
       }
 
@@ -118,3 +172,11 @@ module _ (file : List ℕ) (wanted : ℕ → Bool) (marks : List Bool) (kept : I
 pub looked_up : {X : Type 0} (bytes : X → List ℕ) (o : Option X) (t : Option (List ℕ)) (most : ℕ) → option_map bytes o ≡ t → length (unwrap_or t []) ≤ most → MatchOption o (Unit {0}) (λ x. length (bytes x) ≤ most)
 looked_up bytes None t most is small = tt
 looked_up bytes (Some x) t most is small = subst (λ (o : Option (List ℕ)). length (unwrap_or o []) ≤ most) (sym is) small
+
+-- a table that was looked up, as a clause has it
+pub found_as : {X : Type 0} (bytes : X → List ℕ) (o : Option X) (t : Option (List ℕ)) → option_map bytes o ≡ t → MatchOption o (t ≡ None) (λ x. t ≡ Some (bytes x))
+found_as bytes None t is = sym is
+found_as bytes (Some x) t is = sym is
+
+pub found_at : {X : Type 0} (bytes : X → List ℕ) (o : Option X) (t u : Option (List ℕ)) → t ≡ u → MatchOption o (t ≡ None) (λ x. t ≡ Some (bytes x)) → MatchOption o (u ≡ None) (λ x. u ≡ Some (bytes x))
+found_at bytes o t u same is = subst (λ v. MatchOption o (v ≡ None) (λ x. v ≡ Some (bytes x))) same is

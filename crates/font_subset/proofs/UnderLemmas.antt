@@ -7,13 +7,14 @@ use Rattle.codes.specs.CharacterMap.{is_mapped, restricted}
 use Rattle.codes.specs.Runs.{IsRun, NoRun}
 use Rattle.codes.specs.Wanted.{codes_between, either, no_codes}
 use Rattle.codes.specs.declared.runs.Run.{Run}
-use Rattle.font_file.specs.Font.{font_fault, map_of}
+use Rattle.font_file.specs.Font.{map_of}
 use Rattle.font_theory.specs.Content.{Content, Font, content}
 use Rattle.font_theory.specs.Cut.{Format, IsFormat, Under, Writes, codes_of, our_format}
-use Rattle.font_theory.specs.Kinds.{format_of}
+use Rattle.font_theory.specs.Kinds.{fault_of, format_of}
+use Rattle.font_theory.specs.LayoutCut.{layout_format}
 use Rattle.font_theory.specs.Lean.{lean_format}
 use Rattle.font_theory.specs.declared.kinds.Kind.{Kind}
-use Rattle.font_theory.specs.declared.kinds.Kind.TheVariants.{Full, Lean}
+use Rattle.font_theory.specs.declared.kinds.Kind.TheVariants.{Full, Layout, Lean}
 use Rattle.font_theory.proofs.ContentLemmas.{content-mapped}
 use Rattle.font_theory.proofs.CutLemmas.{codes_of-accepted, font-cut}
 use Rattle.font_theory.proofs.KindLemmas.{kind_is}
@@ -77,18 +78,20 @@ module _ (R : Format) (law : IsFormat R) where
       same c some = same_mapped (A c) ((R.font F).map c) some ∙ sym (read c)
 
 -- in words
-codes_of_kind : (kind : Kind) (file : List ℕ) → font_fault file ≡ None → codes_of (format_of kind) file ≡ is_mapped (map_of file)
-unfolding our_format lean_format
+codes_of_kind : (kind : Kind) (file : List ℕ) → fault_of kind file ≡ None → codes_of (format_of kind) file ≡ is_mapped (map_of file)
+unfolding our_format lean_format layout_format
 codes_of_kind Full file accepted = codes_of-accepted our_format (kind_is Full).law file accepted
 codes_of_kind Lean file accepted = codes_of-accepted lean_format (kind_is Lean).law file accepted
+codes_of_kind Layout file accepted = codes_of-accepted layout_format (kind_is Layout).law file accepted
 
--- a lean cut has one form
+-- lean and layout cuts have one form
 for_some : (kind : Kind) (made font : List ℕ) → ((wanted : ℕ → Bool) × Writes (format_of kind) (content ((format_of kind).font font) wanted) made) ↔ IsCutIn kind font made
-unfolding lean_format
+unfolding lean_format layout_format
 for_some Full made font = (λ w. w, λ w. w)
 for_some Lean made font = (λ w. (w.0, elim w.1 [ inl e ↦ sym e | inr e ↦ sym e ]), λ w. (w.0, inl (sym w.1)))
+for_some Layout made font = (λ w. (w.0, elim w.1 [ inl e ↦ sym e | inr e ↦ sym e ]), λ w. (w.0, inl (sym w.1)))
 
-module _ (kind : Kind) (b : Bool) (made font : List ℕ) (ok : font_fault made ≡ None) (accepted : font_fault font ≡ None)
+module _ (kind : Kind) (b : Bool) (made font : List ℕ) (ok : fault_of kind made ≡ None) (accepted : fault_of kind font ≡ None)
     (is : IsTrue b ↔ Writes (format_of kind) (content ((format_of kind).font font) (is_mapped (map_of made))) made) where
   abbrev R : Format
   R = format_of kind
@@ -96,12 +99,12 @@ module _ (kind : Kind) (b : Bool) (made font : List ℕ) (ok : font_fault made �
   pub is_under : IsTrue b ↔ Under R made font
   is_under =
       let e = codes_of_kind kind made ok in (
-        λ t. record { accepted = (kind_is kind).fault font ∙ accepted; written = subst (λ (v : ℕ → Bool). Writes R (content (R.font font) v) made) (sym e) (is.0 t) },
+        λ t. record { accepted = (kind_is kind).fault_is font ∙ accepted; written = subst (λ (v : ℕ → Bool). Writes R (content (R.font font) v) made) (sym e) (is.0 t) },
         λ u. is.1 (subst (λ (v : ℕ → Bool). Writes R (content (R.font font) v) made) e u.written),
       )
 
   pub is_cut_for_some : IsTrue b ↔ IsCutIn kind font made
   is_cut_for_some = (
     λ t. (for_some kind made font).0 (is_mapped (map_of made), is.0 t),
-    λ w. (let v = (for_some kind made font).1 w in is_under.1 (Under-cut R (kind_is kind).law made font v.0 ((kind_is kind).fault made ∙ ok) ((kind_is kind).fault font ∙ accepted) v.1)),
+    λ w. (let v = (for_some kind made font).1 w in is_under.1 (Under-cut R (kind_is kind).law made font v.0 ((kind_is kind).fault_is made ∙ ok) ((kind_is kind).fault_is font ∙ accepted) v.1)),
   )

@@ -1,4 +1,4 @@
--- The glyphs that a cut keeps, as marks (OpenType 1.9, glyf, Composite Glyph Description).
+-- The glyphs that a cut keeps, as marks (OpenType 1.9, GSUB; glyf, Composite Glyph Description).
 use Rattle.std.specs.Prelude.{◌≡◌, ℕ, Bool, List, length, Option, None, Some}
 use Rattle.codes.specs.CharacterMap.{restricted}
 use Rattle.codes.specs.Wanted.{member}
@@ -6,9 +6,10 @@ use Rattle.codes.specs.declared.code_range.CodeRange.{CodeRange}
 use Rattle.font_glyph.specs.Marks.{has}
 use Rattle.font_tables.specs.Fields.{glyph_count_of}
 use Rattle.font_file.specs.Font.{map_of}
-use Rattle.font_theory.specs.Content.{Content, content, everything, font_of, is_kept}
-use Rattle.font_theory.specs.Kinds.{format_of, spelled_by}
+use Rattle.font_theory.specs.Content.{Content, content, everything, is_kept, is_root}
+use Rattle.font_theory.specs.Kinds.{font_as, format_of, spelled_by, tables_as}
 use Rattle.font_theory.specs.declared.kinds.Kind.{Kind}
+use Rattle.font_theory.specs.declared.kinds.Kind.TheVariants.{Full, Layout, Lean}
 
 -- the wanted codes: those in some ranges, or all
 abbrev pub codes_wanted : Option (List CodeRange) → ℕ → Bool
@@ -19,11 +20,26 @@ codes_wanted (Some ranges) = member ranges
 abbrev pub wanted_map : List ℕ → Option (List CodeRange) → ℕ → ℕ
 wanted_map file wanted = restricted (codes_wanted wanted) (map_of file)
 
--- the glyphs that a cut keeps are marked
-pub record IsKeptSet (file : List ℕ) (wanted : ℕ → Bool) (marks : List Bool) : Type 0 where
+-- the roots of a cut of a kind are marked: what links lead to from .notdef and the glyphs of the wanted codes
+pub record IsRootSet (kind : Kind) (file : List ℕ) (wanted : ℕ → Bool) (marks : List Bool) : Type 0 where
   pub count : length marks ≡ glyph_count_of file
-  pub kept : (g : ℕ) → has marks g ≡ is_kept (font_of file) wanted g
+  pub roots : (g : ℕ) → has marks g ≡ is_root (tables_as kind file) (restricted wanted (map_of file)) g
+
+-- the glyphs that a cut of a kind keeps are marked
+pub record IsKeptSet (kind : Kind) (file : List ℕ) (wanted : ℕ → Bool) (marks : List Bool) : Type 0 where
+  pub count : length marks ≡ glyph_count_of file
+  pub kept : (g : ℕ) → has marks g ≡ is_kept (font_as kind file) wanted g
+
+-- the file whose tables of layout are read, for layout cuts alone
+abbrev pub layout_read : Kind → List ℕ → Option (List ℕ)
+layout_read Full file = None
+layout_read Lean file = None
+layout_read Layout file = Some file
+
+-- what is selected of a file for some codes, as cuts of a kind read it
+abbrev pub selected : Kind × (List ℕ × Option (List CodeRange)) → Content
+selected cut = content (font_as cut.0 cut.1.0) (codes_wanted cut.1.1)
 
 -- the content that the cut of a file for some codes is written as, of a kind
-unfoldable pub written_of : Kind → List ℕ × Option (List CodeRange) → Content
-written_of kind cut = spelled_by kind (content ((format_of kind).font cut.0) (codes_wanted cut.1))
+unfoldable pub written_of : Kind × (List ℕ × Option (List CodeRange)) → Content
+written_of cut = spelled_by cut.0 (content ((format_of cut.0).font cut.1.0) (codes_wanted cut.1.1))

@@ -5,8 +5,11 @@ use Rattle.font_file.specs.Font.{map_of}
 use Rattle.font_glyph.specs.Marks.{has}
 use Rattle.codes.specs.CharacterMap.{is_mapped, restricted}
 use Rattle.font_tables.specs.Fields.{glyph_count_of}
-use Rattle.font_theory.specs.Content.{is_seed, Content, font_of}
+use Rattle.font_theory.specs.Content.{is_seed, Content, table_read}
 use Rattle.font_theory.specs.Cut.{Format}
+use Rattle.font_theory.specs.Kinds.{fault_of}
+use Rattle.font_theory.specs.LayoutCut.{gsub_of, layout_fault}
+use Rattle.font_theory.specs.Links.{links}
 use Rattle.font_theory.specs.declared.kinds.Kind.{Kind}
 use Rattle.font_write.specs.declared.whole_file.FileError.{FileError}
 use Rattle.font_write.specs.declared.whole_file.FileError.TheVariants as file_errors
@@ -17,10 +20,11 @@ use Rattle.font_subset.specs.declared.cut_font.CutError.TheVariants as cut_error
 use Rattle.font_subset.specs.declared.cut_font.CutIntoError.{CutIntoError}
 use Rattle.font_subset.specs.declared.cut_font.CutIntoError.TheVariants as into_errors
 use Rattle.sfnt_bytes.specs.declared.directory.TheConstants.{MAX_FILE}
-use Rattle.std.specs.Prelude.{◌≡◌, ◌≢◌, ℕ, ◌+◌, ◌<◌, ◌≤◌, ◌⊎◌, ◌↔◌, nat_lt, ◌&&◌, Bool, true, List, [], length, slice_index, Option, unwrap_or}
+use Rattle.sfnt_bytes.specs.declared.tag.TheConstants.{BASE, GDEF, GPOS, GSUB, KERN}
+use Rattle.std.specs.Prelude.{◌≡◌, ◌≢◌, ℕ, ◌+◌, ◌<◌, ◌≤◌, ◌⊎◌, ◌↔◌, nat_lt, ◌&&◌, Bool, true, List, [], length, slice_index, slice_index_or, Option, None, unwrap_or}
 use Rattle.std.specs.Option.{option_or}
 use Rattle.codes.specs.declared.code_range.CodeRange.{CodeRange}
-use Rattle.font_subset.specs.Content.{written_of}
+use Rattle.font_subset.specs.Content.{IsKeptSet, layout_read, selected, written_of}
 
 -- the n glyphs from a given one on are marked, beside those that were
 pub record AreMarked (old new : List Bool) (low n : ℕ) : Type 0 where
@@ -64,7 +68,30 @@ pub record AreCopied (from : List ℕ) (at size : ℕ) (old new : List ℕ) : Ty
   pub outside : (j : ℕ) → (j < at) ⊎ (at + size ≤ j) → slice_index new j ≡ slice_index old j
 
 -- the table of a slot that a cut of a kind has anew, or none where it has that of the font
-pub record IsMadeTable (kind : Kind) (cut : List ℕ × Option (List CodeRange)) (slot : ℕ)
+pub record IsMadeTable (cut : Kind × (List ℕ × Option (List CodeRange))) (slot : ℕ)
     (table : Option (List ℕ)) : Type 0 where
-  pub is : option_or table ((font_of cut.0).copied slot) ≡ (written_of kind cut).copied slot
+  pub is : option_or table ((selected cut).copied slot) ≡ (written_of cut).copied slot
   pub small : length (unwrap_or table []) ≤ MAX_FILE
+
+-- what each number leads to by the links of a GSUB is listed
+pub record AreLinksOf (gsub : List ℕ) (listed : List (List ℕ)) : Type 0 where
+  pub few : length listed ≤ 65536
+  pub each : (g : ℕ) → slice_index_or listed g [] ≡ links gsub g
+
+-- what is kept of a font that was opened for layout cuts: its tables of layout without what varies, and links
+pub record IsOpenedLayout (file : List ℕ) (base gdef gpos gsub kern : Option (List ℕ))
+    (listed : List (List ℕ)) : Type 0 where
+  pub accepted : layout_fault file ≡ None
+  pub base_is : base ≡ table_read file BASE
+  pub gdef_is : gdef ≡ table_read file GDEF
+  pub gpos_is : gpos ≡ table_read file GPOS
+  pub gsub_is : gsub ≡ table_read file GSUB
+  pub kern_is : kern ≡ table_read file KERN
+  pub links_are : AreLinksOf (gsub_of file) listed
+
+-- what is held of a font for some codes: it was opened for a kind, and what a cut keeps is marked
+pub record IsSelected (kind : Kind) (file : List ℕ) (layout : Option (List ℕ)) (wanted : ℕ → Bool)
+    (marks : List Bool) : Type 0 where
+  pub accepted : fault_of kind file ≡ None
+  pub layout_is : layout ≡ layout_read kind file
+  pub kept : IsKeptSet kind file wanted marks

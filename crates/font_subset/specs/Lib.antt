@@ -2,6 +2,8 @@ pub mod Content
 pub mod Cut
 pub mod Inside
 pub mod Kinds
+pub mod Layout
 pub mod Lean
 pub mod ListedRuns
+pub mod OpenedFont
 pub mod Text

@@ -1,10 +1,13 @@
 -- The numbers of refusals, this project's own.
 use Rattle.std.specs.Prelude.{ℕ}
 use Rattle.sfnt_bytes.specs.declared.numbers.TheConstants as numbers
+use Rattle.font_file.specs.Text.{error_number as font_error_number}
 use Rattle.font_subset.specs.declared.cut_font.CutError.{CutError}
 use Rattle.font_subset.specs.declared.cut_font.CutError.TheVariants as cut_errors
 use Rattle.font_subset.specs.declared.cut_font.CutIntoError.{CutIntoError}
 use Rattle.font_subset.specs.declared.cut_font.CutIntoError.TheVariants as into_errors
+use Rattle.font_subset.specs.declared.layout_font.OpenError.{OpenError}
+use Rattle.font_subset.specs.declared.layout_font.OpenError.TheVariants as open_errors
 
 -- that of a cut in memory
 abbrev pub cut_error_number : CutError → ℕ
@@ -16,3 +19,8 @@ abbrev pub cut_into_error_number : CutIntoError → ℕ
 cut_into_error_number into_errors.NoMemory = numbers.NO_MEMORY
 cut_into_error_number (into_errors.TooLarge size) = numbers.TOO_LARGE
 cut_into_error_number (into_errors.WriteFault written) = numbers.WRITE_FAULT
+
+-- that of a font that is not opened for cuts of a kind
+abbrev pub open_error_number : OpenError → ℕ
+open_error_number open_errors.NoMemory = numbers.NO_MEMORY
+open_error_number (open_errors.Refused error) = font_error_number error

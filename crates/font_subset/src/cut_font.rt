@@ -11,11 +11,10 @@ ghost use Rattle.font_subset.specs.declared.cut_font.CutError.TheVariants.{NoMem
 ghost use Rattle.font_subset.specs.declared.cut_font.CutIntoError.TheVariants.{NoMemory as IntoNoMemory};
 ghost use Rattle.font_subset.specs.Text.{cut_error_number, cut_into_error_number};
 
-use crate::cut_source::recall_accepted;
+use crate::font_of_kind::FontOfKind;
 use crate::kind_source::CutOfKind;
 use font_file::Font;
 use font_map::Wanted;
-use font_theory::Kind;
 use font_write::{FileError, SendError, file_in_memory, send_whole};
 use sfnt_bytes::{NoMemory, numbers};
 use std::alloc::Allocator;
@@ -114,14 +113,13 @@ impl From<SendError> for CutIntoError {
 // Returns the cut of a kind, or the refusal that applies.
 fn cut_exactly<A: Allocator + Copy>(
     alloc: A,
-    kind: Kind,
-    font: &Font<'_>,
+    font: &FontOfKind<'_, '_, A>,
     wanted: &Wanted<A>,
 ) -> Result<Vec<u8, A>, CutError>
-    ensures { MatchResult result (λ v. IsWritten (cut_in kind font.now (member wanted.now)) v.items)
-        (IsCutRefusal (cut_in kind font.now (member wanted.now))) }
+    ensures { MatchResult result (λ v. IsWritten (cut_in font.now.0 font.now.1 (member wanted.now)) v.items)
+        (IsCutRefusal (cut_in font.now.0 font.now.1 (member wanted.now))) }
 {
-    let source = CutOfKind::new(alloc, kind, font, wanted)?;
+    let source = CutOfKind::new(alloc, font, Some(wanted))?;
     Ok(file_in_memory(alloc, &source)?)
 }
 
@@ -139,22 +137,21 @@ fn cut_exactly<A: Allocator + Copy>(
 /// ```
 /// let font = Font::open(&BASE6)?;
 /// let wanted = wanted_of(rt.alloc(), &[(0xC1, 0xC1)])?;
-/// let made = cut_of_kind(rt.alloc(), Kind::Lean, &font, &wanted)?;
+/// let made = cut_of_kind(rt.alloc(), &FontOfKind::lean(&font), &wanted)?;
 /// assert_eq!(rt; made.as_slice(), LEAN_AACUTE.as_slice());
 /// ```
 pub fn cut_of_kind<A: Allocator + Copy>(
     alloc: A,
-    kind: Kind,
-    font: &Font<'_>,
+    font: &FontOfKind<'_, '_, A>,
     wanted: &Wanted<A>,
 ) -> Result<Vec<u8, A>, CutError>
-    ensures exact { MatchResult result (λ v. v.items ≡ cut_in kind font.now (member wanted.now))
-        (IsCutRefusal (cut_in kind font.now (member wanted.now))) }
+    ensures exact { MatchResult result (λ v. v.items ≡ cut_in font.now.0 font.now.1 (member wanted.now))
+        (IsCutRefusal (cut_in font.now.0 font.now.1 (member wanted.now))) }
     ensures small { IfOk result (λ v. length v.items ≤ MAX_FILE) }
-    ensures sound { IfOk result (λ v. IsSoundIn kind font.now (member wanted.now) v.items) }
+    ensures sound { IfOk result (λ v. IsSoundIn font.now.0 font.now.1 (member wanted.now) v.items) }
 {
-    recall_accepted(font);
-    cut_exactly(alloc, kind, font, wanted)
+    let _kind = font.kind();
+    cut_exactly(alloc, font, wanted)
 }
 
 /// Returns the cut of a font for the wanted codes, as one file in a vector of just its size. Every glyph
@@ -185,27 +182,26 @@ pub fn cut<A: Allocator + Copy>(
     ensures small { IfOk result (λ v. length v.items ≤ MAX_FILE) }
     ensures sound { IfOk result (λ v. IsSound font.now (member wanted.now) v.items) }
 {
-    cut_of_kind(alloc, Kind::Full, font, wanted)
+    cut_of_kind(alloc, &FontOfKind::full(font), wanted)
 }
 
 // Sends the cut of a kind, or answers the refusal that applies.
 fn cut_into_exactly<W: Write, A: Allocator + Copy>(
     alloc: A,
-    kind: Kind,
-    font: &Font<'_>,
+    font: &FontOfKind<'_, '_, A>,
     wanted: &Wanted<A>,
     out: &mut Outlet<W>,
 ) -> Result<u64, CutIntoError>
     requires { fresh_of out.old ≡ true }
-    ensures size { IfOk result (λ size. size ≡ length (cut_in kind font.now (member wanted.now))) }
-    ensures small { OnOk result (length (cut_in kind font.now (member wanted.now)) ≤ MAX_FILE) }
+    ensures size { IfOk result (λ size. size ≡ length (cut_in font.now.0 font.now.1 (member wanted.now))) }
+    ensures small { OnOk result (length (cut_in font.now.0 font.now.1 (member wanted.now)) ≤ MAX_FILE) }
     ensures sends { OnOk result
-        (WentOut W.contents out.old out.new (cut_in kind font.now (member wanted.now))) }
+        (WentOut W.contents out.old out.new (cut_in font.now.0 font.now.1 (member wanted.now))) }
     ensures unbroken { OnOk result (broken_of out.new ≡ false) }
     ensures stops { IfErr result
-        (StopsCut W.contents out.old out.new (cut_in kind font.now (member wanted.now))) }
+        (StopsCut W.contents out.old out.new (cut_in font.now.0 font.now.1 (member wanted.now))) }
 {
-    let source = CutOfKind::new(alloc, kind, font, wanted)?;
+    let source = CutOfKind::new(alloc, font, Some(wanted))?;
     Ok(send_whole(&source, out)?)
 }
 
@@ -218,26 +214,25 @@ fn cut_into_exactly<W: Write, A: Allocator + Copy>(
 /// Those of [`cut_into`].
 pub fn cut_of_kind_into<W: Write, A: Allocator + Copy>(
     alloc: A,
-    kind: Kind,
-    font: &Font<'_>,
+    font: &FontOfKind<'_, '_, A>,
     wanted: &Wanted<A>,
     out: &mut Outlet<W>,
 ) -> Result<u64, CutIntoError>
     requires { fresh_of out.old ≡ true }
-    ensures size { IfOk result (λ size. size ≡ length (cut_in kind font.now (member wanted.now))) }
-    ensures small { OnOk result (length (cut_in kind font.now (member wanted.now)) ≤ MAX_FILE) }
+    ensures size { IfOk result (λ size. size ≡ length (cut_in font.now.0 font.now.1 (member wanted.now))) }
+    ensures small { OnOk result (length (cut_in font.now.0 font.now.1 (member wanted.now)) ≤ MAX_FILE) }
     ensures sent { OnOk result (IsSome (W.contents (writer_of out.old)) →
-        HasSent W.contents out.new (cut_in kind font.now (member wanted.now))) }
+        HasSent W.contents out.new (cut_in font.now.0 font.now.1 (member wanted.now))) }
     ensures sends { OnOk result
-        (WentOut W.contents out.old out.new (cut_in kind font.now (member wanted.now))) }
+        (WentOut W.contents out.old out.new (cut_in font.now.0 font.now.1 (member wanted.now))) }
     ensures unbroken { OnOk result (broken_of out.new ≡ false) }
     ensures stops { IfErr result
-        (StopsCut W.contents out.old out.new (cut_in kind font.now (member wanted.now))) }
+        (StopsCut W.contents out.old out.new (cut_in font.now.0 font.now.1 (member wanted.now))) }
     ensures sound { OnOk result
-        (IsSoundIn kind font.now (member wanted.now) (cut_in kind font.now (member wanted.now))) }
+        (IsSoundIn font.now.0 font.now.1 (member wanted.now) (cut_in font.now.0 font.now.1 (member wanted.now))) }
 {
-    recall_accepted(font);
-    cut_into_exactly(alloc, kind, font, wanted, out)
+    let _kind = font.kind();
+    cut_into_exactly(alloc, font, wanted, out)
 }
 
 /// Sends the cut of a font for the wanted codes, and returns how many bytes it has. All memory is asked
@@ -276,5 +271,5 @@ pub fn cut_into<W: Write, A: Allocator + Copy>(
     ensures stops { IfErr result (StopsCut W.contents out.old out.new (cut_of font.now (member wanted.now))) }
     ensures sound { OnOk result (IsSound font.now (member wanted.now) (cut_of font.now (member wanted.now))) }
 {
-    cut_of_kind_into(alloc, Kind::Full, font, wanted, out)
+    cut_of_kind_into(alloc, &FontOfKind::full(font), wanted, out)
 }

@@ -11,9 +11,11 @@ ghost use Rattle.font_theory.specs.Kinds.{format_of, spelled_by};
 ghost use Rattle.font_subset.specs.Cut.{IsCutForSome, IsFormOf, cut_form_of};
 ghost use Rattle.font_subset.specs.Kinds.{IsCutIn, form_as};
 
-use crate::cut_source::{CutOf, recall_accepted};
+use crate::accepted::recall_accepted;
+use crate::font_of_kind::FontOfKind;
 use crate::forms::{CutForm, form_of_file};
 use crate::kind_source::CutOfKind;
+use crate::selection::Selection;
 use font_file::Font;
 use font_map::{Chart, Wanted};
 use font_theory::Kind;
@@ -21,44 +23,42 @@ use font_write::Source;
 use sfnt_bytes::NoMemory;
 use std::alloc::Allocator;
 
-/// Returns the form in which a font's file is its own cut of a kind for all codes, as [`cut_form`] does for
-/// full cuts. A lean cut is always current.
+/// Returns the form in which a font's file is its own cut of the font's kind for all codes, as [`cut_form`] does for
+/// full cuts. A lean or layout cut is always current.
 ///
 /// # Errors
 ///
 /// `NoMemory` where memory is refused.
 pub fn form_of_kind<A: Allocator + Copy>(
     alloc: A,
-    kind: Kind,
-    font: &Font<'_>,
+    font: &FontOfKind<'_, '_, A>,
 ) -> Result<CutForm, NoMemory>
-    ensures { IfOk result (λ form. form ≡ form_as kind font.now) }
+    ensures { IfOk result (λ form. form ≡ form_as font.now.0 font.now.1) }
 {
-    let source = CutOfKind::for_all_codes(alloc, kind, font)?;
+    let source = CutOfKind::new(alloc, font, None)?;
     Ok(source.form())
 }
 
-/// Returns the content of the full cut of a font for all codes, whose runs are listed, and the form in which the
-/// font's file is its own cut of a kind for all codes.
+/// Returns what all codes select of a font, with the runs of its map in a list, and the form in which the font's
+/// file is its own cut of the font's kind for all codes.
 ///
 /// # Errors
 ///
 /// `NoMemory` where memory is refused.
 pub fn listed_form<'f, 'a, A: Allocator + Copy>(
     alloc: A,
-    kind: Kind,
-    font: &'f Font<'a>,
-) -> Result<(CutOf<'f, 'a, A>, CutForm), NoMemory>
-    ensures source { IfOk result (λ both. both.0 ≡ (font.entry.now, None)) }
-    ensures form { IfOk result (λ both. both.1 ≡ form_as kind font.entry.now) }
+    font: &'f FontOfKind<'f, 'a, A>,
+) -> Result<(Selection<'f, 'a, A>, CutForm), NoMemory>
+    ensures selection { IfOk result (λ both. both.0 ≡ (font.entry.now.0, (font.entry.now.1, None))) }
+    ensures form { IfOk result (λ both. both.1 ≡ form_as font.entry.now.0 font.entry.now.1) }
 {
-    let cut = CutOf::with_runs(alloc, font)?;
-    let source = CutOfKind::of(alloc, kind, cut)?;
+    let selection = Selection::with_runs(alloc, font)?;
+    let source = CutOfKind::of(alloc, selection)?;
     let form = source.form();
-    Ok((source.into_cut(), form))
+    Ok((source.into_selection(), form))
 }
 
-/// Returns whether a font's file is its own cut of a kind for all codes, as it is written today. No cut is
+/// Returns whether a font's file is its own cut of the font's kind for all codes, as it is written today. No cut is
 /// built for that.
 ///
 /// # Errors
@@ -71,19 +71,18 @@ pub fn listed_form<'f, 'a, A: Allocator + Copy>(
 ///
 /// ```
 /// let (lean, made) = (Font::open(&LEAN_AACUTE)?, Font::open(&AACUTE)?);
-/// assert_eq!(rt; is_of_kind(rt.alloc(), Kind::Lean, &lean), Ok(true));
-/// assert_eq!(rt; is_of_kind(rt.alloc(), Kind::Lean, &made), Ok(false));
+/// assert_eq!(rt; is_of_kind(rt.alloc(), &FontOfKind::lean(&lean)), Ok(true));
+/// assert_eq!(rt; is_of_kind(rt.alloc(), &FontOfKind::lean(&made)), Ok(false));
 /// ```
 pub fn is_of_kind<A: Allocator + Copy>(
     alloc: A,
-    kind: Kind,
-    font: &Font<'_>,
+    font: &FontOfKind<'_, '_, A>,
 ) -> Result<bool, NoMemory>
-    ensures exact { IfOk result (λ b. b ≡ is_current (format_of kind) font.now) }
-    ensures form { IfOk result (λ b. IsTrue b ↔ IsCurrent (format_of kind) font.now) }
+    ensures exact { IfOk result (λ b. b ≡ is_current (format_of font.now.0) font.now.1) }
+    ensures form { IfOk result (λ b. IsTrue b ↔ IsCurrent (format_of font.now.0) font.now.1) }
 {
-    recall_accepted(font);
-    let form = form_of_kind(alloc, kind, font)?;
+    let _kind = font.kind();
+    let form = form_of_kind(alloc, font)?;
     Ok(matches!(form, CutForm::Current))
 }
 
@@ -99,7 +98,8 @@ pub fn cut_form<A: Allocator + Copy>(alloc: A, font: &Font<'_>) -> Result<CutFor
     ensures form { IfOk result (IsFormOf font.now) }
 {
     recall_accepted(font);
-    form_of_kind(alloc, Kind::Full, font)
+    let full = FontOfKind::full(font);
+    form_of_kind(alloc, &full)
 }
 
 /// Returns whether a font's file is its own cut for all codes, as it is written today. Of an old cut
@@ -122,7 +122,7 @@ pub fn is_cut<A: Allocator + Copy>(alloc: A, font: &Font<'_>) -> Result<bool, No
     ensures exact { IfOk result (λ b. b ≡ is_current our_format font.now) }
     ensures form { IfOk result (λ b. IsTrue b ↔ IsCurrent our_format font.now) }
 {
-    is_of_kind(alloc, Kind::Full, font)
+    is_of_kind(alloc, &FontOfKind::full(font))
 }
 
 // Returns the codes that a font maps. The runs ascend, so each is put after the codes that are in the
@@ -160,23 +160,22 @@ fn is_written<S: Source>(kind: Kind, source: &S, bytes: &[u8]) -> bool
     !matches!(form_of_file(kind, source, bytes), CutForm::Not)
 }
 
-// Returns whether a font's file is the cut of a kind of another font for the codes that it maps.
+// Returns whether a font's file is the cut of another font, of that font's kind, for the codes that it maps.
 fn is_cut_for_own_codes<A: Allocator + Copy>(
     alloc: A,
-    kind: Kind,
     cut: &Font<'_>,
-    font: &Font<'_>,
+    font: &FontOfKind<'_, '_, A>,
 ) -> Result<bool, NoMemory>
-    ensures { IfOk result (λ b. IsTrue b ↔ Writes (format_of kind)
-        (content ((format_of kind).font font.now) (is_mapped (map_of cut.now))) cut.now) }
+    ensures { IfOk result (λ b. IsTrue b ↔ Writes (format_of font.now.0)
+        (content ((format_of font.now.0).font font.now.1) (is_mapped (map_of cut.now))) cut.now) }
 {
     let codes = mapped_set(alloc, cut)?;
-    let source = CutOfKind::new(alloc, kind, font, &codes)?;
-    Ok(is_written(kind, &source, file_of(cut)))
+    let source = CutOfKind::new(alloc, font, Some(&codes))?;
+    Ok(is_written(font.kind(), &source, file_of(cut)))
 }
 
-/// Returns whether the file of `cut` is a cut of `font` for some codes, of a kind and in any form: then it is
-/// the cut for the codes that it maps itself. No cut is built for that.
+/// Returns whether the file of `cut` is a cut of `font` for some codes, of the kind for which both were opened and in
+/// any form: then it is the cut for the codes that it maps itself. No cut is built for that.
 ///
 /// # Errors
 ///
@@ -188,20 +187,21 @@ fn is_cut_for_own_codes<A: Allocator + Copy>(
 ///
 /// ```
 /// let (lean, made) = (Font::open(&LEAN_AACUTE)?, Font::open(&AACUTE)?);
-/// assert_eq!(rt; belongs(rt.alloc(), Kind::Lean, &lean, &made), Ok(true));
+/// let (cut, font) = (FontOfKind::lean(&lean), FontOfKind::lean(&made));
+/// assert_eq!(rt; belongs(rt.alloc(), &cut, &font), Ok(true));
 /// ```
 pub fn belongs<A: Allocator + Copy>(
     alloc: A,
-    kind: Kind,
-    cut: &Font<'_>,
-    font: &Font<'_>,
+    cut: &FontOfKind<'_, '_, A>,
+    font: &FontOfKind<'_, '_, A>,
 ) -> Result<bool, NoMemory>
-    ensures exact { IfOk result (λ b. IsTrue b ↔ Under (format_of kind) cut.now font.now) }
-    ensures some_codes { IfOk result (λ b. IsTrue b ↔ IsCutIn kind font.now cut.now) }
+    requires { cut.now.0 ≡ font.now.0 }
+    ensures exact { IfOk result (λ b. IsTrue b ↔ Under (format_of font.now.0) cut.now.1 font.now.1) }
+    ensures some_codes { IfOk result (λ b. IsTrue b ↔ IsCutIn font.now.0 font.now.1 cut.now.1) }
 {
-    recall_accepted(cut);
-    recall_accepted(font);
-    is_cut_for_own_codes(alloc, kind, cut, font)
+    let _cut_kind = cut.kind();
+    let _kind = font.kind();
+    is_cut_for_own_codes(alloc, cut.font(), font)
 }
 
 /// Returns whether the file of `cut` is a cut of `font` for some codes, in any form of a cut: then it is
@@ -218,5 +218,5 @@ pub fn is_cut_of<A: Allocator + Copy>(
     ensures exact { IfOk result (λ b. IsTrue b ↔ Under our_format cut.now font.now) }
     ensures some_codes { IfOk result (λ b. IsTrue b ↔ IsCutForSome font.now cut.now) }
 {
-    belongs(alloc, Kind::Full, cut, font)
+    belongs(alloc, &FontOfKind::full(cut), &FontOfKind::full(font))
 }

@@ -1,22 +1,22 @@
-//! What a cut of a kind is made of: what a cut keeps, and the tables that cuts of the kind have anew. Lean
-//! cuts have no metrics of glyphs that are not kept and no names of glyphs. OpenType 1.9, hmtx; vmtx; post.
-ghost use Rattle.std.specs.Prelude.{◌≡◌, ◌+◌, ◌*◌, ◌<◌, ◌≤◌, ◌||◌, ℕ, [], length, None, Some, IfOk, MatchOption, unwrap_or, if◌then◌else◌};
+//! What a cut of a kind is made of: what is selected of a font, and the tables that cuts of the kind have anew. Lean
+//! and layout cuts have no metrics of glyphs that are not kept and no names of glyphs. OpenType 1.9, hmtx; vmtx; post.
+ghost use Rattle.std.specs.Prelude.{◌≡◌, ◌≢◌, ◌+◌, ◌*◌, ◌<◌, ◌≤◌, ◌||◌, [], is_some, length, None, Some, IfOk, MatchOption, option_copied, unwrap_or, if◌then◌else◌};
 ghost use Rattle.std.specs.Option.{option_map, option_or};
 ghost use Rattle.sfnt_bytes.specs.declared.directory.TheConstants.{MAX_FILE};
 ghost use Rattle.font_file.specs.Font.{font_fault};
 ghost use Rattle.font_tables.specs.Fields.{number_of_h_metrics};
 ghost use Rattle.font_tables.specs.Refusals.{is_bad_hhea, is_bad_hmtx};
-ghost use Rattle.font_theory.specs.Content.{font_of, glyph_count, is_kept};
-ghost use Rattle.font_theory.specs.declared.kinds.Kind.TheVariants.{Lean};
+ghost use Rattle.font_theory.specs.Content.{glyph_count};
+ghost use Rattle.font_theory.specs.declared.kinds.Kind.TheVariants.{Full};
 ghost use Rattle.font_theory.specs.Lean.{blank, cleared, pairs_in, thin_post};
 ghost use Rattle.sfnt_bytes.specs.declared.tag.TheConstants.{POST};
-ghost use Rattle.font_subset.specs.Content.{codes_wanted, written_of};
+ghost use Rattle.font_subset.specs.Content.{selected, written_of};
 ghost use Rattle.font_subset.specs.Kinds.{form_as};
 
-use crate::cut_source::CutOf;
+use crate::font_of_kind::FontOfKind;
 use crate::forms::{CutForm, form_of_file};
 use crate::lean_tables::{POST_LENGTH, blank_table, cleared_table, unnamed};
-use font_file::Font;
+use crate::selection::Selection;
 use font_map::{Run, Wanted};
 use font_tables::{has_bad_hhea, has_bad_hmtx, read_number_of_h_metrics};
 use font_theory::Kind;
@@ -43,30 +43,31 @@ pub fn pairs_by(header: &[u8], table: &[u8], count: u16) -> usize
     usize::from(pairs)
 }
 
-// Returns a table of metrics with zeros for the glyphs that are not kept. Where there is none, or its
-// header does not describe it, a lean cut has what the font has, and none is returned.
-fn metrics_table<A: Allocator + Copy>(
+// Returns a table of metrics of a content with zeros for the glyphs that are not kept. Where there is none, or its
+// header does not describe it, a lean cut has that of the content, and none is returned.
+fn metrics_table<S: Source, A: Allocator>(
     alloc: A,
-    cut: &CutOf<'_, '_, A>,
+    source: &S,
     header: usize,
     slot: usize,
 ) -> Result<Option<Vec<u8, A>>, NoMemory>
     ensures table { IfOk result (λ o.
-        option_or (option_map (λ v. v.items) o) ((font_of cut.now.0).copied slot)
-        ≡ option_map (cleared (is_kept (font_of cut.now.0) (codes_wanted cut.now.1))
-        (pairs_in (font_of cut.now.0).copied header slot) (glyph_count (font_of cut.now.0).copied))
-        ((font_of cut.now.0).copied slot)) }
+        option_or (option_map (λ v. v.items) o) ((S.content_of source.now).copied slot)
+        ≡ option_map (cleared (λ g. is_some ((S.content_of source.now).outline g))
+        (pairs_in (S.content_of source.now).copied header slot)
+        (glyph_count (S.content_of source.now).copied))
+        ((S.content_of source.now).copied slot)) }
     ensures small { IfOk result (λ o. length (unwrap_or (option_map (λ v. v.items) o) []) ≤ MAX_FILE) }
 {
-    let count = cut.glyph_count();
-    match cut.copied(slot) {
+    let count = source.glyph_count();
+    match source.copied(slot) {
         None => Ok(None),
         Some(table) => {
-            let pairs = pairs_by(cut.copied(header).unwrap_or(&[]), table, count);
+            let pairs = pairs_by(source.copied(header).unwrap_or(&[]), table, count);
             if pairs == 0 {
                 return Ok(None);
             }
-            let bytes = cleared_table(alloc, cut, table, pairs)?;
+            let bytes = cleared_table(alloc, source, table, pairs)?;
             Ok(Some(bytes))
         }
     }
@@ -100,18 +101,15 @@ pub fn blank_of<S: Source, A: Allocator>(
     }
 }
 
-// Returns `post` without names. Where there is none, or it is too short for its fields, a lean cut has what
-// the font has, and none is returned.
-fn post_table<A: Allocator + Copy>(
-    alloc: A,
-    cut: &CutOf<'_, '_, A>,
-) -> Result<Option<Vec<u8, A>>, NoMemory>
+// Returns `post` of a content without names. Where there is none, or it is too short for its fields, a lean cut
+// has that of the content, and none is returned.
+fn post_table<S: Source, A: Allocator>(alloc: A, source: &S) -> Result<Option<Vec<u8, A>>, NoMemory>
     ensures table { IfOk result (λ o.
-        option_or (option_map (λ v. v.items) o) ((font_of cut.now.0).copied POST)
-        ≡ option_map thin_post ((font_of cut.now.0).copied POST)) }
+        option_or (option_map (λ v. v.items) o) ((S.content_of source.now).copied POST)
+        ≡ option_map thin_post ((S.content_of source.now).copied POST)) }
     ensures small { IfOk result (λ o. length (unwrap_or (option_map (λ v. v.items) o) []) ≤ MAX_FILE) }
 {
-    match cut.copied(POST) {
+    match source.copied(POST) {
         None => Ok(None),
         Some(post) => {
             if post.len() < POST_LENGTH {
@@ -134,19 +132,18 @@ pub fn bytes_of<A: Allocator>(table: &Option<Vec<u8, A>>) -> Option<&[u8]>
     }
 }
 
-/// What a cut of a kind is made of: the codes and outlines of a cut, and the tables of a font, some of them
-/// made anew. A full cut has none of these.
+/// What a cut of a kind is made of: what is selected of a font, and the tables that are made anew. A full cut has
+/// none of these.
 #[derive(Drop)]
 pub struct CutOfKind<'f, 'a, A: Allocator = Global> {
-    kind: Kind,
-    cut: CutOf<'f, 'a, A>,
+    selection: Selection<'f, 'a, A>,
     // Where one of these is missing, the table of the font serves.
     hmtx: Option<Vec<u8, A>>,
     post: Option<Vec<u8, A>>,
     vmtx: Option<Vec<u8, A>>,
 }
 
-// Its value is the kind, and that of the cut.
+// Its value is that of the selection: the kind, the file of the font, and the ranges of the wanted codes.
 impl<'f, 'a, A: Allocator> Model for CutOfKind<'f, 'a, A> {
     ghost use Rattle.std.specs.Prelude.{ℕ, List, Option};
     ghost use Rattle.std.specs.Option.{option_map};
@@ -157,84 +154,68 @@ impl<'f, 'a, A: Allocator> Model for CutOfKind<'f, 'a, A> {
 
     ghost Value = { Kind × (List ℕ × Option (List CodeRange)) };
 
-    ghost view = { λ c. (c.kind, c.cut) };
+    ghost view = { λ c. c.selection };
 
-    ghost invariant = { λ c. IsMadeTable c.kind c.cut HMTX (option_map (λ v. v.items) c.hmtx)
-        × IsMadeTable c.kind c.cut POST (option_map (λ v. v.items) c.post)
-        × IsMadeTable c.kind c.cut VMTX (option_map (λ v. v.items) c.vmtx) };
+    ghost invariant = { λ c. IsMadeTable c.selection HMTX (option_map (λ v. v.items) c.hmtx)
+        × IsMadeTable c.selection POST (option_map (λ v. v.items) c.post)
+        × IsMadeTable c.selection VMTX (option_map (λ v. v.items) c.vmtx) };
 }
 
 impl<'f, 'a, A: Allocator + Copy> CutOfKind<'f, 'a, A> {
-    /// Returns the content of the cut of a kind for the codes of a cut. The tables that it has anew are asked
-    /// for here, and no memory later.
+    /// Returns the content of the cut of what is selected. The tables that it has anew are asked for here, and no
+    /// memory later.
     ///
     /// # Errors
     ///
     /// `NoMemory` where memory is refused.
-    pub fn of(alloc: A, kind: Kind, cut: CutOf<'f, 'a, A>) -> Result<CutOfKind<'f, 'a, A>, NoMemory>
-        ensures { IfOk result (λ source. source ≡ (kind, cut.entry)) }
+    pub fn of(alloc: A, selection: Selection<'f, 'a, A>) -> Result<CutOfKind<'f, 'a, A>, NoMemory>
+        ensures { IfOk result (λ source. source ≡ selection.entry) }
     {
-        match kind {
+        match selection.kind() {
             Kind::Full => Ok(CutOfKind {
-                kind: Kind::Full,
-                cut,
+                selection,
                 hmtx: None,
                 post: None,
                 vmtx: None,
             }),
-            Kind::Lean => CutOfKind::lean(alloc, cut),
+            Kind::Lean | Kind::Layout => CutOfKind::leaned(alloc, selection),
         }
     }
 
-    // Returns the content of the lean cut for the codes of a cut.
-    fn lean(alloc: A, cut: CutOf<'f, 'a, A>) -> Result<CutOfKind<'f, 'a, A>, NoMemory>
-        ensures { IfOk result (λ source. source ≡ (Lean, cut.entry)) }
+    // Returns the content of the cut of what is selected, which has no metrics of glyphs that are not kept, and
+    // no names of glyphs.
+    fn leaned(alloc: A, selection: Selection<'f, 'a, A>) -> Result<CutOfKind<'f, 'a, A>, NoMemory>
+        requires { selection.0 ≢ Full }
+        ensures { IfOk result (λ source. source ≡ selection.entry) }
     {
-        let _file = cut.file();
-        let hmtx = metrics_table(alloc, &cut, HHEA, HMTX)?;
-        let post = post_table(alloc, &cut)?;
-        let vmtx = metrics_table(alloc, &cut, VHEA, VMTX)?;
+        let _kind = selection.kind();
+        let hmtx = metrics_table(alloc, &selection, HHEA, HMTX)?;
+        let post = post_table(alloc, &selection)?;
+        let vmtx = metrics_table(alloc, &selection, VHEA, VMTX)?;
         Ok(CutOfKind {
-            kind: Kind::Lean,
-            cut,
+            selection,
             hmtx,
             post,
             vmtx,
         })
     }
 
-    /// Returns the content of the cut of a kind of a font for the wanted codes. All memory that the cut needs
-    /// before its file is made is asked for here.
+    /// Returns the content of the cut of a font for the wanted codes, or for all where no set is given. All memory
+    /// that the cut needs before its file is made is asked for here.
     ///
     /// # Errors
     ///
     /// `NoMemory` where memory is refused.
     pub fn new(
         alloc: A,
-        kind: Kind,
-        font: &'f Font<'a>,
-        wanted: &'f Wanted<A>,
+        font: &'f FontOfKind<'f, 'a, A>,
+        wanted: Option<&'f Wanted<A>>,
     ) -> Result<CutOfKind<'f, 'a, A>, NoMemory>
-        ensures { IfOk result (λ source. source ≡ (kind, (font.entry.now, Some wanted.entry.now))) }
+        ensures { IfOk result (λ source.
+            source ≡ (font.entry.now.0, (font.entry.now.1, option_copied wanted.entry))) }
     {
-        let cut = CutOf::new(alloc, font, wanted)?;
-        CutOfKind::of(alloc, kind, cut)
-    }
-
-    /// Returns the content of the cut of a kind of a font for all codes.
-    ///
-    /// # Errors
-    ///
-    /// `NoMemory` where memory is refused.
-    pub fn for_all_codes(
-        alloc: A,
-        kind: Kind,
-        font: &'f Font<'a>,
-    ) -> Result<CutOfKind<'f, 'a, A>, NoMemory>
-        ensures { IfOk result (λ source. source ≡ (kind, (font.entry.now, None))) }
-    {
-        let cut = CutOf::for_all_codes(alloc, font)?;
-        CutOfKind::of(alloc, kind, cut)
+        let selection = Selection::new(alloc, font, wanted)?;
+        CutOfKind::of(alloc, selection)
     }
 }
 
@@ -247,14 +228,14 @@ impl<'f, 'a, A: Allocator> CutOfKind<'f, 'a, A> {
         ensures sound { font_fault self.now.1.0 ≡ None }
         ensures small { length result.now ≤ MAX_FILE }
     {
-        self.cut.file()
+        self.selection.file()
     }
 
-    /// Returns the cut alone.
-    pub fn into_cut(self) -> CutOf<'f, 'a, A>
-        ensures { result ≡ self.entry.1 }
+    /// Returns what is selected alone.
+    pub fn into_selection(self) -> Selection<'f, 'a, A>
+        ensures { result ≡ self.entry }
     {
-        self.cut
+        self.selection
     }
 
     /// Returns the form in which the font's file is the file of this content, which is that for all codes.
@@ -262,14 +243,14 @@ impl<'f, 'a, A: Allocator> CutOfKind<'f, 'a, A> {
         requires { self.now.1.1 ≡ None }
         ensures { result ≡ form_as self.now.0 self.now.1.0 }
     {
-        form_of_file(self.kind, self, self.file())
+        form_of_file(self.selection.kind(), self, self.file())
     }
 
     // Returns the table of a slot that the cut has anew.
     fn made(&self, slot: usize) -> Option<&[u8]>
         ensures table { MatchOption result
-            ((written_of self.now.0 self.now.1).copied slot ≡ (font_of self.now.1.0).copied slot)
-            (λ b. (written_of self.now.0 self.now.1).copied slot ≡ Some b.now) }
+            ((written_of self.now).copied slot ≡ (selected self.now).copied slot)
+            (λ b. (written_of self.now).copied slot ≡ Some b.now) }
         ensures small { MatchOption result Unit (λ b. length b.now ≤ MAX_FILE) }
     {
         if slot == HMTX {
@@ -281,6 +262,7 @@ impl<'f, 'a, A: Allocator> CutOfKind<'f, 'a, A> {
         if slot == VMTX {
             return bytes_of(&self.vmtx);
         }
+        let _kind = self.selection.kind();
         None
     }
 }
@@ -288,48 +270,47 @@ impl<'f, 'a, A: Allocator> CutOfKind<'f, 'a, A> {
 impl<'f, 'a, A: Allocator> Source for CutOfKind<'f, 'a, A> {
     ghost use Rattle.font_subset.specs.Content.{written_of};
 
-    ghost content_of = { λ c. written_of c.0 c.1 };
+    ghost content_of = { written_of };
 
     fn recall_laws(&self) {
-        let _file = self.cut.file();
+        let _kind = self.selection.kind();
+        self.selection.recall_laws();
     }
 
     fn copied(&self, slot: usize) -> Option<&[u8]> {
         match self.made(slot) {
             Some(table) => Some(table),
-            None => self.cut.copied(slot),
+            None => self.selection.copied(slot),
         }
     }
 
-    #[tactic(auto, using(crate::proofs::KindSourceLemmas::in_head))]
     fn head(&self) -> &[u8] {
-        self.cut.head()
+        let _kind = self.selection.kind();
+        self.selection.head()
     }
 
-    #[tactic(auto, using(crate::proofs::KindSourceLemmas::in_count))]
     fn glyph_count(&self) -> u16 {
-        let _file = self.cut.file();
-        self.cut.glyph_count()
+        let _kind = self.selection.kind();
+        self.selection.glyph_count()
     }
 
-    #[tactic(auto, using(crate::proofs::KindSourceLemmas::in_map))]
     fn next_run(&self, from: u32) -> Option<Run> {
-        self.cut.next_run(from)
+        let _kind = self.selection.kind();
+        self.selection.next_run(from)
     }
 
-    #[tactic(auto, using(crate::proofs::KindSourceLemmas::in_keeps))]
     fn keeps(&self, g: u16) -> bool {
-        let _file = self.cut.file();
-        self.cut.keeps(g)
+        let _kind = self.selection.kind();
+        self.selection.keeps(g)
     }
 
     fn next_kept(&self, from: u16) -> u16 {
-        let _file = self.cut.file();
-        self.cut.next_kept(from)
+        let _kind = self.selection.kind();
+        self.selection.next_kept(from)
     }
 
     fn outline_of(&self, g: u16) -> &[u8] {
-        let _file = self.cut.file();
-        self.cut.outline_of(g)
+        let _kind = self.selection.kind();
+        self.selection.outline_of(g)
     }
 }

@@ -8,7 +8,7 @@ use Rattle.font_join.specs.Inside.{IsAddRefusal, add_fault}
 use Rattle.font_join.specs.Join.{IsJoin}
 use Rattle.font_join.specs.KindInside.{HoldsIn, IsGrown}
 use Rattle.font_join.specs.Union.{Held, content_in}
-use Rattle.font_join.proofs.JoinLemmas.{second_refused}
+use Rattle.font_join.proofs.JoinLemmas.{font_accepted, second_refused}
 use Rattle.font_subset.proofs.CutLemmas.{passed_on}
 use Rattle.font_join.proofs.TurnLemmas.{joined_next, refused_next, too_large_next}
 use Rattle.font_join.proofs.in_turn.joined_with.Goals as goal
@@ -16,7 +16,7 @@ use Rattle.font_join.proofs.in_turn.joined_with.Goals as goal
 pub returns-in_err-next : goal.returns-in_err-next
 returns-in_err-next g c = λ kind x h.
     passed_on _ _ c.from_residual.result _ c.from_residual.ensures.1
-    (second_refused (format_of kind) x c.args.y.now c.in_err-next.field-0.0 (sym ((kind_is kind).fault x) ∙ h.holds.form.accepted) c.in_err-next.ensures)
+    (second_refused (format_of kind) x c.args.y.now c.in_err-next.field-0.0 (font_accepted (kind_is kind) x h.holds.form.accepted) c.in_err-next.ensures)
 
 pub returns-in_err-union : goal.returns-in_err-union
 returns-in_err-union g c = λ kind x h.

@@ -9,3 +9,6 @@ returns-in_err-first g c = passed_on _ _ c.from_residual.result _ c.from_residua
 
 pub file_of_all-requires : goal.file_of_all-requires
 file_of_all-requires g c = omega (arith, length-map c.args.files.now (λ v. v.items), c.in_ok-all.ensures.united.some)
+
+pub returns : goal.returns
+returns g c = c.file_of_all.ensures c.args.kind c.in_ok-all.ensures

@@ -9,10 +9,10 @@ returns-in_err-file_in_memory g c =
     let error = c.in_err-file_in_memory.field-0.0 in
     passed_on _ _ c.from_residual-in_err-file_in_memory.result _ c.from_residual-in_err-file_in_memory.ensures.1
     (subst (λ (z : List ℕ). IsCutRefusal z (of_file_error error))
-    (cut_in_is c.args.kind c.args.font.now c.args.wanted.now c.in_ok-source.source c.in_ok-source.ensures)
+    (cut_in_is c.args.font.now c.args.wanted.now c.in_ok-source.source c.in_ok-source.ensures)
     (file_refused _ error c.in_err-file_in_memory.ensures))
 
 pub returns : goal.returns
 returns g c =
     subst (λ (z : List ℕ). IsWritten z c.in_ok-file_in_memory.field-0.items)
-    (cut_in_is c.args.kind c.args.font.now c.args.wanted.now c.in_ok-source.source c.in_ok-source.ensures) c.in_ok-file_in_memory.ensures
+    (cut_in_is c.args.font.now c.args.wanted.now c.in_ok-source.source c.in_ok-source.ensures) c.in_ok-file_in_memory.ensures

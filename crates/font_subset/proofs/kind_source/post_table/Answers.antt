@@ -1,5 +1,4 @@
 use Rattle.std.proofs.Common.{ℕ, List, Option, length, ap, arith}
-use Rattle.font_theory.specs.Content.{font_of}
 use Rattle.sfnt_bytes.specs.declared.tag.TheConstants.{POST}
 use Rattle.font_theory.proofs.LeanCopiedLemmas.{length-thin_post}
 use Rattle.font_subset.proofs.KindSourceLemmas.{thin_nowhere}
@@ -7,7 +6,7 @@ use Rattle.font_subset.proofs.kind_source.post_table.Goals as goal
 
 pub returns-then-post-lt-POST_LENGTH-clause-table : goal.returns-then-post-lt-POST_LENGTH-clause-table
 returns-then-post-lt-POST_LENGTH-clause-table g c =
-    let copied : ℕ → Option (List ℕ) = (font_of c.args.cut.now.0).copied in
+    let copied : ℕ → Option (List ℕ) = (g.S.Source.content_of c.args.source.now).copied in
     thin_nowhere (copied POST) c.in-Some.post.now c.in-Some.ensures.table c.if-post-lt-POST_LENGTH.true
 
 pub returns-in_ok-bytes-in-Some-clause-small : goal.returns-in_ok-bytes-in-Some-clause-small

@@ -1,7 +1,7 @@
 use Rattle.std.proofs.Common.{ap, sym, ◌∙◌}
 use Rattle.font_tables.specs.Fields.{glyph_count_of}
-use Rattle.font_theory.specs.Content.{font_of}
-use Rattle.font_theory.proofs.FontLemmas.{glyph_count-file}
+use Rattle.font_theory.specs.Kinds.{tables_as}
+use Rattle.font_subset.proofs.SourceLemmas.{count_as}
 use Rattle.font_join.specs.Union.{Held}
 use Rattle.font_join.proofs.MergeLemmas.{count_in}
 use Rattle.font_join.proofs.union.UnionSource.glyph_count.Goals as goal
@@ -9,5 +9,5 @@ use Rattle.font_join.proofs.union.UnionSource.glyph_count.Goals as goal
 pub returns : goal.returns
 returns g c =
     let u : Held = c.args.self.now in
-    c.glyph_count.ensures.count ∙ ap glyph_count_of (c.tables.ensures.tables ∙ ap (λ (v : Held). v.tables) c.self.view_is)
-    ∙ sym (glyph_count-file u.tables) ∙ sym (count_in u.kind (font_of u.tables).copied u.hmtx u.vmtx)
+    c.glyph_count.ensures.count ∙ ap glyph_count_of (c.tables.ensures.tables ∙ c.font.ensures.font ∙ ap (λ (v : Held). v.tables) c.self.view_is)
+    ∙ count_as u.kind u.tables ∙ sym (count_in u.kind (tables_as u.kind u.tables) u.hmtx u.vmtx)

@@ -1,3 +1,6 @@
+use Rattle.std.proofs.Common.{◌≡◌, subst}
+use Rattle.font_subset.specs.Content.{selected, written_of}
+use Rattle.font_subset.proofs.SourceLemmas.{Held}
 use Rattle.font_subset.proofs.KindSourceLemmas.{made_at, other_slot, small_by}
 use Rattle.font_subset.proofs.kind_source.CutOfKind.made.Goals as goal
 
@@ -23,4 +26,6 @@ pub returns-then-slot-eq-VMTX-clause-small : goal.returns-then-slot-eq-VMTX-clau
 returns-then-slot-eq-VMTX-clause-small g c = small_by (λ b. b.now) c.bytes_of-then-slot-eq-VMTX.result _ c.bytes_of-then-slot-eq-VMTX.ensures c.self.invariant.2.small
 
 pub returns-clause-table : goal.returns-clause-table
-returns-clause-table g c = other_slot c.args.self.now.0 c.args.self.now.1 c.args.slot c.if-slot-eq-HMTX.false c.if-slot-eq-POST.false c.if-slot-eq-VMTX.false
+returns-clause-table g c =
+    subst (λ (v : Held). (written_of v).copied c.args.slot ≡ (selected v).copied c.args.slot) c.self.view_is
+    (other_slot c.self.inside.selection c.kind-kind.ensures.sound c.args.slot c.if-slot-eq-HMTX.false c.if-slot-eq-POST.false c.if-slot-eq-VMTX.false)

@@ -1,0 +1,11 @@
+use Rattle.std.proofs.Common.{◌≡◌, ◌∙◌, sym, subst}
+use Rattle.font_subset.specs.Content.{written_of}
+use Rattle.font_theory.specs.Content.{glyph_count}
+use Rattle.font_subset.proofs.KindSourceLemmas.{in_count}
+use Rattle.font_subset.proofs.SourceLemmas.{Held}
+use Rattle.font_subset.proofs.kind_source.CutOfKindSource.glyph_count.Goals as goal
+
+pub returns : goal.returns
+returns g c =
+    subst (λ (v : Held). c.glyph_count.result ≡ glyph_count (written_of v).copied) c.self.view_is
+    (c.glyph_count.ensures ∙ sym (in_count c.self.inside.selection c.kind-kind.ensures.sound))

@@ -1,0 +1,8 @@
+use Rattle.std.proofs.Common.{List, ℕ, ◌≤◌, length, subst, sym, ◌∙◌}
+use Rattle.sfnt_bytes.specs.declared.directory.TheConstants.{MAX_FILE}
+use Rattle.font_theory.proofs.FontLemmas.{size-accepted}
+use Rattle.font_subset.proofs.selection.Selection.file.Goals as goal
+
+pub returns-clause-small : goal.returns-clause-small
+returns-clause-small g c =
+    subst (λ (b : List ℕ). length b ≤ MAX_FILE) (sym (c.file.ensures.file ∙ c.directory.ensures.directory ∙ c.tables.ensures.tables)) (size-accepted c.font.result.now c.tables.ensures.sound)

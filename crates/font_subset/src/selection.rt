@@ -1,0 +1,475 @@
+//! What is selected of a font for its cuts of a kind: the codes that are wanted of it, and the glyphs that these
+//! keep. From .notdef and the glyphs of these codes links lead to the roots, which for full and lean cuts are
+//! these glyphs alone, and from there chains of components lead to all that is kept. OpenType 1.9, cmap; glyf,
+//! Composite Glyph Description; GSUB.
+ghost use Rattle.std.specs.Prelude.{◌≡◌, ◌+◌, ◌-◌, ◌<◌, ◌≤◌, ℕ, Bool, [], length, None, Some, option_copied, unwrap_or, IfOk, MatchOption, true};
+ghost use Rattle.sfnt_bytes.specs.Directory.{is_layout_slot, kept_tag, table_of};
+ghost use Rattle.sfnt_bytes.specs.declared.directory.TheConstants.{MAX_FILE};
+ghost use Rattle.sfnt_bytes.specs.declared.tag.TheConstants.{HEAD};
+ghost use Rattle.font_tables.specs.Fields.{glyph_count_of};
+ghost use Rattle.font_tables.specs.Outlines.{outline_of};
+ghost use Rattle.font_tables.specs.Tables.{head_of};
+ghost use Rattle.codes.specs.CharacterMap.{IsCharacterMap};
+ghost use Rattle.codes.specs.Runs.{IsRun, NoRun};
+ghost use Rattle.font_file.specs.Font.{font_fault};
+ghost use Rattle.font_theory.specs.Content.{content, everything, font_of};
+ghost use Rattle.font_theory.specs.Cut.{IsCut};
+ghost use Rattle.font_theory.specs.Kinds.{fault_of, font_as, format_of, tables_as};
+ghost use Rattle.font_theory.specs.declared.kinds.Kind.{Kind};
+ghost use Rattle.font_theory.specs.declared.kinds.Kind.TheVariants.{Full};
+ghost use Rattle.font_subset.specs.Content.{IsKeptSet, IsRootSet, codes_wanted, layout_read, wanted_map};
+ghost use Rattle.font_subset.specs.Inside.{AreMarked, IsSeedSet};
+ghost use Rattle.font_subset.specs.ListedRuns.{AreRunsOf};
+
+use crate::accepted::{copied, head, outline, recall_accepted};
+use crate::font_of_kind::FontOfKind;
+use crate::layout_font::LayoutFont;
+use crate::listed_runs::ListedRuns;
+use font_file::Font;
+use font_glyph::{Marks, close};
+use font_map::{Chart, Pieces, Run, Wanted, run_of};
+use font_theory::Kind;
+use font_write::Source;
+use sfnt_bytes::{ALL_SLOTS, NoMemory, SLOTS};
+use std::alloc::{Allocator, Global};
+use std::marker::Model;
+
+// Marks the glyphs of a run.
+#[tactic(auto, using(crate::proofs::SeedLemmas::marked_start, crate::proofs::SeedLemmas::marked_more, crate::proofs::SeedLemmas::marked_end))]
+fn mark_run<A: Allocator>(marks: &mut Marks<A>, run: Run)
+    requires order { run.first ≤ run.last }
+    requires within { run.glyph + (run.last - run.first) < length marks.old }
+    requires small { run.glyph + (run.last - run.first) < 65536 }
+    ensures { AreMarked marks.old marks.new run.glyph (run.last - run.first + 1) }
+{
+    let end = u32::from(run.glyph) + (run.last - run.first) + 1;
+    for g in u32::from(run.glyph)..end {
+        marks.set(g as u16);
+    }
+}
+
+// A font, and the chart of its mapping, which is quick to walk in whatever order its subtable stands.
+#[derive(Drop)]
+struct Charted<'f, 'a, A: Allocator> {
+    font: &'f Font<'a>,
+    chart: Chart<'f, A>,
+    // The runs of the mapping, where they are walked more than once.
+    listed: Option<ListedRuns<A>>,
+}
+
+// Its value is the file of the font.
+impl<'f, 'a, A: Allocator> Model for Charted<'f, 'a, A> {
+    ghost use Rattle.std.specs.Prelude.{◌≡◌, ℕ, List};
+    ghost use Rattle.font_tables.specs.Fields.{glyph_count_of};
+    ghost use Rattle.font_file.specs.Font.{cmap_of};
+    ghost use Rattle.std.specs.Prelude.{IfSome};
+    ghost use Rattle.font_subset.specs.ListedRuns.{AreRunsOf};
+
+    ghost Value = { List ℕ };
+
+    ghost view = { λ c. c.font.now };
+
+    ghost invariant = { λ c. (c.chart ≡ (cmap_of c.font.now, glyph_count_of c.font.now))
+        × IfSome c.listed (AreRunsOf c.font.now) };
+}
+
+impl<'f, 'a, A: Allocator + Copy> Charted<'f, 'a, A> {
+    fn of(alloc: A, font: &'f Font<'a>) -> Result<Charted<'f, 'a, A>, NoMemory>
+        ensures { IfOk result (λ charted. charted ≡ font.entry.now) }
+    {
+        let chart = Chart::of(alloc, font.mapping())?;
+        Ok(Charted {
+            font,
+            chart,
+            listed: None,
+        })
+    }
+
+    // Does the same, and lists the runs of the mapping.
+    fn with_runs(alloc: A, font: &'f Font<'a>) -> Result<Charted<'f, 'a, A>, NoMemory>
+        ensures { IfOk result (λ charted. charted ≡ font.entry.now) }
+    {
+        let charted = Charted::of(alloc, font)?;
+        let runs = charted.runs(alloc)?;
+        Ok(Charted {
+            font: charted.font,
+            chart: charted.chart,
+            listed: Some(ListedRuns::new(runs)),
+        })
+    }
+
+    // Recalls for the prover what opening the font has shown of its map. Does nothing at run time.
+    #[tactic(auto, using(crate::proofs::SeedLemmas::whole_map))]
+    fn known_map(&self)
+        ensures { IsCharacterMap (wanted_map self.now None) }
+    {
+        let _count = self.font().tables().glyph_count();
+    }
+
+    // Lists the runs of the whole map.
+    fn runs(&self, alloc: A) -> Result<Vec<Run, A>, NoMemory>
+        ensures { IfOk result (λ runs. AreRunsOf self.now runs.items) }
+    {
+        self.known_map();
+        let mut runs = Vec::new(alloc);
+        let mut ahead = self.chart.piece(0);
+        let mut from = 0;
+        while let Some(piece) = ahead {
+            let (run, behind) = run_of(&self.chart, piece);
+            if runs.push(run).is_err() {
+                return Err(NoMemory);
+            }
+            from = run.last + 1;
+            ahead = behind;
+        }
+        Ok(runs)
+    }
+
+    // Returns the runs of the whole map.
+    fn into_runs(self, alloc: A) -> Result<Vec<Run, A>, NoMemory>
+        ensures { IfOk result (λ runs. AreRunsOf self.entry runs.items) }
+    {
+        let Charted {
+            font,
+            chart,
+            listed,
+        } = self;
+        match listed {
+            Some(listed) => Ok(listed.into_runs()),
+            None => Charted {
+                font,
+                chart,
+                listed: None,
+            }
+            .runs(alloc),
+        }
+    }
+}
+
+impl<'f, 'a, A: Allocator> Charted<'f, 'a, A> {
+    fn font(&self) -> &'f Font<'a>
+        ensures font { result.now ≡ self.now }
+
+        // What opening the font has shown.
+        ensures sound { font_fault self.now ≡ None }
+    {
+        recall_accepted(self.font);
+        self.font
+    }
+
+    // Returns the run that begins at the least mapped and wanted code not below `from`.
+    #[inline(always)]
+    fn run_from<B: Allocator>(&self, wanted: Option<&Wanted<B>>, from: u32) -> Option<Run>
+        ensures { MatchOption result
+            (NoRun (wanted_map self.now (option_copied wanted.entry)) from)
+            (IsRun (wanted_map self.now (option_copied wanted.entry)) from) }
+    {
+        match wanted {
+            Some(wanted) => self.chart.wanted_run(wanted, from),
+            None => self.next_run(from),
+        }
+    }
+
+    // Returns the run that begins at the least mapped code not below `from`.
+    #[inline(always)]
+    fn next_run(&self, from: u32) -> Option<Run>
+        ensures { MatchOption result (NoRun (wanted_map self.now None) from)
+            (IsRun (wanted_map self.now None) from) }
+    {
+        match &self.listed {
+            Some(listed) => listed.next_run(from),
+            None => self.chart.next_run(from),
+        }
+    }
+}
+
+// Marks .notdef, and the glyphs of the wanted codes.
+fn mark_seeds<A: Allocator + Copy>(
+    alloc: A,
+    font: &Charted<'_, '_, A>,
+    wanted: Option<&Wanted<A>>,
+) -> Result<Marks<A>, NoMemory>
+    ensures { IfOk result (IsSeedSet font.now (codes_wanted (option_copied wanted.entry))) }
+{
+    let mut seeds = Marks::new(alloc, font.font().tables().glyph_count())?;
+    seeds.set(0);
+    let mut from = 0;
+    while let Some(run) = font.run_from(wanted, from) {
+        mark_run(&mut seeds, run);
+        from = run.last + 1;
+    }
+    Ok(seeds)
+}
+
+// Marks the roots of a cut: the glyphs to which links lead from .notdef and from those of the wanted codes.
+fn mark_roots<A: Allocator + Copy>(
+    alloc: A,
+    kind: Kind,
+    font: &Charted<'_, '_, A>,
+    layout: Option<&LayoutFont<'_, '_, A>>,
+    wanted: Option<&Wanted<A>>,
+) -> Result<Marks<A>, NoMemory>
+    requires accepted { fault_of kind font.now ≡ None }
+    requires layout { option_copied layout ≡ layout_read kind font.now }
+    ensures { IfOk result (IsRootSet kind font.now (codes_wanted (option_copied wanted.entry))) }
+{
+    let seeds = mark_seeds(alloc, font, wanted)?;
+    match layout {
+        None => Ok(seeds),
+        Some(layout) => {
+            let roots = layout.mark_roots(alloc, &seeds)?;
+            Ok(roots)
+        }
+    }
+}
+
+// Marks the glyphs that a cut keeps: its roots, and what they are made of.
+fn mark_reached<A: Allocator + Copy>(
+    alloc: A,
+    font: &Charted<'_, '_, A>,
+    roots: &Marks<A>,
+) -> Result<Marks<A>, NoMemory>
+    requires { length roots.now ≡ glyph_count_of font.now }
+    ensures { IfOk result (λ kept. (kind : Kind) (wanted : ℕ → Bool) → fault_of kind font.now ≡ None →
+        IsRootSet kind font.now wanted roots.now → IsKeptSet kind font.now wanted kept) }
+{
+    let kept = close(alloc, font.font(), roots)?;
+    Ok(kept)
+}
+
+// Returns the glyphs that a cut keeps.
+fn mark_kept<A: Allocator + Copy>(
+    alloc: A,
+    kind: Kind,
+    font: &Charted<'_, '_, A>,
+    layout: Option<&LayoutFont<'_, '_, A>>,
+    wanted: Option<&Wanted<A>>,
+) -> Result<Marks<A>, NoMemory>
+    requires accepted { fault_of kind font.now ≡ None }
+    requires layout { option_copied layout ≡ layout_read kind font.now }
+    ensures { IfOk result (IsKeptSet kind font.now (codes_wanted (option_copied wanted.entry))) }
+{
+    let roots = mark_roots(alloc, kind, font, layout, wanted)?;
+    let kept = mark_reached(alloc, font, &roots)?;
+    Ok(kept)
+}
+
+/// What is selected of a font for a cut of a kind: its tables, the wanted codes that it maps, and the outlines
+/// that these keep.
+#[derive(Drop)]
+pub struct Selection<'f, 'a, A: Allocator = Global> {
+    kind: Kind,
+    charted: Charted<'f, 'a, A>,
+    // The tables of layout, where the kind has them.
+    layout: Option<&'f LayoutFont<'f, 'a, A>>,
+    // All codes are wanted where no set stands here.
+    wanted: Option<&'f Wanted<A>>,
+    kept: Marks<A>,
+}
+
+// Its value is the kind, the file of the font, and the ranges of the wanted codes, where these are not all.
+impl<'f, 'a, A: Allocator> Model for Selection<'f, 'a, A> {
+    ghost use Rattle.std.specs.Prelude.{ℕ, List, Option, option_copied};
+    ghost use Rattle.codes.specs.declared.code_range.CodeRange.{CodeRange};
+    ghost use Rattle.font_theory.specs.declared.kinds.Kind.{Kind};
+    ghost use Rattle.font_subset.specs.Content.{codes_wanted};
+    ghost use Rattle.font_subset.specs.Inside.{IsSelected};
+
+    ghost Value = { Kind × (List ℕ × Option (List CodeRange)) };
+
+    ghost view = { λ s. (s.kind, (s.charted, option_copied s.wanted)) };
+
+    ghost invariant = { λ s. IsSelected s.kind s.charted (option_copied s.layout)
+        (codes_wanted (option_copied s.wanted)) s.kept };
+}
+
+impl<'f, 'a, A: Allocator + Copy> Selection<'f, 'a, A> {
+    /// Selects the wanted codes of a font, or all where no set is given. All memory that is needed to keep
+    /// them is asked for here.
+    ///
+    /// # Errors
+    ///
+    /// `NoMemory` where memory is refused.
+    pub fn new(
+        alloc: A,
+        font: &'f FontOfKind<'f, 'a, A>,
+        wanted: Option<&'f Wanted<A>>,
+    ) -> Result<Selection<'f, 'a, A>, NoMemory>
+        ensures { IfOk result (λ selection.
+            selection ≡ (font.entry.now.0, (font.entry.now.1, option_copied wanted.entry))) }
+    {
+        let charted = Charted::of(alloc, font.font())?;
+        let kept = mark_kept(alloc, font.kind(), &charted, font.layout(), wanted)?;
+        Ok(Selection {
+            kind: font.kind(),
+            charted,
+            layout: font.layout(),
+            wanted,
+            kept,
+        })
+    }
+
+    /// Selects all codes of a font, and lists the runs of its map, which is walked more than once.
+    ///
+    /// # Errors
+    ///
+    /// `NoMemory` where memory is refused.
+    pub fn with_runs(
+        alloc: A,
+        font: &'f FontOfKind<'f, 'a, A>,
+    ) -> Result<Selection<'f, 'a, A>, NoMemory>
+        ensures { IfOk result (λ selection. selection ≡ (font.entry.now.0, (font.entry.now.1, None))) }
+    {
+        let charted = Charted::with_runs(alloc, font.font())?;
+        let kept = mark_kept(alloc, font.kind(), &charted, font.layout(), None)?;
+        Ok(Selection {
+            kind: font.kind(),
+            charted,
+            layout: font.layout(),
+            wanted: None,
+            kept,
+        })
+    }
+
+    /// Selects the wanted codes of a font for a full cut, or all where no set is given.
+    ///
+    /// # Errors
+    ///
+    /// `NoMemory` where memory is refused.
+    pub(crate) fn full(
+        alloc: A,
+        font: &'f Font<'a>,
+        wanted: Option<&'f Wanted<A>>,
+    ) -> Result<Selection<'f, 'a, A>, NoMemory>
+        ensures { IfOk result (λ selection.
+            selection ≡ (Full, (font.entry.now, option_copied wanted.entry))) }
+    {
+        recall_accepted(font);
+        let charted = Charted::of(alloc, font)?;
+        let kept = mark_kept(alloc, Kind::Full, &charted, None, wanted)?;
+        Ok(Selection {
+            kind: Kind::Full,
+            charted,
+            layout: None,
+            wanted,
+            kept,
+        })
+    }
+
+    /// Returns the runs of the map of the font, which are all kept where all codes are wanted.
+    ///
+    /// # Errors
+    ///
+    /// `NoMemory` where memory is refused, which is only asked for where the runs have not been listed.
+    pub fn into_runs(self, alloc: A) -> Result<Vec<Run, A>, NoMemory>
+        ensures { IfOk result (λ runs. AreRunsOf self.entry.1.0 runs.items) }
+    {
+        self.charted.into_runs(alloc)
+    }
+}
+
+impl<'f, 'a, A: Allocator> Selection<'f, 'a, A> {
+    // Returns the table of a slot of layout, where the kind has such tables.
+    fn layout_table(&self, slot: usize) -> Option<&[u8]>
+        requires { is_layout_slot slot ≡ true }
+        ensures table { MatchOption result (tables_as self.now.0 self.now.1.0 slot ≡ None)
+            (λ b. tables_as self.now.0 self.now.1.0 slot ≡ Some b.now) }
+        ensures small { MatchOption result Unit (λ b. length b.now ≤ MAX_FILE) }
+    {
+        match self.layout {
+            Some(layout) => layout.table(slot),
+            None => None,
+        }
+    }
+}
+
+impl<'f, 'a, A: Allocator> Source for Selection<'f, 'a, A> {
+    ghost use Rattle.font_subset.specs.Content.{selected};
+
+    ghost content_of = { selected };
+
+    fn recall_laws(&self) {
+        let _font = self.charted.font();
+    }
+
+    fn copied(&self, slot: usize) -> Option<&[u8]> {
+        if slot < SLOTS {
+            return copied(self.charted.font(), slot);
+        }
+        if slot < ALL_SLOTS {
+            return self.layout_table(slot);
+        }
+        None
+    }
+
+    fn head(&self) -> &[u8] {
+        head(self.charted.font())
+    }
+
+    #[tactic(auto, using(crate::proofs::SourceLemmas::count_as))]
+    fn glyph_count(&self) -> u16 {
+        self.charted.font().tables().glyph_count()
+    }
+
+    fn next_run(&self, from: u32) -> Option<Run> {
+        self.charted.run_from(self.wanted, from)
+    }
+
+    #[tactic(auto, using(crate::proofs::SourceLemmas::kept_is, crate::proofs::SourceLemmas::not_kept))]
+    fn keeps(&self, g: u16) -> bool {
+        g < self.charted.font().tables().glyph_count() && self.kept.has(g)
+    }
+
+    #[tactic(auto, using(crate::proofs::SourceLemmas::next_is))]
+    fn next_kept(&self, from: u16) -> u16 {
+        let _count = self.glyph_count();
+        self.kept.next_from(from as usize) as u16
+    }
+
+    #[tactic(auto, using(crate::proofs::SourceLemmas::kept_below, crate::proofs::SourceLemmas::kept_outline))]
+    fn outline_of(&self, g: u16) -> &[u8] {
+        if g < self.charted.font().tables().glyph_count() {
+            return outline(self.charted.font(), g);
+        }
+        &[]
+    }
+}
+
+impl<'f, 'a, A: Allocator> Selection<'f, 'a, A> {
+    /// Returns the kind of cut.
+    pub fn kind(&self) -> Kind
+        ensures kind { result ≡ self.now.0 }
+
+        // What opening the font has shown.
+        ensures sound { fault_of self.now.0 self.now.1.0 ≡ None }
+    {
+        self.kind
+    }
+
+    /// Returns the outline of a glyph that all codes keep, as a file in cut form has it: with the zeros
+    /// that fill it.
+    pub fn written_outline(&self, g: u16) -> Option<&'a [u8]>
+        requires form { IsCut (format_of self.now.0) self.now.1.0 }
+        requires all { self.now.1.1 ≡ None }
+        ensures outline { MatchOption result
+            ((content (font_as self.now.0 self.now.1.0) everything).outline g ≡ None)
+            (λ b. (content (font_as self.now.0 self.now.1.0) everything).outline g ≡ Some b.now) }
+        ensures small { MatchOption result Unit (λ b. length b.now ≤ MAX_FILE) }
+    {
+        if self.keeps(g) {
+            return Some(outline(self.charted.font(), g));
+        }
+        None
+    }
+
+    /// Returns the file of the font.
+    pub fn file(&self) -> &'a [u8]
+        ensures file { result.now ≡ self.now.1.0 }
+
+        // What opening the font has shown.
+        ensures sound { font_fault self.now.1.0 ≡ None }
+        ensures small { length result.now ≤ MAX_FILE }
+    {
+        self.charted.font().tables().directory().file()
+    }
+}
