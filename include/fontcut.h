@@ -46,8 +46,12 @@ extern "C" {
 /* The kinds of cuts. A call takes a kind as a number of 32 bits, for how long an enum is and what it may hold is
  * another thing in each language; a number that is no kind's is answered by FONTCUT_UNKNOWN_KIND. */
 typedef enum fontcut_kind {
-    FONTCUT_FULL = 0, /* cuts with the metrics and the names of all glyphs */
-    FONTCUT_LEAN = 1  /* lean cuts: zeros for the metrics of glyphs that are not kept, and no names of glyphs */
+    FONTCUT_FULL = 0,  /* cuts with the metrics and the names of all glyphs */
+    FONTCUT_LEAN = 1,  /* lean cuts: zeros for the metrics of glyphs that are not kept, and no names of glyphs */
+    FONTCUT_LAYOUT = 2 /* layout cuts: lean cuts with the tables of layout (BASE, GDEF, GPOS, GSUB and kern, without
+                        * their parts for variable fonts), and with each glyph that GSUB may put for those of the
+                        * wanted characters; a font that fontcut_check accepts may be refused for them, by 5 or 6 for
+                        * one of these tables, or by 27 */
 } fontcut_kind;
 
 /* The codes from `first` to `last`, both of them included. A range is bad where `first` lies above `last`, or
@@ -91,8 +95,9 @@ typedef struct fontcut_answer {
 } fontcut_answer;
 
 /* The numbers of the refusals are those that the program `fontcut` prints. A file is refused by the first that
- * applies, in the order of their numbers, but for FONTCUT_BAD_GLYPH, which comes after FONTCUT_BAD_CMAP. A tag is
- * the number of its four bytes, the first one highest: 0x676C7966 is `glyf`. */
+ * applies, in the order of their numbers, but for FONTCUT_BAD_GLYPH, which comes after FONTCUT_BAD_CMAP. Tables of
+ * layout are refused for layout cuts alone, and after all else of the font. A tag is the number of its four bytes, the
+ * first one highest: 0x676C7966 is `glyf`. */
 typedef enum fontcut_status {
     FONTCUT_DONE = 0,
     FONTCUT_FILE_TOO_LARGE = 1,      /* the file has more than 134,217,728 bytes */
@@ -118,6 +123,7 @@ typedef enum fontcut_status {
     FONTCUT_DIFFERENT_MAPPING = 22,  /* they map a code to two glyphs; detail: the least such code */
     FONTCUT_DIFFERENT_GLYPH = 23,    /* they have two outlines of a glyph; detail: the least such glyph */
     FONTCUT_NOTHING_TO_JOIN = 24,    /* there is no file */
+    FONTCUT_BAD_LAYOUT = 27,         /* GSUB cannot be read, which is asked for layout cuts alone */
     FONTCUT_SMALL_ROOM = 100,        /* the room is too small; size: what is needed */
     FONTCUT_UNKNOWN_KIND = 101,      /* the number is no fontcut_kind, which is asked before all else; detail: it */
     FONTCUT_NO_GLYPH = 102,          /* a number is no glyph of the font; detail: the least index of such a one */
@@ -125,7 +131,7 @@ typedef enum fontcut_status {
                                       * more places for sizes than sets, or fewer */
 } fontcut_status;
 
-/* What `detail` of fontcut_cut_form says. A lean cut is never old. */
+/* What `detail` of fontcut_cut_form says. Lean and layout cuts are never old. */
 typedef enum fontcut_form {
     FONTCUT_NO_CUT = 0,
     FONTCUT_CURRENT_CUT = 1, /* as it is written today */
@@ -139,14 +145,14 @@ uint32_t fontcut_version(void);
 fontcut_answer fontcut_check(const uint8_t *font, size_t font_length);
 
 /* Gives the size in bytes of the cut of a font for the codes of the ranges, of a fontcut_kind. No cut is made.
- * Statuses: 101; those of fontcut_check, then 15, 16 and 18. */
+ * Statuses: 101; those of fontcut_check, then 15, for FONTCUT_LAYOUT 5, 6 and 27, then 16 and 18. */
 fontcut_answer fontcut_subset_size(uint32_t kind, const uint8_t *font, size_t font_length,
                                    const fontcut_range *ranges, size_t range_count);
 
 /* Writes the cut of a font for the codes of the ranges, of a fontcut_kind, to the front of `out`, straight, with
  * nothing in between; size: its bytes. A cut of a font is seldom longer than the font, and a lean cut never longer
- * than the full one, so a room of the font's length and some more mostly does. Statuses: 101; those of
- * fontcut_check, then 15, 16, 18 and 100. */
+ * than the full one, so a room of the font's length and some more mostly does. Statuses: those of
+ * fontcut_subset_size, then 100. */
 fontcut_answer fontcut_subset(uint32_t kind, const uint8_t *font, size_t font_length, const fontcut_range *ranges,
                               size_t range_count, uint8_t *out, size_t room);
 
@@ -154,10 +160,11 @@ fontcut_answer fontcut_subset(uint32_t kind, const uint8_t *font, size_t font_le
  * of the sets, and the length of each in bytes to `sizes`; size: the bytes of all. `ranges` has the ranges of all
  * sets, those of the first set first, and counts[i] says how many of them are of the set i. `sizes` has just one
  * place for each set. The font is looked through once. All cuts are measured before the first is written, and what
- * they are made of is kept until then: a byte for each glyph and set, and for lean cuts tables of metrics. How long
- * they are is hard to guess, since each repeats the tables that it copies: a call with a room of 0 says it, and
- * writes nothing. Statuses: 101, 103; those of fontcut_check, then 15, whose detail is an index in all ranges, 16,
- * 18, with the size of the first cut that is too large, and 100, with the bytes that all cuts need. */
+ * they are made of is kept until then: a byte for each glyph and set, and for lean and layout cuts tables of metrics.
+ * How long they are is hard to guess, since each repeats the tables that it copies: a call with a room of 0 says it,
+ * and writes nothing. Statuses: 101, 103; those of fontcut_check, then 15, whose detail is an index in all ranges, for
+ * FONTCUT_LAYOUT 5, 6 and 27, then 16, 18, with the size of the first cut that is too large, and 100, with the bytes
+ * that all cuts need. */
 fontcut_answer fontcut_cuts(uint32_t kind, const uint8_t *font, size_t font_length, const fontcut_range *ranges,
                             size_t range_count, const uint64_t *counts, size_t set_count, uint8_t *out, size_t room,
                             uint64_t *sizes, size_t sizes_length);
@@ -165,8 +172,9 @@ fontcut_answer fontcut_cuts(uint32_t kind, const uint8_t *font, size_t font_leng
 /* The calls whose names end in _checked do what the calls without that ending do, and do not test the font again: of a
  * small cut of a large font that is most of the time. They are for who cuts one font many times. The caller holds that
  * fontcut_check, or another call, has accepted just these bytes, and that they have not been changed since; of other
- * bytes nothing is promised, and a call may read or write where it should not. Statuses: those of the other call, but
- * for those of fontcut_check. */
+ * bytes nothing is promised, and a call may read or write where it should not. Tables of layout are no part of that
+ * test: each call for FONTCUT_LAYOUT reads them. Statuses: those of the other call for a font that fontcut_check
+ * accepts. */
 fontcut_answer fontcut_subset_size_checked(uint32_t kind, const uint8_t *font, size_t font_length,
                                            const fontcut_range *ranges, size_t range_count);
 fontcut_answer fontcut_subset_checked(uint32_t kind, const uint8_t *font, size_t font_length,
@@ -177,12 +185,12 @@ fontcut_answer fontcut_metrics_checked(const uint8_t *font, size_t font_length, 
                                        size_t glyph_count, fontcut_metric *out, size_t room);
 
 /* Says whether a font is a cut of a fontcut_kind, and in which form; detail: a fontcut_form. A font that is a lean
- * cut is a full cut too. Statuses: 101; those of fontcut_check, 16. */
+ * cut is a full cut too. Statuses: 101; those of fontcut_check, then for FONTCUT_LAYOUT 5, 6 and 27; 16. */
 fontcut_answer fontcut_cut_form(uint32_t kind, const uint8_t *font, size_t font_length);
 
 /* Says whether the first file is a cut of the second one for some codes, of a fontcut_kind, a full cut in either
  * form; detail: 1 or 0. Statuses: 101; those of fontcut_check, of the first file with step 0, and then of the
- * second one with step 1; 16. */
+ * second one with step 1; for FONTCUT_LAYOUT 5, 6 and 27, of the first file and then of the second one; 16. */
 fontcut_answer fontcut_belongs(uint32_t kind, const uint8_t *cut, size_t cut_length, const uint8_t *font,
                                size_t font_length);
 
@@ -203,9 +211,10 @@ fontcut_answer fontcut_is_cut_of(const uint8_t *cut, size_t cut_length, const ui
 
 /* Writes the join of all files, cuts of one font and of a fontcut_kind, to the front of `out`: that font's cut for all
  * their codes; size: its bytes. Full cuts may come in either form and any order, and what is written is of today; lean
- * cuts join with lean cuts. Statuses: 101; 24; of the first file that is refused, with its index as step, those of
- * fontcut_check, 20, 21 to 23 where it differs from the join of the files before it, and 18 where the join with it is
- * too large; 16, with the index of the file that was being joined as step; 100. */
+ * cuts join with lean cuts, and layout cuts with layout cuts. Statuses: 101; 24; of the first file that is refused,
+ * with its index as step, those of fontcut_check, for FONTCUT_LAYOUT 5, 6 and 27, then 20, 21 to 23 where it differs
+ * from the join of the files before it, and 18 where the join with it is too large; 16, with the index of the file that
+ * was being joined as step; 100. */
 fontcut_answer fontcut_join(uint32_t kind, const fontcut_bytes *files, size_t file_count, uint8_t *out, size_t room);
 
 FONTCUT_DEPRECATED("call fontcut_join")

@@ -1,28 +1,63 @@
--- The file of what a cut is made of is the cut, and what was answered of that file is answered of the cut.
-use Rattle.std.proofs.Common.{◌≡◌, ◌≤◌, ℕ, List, Bool, ◌++◌, length, drop, ap, ◌∙◌, Some, Result, MatchResult}
+-- The file of what a cut is made of is the cut, and what was answered of that file is answered of the cut. So is what was
+-- answered before it was made.
+use Rattle.std.proofs.Common.{◌≡◌, ◌≤◌, ℕ, List, Bool, ◌++◌, length, drop, ap, sym, ◌∙◌, None, Some, Result, MatchResult}
+use Rattle.std.proofs.lemmas.Option.{none-some}
 use Rattle.std.proofs.lemmas.Result.{MatchResult-weaker}
 use Rattle.sfnt_bytes.specs.declared.directory.TheConstants.{MAX_FILE}
 use Rattle.codes.specs.Wanted.{member}
 use Rattle.codes.specs.declared.code_range.CodeRange.{CodeRange}
+use Rattle.font_file.specs.Font.{font_fault}
+use Rattle.font_file.specs.declared.font_error.FontError.{FontError}
 use Rattle.font_theory.specs.File.{current_writing, file}
+use Rattle.font_theory.specs.Kinds.{fault_of}
 use Rattle.font_theory.specs.declared.kinds.Kind.{Kind}
+use Rattle.font_theory.proofs.KindLemmas.{kind_is}
 use Rattle.font_subset.specs.Content.{written_of}
 use Rattle.font_subset.specs.Kinds.{cut_in}
 use Rattle.font_subset.proofs.CutLemmas.{cut_in_is}
-use Rattle.font_subset.proofs.KindSourceLemmas.{Held}
-use Rattle.fontcut_c.specs.Cutting.{IsAccepted, IsCutInRoom, IsCutSize, RefusesCut, RefusesSize, wanted_by}
-use Rattle.fontcut_c.specs.Inside.{IsFileInRoom, IsFileLength, RefusesFile, RefusesFileSize}
+use Rattle.font_subset.proofs.SourceLemmas.{Held}
+use Rattle.fontcut_c.specs.Cutting.{IsAccepted, IsCutInRoom, IsCutSize, IsRefusedFor, RefusesCut, RefusesSize, wanted_by}
+use Rattle.fontcut_c.specs.Inside.{IsFileInRoom, IsFileLength, RefusesFile, RefusesFileSize, RefusesRequest}
 use Rattle.fontcut_c.specs.declared.refusal.Refusal.{Refusal}
 use Rattle.fontcut_c.specs.declared.refusal.Refusal.TheVariants.{BadRange, Font, NoMemory, SmallRoom, TooLarge}
 
 -- the file of a source is the cut for the codes of ranges
-pub file_of_source : (kind : Kind) (font : List ℕ) (ranges : List CodeRange) (wanted : List CodeRange) (source : Held) → member wanted ≡ wanted_by ranges → source ≡ (kind, (font, Some wanted))
-    → file current_writing (written_of source.0 source.1) ≡ cut_in kind font (wanted_by ranges)
-file_of_source kind font ranges wanted source by is = cut_in_is kind font wanted source is ∙ ap (λ (w : ℕ → Bool). cut_in kind font w) by
+pub file_of_source : (kind : Kind) (font : List ℕ) (ranges : List CodeRange) (wanted : List CodeRange) (opened : Kind × List ℕ) (source : Held) → member wanted ≡ wanted_by ranges
+    → opened ≡ (kind, font) → source ≡ (opened.0, (opened.1, Some wanted)) → file current_writing (written_of source) ≡ cut_in kind font (wanted_by ranges)
+file_of_source kind font ranges wanted opened source by same is =
+    cut_in_is opened wanted source is ∙ (ap (λ (w : ℕ → Bool). cut_in opened.0 opened.1 w) by ∙ ap (λ (v : Kind × List ℕ). cut_in v.0 v.1 (wanted_by ranges)) same)
 
-module _ (kind : Kind) (font : List ℕ) (ranges : List CodeRange) (made : List ℕ) (accepted : IsAccepted font ranges) (is : made ≡ cut_in kind font (wanted_by ranges)) where
+-- what is refused as a font is refused for cuts of each kind
+pub refused_for : (kind : Kind) (font : List ℕ) (error : FontError) → font_fault font ≡ Some error → fault_of kind font ≡ Some error
+refused_for kind font error h = (kind_is kind).refused font error h
+
+-- what is refused as a font is not accepted as one
+pub refused_accepted : {P : Type 0} (font : List ℕ) (error : FontError) → font_fault font ≡ Some error → font_fault font ≡ None → P
+refused_accepted font error refused accepted = absurd (none-some error (sym accepted ∙ refused))
+
+-- what is refused as a font is refused for cuts of each kind, whatever the ranges
+pub request_refused : (kind : Kind) (font : List ℕ) (ranges : List CodeRange) (error : FontError) → font_fault font ≡ Some error → IsRefusedFor kind font ranges error
+request_refused kind font ranges error h = (refused_for kind font error h, refused_accepted font error h)
+
+-- what refuses the request refuses the cut
+module _ (kind : Kind) (font : List ℕ) (ranges : List CodeRange) where
+  pub size_refused : (refusal : Refusal) → RefusesRequest font ranges refusal → RefusesSize kind font ranges refusal
+  size_refused (Font error) h = request_refused kind font ranges error h
+  size_refused (BadRange k) h = h
+  size_refused NoMemory h = absurd h
+  size_refused (TooLarge size) h = absurd h
+  size_refused (SmallRoom size) h = absurd h
+
+  pub cut_refused : (room : ℕ) (refusal : Refusal) → RefusesRequest font ranges refusal → RefusesCut kind font ranges room refusal
+  cut_refused room (Font error) h = request_refused kind font ranges error h
+  cut_refused room (BadRange k) h = h
+  cut_refused room NoMemory h = absurd h
+  cut_refused room (TooLarge size) h = absurd h
+  cut_refused room (SmallRoom size) h = absurd h
+
+module _ (kind : Kind) (font : List ℕ) (ranges : List CodeRange) (made : List ℕ) (accepted : IsAccepted font ranges) (opened : fault_of kind font ≡ None) (is : made ≡ cut_in kind font (wanted_by ranges)) where
   size_of_cut : (size : ℕ) → size ≡ length made → IsCutSize kind font ranges size
-  size_of_cut size e = record { accepted = accepted; size_is = e ∙ ap (λ (b : List ℕ). length b) is }
+  size_of_cut size e = record { accepted = accepted; opened = opened; size_is = e ∙ ap (λ (b : List ℕ). length b) is }
 
   not_measured : (refusal : Refusal) → RefusesFileSize made refusal → RefusesSize kind font ranges refusal
   not_measured (TooLarge size) h = (size_of_cut size h.0, h.1)
@@ -51,6 +86,7 @@ module _ (kind : Kind) (font : List ℕ) (ranges : List CodeRange) (made : List 
       let w = s.written in
       record {
         accepted = accepted;
+        opened = opened;
         small = s.small;
         written =
             record {

@@ -3,6 +3,8 @@ mod CutListLemmas
 mod FileListLemmas
 mod FilledLemmas
 mod InfoLemmas
+mod JoiningLemmas
 mod MappedLemmas
+mod PairLemmas
 mod RowLemmas
 mod StepLemmas

@@ -2,12 +2,12 @@
 use Rattle.std.proofs.Common.{◌≡◌, ℕ, zero, suc, Bool, true, false, nat_lt, not, List, [], ◌∷◌, Option, None, Some, length, ap, sym, subst, ◌∙◌, arith}
 use Rattle.std.proofs.lemmas.Bool.{ne_eqb}
 use Rattle.std.specs.Prelude.{if◌then◌else◌}
-use Rattle.std.specs.Option.{option_map}
+use Rattle.std.specs.Option.{option_map, option_or}
 use Rattle.sfnt_bytes.specs.Lines.{first_of_lines, when}
 use Rattle.sfnt_bytes.specs.declared.directory.TheConstants.{MAX_FILE}
 use Rattle.font_file.specs.Font.{font_fault}
 use Rattle.font_file.specs.declared.font_error.FontError.{FontError}
-use Rattle.font_theory.specs.Content.{Content}
+use Rattle.font_theory.specs.Content.{Content, Font as FontRead}
 use Rattle.font_theory.specs.Cut.{Format, content_of_all, is_cut, joined}
 use Rattle.font_theory.specs.Difference.{difference}
 use Rattle.font_theory.specs.Kinds.{IsKind, format_of}
@@ -17,7 +17,7 @@ use Rattle.font_theory.specs.declared.Difference.TheVariants.{AtCode, AtGlyph, A
 use Rattle.font_theory.specs.declared.kinds.Kind.{Kind}
 use Rattle.font_theory.proofs.CutLemmas.{IsCut-current, is_cut-of}
 use Rattle.font_theory.proofs.KindLemmas.{kind_is}
-use Rattle.font_join.specs.Join.{different, join_fault}
+use Rattle.font_join.specs.Join.{different, form_fault, join_fault}
 use Rattle.font_join.specs.JoinList.{IsAllRefusal, IsRefusedAt}
 use Rattle.font_join.specs.declared.join_error.JoinAllError.{JoinAllError}
 use Rattle.font_join.specs.declared.join_error.JoinAllError.TheVariants.{At, NothingToJoin}
@@ -30,48 +30,52 @@ use Rattle.fontcut_c.specs.Errors.{which_at}
 use Rattle.fontcut_c.specs.Text.{NamesByItsStep}
 
 -- the refusals of a join, at what they test
-abbrev lines_at : Option FontError → Option FontError → Bool → Bool → Option Difference → Bool → ℕ → Option JoinError
-lines_at fx fy cx cy d big size =
-    first_of_lines (option_map (Font First) fx ∷ option_map (Font Second) fy ∷ when (not cx) (NotACut First) ∷ when (not cy) (NotACut Second)
+abbrev lines_at : Option FontError → Option FontError → Option FontError → Option FontError → Bool → Bool → Option Difference → Bool → ℕ → Option JoinError
+lines_at fx fy gx gy cx cy d big size =
+    first_of_lines (option_map (Font First) fx ∷ option_map (Font Second) fy
+    ∷ option_or (option_map (Font First) gx) (when (not cx) (NotACut First)) ∷ option_or (option_map (Font Second) gy) (when (not cy) (NotACut Second))
     ∷ option_map different d ∷ when big (TooLarge size) ∷ [])
 
 -- of a file with itself the first is named
-first_named : (f : Option FontError) (c : Bool) (d : Option Difference) (big : Bool) (size : ℕ) (which : Which) → lines_at f f c c d big size ≡ Some (NotACut which) → which ≡ First
-first_named (Some e) c d big size which h = cc
-first_named None false d big size which h = cc
-first_named None true (Some (AtTable slot)) big size which h = cc
-first_named None true (Some (AtCode code)) big size which h = cc
-first_named None true (Some (AtGlyph g)) big size which h = cc
-first_named None true None true size which h = cc
-first_named None true None false size which h = cc
+first_named : (f g : Option FontError) (c : Bool) (d : Option Difference) (big : Bool) (size : ℕ) (which : Which) → lines_at f f g g c c d big size ≡ Some (NotACut which) → which ≡ First
+first_named (Some e) g c d big size which h = cc
+first_named None (Some e) c d big size which h = cc
+first_named None None false d big size which h = cc
+first_named None None true (Some (AtTable slot)) big size which h = cc
+first_named None None true (Some (AtCode code)) big size which h = cc
+first_named None None true (Some (AtGlyph g)) big size which h = cc
+first_named None None true None true size which h = cc
+first_named None None true None false size which h = cc
 
 -- after a file that is a cut the second is named
-second_named : (fx fy : Option FontError) (cy : Bool) (d : Option Difference) (big : Bool) (size : ℕ) (which : Which) → lines_at fx fy true cy d big size ≡ Some (NotACut which) → which ≡ Second
-second_named (Some e) fy cy d big size which h = cc
-second_named None (Some e) cy d big size which h = cc
-second_named None None false d big size which h = cc
-second_named None None true (Some (AtTable slot)) big size which h = cc
-second_named None None true (Some (AtCode code)) big size which h = cc
-second_named None None true (Some (AtGlyph g)) big size which h = cc
-second_named None None true None true size which h = cc
-second_named None None true None false size which h = cc
+second_named : (fx fy gx gy : Option FontError) (cy : Bool) (d : Option Difference) (big : Bool) (size : ℕ) (which : Which) → lines_at fx fy gx gy true cy d big size ≡ Some (NotACut which) → which ≡ Second
+second_named (Some e) fy gx gy cy d big size which h = cc
+second_named None (Some e) gx gy cy d big size which h = cc
+second_named None None (Some e) gy cy d big size which h = cc
+second_named None None None (Some e) cy d big size which h = cc
+second_named None None None None false d big size which h = cc
+second_named None None None None true (Some (AtTable slot)) big size which h = cc
+second_named None None None None true (Some (AtCode code)) big size which h = cc
+second_named None None None None true (Some (AtGlyph g)) big size which h = cc
+second_named None None None None true None true size which h = cc
+second_named None None None None true None false size which h = cc
 
 second_at : (k : ℕ) → which_at (suc k) ≡ Second
 second_at k = ap (λ (b : Bool). if b then First else Second) (ne_eqb (suc k) 0 (λ (e : suc k ≡ 0). omega (arith, e)))
 
-module _ {R : Format} {spelled : Content → Content} (kind : IsKind R spelled) (files : List (List ℕ)) where
+module _ {R : Format} {fault : List ℕ → Option FontError} {font : List ℕ → FontRead} {spelled : Content → Content} (kind : IsKind R fault font spelled) (files : List (List ℕ)) where
   named : (step : ℕ) (which : Which) → IsRefusedAt R files step (NotACut which) → which ≡ which_at step
-  unfolding join_fault
+  unfolding join_fault form_fault
   named zero which r =
       let x = file_at files 0 in
-      first_named (font_fault x) (is_cut R x) (difference (content_of_all R x) (content_of_all R x)) (nat_lt MAX_FILE (length (joined R x x))) (length (joined R x x)) which
+      first_named (font_fault x) (R.fault x) (is_cut R x) (difference (content_of_all R x) (content_of_all R x)) (nat_lt MAX_FILE (length (joined R x x))) (length (joined R x x)) which
       (subst (λ (b : List ℕ). join_fault R b x ≡ Some (NotACut which)) r.stands r.refused)
   named (suc k) which r =
       let x = r.before in
       let y = file_at files (suc k) in
       let is_one = is_cut-of R kind.law x (IsCut-current R x (least_upper kind r.stands.0 (file_at files k) x r.stands.2).cut_form) in
-      second_named (font_fault x) (font_fault y) (is_cut R y) (difference (content_of_all R x) (content_of_all R y)) (nat_lt MAX_FILE (length (joined R x y))) (length (joined R x y)) which
-      (subst (λ (c : Bool). lines_at (font_fault x) (font_fault y) c (is_cut R y) (difference (content_of_all R x) (content_of_all R y)) (nat_lt MAX_FILE (length (joined R x y))) (length (joined R x y)) ≡ Some (NotACut which)) is_one r.refused)
+      second_named (font_fault x) (font_fault y) (R.fault x) (R.fault y) (is_cut R y) (difference (content_of_all R x) (content_of_all R y)) (nat_lt MAX_FILE (length (joined R x y))) (length (joined R x y)) which
+      (subst (λ (c : Bool). lines_at (font_fault x) (font_fault y) (R.fault x) (R.fault y) c (is_cut R y) (difference (content_of_all R x) (content_of_all R y)) (nat_lt MAX_FILE (length (joined R x y))) (length (joined R x y)) ≡ Some (NotACut which)) is_one r.refused)
       ∙ sym (second_at k)
 
   named_by_step : (error : JoinAllError) → IsAllRefusal R files error → NamesByItsStep error

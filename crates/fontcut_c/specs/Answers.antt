@@ -9,6 +9,8 @@ use Rattle.font_file.specs.declared.font_error.FontError.{FontError}
 use Rattle.font_file.specs.declared.font_error.FontError.TheVariants.{BadGlyph, BadLayout, Directory, Mapping, Tables}
 use Rattle.font_subset.specs.declared.forms.CutForm.{CutForm}
 use Rattle.font_subset.specs.declared.forms.CutForm.TheVariants.{Current, Not, Old}
+use Rattle.font_subset.specs.declared.layout_font.OpenError.{OpenError}
+use Rattle.font_subset.specs.declared.layout_font.OpenError.TheVariants as open_errors
 use Rattle.font_join.specs.JoinText.{join_all_error_number, join_error_number}
 use Rattle.font_join.specs.declared.join_error.JoinAllError.{JoinAllError}
 use Rattle.font_join.specs.declared.join_error.JoinAllError.TheVariants.{At, NothingToJoin}
@@ -66,6 +68,11 @@ font_argument BadLayout = 0
 -- a font is refused
 abbrev pub font_answer : FontError → Answer
 font_answer error = refused (error_number error) (font_argument error)
+
+-- the refusal of a font that is not opened for cuts of a kind
+abbrev pub of_open_error : OpenError → Refusal
+of_open_error open_errors.NoMemory = NoMemory
+of_open_error (open_errors.Refused error) = Font error
 
 -- an index, or the largest number of 32 bits where it is larger
 abbrev pub as_detail : ℕ → ℕ

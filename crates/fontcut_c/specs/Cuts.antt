@@ -1,13 +1,14 @@
 -- What the call for the cuts of many sets answers, this project's own: the first refusal, or the cuts end
 -- to end in the caller's room, and the size of each.
-use Rattle.std.specs.Prelude.{◌≡◌, ℕ, ◌-◌, ◌^◌, ◌<◌, ◌≤◌, min, List, [], ◌∷◌, length, take, drop, map, sum, None, Some, Result, MatchResult, slice_index_or}
+use Rattle.std.specs.Prelude.{◌≡◌, ℕ, ◌-◌, ◌^◌, ◌<◌, ◌≤◌, min, List, [], ◌∷◌, length, take, drop, map, sum, None, Result, MatchResult, slice_index_or}
 use Rattle.std.specs.List.{concat}
 use Rattle.sfnt_bytes.specs.declared.directory.TheConstants.{MAX_FILE}
 use Rattle.font_file.specs.Font.{font_fault}
+use Rattle.font_theory.specs.Kinds.{fault_of}
 use Rattle.font_theory.specs.declared.kinds.Kind.{Kind}
 use Rattle.font_subset.specs.Kinds.{cut_in}
 use Rattle.fontcut_c.specs.Answers.{IsInRoom, cuts_answer}
-use Rattle.fontcut_c.specs.Cutting.{IsAccepted, IsFirstBad, wanted_by}
+use Rattle.fontcut_c.specs.Cutting.{IsAccepted, IsFirstBad, IsRefusedFor, wanted_by}
 use Rattle.fontcut_c.specs.declared.answer.Answer.{Answer}
 use Rattle.codes.specs.declared.code_range.CodeRange.{CodeRange}
 use Rattle.fontcut_c.specs.declared.refusal.CutsRefusal.{CutsRefusal}
@@ -49,21 +50,23 @@ pub record IsFirstLarge (cuts : List (List ℕ)) (size : ℕ) : Type 0 where
 abbrev pub size_of_all : List (List ℕ) → ℕ
 size_of_all cuts = min (length (concat cuts)) (2 ^ 64 - 1)
 
--- why the cuts are not written: the font, then the ranges in turn, then memory or the first cut that is too
--- large, and then the room
-abbrev pub RefusesCuts : List ℕ → List CodeRange → List (List ℕ) → ℕ → Refusal → Type 0
-RefusesCuts font ranges cuts room (Font error) = font_fault font ≡ Some error
-RefusesCuts font ranges cuts room (BadRange k) = (font_fault font ≡ None) × IsFirstBad ranges k
-RefusesCuts font ranges cuts room NoMemory = IsAccepted font ranges
-RefusesCuts font ranges cuts room (TooLarge size) = IsAccepted font ranges × IsFirstLarge cuts size
-RefusesCuts font ranges cuts room (SmallRoom size) =
-    IsAccepted font ranges × AreSmall cuts × (size ≡ size_of_all cuts) × (room < size)
+-- why the cuts are not written: the font, then the ranges in turn, then what cuts of the kind read of the font
+-- besides, then memory or the first cut that is too large, and then the room
+abbrev pub RefusesCuts : Kind → List ℕ → List CodeRange → List (List ℕ) → ℕ → Refusal → Type 0
+RefusesCuts kind font ranges cuts room (Font error) = IsRefusedFor kind font ranges error
+RefusesCuts kind font ranges cuts room (BadRange k) = (font_fault font ≡ None) × IsFirstBad ranges k
+RefusesCuts kind font ranges cuts room NoMemory = IsAccepted font ranges
+RefusesCuts kind font ranges cuts room (TooLarge size) =
+    IsAccepted font ranges × (fault_of kind font ≡ None) × IsFirstLarge cuts size
+RefusesCuts kind font ranges cuts room (SmallRoom size) =
+    IsAccepted font ranges × (fault_of kind font ≡ None) × AreSmall cuts × (size ≡ size_of_all cuts)
+    × (room < size)
 
 -- the same of sets: first of all, whether their counts add up
 abbrev pub RefusesSets : Kind → List ℕ → List CodeRange → List ℕ → ℕ → ℕ → CutsRefusal → Type 0
 RefusesSets kind font ranges counts places room BadCounts = ¬ AddUp counts ranges places
 RefusesSets kind font ranges counts places room (Cut refusal) =
-    AddUp counts ranges places × RefusesCuts font ranges (cuts_for kind font ranges counts) room refusal
+    AddUp counts ranges places × RefusesCuts kind font ranges (cuts_for kind font ranges counts) room refusal
 
 -- the cuts are in the room, end to end, and the size of each in its place
 pub record AreInRoom (cuts : List (List ℕ)) (old new sizes : List ℕ) (size : ℕ) : Type 0 where
@@ -77,6 +80,7 @@ pub record AreCutsInRoom (kind : Kind) (font : List ℕ) (ranges : List CodeRang
     (size : ℕ) : Type 0 where
   pub add_up : AddUp counts ranges (length sizes)
   pub accepted : IsAccepted font ranges
+  pub opened : fault_of kind font ≡ None
   pub cuts : AreInRoom (cuts_for kind font ranges counts) old new sizes size
 
 -- what a call for the cuts of many sets, of a kind, answers: a refusal leaves the room and the sizes as

@@ -3,6 +3,8 @@ use Rattle.std.specs.Prelude.{◌≡◌, ℕ, ◌<◌, ◌≤◌, Bool, List, []
 use Rattle.sfnt_bytes.specs.declared.directory.TheConstants.{MAX_FILE}
 use Rattle.codes.specs.Wanted.{IsBadRange, codes_between, either, no_codes}
 use Rattle.font_file.specs.Font.{font_fault}
+use Rattle.font_file.specs.declared.font_error.FontError.{FontError}
+use Rattle.font_theory.specs.Kinds.{fault_of}
 use Rattle.font_theory.specs.declared.kinds.Kind.{Kind}
 use Rattle.font_subset.specs.Kinds.{cut_in}
 use Rattle.fontcut_c.specs.Answers.{IsInRoom, size_answer}
@@ -43,19 +45,26 @@ pub record IsFirstBad (ranges : List CodeRange) (k : ℕ) : Type 0 where
   pub bad : IsBadAt ranges k
   pub before : AreGoodTo ranges k
 
--- the font is accepted, and no range is bad
+-- the font is accepted, whatever cuts of its kind read besides, and no range is bad
 pub record IsAccepted (font : List ℕ) (ranges : List CodeRange) : Type 0 where
   pub unrefused : font_fault font ≡ None
   pub good : AreGood ranges
 
--- the size in bytes of the cut of a font, of a kind
+-- the font is refused: as a font, or, where that accepts it and no range is bad, for cuts of the kind
+abbrev pub IsRefusedFor : Kind → List ℕ → List CodeRange → FontError → Type 0
+IsRefusedFor kind font ranges error =
+    (fault_of kind font ≡ Some error) × (font_fault font ≡ None → AreGood ranges)
+
+-- the size in bytes of the cut of a font that is accepted for cuts of a kind
 pub record IsCutSize (kind : Kind) (font : List ℕ) (ranges : List CodeRange) (size : ℕ) : Type 0 where
   pub accepted : IsAccepted font ranges
+  pub opened : fault_of kind font ≡ None
   pub size_is : size ≡ length (cut_in kind font (wanted_by ranges))
 
--- why the cut is not measured: the font, then the ranges in turn, and then memory or size
+-- why the cut is not measured: the font, then the ranges in turn, then what cuts of the kind read of the font
+-- besides, and then memory or size
 abbrev pub RefusesSize : Kind → List ℕ → List CodeRange → Refusal → Type 0
-RefusesSize kind font ranges (Font error) = font_fault font ≡ Some error
+RefusesSize kind font ranges (Font error) = IsRefusedFor kind font ranges error
 RefusesSize kind font ranges (BadRange k) = (font_fault font ≡ None) × IsFirstBad ranges k
 RefusesSize kind font ranges NoMemory = IsAccepted font ranges
 RefusesSize kind font ranges (TooLarge size) = IsCutSize kind font ranges size × (MAX_FILE < size)
@@ -74,6 +83,7 @@ RefusesCut kind font ranges room (SmallRoom size) =
 pub record IsCutInRoom (kind : Kind) (font : List ℕ) (ranges : List CodeRange) (old new : List ℕ) (size : ℕ)
     : Type 0 where
   pub accepted : IsAccepted font ranges
+  pub opened : fault_of kind font ≡ None
   pub small : size ≤ MAX_FILE
   pub written : IsInRoom (cut_in kind font (wanted_by ranges)) old new size
 

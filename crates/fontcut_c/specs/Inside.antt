@@ -5,15 +5,21 @@ use Rattle.sfnt_bytes.specs.declared.directory.TheConstants.{MAX_FILE}
 use Rattle.font_file.specs.Font.{font_fault}
 use Rattle.font_theory.specs.Content.{Content}
 use Rattle.font_theory.specs.File.{current_writing, file}
+use Rattle.font_theory.specs.Kinds.{fault_of}
+use Rattle.font_theory.specs.declared.kinds.Kind.{Kind}
 use Rattle.font_write.specs.Trace.{Trace}
+use Rattle.font_subset.specs.declared.layout_font.OpenError.{OpenError}
+use Rattle.font_subset.specs.declared.layout_font.OpenError.TheVariants as open_errors
 use Rattle.fontcut_c.specs.Answers.{IsInRoom}
-use Rattle.fontcut_c.specs.Cuts.{AddUp, AreSmall, AreSmallTo, IsFirstLarge, sets_of, size_of_all}
+use Rattle.fontcut_c.specs.Cuts.{AddUp, AreInRoom, AreSmall, AreSmallTo, IsFirstLarge, sets_of, size_of_all}
 use Rattle.fontcut_c.specs.Cutting.{IsFirstBad, wanted_by}
 use Rattle.codes.specs.declared.code_range.CodeRange.{CodeRange}
 use Rattle.fontcut_c.specs.declared.refusal.CutsRefusal.{CutsRefusal}
 use Rattle.fontcut_c.specs.declared.refusal.CutsRefusal.TheVariants as of_cuts
 use Rattle.fontcut_c.specs.declared.refusal.JoinRefusal.{JoinRefusal}
 use Rattle.fontcut_c.specs.declared.refusal.JoinRefusal.TheVariants as of_join
+use Rattle.fontcut_c.specs.declared.refusal.PairRefusal.{PairRefusal}
+use Rattle.fontcut_c.specs.declared.refusal.PairRefusal.TheVariants as of_pair
 use Rattle.fontcut_c.specs.declared.refusal.Refusal.{Refusal}
 use Rattle.fontcut_c.specs.declared.refusal.Refusal.TheVariants.{BadRange, Font, NoMemory, SmallRoom, TooLarge}
 
@@ -78,6 +84,21 @@ RefusesRequestForSets font ranges counts places of_cuts.BadCounts = ¬ AddUp cou
 RefusesRequestForSets font ranges counts places (of_cuts.Cut refusal) =
     AddUp counts ranges places × RefusesRequest font ranges refusal
 
+-- what refuses a cut and its font before they are opened for a kind: the cut, or else the font
+abbrev pub RefusesFonts : List ℕ → List ℕ → PairRefusal → Type 0
+RefusesFonts cut font (of_pair.Cut error) = font_fault cut ≡ Some error
+RefusesFonts cut font (of_pair.Font error) = (font_fault cut ≡ None) × (font_fault font ≡ Some error)
+RefusesFonts cut font _ = ⊥
+
+-- the refusals of a cut and of its font that are not opened for cuts of a kind
+abbrev pub of_unopened_cut : OpenError → PairRefusal
+of_unopened_cut open_errors.NoMemory = of_pair.NoMemory
+of_unopened_cut (open_errors.Refused error) = of_pair.Cut error
+
+abbrev pub of_unopened_font : OpenError → PairRefusal
+of_unopened_font open_errors.NoMemory = of_pair.NoMemory
+of_unopened_font (open_errors.Refused error) = of_pair.Font error
+
 -- the codes of the first n sets, and where the ranges of the others begin
 pub record AreSetsTo (counts : List ℕ) (ranges : List CodeRange) (n from : ℕ) (codes : List (ℕ → Bool))
     : Type 0 where
@@ -111,3 +132,14 @@ RefusesFiles files room NoMemory = Unit {0}
 RefusesFiles files room (TooLarge size) = IsFirstLarge files size
 RefusesFiles files room (SmallRoom size) = AreSmall files × (size ≡ size_of_all files) × (room < size)
 RefusesFiles files room _ = ⊥
+
+-- why the cuts of a font are not written: the font is refused for cuts of the kind, memory is, or else the cuts
+-- as files
+abbrev pub RefusesWriting : Kind → List ℕ → List (List ℕ) → ℕ → Refusal → Type 0
+RefusesWriting kind font cuts room (Font error) = fault_of kind font ≡ Some error
+RefusesWriting kind font cuts room NoMemory = Unit {0}
+RefusesWriting kind font cuts room refusal = (fault_of kind font ≡ None) × RefusesFiles cuts room refusal
+
+-- the font is accepted for cuts of the kind, and its cuts are in the room
+abbrev pub AreWritten : Kind → List ℕ → List (List ℕ) → List ℕ → List ℕ → List ℕ → ℕ → Type 0
+AreWritten kind font cuts old new sizes size = (fault_of kind font ≡ None) × AreInRoom cuts old new sizes size

@@ -4,13 +4,13 @@ ghost use Rattle.std.specs.List.{concat};
 ghost use Rattle.codes.specs.Wanted.{member};
 ghost use Rattle.fontcut_c.specs.Cutting.{IsAccepted, wanted_by};
 ghost use Rattle.fontcut_c.specs.Cuts.{AddUp, AreCutsInRoom, AreInRoom, AreSmall, IsFirstLarge, RefusesSets, cuts_for, sets_of, size_of_all};
-ghost use Rattle.fontcut_c.specs.Inside.{RefusesFiles, RefusesRequestForSets, files_of};
+ghost use Rattle.fontcut_c.specs.Inside.{AreWritten, RefusesFiles, RefusesRequestForSets, RefusesWriting, files_of};
 
 use crate::caller_room::fill_at;
 use crate::cutting::opened_for_ranges;
 use crate::ranges::wanted_of;
 use crate::refusal::{CutsRefusal, Refusal};
-use font_cut::{CodeRange, CutOfKind, Font, Kind, NoMemory, Wanted};
+use font_cut::{CodeRange, CutOfKind, Font, FontOfKind, Kind, NoMemory, Wanted};
 use font_write::{Source, measured};
 use std::alloc::Global;
 
@@ -67,19 +67,18 @@ fn sets_in(alloc: Global, ranges: &[CodeRange], counts: &[u64]) -> Result<Vec<Wa
     Ok(sets)
 }
 
-// Returns what the cut of a font for each set is made of, of a kind.
+// Returns what the cut of a font for each set is made of, of the kind that it was opened for.
 fn sources_of<'f, 'a>(
     alloc: Global,
-    kind: Kind,
-    font: &'f Font<'a>,
+    font: &'f FontOfKind<'f, 'a>,
     sets: &'f [Wanted],
 ) -> Result<Vec<CutOfKind<'f, 'a>>, NoMemory>
-    ensures { IfOk result
-        (λ sources. sources.items ≡ map (λ set. (kind, (font.entry.now, Some set))) sets.entry.now) }
+    ensures { IfOk result (λ sources. sources.items
+        ≡ map (λ set. (font.entry.now.0, (font.entry.now.1, Some set))) sets.entry.now) }
 {
     let mut sources = Vec::new(alloc);
     for set in sets {
-        let source = CutOfKind::new(alloc, kind, font, set)?;
+        let source = CutOfKind::new(alloc, font, Some(set))?;
         sources.push(source).map_err(|_| NoMemory)?;
     }
     Ok(sources)
@@ -133,8 +132,8 @@ fn write_all<S: Source>(sources: &[S], out: &mut [u8], sizes: &mut [u64]) -> Res
     Ok(put_all(sources, out, sizes))
 }
 
-// Writes the cuts of an opened font for all sets, of a kind. All memory is asked for before the first byte is
-// written.
+// Writes the cuts of an opened font for all sets, of a kind. The font is opened for the kind once, and all memory is
+// asked for before the first byte is written.
 fn write_cuts(
     alloc: Global,
     kind: Kind,
@@ -146,12 +145,13 @@ fn write_cuts(
 ) -> Result<u64, Refusal>
     requires { AddUp counts.now ranges.now (length sizes.old) }
     ensures { let cuts = cuts_for kind font.now ranges.now counts.now in
-        MatchResult result (AreInRoom cuts out.old out.new sizes.new)
+        MatchResult result (AreWritten kind font.now cuts out.old out.new sizes.new)
         (λ refusal. (out.new ≡ out.old) × (sizes.new ≡ sizes.old)
-        × RefusesFiles cuts (length out.old) refusal) }
+        × RefusesWriting kind font.now cuts (length out.old) refusal) }
 {
+    let opened = FontOfKind::open(alloc, kind, font)?;
     let sets = sets_in(alloc, ranges, counts)?;
-    let sources = sources_of(alloc, kind, font, sets.as_slice())?;
+    let sources = sources_of(alloc, &opened, sets.as_slice())?;
     write_all(sources.as_slice(), out, sizes)
 }
 

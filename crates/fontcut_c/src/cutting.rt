@@ -8,7 +8,7 @@ ghost use Rattle.fontcut_c.specs.Inside.{RefusesRequest};
 use crate::caller_room::{size_of, write_to};
 use crate::ranges::{first_bad, wanted_of};
 use crate::refusal::Refusal;
-use font_cut::{CodeRange, CutOfKind, Font, Kind};
+use font_cut::{CodeRange, CutOfKind, Font, FontOfKind, Kind};
 use std::alloc::Global;
 
 /// Opens a font of which codes are wanted, or returns the first of what refuses that.
@@ -49,8 +49,9 @@ fn measure_cut(
     ensures { MatchResult result (λ size. IsCutSize kind font.now ranges.now size × (size ≤ MAX_FILE))
         (RefusesSize kind font.now ranges.now) }
 {
+    let opened = FontOfKind::open(alloc, kind, font)?;
     let wanted = wanted_of(alloc, ranges)?;
-    let source = CutOfKind::new(alloc, kind, font, &wanted)?;
+    let source = CutOfKind::new(alloc, &opened, Some(&wanted))?;
     size_of(&source)
 }
 
@@ -67,8 +68,9 @@ fn write_cut(
         (λ refusal. (out.new ≡ out.old)
         × RefusesCut kind font.now ranges.now (length out.old) refusal) }
 {
+    let opened = FontOfKind::open(alloc, kind, font)?;
     let wanted = wanted_of(alloc, ranges)?;
-    let source = CutOfKind::new(alloc, kind, font, &wanted)?;
+    let source = CutOfKind::new(alloc, &opened, Some(&wanted))?;
     write_to(&source, out)
 }
 

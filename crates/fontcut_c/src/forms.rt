@@ -2,20 +2,33 @@
 ghost use Rattle.std.specs.Prelude.{◌≡◌, None, MatchResult};
 ghost use Rattle.font_file.specs.Font.{font_fault};
 ghost use Rattle.font_subset.specs.Kinds.{form_as};
+ghost use Rattle.font_theory.specs.Kinds.{fault_of};
 ghost use Rattle.fontcut_c.specs.Answers.{form_number};
 ghost use Rattle.fontcut_c.specs.Forms.{IsBelonging, RefusesFont, RefusesPair};
+ghost use Rattle.fontcut_c.specs.Inside.{RefusesFonts, of_unopened_cut, of_unopened_font};
 
 use crate::refusal::{PairRefusal, Refusal};
-use font_cut::{CutForm, Font, Kind, belongs, form_of_kind};
+use font_cut::{CutForm, Font, FontOfKind, Kind, OpenError, belongs, form_of_kind};
 use std::alloc::Global;
 
+// Returns in which form an opened font is a cut of a kind.
+fn form_of_font(alloc: Global, kind: Kind, font: &Font<'_>) -> Result<CutForm, Refusal>
+    requires { font_fault font.now ≡ None }
+    ensures { MatchResult result (λ form. (fault_of kind font.now ≡ None) × (form ≡ form_as kind font.now))
+        (RefusesFont kind font.now) }
+{
+    let opened = FontOfKind::open(alloc, kind, font)?;
+    Ok(form_of_kind(alloc, &opened)?)
+}
+
 /// Returns in which form a file is a cut of a kind.
+#[tactic(auto, using(crate::proofs::CutLemmas::refused_for))]
 pub(crate) fn form_of(alloc: Global, kind: Kind, file: &[u8]) -> Result<CutForm, Refusal>
-    ensures { MatchResult result (λ form. (font_fault file.now ≡ None) × (form ≡ form_as kind file.now))
-        (RefusesFont file.now) }
+    ensures { MatchResult result (λ form. (fault_of kind file.now ≡ None) × (form ≡ form_as kind file.now))
+        (RefusesFont kind file.now) }
 {
     let font = Font::open(file).map_err(Refusal::Font)?;
-    Ok(form_of_kind(alloc, kind, &font)?)
+    form_of_font(alloc, kind, &font)
 }
 
 /// Returns the number of a form: 0 where the file is no cut, 1 where it is current and 2 where it is
@@ -30,6 +43,61 @@ pub(crate) fn number_of(form: CutForm) -> u32
     }
 }
 
+// Returns the refusal of a cut that is not opened for its kind.
+fn unopened_cut(error: OpenError) -> PairRefusal
+    ensures { result ≡ of_unopened_cut error }
+{
+    match error {
+        OpenError::NoMemory => PairRefusal::NoMemory,
+        OpenError::Refused(error) => PairRefusal::Cut(error),
+    }
+}
+
+// Returns the refusal of a font that is not opened for cuts of a kind.
+fn unopened_font(error: OpenError) -> PairRefusal
+    ensures { result ≡ of_unopened_font error }
+{
+    match error {
+        OpenError::NoMemory => PairRefusal::NoMemory,
+        OpenError::Refused(error) => PairRefusal::Font(error),
+    }
+}
+
+// Returns whether the file of an opened font is a cut of another, of a kind. The cut is opened for the kind first.
+fn font_belongs(
+    alloc: Global,
+    kind: Kind,
+    cut: &Font<'_>,
+    font: &Font<'_>,
+) -> Result<bool, PairRefusal>
+    requires cut { font_fault cut.now ≡ None }
+    requires font { font_fault font.now ≡ None }
+    ensures { MatchResult result (IsBelonging kind cut.now font.now) (RefusesPair kind cut.now font.now) }
+{
+    let cut_opened = match FontOfKind::open(alloc, kind, cut) {
+        Ok(opened) => opened,
+        Err(error) => return Err(unopened_cut(error)),
+    };
+    let font_opened = match FontOfKind::open(alloc, kind, font) {
+        Ok(opened) => opened,
+        Err(error) => return Err(unopened_font(error)),
+    };
+    match belongs(alloc, &cut_opened, &font_opened) {
+        Ok(yes) => Ok(yes),
+        Err(_) => Err(PairRefusal::NoMemory),
+    }
+}
+
+// Opens a cut and its font, or returns the first of what refuses them as fonts.
+fn opened_pair<'a>(cut: &'a [u8], font: &'a [u8]) -> Result<(Font<'a>, Font<'a>), PairRefusal>
+    ensures { MatchResult result (λ pair. (pair.0 ≡ cut.now) × (pair.1 ≡ font.now)
+        × (font_fault cut.now ≡ None) × (font_fault font.now ≡ None)) (RefusesFonts cut.now font.now) }
+{
+    let cut = Font::open(cut).map_err(PairRefusal::Cut)?;
+    let font = Font::open(font).map_err(PairRefusal::Font)?;
+    Ok((cut, font))
+}
+
 /// Returns whether a file is a cut of a font, of a kind.
 pub(crate) fn file_belongs(
     alloc: Global,
@@ -37,12 +105,8 @@ pub(crate) fn file_belongs(
     cut: &[u8],
     font: &[u8],
 ) -> Result<bool, PairRefusal>
-    ensures { MatchResult result (IsBelonging kind cut.now font.now) (RefusesPair cut.now font.now) }
+    ensures { MatchResult result (IsBelonging kind cut.now font.now) (RefusesPair kind cut.now font.now) }
 {
-    let cut = Font::open(cut).map_err(PairRefusal::Cut)?;
-    let font = Font::open(font).map_err(PairRefusal::Font)?;
-    match belongs(alloc, kind, &cut, &font) {
-        Ok(yes) => Ok(yes),
-        Err(_) => Err(PairRefusal::NoMemory),
-    }
+    let (cut, font) = opened_pair(cut, font)?;
+    font_belongs(alloc, kind, &cut, &font)
 }

@@ -12,6 +12,7 @@ pub(crate) fn kind_of_number(number: u32) -> Option<Kind>
     match number {
         0 => Some(Kind::Full),
         1 => Some(Kind::Lean),
+        2 => Some(Kind::Layout),
         _ => None,
     }
 }

@@ -173,7 +173,7 @@ pub extern "C" fn fontcut_subset(
 }
 
 /// Gives what [`fontcut_subset_size`] gives, of a font that [`fontcut_check`] has accepted: these bytes, or others that
-/// are the same. The font is not tested again.
+/// are the same. The font is not tested again, but a layout cut reads its tables of layout.
 #[unsafe(no_mangle)]
 pub extern "C" fn fontcut_subset_size_checked(
     alloc: Global,
@@ -191,7 +191,7 @@ pub extern "C" fn fontcut_subset_size_checked(
 }
 
 /// Does what [`fontcut_subset`] does, with a font that [`fontcut_check`] has accepted: these bytes, or others that are
-/// the same. The font is not tested again.
+/// the same. The font is not tested again, but a layout cut reads its tables of layout.
 #[unsafe(no_mangle)]
 pub extern "C" fn fontcut_subset_checked(
     alloc: Global,
@@ -244,7 +244,7 @@ pub extern "C" fn fontcut_cuts(
 }
 
 /// Says in which form a font is a cut of the kind that the number names: `detail` is 0 where it is none, 1
-/// where it is current and 2 where it is an old one, which no lean cut is. Status 101 where the number names
+/// where it is current and 2 where it is an old one, which no lean or layout cut is. Status 101 where the number names
 /// no kind, which is asked before all else.
 #[unsafe(no_mangle)]
 pub extern "C" fn fontcut_cut_form(alloc: Global, kind: u32, font: &[u8]) -> Answer

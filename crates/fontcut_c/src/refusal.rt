@@ -4,7 +4,7 @@ ghost use Rattle.std.specs.Int.{to_be_bytes, w32};
 ghost use Rattle.sfnt_bytes.specs.Tag.{tag_number};
 ghost use Rattle.font_file.specs.Text.{error_number};
 ghost use Rattle.font_join.specs.JoinText.{join_all_error_text, join_error_text};
-ghost use Rattle.fontcut_c.specs.Answers.{as_detail, at_step, cuts_refusal_answer, font_answer, font_argument, join_all_error_answer, join_error_answer, join_refusal_answer, lookup_refusal_answer, pair_refusal_answer, refusal_answer};
+ghost use Rattle.fontcut_c.specs.Answers.{as_detail, at_step, cuts_refusal_answer, font_answer, font_argument, join_all_error_answer, join_error_answer, join_refusal_answer, lookup_refusal_answer, of_open_error, pair_refusal_answer, refusal_answer};
 ghost use Rattle.fontcut_c.specs.Errors.{error_of, font_error_of};
 ghost use Rattle.fontcut_c.specs.Text.{NamesByItsStep, NamesByStep, NamesFile, join_text, refusal_text, text_of_refusal};
 ghost use Rattle.fontcut_c.specs.declared.any_error.AnyError.TheVariants.{Font};
@@ -12,7 +12,7 @@ ghost use Rattle.fontcut_c.specs.declared.refusal.JoinRefusal.TheVariants.{Join}
 ghost use Rattle.fontcut_c.specs.declared.refusal.Refusal.TheVariants.{NoMemory as MemoryRefused};
 
 use crate::answer::Answer;
-use font_cut::{DirError, FontError, JoinAllError, JoinError, TableError};
+use font_cut::{DirError, FontError, JoinAllError, JoinError, OpenError, TableError};
 use sfnt_bytes::{NoMemory, Tag, numbers};
 
 /// The status of a room that is too small.
@@ -44,6 +44,17 @@ impl From<NoMemory> for Refusal {
 
     fn from(_error: NoMemory) -> Refusal {
         Refusal::NoMemory
+    }
+}
+
+impl From<OpenError> for Refusal {
+    ghost from_gives = { λ held refusal. refusal ≡ of_open_error held };
+
+    fn from(error: OpenError) -> Refusal {
+        match error {
+            OpenError::NoMemory => Refusal::NoMemory,
+            OpenError::Refused(error) => Refusal::Font(error),
+        }
     }
 }
 

@@ -1,6 +1,7 @@
 use Rattle.std.proofs.Common.{refl}
 use Rattle.font_theory.specs.Kinds.{format_of}
 use Rattle.font_subset.proofs.CutLemmas.{passed_on}
+use Rattle.fontcut_c.proofs.JoiningLemmas.{join_answered}
 use Rattle.fontcut_c.proofs.StepLemmas.{names_file}
 use Rattle.fontcut_c.proofs.joining.join_to.Goals as goal
 
@@ -9,3 +10,6 @@ returns-in_err-first-clause-exact c = passed_on _ _ c.from_residual.result _ c.f
 
 pub returns-in_err-first-clause-named : goal.returns-in_err-first-clause-named
 returns-in_err-first-clause-named c = passed_on _ _ c.from_residual.result _ c.from_residual.ensures.1 (names_file c.args.kind _ c.in_err-first.field-0.0 (c.in_err-first.ensures (format_of c.args.kind)))
+
+pub returns-clause-exact : goal.returns-clause-exact
+returns-clause-exact c = join_answered (format_of c.args.kind) _ _ c.in_ok-union.ensures.exact c.args.out.now c.write_union.new.out c.write_union.result c.write_union.ensures.exact
