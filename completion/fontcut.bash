@@ -6,13 +6,13 @@ _fontcut_options() {
     case $1 in
     '') echo '--quiet --verbose --version --help' ;;
     subset)
-        echo '--text --text-file --codes-file --unicodes --exclude --exclude-file'
-        echo '--report --strict --lean --force --quiet --verbose --help'
+        echo '--text --text-file --exactly --codes-file --unicodes --complete --exclude --exclude-file'
+        echo '--report --strict --lean --layout --drop --force --quiet --verbose --help'
         ;;
     codes) echo '--glyphs --quiet --verbose --help' ;;
-    slice) echo '--slices --css --strict --lean --force --quiet --verbose --help' ;;
-    belongs) echo '--lean --quiet --verbose --help' ;;
-    join) echo '-o --output --lean --force --quiet --verbose --help' ;;
+    slice) echo '--slices --css --strict --lean --layout --drop --force --quiet --verbose --help' ;;
+    belongs) echo '--lean --layout --drop --quiet --verbose --help' ;;
+    join) echo '-o --output --lean --layout --force --quiet --verbose --help' ;;
     *) echo '--quiet --verbose --help' ;;
     esac
 }
@@ -55,7 +55,7 @@ _fontcut() {
             option=''
         elif ! $ended && [ "$word" = -- ]; then
             ended=true
-        elif ! $ended && [[ $word =~ ^--(text|(text|codes|exclude)-file|unicodes|exclude|slices|css|output)$ ]]; then
+        elif ! $ended && [[ $word =~ ^--((text|exclude)(-file)?|codes-file|unicodes|complete|drop|slices|css|output)$ ]]; then
             option=$word
         elif ! $ended && [[ $word == -?* ]]; then
             :
@@ -69,7 +69,8 @@ _fontcut() {
     word=${COMP_WORDS[COMP_CWORD]}
     [ "$word" != = ] || word=''
     case $option in
-    --text | --unicodes | --exclude | --css) ;;
+    --text | --unicodes | --complete | --exclude | --css) ;;
+    --drop) _fontcut_words 'BASE GDEF GPOS GSUB kern' "$word" ;;
     --text-file | --codes-file | --exclude-file | --slices | --output) _fontcut_files "$word" ;;
     *)
         if [[ $word == -* ]] && ! $ended; then

@@ -8,16 +8,16 @@ function __fontcut_options
         case ''
             printf '%s\n' --quiet --verbose --version --help
         case subset
-            printf '%s\n' --text --text-file --codes-file --unicodes --exclude --exclude-file
-            printf '%s\n' --report --strict --lean --force --quiet --verbose --help
+            printf '%s\n' --text --text-file --exactly --codes-file --unicodes --complete --exclude --exclude-file
+            printf '%s\n' --report --strict --lean --layout --drop --force --quiet --verbose --help
         case codes
             printf '%s\n' --glyphs --quiet --verbose --help
         case slice
-            printf '%s\n' --slices --css --strict --lean --force --quiet --verbose --help
+            printf '%s\n' --slices --css --strict --lean --layout --drop --force --quiet --verbose --help
         case belongs
-            printf '%s\n' --lean --quiet --verbose --help
+            printf '%s\n' --lean --layout --drop --quiet --verbose --help
         case join
-            printf '%s\n' -o --output --lean --force --quiet --verbose --help
+            printf '%s\n' -o --output --lean --layout --force --quiet --verbose --help
         case '*'
             printf '%s\n' --quiet --verbose --help
     end
@@ -57,7 +57,7 @@ function __fontcut_complete
             set option ''
         else if test $ended = false -a "$before" = --
             set ended true
-        else if test $ended = false; and string match -q -r -- '^--(text|(text|codes|exclude)-file|unicodes|exclude|slices|css|output)$' $before
+        else if test $ended = false; and string match -q -r -- '^--((text|exclude)(-file)?|codes-file|unicodes|complete|drop|slices|css|output)$' $before
             set option $before
         else if test $ended = false; and string match -q -- '-?*' $before
             continue
@@ -67,8 +67,10 @@ function __fontcut_complete
             set number (math $number + 1)
         end
     end
-    if contains -- "$option" --text --unicodes --exclude --css
+    if contains -- "$option" --text --unicodes --complete --exclude --css
         return
+    else if test "$option" = --drop
+        printf '%s\n' BASE GDEF GPOS GSUB kern
     else if test -n "$option"
         __fish_complete_path $word
     else if test $ended = false; and string match -q -r -- '^--((text|codes|exclude)-file|slices|output)=' $word

@@ -27,6 +27,9 @@ const SUGGESTION: &str = "  tip: a similar argument exists: '--";
 // How many letters a suggestion has in common with the unknown option at their beginnings.
 const ALIKE: usize = 3;
 
+// The tables of layout, which a layout cut can do without.
+const LAYOUT_TABLES: &[&str] = &["BASE", "GDEF", "GPOS", "GSUB", "kern"];
+
 // The names of the subcommands, in the order in which help lists them.
 const SUBCOMMANDS: [&str; 8] = [
     "check", "show", "codes", "belongs", "subset", "slice", "join", "demo",
@@ -74,6 +77,17 @@ pub enum Task<'a> {
     Demo,
 }
 
+/// The kind of cuts that a line asks for.
+#[derive(Clone, Copy, Debug, PartialEq, Eq)]
+pub enum CutKind {
+    /// Full cuts.
+    Full,
+    /// Lean cuts, by `--lean`.
+    Lean,
+    /// Layout cuts, by `--layout`.
+    Layout,
+}
+
 /// What `belongs` asks for.
 #[derive(Debug, Drop)]
 pub struct Belongs<'a> {
@@ -81,8 +95,10 @@ pub struct Belongs<'a> {
     pub cut: &'a str,
     /// The path of the font.
     pub font: &'a str,
-    /// Whether a lean cut is asked for.
-    pub is_lean: bool,
+    /// The kind of cut that is asked for.
+    pub kind: CutKind,
+    /// The names of the tables of layout that the cut does without.
+    pub dropped: Vec<&'a str>,
 }
 
 /// What `subset` asks for.
@@ -102,6 +118,8 @@ pub struct Subset<'a> {
     pub words: Vec<&'a str>,
     /// Lists of ranges of codes that are kept.
     pub lists: Vec<&'a str>,
+    /// Lists of ranges of codes that are kept, and with them the parts of their characters.
+    pub completed: Vec<&'a str>,
     /// Lists of ranges of codes that are taken away.
     pub excluded: Vec<&'a str>,
     /// The paths of files of ranges of codes that are taken away.
@@ -110,12 +128,17 @@ pub struct Subset<'a> {
     pub reports: bool,
     /// Whether nothing is written where a wanted code is not mapped.
     pub is_strict: bool,
-    /// Whether the lean cut is written.
-    pub is_lean: bool,
+    /// Whether a text stands for its own characters alone in a layout cut, too.
+    pub is_exact: bool,
+    /// The kind of cut that is written.
+    pub kind: CutKind,
+    /// The names of the tables of layout that the cut does without.
+    pub dropped: Vec<&'a str>,
     /// Whether OUT may have the ending of a packed font.
     pub is_forced: bool,
-    /// Whether a report shows characters beside their codes.
-    pub shows_characters: bool,
+    /// Whether more is said: characters beside the codes of a report, and scripts that the font shapes and a cut
+    /// without its tables of layout does not.
+    pub is_verbose: bool,
 }
 
 /// What `slice` asks for.
@@ -131,8 +154,10 @@ pub struct Slices<'a> {
     pub family: Option<&'a str>,
     /// Whether nothing is written where the font maps no code of a slice.
     pub is_strict: bool,
-    /// Whether lean cuts are written.
-    pub is_lean: bool,
+    /// The kind of cuts that are written.
+    pub kind: CutKind,
+    /// The names of the tables of layout that the cuts do without.
+    pub dropped: Vec<&'a str>,
     /// Whether the folder may have the ending of a packed font.
     pub is_forced: bool,
     /// Whether the first lines of messages are said alone.
@@ -148,8 +173,8 @@ pub struct Join<'a> {
     pub files: Vec<&'a str>,
     /// Whether the path that is written to is the first word, and not the value of an option.
     pub has_out_first: bool,
-    /// Whether the files are lean cuts, and their lean join is asked for.
-    pub is_lean: bool,
+    /// The kind of cuts that the files are, and that is written.
+    pub kind: CutKind,
     /// Whether OUT may have the ending of a packed font.
     pub is_forced: bool,
 }
@@ -196,6 +221,19 @@ fn flag<'a>(alloc: Global, long: &'a str, help: &'a str) -> Arg<'a> {
         .help(help)
 }
 
+// Returns the option for layout cuts, which are no lean ones.
+fn layout_flag<'a>(alloc: Global, help: &'a str) -> Result<Arg<'a>, AllocError> {
+    flag(alloc, "layout", help).conflicts_with("lean")
+}
+
+// Returns the option for tables of layout that are left out of layout cuts.
+fn drop_option<'a>(alloc: Global) -> Result<Arg<'a>, AllocError> {
+    repeated(alloc, "drop", "TABLES", texts::DROP)
+        .value_delimiter(',')
+        .value_parser(LAYOUT_TABLES)
+        .requires_arg("layout")
+}
+
 fn codes_command<'a>(alloc: Global) -> Result<Command<'a>, AllocError> {
     over_font(alloc, "codes", texts::CODES)?.arg(flag(alloc, "glyphs", texts::GLYPHS))
 }
@@ -205,28 +243,39 @@ fn belongs_command<'a>(alloc: Global) -> Result<Command<'a>, AllocError> {
         .about(texts::BELONGS)
         .arg(Arg::new(alloc, "CUT").required(true).help(texts::CUT))?
         .arg(Arg::new(alloc, "FONT").required(true).help(texts::FONT))?
-        .arg(flag(alloc, "lean", texts::LEAN_CUT))
+        .arg(flag(alloc, "lean", texts::LEAN_CUT))?
+        .arg(layout_flag(alloc, texts::LAYOUT_CUT)?)?
+        .arg(drop_option(alloc)?)
+}
+
+// Returns the subcommand `subset` with the options that say what is kept.
+fn with_sets<'a>(alloc: Global, command: Command<'a>) -> Result<Command<'a>, AllocError> {
+    // A text may begin with a hyphen.
+    let text = repeated(alloc, "text", "TEXT", texts::TEXT).allow_hyphen_values(true);
+    command
+        .arg(text)?
+        .arg(repeated(alloc, "text-file", "FILE", texts::TEXT_FILE))?
+        .arg(flag(alloc, "exactly", texts::EXACTLY))?
+        .arg(repeated(alloc, "codes-file", "FILE", texts::CODES_FILE))?
+        .arg(repeated(alloc, "unicodes", "LIST", texts::UNICODES))?
+        .arg(repeated(alloc, "complete", "LIST", texts::COMPLETE))?
+        .arg(repeated(alloc, "exclude", "LIST", texts::EXCLUDE))?
+        .arg(repeated(alloc, "exclude-file", "FILE", texts::EXCLUDE_FILE))
 }
 
 fn subset_command<'a>(alloc: Global) -> Result<Command<'a>, AllocError> {
-    // A text may begin with a hyphen.
-    let text = repeated(alloc, "text", "TEXT", texts::TEXT).allow_hyphen_values(true);
     let words = Arg::new(alloc, "WORDS")
         .num_args(0..)
         .action(ArgAction::Append)
         .help(texts::WORDS);
     let out = required(alloc, "OUT").help(texts::OUT);
-    over_font(alloc, "subset", texts::SUBSET)?
-        .arg(out)?
-        .arg(text)?
-        .arg(repeated(alloc, "text-file", "FILE", texts::TEXT_FILE))?
-        .arg(repeated(alloc, "codes-file", "FILE", texts::CODES_FILE))?
-        .arg(repeated(alloc, "unicodes", "LIST", texts::UNICODES))?
-        .arg(repeated(alloc, "exclude", "LIST", texts::EXCLUDE))?
-        .arg(repeated(alloc, "exclude-file", "FILE", texts::EXCLUDE_FILE))?
+    let command = over_font(alloc, "subset", texts::SUBSET)?.arg(out)?;
+    with_sets(alloc, command)?
         .arg(flag(alloc, "report", texts::REPORT))?
         .arg(flag(alloc, "strict", texts::STRICT))?
         .arg(flag(alloc, "lean", texts::LEAN))?
+        .arg(layout_flag(alloc, texts::LAYOUT)?)?
+        .arg(drop_option(alloc)?)?
         .arg(flag(alloc, "force", texts::FORCE))?
         .arg(words)
 }
@@ -247,6 +296,8 @@ fn slice_command<'a>(alloc: Global) -> Result<Command<'a>, AllocError> {
         .arg(css)?
         .arg(flag(alloc, "strict", texts::STRICT_SLICES))?
         .arg(flag(alloc, "lean", texts::LEAN_SLICES))?
+        .arg(layout_flag(alloc, texts::LAYOUT_SLICES)?)?
+        .arg(drop_option(alloc)?)?
         .arg(flag(alloc, "force", texts::FORCE))
 }
 
@@ -266,6 +317,7 @@ fn join_command<'a>(alloc: Global) -> Result<Command<'a>, AllocError> {
         .override_usage(texts::JOIN_USAGE)
         .arg(out)?
         .arg(flag(alloc, "lean", texts::LEAN_JOIN))?
+        .arg(layout_flag(alloc, texts::LAYOUT_JOIN)?)?
         .arg(flag(alloc, "force", texts::FORCE))?
         .arg(files)
 }
@@ -385,6 +437,17 @@ fn values_of<'a>(
     Vec::from_slice(alloc, matches.get_strs(id).unwrap_or(&[]))
 }
 
+// Returns the kind of cuts that a line asks for.
+fn cut_kind(matches: &ArgMatches<'_>) -> CutKind {
+    if matches.get_flag("layout") {
+        CutKind::Layout
+    } else if matches.get_flag("lean") {
+        CutKind::Lean
+    } else {
+        CutKind::Full
+    }
+}
+
 fn subset_task<'a>(
     alloc: Global,
     matches: &ArgMatches<'a>,
@@ -401,13 +464,16 @@ fn subset_task<'a>(
         code_files: values_of(alloc, matches, "codes-file")?,
         words: values_of(alloc, matches, "WORDS")?,
         lists: values_of(alloc, matches, "unicodes")?,
+        completed: values_of(alloc, matches, "complete")?,
         excluded: values_of(alloc, matches, "exclude")?,
         excluded_files: values_of(alloc, matches, "exclude-file")?,
         reports: matches.get_flag("report"),
         is_strict: matches.get_flag("strict"),
-        is_lean: matches.get_flag("lean"),
+        is_exact: matches.get_flag("exactly"),
+        kind: cut_kind(matches),
+        dropped: values_of(alloc, matches, "drop")?,
         is_forced: matches.get_flag("force"),
-        shows_characters: verbosity == Verbosity::Verbose,
+        is_verbose: verbosity == Verbosity::Verbose,
     })))
 }
 
@@ -418,28 +484,44 @@ fn codes_task<'a>(matches: &ArgMatches<'a>) -> Option<Task<'a>> {
     })
 }
 
-fn belongs_task<'a>(matches: &ArgMatches<'a>) -> Option<Task<'a>> {
+fn belongs_task<'a>(
+    alloc: Global,
+    matches: &ArgMatches<'a>,
+) -> Result<Option<Task<'a>>, AllocError> {
     let (Some(cut), Some(font)) = (matches.get_str("CUT"), matches.get_str("FONT")) else {
-        return None;
+        return Ok(None);
     };
-    Some(Task::Belongs(Belongs {
+    Ok(Some(Task::Belongs(Belongs {
         cut,
         font,
-        is_lean: matches.get_flag("lean"),
-    }))
+        kind: cut_kind(matches),
+        dropped: values_of(alloc, matches, "drop")?,
+    })))
 }
 
-fn slice_task<'a>(matches: &ArgMatches<'a>, verbosity: Verbosity) -> Option<Task<'a>> {
-    Some(Task::Slice(Slices {
-        font: matches.get_str("FONT")?,
-        folder: matches.get_str("FOLDER")?,
-        slices: matches.get_str("slices")?,
+fn slice_task<'a>(
+    alloc: Global,
+    matches: &ArgMatches<'a>,
+    verbosity: Verbosity,
+) -> Result<Option<Task<'a>>, AllocError> {
+    let (Some(font), Some(folder), Some(slices)) = (
+        matches.get_str("FONT"),
+        matches.get_str("FOLDER"),
+        matches.get_str("slices"),
+    ) else {
+        return Ok(None);
+    };
+    Ok(Some(Task::Slice(Slices {
+        font,
+        folder,
+        slices,
         family: matches.get_str("css"),
         is_strict: matches.get_flag("strict"),
-        is_lean: matches.get_flag("lean"),
+        kind: cut_kind(matches),
+        dropped: values_of(alloc, matches, "drop")?,
         is_forced: matches.get_flag("force"),
         is_quiet: verbosity == Verbosity::Quiet,
-    }))
+    })))
 }
 
 // Returns the output of a line of `join` and its files, where it has both: an option names the output, or else the
@@ -471,7 +553,7 @@ fn join_task<'a>(alloc: Global, matches: &ArgMatches<'a>) -> Result<Option<Task<
         out,
         files: Vec::from_slice(alloc, files)?,
         has_out_first: named.is_none(),
-        is_lean: matches.get_flag("lean"),
+        kind: cut_kind(matches),
         is_forced: matches.get_flag("force"),
     })))
 }
@@ -486,9 +568,9 @@ fn task_of<'a>(
         "check" => matches.get_str("FONT").map(|font| Task::Check { font }),
         "show" => matches.get_str("FONT").map(|font| Task::Show { font }),
         "codes" => codes_task(matches),
-        "belongs" => belongs_task(matches),
+        "belongs" => belongs_task(alloc, matches)?,
         "subset" => subset_task(alloc, matches, verbosity)?,
-        "slice" => slice_task(matches, verbosity),
+        "slice" => slice_task(alloc, matches, verbosity)?,
         "join" => join_task(alloc, matches)?,
         "demo" => Some(Task::Demo),
         _ => None,

@@ -12,7 +12,11 @@ const CHARACTERS: &str = "nothing: glyphs are chosen by their characters";
 
 const TABLES: &str = "nothing: which tables a cut keeps is fixed; fontcut show lists them";
 
-const LAYOUT: &str = "nothing: a cut has no tables of layout";
+const DROP: &str = "--layout --drop TABLES leaves out tables of layout; the others are fixed";
+
+const LAYOUT: &str = "--layout keeps the tables of layout whole, and the glyphs that GSUB puts";
+
+const NO_CLOSURE: &str = "--layout --drop GSUB keeps no glyph that GSUB puts";
 
 const INSTANCE: &str =
     "nothing: a variable font becomes its default; fontTools makes other instances";
@@ -49,13 +53,13 @@ const PEERS: [(&str, &str); 36] = [
     ("--gids-file", CHARACTERS),
     ("--glyphs", CHARACTERS),
     ("--glyphs-file", CHARACTERS),
-    ("--drop-tables", TABLES),
+    ("--drop-tables", DROP),
     ("--no-subset-tables", TABLES),
     ("--passthrough-tables", TABLES),
     ("--layout-features", LAYOUT),
     ("--layout-scripts", LAYOUT),
     ("--layout-closure", LAYOUT),
-    ("--no-layout-closure", LAYOUT),
+    ("--no-layout-closure", NO_CLOSURE),
     ("--variations", INSTANCE),
     ("--instance", INSTANCE),
     ("--retain-gids", NUMBERS),

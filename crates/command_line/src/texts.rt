@@ -11,7 +11,7 @@ Statuses: 0 done; 1 a font is refused, check finds something, belongs says no, o
 2 usage error; 3 a file cannot be read or written";
 
 pub(crate) const VERBOSE: &str =
-    "Says more where something fails: what to do, and characters beside their codes";
+    "Says more: what to do where something fails, characters beside codes, and what shaping a cut loses";
 
 pub(crate) const QUIET: &str = "Says the first line alone where something fails";
 
@@ -28,9 +28,12 @@ pub(crate) const SHOW: &str =
     "Shows the numbers of FONT, which of its tables a cut keeps or drops, and whether it is a cut";
 
 pub(crate) const AFTER_SHOW: &str = "\
+With --verbose it shows the tables of layout too, and whether FONT is a lean or a layout cut.
+
 Examples:
   fontcut show font.ttf
   fontcut show font.ttf | grep dropped
+  fontcut show font.ttf --verbose
 
 Statuses: 0 shown; 1 the font is refused; 2 words; 3 files";
 
@@ -67,16 +70,20 @@ Statuses: 0 yes; 1 no, or a file is refused; 2 words; 3 files";
 pub(crate) const SUBSET: &str =
     "Cuts FONT down to the characters that are wanted, and writes the cut to OUT, which is overwritten";
 
-pub(crate) const TEXT: &str = "Keeps the characters of TEXT; may be used again";
+pub(crate) const TEXT: &str =
+    "Keeps the characters of TEXT, with --layout also those that it needs; may be used again";
 
 pub(crate) const TEXT_FILE: &str =
-    "Keeps the characters of a file in UTF-8, but for control characters; may be used again";
+    "The same for a file in UTF-8, but for control characters; may be used again";
+
+pub(crate) const EXACTLY: &str =
+    "Keeps the characters of texts alone with --layout; without it this changes nothing";
 
 pub(crate) const CODES_FILE: &str =
     "Keeps the codes of a file of lists, as those of --unicodes; # starts a comment";
 
 pub(crate) const REPORT: &str =
-    "Says on standard error which wanted codes FONT lacks, and what the cut drops";
+    "Says on standard error which wanted codes FONT lacks, what the cut drops, and which scripts need that";
 
 pub(crate) const STRICT: &str =
     "Writes nothing and reports, with status 1, where FONT lacks a wanted code or none is wanted";
@@ -84,9 +91,17 @@ pub(crate) const STRICT: &str =
 pub(crate) const LEAN: &str =
     "Writes the lean cut: no metrics of glyphs that are not kept, and no names of glyphs";
 
+pub(crate) const LAYOUT: &str =
+    "Writes the layout cut: a lean one with GSUB, GPOS, GDEF, BASE, kern and the glyphs that GSUB puts";
+
+pub(crate) const DROP: &str =
+    "Cuts FONT as if it had no such tables: GSUB alone adds glyphs; may be used again";
+
 pub(crate) const FORCE: &str = "Writes to a name that ends in .woff2 or .woff all the same";
 
 pub(crate) const LEAN_CUT: &str = "Asks for a lean cut, as subset --lean writes it";
+
+pub(crate) const LAYOUT_CUT: &str = "Asks for a layout cut, as subset --layout writes it";
 
 pub(crate) const FONT: &str =
     "The path of a font file with TrueType outlines, or - for standard input";
@@ -98,6 +113,9 @@ pub(crate) const CUT: &str = "The path of a file that may be a cut, or - for sta
 pub(crate) const UNICODES: &str =
     "Keeps the codes of LIST: 41-5A,61,U+3B1,U+4?? or a unicode-range of CSS; may be used again";
 
+pub(crate) const COMPLETE: &str =
+    "Keeps the codes of LIST, and the canonical parts of their characters; may be used again";
+
 pub(crate) const EXCLUDE: &str = "Takes the codes of LIST away from those that are kept";
 
 pub(crate) const EXCLUDE_FILE: &str = "Takes the codes of a file of lists away";
@@ -105,14 +123,17 @@ pub(crate) const EXCLUDE_FILE: &str = "Takes the codes of a file of lists away";
 pub(crate) const WORDS: &str = "Ranges of codes to keep: all, U+41, U+41-5A";
 
 pub(crate) const AFTER_SUBSET: &str = "\
-A cut keeps the numbers of the glyphs. It drops the tables of layout (GSUB, GPOS, GDEF, kern), of
-variations (fvar, gvar ..), of colours and bitmaps, and signatures; fontcut show lists them. The lean cut
+A cut keeps the numbers of the glyphs. It drops the tables of variations (fvar, gvar ..), of colours and
+bitmaps, and signatures; fontcut show lists them. Full and lean cuts drop the tables of layout (GSUB, GPOS,
+GDEF, BASE, kern) too, which scripts such as Arabic and Devanagari need: --layout keeps them. The lean cut
 of a cut is that of its font: --lean with the word all makes a cut lean.
 
 Examples:
   fontcut subset font.ttf cut.ttf all
   fontcut subset font.ttf cut.ttf --text 'Hello, world'
   fontcut subset font.ttf lean.ttf U+20-7E --lean
+  fontcut subset font.ttf arabic.ttf U+20-7E U+600-6FF --layout
+  fontcut subset font.ttf kerned.ttf U+20-7E --layout --drop GSUB
   fontcut subset font.ttf cut.ttf U+20-7E --text-file page.txt --report
   fontcut subset font.ttf cut.ttf --unicodes 'U+4??, U+20AC' --exclude 450-45F
 
@@ -133,6 +154,8 @@ pub(crate) const STRICT_SLICES: &str =
     "Writes nothing, with status 1, where FONT maps no code of a slice";
 
 pub(crate) const LEAN_SLICES: &str = "Writes lean cuts, as subset --lean does";
+
+pub(crate) const LAYOUT_SLICES: &str = "Writes layout cuts, as subset --layout does";
 
 pub(crate) const AFTER_SLICE: &str = "\
 A line of the file of slices: latin U+20-7E,U+A0-FF. The font is tested once for all slices. A rule lists
@@ -157,9 +180,13 @@ pub(crate) const FILES: &str = "Cuts of one font, in any order; without -o, the 
 pub(crate) const LEAN_JOIN: &str =
     "Joins lean cuts, as subset --lean writes them, into the lean cut";
 
+pub(crate) const LAYOUT_JOIN: &str =
+    "Joins layout cuts, as subset --layout writes them, into the layout cut";
+
 pub(crate) const AFTER_JOIN: &str = "\
 A join keeps what its cuts kept, and drops nothing. It is the cut of the font for all their characters.
 Lean cuts join with --lean, and with lean cuts alone; subset --lean with the word all makes a cut lean.
+Layout cuts join with --layout, and with layout cuts alone.
 
 Examples:
   fontcut join -o all.ttf latin.ttf greek.ttf

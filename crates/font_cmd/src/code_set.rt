@@ -116,6 +116,29 @@ impl CodeSet {
         self.rising.add(first, last).map_err(|_| AllocError)
     }
 
+    /// Adds the codes of another set.
+    ///
+    /// # Errors
+    /// `AllocError` where memory is refused.
+    pub fn add_all(&mut self, alloc: Global, other: &CodeSet) -> Result<(), AllocError> {
+        for (first, last) in other.ranges(alloc)? {
+            self.add_range(first, last)?;
+        }
+        Ok(())
+    }
+
+    /// Returns whether it has a code.
+    pub fn has(&self, code: u32) -> bool {
+        let word = self.bits.get((code / 32) as usize).copied().unwrap_or(0);
+        if word >> (code % 32) & 1 == 1 {
+            return true;
+        }
+        match self.rising.row_from(code) {
+            Some(range) => range.first <= code,
+            None => false,
+        }
+    }
+
     // Returns a bit for each code up to the greatest.
     fn all_bits(&self, alloc: Global) -> Result<Vec<u32>, AllocError> {
         let mut bits = Vec::new(alloc);

@@ -2,21 +2,19 @@
 ghost use Rattle.std.specs.Prelude.{◌≡◌, true};
 ghost use Rattle.streams.specs.Inlet.{inlet_fresh_of};
 
-use crate::code_set::CodeSet;
-use crate::coverage::Coverage;
+use crate::choice::{Choice, Kept, add_all_files, names_set};
+use crate::coverage::{Coverage, linked_count};
+use crate::dropped_tables::without_named;
 use crate::held_files::HeldFiles;
-use crate::inputs::{inlet_at, sources};
+use crate::inputs::inlet_at;
 use crate::listed_word::is_range_word;
 use crate::outcome::Outcome;
 use crate::output::{outlet, packed_out, placed};
 use crate::report::Fault;
 use crate::system::System;
-use crate::wanted::{add_files, add_lists, codes_of};
-use crate::wanted_files::FileKind;
 use command_line::Subset;
 use commands::{RunError, run_subset_of_kind};
 use font_cut::{Font, Kind, Wanted};
-use std::alloc::Global;
 use std::io::{Read, Write};
 use streams::Inlet;
 
@@ -37,47 +35,28 @@ fn send_cut<'a, F: HeldFiles, I, O: Write + Copy + Drop, R: Read>(
     Ok(size)
 }
 
-// Sends the cut for the wanted codes of what an inlet reads to OUT, and answers its size.
-fn cut<'a, F: HeldFiles, I, O: Write + Copy + Drop, R: Read>(
-    system: &System<'a, F, I, O>,
-    kind: Kind,
-    line: &Subset<'a>,
-    inlet: &mut Inlet<R>,
-    codes: CodeSet,
-) -> Result<u64, Fault<'a>>
-    requires { inlet_fresh_of inlet.old ≡ true }
-{
-    let wanted = codes.into_wanted(system.alloc)?;
-    send_cut(system, kind, line, inlet, &wanted)
+// Opens the font that is held in a file.
+fn opened<'a, 'f>(line: &Subset<'a>, file: &'f [u8]) -> Result<Font<'f>, Fault<'a>> {
+    Font::open(file).map_err(|error| Fault::of_run(line.font, line.out, RunError::from(error)))
 }
 
-// Returns what is said of a font, whose file this is, and of the codes that are wanted.
-fn covered<'a>(
-    alloc: Global,
-    line: &Subset<'a>,
-    file: &[u8],
-    codes: &CodeSet,
-) -> Result<Coverage, Fault<'a>> {
-    let font = Font::open(file).map_err(|error| Fault::of_run(
-        line.font,
-        line.out,
-        RunError::from(error),
-    ))?;
-    Ok(Coverage::of(alloc, &font, codes, line.shows_characters)?)
-}
-
-// Returns the outcome of a cut of this size and kind, with what is said where that is wanted.
+// Returns the outcome of a cut of this size and kind, with what is said where that is wanted. `linked` is the number of
+// glyphs that it keeps by links, where these are counted.
 fn with_report<'a>(
     kind: Kind,
     line: &Subset<'a>,
     coverage: Coverage,
+    linked: Option<usize>,
     size: u64,
 ) -> Result<Outcome, Fault<'a>> {
-    if !line.reports {
-        return Ok(Outcome::of(true));
+    if line.reports {
+        let text = coverage.with_cut(kind, linked, size)?;
+        return Ok(Outcome::saying(true, text));
     }
-    let text = coverage.with_cut(kind, size)?;
-    Ok(Outcome::saying(true, text))
+    match coverage.into_note() {
+        Some(note) if line.is_verbose => Ok(Outcome::noting(note)),
+        _ => Ok(Outcome::of(true)),
+    }
 }
 
 // Cuts a font, whose file this is, for the codes that are wanted, and reports on them.
@@ -86,90 +65,42 @@ fn cut_of_file<'a, F: HeldFiles, I, O: Write + Copy + Drop>(
     kind: Kind,
     line: &Subset<'a>,
     file: &[u8],
-    codes: CodeSet,
+    kept: Kept,
 ) -> Result<Outcome, Fault<'a>> {
-    let coverage = covered(system.alloc, line, file, &codes)?;
+    let alloc = system.alloc;
+    let font = opened(line, file)?;
+    let coverage = Coverage::of(alloc, &font, &kept, kind, line.is_verbose)?;
     if line.is_strict && !coverage.is_whole() {
-        let text = coverage.unwritten_text(system.alloc)?;
+        let text = coverage.unwritten_text(alloc)?;
         return Ok(Outcome::saying(false, text));
     }
-    let size = cut(system, kind, line, &mut Inlet::new(file), codes)?;
-    with_report(kind, line, coverage, size)
+    let wanted = kept.into_wanted(alloc)?;
+    let linked = if line.reports && kind == Kind::Layout {
+        linked_count(alloc, &font, &wanted)?
+    } else {
+        None
+    };
+    let size = send_cut(system, kind, line, &mut Inlet::new(file), &wanted)?;
+    with_report(kind, line, coverage, linked, size)
 }
 
-// Cuts a font, which is held in memory, and says which wanted codes it lacks and what is dropped.
-fn cut_with_report<'a, F: HeldFiles, I, O: Write + Copy + Drop, R: Read>(
+// Cuts a font, which is held in memory, without the tables that a line drops, and reports on the cut.
+fn cut_held<'a, F: HeldFiles, I, O: Write + Copy + Drop, R: Read>(
     system: &System<'a, F, I, O>,
     kind: Kind,
     line: &Subset<'a>,
     inlet: &mut Inlet<R>,
-    codes: CodeSet,
+    kept: Kept,
 ) -> Result<Outcome, Fault<'a>>
     requires { inlet_fresh_of inlet.old ≡ true }
 {
-    let file = inlet.read_all(system.alloc).map_err(|error| Fault::of_run(
+    let whole = inlet.read_all(system.alloc).map_err(|error| Fault::of_run(
         line.font,
         line.out,
         RunError::from(error),
     ))?;
-    cut_of_file(system, kind, line, &file, codes)
-}
-
-// The codes that a line wants, and those that it takes away from them.
-#[derive(Drop)]
-struct Choice {
-    wanted: CodeSet,
-    gone: CodeSet,
-}
-
-impl Choice {
-    // Returns the codes of the arguments of a line, which are looked at before any file.
-    fn of<'a>(alloc: Global, line: &Subset<'a>) -> Result<Choice, Fault<'a>> {
-        let mut choice = Choice {
-            wanted: codes_of(alloc, &line.texts, &line.words)?,
-            gone: CodeSet::new(alloc),
-        };
-        add_lists(alloc, &mut choice.wanted, &line.lists)?;
-        add_lists(alloc, &mut choice.gone, &line.excluded)?;
-        Ok(choice)
-    }
-
-    // Returns the codes that are left.
-    fn left<'a>(self, alloc: Global) -> Result<CodeSet, Fault<'a>> {
-        if self.gone.is_empty() {
-            return Ok(self.wanted);
-        }
-        Ok(self.wanted.without(alloc, &self.gone)?)
-    }
-}
-
-// Adds the codes of the files that a line names, which are all opened before one is read.
-fn add_all_files<'a, F: HeldFiles, I: Read + Copy + Drop, O>(
-    system: &System<'a, F, I, O>,
-    line: &Subset<'a>,
-    choice: &mut Choice,
-) -> Result<(), Fault<'a>> {
-    let alloc = system.alloc;
-    let texts = sources(system, &line.text_files)?;
-    let words = sources(system, &line.code_files)?;
-    let excluded = sources(system, &line.excluded_files)?;
-    let wanted = &mut choice.wanted;
-    add_files(alloc, texts, &line.text_files, FileKind::Characters, wanted)?;
-    add_files(alloc, words, &line.code_files, FileKind::Words, wanted)?;
-    add_files(
-        alloc,
-        excluded,
-        &line.excluded_files,
-        FileKind::Words,
-        &mut choice.gone,
-    )
-}
-
-// Returns whether a line names a set of characters, be it empty.
-fn names_set(line: &Subset<'_>) -> bool {
-    let has_text = !line.texts.is_empty() || !line.text_files.is_empty();
-    let has_codes = !line.code_files.is_empty() || !line.lists.is_empty();
-    has_text || has_codes || !line.words.is_empty()
+    let file = without_named(system.alloc, line.font, whole, &line.dropped)?;
+    cut_of_file(system, kind, line, &file, kept)
 }
 
 // Looks at the OUT of a line, and at whether it names a set of characters.
@@ -199,10 +130,11 @@ pub(crate) fn subset<'a, F: HeldFiles, I: Read + Copy + Drop, O: Write + Copy + 
     let mut choice = Choice::of(system.alloc, line)?;
     let mut inlet = inlet_at(system, line.font)?;
     add_all_files(system, line, &mut choice)?;
-    let codes = choice.left(system.alloc)?;
-    if line.reports || line.is_strict {
-        return cut_with_report(system, kind, line, &mut inlet, codes);
+    let kept = choice.left(system.alloc)?;
+    if line.reports || line.is_strict || line.is_verbose || !line.dropped.is_empty() {
+        return cut_held(system, kind, line, &mut inlet, kept);
     }
-    cut(system, kind, line, &mut inlet, codes)?;
+    let wanted = kept.into_wanted(system.alloc)?;
+    send_cut(system, kind, line, &mut inlet, &wanted)?;
     Ok(Outcome::of(true))
 }

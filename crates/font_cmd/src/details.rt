@@ -42,6 +42,10 @@ const MADE_FULL: &str = "fontcut: a lean cut cannot be made full again: cut the 
 
 const LEAN_JOIN: &str = "fontcut: lean cuts are joined by join --lean\n";
 
+// How a layout cut is made in place of another one.
+const MADE_LAYOUT: &str =
+    "fontcut: other cuts have no tables of layout: cut the font anew by subset --layout\n";
+
 // What separates the system's reason from its number.
 const NUMBER: &str = " (os error";
 
@@ -103,6 +107,7 @@ fn cut_name(kind: Kind) -> &'static str {
     match kind {
         Kind::Full => "a full cut",
         Kind::Lean => "a lean cut",
+        Kind::Layout => "a layout cut",
     }
 }
 
@@ -116,57 +121,98 @@ fn add_made_lean(text: &mut String, path: &str) -> Result<(), AllocError> {
     Ok(())
 }
 
-// Adds of which kinds the first and the refused file are as cuts, and what to do, where one is lean at least.
+// Adds of which kinds the first and the refused file are as cuts.
+fn add_cuts(
+    text: &mut String,
+    first: (&str, Kind),
+    refused: (&str, Kind),
+) -> Result<(), AllocError> {
+    for (path, kind) in [first, refused] {
+        let (name, cut) = (Shown(input_name(path)), cut_name(kind));
+        write!(text, "fontcut: {name}: {cut}\n")?;
+    }
+    Ok(())
+}
+
+// Adds of which kinds the first and the refused file of a join of full cuts are, and what to do, where one is lean at
+// least.
 fn add_kinds(
     text: &mut String,
     first: (&str, Kind),
     refused: (&str, Kind),
 ) -> Result<(), AllocError> {
-    let (first_path, first_kind) = first;
-    let (path, kind) = refused;
-    let (first_name, name) = (Shown(input_name(first_path)), Shown(input_name(path)));
-    let (first_cut, cut) = (cut_name(first_kind), cut_name(kind));
-    write!(text, "fontcut: {first_name}: {first_cut}\n")?;
-    write!(text, "fontcut: {name}: {cut}\n")?;
-    if first_kind == kind {
+    add_cuts(text, first, refused)?;
+    if first.1 == refused.1 {
         return text.push_str(LEAN_JOIN);
     }
-    let full = if kind == Kind::Full { path } else { first_path };
+    let full = if refused.1 == Kind::Full {
+        refused.0
+    } else {
+        first.0
+    };
     add_made_lean(text, full)?;
     text.push_str(MADE_FULL)
 }
 
-// Adds why two files are not joined.
+// Adds that two files are cuts of different fonts, or perhaps of different kinds where these are not known.
+fn add_no_cut(
+    text: &mut String,
+    path: &str,
+    first: &str,
+    is_known: bool,
+) -> Result<(), AllocError> {
+    let (name, first_name) = (Shown(input_name(path)), Shown(input_name(first)));
+    write!(
+        text,
+        "fontcut: {name} is no cut of the font of {first_name}"
+    )?;
+    text.push_str(if is_known {
+        "\n"
+    } else {
+        ", or one of them is a lean cut\n"
+    })
+}
+
+// Adds why two files are not joined as cuts of a kind.
 fn add_not_joined(
     text: &mut String,
-    is_lean: bool,
+    joined: Kind,
     path: &str,
     first: &str,
     seen: Seen,
 ) -> Result<(), AllocError> {
-    let (name, first_name) = (Shown(input_name(path)), Shown(input_name(first)));
+    let Seen::Cuts {
+        first: Some(first_kind),
+        refused: Some(kind),
+    } = seen
+    else {
+        return add_no_cut(text, path, first, false);
+    };
+    let has_lean = first_kind == Kind::Lean || kind == Kind::Lean;
+    match joined {
+        Kind::Full if has_lean => add_kinds(text, (first, first_kind), (path, kind)),
+        Kind::Layout if first_kind != kind => {
+            add_cuts(text, (first, first_kind), (path, kind))?;
+            text.push_str(MADE_LAYOUT)
+        }
+        _ => add_no_cut(text, path, first, true),
+    }
+}
+
+// Adds what a file is that is no layout cut, and how one is made.
+fn add_not_layout(text: &mut String, path: &str, seen: Seen) -> Result<(), AllocError> {
+    let name = Shown(input_name(path));
     match seen {
         Seen::Cuts {
-            first: Some(first_kind),
             refused: Some(kind),
-        } if !is_lean && (first_kind == Kind::Lean || kind == Kind::Lean) => {
-            add_kinds(text, (first, first_kind), (path, kind))
-        }
-        Seen::Cuts {
-            first: Some(_),
-            refused: Some(_),
+            ..
         } => {
-            write!(
-                text,
-                "fontcut: {name} is no cut of the font of {first_name}\n"
-            )?;
-            Ok(())
+            let cut = cut_name(kind);
+            write!(text, "fontcut: {name}: {cut}, and no layout one\n")?;
+            text.push_str(MADE_LAYOUT)
         }
         _ => {
-            write!(
-                text,
-                "fontcut: {name} is no cut of the font of {first_name}, or one of them is a lean cut\n"
-            )?;
+            write!(text, "fontcut: {name}: no layout cut\n")?;
             Ok(())
         }
     }
@@ -219,8 +265,13 @@ fn add_known(
             path,
             first,
             ..
-        } => add_not_joined(text, *kind == Kind::Lean, path, first, seen),
-        Fault::NotLean { path, .. } => add_not_lean(text, path, seen),
+        } => add_not_joined(text, *kind, path, first, seen),
+        Fault::NotOfKind {
+            kind: Kind::Layout,
+            path,
+            ..
+        } => add_not_layout(text, path, seen),
+        Fault::NotOfKind { path, .. } => add_not_lean(text, path, seen),
         Fault::Replaces { file, out } => add_both(text, file, out),
         Fault::NoSet => text.push_str(SETS),
         Fault::PackedOut(_) | Fault::PackedFolder => text.push_str(FORCE),

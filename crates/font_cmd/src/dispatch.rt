@@ -5,19 +5,22 @@ ghost use Rattle.streams.specs.Outlet.{fresh_of};
 use crate::cutting::subset;
 use crate::demo::demo_text;
 use crate::details::{Details, NO_DETAILS};
+use crate::dropped_tables::without_named;
 use crate::held_files::HeldFiles;
-use crate::inputs::inlet_at;
+use crate::inputs::{inlet_at, read_whole};
 use crate::joining::join;
 use crate::outcome::{Outcome, answered, ended, print, report, say};
 use crate::refused_file::{Seen, look_again};
 use crate::report::{Fault, no_memory};
+use crate::showing::show;
 use crate::slicing::slice;
 use crate::system::{Reason, System};
-use command_line::{Belongs, Line, LineError, Task, Verbosity, is_quiet, parse};
-use commands::{RunError, run_belongs, run_check, run_codes, run_glyphs, run_show};
+use command_line::{Belongs, CutKind, Line, LineError, Task, Verbosity, is_quiet, parse};
+use commands::{RunError, run_belongs, run_check, run_codes, run_glyphs};
 use font_cut::{Kind, Outlet, Which};
 use std::alloc::{AllocError, Global};
 use std::io::{Read, Write};
+use streams::Inlet;
 
 fn check<'a, F: HeldFiles, I: Read + Copy + Drop, O, W: Write>(
     system: &System<'a, F, I, O>,
@@ -28,17 +31,6 @@ fn check<'a, F: HeldFiles, I: Read + Copy + Drop, O, W: Write>(
 {
     let mut inlet = inlet_at(system, font)?;
     answered(font, run_check(system.alloc, &mut inlet, out))
-}
-
-fn show<'a, F: HeldFiles, I: Read + Copy + Drop, O, W: Write>(
-    system: &System<'a, F, I, O>,
-    font: &'a str,
-    out: &mut Outlet<W>,
-) -> Result<Outcome, Fault<'a>>
-    requires { fresh_of out.old ≡ true }
-{
-    let mut inlet = inlet_at(system, font)?;
-    answered(font, run_show(system.alloc, &mut inlet, out).map(|()| true))
 }
 
 fn codes<'a, F: HeldFiles, I: Read + Copy + Drop, O, W: Write>(
@@ -58,22 +50,12 @@ fn codes<'a, F: HeldFiles, I: Read + Copy + Drop, O, W: Write>(
     answered(font, sent.map(|()| true))
 }
 
-fn belongs<'a, F: HeldFiles, I: Read + Copy + Drop, O, W: Write>(
-    system: &System<'a, F, I, O>,
-    kind: Kind,
+// Returns the outcome of `belongs`. `unread` is the path of the file that could not be read, where one could not.
+fn belonged<'a>(
     line: &Belongs<'a>,
-    out: &mut Outlet<W>,
-) -> Result<Outcome, Fault<'a>>
-    requires { fresh_of out.old ≡ true }
-{
-    let mut cut_inlet = inlet_at(system, line.cut)?;
-    let mut font_inlet = inlet_at(system, line.font)?;
-    let is_cut = run_belongs(system.alloc, kind, &mut cut_inlet, &mut font_inlet, out);
-    let unread = if cut_inlet.is_broken() {
-        line.cut
-    } else {
-        line.font
-    };
+    unread: &'a str,
+    is_cut: Result<bool, RunError>,
+) -> Result<Outcome, Fault<'a>> {
     match is_cut {
         Err(RunError::OneOf(which, error)) => {
             let path = match which {
@@ -87,6 +69,45 @@ fn belongs<'a, F: HeldFiles, I: Read + Copy + Drop, O, W: Write>(
     }
 }
 
+// Does what `belongs` asks for of a font without some of its tables. Both files are held in memory.
+fn belongs_without<'a, F: HeldFiles, I: Read + Copy + Drop, O, W: Write>(
+    system: &System<'a, F, I, O>,
+    kind: Kind,
+    line: &Belongs<'a>,
+    out: &mut Outlet<W>,
+) -> Result<Outcome, Fault<'a>>
+    requires { fresh_of out.old ≡ true }
+{
+    let cut = read_whole(system, line.cut)?;
+    let whole = read_whole(system, line.font)?;
+    let font = without_named(system.alloc, line.font, whole, &line.dropped)?;
+    let (mut cut_inlet, mut font_inlet) = (Inlet::new(&cut[..]), Inlet::new(&font[..]));
+    let is_cut = run_belongs(system.alloc, kind, &mut cut_inlet, &mut font_inlet, out);
+    belonged(line, line.cut, is_cut)
+}
+
+fn belongs<'a, F: HeldFiles, I: Read + Copy + Drop, O, W: Write>(
+    system: &System<'a, F, I, O>,
+    kind: Kind,
+    line: &Belongs<'a>,
+    out: &mut Outlet<W>,
+) -> Result<Outcome, Fault<'a>>
+    requires { fresh_of out.old ≡ true }
+{
+    if !line.dropped.is_empty() {
+        return belongs_without(system, kind, line, out);
+    }
+    let mut cut_inlet = inlet_at(system, line.cut)?;
+    let mut font_inlet = inlet_at(system, line.font)?;
+    let is_cut = run_belongs(system.alloc, kind, &mut cut_inlet, &mut font_inlet, out);
+    let unread = if cut_inlet.is_broken() {
+        line.cut
+    } else {
+        line.font
+    };
+    belonged(line, unread, is_cut)
+}
+
 fn demo<W: Write>(alloc: Global, out: &mut Outlet<W>) -> Result<Outcome, Fault<'static>>
     requires { fresh_of out.old ≡ true }
 {
@@ -96,27 +117,31 @@ fn demo<W: Write>(alloc: Global, out: &mut Outlet<W>) -> Result<Outcome, Fault<'
     }
 }
 
-// Returns the kind of cuts that a line asks for, which has `--lean` or not.
-fn kind_asked(is_lean: bool) -> Kind {
-    if is_lean { Kind::Lean } else { Kind::Full }
+// Returns the kind of cuts that a line asks for.
+fn kind_asked(kind: CutKind) -> Kind {
+    match kind {
+        CutKind::Full => Kind::Full,
+        CutKind::Lean => Kind::Lean,
+        CutKind::Layout => Kind::Layout,
+    }
 }
 
-// Does what a task asks for.
+// Does what a line asks for.
 fn done<'a, F: HeldFiles, I: Read + Copy + Drop, O: Write + Copy + Drop, W: Write>(
     system: &System<'a, F, I, O>,
-    task: &Task<'a>,
+    line: &Line<'a>,
     out: &mut Outlet<W>,
 ) -> Result<Outcome, Fault<'a>>
     requires { fresh_of out.old ≡ true }
 {
-    match task {
+    match &line.task {
         Task::Check { font } => check(system, font, out),
-        Task::Show { font } => show(system, font, out),
+        Task::Show { font } => show(system, font, line.verbosity, out),
         Task::Codes { font, with_glyphs } => codes(system, font, *with_glyphs, out),
-        Task::Belongs(line) => belongs(system, kind_asked(line.is_lean), line, out),
-        Task::Subset(line) => subset(system, kind_asked(line.is_lean), line),
-        Task::Join(line) => join(system, kind_asked(line.is_lean), line),
-        Task::Slice(line) => slice(system, kind_asked(line.is_lean), line, out),
+        Task::Belongs(line) => belongs(system, kind_asked(line.kind), line, out),
+        Task::Subset(line) => subset(system, kind_asked(line.kind), line),
+        Task::Join(line) => join(system, kind_asked(line.kind), line),
+        Task::Slice(line) => slice(system, kind_asked(line.kind), line, out),
         Task::Demo => demo(system.alloc, out),
     }
 }
@@ -143,7 +168,7 @@ fn run_line<'a, F: HeldFiles, I: Read + Copy + Drop, O: Write + Copy + Drop, W: 
     requires out { fresh_of out.old ≡ true }
     requires err { fresh_of err.old ≡ true }
 {
-    let outcome = done(system, &line.task, out);
+    let outcome = done(system, line, out);
     let reason = system.reason.number();
     let Ok(seen) = seen_of(system, line.verbosity, &outcome) else {
         return report(system.alloc, err, no_memory(), NO_DETAILS);

@@ -6,6 +6,7 @@ ghost use Rattle.commands.specs.Join.{AreFresh};
 use crate::report::{Fault, no_memory};
 use crate::system::{KeepsReason, System};
 use command_line::STANDARD;
+use commands::RunError;
 use std::alloc::AllocError;
 use std::fs::File;
 use std::io;
@@ -87,6 +88,20 @@ pub(crate) fn inlet_at<'a, F: Files, I: Read + Copy + Drop, O>(
     ensures { IfOk result (λ inlet. inlet_fresh_of inlet ≡ true) }
 {
     Ok(Inlet::new(source(system, path)?))
+}
+
+/// Reads the file at a path to its end.
+///
+/// # Errors
+/// `Unread` where it cannot be read, `Refused` where memory is.
+pub(crate) fn read_whole<'a, F: Files, I: Read + Copy + Drop, O>(
+    system: &System<'a, F, I, O>,
+    path: &'a str,
+) -> Result<Vec<u8>, Fault<'a>> {
+    let mut inlet = inlet_at(system, path)?;
+    inlet
+        .read_all(system.alloc)
+        .map_err(|error| Fault::of_run(path, path, RunError::from(error)))
 }
 
 // Puts an inlet after others, all of which are fresh.

@@ -2,22 +2,28 @@
 //! proved, and that it returns: tests show the rest. What its commands send is proved in `commands`.
 #![tactic(auto)]
 
+mod choice;
 mod code_set;
 mod coverage;
+mod cut_kinds;
 mod cutting;
 mod demo;
 mod details;
 mod dispatch;
+mod dropped_tables;
 mod glyph_columns;
 mod held_files;
 mod inputs;
 mod joining;
 mod listed_word;
+mod needed;
 mod out_file;
 mod outcome;
 mod output;
 mod refused_file;
 mod report;
+mod shaped_scripts;
+mod showing;
 mod shown;
 mod slice_list;
 mod slicing;

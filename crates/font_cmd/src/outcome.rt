@@ -108,6 +108,22 @@ pub(crate) fn print<W: Write>(out: &mut Outlet<W>, text: &str) -> Result<Outcome
     Ok(Outcome::of(true))
 }
 
+/// Prints a text on standard output after what was printed there.
+///
+/// # Errors
+/// `Unwritten` where that fails, or has failed before.
+pub(crate) fn print_more<W: Write>(
+    out: &mut Outlet<W>,
+    text: &str,
+) -> Result<Outcome, Fault<'static>> {
+    // So much is not printed on one line's demand.
+    let is_far = u64::from(u32::MAX) < out.written();
+    if is_far || out.is_broken() || out.put(text.as_bytes()).is_err() || out.finish().is_err() {
+        return Err(Fault::Unwritten(STANDARD_OUTPUT));
+    }
+    Ok(Outcome::of(true))
+}
+
 /// Returns the outcome of a command that has read the file at a path and printed what it says of it.
 ///
 /// # Errors

@@ -1,12 +1,12 @@
 //! What files are that are refused as fonts or not joined: they are read again. OpenType 1.9, Organization of an
 //! OpenType Font; WOFF File Format 1.0 and 2.0, the signature of a file.
+use crate::cut_kinds::cut_kind;
 use crate::report::Fault;
+use crate::shaped_scripts::number_at;
 use crate::system::System;
 use command_line::STANDARD;
 use commands::RunError;
-use font_cut::{
-    CutForm, Font, FontError, JoinAllError, JoinError, Kind, NoMemory, TableError, form_of_kind,
-};
+use font_cut::{Font, FontError, JoinAllError, JoinError, Kind, TableError};
 use std::alloc::{AllocError, Global};
 use std::fs;
 use std::fs::File;
@@ -20,6 +20,9 @@ const UNMAPPED: &str =
 
 // What is said of a file that is no cut.
 const NO_CUT: &str = "no cut as fontcut writes it";
+
+// What is said of a layout cut that is no full one.
+const LAYOUT_CUT: &str = "a layout cut; layout cuts are joined by join --layout";
 
 // What is said of a cut that makes a join too large.
 const TOO_LARGE: &str = "with this file the join is too large";
@@ -107,10 +110,7 @@ fn kind_without_glyf(rows: &[(&[u8], &'static str)], records: &[u8]) -> Option<&
 
 // Returns the records of tables among the first bytes of a font.
 fn records_of(first: &[u8]) -> &[u8] {
-    let count = match first.get(4..6) {
-        Some(bytes) => usize::from(u16::from_be_bytes([bytes[0], bytes[1]])),
-        None => 0,
-    };
+    let count = number_at(first, 4);
     let all = first.get(HEADER..).unwrap_or(&[]);
     all.get(..count.saturating_mul(RECORD)).unwrap_or(all)
 }
@@ -143,19 +143,6 @@ fn kind_at<F: Files>(files: &F, path: &str, is_without_glyf: bool) -> Option<&'s
         Ok(count) => kind_by(first.get(..count)?, is_without_glyf),
         Err(_) => None,
     }
-}
-
-// Returns the kind of a font that is a cut. A lean cut has the form of a full one too.
-fn cut_kind(alloc: Global, font: &Font<'_>) -> Result<Option<Kind>, NoMemory> {
-    let form = form_of_kind(alloc, Kind::Lean, font)?;
-    if !matches!(form, CutForm::Not) {
-        return Ok(Some(Kind::Lean));
-    }
-    let form = form_of_kind(alloc, Kind::Full, font)?;
-    if !matches!(form, CutForm::Not) {
-        return Ok(Some(Kind::Full));
-    }
-    Ok(None)
 }
 
 // Returns the kind of a file that is a cut.
@@ -228,6 +215,22 @@ fn refused_kind<F: Files>(files: &F, path: &str, error: &RunError) -> Option<&'s
     }
 }
 
+// Returns what is known of a refused file.
+fn refused_seen<F: Files>(
+    files: &F,
+    alloc: Global,
+    path: &str,
+    error: &RunError,
+) -> Result<Seen, AllocError> {
+    let Some(what) = refused_kind(files, path, error) else {
+        return Ok(Seen::Nothing);
+    };
+    if what == NO_CUT && cut_kind_at(files, alloc, path)? == Some(Kind::Layout) {
+        return Ok(Seen::What(LAYOUT_CUT));
+    }
+    Ok(Seen::What(what))
+}
+
 /// Returns what is known of the files that are why a line is not done. They are read again for that.
 ///
 /// # Errors
@@ -238,25 +241,20 @@ pub(crate) fn look_again<F: Files, I, O>(
 ) -> Result<Seen, AllocError> {
     let (files, alloc) = (system.files, system.alloc);
     match fault {
-        Fault::RefusedFile { path, error } => Ok(match refused_kind(files, path, error) {
-            Some(what) => Seen::What(what),
-            None => Seen::Nothing,
-        }),
+        Fault::RefusedFile { path, error } => refused_seen(files, alloc, path, error),
         Fault::NotJoined {
-            kind: Kind::Full,
-            path,
-            first,
-            error: _,
+            kind: Kind::Lean,
+            ..
         } => Ok(Seen::Cuts {
-            first: cut_kind_at(files, alloc, first)?,
-            refused: cut_kind_at(files, alloc, path)?,
-        }),
-        Fault::NotJoined { .. } => Ok(Seen::Cuts {
             first: Some(Kind::Lean),
             refused: Some(Kind::Lean),
         }),
-        Fault::NotLean { path, .. } => Ok(Seen::Cuts {
-            first: Some(Kind::Lean),
+        Fault::NotJoined { path, first, .. } => Ok(Seen::Cuts {
+            first: cut_kind_at(files, alloc, first)?,
+            refused: cut_kind_at(files, alloc, path)?,
+        }),
+        Fault::NotOfKind { kind, path, .. } => Ok(Seen::Cuts {
+            first: Some(*kind),
             refused: cut_kind_at(files, alloc, path)?,
         }),
         _ => Ok(Seen::Nothing),

@@ -82,8 +82,9 @@ pub(crate) enum Fault<'a> {
         first: &'a str,
         error: RunError,
     },
-    /// The file at this path is refused, for it is no lean cut.
-    NotLean {
+    /// The file at this path is refused, for it is no lean or layout cut.
+    NotOfKind {
+        kind: Kind,
         path: &'a str,
         error: RunError,
     },
@@ -107,7 +108,7 @@ impl<'a> Fault<'a> {
             Fault::Refused(_)
             | Fault::RefusedFile { .. }
             | Fault::NotJoined { .. }
-            | Fault::NotLean { .. } => 1,
+            | Fault::NotOfKind { .. } => 1,
             Fault::InputTwice
             | Fault::BadWord(_)
             | Fault::BadListed { .. }
@@ -177,8 +178,8 @@ pub(crate) fn refused_join<'a>(kind: Kind, paths: &[&'a str], error: RunError) -
             error,
         };
     }
-    if kind == Kind::Lean && !is_cut {
-        return Fault::NotLean { path, error };
+    if kind != Kind::Full && !is_cut {
+        return Fault::NotOfKind { kind, path, error };
     }
     Fault::RefusedFile { path, error }
 }
@@ -342,7 +343,7 @@ impl fmt::Display for Fault<'_> {
             Fault::Refused(error)
             | Fault::RefusedFile { error, .. }
             | Fault::NotJoined { error, .. }
-            | Fault::NotLean { error, .. } => write_refusal(f, error),
+            | Fault::NotOfKind { error, .. } => write_refusal(f, error),
         }
     }
 }

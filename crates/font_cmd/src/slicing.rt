@@ -4,8 +4,9 @@ ghost use Rattle.streams.specs.Outlet.{fresh_of};
 
 use crate::code_set::CodeSet;
 use crate::coverage::mapped_codes;
+use crate::dropped_tables::without_named;
 use crate::held_files::HeldFiles;
-use crate::inputs::{inlet_at, source};
+use crate::inputs::{read_whole, source};
 use crate::outcome::{Outcome, print};
 use crate::output::{before_packed, outlet, placed};
 use crate::report::{Fault, no_memory};
@@ -15,7 +16,7 @@ use crate::style_sheet::add_rule;
 use crate::system::System;
 use command_line::Slices;
 use commands::RunError;
-use font_cut::{Font, Kind, Outlet, Wanted, cut_of_kind_into};
+use font_cut::{Font, FontOfKind, Kind, Outlet, Wanted, cut_of_kind_into};
 use std::alloc::{AllocError, Global};
 use std::fs;
 use std::io::{ErrorKind, Read, Write};
@@ -26,13 +27,12 @@ const UNWRITTEN: &str = "fontcut: nothing was written: the font maps no characte
 // Writes the cut of a font for the wanted codes to the file at a path.
 fn write_cut<'p, F: HeldFiles, I, O: Write + Copy + Drop>(
     system: &System<'_, F, I, O>,
-    kind: Kind,
-    font: &Font<'_>,
+    font: &FontOfKind<'_, '_>,
     wanted: &Wanted,
     path: &'p str,
 ) -> Result<(), Fault<'p>> {
     let mut outlet = outlet(system, path)?;
-    let sent = cut_of_kind_into(system.alloc, kind, font, wanted, &mut outlet);
+    let sent = cut_of_kind_into(system.alloc, font, wanted, &mut outlet);
     sent.map_err(|error| Fault::of_run(path, path, RunError::from(error)))?;
     if outlet.finish().is_err() {
         return Err(Fault::Unwritten(path));
@@ -59,15 +59,14 @@ fn slice_path(alloc: Global, folder: &str, name: &str) -> Result<String, AllocEr
 // Writes the file of a slice.
 fn write_slice<'a, F: HeldFiles, I, O: Write + Copy + Drop>(
     system: &System<'a, F, I, O>,
-    kind: Kind,
     line: &Slices<'a>,
-    font: &Font<'_>,
+    font: &FontOfKind<'_, '_>,
     slice: Slice<'_>,
 ) -> Result<(), Fault<'a>> {
     let alloc = system.alloc;
     let path = slice_path(alloc, line.folder, slice.name)?;
     let wanted = slice.codes.into_wanted(alloc)?;
-    match write_cut(system, kind, font, &wanted, path.as_str()) {
+    match write_cut(system, font, &wanted, path.as_str()) {
         Ok(()) => Ok(()),
         Err(fault) => Err(fault_in_folder(alloc, path.as_str(), fault)),
     }
@@ -159,28 +158,16 @@ fn make_folder<'a, F: HeldFiles, I, O>(
     }
 }
 
-// Reads the file at a path to its end.
-fn read_whole<'a, F: HeldFiles, I: Read + Copy + Drop, O>(
-    system: &System<'a, F, I, O>,
-    path: &'a str,
-) -> Result<Vec<u8>, Fault<'a>> {
-    let mut inlet = inlet_at(system, path)?;
-    inlet
-        .read_all(system.alloc)
-        .map_err(|error| Fault::of_run(path, path, RunError::from(error)))
-}
-
 // Writes the files of slices of a font.
 fn write_slices<'a, F: HeldFiles, I, O: Write + Copy + Drop>(
     system: &System<'a, F, I, O>,
-    kind: Kind,
     line: &Slices<'a>,
-    font: &Font<'_>,
+    font: &FontOfKind<'_, '_>,
     slices: Vec<Slice<'_>>,
 ) -> Result<(), Fault<'a>> {
     make_folder(system, line.folder)?;
     for slice in slices {
-        write_slice(system, kind, line, font, slice)?;
+        write_slice(system, line, font, slice)?;
     }
     Ok(())
 }
@@ -205,7 +192,12 @@ fn slice_file<'a, F: HeldFiles, I, O: Write + Copy + Drop, W: Write>(
     if line.is_strict && !said.unmapped.is_empty() {
         return Ok(said.unwritten(system.alloc, line.is_quiet)?);
     }
-    write_slices(system, kind, line, &font, slices)?;
+    let opened = FontOfKind::open(system.alloc, kind, &font).map_err(|error| Fault::of_run(
+        line.font,
+        line.folder,
+        RunError::from(error),
+    ))?;
+    write_slices(system, line, &opened, slices)?;
     let printed = print(out, said.rules.as_str())?;
     if line.is_quiet {
         return Ok(printed);
@@ -232,6 +224,7 @@ pub(crate) fn slice<'a, F: HeldFiles, I: Read + Copy + Drop, O: Write + Copy + D
     let mut lines = source(system, line.slices)?;
     let list = read_lines(system.alloc, line.slices, &mut lines)?;
     let slices = slices_of(system.alloc, line.slices, &list)?;
-    let file = read_whole(system, line.font)?;
+    let whole = read_whole(system, line.font)?;
+    let file = without_named(system.alloc, line.font, whole, &line.dropped)?;
     slice_file(system, kind, line, &file, slices, out)
 }

@@ -1,7 +1,7 @@
 //! The wanted codes of a command line: the ranges of its words and files, and the characters of its texts.
 use crate::code_set::CodeSet;
 use crate::report::{Fault, no_memory};
-use crate::wanted_files::{FileFault, FileKind, add_listed};
+use crate::wanted_files::{FileFault, FileKind, add_listed, add_text_and_needs};
 use font_cut::read_word;
 use std::alloc::{AllocError, Global};
 use std::io::Read;
@@ -63,6 +63,15 @@ pub(crate) fn add_lists<'a>(
     Ok(())
 }
 
+// Returns why the file at a path is not read to its end.
+fn fault_at<'a>(path: &'a str, fault: FileFault) -> Fault<'a> {
+    match fault {
+        FileFault::Unread => Fault::Unread(path),
+        FileFault::BadLine { line, word } => Fault::BadLine { path, line, word },
+        FileFault::NoMemory => no_memory(),
+    }
+}
+
 /// Adds the codes that files list, whose paths these are.
 ///
 /// # Errors
@@ -76,13 +85,27 @@ pub(crate) fn add_files<'a, R: Read + Drop>(
     codes: &mut CodeSet,
 ) -> Result<(), Fault<'a>> {
     for (mut file, &path) in files.into_iter().zip(paths) {
-        match add_listed(alloc, &mut file, kind, codes) {
-            Ok(()) => {}
-            Err(FileFault::Unread) => return Err(Fault::Unread(path)),
-            Err(FileFault::BadLine { line, word }) => {
-                return Err(Fault::BadLine { path, line, word });
-            }
-            Err(FileFault::NoMemory) => return Err(no_memory()),
+        if let Err(fault) = add_listed(alloc, &mut file, kind, codes) {
+            return Err(fault_at(path, fault));
+        }
+    }
+    Ok(())
+}
+
+/// Adds the characters of the texts in files, whose paths these are, and to another set what the texts need.
+///
+/// # Errors
+/// Those of `add_files`.
+pub(crate) fn add_text_files<'a, R: Read + Drop>(
+    alloc: Global,
+    files: Vec<R>,
+    paths: &[&'a str],
+    codes: &mut CodeSet,
+    added: &mut CodeSet,
+) -> Result<(), Fault<'a>> {
+    for (mut file, &path) in files.into_iter().zip(paths) {
+        if let Err(fault) = add_text_and_needs(alloc, &mut file, codes, added) {
+            return Err(fault_at(path, fault));
         }
     }
     Ok(())

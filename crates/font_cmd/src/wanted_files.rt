@@ -2,6 +2,7 @@
 use crate::code_set::CodeSet;
 use crate::glyph_columns::{GlyphColumns, Named};
 use crate::listed_word::read_listed;
+use crate::needed::TextNeeds;
 use crate::utf8::Utf8;
 use font_cut::read_word;
 use std::alloc::{AllocError, Global};
@@ -58,6 +59,8 @@ struct Reading<'a> {
     alloc: Global,
     kind: FileKind,
     codes: &'a mut CodeSet,
+    // What the text needs, where that is wanted.
+    needs: Option<TextNeeds>,
     utf8: Utf8,
     line: u64,
     // Whether no character has come.
@@ -79,11 +82,13 @@ impl<'a> Reading<'a> {
         alloc: Global,
         kind: FileKind,
         codes: &'a mut CodeSet,
+        needs: Option<TextNeeds>,
     ) -> Result<Reading<'a>, AllocError> {
         Ok(Reading {
             alloc,
             kind,
             codes,
+            needs,
             utf8: Utf8::new(),
             line: 1,
             is_new: true,
@@ -165,14 +170,27 @@ impl<'a> Reading<'a> {
         }
     }
 
+    // Takes a character of a text.
+    fn take_of_text(&mut self, letter: char) -> Result<(), AllocError> {
+        let is_wanted = !letter.is_control();
+        if is_wanted {
+            self.codes.add(letter as u32)?;
+        }
+        match &mut self.needs {
+            Some(needs) if is_wanted => needs.take(letter),
+            // Nothing composes over a control character.
+            Some(needs) => needs.end_segment(),
+            None => Ok(()),
+        }
+    }
+
     fn take_letter(&mut self, letter: char) -> Result<(), FileFault> {
         let is_mark = self.is_new && letter == MARK;
         self.is_new = false;
         match self.kind {
             _ if is_mark => {}
             FileKind::List | FileKind::Words => self.take_of_words(letter)?,
-            FileKind::Characters if letter.is_control() => {}
-            FileKind::Characters => self.codes.add(letter as u32)?,
+            FileKind::Characters => self.take_of_text(letter)?,
         }
         if letter == '\n' {
             self.line = self.line.saturating_add(1);
@@ -255,6 +273,19 @@ impl<'a> Reading<'a> {
         }
         self.end_line()
     }
+
+    // Takes a file, up to its end.
+    fn read<R: Read>(&mut self, file: &mut R) -> Result<(), FileFault> {
+        let mut piece = [0u8; PIECE];
+        for _ in 0..u64::MAX {
+            match file.read(&mut piece) {
+                Ok(0) => return self.end(),
+                Ok(count) => self.take(&piece[..count])?,
+                Err(_) => return Err(FileFault::Unread),
+            }
+        }
+        Ok(())
+    }
 }
 
 /// Adds the codes that a file lists.
@@ -268,14 +299,25 @@ pub fn add_listed<R: Read>(
     kind: FileKind,
     codes: &mut CodeSet,
 ) -> Result<(), FileFault> {
-    let mut reading = Reading::new(alloc, kind, codes)?;
-    let mut piece = [0u8; PIECE];
-    for _ in 0..u64::MAX {
-        match file.read(&mut piece) {
-            Ok(0) => return reading.end(),
-            Ok(count) => reading.take(&piece[..count])?,
-            Err(_) => return Err(FileFault::Unread),
-        }
+    Reading::new(alloc, kind, codes, None)?.read(file)
+}
+
+/// Adds the characters of a text in a file, and to another set what the text needs.
+///
+/// # Errors
+/// Those of `add_listed`.
+pub fn add_text_and_needs<R: Read>(
+    alloc: Global,
+    file: &mut R,
+    codes: &mut CodeSet,
+    added: &mut CodeSet,
+) -> Result<(), FileFault> {
+    let needs = Some(TextNeeds::new(alloc));
+    let mut reading = Reading::new(alloc, FileKind::Characters, codes, needs)?;
+    reading.read(file)?;
+    let Reading { needs, .. } = reading;
+    match needs {
+        Some(needs) => Ok(needs.end(added)?),
+        None => Ok(()),
     }
-    Ok(())
 }

@@ -1,0 +1,137 @@
+//! The codes that a line of `subset` keeps: those of its words, lists, texts and files, and what texts need.
+use crate::code_set::CodeSet;
+use crate::held_files::HeldFiles;
+use crate::inputs::sources;
+use crate::needed::{add_all_parts, add_texts};
+use crate::report::Fault;
+use crate::system::System;
+use crate::wanted::{add_files, add_lists, add_text_files, codes_of};
+use crate::wanted_files::FileKind;
+use command_line::{CutKind, Subset};
+use font_cut::Wanted;
+use std::alloc::{AllocError, Global};
+use std::io::Read;
+
+/// The codes that a cut is for.
+#[derive(Drop)]
+pub(crate) struct Kept {
+    /// Those that the line wants.
+    pub(crate) wanted: CodeSet,
+    /// Those that are kept besides where the font maps them, of which some may be wanted too.
+    pub(crate) added: CodeSet,
+}
+
+impl Kept {
+    /// Returns both as a wanted set.
+    ///
+    /// # Errors
+    /// `AllocError` where memory is refused.
+    pub(crate) fn into_wanted(self, alloc: Global) -> Result<Wanted, AllocError> {
+        let mut codes = self.wanted;
+        if !self.added.is_empty() {
+            codes.add_all(alloc, &self.added)?;
+        }
+        codes.into_wanted(alloc)
+    }
+}
+
+/// The codes that a line keeps, and those that it takes away from them.
+#[derive(Drop)]
+pub(crate) struct Choice {
+    kept: Kept,
+    gone: CodeSet,
+}
+
+// Returns whether what the texts of a line need is kept with them.
+fn keeps_needed(line: &Subset<'_>) -> bool {
+    line.kind == CutKind::Layout && !line.is_exact
+}
+
+// Adds the codes of lists and the parts of their characters.
+fn add_completed<'a>(alloc: Global, kept: &mut Kept, lists: &[&'a str]) -> Result<(), Fault<'a>> {
+    let mut codes = CodeSet::new(alloc);
+    add_lists(alloc, &mut codes, lists)?;
+    add_all_parts(alloc, &mut kept.added, &codes)?;
+    Ok(kept.wanted.add_all(alloc, &codes)?)
+}
+
+impl Choice {
+    /// Returns the codes of the arguments of a line, which are looked at before any file.
+    ///
+    /// # Errors
+    /// The first fault.
+    pub(crate) fn of<'a>(alloc: Global, line: &Subset<'a>) -> Result<Choice, Fault<'a>> {
+        let mut kept = Kept {
+            wanted: codes_of(alloc, &line.texts, &line.words)?,
+            added: CodeSet::new(alloc),
+        };
+        let mut gone = CodeSet::new(alloc);
+        add_lists(alloc, &mut kept.wanted, &line.lists)?;
+        add_completed(alloc, &mut kept, &line.completed)?;
+        add_lists(alloc, &mut gone, &line.excluded)?;
+        if keeps_needed(line) {
+            add_texts(alloc, &mut kept.added, &line.texts)?;
+        }
+        Ok(Choice { kept, gone })
+    }
+
+    /// Returns the codes that are left.
+    ///
+    /// # Errors
+    /// `AllocError` where memory is refused.
+    pub(crate) fn left(self, alloc: Global) -> Result<Kept, AllocError> {
+        if self.gone.is_empty() {
+            return Ok(self.kept);
+        }
+        Ok(Kept {
+            wanted: self.kept.wanted.without(alloc, &self.gone)?,
+            added: self.kept.added.without(alloc, &self.gone)?,
+        })
+    }
+}
+
+// Adds the characters of the files of texts, and with them what the texts need where that is kept.
+fn add_texts_of_files<'a, R: Read + Drop>(
+    alloc: Global,
+    line: &Subset<'a>,
+    files: Vec<R>,
+    kept: &mut Kept,
+) -> Result<(), Fault<'a>> {
+    let (paths, wanted) = (&line.text_files, &mut kept.wanted);
+    if keeps_needed(line) {
+        return add_text_files(alloc, files, paths, wanted, &mut kept.added);
+    }
+    add_files(alloc, files, paths, FileKind::Characters, wanted)
+}
+
+/// Adds the codes of the files that a line names, which are all opened before one is read.
+///
+/// # Errors
+/// The first fault.
+pub(crate) fn add_all_files<'a, F: HeldFiles, I: Read + Copy + Drop, O>(
+    system: &System<'a, F, I, O>,
+    line: &Subset<'a>,
+    choice: &mut Choice,
+) -> Result<(), Fault<'a>> {
+    let alloc = system.alloc;
+    let texts = sources(system, &line.text_files)?;
+    let words = sources(system, &line.code_files)?;
+    let excluded = sources(system, &line.excluded_files)?;
+    add_texts_of_files(alloc, line, texts, &mut choice.kept)?;
+    let wanted = &mut choice.kept.wanted;
+    add_files(alloc, words, &line.code_files, FileKind::Words, wanted)?;
+    add_files(
+        alloc,
+        excluded,
+        &line.excluded_files,
+        FileKind::Words,
+        &mut choice.gone,
+    )
+}
+
+/// Returns whether a line names a set of characters, be it empty.
+pub(crate) fn names_set(line: &Subset<'_>) -> bool {
+    let has_text = !line.texts.is_empty() || !line.text_files.is_empty();
+    let has_lists = !line.lists.is_empty() || !line.completed.is_empty();
+    has_text || has_lists || !line.code_files.is_empty() || !line.words.is_empty()
+}

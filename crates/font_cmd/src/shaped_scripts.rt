@@ -1,0 +1,210 @@
+//! The scripts whose text a font shapes, by its GSUB and GPOS. OpenType 1.9, Script Tags; OpenType Layout Common Table
+//! Formats, ScriptList. Unicode, UAX 24.
+use font_cut::{Font, Tag};
+use std::alloc::{AllocError, Global};
+use ucd_script::Script;
+
+// A script, what messages call it, and its tags one after another.
+type Row = (Script, &'static str, &'static [u8]);
+
+// Scripts whose letters are joined or put in another order than they are written in, so that their text cannot be
+// read where nothing shapes it. A font shapes them by the tag for all scripts too.
+const COMPLEX: [Row; 56] = [
+    (Script::Adlam, "Adlam", b"adlm"),
+    (Script::Arabic, "Arabic", b"arab"),
+    (Script::Balinese, "Balinese", b"bali"),
+    (Script::Batak, "Batak", b"batk"),
+    (Script::Bengali, "Bengali", b"bengbng2bng3"),
+    (Script::Brahmi, "Brahmi", b"brah"),
+    (Script::Buginese, "Buginese", b"bugi"),
+    (Script::Buhid, "Buhid", b"buhd"),
+    (Script::Chakma, "Chakma", b"cakm"),
+    (Script::Cham, "Cham", b"cham"),
+    (Script::Devanagari, "Devanagari", b"devadev2dev3"),
+    (Script::Grantha, "Grantha", b"gran"),
+    (Script::Gujarati, "Gujarati", b"gujrgjr2gjr3"),
+    (Script::Gurmukhi, "Gurmukhi", b"gurugur2gur3"),
+    (Script::HanifiRohingya, "Hanifi Rohingya", b"rohg"),
+    (Script::Hanunoo, "Hanunoo", b"hano"),
+    (Script::Javanese, "Javanese", b"java"),
+    (Script::Kaithi, "Kaithi", b"kthi"),
+    (Script::Kannada, "Kannada", b"kndaknd2knd3"),
+    (Script::Kharoshthi, "Kharoshthi", b"khar"),
+    (Script::Khmer, "Khmer", b"khmr"),
+    (Script::Khojki, "Khojki", b"khoj"),
+    (Script::Khudawadi, "Khudawadi", b"sind"),
+    (Script::Lao, "Lao", b"lao "),
+    (Script::Lepcha, "Lepcha", b"lepc"),
+    (Script::Limbu, "Limbu", b"limb"),
+    (Script::Malayalam, "Malayalam", b"mlymmlm2mlm3"),
+    (Script::Mandaic, "Mandaic", b"mand"),
+    (Script::Manichaean, "Manichaean", b"mani"),
+    (Script::MeeteiMayek, "Meetei Mayek", b"mtei"),
+    (Script::Modi, "Modi", b"modi"),
+    (Script::Mongolian, "Mongolian", b"mong"),
+    (Script::Myanmar, "Myanmar", b"mymrmym2"),
+    (Script::Newa, "Newa", b"newa"),
+    (Script::Nko, "N'Ko", b"nko "),
+    (Script::Oriya, "Oriya", b"oryaory2ory3"),
+    (Script::PhagsPa, "Phags-pa", b"phag"),
+    (Script::Rejang, "Rejang", b"rjng"),
+    (Script::Saurashtra, "Saurashtra", b"saur"),
+    (Script::Sharada, "Sharada", b"shrd"),
+    (Script::Siddham, "Siddham", b"sidd"),
+    (Script::Sinhala, "Sinhala", b"sinh"),
+    (Script::Sogdian, "Sogdian", b"sogd"),
+    (Script::Sundanese, "Sundanese", b"sund"),
+    (Script::SylotiNagri, "Syloti Nagri", b"sylo"),
+    (Script::Syriac, "Syriac", b"syrc"),
+    (Script::Tagalog, "Tagalog", b"tglg"),
+    (Script::Tagbanwa, "Tagbanwa", b"tagb"),
+    (Script::TaiTham, "Tai Tham", b"lana"),
+    (Script::TaiViet, "Tai Viet", b"tavt"),
+    (Script::Takri, "Takri", b"takr"),
+    (Script::Tamil, "Tamil", b"tamltml2tml3"),
+    (Script::Telugu, "Telugu", b"telutel2tel3"),
+    (Script::Thai, "Thai", b"thai"),
+    (Script::Tibetan, "Tibetan", b"tibt"),
+    (Script::Tirhuta, "Tirhuta", b"tirh"),
+];
+
+// Scripts whose text can be read as it stands, and loses ligatures, marks and kerning.
+const SIMPLE: [Row; 15] = [
+    (Script::Armenian, "Armenian", b"armn"),
+    (Script::Cyrillic, "Cyrillic", b"cyrl"),
+    (Script::Duployan, "Duployan", b"dupl"),
+    (Script::Ethiopic, "Ethiopic", b"ethi"),
+    (Script::Georgian, "Georgian", b"geor"),
+    (Script::Greek, "Greek", b"grek"),
+    (Script::Han, "Han", b"hani"),
+    (Script::Hangul, "Hangul", b"hangjamo"),
+    (Script::Hebrew, "Hebrew", b"hebr"),
+    (Script::Hiragana, "Hiragana", b"kana"),
+    (Script::Katakana, "Katakana", b"kana"),
+    (Script::Latin, "Latin", b"latn"),
+    (Script::SignWriting, "SignWriting", b"sgnw"),
+    (Script::Thaana, "Thaana", b"thaa"),
+    (Script::Tifinagh, "Tifinagh", b"tfng"),
+];
+
+// The tag for all scripts.
+const ALL: &[u8] = b"DFLT";
+
+// The bytes of a tag, and of the record of a script: its tag and an offset.
+const TAG: usize = 4;
+
+const RECORD: usize = 6;
+
+/// Returns the number of two bytes at a place, or none where they are not there.
+pub(crate) fn number_at(bytes: &[u8], at: usize) -> usize {
+    match bytes.get(at..at.saturating_add(2)) {
+        Some(pair) => usize::from(u16::from_be_bytes([pair[0], pair[1]])),
+        None => 0,
+    }
+}
+
+// Returns the records of the scripts that a table of layout lists.
+fn script_records(table: &[u8]) -> &[u8] {
+    let list = table.get(number_at(table, TAG)..).unwrap_or(&[]);
+    let records = list.get(2..).unwrap_or(&[]);
+    let length = number_at(list, 0).saturating_mul(RECORD);
+    records.get(..length).unwrap_or(records)
+}
+
+// Returns the records of the scripts that a font's first table of a name lists.
+fn records_of<'a>(font: &Font<'a>, name: Tag) -> &'a [u8] {
+    let directory = font.tables().directory();
+    let Some(entry) = directory.dropped().find(|entry| entry.tag == name) else {
+        return &[];
+    };
+    let rest = directory.file().get(entry.offset as usize..).unwrap_or(&[]);
+    script_records(rest.get(..entry.length as usize).unwrap_or(rest))
+}
+
+// Returns whether some records of scripts have a tag.
+fn has_tag(records: &[u8], tag: &[u8]) -> bool {
+    records
+        .chunks_exact(RECORD)
+        .any(|record| record.starts_with(tag))
+}
+
+// The records of the scripts that the GSUB and the GPOS of a font list.
+#[derive(Drop)]
+struct Listed<'a> {
+    substituted: &'a [u8],
+    positioned: &'a [u8],
+}
+
+impl Listed<'_> {
+    // Returns whether either table lists a script by a tag.
+    fn has(&self, tag: &[u8]) -> bool {
+        has_tag(self.substituted, tag) || has_tag(self.positioned, tag)
+    }
+
+    // Returns whether either table lists the script of a row.
+    fn has_script(&self, row: &Row) -> bool {
+        row.2.chunks_exact(TAG).any(|tag| self.has(tag))
+    }
+}
+
+// Adds the scripts of the codes from the first to the last that are not there yet.
+fn add_scripts(scripts: &mut Vec<Script>, first: u32, last: u32) -> Result<(), AllocError> {
+    let mut recent = None;
+    for letter in (first..=last).filter_map(char::from_u32) {
+        let script = Script::for_char(letter);
+        if recent != Some(script) && !scripts.contains(&script) {
+            scripts.push(script)?;
+        }
+        recent = Some(script);
+    }
+    Ok(())
+}
+
+// Adds a name after others.
+fn add_name(names: &mut String, name: &str) -> Result<(), AllocError> {
+    if !names.is_empty() {
+        names.push_str(", ")?;
+    }
+    names.push_str(name)
+}
+
+// Adds the names of those rows whose scripts are there and shaped, as all of them are that are there where the tag for
+// all scripts counts.
+fn add_rows(
+    names: &mut String,
+    rows: &[Row],
+    scripts: &[Script],
+    listed: &Listed<'_>,
+    counts_all: bool,
+) -> Result<(), AllocError> {
+    for row in rows {
+        if scripts.contains(&row.0) && (counts_all || listed.has_script(row)) {
+            add_name(names, row.1)?;
+        }
+    }
+    Ok(())
+}
+
+/// Returns the names of the scripts of the codes of some ranges whose text a font shapes, with commas between them.
+///
+/// # Errors
+/// `AllocError` where memory is refused.
+pub(crate) fn shaped_scripts(
+    alloc: Global,
+    font: &Font<'_>,
+    ranges: &[(u32, u32)],
+) -> Result<String, AllocError> {
+    let listed = Listed {
+        substituted: records_of(font, Tag(*b"GSUB")),
+        positioned: records_of(font, Tag(*b"GPOS")),
+    };
+    let mut scripts = Vec::new(alloc);
+    for &(first, last) in ranges {
+        add_scripts(&mut scripts, first, last)?;
+    }
+    let mut names = String::new(alloc);
+    let lists_all = listed.has(ALL);
+    add_rows(&mut names, &COMPLEX, &scripts, &listed, lists_all)?;
+    add_rows(&mut names, &SIMPLE, &scripts, &listed, false)?;
+    Ok(names)
+}
