@@ -60,6 +60,19 @@ for name, data in made.items():
 print(fontcut.__version__, fontcut.belongs(made["join"], font, lean=True))
 """
 
+# Its words are fonts: it prints the sums of cuts and of a join, of both kinds, for each.
+DIGESTS = """
+import hashlib, sys
+import fontcut
+for path in sys.argv[1:]:
+    with open(path, "rb") as opened:
+        font = opened.read()
+    for lean in False, True:
+        cuts = fontcut.slices(font, [[(0x20, 0x7E)], [(0xA0, 0x17F)]], lean=lean)
+        for data in *cuts, fontcut.join(cuts, lean=lean):
+            print(hashlib.sha256(data).hexdigest())
+"""
+
 USER_OF_TYPES = '''
 import fontcut
 from fontcut import Form, Range, Refused
