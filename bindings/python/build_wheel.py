@@ -16,13 +16,16 @@ import zipfile
 HERE = os.path.dirname(os.path.abspath(__file__))
 # A module of one file cannot say that it has types (PEP 561), so it becomes a package in the wheel. The commands of the
 # wheel are a module of it, which finds what these need, or says what to install.
-MODULE, COMMANDS, SHARED = "fontcut", "wheel_commands", "fontcut_output"
+MODULE, COMMANDS = "fontcut", "wheel_commands"
+SHARED = "fontcut_needed", "fontcut_output"
 PACKAGES = "fontcut_pdf", "fontcut_web"
 LIBRARY, PROGRAM = "fontcut/libfontcut.so.0", "fontcut/bin/fontcut"
 # No installer knows a platform of an older C library by its number.
 OLDEST = 17
 # 1980, where the time of files in a zip begins.
 FIRST_TIME = 315532800
+# The processors' names in platforms, by their numbers in ELF files.
+PROCESSORS = {62: "x86_64", 183: "aarch64"}
 
 
 class UnsupportedOperation(Exception):
@@ -56,19 +59,32 @@ def program():
 def oldest(path):
     """The version of the C library that a library or a program asks for: the greatest one among those that it
     needs."""
-    told = subprocess.run(["objdump", "-f", "-p", path], check=True, stdout=subprocess.PIPE, text=True,
+    told = subprocess.run(["objdump", "-p", path], check=True, stdout=subprocess.PIPE, text=True,
                           env={**os.environ, "LC_ALL": "C"}).stdout
     needed = set(re.findall(r"^ +NEEDED +(\S+)$", told, re.M))
     versions = re.findall(r"^ +0x[0-9a-f]+ 0x[0-9a-f]+ \d+ (\S+)$", told, re.M)
     wanted = [re.fullmatch(r"GLIBC_2\.(\d+)(?:\.\d+)?", version) for version in versions]
-    if "elf64-x86-64" not in told or not needed <= {"libc.so.6"} or not all(wanted):
+    if not needed <= {"libc.so.6"} or not all(wanted):
         raise ValueError(f"{path}: no tag of a platform is known for {sorted(needed)}, {sorted(set(versions))}")
     return max([OLDEST, *(int(version[1]) for version in wanted)])
 
 
+def processor(path):
+    """The name of the processor that a library or a program is for, by its header: ELF, 64 bits, little-endian."""
+    with open(path, "rb") as opened:
+        header = opened.read(20)
+    name = PROCESSORS.get(int.from_bytes(header[18:], "little"))
+    if header[:6] != b"\x7fELF\x02\x01" or not name:
+        raise ValueError(f"{path}: no tag of a platform is known for its processor")
+    return name
+
+
 def platform_of(*paths):
     """The platform that a library and a program ask for: their processor, and a version of the C library."""
-    return f"manylinux_2_{max(map(oldest, paths))}_x86_64"
+    processors = set(map(processor, paths))
+    if len(processors) > 1:
+        raise ValueError(f"{' and '.join(paths)} are for different processors")
+    return f"manylinux_2_{max(map(oldest, paths))}_{processors.pop()}"
 
 
 def project():
@@ -92,7 +108,7 @@ def packages():
     held = {f"{name}/py.typed": b"" for name in (MODULE, *PACKAGES)}
     held[f"{MODULE}/__init__.py"] = text_of(f"{MODULE}.py").encode()
     held[f"{MODULE}/{COMMANDS}.py"] = text_of(f"{COMMANDS}.py").encode()
-    held[f"{SHARED}.py"] = text_of(f"{SHARED}.py").encode()
+    held.update({f"{name}.py": text_of(f"{name}.py").encode() for name in SHARED})
     for package in PACKAGES:
         for name in os.listdir(os.path.join(HERE, package)):
             if name.endswith(".py"):

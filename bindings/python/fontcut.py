@@ -7,6 +7,7 @@
     opened = fontcut.Font(font)                 # tested once, and taken in the place of the bytes
     fontcut.belongs(both, font)                 # True
     lean = fontcut.cut(font, "Hello", lean=True)
+    shaped = fontcut.cut(font, "Hello", kind="layout")
     latin = fontcut.cut(font, fontcut.ranges("U+20-7E, U+4??"))
 
     numbers = fontcut.glyphs(font, "Hello")     # [43, 72, 79, 79, 82] in DejaVu Sans: a glyph for each character
@@ -24,6 +25,13 @@ none.
 A lean cut has zeros for the metrics of glyphs that it does not keep, and no names of glyphs: it is never longer than
 the cut, and it is a cut itself. Lean cuts join with lean cuts: `fontcut.join([lean, other_lean], lean=True)`.
 
+A layout cut is a lean cut with the tables of layout (BASE, GDEF, GPOS, GSUB and kern, without their parts for variable
+fonts), and with each glyph that GSUB may put for those of its characters. Layout cuts join with layout cuts. A call for
+them reads these tables, and refuses a font by 5 or 6 for one of them, and by 27 where GSUB cannot be read.
+
+A call takes the kind of a cut as `kind`: `"full"`, as where none is given, `"lean"` or `"layout"`. `lean=True` is short
+for `kind="lean"`.
+
 The library is the file that the variable FONTCUT_LIBRARY names. Where that is not set it is `libfontcut.so.0` beside
 this file, as a wheel has it, two folders above, as `./install` has it, or where the system looks for libraries. All
 calls are safe on all bytes, keep nothing, and let other threads run while they work.
@@ -40,6 +48,8 @@ import warnings
 from enum import Enum
 from typing import Iterable, Iterator, List, NamedTuple, Optional, Sequence, Tuple, Union
 
+from fontcut_needed import needed as needed
+
 __all__ = ["Form", "Range", "Refused", "belongs", "check", "codes", "cut", "cut_size", "form", "is_cut", "is_cut_of",
            "join"]
 
@@ -54,7 +64,7 @@ __all__ += ["Font", "FontcutError", "FontcutWarning", "Info", "LibraryMissing", 
 _NO_MEMORY, _TOO_LARGE, _NOTHING_TO_JOIN, _SMALL_ROOM, _NO_GLYPH = 16, 18, 24, 100, 102
 _OF_TAGS, _OF_NUMBERS = (5, 6, 7, 21), (12, 15, 17, 22, 23)
 _LAST_CODE, _NO_GLYPH_OF_ANY = 0x10FFFF, 0xFFFF
-_FULL, _LEAN = 0, 1
+_KINDS = {"full": 0, "lean": 1, "layout": 2}
 
 
 class Range(NamedTuple):
@@ -363,58 +373,66 @@ def _call(name: str, font: Union[Bytes, Font]):
     return getattr(_library(), f"fontcut_{name}_checked" if isinstance(font, Font) else f"fontcut_{name}")
 
 
-def _kind(lean: bool) -> int:
-    return _LEAN if lean else _FULL
+def _kind(kind: Optional[str], lean: bool) -> int:
+    """The number of a kind, which may be given as `lean` too."""
+    if lean and kind not in (None, "lean"):
+        raise ValueError(f"lean=True and kind={kind!r} are two kinds of cuts")
+    if kind is None:
+        kind = "lean" if lean else "full"
+    if kind not in _KINDS:
+        raise ValueError(f"{kind!r} is no kind of cuts: it is full, lean or layout")
+    return _KINDS[kind]
 
 
-def cut_size(font: Union[Bytes, Font], wanted: Codes, *, lean: bool = False) -> int:
-    """The length in bytes of the cut of a font for the wanted characters, or of the lean cut, of which none is made."""
+def cut_size(font: Union[Bytes, Font], wanted: Codes, *, lean: bool = False, kind: Optional[str] = None) -> int:
+    """The length in bytes of the cut of a font for the wanted characters, of a kind. None is made."""
     file, ranges = _File(font), _ranges(wanted)
-    answer = _call("subset_size", font)(_kind(lean), file.at, file.length, _in_c(ranges), len(ranges))
+    answer = _call("subset_size", font)(_kind(kind, lean), file.at, file.length, _in_c(ranges), len(ranges))
     return _done(answer).size
 
 
-def cut(font: Union[Bytes, Font], wanted: Codes, *, lean: bool = False) -> bytes:
-    """The cut of a font for the wanted characters, or the lean cut. Those that the font does not map are passed over.
+def cut(font: Union[Bytes, Font], wanted: Codes, *, lean: bool = False, kind: Optional[str] = None) -> bytes:
+    """The cut of a font for the wanted characters, of a kind. Those that the font does not map are passed over.
 
     Raises `Refused` where the font is refused, or its cut too large for a file; `ValueError` for what is no range."""
     file, ranges = _File(font), _ranges(wanted)
-    given, call = _in_c(ranges), _call("subset", font)
+    given, call, number = _in_c(ranges), _call("subset", font), _kind(kind, lean)
 
     def made(room, size):
-        return call(_kind(lean), file.at, file.length, given, len(ranges), room, size)
+        return call(number, file.at, file.length, given, len(ranges), room, size)
 
     return _written(file.length + 4096, made)
 
 
-def join(cuts: Sequence[Bytes], *, lean: bool = False) -> bytes:
-    """The join of cuts of one font, or of lean cuts: that font's cut for the characters of all of them, in whatever order
+def join(cuts: Sequence[Bytes], *, lean: bool = False, kind: Optional[str] = None) -> bytes:
+    """The join of cuts of one font, of a kind: that font's cut for the characters of all of them, in whatever order
     they come.
 
     Raises `Refused`, with the index of the file, where one is no cut or no cut of the font of those before it."""
-    files = [_File(one) for one in cuts]
+    files, number = [_File(one) for one in cuts], _kind(kind, lean)
     given = (_Bytes * max(1, len(files)))(*[_Bytes(one.at, one.length) for one in files])
 
     def made(room, size):
-        return _library().fontcut_join(_kind(lean), given, len(files), room, size)
+        return _library().fontcut_join(number, given, len(files), room, size)
 
     return _written(sum(one.length for one in files) + 4096, made, several=True)
 
 
-def slices(font: Union[Bytes, Font], sets: Iterable[Codes], *, lean: bool = False) -> List[bytes]:
-    """The cuts of a font for many sets of wanted characters, or the lean cuts: what `cut` makes for each set, in the order
-    of the sets. The font is looked through once for all of them.
+def slices(font: Union[Bytes, Font], sets: Iterable[Codes], *, lean: bool = False,
+           kind: Optional[str] = None) -> List[bytes]:
+    """The cuts of a font for many sets of wanted characters, of a kind: what `cut` makes for each set, in the order of
+    the sets. The font is looked through once for all of them.
 
     Raises what `cut` raises."""
     if isinstance(sets, str):
         raise TypeError("sets are given as a list of them, and not as one str")
     file, wanted = _File(font), list(map(_ranges, _items(sets, "set")))  # type: ignore[arg-type]
     ranges, count = [one for each in wanted for one in each], len(wanted)
-    given, room_for_sizes = _in_c(ranges), ctypes.c_uint64 * max(1, count)
+    given, room_for_sizes, number = _in_c(ranges), ctypes.c_uint64 * max(1, count), _kind(kind, lean)
     counts, sizes = room_for_sizes(*map(len, wanted)), room_for_sizes()
 
     def made(room, size):
-        return _library().fontcut_cuts(_kind(lean), file.at, file.length, given, len(ranges), counts, count, room, size,
+        return _library().fontcut_cuts(number, file.at, file.length, given, len(ranges), counts, count, room, size,
                                        sizes, count)
 
     # A guess would seldom serve: each cut repeats the tables that it copies, and the font alone says how long they are. So
@@ -440,31 +458,32 @@ def _written(room: int, call, several: bool = False) -> bytes:
     return ctypes.string_at(*_filled(room, call, several))
 
 
-def _form(font: Bytes, lean: bool) -> Form:
-    """In which form a font is a cut, or a lean cut, by one call."""
+def _form(font: Bytes, lean: bool, kind: Optional[str] = None) -> Form:
+    """In which form a font is a cut of a kind, by one call."""
     file = _File(font)
-    return Form(_done(_library().fontcut_cut_form(_kind(lean), file.at, file.length)).detail)
+    return Form(_done(_library().fontcut_cut_form(_kind(kind, lean), file.at, file.length)).detail)
 
 
 def form(font: Bytes) -> Form:
     """Whether a font is a cut, and in which form: `LEAN` for a lean cut, which is a current cut too. A font that is a
-    current cut is looked through twice for that. `is_cut` asks for one of the two alone."""
+    current cut is looked through twice for that. `is_cut` asks for one of the two alone, and for layout cuts: one with
+    tables of layout is none of the two."""
     found = _form(font, lean=False)
     if found is Form.CURRENT and is_cut(font, lean=True):
         return Form.LEAN
     return found
 
 
-def is_cut(font: Bytes, *, lean: bool = False) -> bool:
-    """Whether a font is a cut as it is written today, or a lean cut. A lean cut is a cut too."""
-    return _form(font, lean) is Form.CURRENT
+def is_cut(font: Bytes, *, lean: bool = False, kind: Optional[str] = None) -> bool:
+    """Whether a font is a cut of a kind as it is written today. A lean cut is a full cut too."""
+    return _form(font, lean, kind) is Form.CURRENT
 
 
-def belongs(cut: Bytes, font: Union[Bytes, Font], *, lean: bool = False) -> bool:
-    """Whether a file is a cut of a font for some characters, in either form, or a lean cut of it. Raises `Refused`
-    where one of the two is no font: the file 0 is the cut, and 1 the font."""
+def belongs(cut: Bytes, font: Union[Bytes, Font], *, lean: bool = False, kind: Optional[str] = None) -> bool:
+    """Whether a file is a cut of a font for some characters, of a kind, and a full cut in either form. Raises `Refused`
+    where one of the two is refused: the file 0 is the cut, and 1 the font."""
     first, second = _File(cut), _File(font)
-    answer = _library().fontcut_belongs(_kind(lean), first.at, first.length, second.at, second.length)
+    answer = _library().fontcut_belongs(_kind(kind, lean), first.at, first.length, second.at, second.length)
     return _done(answer, several=True).detail == 1
 
 

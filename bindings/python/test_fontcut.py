@@ -40,6 +40,10 @@ NO_RANGES = ["ALL", "U+", "U+41-", "-41", "U+0000041", "0000041", "U+42-41", "U+
              "??????", "U+1100??", "4???????", "?-41", "**", "U+U+41", "unicode-range", "x unicode-range:41",
              "xunicode-range:41", "U+41\x0cU+42", "\u00e9", "41-5A-61", "unicode-range :41", "\ufeff\ufeff41", "U+41 36 1g01"]
 
+# A GSUB of version 1.0 without scripts, features and lookups, and a font that has it.
+GSUB_OF_NOTHING = struct.pack(">8H", 1, 0, 10, 12, 14, 0, 0, 0)
+WITH_GSUB = font_cutting.assembled({**font_reading.tables_of(BASE6), b"GSUB": GSUB_OF_NOTHING})
+
 LETTERS, ACCENTED, ALL = ([(0x41, 0x42)], [(0xC1, 0xC1)], [(0x41, 0x42), (0xC1, 0xC1)])
 
 
@@ -55,6 +59,26 @@ class Cutting(unittest.TestCase):
             lean = lean_cutting.lean_cut(BASE6, wanted)
             self.assertEqual(fontcut.cut(BASE6, wanted, lean=True), lean)
             self.assertEqual(fontcut.cut_size(BASE6, wanted, lean=True), len(lean))
+
+    def test_kinds_of_cuts(self):
+        for kind, lean in (("full", False), ("lean", True)):
+            self.assertEqual(fontcut.cut(BASE6, ALL, kind=kind), fontcut.cut(BASE6, ALL, lean=lean))
+            self.assertEqual(fontcut.cut(BASE6, ALL, kind=kind, lean=lean), fontcut.cut(BASE6, ALL, lean=lean))
+        for given in ({"kind": "thin"}, {"kind": ""}, {"kind": "full", "lean": True}, {"kind": "layout", "lean": True}):
+            with self.assertRaises(ValueError):
+                fontcut.cut(BASE6, ALL, **given)
+
+    def test_layout_cuts_keep_tables_of_layout(self):
+        """The lean cut has all else of it, as this GSUB puts no glyph for another."""
+        cut = fontcut.cut(WITH_GSUB, ACCENTED, kind="layout")
+        tables = font_reading.tables_of(cut)
+        self.assertEqual(tables.pop(b"GSUB"), GSUB_OF_NOTHING)
+        self.assertEqual(set(tables), set(font_reading.tables_of(LEAN_CUT_OF_AACUTE)))
+        self.assertEqual(fontcut.cut(cut, ACCENTED, lean=True), LEAN_CUT_OF_AACUTE)
+        self.assertEqual(fontcut.cut_size(WITH_GSUB, ACCENTED, kind="layout"), len(cut))
+        self.assertEqual(fontcut.slices(WITH_GSUB, [ACCENTED], kind="layout"), [cut])
+        self.assertEqual(fontcut.cut(fontcut.Font(WITH_GSUB), ACCENTED, kind="layout"), cut)
+        self.assertEqual(fontcut.cut(BASE6, ACCENTED, kind="layout"), LEAN_CUT_OF_AACUTE)
 
     def test_slices_are_cuts(self):
         for lean in (False, True):
@@ -170,6 +194,15 @@ class Joining(unittest.TestCase):
             fontcut.join([letters, self.accented], lean=True)
         self.assertEqual((caught.exception.number, caught.exception.file), (20, 1))
 
+    def test_layout_joins_agree_in_each_order(self):
+        both = fontcut.cut(WITH_GSUB, ALL, kind="layout")
+        letters, accented = (fontcut.cut(WITH_GSUB, wanted, kind="layout") for wanted in (LETTERS, ACCENTED))
+        for cuts in ([letters, accented], [accented, letters, both]):
+            self.assertEqual(fontcut.join(cuts, kind="layout"), both)
+        with self.assertRaises(fontcut.Refused) as caught:
+            fontcut.join([letters, fontcut.cut(BASE6, LETTERS, lean=True)], kind="layout")
+        self.assertEqual((caught.exception.number, caught.exception.argument, caught.exception.file), (21, "GSUB", 1))
+
     def test_old_cuts_are_renewed(self):
         old = font_cutting.old_cut(BASE6, LETTERS)
         self.assertIs(fontcut.form(old), fontcut.Form.OLD)
@@ -215,6 +248,34 @@ class Asking(unittest.TestCase):
         self.assertTrue(fontcut.belongs(lean, BASE6, lean=True))
         self.assertFalse(fontcut.belongs(lean, BASE6))
         self.assertEqual(fontcut.cut(fontcut.cut(BASE6, ACCENTED), ACCENTED, lean=True), lean)
+
+    def test_layout_cuts_are_told(self):
+        cut = fontcut.cut(WITH_GSUB, ACCENTED, kind="layout")
+        self.assertTrue(fontcut.is_cut(cut, kind="layout"))
+        self.assertFalse(fontcut.is_cut(WITH_GSUB, kind="layout"))
+        self.assertTrue(fontcut.belongs(cut, WITH_GSUB, kind="layout"))
+        self.assertFalse(fontcut.belongs(cut, WITH_GSUB, lean=True))
+        self.assertIs(fontcut.form(cut), fontcut.Form.NO_CUT)
+
+    def test_refused_tables_of_layout(self):
+        """They are refused for layout cuts alone, and after a font that is none."""
+        bad = WITH_GSUB.replace(GSUB_OF_NOTHING, b"\0\2" + GSUB_OF_NOTHING[2:])
+        fontcut.check(bad)
+        self.assertEqual(fontcut.cut(bad, ALL), fontcut.cut(BASE6, ALL))
+        for call, file in ((lambda: fontcut.cut(bad, ALL, kind="layout"), None),
+                           (lambda: fontcut.is_cut(bad, kind="layout"), None),
+                           (lambda: fontcut.slices(bad, [ALL], kind="layout"), None),
+                           (lambda: fontcut.belongs(bad, WITH_GSUB, kind="layout"), 0),
+                           (lambda: fontcut.belongs(WITH_GSUB, bad, kind="layout"), 1),
+                           (lambda: fontcut.join([fontcut.cut(WITH_GSUB, ALL, kind="layout"), bad], kind="layout"), 1)):
+            with self.assertRaises(fontcut.Refused) as caught:
+                call()
+            refused = caught.exception
+            self.assertEqual((refused.number, refused.text, refused.argument, refused.file),
+                             (27, "bad layout", None, file))
+        with self.assertRaises(fontcut.Refused) as caught:
+            fontcut.belongs(bad, b"", kind="layout")
+        self.assertEqual((caught.exception.number, caught.exception.file), (2, 1))
 
     def test_old_names(self):
         cut = fontcut.cut(BASE6, LETTERS)

@@ -1,11 +1,14 @@
-//! Finds the library: in the folder that `FONTCUT_LIB_DIR` names, in `lib` beside this file, or by pkg-config.
+//! Finds the library: in the folder that `FONTCUT_LIB_DIR` names, in `lib` beside this file, which has a folder for
+//! each processor, or by pkg-config.
 use std::env;
 use std::path::{Path, PathBuf};
 use std::process::Command;
 
 /// The folder of the static library, where it lies beside this crate or is named.
 fn folder() -> Option<PathBuf> {
-    let beside = Path::new(&env::var("CARGO_MANIFEST_DIR").unwrap_or_default()).join("lib");
+    let beside = Path::new(&env::var("CARGO_MANIFEST_DIR").unwrap_or_default())
+        .join("lib")
+        .join(env::var("CARGO_CFG_TARGET_ARCH").unwrap_or_default());
     let named = env::var_os("FONTCUT_LIB_DIR").map(PathBuf::from);
     named
         .into_iter()

@@ -1,13 +1,11 @@
-import type { Kind } from './fontcut.js';
-
 export interface GrowingOptions {
     /** 'lean' where it is not given. */
-    kind?: Kind;
+    kind?: 'full' | 'lean';
     /** Those of FontFace: weight, style and the like. */
     descriptors?: FontFaceDescriptors;
 }
 
-/** A font of a page that grows with its text: at each time it is the cut for all characters so far. */
+/** A font of a page that grows with its text. Of right answers it is the cut for all characters so far. */
 export class GrowingFont {
     constructor(family: string, url: string | URL, options?: GrowingOptions);
     /** The bytes of the font as it is now, or undefined before the first text. */

@@ -1,4 +1,5 @@
-// A font of a page that grows with its text: at each time it is byte for byte the cut for all characters so far.
+// A font of a page that grows with its text. Where the server sends the cuts that it is asked for, the font is byte for
+// byte the cut for all characters so far.
 //
 //     import { GrowingFont } from 'fontcut/growing';
 //     const font = new GrowingFont('Wenkai', '/LXGWWenKai-Regular.ttf');

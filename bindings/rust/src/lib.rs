@@ -43,6 +43,12 @@ pub enum Kind {
     Full = 0,
     /// Lean cuts: zeros for the metrics of glyphs that are not kept, and no names of glyphs.
     Lean = 1,
+    /// Layout cuts: lean cuts with the tables of layout (`BASE`, `GDEF`, `GPOS`, `GSUB` and `kern`, without their parts
+    /// for variable fonts), and with each glyph that `GSUB` may put for those of the wanted characters.
+    ///
+    /// A call for them reads these tables, and refuses a font that is accepted as such: by 5 or 6 for one of them, and
+    /// by 27 where `GSUB` cannot be read.
+    Layout = 2,
 }
 
 /// In which form a font is a cut.
@@ -82,7 +88,8 @@ impl<'a> Font<'a> {
     ///
     /// # Errors
     ///
-    /// 16 where memory is refused, and 18 where the cut would be too large for a file.
+    /// 16 where memory is refused, and 18 where the cut would be too large for a file. Of [`Kind::Layout`] also 5, 6
+    /// and 27.
     pub fn cut(&self, kind: Kind, wanted: &Ranges) -> Result<Cut, Error> {
         let (font, ranges) = (self.bytes, wanted.as_slice());
         // A cut is seldom longer than its font; where it is, the call says how long.
@@ -113,7 +120,7 @@ impl<'a> Font<'a> {
     ///
     /// # Errors
     ///
-    /// 16 where memory is refused, and 18 with the size of the first cut that would be too large for a file.
+    /// Those of [`Font::cut`], where 18 has the size of the first cut that would be too large for a file.
     ///
     /// ```
     /// # fn main() -> Result<(), Box<dyn std::error::Error>> {
@@ -211,7 +218,7 @@ impl<'a> Font<'a> {
     ///
     /// # Errors
     ///
-    /// 16 where memory is refused.
+    /// 16 where memory is refused. Of [`Kind::Layout`] also 5, 6 and 27.
     pub fn form(&self, kind: Kind) -> Result<Option<Form>, Error> {
         // SAFETY: the place and the length are those of a slice, which the call reads.
         let answer =
@@ -227,7 +234,8 @@ impl<'a> Font<'a> {
     ///
     /// # Errors
     ///
-    /// 16 where memory is refused.
+    /// 16 where memory is refused. Of [`Kind::Layout`] also 5, 6 and 27, with 0 as the file for this font, and 1 for
+    /// the other one.
     pub fn is_cut_of(&self, kind: Kind, font: &Font<'_>) -> Result<bool, Error> {
         // SAFETY: the places and lengths are those of slices, which the call reads.
         let answer = unsafe {
@@ -240,7 +248,11 @@ impl<'a> Font<'a> {
                 font.bytes.len(),
             )
         };
-        done(answer).map(|answer| answer.detail == 1)
+        if answer.status == DONE {
+            Ok(answer.detail == 1)
+        } else {
+            Err(Error::of_several_files(answer))
+        }
     }
 
     /// The glyph to which the font maps each character or code point, in their order: 0 where it maps one to none.
@@ -370,9 +382,10 @@ pub fn version() -> (u8, u8, u8) {
 ///
 /// # Errors
 ///
-/// The first refusal that applies, with the index of the file: 1 to 14 and 17 where it is no font that is accepted, 20
-/// where it is no cut of the kind, 21 to 23 where it is no cut of the font of those before it, 18 where the join would be
-/// too large for a file, 24 where there is no file, 16 where memory is refused.
+/// The first refusal that applies, with the index of the file: 1 to 14 and 17 where it is no font that is accepted, 5, 6
+/// and 27 for its tables of layout, of [`Kind::Layout`] alone, 20 where it is no cut of the kind, 21 to 23 where it is
+/// no cut of the font of those before it, 18 where the join would be too large for a file, 24 where there is no file, 16
+/// where memory is refused.
 pub fn join<I>(kind: Kind, cuts: I) -> Result<Cut, Error>
 where
     I: IntoIterator,

@@ -1,4 +1,4 @@
-//! The calls over DejaVu Sans, where it is there: cuts of both kinds, their forms, joins and refusals.
+//! The calls over DejaVu Sans, where it is there: cuts of all kinds, their forms, joins and refusals.
 use fontcut::{join, version, Argument, Error, Font, Form, Kind, NoGlyph, Ranges};
 
 const DEJAVU: &str = "/usr/share/fonts/truetype/dejavu/DejaVuSans.ttf";
@@ -11,6 +11,11 @@ fn dejavu() -> Option<Vec<u8>> {
     std::fs::read(DEJAVU).ok()
 }
 
+fn has_table(file: &[u8], tag: &[u8; 4]) -> bool {
+    let count = usize::from(u16::from_be_bytes([file[4], file[5]]));
+    (0..count).any(|entry| file[12 + 16 * entry..].starts_with(tag))
+}
+
 #[test]
 fn cuts_and_joins() -> Result<(), Error> {
     let file = match dejavu() {
@@ -18,7 +23,7 @@ fn cuts_and_joins() -> Result<(), Error> {
         None => return Ok(()),
     };
     let font = Font::new(&file)?;
-    for kind in [Kind::Full, Kind::Lean] {
+    for kind in [Kind::Full, Kind::Lean, Kind::Layout] {
         let (one, two) = (
             font.cut(kind, &letters("Hello"))?,
             font.cut(kind, &letters("world"))?,
@@ -60,7 +65,7 @@ fn cuts_for_many_sets() -> Result<(), Error> {
         Ranges::all(),
         letters("Hello"),
     ];
-    for kind in [Kind::Full, Kind::Lean] {
+    for kind in [Kind::Full, Kind::Lean, Kind::Layout] {
         let cuts = font.cuts(kind, &sets)?;
         for (set, cut) in sets.iter().zip(&cuts) {
             assert_eq!(*cut, font.cut(kind, set)?);
@@ -93,6 +98,23 @@ fn a_lean_cut_joins_with_lean_cuts_alone() -> Result<(), Error> {
         (refused.number(), refused.argument()),
         (21, Argument::Table(*b"hmtx"))
     );
+    Ok(())
+}
+
+#[test]
+fn layout_cuts_have_the_tables_of_layout() -> Result<(), Error> {
+    let file = match dejavu() {
+        Some(file) => file,
+        None => return Ok(()),
+    };
+    let font = Font::new(&file)?;
+    let cut = font.cut(Kind::Layout, &letters("fi"))?;
+    for tag in [b"GDEF", b"GPOS", b"GSUB"] {
+        assert!(has_table(&cut, tag));
+    }
+    assert_eq!(cut.font().form(Kind::Layout)?, Some(Form::Current));
+    let refused = join(Kind::Layout, [&cut, &font.cut(Kind::Lean, &letters("a"))?]).unwrap_err();
+    assert_eq!((refused.number(), refused.file()), (21, Some(1)));
     Ok(())
 }
 
