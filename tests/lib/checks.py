@@ -3,6 +3,8 @@ import json
 import os
 import subprocess
 import sys
+from concurrent.futures import ProcessPoolExecutor
+from functools import partial
 
 TOP = os.path.dirname(os.path.dirname(os.path.dirname(os.path.abspath(__file__))))
 FONTCUT = os.path.join(TOP, "fontcut")
@@ -19,6 +21,7 @@ LIBERATION = "/usr/share/fonts/truetype/liberation2"  # Debian's package fonts-l
 BABELSTONE = "/usr/share/fonts/truetype/babelstone"  # Debian's package fonts-babelstone-han
 HANAZONO = "/usr/share/fonts/truetype/hanazono"  # Debian's package fonts-hanazono
 FREEFONT = "/usr/share/fonts/truetype/freefont"  # Debian's package fonts-freefont-ttf
+NOTO = "/usr/share/fonts/truetype/noto"  # Debian's package fonts-noto-core
 
 MANUAL = os.path.join(TOP, "docs", "fontcut.1")
 COMPLETION = os.path.join(TOP, "completion", "fontcut.bash")
@@ -90,6 +93,25 @@ def check(name, holds, *details):
 def skip(name, why):
     counts["skipped"] += 1
     print(f"skipped {name}: {why}", flush=True)
+
+
+def counted(task, item):
+    """Runs a task for an item, and returns its answer, and how many checks of each kind it made."""
+    before = dict(counts)
+    answer = task(item)
+    return answer, {kind: count - before[kind] for kind, count in counts.items()}
+
+
+def spread(task, items):
+    """Runs a task for each item in as many processes as this one has processors, and counts their checks here. Returns
+    the answers, in order of the items."""
+    answers = []
+    with ProcessPoolExecutor(len(os.sched_getaffinity(0))) as workers:
+        for answer, made in workers.map(partial(counted, task), items):
+            answers.append(answer)
+            for kind, count in made.items():
+                counts[kind] += count
+    return answers
 
 
 def end():

@@ -120,12 +120,15 @@ def assembled(tables):
     return whole()
 
 
-def cut_tables(file, wanted):
-    """The tables of the cut of a font for wanted ranges of codes, by tag."""
+def cut_tables(file, wanted, kept=None):
+    """The tables of the cut of a font for wanted ranges of codes, by tag; with the outlines of other kept glyphs where
+    these are given."""
     records, glyphs = outlines(file), wanted_map(file, wanted)
+    if kept is None:
+        kept = kept_glyphs(records, glyphs.values())
     tables = {record.tag: table_of(file, record) for record in records_of(file) if record.tag in KEPT}
     tables[b"cmap"] = cmap_table(groups_of(glyphs))
-    tables[b"glyf"], tables[b"loca"] = glyf_and_loca(records, kept_glyphs(records, glyphs.values()))
+    tables[b"glyf"], tables[b"loca"] = glyf_and_loca(records, kept)
     head = tables[b"head"]
     tables[b"head"] = head[:50] + struct.pack(">h", 1) + head[52:]
     return tables

@@ -7,8 +7,8 @@ import struct
 from collections import namedtuple
 
 MAX_FILE = 134_217_728
-KEPT = ("OS/2 cmap cvt  fpgm gasp glyf head hhea hmtx loca maxp name post prep vhea vmtx")
-KEPT = [KEPT[at:at + 4].encode() for at in range(0, len(KEPT), 5)]
+KEPT_TAGS = "OS/2 cmap cvt  fpgm gasp glyf head hhea hmtx loca maxp name post prep vhea vmtx"
+KEPT = [KEPT_TAGS[at:at + 4].encode() for at in range(0, len(KEPT_TAGS), 5)]
 ACCEPTED_VERSIONS = (0x00010000, 0x74727565)  # TrueType outlines, and `true`
 
 Record = namedtuple("Record", "tag checksum offset length")

@@ -42,10 +42,13 @@ def without_names(post):
     return post if len(post) < 32 else bytes.fromhex("00030000") + post[4:32]
 
 
-def lean_tables(file, wanted):
-    """The tables of the lean cut of a font for wanted ranges of codes, by tag."""
-    tables, records = cut_tables(file, wanted), outlines(file)
-    kept = kept_glyphs(records, wanted_map(file, wanted).values())
+def lean_tables(file, wanted, kept=None):
+    """The tables of the lean cut of a font for wanted ranges of codes, by tag; with the outlines and metrics of other
+    kept glyphs where these are given."""
+    records = outlines(file)
+    if kept is None:
+        kept = kept_glyphs(records, wanted_map(file, wanted).values())
+    tables = cut_tables(file, wanted, kept)
     for header, name in ((b"hhea", b"hmtx"), (b"vhea", b"vmtx")):
         if name in tables:
             pairs = pairs_in(tables, header, name, len(records))

@@ -2,14 +2,22 @@
 none.
 
 It follows docs/FORMAT.md and the definition of lean cuts: of `hmtx` and `vmtx` two files share what belongs to no
-single glyph, and what belongs to a glyph is compared and united with its outline.
+single glyph, and what belongs to a glyph is compared and united with its outline. Another kind of cut that is joined
+in the same way brings a `Kind` of its own.
 """
+from collections import namedtuple
+
 from font_cutting import assembled, cmap_table, cut_size, glyf_and_loca, groups_of, outlines, whole_map
 from font_joining import copied, different, file_refusal, kept
 from font_reading import KEPT, MAX_FILE, tables_of, tag_text
 from lean_cutting import cleared, entry, is_lean_cut, pairs_in, without_names
 
 METRICS = ((b"hhea", b"hmtx"), (b"vhea", b"vmtx"))
+
+# What is particular to a kind of cut: the tags of its tables in order, and three functions of a file: what two cuts of
+# one font have in common of their copied tables, the outlines of the kept glyphs by number, and the refusal of a file,
+# which is called the first or the second, that is no such cut.
+Kind = namedtuple("Kind", "tags shared kept refusal")
 
 
 def shared(file):
@@ -23,10 +31,18 @@ def shared(file):
     return tables
 
 
-def kept_with_metrics(file):
+def lean_refusal(file, name):
+    """The number and text of the refusal of a file, the first or the second, that is no lean cut, or None."""
+    return None if is_lean_cut(file) else (20, f"not a cut: {name}")
+
+
+LEAN = Kind(KEPT, shared, kept, lean_refusal)
+
+
+def kept_with_metrics(file, kind):
     """By number the outlines of the kept glyphs, each with what the tables of metrics have of that glyph alone."""
     tables, glyphs = tables_of(file), len(outlines(file))
-    found = {glyph: [outline] for glyph, outline in kept(file).items()}
+    found = {glyph: [outline] for glyph, outline in kind.kept(file).items()}
     for header, name in METRICS:
         pairs = pairs_in(tables, header, name, glyphs)
         for glyph in found if pairs else ():
@@ -35,21 +51,21 @@ def kept_with_metrics(file):
     return found
 
 
-def different_table(first, second):
+def different_table(first, second, kind):
     """The least tag of a table of which two lean cuts do not share what they should, or None."""
-    first, second = shared(first), shared(second)
-    return next((tag for tag in KEPT if first.get(tag) != second.get(tag)), None)
+    first, second = kind.shared(first), kind.shared(second)
+    return next((tag for tag in kind.tags if first.get(tag) != second.get(tag)), None)
 
 
-def difference_refusal(first, second):
+def difference_refusal(first, second, kind):
     """The number and text of what tells two lean cuts apart first, or None."""
-    tag = different_table(first, second)
+    tag = different_table(first, second, kind)
     if tag is not None:
         return 21, f"different table {tag_text(tag)}"
     code = different(whole_map(first), whole_map(second))
     if code is not None:
         return 22, f"different mapping U+{code:04X}"
-    glyph = different(kept_with_metrics(first), kept_with_metrics(second))
+    glyph = different(kept_with_metrics(first, kind), kept_with_metrics(second, kind))
     return None if glyph is None else (23, f"different glyph {glyph}")
 
 
@@ -62,47 +78,42 @@ def with_metrics(table, other, pairs, glyphs):
     return bytes(made)
 
 
-def joined_tables(first, second):
+def joined_tables(first, second, kind):
     """The tables of the join of two lean cuts that nothing tells apart, by tag."""
     tables, others, glyphs = tables_of(first), tables_of(second), len(outlines(first))
     for header, name in METRICS:
         if name in tables:
             pairs = pairs_in(tables, header, name, glyphs)
-            tables[name] = with_metrics(tables[name], others[name], pairs, kept(second))
+            tables[name] = with_metrics(tables[name], others[name], pairs, kind.kept(second))
     tables[b"cmap"] = cmap_table(groups_of({**whole_map(first), **whole_map(second)}))
-    records = {**kept(first), **kept(second)}
+    records = {**kind.kept(first), **kind.kept(second)}
     tables[b"glyf"], tables[b"loca"] = glyf_and_loca([records.get(glyph, b"") for glyph in range(glyphs)],
                                                      records.keys())
     return tables
 
 
-def join_refusal(first, second):
+def join_refusal(first, second, kind=LEAN):
     """The number and text of the first refusal of a join of two files that applies, or None."""
-    refused = file_refusal(first) or file_refusal(second)
+    refused = (file_refusal(first) or file_refusal(second) or kind.refusal(first, "first")
+               or kind.refusal(second, "second") or difference_refusal(first, second, kind))
     if refused:
         return refused
-    for name, file in ("first", first), ("second", second):
-        if not is_lean_cut(file):
-            return 20, f"not a cut: {name}"
-    refused = difference_refusal(first, second)
-    if refused:
-        return refused
-    size = cut_size(joined_tables(first, second))
+    size = cut_size(joined_tables(first, second, kind))
     return (18, f"too large {size}") if size > MAX_FILE else None
 
 
-def join(first, second):
+def join(first, second, kind=LEAN):
     """The join of two lean cuts that is not refused."""
-    return assembled(joined_tables(first, second))
+    return assembled(joined_tables(first, second, kind))
 
 
-def join_all(files):
+def join_all(files, kind=LEAN):
     """The join of one file or more, and no line; or none, and the line that says why. The first file is joined with
     itself, and what comes of it with each next one."""
     joined = files[0]
     for step, file in enumerate(files):
-        refused = join_refusal(joined, file)
+        refused = join_refusal(joined, file, kind)
         if refused:
             return None, "fontcut: file {}: refused {} {}\n".format(step + 1, *refused)
-        joined = join(joined, file)
+        joined = join(joined, file, kind)
     return joined, None

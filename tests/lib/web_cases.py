@@ -4,7 +4,7 @@ import json
 import os
 import random
 
-KINDS = ("full", "lean")
+KINDS = ("full", "lean", "layout")
 BROKEN = 130  # files of each of two fonts
 
 
@@ -63,27 +63,27 @@ def numbers_of(cases, name, font):
 
 def cuts_of(cases, name, font, kind, chance):
     """The cuts of a font for six sets, by one call for each and by one for all, and joins of twenty cuts by chance."""
-    library, lean, mapped = cases.library, kind == "lean", cases.library.codes(font)
+    library, mapped = cases.library, cases.library.codes(font)
     ascii_codes = (0x20, 0x7E)
     sets = [[ascii_codes], [ascii_codes, (0xA0, 0xFF)], spread(mapped, 100), spread(mapped, 1000), [(0, 0x10FFFF)], []]
     for some in sets:
-        cases.add("subset", [name], lambda some=some: digest(library.cut(font, some, lean=lean)),
+        cases.add("subset", [name], lambda some=some: digest(library.cut(font, some, kind=kind)),
                   unicodes=some, kind=kind)
-        cases.add("subsetSize", [name], lambda some=some: library.cut_size(font, some, lean=lean),
+        cases.add("subsetSize", [name], lambda some=some: library.cut_size(font, some, kind=kind),
                   unicodes=some, kind=kind)
     for some in sets, []:
-        cases.add("cuts", [name], lambda some=some: list(map(digest, library.slices(font, some, lean=lean))),
+        cases.add("cuts", [name], lambda some=some: list(map(digest, library.slices(font, some, kind=kind))),
                   sets=[{"unicodes": one} for one in some], kind=kind)
     pool = spread(mapped, 2000)
-    parts = [library.cut(font, chance.sample(pool, min(len(pool), 60)), lean=lean) for _ in range(20)]
+    parts = [library.cut(font, chance.sample(pool, min(len(pool), 60)), kind=kind) for _ in range(20)]
     names = [cases.put(part) for part in parts]
     for some in 1, 2, 20:
-        cases.add("join", names[:some], lambda some=some: digest(library.join(parts[:some], lean=lean)), kind=kind)
-    cases.add("join", [names[0], name], lambda: digest(library.join([parts[0], font], lean=lean)), kind=kind)
-    cases.add("belongs", [names[0], name], lambda: library.belongs(parts[0], font, lean=lean), kind=kind)
-    cases.add("belongs", [name, names[0]], lambda: library.belongs(font, parts[0], lean=lean), kind=kind)
+        cases.add("join", names[:some], lambda some=some: digest(library.join(parts[:some], kind=kind)), kind=kind)
+    cases.add("join", [names[0], name], lambda: digest(library.join([parts[0], font], kind=kind)), kind=kind)
+    cases.add("belongs", [names[0], name], lambda: library.belongs(parts[0], font, kind=kind), kind=kind)
+    cases.add("belongs", [name, names[0]], lambda: library.belongs(font, parts[0], kind=kind), kind=kind)
     for file, data in (name, font), (names[0], parts[0]):
-        cases.add("cutForm", [file], lambda data=data: library._form(data, lean).name, kind=kind)
+        cases.add("cutForm", [file], lambda data=data: library._form(data, False, kind).name, kind=kind)
     return parts[0]
 
 
@@ -105,8 +105,7 @@ def of_broken(cases, data, good):
     cases.add("codes", [name], lambda: [list(one) for one in library.codes(data)])
     cases.add("info", [name], lambda: list(library.info(data)))
     for kind in KINDS:
-        lean = kind == "lean"
-        cases.add("subset", [name], lambda: digest(library.cut(data, "Hello", lean=lean)), text="Hello", kind=kind)
+        cases.add("subset", [name], lambda: digest(library.cut(data, "Hello", kind=kind)), text="Hello", kind=kind)
     cases.add("join", [good[0], name], lambda: digest(library.join([good[1], data], lean=True)), kind="lean")
     cases.add("belongs", [name, good[0]], lambda: library.belongs(data, good[1], lean=True), kind="lean")
 
@@ -119,7 +118,7 @@ def make(folder, library, fonts, small):
             font = opened.read()
         name = cases.put(font)
         numbers_of(cases, name, font)
-        leans.append([cuts_of(cases, name, font, kind, chance) for kind in KINDS][-1])
+        leans.append({kind: cuts_of(cases, name, font, kind, chance) for kind in KINDS}["lean"])
     good = cases.put(leans[-1]), leans[-1]
     for base in small, leans[-1]:
         for data in broken(base, chance):

@@ -280,7 +280,9 @@ const growing = {
     },
 
     'a kind that is none is refused': () => {
-        assert.throws(() => new GrowingFont('Grown', '/font.ttf', { kind: 'thin' }), RangeError);
+        for (const kind of ['thin', 'layout']) {
+            assert.throws(() => new GrowingFont('Grown', '/font.ttf', { kind }), RangeError);
+        }
     },
 };
 
