@@ -226,12 +226,14 @@ fn layout_flag<'a>(alloc: Global, help: &'a str) -> Result<Arg<'a>, AllocError> 
     flag(alloc, "layout", help).conflicts_with("lean")
 }
 
-// Returns the option for tables of layout that are left out of layout cuts.
+// Returns the option for tables of layout that are left out of layout cuts. What an option requires is not asked for
+// where it conflicts with another one of the line, so the option itself conflicts with lean cuts.
 fn drop_option<'a>(alloc: Global) -> Result<Arg<'a>, AllocError> {
     repeated(alloc, "drop", "TABLES", texts::DROP)
         .value_delimiter(',')
         .value_parser(LAYOUT_TABLES)
-        .requires_arg("layout")
+        .requires_arg("layout")?
+        .conflicts_with("lean")
 }
 
 fn codes_command<'a>(alloc: Global) -> Result<Command<'a>, AllocError> {

@@ -64,14 +64,15 @@ fn show_file<'a, W: Write>(
 ) -> Result<Outcome, Fault<'a>>
     requires { fresh_of out.old ≡ true }
 {
-    let shown = run_show(alloc, &mut Inlet::new(file), out);
-    shown.map_err(|error| Fault::of_run(path, STANDARD_OUTPUT, error))?;
     let font = Font::open(file).map_err(|error| Fault::of_run(
         path,
         STANDARD_OUTPUT,
         RunError::from(error),
     ))?;
+    // Memory is asked for before the first line is printed.
     let text = more_text(alloc, &font)?;
+    let shown = run_show(alloc, &mut Inlet::new(file), out);
+    shown.map_err(|error| Fault::of_run(path, STANDARD_OUTPUT, error))?;
     print_more(out, text.as_str())
 }
 
