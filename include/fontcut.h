@@ -26,8 +26,8 @@
 #include <stdint.h>
 
 /* The version of this header. A program that loads a shared library asks it by fontcut_version for its own. */
-#define FONTCUT_VERSION "0.10.0"
-#define FONTCUT_VERSION_NUMBER 0x000A00 /* 65,536 times the first number, 256 times the second one, and the third one */
+#define FONTCUT_VERSION "0.11.0"
+#define FONTCUT_VERSION_NUMBER 0x000B00 /* 65,536 times the first number, 256 times the second one, and the third one */
 
 #ifndef FONTCUT_DEPRECATED
 #if defined(__GNUC__)

@@ -53,7 +53,7 @@ from fontcut_needed import needed as needed
 __all__ = ["Form", "Range", "Refused", "belongs", "check", "codes", "cut", "cut_size", "form", "is_cut", "is_cut_of",
            "join"]
 
-__version__ = "0.10.0"
+__version__ = "0.11.0"
 
 Bytes = Union[bytes, bytearray, memoryview]
 Codes = Union[str, Iterable[Union[int, Tuple[int, int]]]]

@@ -1,6 +1,6 @@
 """Tests of the module over a font of six glyphs. They run where the library is found:
 
-    FONTCUT_LIBRARY=.../libfontcut.so.0.10.0 python3 bindings/python/test_fontcut.py
+    FONTCUT_LIBRARY=.../libfontcut.so.0.11.0 python3 bindings/python/test_fontcut.py
 """
 import mmap
 import os

@@ -67,7 +67,7 @@ export function release(): void;
 export function limit(bytes: number): void;
 /** How many bytes of memory the module has, and how many of them are in use. */
 export function memory(): { bytes: number; inUse: number };
-/** The version of the module, such as '0.10.0'. */
+/** The version of the module, such as '0.11.0'. */
 export function version(): string;
 
 /** @throws FontcutError where the font is not accepted */

@@ -300,7 +300,7 @@ function integersOf(list, what) {
 // A Font was tested when it was made, so the calls that do not test it again are called.
 const untested = (name, font) => font instanceof Font ? `${name}_checked` : name;
 
-/** The version of the module, such as '0.10.0'. */
+/** The version of the module, such as '0.11.0'. */
 export function version() {
     const number = exportsOf().fontcut_version();
     return `${number >> 16}.${number >> 8 & 255}.${number & 255}`;

@@ -367,7 +367,7 @@ impl<'a> Font<'a> {
 /// The version of the library, by its three numbers, of which each may be 255 at most.
 ///
 /// ```
-/// assert!((0, 10, 0) <= fontcut::version());
+/// assert!((0, 11, 0) <= fontcut::version());
 /// ```
 #[must_use]
 pub fn version() -> (u8, u8, u8) {

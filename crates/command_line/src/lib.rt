@@ -10,7 +10,7 @@ use clap::{Arg, ArgAction, ArgMatches, Command, Error};
 use std::alloc::{AllocError, Global};
 
 /// The version of the program: the number in the file `VERSION`, which `tests/release` compares with it.
-pub const VERSION: &str = "0.10.0";
+pub const VERSION: &str = "0.11.0";
 
 /// The word that stands for standard input where a file is read, and for standard output as OUT.
 pub const STANDARD: &str = "-";

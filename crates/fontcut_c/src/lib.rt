@@ -423,11 +423,11 @@ pub extern "C" fn fontcut_refusal_text(alloc: Global, answer: Answer, out: &mut 
     }
 }
 
-/// The version of the library, 0.10.0.
-const VERSION: u32 = 0x000A00;
+/// The version of the library, 0.11.0.
+const VERSION: u32 = 0x000B00;
 
 /// Returns the version of the library as one number: 65,536 times its first number, 256 times its second one, and its
-/// third one. It is 0x000A00 for 0.10.0.
+/// third one. It is 0x000B00 for 0.11.0.
 #[unsafe(no_mangle)]
 pub extern "C" fn fontcut_version() -> u32
     ensures { result ≡ VERSION }
