@@ -1,0 +1,187 @@
+"""Chromium without a window, for tests of pages: how it is started, a server of pages on loopback, and a page that is
+told over a pipe what to do, by the DevTools protocol."""
+import base64
+import contextlib
+import fcntl
+import functools
+import html
+import http.server
+import json
+import os
+import select
+import shutil
+import subprocess
+import tempfile
+import threading
+import time
+
+from checks import put
+
+CHROMIUM = ["chromium", "--headless=new", "--no-sandbox", "--disable-gpu", "--hide-scrollbars",
+            "--force-device-scale-factor=1", "--window-size=1000,1500"]
+SECONDS = 120  # that a page may take for anything that it is told
+
+# Outlines are to be drawn as they are. FreeType's automatic hinting moves them by what it finds in other
+# letters of the same file, so that a cut without these letters would be drawn a little otherwise. And the
+# installed fonts of some folders are hidden, for a page without its font would be shown in one of them.
+CONFIGURATION = """<?xml version="1.0"?>
+<!DOCTYPE fontconfig SYSTEM "fonts.dtd">
+<fontconfig>
+  <selectfont><rejectfont>{}</rejectfont></selectfont>
+  <match target="pattern">
+    <edit name="hinting" mode="assign"><bool>false</bool></edit>
+    <edit name="hintstyle" mode="assign"><const>hintnone</const></edit>
+  </match>
+</fontconfig>
+"""
+
+KINDS = {".js": "text/javascript", ".mjs": "text/javascript", ".html": "text/html; charset=utf-8",
+         ".wasm": "application/wasm", ".css": "text/css", ".json": "application/json"}
+
+
+class Failed(Exception):
+    """What a page or the browser says that it cannot do."""
+
+
+def configured(folder, hidden):
+    """Keeps in a folder, which is a browser's home, that it draws without hinting and without the installed fonts of
+    some folders: the environment of the browser."""
+    place = os.path.join(folder, ".config", "fontconfig")
+    os.makedirs(place, exist_ok=True)
+    globs = "".join(f"<glob>{html.escape(one)}/*</glob>" for one in hidden)
+    put(os.path.join(place, "fonts.conf"), CONFIGURATION.format(globs).encode())
+    return {**os.environ, "HOME": folder, "XDG_CONFIG_HOME": os.path.join(folder, ".config")}
+
+
+class Files(http.server.SimpleHTTPRequestHandler):
+    """Serves the files of a folder, and adds the names of those that are asked for to a list."""
+
+    extensions_map = {**http.server.SimpleHTTPRequestHandler.extensions_map, **KINDS}
+
+    def __init__(self, asked, *words, **how):
+        self.asked = asked
+        super().__init__(*words, **how)
+
+    def log_message(self, *_):
+        pass
+
+    def do_GET(self):
+        self.asked.append(self.path.lstrip("/"))
+        super().do_GET()
+
+
+@contextlib.contextmanager
+def serving(handler):
+    """Runs a server on a free port of loopback, and hands out its address."""
+    with http.server.ThreadingHTTPServer(("127.0.0.1", 0), handler) as server:
+        threading.Thread(target=server.serve_forever, daemon=True).start()
+        try:
+            yield f"http://127.0.0.1:{server.server_port}"
+        finally:
+            server.shutdown()
+
+
+def files_of(folder, asked=None):
+    """What answers with the files of a folder."""
+    return functools.partial(Files, [] if asked is None else asked, directory=folder)
+
+
+class Page:
+    """A page in a browser of its own, which is told what to do and waited for."""
+
+    def __init__(self, folder, hidden=()):
+        self.session, self.count, self.said = None, 0, b""
+        self.profile = tempfile.mkdtemp(prefix="profile-", dir=folder)
+        self.process = self.started(configured(folder, hidden))
+        try:
+            target = self.ask("Target.createTarget", url="about:blank")["targetId"]
+            self.session = self.ask("Target.attachToTarget", targetId=target, flatten=True)["sessionId"]
+        except BaseException:
+            self.close()
+            raise
+
+    def started(self, env):
+        """Starts the browser, which reads what it is told from the file 3, and answers to the file 4."""
+        (its_input, self.told), (self.answers, its_output) = os.pipe(), os.pipe()
+        # The shell opens 3 and 4 for the browser, so that neither of them may be one of the pipes' own numbers.
+        ends = [fcntl.fcntl(end, fcntl.F_DUPFD, 10) for end in (its_input, its_output)]
+        words = ["bash", "-c", f'exec "$@" 3<&{ends[0]} 4>&{ends[1]} {ends[0]}<&- {ends[1]}>&-', "bash", *CHROMIUM,
+                 "--remote-debugging-pipe", f"--user-data-dir={self.profile}", "about:blank"]
+        process = subprocess.Popen(words, env=env, pass_fds=ends, stdin=subprocess.DEVNULL, stdout=subprocess.DEVNULL,
+                                   stderr=subprocess.DEVNULL)
+        for end in (its_input, its_output, *ends):
+            os.close(end)
+        return process
+
+    def __enter__(self):
+        return self
+
+    def __exit__(self, *_):
+        self.close()
+
+    def close(self):
+        """Ends the browser."""
+        with contextlib.suppress(OSError):
+            os.close(self.told)  # it ends where it is told nothing more
+        try:
+            self.process.wait(10)
+        except subprocess.TimeoutExpired:
+            self.process.kill()
+            self.process.wait()
+        os.close(self.answers)
+        shutil.rmtree(self.profile, ignore_errors=True)
+
+    def answer(self, until):
+        """The next message of the browser."""
+        while b"\0" not in self.said:
+            if not select.select([self.answers], [], [], max(0, until - time.monotonic()))[0]:
+                raise Failed(f"no answer in {SECONDS} seconds")
+            some = os.read(self.answers, 1 << 20)
+            if not some:
+                raise Failed("the browser has ended")
+            self.said += some
+        message, _, self.said = self.said.partition(b"\0")
+        return json.loads(message)
+
+    def ask(self, method, **given):
+        """What the browser answers to a command."""
+        self.count += 1
+        sent = {"id": self.count, "method": method, "params": given}
+        if self.session:
+            sent["sessionId"] = self.session
+        data, until = json.dumps(sent).encode() + b"\0", time.monotonic() + SECONDS
+        while data:
+            data = data[os.write(self.told, data):]
+        answer = self.answer(until)
+        while answer.get("id") != self.count:
+            answer = self.answer(until)
+        if "error" in answer:
+            raise Failed(f"{method}: {answer['error']['message']}")
+        return answer["result"]
+
+    def run(self, code):
+        """The value of an expression in the page, which is waited for where it is a promise."""
+        told = self.ask("Runtime.evaluate", expression=code, awaitPromise=True, returnByValue=True)
+        if "exceptionDetails" in told:
+            thrown = told["exceptionDetails"]
+            raise Failed(thrown.get("exception", {}).get("description") or thrown["text"])
+        return told["result"].get("value")
+
+    def call(self, name, *given):
+        """What a function of the page answers."""
+        return self.run(f"{name}({', '.join(map(json.dumps, given))})")
+
+    def open(self, address):
+        """Opens a page, and waits until it is loaded."""
+        told = self.ask("Page.navigate", url=address)
+        if "errorText" in told:
+            raise Failed(f"{address}: {told['errorText']}")
+        self.run("document.readyState === 'complete' || new Promise(done => addEventListener('load', done))"
+                 ".then(() => true)")
+
+    def picture(self, selector):
+        """The bytes of a picture, as PNG, of an element that lies in the window."""
+        box = self.run(f"(({{x, y, width, height}}) => ({{x, y, width, height}}))"
+                       f"(document.querySelector({json.dumps(selector)}).getBoundingClientRect())")
+        taken = self.ask("Page.captureScreenshot", format="png", clip={**box, "scale": 1})
+        return base64.b64decode(taken["data"])
