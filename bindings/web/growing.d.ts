@@ -1,6 +1,8 @@
+import type { Kind } from './fontcut.js';
+
 export interface GrowingOptions {
-    /** 'lean' where it is not given. */
-    kind?: 'full' | 'lean';
+    /** 'lean' where it is not given. A font of the kind 'layout' grows by all characters that a text needs. */
+    kind?: Kind;
     /** Those of FontFace: weight, style and the like. */
     descriptors?: FontFaceDescriptors;
 }

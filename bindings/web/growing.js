@@ -5,9 +5,13 @@
 //     const font = new GrowingFont('Wenkai', '/LXGWWenKai-Regular.ttf');
 //     await font.add('漢字');                  // fetches a cut for what is missing, and joins it to what is there
 //
-// The server answers `?unicodes=6F22,5B57&lean=1` with the cut for these code points, as examples/server does.
+// The server answers `?unicodes=6F22,5B57&lean=1` with the lean cut for these code points, as examples/server does, and
+// `&kind=layout` in the place of `&lean=1` with the layout cut. That grows by all characters that a text needs.
 import { init, join } from './fontcut.js';
+import { needed } from './needed.js';
 
+// By its name what a query says of each kind of cut.
+const QUERIES = new Map([['full', ''], ['lean', '&lean=1'], ['layout', '&kind=layout']]);
 const MOST_RANGES = 500; // of one request, so that its query stays below 8,000 characters
 
 const isSurrogate = (code) => code >= 0xD800 && code <= 0xDFFF;
@@ -38,8 +42,8 @@ export class GrowingFont {
 
     /** `url` is where cuts of the font are fetched; `descriptors` are those of FontFace. */
     constructor(family, url, { kind = 'lean', descriptors = {} } = {}) {
-        if (kind !== 'full' && kind !== 'lean') {
-            throw new RangeError(`fontcut: no kind of cut: ${kind}: it is full or lean`);
+        if (!QUERIES.has(kind)) {
+            throw new RangeError(`fontcut: no kind of cut: ${kind}: it is full, lean or layout`);
         }
         this.#family = family;
         this.#url = String(url);
@@ -63,7 +67,8 @@ export class GrowingFont {
     }
 
     async #grow(text) {
-        const codes = [...new Set(Array.from(text, (character) => character.codePointAt(0)))];
+        const characters = new Set(this.#kind === 'layout' ? needed(text) : text);
+        const codes = Array.from(characters, (character) => character.codePointAt(0));
         const missing = codes.filter((code) => !this.#known.has(code) && !isSurrogate(code)).sort((a, b) => a - b);
         if (!missing.length) {
             return;
@@ -85,7 +90,7 @@ export class GrowingFont {
     }
 
     async #fetchedOne(words) {
-        const query = `unicodes=${words.join(',')}${this.#kind === 'lean' ? '&lean=1' : ''}`;
+        const query = `unicodes=${words.join(',')}${QUERIES.get(this.#kind)}`;
         const url = `${this.#url}${this.#url.includes('?') ? '&' : '?'}${query}`;
         const answer = await fetch(url);
         if (!answer.ok) {

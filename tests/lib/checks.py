@@ -143,6 +143,16 @@ def built_library(*words):
     return ran.stdout.splitlines()
 
 
+def built_package():
+    """Builds the package for browsers and node where it is not built yet, which takes a minute and `wasm-opt`, and
+    returns its folder. Where it cannot be built, the script ends here."""
+    status, told, err = run(os.path.join(TOP, "bindings", "web", "build"), timeout=1500)
+    check("the package for browsers is built", status == 0, err.decode())
+    if status:
+        end()
+    return os.path.dirname(told.decode().strip())
+
+
 def run(*words, **how):
     """Runs a program: its status, standard output and standard error. One that still runs after minutes is stuck, on a
     busy machine too."""

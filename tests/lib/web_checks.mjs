@@ -9,6 +9,7 @@ import { Worker } from 'node:worker_threads';
 const [place, path, otherPath] = process.argv.slice(2);
 const fontcut = await import(pathToFileURL(`${place}/fontcut.js`));
 const { GrowingFont } = await import(pathToFileURL(`${place}/growing.js`));
+const { needed } = await import(pathToFileURL(`${place}/needed.js`));
 const [bytes, otherBytes] = await Promise.all([readFile(path), readFile(otherPath)]);
 const cutFor = (text, kind = 'lean', font = bytes) => fontcut.subset(font, { text, kind });
 const freed = { message: 'fontcut: the font was freed' };
@@ -181,7 +182,8 @@ class Page {
         if (this.fails === 'network') {
             throw new TypeError('fetch failed');
         }
-        const query = new URL(url, 'http://localhost').searchParams, kind = query.get('lean') ? 'lean' : 'full';
+        const query = new URL(url, 'http://localhost').searchParams;
+        const kind = query.get('kind') ?? (query.get('lean') ? 'lean' : 'full');
         if (this.fails === 'status') {
             return new Response('', { status: 503 });
         }
@@ -199,14 +201,15 @@ class Page {
 
 const growing = {
     'the font is the cut for all text so far, of each kind': async () => {
-        for (const kind of ['lean', 'full']) {
+        for (const [kind, query] of [['lean', '&lean=1'], ['full', ''], ['layout', '&kind=layout']]) {
             const page = new Page(), font = new GrowingFont('Grown', '/font.ttf?version=1', { kind });
             for (const text of ['Hello', 'Hello, world', 'ABC']) {
                 await font.add(text);
             }
             page.shows(cutFor('Hello, worldABC', kind));
             assert.deepEqual(font.bytes, page.shown[0].data);
-            assert.equal(page.asked[0], `/font.ttf?version=1&unicodes=48,65,6C,6F${kind === 'lean' ? '&lean=1' : ''}`);
+            const first = kind === 'layout' ? '20,48,65,6C,6F' : '48,65,6C,6F';
+            assert.equal(page.asked[0], `/font.ttf?version=1&unicodes=${first}${query}`);
             await font.add('dlrow');
             assert.equal(page.asked.length, 3);
         }
@@ -279,8 +282,27 @@ const growing = {
         assert.ok(page.asked.every((url) => url.length < 8000));
     },
 
+    'a font of layout cuts grows by all that a text needs': async () => {
+        const page = new Page(), font = new GrowingFont('Grown', '/font.ttf', { kind: 'layout' });
+        for (const text of ['e\u0301', '\u0434\u2011', 'Ae']) {
+            await font.add(text);
+        }
+        page.shows(cutFor('Ae\u0301\u00E9\u25CC \u0434\u2011\u2010-', 'layout'));
+        assert.ok(page.asked.every((url) => url.endsWith('&kind=layout')));
+        assert.equal(page.asked.length, 3);
+    },
+
+    'lone surrogates are passed over': async () => {
+        for (const kind of ['lean', 'layout']) {
+            const page = new Page(), font = new GrowingFont('Grown', '/font.ttf', { kind });
+            await font.add('\uD800 \uDC00a');
+            page.shows(cutFor(' a', kind));
+        }
+        assert.equal(needed('\uD800'), '');
+    },
+
     'a kind that is none is refused': () => {
-        for (const kind of ['thin', 'layout']) {
+        for (const kind of ['thin', 'Layout', '', null]) {
             assert.throws(() => new GrowingFont('Grown', '/font.ttf', { kind }), RangeError);
         }
     },
