@@ -1,0 +1,96 @@
+#!/usr/bin/env python3
+"""Serves the pages of this folder on loopback, with the package for browsers and cuts of fonts by examples/server.
+
+In a checkout the package and the library for C are built where they are not built yet. `--package` names the folder of
+a package that is there, and the variable FONTCUT_LIBRARY a library.
+"""
+import argparse
+import mimetypes
+import os
+import socketserver
+import subprocess
+import sys
+import tempfile
+import wsgiref.simple_server
+import wsgiref.util
+
+HERE = os.path.dirname(os.path.realpath(__file__))
+TOP = os.path.dirname(os.path.dirname(HERE))
+FONTS = {"/usr/share/fonts/truetype/lxgw-wenkai/LXGWWenKai-Regular.ttf": "fonts-lxgw-wenkai",
+         "/usr/share/fonts/truetype/noto/NotoNaskhArabic-Regular.ttf": "fonts-noto-core"}
+
+
+class Server(socketserver.ThreadingMixIn, wsgiref.simple_server.WSGIServer):
+    """Answers each request in a thread of its own."""
+
+    daemon_threads = True
+
+
+class Quiet(wsgiref.simple_server.WSGIRequestHandler):
+    """Says nothing of requests."""
+
+    def log_message(self, *_):
+        pass
+
+
+def built(*path):
+    """The lines that a script prints which builds something where that is not built yet."""
+    return subprocess.run([os.path.join(TOP, *path)], stdout=subprocess.PIPE, check=True, text=True).stdout.splitlines()
+
+
+def cuts_of(folder):
+    """The application of examples/server over the fonts of the pages."""
+    if "FONTCUT_LIBRARY" not in os.environ:
+        os.environ["FONTCUT_LIBRARY"] = built("bindings", "c", "build")[1]
+    sys.path[:0] = [os.path.join(TOP, "bindings", "python"), os.path.join(TOP, "examples", "server")]
+    import app
+    for path, package in FONTS.items():
+        if os.path.exists(path):
+            os.symlink(path, os.path.join(folder, os.path.basename(path)))
+        else:
+            print(f"Debian's package {package} is not installed", file=sys.stderr)
+    return app.Application(folder)
+
+
+class Site:
+    """The WSGI application: cuts below /fonts, the package below /package, and the pages."""
+
+    def __init__(self, cuts, package):
+        self.cuts = cuts
+        self.folders = {"package": package, "": HERE}
+
+    def __call__(self, environ, start_response):
+        folder, _, name = environ["PATH_INFO"].lstrip("/").rpartition("/")
+        if folder == "fonts":
+            wsgiref.util.shift_path_info(environ)
+            return self.cuts(environ, start_response)
+        path = os.path.join(self.folders.get(folder, os.devnull), name or "index.html")
+        if not os.path.isfile(path):
+            start_response("404 Not Found", [("Content-Type", "text/plain")])
+            return [b"there is no such file\n"]
+        with open(path, "rb") as opened:
+            data = opened.read()
+        start_response("200 OK", [("Content-Type", mimetypes.guess_type(path)[0] or "application/octet-stream")])
+        return [data]
+
+
+def main():
+    parser = argparse.ArgumentParser(description="Serves the pages of this folder on loopback.")
+    parser.add_argument("--port", type=int, default=8000, help="8000 where none is given, and 0 for one that is free")
+    parser.add_argument("--package", help="the folder of the package for browsers")
+    words = parser.parse_args()
+    mimetypes.add_type("text/javascript", ".js")
+    mimetypes.add_type("application/wasm", ".wasm")
+    package = words.package or os.path.dirname(built("bindings", "web", "build")[0])
+    with tempfile.TemporaryDirectory() as folder:
+        site = Site(cuts_of(folder), package)
+        with wsgiref.simple_server.make_server("127.0.0.1", words.port, site, Server, Quiet) as server:
+            print(f"http://127.0.0.1:{server.server_port}/", flush=True)
+            server.serve_forever()
+
+
+if __name__ == "__main__":
+    try:
+        main()
+    except KeyboardInterrupt:
+        pass
