@@ -55,12 +55,13 @@ def harfbuzz():
     return ran.stdout.split() if ran.returncode == 0 else None
 
 
-def compiled_calls(folder, library):
-    """Compiles benches/in_process.c over the static library, with HarfBuzz where that can be had."""
-    source = os.path.join(BENCHES, "in_process.c")
+def compiled_calls(folder, library, name="in_process.c"):
+    """Compiles a program of benches/ that includes in_memory.h over the static library, with HarfBuzz where that can be
+    had."""
     words = harfbuzz()
     words = ["-DNO_HARFBUZZ"] if words is None else words
-    return compiled(folder, source, "-std=c99", "-D_GNU_SOURCE", f"-I{os.path.join(TOP, 'include')}", library,
+    header = f"-I{os.path.join(TOP, 'include')}"
+    return compiled(folder, os.path.join(BENCHES, name), "-std=c99", "-D_GNU_SOURCE", header, library,
                     "-Wl,--wrap=malloc,--wrap=realloc,--wrap=free", *words)
 
 
@@ -70,12 +71,18 @@ def put_ranges(path, ranges):
         out.writelines(f"{first:X}-{last:X}\n" for first, last in ranges)
 
 
-def calls_in_turn(calls, font, ranges, milliseconds, least):
-    """Runs benches/in_process.c, the program at `calls`, over a font and a file of ranges. Returns what each way took,
-    by its name: `cut`, `lean`, `hb` and `copy`. A way that fails is left out."""
-    status, lines, err = run(calls, font, ranges, str(milliseconds), str(least), timeout=3600)
+def called(calls, words, milliseconds, least):
+    """Runs a program that includes in_memory.h, that at `calls`, over these words. Returns what each way took, by its
+    name. A way that fails is left out."""
+    status, lines, err = run(calls, *words, str(milliseconds), str(least), timeout=3600)
     if status:
-        raise RuntimeError(f"{font}: status {status}: {err.decode(errors='replace')}")
+        raise RuntimeError(f"{words[0]}: status {status}: {err.decode(errors='replace')}")
     rows = [line.split() for line in lines.decode().splitlines()]
     return {name: Called(int(size), int(low) / 1e6, int(median) / 1e6, int(held))
             for name, size, low, median, _, held in rows}
+
+
+def calls_in_turn(calls, font, ranges, milliseconds, least):
+    """Runs benches/in_process.c or benches/layout_in_process.c, the program at `calls`, over a font and a file of
+    ranges."""
+    return called(calls, [font, ranges], milliseconds, least)
