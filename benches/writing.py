@@ -1,10 +1,10 @@
-"""What ./bench writes: docs/PERFORMANCE.md by its template, and sections of it."""
+"""What ./bench writes: docs/PERFORMANCE.md by its template, sections of it, and the table of the README."""
 import os
 import string
 
 from checks import TOP, check
 
-DOCS = os.path.join(TOP, "docs")
+DOCS, README = os.path.join(TOP, "docs"), os.path.join(TOP, "README.md")
 
 
 def read(path):
@@ -46,3 +46,12 @@ def replace_sections(folder, made):
         check(f"the document has a section: {title}", old)
         text = before + section + after if old else text
     put_text(path, text)
+
+
+def replace_taken(table):
+    """Replaces the table in the README that says what to take, which has the same first title."""
+    text, first_title = read(README), table[:table.index("|", 1) + 1]
+    before, old, after = text.partition(first_title)
+    check("the README has a table that says what to take", old)
+    if old:
+        put_text(README, before + table + "\n\n" + after.partition("\n\n")[2])
