@@ -2,26 +2,24 @@
  *
  *     laws COUNT SEED FONT..
  *
- * Each of COUNT cases takes one of the fonts, changes it or leaves it as it is, and asks of both kinds of cuts:
- * what a file is refused with, every call refuses it with; an answer given twice is the same; the size that is
- * told is that of the cut; a room that is too small stays as it was; a cut is a cut, in today's form, and of its
- * font; joins of cuts are the cut for the union of their sets, in any order and grouping and with any of them
- * twice; the cut of a cut is the cut of the font; a join of files that nobody cut has both as its cuts, or the same
- * refusal in both orders. A case that breaks a law is printed, with the law and the font. The last line counts the
- * cases, the laws that held and those that did not. */
+ * Each of COUNT cases takes one of the fonts, changes it or leaves it as it is, and asks of all kinds of cuts: what a
+ * file is refused with, every call refuses it with; an answer given twice is the same; the size that is told is that
+ * of the cut; a room that is too small stays as it was; a cut is a cut, in today's form, and of its font; joins of
+ * cuts are the cut for the union of their sets, in any order and grouping and with any of them twice; the cut of a cut
+ * is the cut of the font; a join of files that nobody cut is refused with the first reason that there is, or has both
+ * as its cuts and lies in each font that has both. Between kinds: a lean cut is that of each other cut of the font, and
+ * without tables of layout a layout cut is the lean one. A case that breaks a law is printed, with the law and the
+ * font. The last lines count the cases, the laws that held of each kind, and those that did not. */
 #include "fontcut.h"
 #include "files.h"
+#include "font_changes.h"
 
 #include <inttypes.h>
-#include <stdio.h>
 
-enum { GUARD = 64, FILL = 0xA5, SETS = 3, RANGES = 8, CHANGES = 9, TABLES = 64 };
+enum { GUARD = 64, FILL = 0xA5, SETS = 3, RANGES = 8, KINDS = 3 };
+static const char *const kind_names[KINDS] = {"full", "lean", "layout"};
 static const fontcut_range every_code = {0, 0x10FFFF};
-
-typedef struct bytes {
-    uint8_t *at;
-    size_t length;
-} bytes;
+static const fontcut_answer done = {FONTCUT_DONE, 0, 0, 0};
 
 typedef struct set {
     fontcut_range ranges[SETS * RANGES];
@@ -36,49 +34,29 @@ typedef struct font {
 } font;
 
 typedef struct counts {
-    uint64_t held, broken, accepted, refused, joined, differing;
+    uint64_t held[KINDS], broken, accepted, refused, without_layout, linked, joined, differing;
 } counts;
 
 static counts seen;
-static uint64_t state, trial;
+static uint64_t trial;
 static const char *trial_font;
-
-/* The next number of a sequence that the seed and the number of the case decide (splitmix64). */
-static uint64_t chance(uint64_t below)
-{
-    uint64_t z = state += 0x9E3779B97F4A7C15u;
-    z = (z ^ (z >> 30)) * 0xBF58476D1CE4E5B9u;
-    z = (z ^ (z >> 27)) * 0x94D049BB133111EBu;
-    z ^= z >> 31;
-    return below ? z % below : 0;
-}
-
-static void *room_of(size_t size)
-{
-    void *at = malloc(size ? size : 1);
-    if (!at) {
-        fprintf(stderr, "laws: no memory\n");
-        exit(3);
-    }
-    return at;
-}
 
 static void holds(int is_so, fontcut_kind kind, const char *law)
 {
-    seen.held += is_so != 0;
+    seen.held[kind] += is_so != 0;
     seen.broken += is_so == 0;
     if (!is_so)
-        printf("case %" PRIu64 ", %s, %s cuts: %s\n", trial, trial_font, kind == FONTCUT_LEAN ? "lean" : "full", law);
+        printf("case %" PRIu64 ", %s, %s cuts: %s\n", trial, trial_font, kind_names[kind], law);
 }
 
 static int same_answer(fontcut_answer a, fontcut_answer b)
 {
-    return a.status == b.status && a.detail == b.detail && a.size == b.size;
+    return a.status == b.status && a.detail == b.detail && a.size == b.size && a.step == b.step;
 }
 
 static int same_bytes(bytes a, bytes b)
 {
-    return a.length == b.length && memcmp(a.at, b.at, a.length) == 0;
+    return a.at && b.at && a.length == b.length && memcmp(a.at, b.at, a.length) == 0;
 }
 
 static int is_filled(const uint8_t *at, size_t length)
@@ -87,171 +65,6 @@ static int is_filled(const uint8_t *at, size_t length)
         if (at[i] != FILL)
             return 0;
     return 1;
-}
-
-static bytes copied(bytes file)
-{
-    bytes made = {room_of(file.length), file.length};
-    memcpy(made.at, file.at, file.length);
-    return made;
-}
-
-/* --- Numbers and tables of a font file ------------------------------------------------------------------------ */
-
-static uint32_t number_at(bytes file, size_t at, unsigned width)
-{
-    uint32_t number = 0;
-    for (unsigned i = 0; i < width; i++)
-        number = number << 8 | (at + i < file.length ? file.at[at + i] : 0);
-    return number;
-}
-
-static void put_number(bytes file, size_t at, unsigned width, uint32_t number)
-{
-    for (unsigned i = 0; i < width; i++)
-        if (at + i < file.length)
-            file.at[at + i] = (uint8_t)(number >> 8 * (width - 1 - i));
-}
-
-static size_t table_count(bytes file)
-{
-    size_t count = number_at(file, 4, 2);
-    return count < TABLES ? count : TABLES;
-}
-
-/* The place and length of a table, of which the record is the one of this tag, or of no bytes where there is none. */
-static size_t table_at(bytes file, const char *tag, size_t *length)
-{
-    for (size_t record = 12; record < 12 + 16 * table_count(file); record += 16)
-        if (record + 16 <= file.length && memcmp(file.at + record, tag, 4) == 0) {
-            size_t offset = number_at(file, record + 8, 4);
-            *length = number_at(file, record + 12, 4);
-            if (offset <= file.length && *length <= file.length - offset)
-                return offset;
-        }
-    *length = 0;
-    return 0;
-}
-
-/* --- Changes ---------------------------------------------------------------------------------------------------- */
-
-/* A number near another one, or one of those at which rules change. */
-static uint32_t near(uint32_t number)
-{
-    static const uint32_t edges[] = {0, 1, 2, 0x7FFF, 0x8000, 0xFFFF, 0x10000, 0x7FFFFFFF, 0xFFFFFFFF};
-    switch (chance(4)) {
-    case 0: return number + 1;
-    case 1: return number - 1;
-    case 2: return (uint32_t)chance(0x100000000u);
-    default: return edges[chance(sizeof edges / sizeof *edges)];
-    }
-}
-
-/* Changes a few bytes of one table. */
-static void change_bytes(bytes file)
-{
-    size_t record = 12 + 16 * chance(table_count(file));
-    size_t offset = number_at(file, record + 8, 4), length = number_at(file, record + 12, 4);
-    for (uint64_t left = 1 + chance(4); left && length; left--) {
-        size_t at = offset + chance(length);
-        if (at < file.length)
-            file.at[at] = (uint8_t)chance(256);
-    }
-}
-
-/* Changes a field that other tables depend on. */
-static void change_field(bytes file)
-{
-    static const struct {
-        const char *tag;
-        unsigned at, width;
-    } fields[] = {{"head", 0, 4},  {"head", 12, 4}, {"head", 18, 2}, {"head", 50, 2}, {"hhea", 34, 2}, {"maxp", 0, 4},
-                  {"maxp", 4, 2},  {"post", 0, 4},  {"vhea", 34, 2}, {"vhea", 0, 4},  {"cmap", 2, 2},  {"cmap", 4, 4},
-                  {"cmap", 8, 4},  {"cmap", 12, 4}, {"OS/2", 0, 2},  {"hhea", 0, 4}};
-    size_t which = chance(sizeof fields / sizeof *fields), length;
-    size_t at = table_at(file, fields[which].tag, &length) + fields[which].at;
-    if (length >= fields[which].at + fields[which].width)
-        put_number(file, at, fields[which].width, near(number_at(file, at, fields[which].width)));
-}
-
-/* How many bytes an entry of `loca` has, and how many entries there are. */
-static unsigned loca_width(bytes file, size_t *loca, size_t *entries)
-{
-    size_t length, head = table_at(file, "head", &length);
-    unsigned width = length >= 52 && number_at(file, head + 50, 2) ? 4 : 2;
-    *loca = table_at(file, "loca", &length);
-    *entries = length / width;
-    return width;
-}
-
-/* Makes a glyph empty, longer or shorter, or its offset a bad one. */
-static void change_offset(bytes file)
-{
-    size_t loca, entries;
-    unsigned width = loca_width(file, &loca, &entries);
-    if (entries < 3)
-        return;
-    size_t glyph = 1 + chance(entries - 2), at = loca + width * glyph;
-    uint32_t before = number_at(file, at - width, width), after = number_at(file, at + width, width);
-    uint32_t offset = number_at(file, at, width);
-    uint32_t others[] = {before, after, before + (after - before) / 2, offset + 2, offset + 1, near(offset)};
-    put_number(file, at, width, others[chance(sizeof others / sizeof *others)]);
-}
-
-/* Changes the first bytes of a glyph's record: its number of contours, its bounds, a flag or a component's glyph. */
-static void change_record(bytes file)
-{
-    size_t loca, entries, length, glyf = table_at(file, "glyf", &length);
-    unsigned width = loca_width(file, &loca, &entries);
-    if (entries < 2 || length < 2)
-        return;
-    size_t place = number_at(file, loca + width * chance(entries - 1), width) * (width == 2 ? 2 : 1);
-    static const size_t parts[] = {0, 2, 10, 12, 14, 16, 18};
-    size_t at = place + parts[chance(sizeof parts / sizeof *parts)];
-    if (at + 2 > length)
-        return;
-    static const uint32_t values[] = {0xFFFF, 0, 1, 0x20, 0x8, 0x40, 0x80, 0x22};
-    put_number(file, glyf + at, 2, chance(2) ? values[chance(8)] : (uint32_t)chance(0x200));
-}
-
-/* Changes a 16-bit number of the mapping. */
-static void change_mapping(bytes file)
-{
-    size_t length, cmap = table_at(file, "cmap", &length);
-    if (length >= 8) {
-        size_t at = cmap + 2 * chance(length / 2);
-        put_number(file, at, 2, near(number_at(file, at, 2)));
-    }
-}
-
-/* Changes a number of the metrics. */
-static void change_metrics(bytes file)
-{
-    size_t length, at = table_at(file, chance(2) ? "hmtx" : "vmtx", &length);
-    if (length >= 2)
-        put_number(file, at + 2 * chance(length / 2), 2, (uint32_t)chance(0x10000));
-}
-
-/* Changes one number of a table's record, or gives a table another tag. */
-static void change_record_of_table(bytes file)
-{
-    size_t record = 12 + 16 * chance(table_count(file)), at = record + 4 * chance(4);
-    put_number(file, at, 4, near(number_at(file, at, 4)));
-}
-
-/* A copy of a file with one change, or none. */
-static bytes changed(bytes file)
-{
-    static void (*const changes[CHANGES])(bytes) = {NULL, NULL, change_bytes, change_field, change_offset,
-                                                    change_record, change_mapping, change_metrics,
-                                                    change_record_of_table};
-    bytes made = copied(file);
-    uint64_t which = chance(CHANGES + 1);
-    if (which == CHANGES)
-        made.length = chance(8) ? made.length - chance(made.length < 64 ? made.length : 64) : chance(made.length);
-    else if (changes[which] && made.length >= 28)
-        changes[which](made);
-    return made;
 }
 
 /* --- Sets ------------------------------------------------------------------------------------------------------- */
@@ -278,7 +91,7 @@ static set both(set a, set b)
     return a;
 }
 
-/* --- Laws ------------------------------------------------------------------------------------------------------- */
+/* --- Calls ------------------------------------------------------------------------------------------------------ */
 
 /* Room of some bytes between guards, all of it filled. */
 static uint8_t *guarded(size_t room)
@@ -288,9 +101,11 @@ static uint8_t *guarded(size_t room)
     return at + GUARD;
 }
 
+/* Frees such room, if there is one. */
 static void let_go(uint8_t *at)
 {
-    free(at - GUARD);
+    if (at)
+        free(at - GUARD);
 }
 
 /* The cut of a file for a set; the laws of one cut are asked meanwhile. There are no bytes where it is refused. */
@@ -343,9 +158,8 @@ static void is_join(fontcut_kind kind, const bytes *files, size_t count, bytes w
 {
     fontcut_answer answer;
     bytes made = join_of(kind, files, count, &answer);
-    holds(made.at && same_bytes(made, wanted), kind, law);
-    if (made.at)
-        let_go(made.at);
+    holds(same_bytes(made, wanted), kind, law);
+    let_go(made.at);
 }
 
 static int is_cut_of(fontcut_kind kind, bytes cut, bytes of)
@@ -360,12 +174,22 @@ static int form_of(fontcut_kind kind, bytes file)
     return answer.status == FONTCUT_DONE ? (int)answer.detail : FONTCUT_NO_CUT;
 }
 
-/* The laws of cuts for three sets, and of their joins. */
+/* What a file is refused with for cuts of a kind: as a font, or else, for layout cuts, for its tables of layout. */
+static fontcut_answer refusal_of(fontcut_kind kind, bytes file)
+{
+    fontcut_answer font = fontcut_check(file.at, file.length);
+    if (kind != FONTCUT_LAYOUT || font.status != FONTCUT_DONE)
+        return font;
+    fontcut_answer form = fontcut_cut_form(kind, file.at, file.length);
+    return form.status == FONTCUT_DONE ? done : form;
+}
+
+/* --- Laws of one kind ------------------------------------------------------------------------------------------- */
+
+/* The laws of cuts for three sets, none of which is too large, and of their joins. */
 static void ask_joins(fontcut_kind kind, bytes of, const set *sets, const bytes *cuts)
 {
     bytes two = cut_of(kind, of, both(sets[0], sets[1])), all = cut_of(kind, of, both(both(sets[0], sets[1]), sets[2]));
-    if (!all.at || !two.at)
-        return;
     is_join(kind, (bytes[]){cuts[0], cuts[1]}, 2, two, "the join of two cuts is the cut for both sets");
     is_join(kind, (bytes[]){cuts[1], cuts[0]}, 2, two, "in the other order too");
     is_join(kind, (bytes[]){cuts[0], cuts[1], cuts[0]}, 3, two, "and with one of them twice");
@@ -374,11 +198,10 @@ static void ask_joins(fontcut_kind kind, bytes of, const set *sets, const bytes 
     is_join(kind, (bytes[]){cuts[2], two}, 2, all, "and from the back");
     is_join(kind, (bytes[]){all, cuts[1]}, 2, all, "what is in a join already changes nothing");
     bytes again = cut_of(kind, all, sets[1]);
-    holds(again.at && same_bytes(again, cuts[1]), kind, "the cut of a cut is the cut of the font");
+    holds(same_bytes(again, cuts[1]), kind, "the cut of a cut is the cut of the font");
     let_go(all.at);
     let_go(two.at);
-    if (again.at)
-        let_go(again.at);
+    let_go(again.at);
 }
 
 /* The laws of an accepted font; its cuts for the sets are left to the caller, and are none where one is too large. */
@@ -392,91 +215,231 @@ static void ask_font(fontcut_kind kind, bytes of, const set *sets, bytes *cuts)
     if (!is_cut)
         return;
     for (int i = 0; i < SETS; i++) {
-        fontcut_answer accepted = fontcut_check(cuts[i].at, cuts[i].length);
-        holds(accepted.status == FONTCUT_DONE, kind, "a cut is accepted");
+        holds(refusal_of(kind, cuts[i]).status == FONTCUT_DONE, kind, "a cut is accepted");
         holds(form_of(kind, cuts[i]) == FONTCUT_CURRENT_CUT, kind, "a cut is a cut in today's form");
         holds(is_cut_of(kind, cuts[i], of), kind, "a cut is a cut of its font");
     }
     ask_joins(kind, of, sets, cuts);
 }
 
-/* The laws of the join of two files that may not be cuts of one font. */
-static void ask_pair(fontcut_kind kind, bytes x, bytes y)
+/* The first reason not to join two files that is of one of them alone: of the first one, or else of the second one. */
+static fontcut_answer join_refusal(fontcut_kind kind, bytes x, bytes y)
 {
-    fontcut_answer there, back;
+    const bytes files[] = {x, y};
+    for (uint64_t step = 0; step < 2; step++) {
+        fontcut_answer refusal = refusal_of(kind, files[step]);
+        if (refusal.status == FONTCUT_DONE && form_of(kind, files[step]) == FONTCUT_NO_CUT)
+            refusal.status = FONTCUT_NOT_A_CUT;
+        if (refusal.status != FONTCUT_DONE) {
+            refusal.step = step;
+            return refusal;
+        }
+    }
+    return done;
+}
+
+static int is_difference(fontcut_answer answer)
+{
+    return answer.status >= FONTCUT_DIFFERENT_TABLE && answer.status <= FONTCUT_DIFFERENT_GLYPH && answer.step == 1;
+}
+
+/* Whether a table is in one of two files alone, or not the same in both. */
+static int tables_differ(bytes x, bytes y, const char *tag)
+{
+    size_t lengths[2], in_x = table_at(x, tag, lengths), in_y = table_at(y, tag, lengths + 1);
+    return tables_of(x, tag) != tables_of(y, tag) || lengths[0] != lengths[1]
+        || memcmp(x.at + in_x, y.at + in_y, lengths[0]) != 0;
+}
+
+/* Whether two fonts, which are accepted, have another outline of a glyph, or other metrics. */
+static int glyphs_differ(bytes x, bytes y, uint16_t glyph)
+{
+    size_t lengths[2], in_x = outline_at(x, glyph, lengths), in_y = outline_at(y, glyph, lengths + 1);
+    fontcut_metric metrics[2] = {{0, 0}, {0, 0}};
+    fontcut_metrics(x.at, x.length, &glyph, 1, metrics, 1);
+    fontcut_metrics(y.at, y.length, &glyph, 1, metrics + 1, 1);
+    return lengths[0] != lengths[1] || memcmp(x.at + in_x, y.at + in_y, lengths[0]) != 0
+        || memcmp(metrics, metrics + 1, sizeof *metrics) != 0 || tables_differ(x, y, "vmtx");
+}
+
+/* Whether two fonts, which are accepted, differ in what a refusal of their join names. What of the metrics belongs to
+ * single glyphs, and is not compared with their table, goes by how many glyphs there are, which `maxp` says. */
+static int do_differ(bytes x, bytes y, fontcut_answer refusal)
+{
+    uint32_t named = refusal.detail;
+    if (refusal.status == FONTCUT_DIFFERENT_TABLE) {
+        char tag[TAG + 1] = {(char)(named >> 24), (char)(named >> 16), (char)(named >> 8), (char)named, 0};
+        return tables_differ(x, y, tag) || (memcmp(tag + 1, "mtx", 3) == 0 && tables_differ(x, y, "maxp"));
+    }
+    if (refusal.status == FONTCUT_DIFFERENT_GLYPH)
+        return glyphs_differ(x, y, (uint16_t)named);
+    uint16_t glyphs[2] = {0, 0};
+    fontcut_glyphs(x.at, x.length, &named, 1, glyphs, 1);
+    fontcut_glyphs(y.at, y.length, &named, 1, glyphs + 1, 1);
+    return glyphs[0] && glyphs[1] && glyphs[0] != glyphs[1];
+}
+
+/* The laws of the join of two files, of which a font may have none, one or both as its cuts. */
+static void ask_join(fontcut_kind kind, bytes x, bytes y, bytes join, bytes above)
+{
+    holds(form_of(kind, join) == FONTCUT_CURRENT_CUT, kind, "a join is a cut in today's form");
+    holds(is_cut_of(kind, x, join) && is_cut_of(kind, y, join), kind, "both files are cuts of their join");
+    is_join(kind, (bytes[]){join, x}, 2, join, "a join takes its own files in without a change");
+    if (is_cut_of(kind, x, above) && is_cut_of(kind, y, above))
+        holds(is_cut_of(kind, join, above), kind, "of a font that has both files as its cuts the join is one too");
+}
+
+/* The laws of the join of two files that may not be cuts of one font. */
+static void ask_pair(fontcut_kind kind, bytes x, bytes y, bytes above)
+{
+    fontcut_answer there, back, alone = join_refusal(kind, x, y);
     bytes z = join_of(kind, (bytes[]){x, y}, 2, &there), w = join_of(kind, (bytes[]){y, x}, 2, &back);
     holds((z.at != NULL) == (w.at != NULL), kind, "files join in both orders or in none");
     seen.joined += z.at != NULL;
-    seen.differing += there.status >= FONTCUT_DIFFERENT_TABLE && there.status <= FONTCUT_DIFFERENT_GLYPH;
-    if (z.at && w.at) {
+    seen.differing += is_difference(there);
+    if (alone.status != FONTCUT_DONE)
+        holds(same_answer(there, alone), kind, "files that are no cuts are refused with the first reason there is");
+    else if (z.at && w.at) {
         holds(same_bytes(z, w), kind, "and give the same file");
-        holds(form_of(kind, z) == FONTCUT_CURRENT_CUT, kind, "a join is a cut in today's form");
-        holds(is_cut_of(kind, x, z) && is_cut_of(kind, y, z), kind, "both files are cuts of their join");
-        is_join(kind, (bytes[]){z, x}, 2, z, "a join takes its own files in without a change");
-    } else if (there.status >= FONTCUT_DIFFERENT_TABLE && there.status <= FONTCUT_DIFFERENT_GLYPH) {
-        holds(same_answer(there, back), kind, "files that differ are refused with the same difference in both orders");
+        ask_join(kind, x, y, z, above);
+    } else {
+        holds(is_difference(there) && same_answer(there, back), kind,
+              "cuts that differ are refused with the same difference in both orders");
+        holds(do_differ(x, y, there), kind, "and do differ in what is named");
     }
-    if (z.at)
-        let_go(z.at);
-    if (w.at)
-        let_go(w.at);
+    let_go(z.at);
+    let_go(w.at);
 }
 
 /* What a file is refused with, each call refuses it with. */
 static void ask_refused(fontcut_kind kind, bytes file, set wanted, fontcut_answer refusal)
 {
     uint8_t out[GUARD];
+    uint64_t count = wanted.count, size;
     memset(out, FILL, sizeof out);
+    memset(&size, FILL, sizeof size);
     fontcut_bytes list = {file.at, file.length};
     holds(same_answer(fontcut_subset_size(kind, file.at, file.length, wanted.ranges, wanted.count), refusal)
               && same_answer(fontcut_subset(kind, file.at, file.length, wanted.ranges, wanted.count, out, GUARD),
                              refusal)
+              && same_answer(fontcut_cuts(kind, file.at, file.length, wanted.ranges, wanted.count, &count, 1, out,
+                                          GUARD, &size, 1), refusal)
               && same_answer(fontcut_cut_form(kind, file.at, file.length), refusal)
               && same_answer(fontcut_belongs(kind, file.at, file.length, file.at, file.length), refusal)
               && same_answer(fontcut_join(kind, &list, 1, out, GUARD), refusal),
           kind, "each call refuses a file alike");
-    holds(is_filled(out, GUARD), kind, "a refusal leaves the room as it was");
+    holds(is_filled(out, GUARD) && is_filled((const uint8_t *)&size, sizeof size), kind,
+          "a refusal leaves the room as it was");
+}
+
+/* The laws of a changed cut, and of the cut for all codes of what came of the change, beside another cut. */
+static void ask_hostile(fontcut_kind kind, bytes hostile, bytes other, bytes above)
+{
+    ask_pair(kind, hostile, other, above);
+    if (refusal_of(kind, hostile).status != FONTCUT_DONE)
+        return;
+    holds(is_cut_of(kind, hostile, hostile) == (form_of(kind, hostile) != FONTCUT_NO_CUT), kind,
+          "a cut belongs to itself, and no other file does");
+    bytes recut = cut_of(kind, hostile, (set){{every_code}, 1});
+    if (recut.at)
+        ask_pair(kind, recut, other, above);
+    let_go(recut.at);
 }
 
 /* The laws of a font, of another version of it, and of a changed cut of it. */
 static void ask_all(fontcut_kind kind, bytes of, bytes version, const set *sets)
 {
-    bytes cuts[SETS], others[SETS] = {{NULL, 0}};
+    bytes cuts[SETS], of_version = {NULL, 0};
     ask_font(kind, of, sets, cuts);
-    if (fontcut_check(version.at, version.length).status == FONTCUT_DONE)
-        others[1] = cut_of(kind, version, sets[1]);
-    if (cuts[0].at) {
+    if (refusal_of(kind, version).status == FONTCUT_DONE)
+        of_version = cut_of(kind, version, sets[1]);
+    if (cuts[0].at && of_version.at)
+        ask_pair(kind, cuts[0], of_version, of);
+    /* In a layout cut there is more to change. */
+    for (int left = kind == FONTCUT_LAYOUT ? 2 : 1; cuts[0].at && left; left--) {
         bytes hostile = changed(cuts[0]);
-        if (others[1].at)
-            ask_pair(kind, cuts[0], others[1]);
-        if (fontcut_check(hostile.at, hostile.length).status == FONTCUT_DONE)
-            ask_pair(kind, hostile, others[1].at ? others[1] : cuts[0]);
+        ask_hostile(kind, hostile, of_version.at ? of_version : cuts[0], of);
         free(hostile.at);
     }
-    for (int i = 0; i < SETS; i++) {
-        if (cuts[i].at)
-            let_go(cuts[i].at);
-        if (others[i].at)
-            let_go(others[i].at);
-    }
+    for (int i = 0; i < SETS; i++)
+        let_go(cuts[i].at);
+    let_go(of_version.at);
 }
 
-/* The laws between both kinds: a lean cut is no longer than the cut, and is that of the cut for all codes. */
+/* --- Laws between kinds ----------------------------------------------------------------------------------------- */
+
+/* The laws of a full or layout cut beside the lean cut for the same set. */
+static void ask_beside_lean(fontcut_kind kind, bytes cut, bytes lean)
+{
+    bytes again = cut_of(FONTCUT_LEAN, cut, (set){{every_code}, 1});
+    holds(lean.length <= cut.length, kind, "a lean cut is no longer than the cut");
+    holds(same_bytes(again, lean), kind, "the lean cut of a cut is the lean cut of the font");
+    holds((form_of(FONTCUT_LEAN, cut) == FONTCUT_CURRENT_CUT) == same_bytes(cut, lean), kind,
+          "a cut is a lean one where it is the font's alone");
+    let_go(again.at);
+}
+
+/* The law of a font without tables of layout, which may be refused where another table lies over the directory. */
+static void ask_bare(bytes bare, set wanted)
+{
+    bytes lean = cut_of(FONTCUT_LEAN, bare, wanted), layout = cut_of(FONTCUT_LAYOUT, bare, wanted);
+    holds(lean.at ? same_bytes(lean, layout) : !layout.at, FONTCUT_LAYOUT,
+          "without tables of layout the layout cut of a font is its lean cut");
+    let_go(lean.at);
+    let_go(layout.at);
+}
+
+/* The laws of a layout cut beside the lean cut for the same set, and of the font without its tables of layout. */
+static void ask_layout(bytes of, set wanted, bytes lean)
+{
+    bytes layout = cut_of(FONTCUT_LAYOUT, of, wanted), bare = without_table(of, NULL);
+    ask_bare(bare, wanted);
+    if (layout.at) {
+        size_t kept, linked;
+        table_at(layout, "glyf", &linked);
+        table_at(lean, "glyf", &kept);
+        seen.linked += linked > kept;
+        ask_beside_lean(FONTCUT_LAYOUT, layout, lean);
+        holds((form_of(FONTCUT_FULL, layout) == FONTCUT_CURRENT_CUT) == same_bytes(layout, lean), FONTCUT_LAYOUT,
+              "a layout cut is a full one where it is a lean one alone");
+        ask_pair(FONTCUT_LAYOUT, layout, lean, of);
+        ask_pair(FONTCUT_LEAN, lean, layout, of);
+    }
+    let_go(layout.at);
+    free(bare.at);
+}
+
+/* The laws between all kinds of cuts of an accepted font, which may be refused for layout cuts. */
 static void ask_kinds(bytes of, set wanted)
 {
     bytes full = cut_of(FONTCUT_FULL, of, wanted), lean = cut_of(FONTCUT_LEAN, of, wanted);
     if (full.at && lean.at) {
-        bytes again = cut_of(FONTCUT_LEAN, full, (set){{every_code}, 1});
-        holds(lean.length <= full.length, FONTCUT_LEAN, "a lean cut is no longer than the cut");
-        holds(again.at && same_bytes(again, lean), FONTCUT_LEAN, "the lean cut of a cut is the lean cut of the font");
+        ask_beside_lean(FONTCUT_FULL, full, lean);
         holds(form_of(FONTCUT_FULL, lean) == FONTCUT_CURRENT_CUT, FONTCUT_FULL, "a lean cut is in the form of a cut");
-        if (again.at)
-            let_go(again.at);
+        ask_layout(of, wanted, lean);
     }
-    if (full.at)
-        let_go(full.at);
-    if (lean.at)
-        let_go(lean.at);
+    let_go(full.at);
+    let_go(lean.at);
+}
+
+/* The laws of a refusal of the tables of layout of a font that is accepted: it is one of theirs, and where its table is
+ * taken away it is gone. */
+static void ask_refused_layout(bytes file, fontcut_answer refusal)
+{
+    uint32_t named = refusal.status == FONTCUT_BAD_LAYOUT ? 0x47535542 : refusal.detail; /* GSUB */
+    char tag[TAG + 1] = {(char)(named >> 24), (char)(named >> 16), (char)(named >> 8), (char)named, 0};
+    size_t length;
+    table_at(file, tag, &length);
+    int is_so = refusal.status == FONTCUT_DUPLICATE_TABLE ? tables_of(file, tag) > 1
+              : refusal.status == FONTCUT_TABLE_OUT_OF_FILE ? tables_of(file, tag) == 1 && length == 0
+              : refusal.status == FONTCUT_BAD_LAYOUT && length > 0;
+    holds(is_so, FONTCUT_LAYOUT, "the table that a font is refused for is as it is said to be");
+    bytes without = without_table(file, tag);
+    fontcut_answer again = refusal_of(FONTCUT_LAYOUT, without);
+    holds(again.status != refusal.status || again.detail != refusal.detail, FONTCUT_LAYOUT,
+          "without the table that a font is refused for it is not refused so");
+    free(without.at);
+    seen.without_layout++;
 }
 
 static void ask_case(const font *of)
@@ -485,17 +448,20 @@ static void ask_case(const font *of)
     set sets[SETS];
     for (int i = 0; i < SETS; i++)
         sets[i] = some_set(of);
-    fontcut_answer accepted = fontcut_check(file.at, file.length);
-    seen.accepted += accepted.status == FONTCUT_DONE;
-    seen.refused += accepted.status != FONTCUT_DONE;
-    for (int lean = 0; lean < 2; lean++) {
-        fontcut_kind kind = lean ? FONTCUT_LEAN : FONTCUT_FULL;
-        if (accepted.status == FONTCUT_DONE)
+    int is_accepted = refusal_of(FONTCUT_FULL, file).status == FONTCUT_DONE;
+    seen.accepted += is_accepted;
+    seen.refused += !is_accepted;
+    for (int number = 0; number < KINDS; number++) {
+        fontcut_kind kind = (fontcut_kind)number;
+        fontcut_answer refusal = refusal_of(kind, file);
+        if (refusal.status == FONTCUT_DONE)
             ask_all(kind, file, version, sets);
         else
-            ask_refused(kind, file, sets[0], accepted);
+            ask_refused(kind, file, sets[0], refusal);
+        if (is_accepted && refusal.status != FONTCUT_DONE)
+            ask_refused_layout(file, refusal);
     }
-    if (accepted.status == FONTCUT_DONE)
+    if (is_accepted)
         ask_kinds(file, sets[0]);
     free(file.at);
     free(version.at);
@@ -531,8 +497,10 @@ int main(int count, char **words)
         trial_font = of->path;
         ask_case(of);
     }
-    printf("%" PRIu64 " accepted, %" PRIu64 " refused, %" PRIu64 " other joins, %" PRIu64 " with a difference\n",
-           seen.accepted, seen.refused, seen.joined, seen.differing);
-    printf("%" PRIu64 " held, %" PRIu64 " broken\n", seen.held, seen.broken);
+    printf("%" PRIu64 " accepted, %" PRIu64 " of them refused for layout cuts, %" PRIu64 " refused, %" PRIu64
+           " with glyphs that links lead to, %" PRIu64 " other joins, %" PRIu64 " with a difference\n",
+           seen.accepted, seen.without_layout, seen.refused, seen.linked, seen.joined, seen.differing);
+    printf("%" PRIu64 " of full cuts, %" PRIu64 " of lean cuts, %" PRIu64 " of layout cuts held, %" PRIu64 " broken\n",
+           seen.held[FONTCUT_FULL], seen.held[FONTCUT_LEAN], seen.held[FONTCUT_LAYOUT], seen.broken);
     return seen.broken != 0;
 }
