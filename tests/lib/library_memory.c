@@ -1,5 +1,5 @@
 /* Does each call of fontcut.h again and again, while the first, the second, .. request for memory is refused, and prints
- * for each call how many requests it makes. Words: a font, a cut of it, and a lean cut. It is linked with
+ * for each call how many requests it makes. Words: a font, and a cut of it of each kind. It is linked with
  * --wrap=malloc,--wrap=realloc. The status is 0 where each refused request was answered by FONTCUT_NO_MEMORY and left the
  * room as it was. */
 #define FONTCUT_DEPRECATED(text)
@@ -9,7 +9,7 @@
 #include <stdlib.h>
 #include <string.h>
 
-enum { ROOM = 4 * 1024 * 1024, SETS = 3, FILL = 0xA5, MOST = 1000 };
+enum { ROOM = 4 * 1024 * 1024, SETS = 3, KINDS = 3, FILL = 0xA5, MOST = 1000 };
 
 void *__real_malloc(size_t size);
 void *__real_realloc(void *at, size_t size);
@@ -36,7 +36,7 @@ void *__wrap_realloc(void *at, size_t size)
 
 static uint8_t room[ROOM];
 static uint64_t sizes[SETS];
-static fontcut_bytes files[3]; /* a font, a cut of it and a lean cut */
+static fontcut_bytes files[1 + KINDS]; /* a font, and a cut of it of each kind, in the order of their numbers */
 
 static const fontcut_range RANGES[] = {{0x41, 0x43}, {0x61, 0x61}, {0x100, 0x200}};
 
@@ -46,63 +46,68 @@ static const uint32_t CODES[] = {0x41, 0x62, 0x10FFFF};
 
 static const uint16_t GLYPHS[] = {2, 0, 1};
 
+/* The calls that take a kind, of which each is made for all kinds, and then those that take none. */
 static const char *const NAMES[] = {
-    "subset_size", "lean_subset_size", "subset",    "lean_subset",
-    "cuts",        "lean_cuts",        "cut_form",  "lean_cut_form",
-    "belongs",     "lean_belongs",     "cut_size",  "cut",
-    "is_cut",      "is_cut_of",        "join",      "lean_join",
-    "join_all",    "codes",            "check",     "glyphs",
-    "metrics",     "info",             "refusal_text",
+    "subset_size", "lean_subset_size", "layout_subset_size", "subset",  "lean_subset",  "layout_subset",
+    "cuts",        "lean_cuts",        "layout_cuts",        "belongs", "lean_belongs", "layout_belongs",
+    "cut_form",    "lean_cut_form",    "layout_cut_form",    "join",    "lean_join",    "layout_join",
+    "cut_size",    "cut",              "is_cut",             "codes",   "is_cut_of",    "join_all",
+    "check",       "glyphs",           "metrics",            "info",    "refusal_text",
 };
+enum { CALLS = sizeof NAMES / sizeof *NAMES, OF_KINDS = 6 * KINDS };
+
+/* A call of a kind, over a cut of that kind. */
+static fontcut_answer do_call_of_kind(int call)
+{
+    const uint32_t kind = (uint32_t)(call % KINDS);
+    const fontcut_bytes font = files[0], cut = files[1 + kind];
+    fontcut_bytes cuts[2];
+    cuts[0] = cuts[1] = cut;
+    switch (call / KINDS) {
+    case 0:
+        return fontcut_subset_size(kind, font.at, font.length, RANGES, 3);
+    case 1:
+        return fontcut_subset(kind, font.at, font.length, RANGES, 3, room, ROOM);
+    case 2:
+        return fontcut_cuts(kind, font.at, font.length, RANGES, 3, COUNTS, SETS, room, ROOM, sizes, SETS);
+    case 3:
+        return fontcut_belongs(kind, cut.at, cut.length, font.at, font.length);
+    case 4:
+        return fontcut_cut_form(kind, cut.at, cut.length);
+    default:
+        return fontcut_join(kind, cuts, 2, room, ROOM);
+    }
+}
 
 static fontcut_answer do_call(int call)
 {
     const fontcut_bytes font = files[0], cut = files[1];
-    const uint32_t kind = call % 2 ? FONTCUT_LEAN : FONTCUT_FULL; /* of the first ten */
     fontcut_answer told = {FONTCUT_BAD_GLYPH, 7, 0, 0};
     fontcut_bytes cuts[2];
     cuts[0] = cuts[1] = cut;
-    switch (call) {
+    if (call < OF_KINDS)
+        return do_call_of_kind(call);
+    switch (call - OF_KINDS) {
     case 0:
-    case 1:
-        return fontcut_subset_size(kind, font.at, font.length, RANGES, 3);
-    case 2:
-    case 3:
-        return fontcut_subset(kind, font.at, font.length, RANGES, 3, room, ROOM);
-    case 4:
-    case 5:
-        return fontcut_cuts(kind, font.at, font.length, RANGES, 3, COUNTS, SETS, room, ROOM, sizes, SETS);
-    case 6:
-    case 7:
-        return fontcut_cut_form(kind, cut.at, cut.length);
-    case 8:
-    case 9:
-        return fontcut_belongs(kind, cut.at, cut.length, font.at, font.length);
-    case 10:
         return fontcut_cut_size(font.at, font.length, RANGES, 3);
-    case 11:
+    case 1:
         return fontcut_cut(font.at, font.length, RANGES, 3, room, ROOM);
-    case 12:
+    case 2:
         return fontcut_is_cut(cut.at, cut.length);
-    case 13:
-        return fontcut_is_cut_of(cut.at, cut.length, font.at, font.length);
-    case 14:
-        return fontcut_join(FONTCUT_FULL, cuts, 2, room, ROOM);
-    case 15:
-        cuts[0] = cuts[1] = files[2];
-        return fontcut_join(FONTCUT_LEAN, cuts, 2, room, ROOM);
-    case 16:
-        return fontcut_join_all(cuts, 2, room, ROOM);
-    case 17:
+    case 3:
         return fontcut_codes(font.at, font.length, (fontcut_range *)(void *)room, ROOM / sizeof(fontcut_range));
-    case 18:
+    case 4:
+        return fontcut_is_cut_of(cut.at, cut.length, font.at, font.length);
+    case 5:
+        return fontcut_join_all(cuts, 2, room, ROOM);
+    case 6:
         return fontcut_check(font.at, font.length);
-    case 19:
+    case 7:
         return fontcut_glyphs(font.at, font.length, CODES, 3, (uint16_t *)(void *)room, ROOM / sizeof(uint16_t));
-    case 20:
+    case 8:
         return fontcut_metrics(font.at, font.length, GLYPHS, 3, (fontcut_metric *)(void *)room,
                                ROOM / sizeof(fontcut_metric));
-    case 21:
+    case 9:
         return fontcut_info(font.at, font.length, (fontcut_font_info *)(void *)room);
     default:
         return fontcut_refusal_text(told, room, ROOM);
@@ -140,14 +145,13 @@ static int is_untouched(void)
 
 int main(int count, char **words)
 {
-    int call, status = count == 4 ? 0 : 2;
+    int call, file, status = count == 2 + KINDS ? 0 : 2;
     long request;
     if (status)
         return status;
-    files[0] = read_file(words[1]);
-    files[1] = read_file(words[2]);
-    files[2] = read_file(words[3]);
-    for (call = 0; call < (int)(sizeof NAMES / sizeof *NAMES); call++) {
+    for (file = 0; file <= KINDS; file++)
+        files[file] = read_file(words[1 + file]);
+    for (call = 0; call < (int)CALLS; call++) {
         for (request = 0; request < MOST; request++) {
             fontcut_answer answer;
             memset(room, FILL, ROOM);
@@ -164,8 +168,7 @@ int main(int count, char **words)
         }
         printf("%s %ld\n", NAMES[call], request);
     }
-    free((void *)files[0].at);
-    free((void *)files[1].at);
-    free((void *)files[2].at);
+    for (file = 0; file <= KINDS; file++)
+        free((void *)files[file].at);
     return status;
 }

@@ -60,16 +60,16 @@ for name, data in made.items():
 print(fontcut.__version__, fontcut.belongs(made["join"], font, lean=True))
 """
 
-# Its words are fonts: it prints the sums of cuts and of a join, of both kinds, for each.
+# Its words are fonts: it prints the sums of cuts and of a join, of each kind, for each.
 DIGESTS = """
 import hashlib, sys
 import fontcut
 for path in sys.argv[1:]:
     with open(path, "rb") as opened:
         font = opened.read()
-    for lean in False, True:
-        cuts = fontcut.slices(font, [[(0x20, 0x7E)], [(0xA0, 0x17F)]], lean=lean)
-        for data in *cuts, fontcut.join(cuts, lean=lean):
+    for kind in "full", "lean", "layout":
+        cuts = fontcut.slices(font, [[(0x20, 0x7E)], [(0xA0, 0x17F)]], kind=kind)
+        for data in *cuts, fontcut.join(cuts, kind=kind):
             print(hashlib.sha256(data).hexdigest())
 """
 
