@@ -1,8 +1,8 @@
 """Serves cuts of the fonts of a folder: a WSGI application over the module `fontcut` and the standard library.
 
-    GET /NAME.ttf?unicodes=U+20-7E,U+4??   the cut of the font NAME.ttf for these code points
-    GET /NAME.ttf?text=Hello               for these characters
-    GET /NAME.ttf?unicodes=U+20-7E&lean=1  the lean cut
+    GET /NAME.ttf?unicodes=U+20-7E,U+4??        the cut of the font NAME.ttf for these code points
+    GET /NAME.ttf?text=Hello                    for these characters
+    GET /NAME.ttf?unicodes=U+20-7E&kind=lean    the lean cut, and with kind=layout the layout cut
 
 The variable FONTS names the folder. Each worker maps its fonts when it starts, and tests each once. What is asked for
 names a font among those; no path from outside is opened. An answer is decided by the font's bytes, the kind and the
@@ -21,6 +21,7 @@ import fontcut
 # a query which is too long is answered here.
 LONGEST_QUERY = 8000
 FOREVER = ("Cache-Control", "public, max-age=31536000, immutable")
+KINDS = ("full", "lean", "layout")
 
 Range = Tuple[int, int]
 
@@ -60,8 +61,17 @@ def fonts_of(folder: str) -> Dict[str, Font]:
             if entry.is_file() and entry.name.endswith(".ttf") and entry.stat().st_size}
 
 
-def wanted_by(query: str) -> Tuple[List[Range], bool]:
-    """The set that a query asks for, and whether as a lean cut."""
+def kind_of(asked: Dict[str, List[str]]) -> str:
+    """The kind of cut that a query asks for. `lean=1` is an older way to ask for `kind=lean`."""
+    lean = asked.get("lean", ["0"])[-1] == "1"
+    kind = asked.get("kind", ["lean" if lean else "full"])[-1]
+    if kind not in KINDS or (lean and kind != "lean"):
+        raise Answer("400 Bad Request", "kind is full, lean or layout, and with lean=1 it is lean")
+    return kind
+
+
+def wanted_by(query: str) -> Tuple[List[Range], str]:
+    """The set that a query asks for, and of which kind the cut is to be."""
     if len(query) > LONGEST_QUERY:
         raise Answer("414 URI Too Long", f"a query has {LONGEST_QUERY} characters at most")
     try:
@@ -70,15 +80,18 @@ def wanted_by(query: str) -> Tuple[List[Range], bool]:
                                       strict_parsing=bool(query), errors="strict", max_num_fields=8)
     except ValueError:
         raise Answer("400 Bad Request", "bad query") from None
-    if not asked.keys() <= {"unicodes", "text", "lean"} or not asked.keys() & {"unicodes", "text"}:
-        raise Answer("400 Bad Request", "a query has unicodes or text, and may have lean")
+    if not asked.keys() <= {"unicodes", "text", "kind", "lean"} or not asked.keys() & {"unicodes", "text"}:
+        raise Answer("400 Bad Request", "a query has unicodes or text, and may have kind")
+    kind = kind_of(asked)
     lists = [re.sub(r"(?<![^\s,;:-])([Uu]) (?=[0-9A-Fa-f?])", r"\1+", value) for value in asked.get("unicodes", ())]
-    letters = {ord(letter) for value in asked.get("text", ()) for letter in value}
+    texts = asked.get("text", ())
+    # A layout cut is there to be shaped, and a shaper takes more characters than those of the text.
+    letters = set("".join(map(fontcut.needed, texts) if kind == "layout" else texts))
     try:
-        ranges = fontcut.ranges([*lists, *(f"U+{code:X}" for code in letters)])
+        ranges = fontcut.ranges([*lists, *(f"U+{ord(letter):X}" for letter in letters)])
     except ValueError as error:
         raise Answer("400 Bad Request", str(error)) from None
-    return [(first, last) for first, last in ranges], asked.get("lean", ["0"])[-1] == "1"
+    return [(first, last) for first, last in ranges], kind
 
 
 class Application:
@@ -106,15 +119,15 @@ class Application:
         font = self.fonts.get(os.fsdecode(environ.get("PATH_INFO", "").encode("latin-1")).lstrip("/"))
         if font is None:
             raise Answer("404 Not Found", "there is no such font")
-        wanted, lean = wanted_by(environ.get("QUERY_STRING", ""))
+        wanted, kind = wanted_by(environ.get("QUERY_STRING", ""))
         if font.refusal:
             raise Answer("502 Bad Gateway", f"the font is refused: {font.refusal}")
-        tag = hashlib.sha256(f"{font.digest} {lean} {wanted}".encode()).hexdigest()
+        tag = hashlib.sha256(f"{font.digest} {kind} {wanted}".encode()).hexdigest()
         headers = [("ETag", f'"{tag}"'), FOREVER, ("Content-Type", "font/ttf"), ("Access-Control-Allow-Origin", "*")]
         if f'"{tag}"' in environ.get("HTTP_IF_NONE_MATCH", ""):
             return "304 Not Modified", headers, None
         try:
-            return "200 OK", headers, fontcut.cut(font.data, wanted, lean=lean)
+            return "200 OK", headers, fontcut.cut(font.data, wanted, kind=kind)
         except fontcut.Refused as refused:
             raise Answer("502 Bad Gateway", f"the cut is refused: {refused.text}") from None
         except MemoryError:
