@@ -1,7 +1,7 @@
 #!/usr/bin/env python3
 """Joins cuts of one font at the workers of a cluster that Dask runs:
 
-    merge.py [--lean] [--group N] SCHEDULER OUT CUTS..
+    merge.py [--lean | --layout] [--group N] SCHEDULER OUT CUTS..
 
 A task reads and joins at most N files, or joins what as many tasks gave back, until one join is left. Workers
 find each file by the same path as this machine. OUT is replaced when the join is complete, and keeps its mode; a
@@ -38,13 +38,13 @@ class Node(NamedTuple):
         return self.first if self.first == self.last else f"{self.first} to {self.last}"
 
 
-def join_parts(names: Sequence[str], parts: Sequence[Part], lean: bool) -> Part:
-    """The join of parts, or the first of them that is no cut. The names say of which files each is made."""
+def join_parts(names: Sequence[str], parts: Sequence[Part], kind: str) -> Part:
+    """The join of parts of a kind, or the first of them that is no cut. The names say of which files each is made."""
     for part in parts:
         if not isinstance(part, bytes):
             return part
     try:
-        return fontcut.join(parts, lean=lean)
+        return fontcut.join(parts, kind=kind)
     except fontcut.Refused as refused:
         return 1, f"{names[refused.file]}: refused {refused.number} {refused.text}"
     except MemoryError:
@@ -61,21 +61,21 @@ def read(path: str) -> Part:
         return 1, "no memory"
 
 
-def join_files(paths: Sequence[str], lean: bool) -> Part:
+def join_files(paths: Sequence[str], kind: str) -> Part:
     """The join of files, which the worker reads."""
-    return join_parts(paths, [read(path) for path in paths], lean)
+    return join_parts(paths, [read(path) for path in paths], kind)
 
 
 def grouped(items: Sequence, size: int) -> List[Sequence]:
     return [items[at:at + size] for at in range(0, len(items), size)]
 
 
-def merged(submit: Callable[..., Future], paths: Sequence[str], lean: bool, size: int) -> Future:
+def merged(submit: Callable[..., Future], paths: Sequence[str], kind: str, size: int) -> Future:
     """What the last task of a tree gives back, the part of all files. Each task is handed to `submit`."""
-    nodes = [Node(some[0], some[-1], submit(join_files, some, lean)) for some in grouped(paths, size)]
+    nodes = [Node(some[0], some[-1], submit(join_files, some, kind)) for some in grouped(paths, size)]
     while len(nodes) > 1:
         nodes = [Node(some[0].first, some[-1].last,
-                      submit(join_parts, [node.name() for node in some], [node.part for node in some], lean))
+                      submit(join_parts, [node.name() for node in some], [node.part for node in some], kind))
                  for some in grouped(nodes, size)]
     return nodes[0].part
 
@@ -110,7 +110,10 @@ def connected(scheduler: str) -> Client:
 
 def parsed() -> argparse.Namespace:
     parser = argparse.ArgumentParser(prog="merge.py", fromfile_prefix_chars="@")
-    parser.add_argument("--lean", action="store_true", help="CUTS are lean cuts")
+    kinds = parser.add_mutually_exclusive_group()
+    for kind in "lean", "layout":
+        kinds.add_argument(f"--{kind}", dest="kind", action="store_const", const=kind, help=f"CUTS are {kind} cuts")
+    parser.set_defaults(kind="full")
     parser.add_argument("--group", type=int, default=50, help="how many cuts a task joins at most: 2 or more")
     parser.add_argument("scheduler", metavar="SCHEDULER", help="its address, such as tcp://10.0.0.1:8786")
     parser.add_argument("out", metavar="OUT")
@@ -128,7 +131,7 @@ def main() -> int:
         with connected(words.scheduler) as client:
             # A file may have changed since the last run, so no task is taken for one of an earlier run.
             submit = functools.partial(client.submit, pure=False)
-            part = merged(submit, paths, words.lean, words.group).result()
+            part = merged(submit, paths, words.kind, words.group).result()
         if isinstance(part, bytes):
             replace(words.out, part)
             return 0

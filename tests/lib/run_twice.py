@@ -1,4 +1,4 @@
-"""Joins cuts as examples/cluster/merge.py does, each task twice: SCHEDULER OUT cuts|lean GROUP CUTS..
+"""Joins cuts as examples/cluster/merge.py does, each task twice: SCHEDULER OUT full|lean|layout GROUP CUTS..
 
 Two workers run each task, a third task compares what they give back, and an error ends the script where the
 two differ. It needs Debian's package python3-distributed, and the folder of merge.py among those of modules,
@@ -36,7 +36,7 @@ def main():
     scheduler, out, kind, group, *cuts = sys.argv[1:]
     with merge.connected(scheduler) as client:
         twice = Twice(client)
-        part = merge.merged(twice.submit, cuts, kind == "lean", int(group)).result(timeout=SECONDS)
+        part = merge.merged(twice.submit, cuts, kind, int(group)).result(timeout=SECONDS)
     if not isinstance(part, bytes):
         sys.exit(part[1])
     merge.replace(out, part)
