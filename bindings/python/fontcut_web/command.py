@@ -2,12 +2,13 @@
 from __future__ import annotations
 
 import argparse
+import contextlib
 import importlib
 import json
 import os
 import sys
 from types import ModuleType
-from typing import Optional, Sequence, Set
+from typing import List, Optional, Sequence, Set
 
 import fontcut
 from fontcut_output import CommandParser, Progress, print_line, read, reason, write
@@ -18,7 +19,9 @@ from .sets import MOST_EQUAL, PRESETS, WEB, asked, range_words
 
 INSTALL = "pip install 'fontcut[web]'"
 _DISPLAYS = "auto", "block", "swap", "fallback", "optional"
-_CUT_KINDS = "Cuts are lean, for what is drawn; with --full they have the metrics and names of all glyphs."
+_CUT_KINDS = """\
+Cuts are lean, for what is drawn glyph by glyph. With --layout they have the tables of layout too, for kerning,
+ligatures and scripts that are shaped; with --full the metrics and names of all glyphs."""
 
 _WHAT = """\
 Fonts for the web, cut by fontcut: slices with a style sheet, cuts for the text of pages, and WOFF files that are
@@ -45,20 +48,24 @@ adds slices. The presets are
                      the subsets of Google Fonts of these names
   {WEB}                all of them
   equal:COUNT        COUNT slices of what is left, which have as many characters each; {MOST_EQUAL} at most
+
+To a browser slices are fonts of their own: nothing is kerned or shaped across two of them. Put the characters of a
+script into one slice where that matters.
 """
 
 _TEXT = """\
 Writes to OUT the cut of FONT for the characters that pages of HTML show: their text without scripts and styles,
 and the attributes alt, placeholder, title and value. OUT is WOFF2 where it ends in .woff2. What a style sheet or
-a script adds is not known (content, numbers of lists, text-transform): give it by --text.
+a script adds is not known (content, numbers of lists, text-transform): give it by --text. With --layout the cut is
+for the characters too that a shaper takes for these, as those of fontcut subset --layout are.
 """
 
 _DECODE = """\
 Writes to OUT the font in a WOFF or WOFF2 file, which fontcut does not take as it is.
 
 A cut that went through WOFF is the same file again. One that went through WOFF2 is no cut as it comes back, for
-WOFF2 lays out its outlines anew. --lean and --full cut it anew for all its characters: such cuts join with each
-other, and not with cuts that were never packed.
+WOFF2 lays out its outlines anew. --lean, --layout and --full cut it anew for all its characters: such cuts of one
+kind join with each other, and not with cuts that were never packed.
 """
 
 
@@ -71,7 +78,7 @@ def _part(name: str) -> ModuleType:
 def _run_slice(given: argparse.Namespace) -> None:
     need("fontTools", *["brotli"] if given.woff2 else [])
     slicing = _part("slicing")
-    how = slicing.How(not given.full, given.woff2, given.css, given.display)
+    how = slicing.How(given.kind, given.woff2, given.css, given.display)
     wanted = asked(given.slices)
     if not wanted:
         raise UsageError("the list names no slice")
@@ -82,16 +89,16 @@ def _run_slice(given: argparse.Namespace) -> None:
         print_line(json.dumps(told, indent=2))
 
 
-def _page_texts(paths: Sequence[str]) -> Set[str]:
-    """The characters that all pages show."""
-    letters: Set[str] = set()
+def _page_texts(paths: Sequence[str]) -> List[str]:
+    """The texts that the pages show."""
+    texts: List[str] = []
     for path in paths:
         data = read(path)
         try:
-            letters |= pages.shown(data)
+            texts.append(pages.text_of(data))
         except Refused as refusal:
             raise Refused(f"{path}: {refusal}") from refusal
-    return letters
+    return texts
 
 
 def _accepted(path: str) -> fontcut.Font:
@@ -103,6 +110,21 @@ def _accepted(path: str) -> fontcut.Font:
         raise Refused(f"{path}: {refusal}{hint}") from refusal
 
 
+def _mapped(font: fontcut.Font, letters: Set[str]) -> List[int]:
+    """The code points of the characters that a font maps, in ascending order."""
+    codes = sorted(map(ord, letters))
+    absent = set(fontcut.missing(font, codes))
+    return [code for code in codes if code not in absent]
+
+
+def _cut(path: str, font: fontcut.Font, codes: Sequence[int], kind: str) -> bytes:
+    """The cut of a font, which a file holds, for code points."""
+    try:
+        return fontcut.cut(font, codes, kind=kind)
+    except fontcut.Refused as refusal:
+        raise Refused(f"{path}: {refusal}") from refusal
+
+
 def _run_text(given: argparse.Namespace) -> None:
     if len(given.files) < 3:
         raise UsageError("text needs one page at least, and then FONT and OUT")
@@ -111,7 +133,9 @@ def _run_text(given: argparse.Namespace) -> None:
         raise UsageError(f"{out} would be replaced by a font: FONT and OUT come last")
     is_packed = out.lower().endswith(".woff2")
     need(*["fontTools", "brotli"] if is_packed else [])
-    codes = sorted(map(ord, _page_texts(paths) | set(given.text)))
+    texts = _page_texts(paths)
+    letters = pages.shown("".join(texts)) | set(given.text)
+    codes = sorted(map(ord, letters))
     font = _accepted(source)
     lacking = fontcut.missing(font, codes)
     if lacking:
@@ -120,52 +144,65 @@ def _run_text(given: argparse.Namespace) -> None:
             raise Refused(said)
         if not given.json:
             print(f"fontcut-web: {said}", file=sys.stderr)
-    data = fontcut.cut(font, codes, lean=not given.full)
+    if given.kind == "layout":
+        letters |= pages.shown("".join(map(fontcut.needed, [*texts, given.text])))
+    kept = _mapped(font, letters)
+    data = _cut(source, font, kept, given.kind)
     data = _part("woff").packed(data) if is_packed else data
     write(out, data)
     if given.json:
-        kept = range_words(code for code in codes if code not in set(lacking))
-        print_line(json.dumps({"file": out, "bytes": len(data), "characters": len(codes) - len(lacking),
-                               "unicode_range": kept, "lacking": range_words(lacking)}, indent=2))
+        print_line(json.dumps({"file": out, "bytes": len(data), "characters": len(kept),
+                               "unicode_range": range_words(kept), "lacking": range_words(lacking)}, indent=2))
 
 
 def _run_decode(given: argparse.Namespace) -> None:
     data = read(given.file)
     try:
         font = _part("woff").unpacked(data)
-        if given.lean or given.full:
-            font = fontcut.cut(font, fontcut.codes(font), lean=given.lean)
-        form = fontcut.form(font)
+        if given.kind:
+            font = fontcut.cut(font, fontcut.codes(font), kind=given.kind)
+        name = _name_of(font)
     except (fontcut.Refused, Refused) as refusal:
         raise Refused(f"{given.file}: {refusal}") from refusal
     write(given.out, font)
-    print_line(f"{given.out}: {_joins(form, data[:4] == b'wOF2')}")
+    print_line(f"{given.out}: {_joins(name, data[:4] == b'wOF2')}")
 
 
-def _joins(form: fontcut.Form, is_woff2: bool) -> str:
-    """What is said of a file that was unpacked, by the form that it has."""
-    kind = {fontcut.Form.LEAN: "a lean cut", fontcut.Form.CURRENT: "a cut", fontcut.Form.OLD: "an old cut"}.get(form)
-    if kind is None:
-        return "no cut; with --lean or --full it is cut anew, and joins with what was unpacked so too"
-    return f"{kind}, which joins with what was unpacked so too" if is_woff2 else f"{kind}"
+def _name_of(font: bytes) -> Optional[str]:
+    """What a font is called that is a cut, or None. A lean cut is one of each kind."""
+    form = fontcut.form(font)
+    names = {fontcut.Form.LEAN: "a lean cut", fontcut.Form.CURRENT: "a cut", fontcut.Form.OLD: "an old cut"}
+    if form is fontcut.Form.NO_CUT:
+        with contextlib.suppress(fontcut.Refused):  # for its tables of layout
+            return "a layout cut" if fontcut.is_cut(font, kind="layout") else None
+    return names.get(form)
 
 
-def _kinds(command: argparse.ArgumentParser, lean: str, full: str) -> None:
-    """Adds the options for the two kinds of cuts."""
+def _joins(name: Optional[str], is_woff2: bool) -> str:
+    """What is said of a file that was unpacked, and is called so."""
+    if name is None:
+        return "no cut; with --lean, --layout or --full it is cut anew, and joins with what was unpacked so too"
+    return f"{name}, which joins with what was unpacked so too" if is_woff2 else name
+
+
+def _kinds(command: argparse.ArgumentParser, default: Optional[str], **helps: str) -> None:
+    """Adds an option for each kind of cut, with its help."""
     group = command.add_mutually_exclusive_group()
-    group.add_argument("--lean", action="store_true", help=lean)
-    group.add_argument("--full", action="store_true", help=full)
+    for kind, said in helps.items():
+        group.add_argument(f"--{kind}", dest="kind", action="store_const", const=kind, help=said)
+    command.set_defaults(kind=default)
 
 
 def _add_slice(commands: argparse._SubParsersAction, **how: object) -> None:
     command = commands.add_parser(
         "slice", help="cut fonts in slices, with a style sheet", description=f"{_SLICE}\n{_CUT_KINDS}\n", **how,
-        usage="fontcut-web slice FONT.. --out DIR --slices SLICES [--lean | --full] [--woff2] [--css] "
-              "[--display VALUE] [--json]")
+        usage="fontcut-web slice FONT.. --out DIR --slices SLICES [--lean | --layout | --full] [--woff2] [--css]\n"
+              "                         [--display VALUE] [--json]")
     command.add_argument("fonts", metavar="FONT", nargs="+")
     command.add_argument("--out", metavar="DIR", required=True, help="the folder that the files go to")
     command.add_argument("--slices", metavar="SLICES", action="append", required=True, help="a preset or a file")
-    _kinds(command, "write lean cuts, as is done without it", "write full cuts")
+    _kinds(command, "lean", lean="write lean cuts, as is done without it", layout="write layout cuts",
+           full="write full cuts")
     command.add_argument("--woff2", action="store_true", help="write FONT-SLICE.woff2 too, which browsers load")
     command.add_argument("--css", action="store_true", help="write fonts.css, and index.html, a page that shows the "
                                                             "fonts and asks for the first slice")
@@ -178,9 +215,10 @@ def _add_slice(commands: argparse._SubParsersAction, **how: object) -> None:
 def _add_text(commands: argparse._SubParsersAction, **how: object) -> None:
     command = commands.add_parser(
         "text", help="cut a font for the characters that pages show", description=f"{_TEXT}\n{_CUT_KINDS}\n", **how,
-        usage="fontcut-web text PAGE.. FONT OUT [--lean | --full] [--text TEXT] [--strict] [--json]")
+        usage="fontcut-web text PAGE.. FONT OUT [--lean | --layout | --full] [--text TEXT] [--strict] [--json]")
     command.add_argument("files", metavar="PAGE.. FONT OUT", nargs="+", help=argparse.SUPPRESS)
-    _kinds(command, "write a lean cut, as is done without it", "write a full cut")
+    _kinds(command, "lean", lean="write a lean cut, as is done without it", layout="write a layout cut",
+           full="write a full cut")
     command.add_argument("--text", metavar="TEXT", default="", help="more characters")
     command.add_argument("--strict", action="store_true", help="write nothing where the font lacks a character")
     command.add_argument("--json", action="store_true", help="print what was written")
@@ -189,10 +227,11 @@ def _add_text(commands: argparse._SubParsersAction, **how: object) -> None:
 
 def _add_decode(commands: argparse._SubParsersAction, **how: object) -> None:
     command = commands.add_parser("decode", help="unpack a WOFF or WOFF2 file", description=_DECODE, **how,
-                                  usage="fontcut-web decode FILE OUT [--lean | --full]")
+                                  usage="fontcut-web decode FILE OUT [--lean | --layout | --full]")
     command.add_argument("file", metavar="FILE")
     command.add_argument("out", metavar="OUT")
-    _kinds(command, "write the lean cut for all its characters", "write the full cut for all its characters")
+    _kinds(command, None, lean="write the lean cut for all its characters",
+           layout="write the layout cut for all its characters", full="write the full cut for all its characters")
     command.set_defaults(run=_run_decode)
 
 

@@ -57,10 +57,9 @@ def _decoded(data: bytes) -> str:
         raise Refused(f"it is not in {name}: {error}") from error
 
 
-def shown(data: bytes) -> Set[str]:
-    """The characters that a page shows, with those of titles, of alternative texts and of fields. What a style sheet
-    or a script adds is not known. Raises `Refused` for a page whose encoding is not known, or is another than it
-    says."""
+def text_of(data: bytes) -> str:
+    """The text that a page shows, with titles, alternative texts and the values of fields. What a style sheet or a
+    script adds is not known. Raises `Refused` for a page whose encoding is not known, or is another than it says."""
     reader = _Reader()
     try:
         reader.feed(_decoded(data))
@@ -68,7 +67,12 @@ def shown(data: bytes) -> Set[str]:
     except AssertionError as error:
         # The parser of Python knows no way on from some markup that is malformed.
         raise Refused(f"it is malformed: {error}") from error
-    found = set("".join(reader.texts))
+    return "".join(reader.texts)
+
+
+def shown(text: str) -> Set[str]:
+    """The characters of the text of a page that are shown, and those that are shown where its lines are broken."""
+    found = set(text)
     # A line that is broken at a soft hyphen shows a hyphen, and the end of a line of the page shows a blank.
     found.update(_HYPHENS if _SOFT_HYPHEN in found else "", " " if found & _BLANKS else "")
     return {letter for letter in found if unicodedata.category(letter) not in ("Cc", "Cs")}

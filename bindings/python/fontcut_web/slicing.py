@@ -38,9 +38,9 @@ class Written(NamedTuple):
 
 
 class How(NamedTuple):
-    """How slices are written."""
+    """How slices are written: of which kind of cut, and what besides."""
 
-    lean: bool = True
+    kind: str = "lean"
     woff2: bool = False
     css: bool = False
     display: str = "swap"
@@ -55,13 +55,17 @@ def refusing(path: str) -> Iterator[None]:
         raise Refused(f"{path}: {refusal}") from refusal
 
 
-def accepted(path: str) -> fontcut.Font:
-    """The font in a file. Raises `Refused`, with what to do about a file that is packed."""
+def accepted(path: str, kind: str) -> fontcut.Font:
+    """The font in a file, of which cuts of a kind can be made. Raises `Refused`, with what to do about a file that is
+    packed."""
     data = read(path)
     with refusing(path):
         if data[:4] in (WOFF, WOFF2):
             raise Refused("it is a WOFF file: fontcut-web decode unpacks it")
-        return fontcut.Font(data)
+        font = fontcut.Font(data)
+        # Tables of layout are refused for layout cuts alone: here, and not when other fonts are written already.
+        fontcut.cut_size(font, [], kind=kind)
+    return font
 
 
 def _base(path: str, slices: Sequence[Slice], taken: Set[str]) -> str:
@@ -83,7 +87,7 @@ def opened(paths: Sequence[str], asked: Sequence[Asked], how: How) -> List[Font]
     taken: Set[str] = set()
     seen: Dict[Face, str] = {}
     for path in paths:
-        font = accepted(path)
+        font = accepted(path, how.kind)
         face = face_of(font.data, os.path.splitext(os.path.basename(path))[0])
         slices = divided(font, asked)
         if not slices:
@@ -100,12 +104,12 @@ def _put(folder: str, name: str, data: bytes) -> Tuple[str, int]:
     return name, len(data)
 
 
-def _cuts(font: Font, lean: bool) -> Iterator[Tuple[Slice, bytes]]:
-    """The slices of a font, each with its cut."""
+def _cuts(font: Font, kind: str) -> Iterator[Tuple[Slice, bytes]]:
+    """The slices of a font, each with its cut of a kind."""
     for at in range(0, len(font.slices), _AT_ONCE):
         some = font.slices[at:at + _AT_ONCE]
         with refusing(font.path):
-            cuts = fontcut.slices(font.font, [one.codes for one in some], lean=lean)
+            cuts = fontcut.slices(font.font, [one.codes for one in some], kind=kind)
         yield from zip(some, cuts)
 
 
@@ -114,7 +118,7 @@ def _slices(fonts: Sequence[Font], folder: str, how: How, progress: Progress) ->
     count, number = sum(len(font.slices) for font in fonts), 0
     for font in fonts:
         made: List[Written] = []
-        for one, cut in _cuts(font, how.lean):
+        for one, cut in _cuts(font, how.kind):
             number += 1
             progress.say(f"slice {number} of {count}")
             name = f"{font.base}-{one.name}"
