@@ -271,6 +271,7 @@ const growing = {
         page.breaks = true;
         await assert.rejects(font.add('xyz'), /the face is broken/);
         page.shows(cutFor('abc'));
+        assert.deepEqual(font.bytes, cutFor('abc'));
     },
 
     'a long text is fetched in several parts': async () => {
