@@ -7,6 +7,7 @@ a package that is there, and the variable FONTCUT_LIBRARY a library.
 import argparse
 import mimetypes
 import os
+import signal
 import socketserver
 import subprocess
 import sys
@@ -82,6 +83,7 @@ def main():
     mimetypes.add_type("text/javascript", ".js")
     mimetypes.add_type("application/wasm", ".wasm")
     package = words.package or os.path.dirname(built("bindings", "web", "build")[0])
+    signal.signal(signal.SIGTERM, lambda *_: sys.exit())  # the folder below is removed then too
     with tempfile.TemporaryDirectory() as folder:
         site = Site(cuts_of(folder), package)
         with wsgiref.simple_server.make_server("127.0.0.1", words.port, site, Server, Quiet) as server:
