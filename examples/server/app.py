@@ -7,7 +7,11 @@
 The variable FONTS names the folder. Each worker maps its fonts when it starts, and tests each once. What is asked for
 names a font among those; no path from outside is opened. An answer is decided by the font's bytes, the kind and the
 set, so its ETag is made of these. Caches may keep it for ever: a font that changes gets another name.
+
+With Debian's package python3-zstandard a browser that has a cut of the font is sent another one packed with it as a
+dictionary (RFC 9842). Without that package every answer is the plain cut.
 """
+import base64
 import hashlib
 import mmap
 import os
@@ -17,11 +21,23 @@ from typing import Dict, List, NamedTuple, Optional, Tuple
 
 import fontcut
 
+try:
+    import zstandard
+except ImportError:
+    zstandard = None  # type: ignore[assignment]
+
 # Together with the name of a font and `GET`, it is less than the longest line that gunicorn may be told to take, so that
 # a query which is too long is answered here.
 LONGEST_QUERY = 8000
 FOREVER = ("Cache-Control", "public, max-age=31536000, immutable")
 KINDS = ("full", "lean", "layout")
+
+# What is longer is no dictionary, and is not packed with one: that would take a worker too long.
+LONGEST_PACKED = 2 << 20
+LONGEST_ID = 1024  # characters, by RFC 9842
+LEVEL = 7  # of zstd; higher ones take many times as long for a hundredth of the bytes
+DCZ_BEGIN = bytes.fromhex("5e2a4d1820000000")  # of an answer in the coding `dcz`; the digest of the dictionary follows
+VARY = ("Vary", "Accept-Encoding, Available-Dictionary")
 
 Range = Tuple[int, int]
 
@@ -94,6 +110,47 @@ def wanted_by(query: str) -> Tuple[List[Range], str]:
     return [(first, last) for first, last in ranges], kind
 
 
+def made(font: Font, wanted: List[Range], kind: str) -> bytes:
+    """The cut."""
+    try:
+        return fontcut.cut(font.data, wanted, kind=kind)
+    except fontcut.Refused as refused:
+        raise Answer("502 Bad Gateway", f"the cut is refused: {refused.text}") from None
+    except MemoryError:
+        raise Answer("503 Service Unavailable", "no memory") from None
+
+
+def offer(name: str, wanted: List[Range], kind: str) -> List[Tuple[str, str]]:
+    """What tells a browser to keep the answer as a dictionary for other answers of the font. It sends the identifier
+    back with each request, and that says how the cut is made again: no worker has to keep it."""
+    words = ",".join(f"{first:X}-{last:X}" if first < last else f"{first:X}" for first, last in wanted)
+    known = f"{kind} {words}"
+    if len(known) > LONGEST_ID:
+        return []
+    # A path without folders is one beside the answer's own, wherever the application is mounted.
+    return [("Use-As-Dictionary", f'match="{urllib.parse.quote(name)}*", id="{known}"')]
+
+
+def dictionary(font: Font, environ) -> Optional[bytes]:
+    """The cut that the browser has as a dictionary, or None where it has none that is made again as it is there."""
+    known = re.fullmatch(r'"(full|lean|layout) ([0-9A-F,-]*)"', environ.get("HTTP_DICTIONARY_ID", ""))
+    if not known or not re.search(r"(^|,)\s*dcz\s*(,|$)", environ.get("HTTP_ACCEPT_ENCODING", "")):
+        return None
+    try:
+        cut = made(font, fontcut.ranges([known[2]]), known[1])
+    except (ValueError, Answer):
+        return None
+    digest = base64.b64encode(hashlib.sha256(cut).digest()).decode()
+    return cut if environ.get("HTTP_AVAILABLE_DICTIONARY") == f":{digest}:" and len(cut) <= LONGEST_PACKED else None
+
+
+def packed(cut: bytes, known: bytes) -> bytes:
+    """A cut in the coding `dcz`: packed by zstd with a dictionary."""
+    raw = zstandard.ZstdCompressionDict(known, dict_type=zstandard.DICT_TYPE_RAWCONTENT)
+    packer = zstandard.ZstdCompressor(level=LEVEL, dict_data=raw, write_dict_id=False)
+    return DCZ_BEGIN + hashlib.sha256(known).digest() + packer.compress(cut)
+
+
 class Application:
     """The WSGI application."""
 
@@ -116,22 +173,27 @@ class Application:
         """The status, headers and body of an answer; of a cut that the client has, no body."""
         if environ["REQUEST_METHOD"] not in ("GET", "HEAD"):
             raise Answer("405 Method Not Allowed", "GET and HEAD are answered")
-        font = self.fonts.get(os.fsdecode(environ.get("PATH_INFO", "").encode("latin-1")).lstrip("/"))
+        name = os.fsdecode(environ.get("PATH_INFO", "").encode("latin-1")).lstrip("/")
+        font = self.fonts.get(name)
         if font is None:
             raise Answer("404 Not Found", "there is no such font")
         wanted, kind = wanted_by(environ.get("QUERY_STRING", ""))
         if font.refusal:
             raise Answer("502 Bad Gateway", f"the font is refused: {font.refusal}")
-        tag = hashlib.sha256(f"{font.digest} {kind} {wanted}".encode()).hexdigest()
-        headers = [("ETag", f'"{tag}"'), FOREVER, ("Content-Type", "font/ttf"), ("Access-Control-Allow-Origin", "*")]
-        if f'"{tag}"' in environ.get("HTTP_IF_NONE_MATCH", ""):
-            return "304 Not Modified", headers, None
-        try:
-            return "200 OK", headers, fontcut.cut(font.data, wanted, kind=kind)
-        except fontcut.Refused as refused:
-            raise Answer("502 Bad Gateway", f"the cut is refused: {refused.text}") from None
-        except MemoryError:
-            raise Answer("503 Service Unavailable", "no memory") from None
+        tag = '"' + hashlib.sha256(f"{font.digest} {kind} {wanted}".encode()).hexdigest() + '"'
+        headers = [FOREVER, ("Content-Type", "font/ttf"), ("Access-Control-Allow-Origin", "*")]
+        if zstandard:
+            headers.append(VARY)
+        if tag in environ.get("HTTP_IF_NONE_MATCH", ""):
+            return "304 Not Modified", [("ETag", tag), *headers], None
+        cut = made(font, wanted, kind)
+        if not zstandard or len(cut) > LONGEST_PACKED:
+            return "200 OK", [("ETag", tag), *headers], cut
+        known = dictionary(font, environ)
+        if known is None:
+            return "200 OK", [("ETag", tag), *headers, *offer(name, wanted, kind)], cut
+        # A strong tag would say that these are the bytes of the cut.
+        return "200 OK", [("ETag", f"W/{tag}"), *headers, ("Content-Encoding", "dcz")], packed(cut, known)
 
 
 if "FONTS" in os.environ:
