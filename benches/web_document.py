@@ -1,0 +1,59 @@
+"""The tables of docs/PERFORMANCE.md on the package for browsers and node."""
+from statistics import median
+
+from document import number, ratio, table
+from web_speed import NATIVE, NODE
+from wire import BROTLI, GZIP, KNOWN, OTHER_WHOLE, SLICES, WHOLE
+
+MOST_IN_NODE = 7  # times as long as native calls
+NOTHING = "–"
+CALLS = {"cut": "lean cut of a kept font, ASCII", "join": "join of 20 slices of 100 characters"}
+WAYS = GZIP, BROTLI, KNOWN, WHOLE, OTHER_WHOLE, SLICES
+
+
+def wire_lines(row):
+    """A line for each way to fetch what ten texts need."""
+    all_of_slices = sum(row.sizes.get(SLICES, ()))
+    for way in WAYS:
+        sizes = row.sizes.get(way)
+        cells = [f"{sizes[0]:,}", f"{sum(sizes[1:]):,}", f"{sum(sizes):,}"] if sizes else [NOTHING] * 3
+        beside = ratio(sum(sizes) / all_of_slices) if sizes and all_of_slices else NOTHING
+        yield [f"{row.font}, {row.kind}", way, *cells, beside]
+
+
+def wire_table(rows):
+    """The bytes on the wire: a row for each font, kind and way."""
+    titles = ["font and cuts", "what is fetched", "first text", "nine more", "all ten", ": slices"]
+    return table(titles, [line for row in rows for line in wire_lines(row)])
+
+
+def added_texts(rows):
+    """How many characters each text adds, in a sentence for each font and kind."""
+    return " ".join(f"{row.font}, {row.kind}: {', '.join(map(str, row.added))}." for row in rows)
+
+
+def took(turns, name):
+    """The least and the median of all turns in milliseconds."""
+    return min(one[name].least for one in turns), median(one[name].median for one in turns)
+
+
+def speed_table(speeds):
+    """Calls in node beside native ones."""
+    lines = []
+    for speed in speeds:
+        for name, what in CALLS.items():
+            native, node = took(speed.turns[NATIVE], name), took(speed.turns[NODE], name)
+            found = node[0] / native[0]
+            lines.append([what, speed.font, *(f"{number(one)}, {number(middle)}" for one, middle in (native, node)),
+                          ratio(found), MOST_IN_NODE, "yes" if found <= MOST_IN_NODE else "**no**"])
+    return table(["call", "font", "native, ms", "node, ms", "ratio of the least", "at most", "held"], lines)
+
+
+def tables(found):
+    """All tables, by their names in the template."""
+    wires, speeds = found["wire"], found["speed"]
+    return {
+        "web_wire": wire_table(wires) if wires else "None of the fonts is installed.",
+        "web_added": added_texts(wires),
+        "web_speed": speed_table(speeds) if speeds else "Not measured, for a package is not installed.",
+    }
