@@ -6,12 +6,9 @@
 
 The variable FONTS names the folder. Each worker maps its fonts when it starts, and tests each once. What is asked for
 names a font among those; no path from outside is opened. An answer is decided by the font's bytes, the kind and the
-set, so its ETag is made of these. Caches may keep it for ever: a font that changes gets another name.
-
-With Debian's package python3-zstandard a browser that has a cut of the font is sent another one packed with it as a
-dictionary (RFC 9842). Without that package every answer is the plain cut.
+set, so its ETag is made of these. Caches may keep it for ever: a font that changes gets another name. A browser that
+has a cut of the font is sent another one packed with it, where `dictionaries` can do that.
 """
-import base64
 import hashlib
 import mmap
 import os
@@ -19,26 +16,13 @@ import re
 import urllib.parse
 from typing import Dict, List, NamedTuple, Optional, Tuple
 
+import dictionaries
 import fontcut
 
-try:
-    import zstandard
-except ImportError:
-    zstandard = None  # type: ignore[assignment]
-
-# Together with the name of a font and `GET`, it is less than the longest line that gunicorn may be told to take, so that
-# a query which is too long is answered here.
+# Less than the longest line that gunicorn may be told to take, so that a query which is too long is answered here.
 LONGEST_QUERY = 8000
 FOREVER = ("Cache-Control", "public, max-age=31536000, immutable")
 KINDS = ("full", "lean", "layout")
-
-# What is longer is no dictionary, and is not packed with one: that would take a worker too long.
-LONGEST_PACKED = 2 << 20
-LONGEST_ID = 1024  # characters, by RFC 9842
-LEVEL = 7  # of zstd; higher ones take many times as long for a hundredth of the bytes
-DCZ_BEGIN = bytes.fromhex("5e2a4d1820000000")  # of an answer in the coding `dcz`; the digest of the dictionary follows
-VARY = ("Vary", "Accept-Encoding, Available-Dictionary")
-
 Range = Tuple[int, int]
 
 
@@ -120,37 +104,6 @@ def made(font: Font, wanted: List[Range], kind: str) -> bytes:
         raise Answer("503 Service Unavailable", "no memory") from None
 
 
-def offer(name: str, wanted: List[Range], kind: str) -> List[Tuple[str, str]]:
-    """What tells a browser to keep the answer as a dictionary for other answers of the font. It sends the identifier
-    back with each request, and that says how the cut is made again: no worker has to keep it."""
-    words = ",".join(f"{first:X}-{last:X}" if first < last else f"{first:X}" for first, last in wanted)
-    known = f"{kind} {words}"
-    if len(known) > LONGEST_ID:
-        return []
-    # A path without folders is one beside the answer's own, wherever the application is mounted.
-    return [("Use-As-Dictionary", f'match="{urllib.parse.quote(name)}*", id="{known}"')]
-
-
-def dictionary(font: Font, environ) -> Optional[bytes]:
-    """The cut that the browser has as a dictionary, or None where it has none that is made again as it is there."""
-    known = re.fullmatch(r'"(full|lean|layout) ([0-9A-F,-]*)"', environ.get("HTTP_DICTIONARY_ID", ""))
-    if not known or not re.search(r"(^|,)\s*dcz\s*(,|$)", environ.get("HTTP_ACCEPT_ENCODING", "")):
-        return None
-    try:
-        cut = made(font, fontcut.ranges([known[2]]), known[1])
-    except (ValueError, Answer):
-        return None
-    digest = base64.b64encode(hashlib.sha256(cut).digest()).decode()
-    return cut if environ.get("HTTP_AVAILABLE_DICTIONARY") == f":{digest}:" and len(cut) <= LONGEST_PACKED else None
-
-
-def packed(cut: bytes, known: bytes) -> bytes:
-    """A cut in the coding `dcz`: packed by zstd with a dictionary."""
-    raw = zstandard.ZstdCompressionDict(known, dict_type=zstandard.DICT_TYPE_RAWCONTENT)
-    packer = zstandard.ZstdCompressor(level=LEVEL, dict_data=raw, write_dict_id=False)
-    return DCZ_BEGIN + hashlib.sha256(known).digest() + packer.compress(cut)
-
-
 class Application:
     """The WSGI application."""
 
@@ -181,19 +134,15 @@ class Application:
         if font.refusal:
             raise Answer("502 Bad Gateway", f"the font is refused: {font.refusal}")
         tag = '"' + hashlib.sha256(f"{font.digest} {kind} {wanted}".encode()).hexdigest() + '"'
-        headers = [FOREVER, ("Content-Type", "font/ttf"), ("Access-Control-Allow-Origin", "*")]
-        if zstandard:
-            headers.append(VARY)
+        headers = [FOREVER, ("Content-Type", "font/ttf"), ("Access-Control-Allow-Origin", "*"), *dictionaries.VARY]
         if tag in environ.get("HTTP_IF_NONE_MATCH", ""):
             return "304 Not Modified", [("ETag", tag), *headers], None
         cut = made(font, wanted, kind)
-        if not zstandard or len(cut) > LONGEST_PACKED:
-            return "200 OK", [("ETag", tag), *headers], cut
-        known = dictionary(font, environ)
+        known = dictionaries.known_to(environ, font.data) if dictionaries.can_serve(cut) else None
         if known is None:
-            return "200 OK", [("ETag", tag), *headers, *offer(name, wanted, kind)], cut
+            return "200 OK", [("ETag", tag), *headers, *dictionaries.offer(cut, name, wanted, kind)], cut
         # A strong tag would say that these are the bytes of the cut.
-        return "200 OK", [("ETag", f"W/{tag}"), *headers, ("Content-Encoding", "dcz")], packed(cut, known)
+        return "200 OK", [("ETag", f"W/{tag}"), *headers, ("Content-Encoding", "dcz")], dictionaries.packed(cut, known)
 
 
 if "FONTS" in os.environ:
