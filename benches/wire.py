@@ -100,7 +100,7 @@ class Wires:
         os.makedirs(fonts)
         for path in {path for path, _ in FONTS if os.path.exists(path)}:
             os.symlink(path, os.path.join(fonts, os.path.basename(path)))
-        self.application, self.has_dictionaries = app.Application(fonts), app.zstandard is not None
+        self.application, self.has_dictionaries = app.Application(fonts), app.dictionaries.zstandard is not None
         self.out, self.codes = os.path.join(folder, "wire.ttf"), os.path.join(folder, "wire.codes")
 
     def cuts(self, path, kind, added):
