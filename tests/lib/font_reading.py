@@ -60,6 +60,18 @@ def search_fields(count):
     return 16 * 2**selector, selector, 16 * count - 16 * 2**selector
 
 
+def record_refusal(file, tags):
+    """The number and text of the first refusal of the records of these tags that applies, or None."""
+    records = records_of(file)
+    for tag in tags:
+        if sum(record.tag == tag for record in records) > 1:
+            return 5, f"duplicate table {tag_text(tag)}"
+    for tag in tags:
+        if any(record.tag == tag and not is_in_file(file, record) for record in records):
+            return 6, f"table out of file {tag_text(tag)}"
+    return None
+
+
 def directory_refusal(file):
     """The number and text of the first refusal of the directory that applies, or None."""
     if len(file) > MAX_FILE:
@@ -73,14 +85,7 @@ def directory_refusal(file):
         return 3, "collection"
     if version not in ACCEPTED_VERSIONS:
         return 4, "not TrueType"
-    records = records_of(file)
-    for tag in KEPT:
-        if sum(record.tag == tag for record in records) > 1:
-            return 5, f"duplicate table {tag_text(tag)}"
-    for tag in KEPT:
-        if any(record.tag == tag and not is_in_file(file, record) for record in records):
-            return 6, f"table out of file {tag_text(tag)}"
-    return None
+    return record_refusal(file, KEPT)
 
 
 REQUIRED = (b"cmap", b"glyf", b"head", b"hhea", b"hmtx", b"loca", b"maxp")

@@ -7,7 +7,7 @@ It follows OpenType 1.9, "OpenType Layout Common Table Formats" (lookup lists an
 from functools import lru_cache
 from typing import Callable, Iterable, Iterator, NamedTuple, Optional
 
-from font_reading import is_in_file, records_of, tables_of, tag_text, u16, u32
+from font_reading import record_refusal, tables_of, u16, u32
 
 LAYOUT = [b"BASE", b"GDEF", b"GPOS", b"GSUB", b"kern"]
 STEP_LIMIT = 1_048_576
@@ -194,14 +194,10 @@ def gsub_of(file: bytes) -> bytes:
 def layout_refusal(file: bytes) -> Optional[tuple[int, str]]:
     """The number and text of the first refusal of the tables of layout that applies to a font that is accepted without
     them, or None."""
-    records = records_of(file)
-    for tag in LAYOUT:
-        if sum(record.tag == tag for record in records) > 1:
-            return 5, f"duplicate table {tag_text(tag)}"
-    for tag in LAYOUT:
-        if any(record.tag == tag and not is_in_file(file, record) for record in records):
-            return 6, f"table out of file {tag_text(tag)}"
-    return (27, "bad layout") if links_of(gsub_of(file)) is None else None
+    refusal: Optional[tuple[int, str]] = record_refusal(file, LAYOUT)
+    if refusal is None and links_of(gsub_of(file)) is None:
+        return 27, "bad layout"
+    return refusal
 
 
 def linked(links: Links, glyphs: Iterable[int]) -> set[int]:
