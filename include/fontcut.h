@@ -100,6 +100,7 @@ typedef struct fontcut_answer {
  * first one highest: 0x676C7966 is `glyf`. */
 typedef enum fontcut_status {
     FONTCUT_DONE = 0,
+    /* Written by tools/write_refusals from include/refusals.txt: */
     FONTCUT_FILE_TOO_LARGE = 1,      /* the file has more than 134,217,728 bytes */
     FONTCUT_TRUNCATED = 2,           /* it ends within its table directory */
     FONTCUT_COLLECTION = 3,          /* it is a collection of fonts */
@@ -107,15 +108,15 @@ typedef enum fontcut_status {
     FONTCUT_DUPLICATE_TABLE = 5,     /* a table stands twice; detail: the tag */
     FONTCUT_TABLE_OUT_OF_FILE = 6,   /* a table does not lie within the file; detail: the tag */
     FONTCUT_MISSING_TABLE = 7,       /* a table that every font must have is missing; detail: the tag */
-    FONTCUT_BAD_HEAD = 8,
-    FONTCUT_BAD_MAXP = 9,
-    FONTCUT_BAD_HHEA = 10,
-    FONTCUT_BAD_HMTX = 11,
+    FONTCUT_BAD_HEAD = 8,            /* head is too short, or has a value that it cannot have */
+    FONTCUT_BAD_MAXP = 9,            /* maxp is too short, or has a value that it cannot have */
+    FONTCUT_BAD_HHEA = 10,           /* hhea is too short, or has a value that it cannot have */
+    FONTCUT_BAD_HMTX = 11,           /* hmtx is too short */
     FONTCUT_BAD_LOCA = 12,           /* detail: the least index of a bad offset */
     FONTCUT_NO_MAPPING = 13,         /* there is no subtable of format 4 or 12 for Unicode */
-    FONTCUT_BAD_CMAP = 14,
+    FONTCUT_BAD_CMAP = 14,           /* the chosen subtable of cmap is broken */
     FONTCUT_BAD_RANGE = 15,          /* a range is bad; detail: its index */
-    FONTCUT_NO_MEMORY = 16,
+    FONTCUT_NO_MEMORY = 16,          /* there is not enough memory */
     FONTCUT_BAD_GLYPH = 17,          /* detail: the least glyph whose record is bad */
     FONTCUT_TOO_LARGE = 18,          /* what is to be written would be too large for a file; size: its bytes */
     FONTCUT_NOT_A_CUT = 20,          /* the file is a font, but no cut; step: its index */
@@ -124,6 +125,7 @@ typedef enum fontcut_status {
     FONTCUT_DIFFERENT_GLYPH = 23,    /* they have two outlines of a glyph; detail: the least such glyph */
     FONTCUT_NOTHING_TO_JOIN = 24,    /* there is no file */
     FONTCUT_BAD_LAYOUT = 27,         /* GSUB cannot be read, which is asked for layout cuts alone */
+    /* End of what tools/write_refusals writes. */
     FONTCUT_SMALL_ROOM = 100,        /* the room is too small; size: what is needed */
     FONTCUT_UNKNOWN_KIND = 101,      /* the number is no fontcut_kind, which is asked before all else; detail: it */
     FONTCUT_NO_GLYPH = 102,          /* a number is no glyph of the font; detail: the least index of such a one */

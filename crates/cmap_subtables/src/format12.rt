@@ -127,7 +127,7 @@ fn walk_groups(s: &[u8], code: u32) -> Option<ListedGroup>
 }
 
 // Returns the codes from a given one on that a group alone maps to one of the glyphs.
-fn clip_group(group: ListedGroup, from: u32, glyphs: u16) -> Option<Run>
+fn run_in_group(group: ListedGroup, from: u32, glyphs: u16) -> Option<Run>
     ensures { MatchOption result (NoRun (clipped glyphs (glyph_of_group group)) from)
         (IsPiece (clipped glyphs (glyph_of_group group)) from) }
 {
@@ -214,7 +214,7 @@ fn stretch_by_group(
         (IsPiece (clipped glyphs (group_glyph s.now)) from) }
 {
     match found {
-        Some(group) => clip_group(group, from, glyphs),
+        Some(group) => run_in_group(group, from, glyphs),
         None => None,
     }
 }

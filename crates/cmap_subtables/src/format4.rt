@@ -162,7 +162,7 @@ fn glyph_by(s: &[u8], segment: Segment, code: u32) -> u16
 
 // Returns the codes from a given one on that a segment alone maps to one of the glyphs by its delta. The
 // glyphs go on at 0 after 65,535, once at the most.
-fn clip_delta(segment: Segment, from: u32, glyphs: u16) -> Option<Run>
+fn run_by_delta(segment: Segment, from: u32, glyphs: u16) -> Option<Run>
     ensures { MatchOption result (NoRun (clipped glyphs (glyph_by_delta segment)) from)
         (IsPiece (clipped glyphs (glyph_by_delta segment)) from) }
 {
@@ -215,7 +215,7 @@ fn along_codes(s: &[u8], segment: Segment, glyphs: u16, piece: Run) -> Run
 }
 
 // Returns the first codes from a given one on that a segment alone maps to neighbouring glyphs, code by code.
-fn clip_codes(s: &[u8], segment: Segment, from: u32, glyphs: u16) -> Option<Run>
+fn run_by_codes(s: &[u8], segment: Segment, from: u32, glyphs: u16) -> Option<Run>
     requires near { segment.place ≤ length s.now }
     ensures { MatchOption result (NoRun (clipped glyphs (glyph_of_segment s.now segment)) from)
         (IsPiece (clipped glyphs (glyph_of_segment s.now segment)) from) }
@@ -230,15 +230,15 @@ fn clip_codes(s: &[u8], segment: Segment, from: u32, glyphs: u16) -> Option<Run>
 }
 
 // Returns the codes from a given one on that a segment alone maps to one of the glyphs.
-fn clip_segment(s: &[u8], segment: Segment, from: u32, glyphs: u16) -> Option<Run>
+fn run_in_segment(s: &[u8], segment: Segment, from: u32, glyphs: u16) -> Option<Run>
     requires near { segment.place ≤ length s.now }
     ensures { MatchOption result (NoRun (clipped glyphs (glyph_of_segment s.now segment)) from)
         (IsPiece (clipped glyphs (glyph_of_segment s.now segment)) from) }
 {
     if segment.offset == 0 {
-        return clip_delta(segment, from, glyphs);
+        return run_by_delta(segment, from, glyphs);
     }
-    clip_codes(s, segment, from, glyphs)
+    run_by_codes(s, segment, from, glyphs)
 }
 
 // A piece of the map from a code on, or none up to a stop; and the stop. The first listed segment that
@@ -255,7 +255,7 @@ fn stretch_by(s: &[u8], found: Option<Segment>, glyphs: u16, from: u32) -> (Opti
 {
     match found {
         Some(segment) => (
-            clip_segment(s, segment, from, glyphs),
+            run_in_segment(s, segment, from, glyphs),
             u32::from(segment.last) + 1,
         ),
         None => (None, CODES),

@@ -20,10 +20,12 @@ restricted_map w m h =
     small_or false x l = omega arith
 
 pub united-none : (m k : ℕ → ℕ) (c : ℕ) → m c ≡ 0 → united m k c ≡ k c
-united-none m k c e = let yes : nat_eq (m c) 0 ≡ true = grind (arith, nat_tests) in ap (λ (b : Bool). cond b (k c) (m c)) yes
+united-none m k c e = let yes : nat_eq (m c) 0 ≡ true = grind (arith, nat_tests) in
+    ap (λ (b : Bool). cond b (k c) (m c)) yes
 
 pub united-some : (m k : ℕ → ℕ) (c : ℕ) → 0 < m c → united m k c ≡ m c
-united-some m k c l = let no : nat_eq (m c) 0 ≡ false = grind (arith, nat_tests) in ap (λ (b : Bool). cond b (k c) (m c)) no
+united-some m k c l = let no : nat_eq (m c) 0 ≡ false = grind (arith, nat_tests) in
+    ap (λ (b : Bool). cond b (k c) (m c)) no
 
 pub united-map : (m k : ℕ → ℕ) → IsCharacterMap m → IsCharacterMap k → IsCharacterMap (united m k)
 united-map m k h l =
@@ -49,11 +51,13 @@ united_parts true true x = same_cond (nat_eq x 0) x
 united_parts true false x = grind (arith, nat_tests)
 united_parts false b x = refl
 
-restricted_part : (a : Bool) (x y : ℕ) → cond a (cond (nat_eq x 0) y x) 0 ≡ cond (nat_eq (cond a x 0) 0) (cond a y 0) (cond a x 0)
+restricted_part : (a : Bool) (x y : ℕ) → cond a (cond (nat_eq x 0) y x) 0 ≡ cond (nat_eq (cond a x 0) 0) (cond a y 0)
+    (cond a x 0)
 restricted_part true x y = refl
 restricted_part false x y = refl
 
-united_thrice : (x y z : ℕ) → cond (nat_eq (cond (nat_eq x 0) y x) 0) z (cond (nat_eq x 0) y x) ≡ cond (nat_eq x 0) (cond (nat_eq y 0) z y) x
+united_thrice : (x y z : ℕ) → cond (nat_eq (cond (nat_eq x 0) y x) 0) z (cond (nat_eq x 0) y x)
+    ≡ cond (nat_eq x 0) (cond (nat_eq y 0) z y) x
 united_thrice x y z = grind (arith, nat_tests)
 
 either_way : (x y : ℕ) → (0 < x → 0 < y → x ≡ y) → cond (nat_eq x 0) y x ≡ cond (nat_eq y 0) x y
@@ -67,13 +71,16 @@ either_way x y h =
     ]
 
 -- on all codes
-pub restricted-restricted : (v w : ℕ → Bool) (m : ℕ → ℕ) → restricted v (restricted w m) ≡ restricted (λ c. v c && w c) m
+pub restricted-restricted : (v w : ℕ → Bool) (m : ℕ → ℕ) → restricted v (restricted w m) ≡ restricted (λ c. v c && w c)
+    m
 restricted-restricted v w m = λ i c. restricted_twice (v c) (w c) (m c) i
 
-pub united-restricted : (v w : ℕ → Bool) (m : ℕ → ℕ) → united (restricted v m) (restricted w m) ≡ restricted (λ c. v c || w c) m
+pub united-restricted : (v w : ℕ → Bool) (m : ℕ → ℕ) → united (restricted v m) (restricted w m)
+    ≡ restricted (λ c. v c || w c) m
 united-restricted v w m = λ i c. united_parts (v c) (w c) (m c) i
 
-pub restricted-united : (w : ℕ → Bool) (m k : ℕ → ℕ) → restricted w (united m k) ≡ united (restricted w m) (restricted w k)
+pub restricted-united : (w : ℕ → Bool) (m k : ℕ → ℕ)
+    → restricted w (united m k) ≡ united (restricted w m) (restricted w k)
 restricted-united w m k = λ i c. restricted_part (w c) (m c) (k c) i
 
 pub united-same : (m : ℕ → ℕ) → united m m ≡ m

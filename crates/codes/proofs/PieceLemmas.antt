@@ -1,5 +1,6 @@
 -- Pieces of one map that are pieces of another.
-use Rattle.std.proofs.Common.{◌≡◌, ℕ, ◌+◌, ◌<◌, ◌≤◌, ◌&&◌, cond, nat_lt, nat_le, Option, Some, None, MatchOption, IfSome, subst, ap, ◌∙◌, arith, inl, inr}
+use Rattle.std.proofs.Common.{◌≡◌, ℕ, ◌+◌, ◌<◌, ◌≤◌, ◌&&◌, cond, nat_lt, nat_le, Option, Some, None, MatchOption}
+use Rattle.std.proofs.Common.{IfSome, subst, ap, ◌∙◌, arith, inl, inr}
 use Rattle.std.proofs.lemmas.Bool.{cases_lt}
 use Rattle.std.proofs.lemmas.Bool.Decides.{nat_tests}
 use Rattle.codes.specs.CharacterMap.{AreSame, IsUnmapped, clipped}
@@ -24,7 +25,8 @@ ends_before m from stop run none p =
     ]
 
 -- a piece of a map is one of a map that is the same up to a stop, where the first one ends there
-piece_same : (m k : ℕ → ℕ) (from stop : ℕ) (run : Run) → AreSame m k from stop → NoRun k stop → IsPiece k from run → IsPiece m from run
+piece_same : (m k : ℕ → ℕ) (from stop : ℕ) (run : Run) → AreSame m k from stop → NoRun k stop → IsPiece k from run
+    → IsPiece m from run
 piece_same m k from stop run same none p =
     let end : run.last < stop = ends_before k from stop run none p in
     record {
@@ -34,33 +36,21 @@ piece_same m k from stop run same none p =
       within = p.within;
       mapped = p.mapped;
       small = p.small;
-      along = λ c x y. ap (λ (z : ℕ). z + run.first) (same c (omega (arith, x, p.from_on)) (omega (arith, y, end))) ∙ p.along c x y;
+      along = λ c x y. ap (λ (z : ℕ). z + run.first) (same c (omega (arith, x, p.from_on)) (omega (arith, y, end)))
+          ∙ p.along c x y;
     }
 
 -- what was looked for in one map is found in the other
-pub stretch_same : (n : ℕ) (f g : ℕ → ℕ) (from stop : ℕ) (r : Option Run) → AreSame f g from stop → NoRun g stop → MatchOption r (NoRun (clipped n g) from) (IsPiece (clipped n g) from) → MatchOption r (IsUnmapped (clipped n f) from stop) (IsPiece (clipped n f) from)
+pub stretch_same : (n : ℕ) (f g : ℕ → ℕ) (from stop : ℕ) (r : Option Run) → AreSame f g from stop → NoRun g stop
+    → MatchOption r (NoRun (clipped n g) from) (IsPiece (clipped n g) from)
+    → MatchOption r (IsUnmapped (clipped n f) from stop) (IsPiece (clipped n f) from)
 stretch_same n f g from stop None same none p = λ c x y. clipped_same n f g c (same c x y) ∙ p c x
 stretch_same n f g from stop (Some run) same none p =
-    piece_same (clipped n f) (clipped n g) from stop run (λ c x y. clipped_same n f g c (same c x y)) (λ c x. clipped_none n g c (none c x)) p
+    piece_same (clipped n f) (clipped n g) from stop run (λ c x y. clipped_same n f g c (same c x y))
+    (λ c x. clipped_none n g c (none c x)) p
 
 pub stretch_none : (n : ℕ) (f : ℕ → ℕ) (from stop : ℕ) → IsUnmapped f from stop → IsUnmapped (clipped n f) from stop
 stretch_none n f from stop h c x y = clipped_none n f c (h c x y)
-
--- a piece from a code on is one from an earlier code on, where none between them is mapped
-pub piece_back : (m : ℕ → ℕ) (from at : ℕ) (run : Run) → from ≤ at → IsUnmapped m from at → IsPiece m at run → IsPiece m from run
-piece_back m from at run on none p =
-    record {
-      from_on = omega (arith, on, p.from_on);
-      least = λ c x y. elim (cases_lt c at) [ inl z ↦ none c x z | inr z ↦ p.least c z y ];
-      order = p.order;
-      within = p.within;
-      mapped = p.mapped;
-      small = p.small;
-      along = p.along;
-    }
-
-pub none_back : (m : ℕ → ℕ) (from at stop : ℕ) → IsUnmapped m from at → IsUnmapped m at stop → IsUnmapped m from stop
-none_back m from at stop a b c x y = elim (cases_lt c at) [ inl z ↦ a c x z | inr z ↦ b c z y ]
 
 -- what holds of a found one
 pub holds_of : {X : Type 0} (P : X → Type 0) (found : Option X) (x : X) → found ≡ Some x → IfSome found P → P x

@@ -1,6 +1,7 @@
 -- Words of private contracts and of proofs: no public clause names them.
 use Rattle.codes.specs.declared.code_range.CodeRange.{CodeRange}
-use Rattle.std.specs.Prelude.{◌≡◌, ◌<◌, ◌≤◌, length, ℕ, ◌+◌, ◌-◌, nat_le, List, slice_index_or, if◌then◌else◌, nat_lt, [], ◌∷◌, ◌++◌, min, max}
+use Rattle.std.specs.Prelude.{◌≡◌, ◌<◌, ◌≤◌, length, ℕ, ◌+◌, ◌-◌, nat_le, List, slice_index_or, if◌then◌else◌, nat_lt}
+use Rattle.std.specs.Prelude.{[], ◌∷◌, ◌++◌, min, max}
 
 -- the range at a place
 abbrev pub range_nth : List CodeRange → ℕ → CodeRange

@@ -1,5 +1,6 @@
 -- Runs of codes on glyphs, and the groups of a map (OpenType 1.9, cmap, Format 12: Segmented coverage).
-use Rattle.std.specs.Prelude.{◌≡◌, ◌≢◌, ℕ, zero, suc, ◌+◌, ◌-◌, ◌<◌, ◌≤◌, nat_le, nat_eq, ◌&&◌, List, [], ◌∷◌, Bool, if◌then◌else◌, length, Option, MatchOption}
+use Rattle.std.specs.Prelude.{◌≡◌, ◌≢◌, ℕ, zero, suc, ◌+◌, ◌-◌, ◌<◌, ◌≤◌, nat_le, nat_eq, ◌&&◌, List, [], ◌∷◌, Bool}
+use Rattle.std.specs.Prelude.{if◌then◌else◌, length, Option, MatchOption}
 use Rattle.std.specs.List.{slice_get}
 use Rattle.codes.specs.CharacterMap.{IsCharacterMap, restricted}
 use Rattle.codes.specs.declared.code_points.TheConstants.{CODES, LAST_CODE}

@@ -36,7 +36,7 @@ impl<'a> Ends for RangeEnds<'a> {
 // Returns the place of the first range that ends at the code or above it, which is likely to stand close after
 // the hint.
 #[tactic(auto, using(crate::proofs::RangeLemmas::ranges_ascend))]
-fn place_range(ranges: &[CodeRange], hint: usize, code: u32) -> usize
+fn find_range(ranges: &[CodeRange], hint: usize, code: u32) -> usize
     requires { AreSeparate 0 ranges.now }
     ensures { IsFirstReaching (range_end ranges.now) (length ranges.now) code result }
 {
@@ -48,7 +48,7 @@ pub(crate) fn has_code(ranges: &[CodeRange], code: u32) -> bool
     requires { AreSeparate 0 ranges.now }
     ensures { result ≡ member ranges.now code }
 {
-    let i = place_range(ranges, ANYWHERE, code);
+    let i = find_range(ranges, ANYWHERE, code);
     if i >= ranges.len() {
         return false;
     }
@@ -68,7 +68,7 @@ pub(crate) fn row_by_hint(
     requires { AreSeparate 0 ranges.now }
     ensures { MatchOption result.0 (NoRow (member ranges.now) from) (IsRow (member ranges.now) from) }
 {
-    let i = place_range(ranges, hint, from);
+    let i = find_range(ranges, hint, from);
     if i >= ranges.len() {
         return (None, i);
     }
@@ -89,7 +89,7 @@ fn count_before(ranges: &[CodeRange], range: CodeRange) -> usize
         (drop result ranges.now) }
 {
     // Ranges mostly come in order, so the last one is looked at first.
-    place_range(
+    find_range(
         ranges,
         ranges.len().saturating_sub(1),
         range.first.saturating_sub(1),
@@ -219,8 +219,8 @@ pub(crate) fn remove_range<A: Allocator>(
     ensures ok { OnOk result (ranges.new.items ≡ without_range range ranges.old.items) }
     ensures err { OnErr result (ranges.new.items ≡ ranges.old.items) }
 {
-    let i = place_range(ranges.as_slice(), ANYWHERE, range.first);
-    let j = place_range(ranges.as_slice(), i, range.last + 1);
+    let i = find_range(ranges.as_slice(), ANYWHERE, range.first);
+    let j = find_range(ranges.as_slice(), i, range.last + 1);
     let below = part_below_at(ranges.as_slice(), i, range);
     let above = part_above_at(ranges.as_slice(), j, range);
     match (below, above) {

@@ -26,7 +26,7 @@ impl WordError {
         ensures { result ≡ word_error_number self.now }
     {
         match self {
-            WordError::BadWord => 26,
+            WordError::BadWord => numbers::BAD_WORD,
             WordError::BadRange => numbers::BAD_RANGE,
         }
     }

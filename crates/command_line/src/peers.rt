@@ -12,9 +12,9 @@ const CHARACTERS: &str = "nothing: glyphs are chosen by their characters";
 
 const TABLES: &str = "nothing: which tables a cut keeps is fixed; fontcut show lists them";
 
-const DROP: &str = "--layout --drop TABLES leaves out tables of layout; the others are fixed";
+const DROP: &str = "--layout --drop TABLES leaves out layout tables; the others are fixed";
 
-const LAYOUT: &str = "--layout keeps the tables of layout whole, and the glyphs that GSUB puts";
+const LAYOUT: &str = "--layout keeps the layout tables whole, and the glyphs that GSUB puts";
 
 const NO_CLOSURE: &str = "--layout --drop GSUB keeps no glyph that GSUB puts";
 

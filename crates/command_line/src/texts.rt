@@ -1,19 +1,19 @@
 //! The texts of the help.
 
 pub(crate) const PROGRAM: &str =
-    "Cuts OpenType fonts with TrueType outlines down to wanted characters, and joins such cuts";
+    "Subsets OpenType fonts with TrueType outlines, keeps glyph ids, and joins such subsets (cuts)";
 
 pub(crate) const AFTER_PROGRAM: &str = "\
-CUT or FONT, OUT and one of FILES may be -, which is standard input or standard output; ./- is the file.
-OUT is overwritten when all of it is written, and never left half done.
+CUT or FONT, OUT and one of FILES may be -, for standard input or output; ./- is a file of that name.
+OUT is replaced atomically.
 
-Statuses: 0 done; 1 a font is refused, check finds something, belongs says no, or memory is refused;
+Exit status: 0 done; 1 a font is refused, check finds something, belongs says no, or out of memory;
 2 usage error; 3 a file cannot be read or written";
 
 pub(crate) const VERBOSE: &str =
-    "Says more: what to do where something fails, characters beside codes, and what shaping a cut loses";
+    "Says more: what to do if something fails, characters next to codes, and what shaping a cut loses";
 
-pub(crate) const QUIET: &str = "Says the first line alone where something fails";
+pub(crate) const QUIET: &str = "If something fails, prints only the first line of the message";
 
 pub(crate) const CHECK: &str = "Checks FONT: prints each finding, then whether it is accepted";
 
@@ -22,82 +22,83 @@ Examples:
   fontcut check font.ttf
   fontcut check - <font.ttf
 
-Statuses: 0 accepted, and nothing is found; 1 a finding, or refused; 2 words; 3 files";
+Exit status: 0 accepted without a finding; 1 a finding, or refused; 2 usage error;
+3 a file cannot be read or written";
 
 pub(crate) const SHOW: &str =
-    "Shows the numbers of FONT, which of its tables a cut keeps or drops, and whether it is a cut";
+    "Shows the counts of FONT, which of its tables a cut keeps or drops, and whether it is a cut";
 
 pub(crate) const AFTER_SHOW: &str = "\
-With --verbose it shows the tables of layout too, and whether FONT is a lean or a layout cut.
+With --verbose it also shows the layout tables, and whether FONT is a lean or a layout cut.
 
 Examples:
   fontcut show font.ttf
   fontcut show font.ttf | grep dropped
   fontcut show font.ttf --verbose
 
-Statuses: 0 shown; 1 the font is refused; 2 words; 3 files";
+Exit status: 0 shown; 1 the font is refused; 2 usage error; 3 a file cannot be read or written";
 
 pub(crate) const CODES: &str =
-    "Prints the codes that FONT maps, ascending: a range word a line, as subset --codes-file reads them";
+    "Prints the codes that FONT maps, ascending, one range a line, as subset --codes-file reads them";
 
 pub(crate) const GLYPHS: &str =
-    "Prints a line for each code: the code, the number of its glyph, and its advance width";
+    "Prints a line for each code: the code, its glyph number, and the advance width of the glyph";
 
 pub(crate) const AFTER_CODES: &str = "\
-A range is as long as it can be: U+41 for one code, U+41-5A for those from U+41 to U+5A. With --glyphs the
-lines are like U+41 36 1401, in font units; subset --codes-file reads these too, and takes their codes.
+A range is as long as possible: U+41 for one code, U+41-5A for those from U+41 to U+5A. With --glyphs the
+lines are like U+41 36 1401, in font units; of these subset --codes-file reads the codes.
 
 Examples:
   fontcut codes font.ttf
   fontcut codes font.ttf --glyphs
   fontcut codes small.ttf | fontcut subset large.ttf cut.ttf --codes-file -
 
-Statuses: 0 printed; 1 the font is refused; 2 words; 3 files";
+Exit status: 0 printed; 1 the font is refused; 2 usage error; 3 a file cannot be read or written";
 
 pub(crate) const BELONGS: &str =
-    "Says whether CUT is a cut of FONT for some characters: prints yes or no";
+    "Tells whether CUT is a cut of FONT for some characters: prints yes or no";
 
 pub(crate) const AFTER_BELONGS: &str = "\
-CUT may be a join of cuts, or a cut of an earlier version of this program. Of another font, or of another
-version of the font, it is no cut.
+CUT may be a join of cuts, or a cut of an earlier version of this program. It does not belong to another
+font, or to a version of the font in which something that it keeps differs.
 
 Examples:
   fontcut belongs cut.ttf font.ttf
   fontcut belongs cut.ttf font.ttf >/dev/null || fontcut subset font.ttf cut.ttf U+20-7E
 
-Statuses: 0 yes; 1 no, or a file is refused; 2 words; 3 files";
+Exit status: 0 yes; 1 no, or a file is refused; 2 usage error; 3 a file cannot be read or written";
 
 pub(crate) const SUBSET: &str =
-    "Cuts FONT down to the characters that are wanted, and writes the cut to OUT, which is overwritten";
+    "Writes the cut of FONT for the wanted characters to OUT, which is replaced";
 
 pub(crate) const TEXT: &str =
-    "Keeps the characters of TEXT, with --layout also those that it needs; may be used again";
+    "Keeps the characters of TEXT, with --layout also those that it needs; may be repeated";
 
 pub(crate) const TEXT_FILE: &str =
-    "The same for a file in UTF-8, but for control characters; may be used again";
+    "The same for a UTF-8 file, without its control characters; may be repeated";
 
 pub(crate) const EXACTLY: &str =
-    "Keeps the characters of texts alone with --layout; without it this changes nothing";
+    "With --layout, texts keep their own characters alone; without it this changes nothing";
 
 pub(crate) const CODES_FILE: &str =
-    "Keeps the codes of a file of lists, as those of --unicodes; # starts a comment";
+    "Keeps the codes of a file of lists in the form of --unicodes; # starts a comment";
 
 pub(crate) const REPORT: &str =
-    "Says on standard error which wanted codes FONT lacks, what the cut drops, and which scripts need that";
+    "Reports on standard error which wanted codes FONT lacks, what the cut drops, and which scripts need that";
 
 pub(crate) const STRICT: &str =
-    "Writes nothing and reports, with status 1, where FONT lacks a wanted code or none is wanted";
+    "Writes nothing, reports, and exits with 1 if FONT lacks a wanted code or none is wanted";
 
 pub(crate) const LEAN: &str =
-    "Writes the lean cut: no metrics of glyphs that are not kept, and no names of glyphs";
+    "Writes the lean cut: no metrics of glyphs that are not kept, and no glyph names";
 
 pub(crate) const LAYOUT: &str =
-    "Writes the layout cut: a lean one with GSUB, GPOS, GDEF, BASE, kern and the glyphs that GSUB puts";
+    "Writes the layout cut: a lean one with GSUB, GPOS, GDEF, BASE, kern and the substitutes of GSUB";
 
 pub(crate) const DROP: &str =
-    "Cuts FONT as if it had no such tables: GSUB alone adds glyphs; may be used again";
+    "Cuts FONT as if it lacked these layout tables; only GSUB adds glyphs; may be repeated";
 
-pub(crate) const FORCE: &str = "Writes to a name that ends in .woff2 or .woff all the same";
+pub(crate) const FORCE: &str = "Writes a TrueType file even to a name that ends in .woff2 or .woff";
 
 pub(crate) const LEAN_CUT: &str = "Asks for a lean cut, as subset --lean writes it";
 
@@ -106,27 +107,27 @@ pub(crate) const LAYOUT_CUT: &str = "Asks for a layout cut, as subset --layout w
 pub(crate) const FONT: &str =
     "The path of a font file with TrueType outlines, or - for standard input";
 
-pub(crate) const OUT: &str = "The path that is written to, or - for standard output";
+pub(crate) const OUT: &str = "The path to write to, or - for standard output";
 
 pub(crate) const CUT: &str = "The path of a file that may be a cut, or - for standard input";
 
 pub(crate) const UNICODES: &str =
-    "Keeps the codes of LIST: 41-5A,61,U+3B1,U+4?? or a unicode-range of CSS; may be used again";
+    "Keeps the codes of LIST: 41-5A,61,U+3B1,U+4?? or a unicode-range of CSS; may be repeated";
 
 pub(crate) const COMPLETE: &str =
-    "Keeps the codes of LIST, and the canonical parts of their characters; may be used again";
+    "Keeps the codes of LIST, and the canonical parts of their characters; may be repeated";
 
-pub(crate) const EXCLUDE: &str = "Takes the codes of LIST away from those that are kept";
+pub(crate) const EXCLUDE: &str = "Leaves out the codes of LIST; may be repeated";
 
-pub(crate) const EXCLUDE_FILE: &str = "Takes the codes of a file of lists away";
+pub(crate) const EXCLUDE_FILE: &str = "Leaves out the codes of a file of lists; may be repeated";
 
 pub(crate) const WORDS: &str = "Ranges of codes to keep: all, U+41, U+41-5A";
 
 pub(crate) const AFTER_SUBSET: &str = "\
-A cut keeps the numbers of the glyphs. It drops the tables of variations (fvar, gvar ..), of colours and
-bitmaps, and signatures; fontcut show lists them. Full and lean cuts drop the tables of layout (GSUB, GPOS,
-GDEF, BASE, kern) too, which scripts such as Arabic and Devanagari need: --layout keeps them. The lean cut
-of a cut is that of its font: --lean with the word all makes a cut lean.
+A cut keeps the glyph numbers. It drops variations (fvar, gvar ..), colours, bitmaps and signatures;
+fontcut show lists the tables. Full and lean cuts also drop the layout tables (GSUB, GPOS, GDEF, BASE,
+kern), which scripts such as Arabic and Devanagari need: --layout keeps them. The lean cut of a cut is
+that of its font: --lean with the word all makes a cut lean.
 
 Examples:
   fontcut subset font.ttf cut.ttf all
@@ -137,21 +138,21 @@ Examples:
   fontcut subset font.ttf cut.ttf U+20-7E --text-file page.txt --report
   fontcut subset font.ttf cut.ttf --unicodes 'U+4??, U+20AC' --exclude 450-45F
 
-Statuses: 0 done; 1 the font is refused, or --strict and a code is not mapped; 2 words; 3 files";
+Exit status: 0 done; 1 the font is refused, or --strict and a code is not mapped; 2 usage error;
+3 a file cannot be read or written";
 
 pub(crate) const SLICE: &str =
-    "Cuts FONT for each slice of a file: writes FOLDER/NAME.ttf for each, and overwrites what is there";
+    "Writes the cut of FONT for each slice of a file to FOLDER/NAME.ttf, and replaces what is there";
 
-pub(crate) const FOLDER: &str = "The path of a folder, which is made where there is none";
+pub(crate) const FOLDER: &str = "The path of a folder, which is made if it does not exist";
 
 pub(crate) const SLICES: &str =
-    "The file of slices: in each line a name and a list as that of --unicodes; # starts a comment";
+    "The file of slices: in each line a name and a list in the form of --unicodes; # starts a comment";
 
-pub(crate) const CSS: &str =
-    "Prints the rules of a style sheet for the slices, as parts of the family FAMILY";
+pub(crate) const CSS: &str = "Prints CSS rules for the slices, as parts of the family FAMILY";
 
 pub(crate) const STRICT_SLICES: &str =
-    "Writes nothing, with status 1, where FONT maps no code of a slice";
+    "Writes nothing, and exits with 1, if FONT maps no code of a slice";
 
 pub(crate) const LEAN_SLICES: &str = "Writes lean cuts, as subset --lean does";
 
@@ -159,16 +160,17 @@ pub(crate) const LAYOUT_SLICES: &str = "Writes layout cuts, as subset --layout d
 
 pub(crate) const AFTER_SLICE: &str = "\
 A line of the file of slices: latin U+20-7E,U+A0-FF. The font is tested once for all slices. A rule lists
-those codes of its slice that the font maps; a slice of none has no rule, and is named on standard error.
+the codes of its slice that the font maps; a slice without any has no rule, and is named on standard error.
 
 Examples:
   fontcut slice font.ttf slices --slices slices.txt --lean
   fontcut slice font.ttf slices --slices slices.txt --lean --css 'My Font' >slices/font.css
 
-Statuses: 0 done; 1 the font is refused; 2 words, or a line of the file of slices; 3 files";
+Exit status: 0 done; 1 the font is refused; 2 usage error, also in the file of slices;
+3 a file cannot be read or written";
 
 pub(crate) const JOIN: &str =
-    "Joins FILES, cuts of one font, into OUT: the cut for all their characters. OUT is overwritten";
+    "Joins FILES, cuts of one font, into OUT: the cut for all their characters. OUT is replaced";
 
 pub(crate) const JOIN_USAGE: &str = "fontcut join [OPTIONS] -o <OUT> <FILES>...";
 
@@ -185,15 +187,16 @@ pub(crate) const LAYOUT_JOIN: &str =
 
 pub(crate) const AFTER_JOIN: &str = "\
 A join keeps what its cuts kept, and drops nothing. It is the cut of the font for all their characters.
-Lean cuts join with --lean, and with lean cuts alone; subset --lean with the word all makes a cut lean.
-Layout cuts join with --layout, and with layout cuts alone.
+With --lean only lean cuts join; subset --lean with the word all makes a cut lean.
+With --layout only layout cuts join.
 
 Examples:
   fontcut join -o all.ttf latin.ttf greek.ttf
   fontcut join -o all.ttf all.ttf more.ttf
   fontcut join --lean -o all.ttf latin.ttf greek.ttf
 
-Statuses: 0 done; 1 a file is refused, or they are no cuts of one font; 2 words; 3 files";
+Exit status: 0 done; 1 a file is refused, or they are not cuts of one font; 2 usage error;
+3 a file cannot be read or written";
 
 pub(crate) const DEMO: &str =
     "Shows what is found in a font of six glyphs, and the sizes of some of its cuts";
@@ -203,4 +206,4 @@ Examples:
   fontcut demo
   fontcut
 
-Statuses: 0 done; 2 words; 3 standard output cannot be written";
+Exit status: 0 done; 2 usage error; 3 standard output cannot be written";

@@ -7,9 +7,10 @@ use Rattle.font_join.specs.declared.join_error.JoinAllIntoError.{JoinAllIntoErro
 use Rattle.font_join.specs.declared.join_error.JoinAllIntoError.TheVariants.{NotJoined, WriteFault}
 use Rattle.font_join.specs.declared.join_error.JoinAllError.{JoinAllError}
 use Rattle.font_join.specs.declared.join_error.JoinAllError.TheVariants.{At, NothingToJoin}
-use Rattle.font_join.specs.declared.join_error.JoinError.TheVariants.{DifferentGlyph, DifferentMapping, DifferentTable, Font, NoMemory, NotACut, TooLarge}
+use Rattle.font_join.specs.declared.join_error.JoinError.TheVariants.{DifferentGlyph, DifferentMapping, DifferentTable}
+use Rattle.font_join.specs.declared.join_error.JoinError.TheVariants.{Font, NoMemory, NotACut, TooLarge}
 use Rattle.streams.specs.declared.outlet.Outlet.{Outlet}
-use Rattle.commands.specs.Join.{AreGot, AreSpent, JoinStops, OnlySize, ReadStops}
+use Rattle.commands.specs.JoinRun.{AreGot, AreSpent, JoinStops, OnlySize, ReadStops}
 use Rattle.commands.specs.Run.{of_join_error, of_join_into_error}
 use Rattle.streams.specs.declared.inlet.Inlet.{Inlet}
 use Rattle.commands.specs.declared.run_error.RunError.{RunError}
@@ -17,7 +18,9 @@ use Rattle.commands.specs.declared.run_error.RunError.TheVariants as runs
 use Rattle.commands.proofs.ReadEachLemmas.{all_read_to}
 use Rattle.commands.proofs.RunLemmas.{sends_all}
 
-pub only_size_of : (format : Format) (F : List ℕ) (A : ℕ → ℕ → Bool) (files : List (List ℕ)) (count : ℕ) → length files ≡ count → (error : JoinAllError) → IsForSizeOf format F A files error → OnlySize format F A count (of_join_error error)
+pub only_size_of : (format : Format) (F : List ℕ) (A : ℕ → ℕ → Bool) (files : List (List ℕ)) (count : ℕ)
+    → length files ≡ count → (error : JoinAllError) → IsForSizeOf format F A files error
+    → OnlySize format F A count (of_join_error error)
 only_size_of format F A files count long NothingToJoin none = sym long ∙ ap length none
 only_size_of format F A files count long (At step NoMemory) is = tt
 only_size_of format F A files count long (At step (TooLarge size)) is = is
@@ -27,23 +30,38 @@ only_size_of format F A files count long (At step (DifferentTable tag)) is = abs
 only_size_of format F A files count long (At step (DifferentMapping code)) is = absurd is
 only_size_of format F A files count long (At step (DifferentGlyph g)) is = absurd is
 
-pub join_stopped : {R W : Type 0} (format : Format) (remaining : R → Option (List ℕ)) (contents : W → Option (List ℕ)) (old new : List (Inlet R)) (o : Outlet W) (files : List (List ℕ)) → length new ≡ length old → AreSpent new → AreGot remaining old files
-    → (error : JoinAllError) → IsAllRefusal format files error → JoinStops format remaining contents old new o o (of_join_error error)
-join_stopped format remaining contents old new o files same spent got NothingToJoin r = (spent, refl, refl, (files, got, r))
-join_stopped format remaining contents old new o files same spent got (At step NoMemory) r = (all_read_to old new same spent, refl)
-join_stopped format remaining contents old new o files same spent got (At step (TooLarge size)) r = (spent, refl, refl, (files, got, r))
-join_stopped format remaining contents old new o files same spent got (At step (Font which error)) r = (spent, refl, refl, (files, got, r))
-join_stopped format remaining contents old new o files same spent got (At step (NotACut which)) r = (spent, refl, refl, (files, got, r))
-join_stopped format remaining contents old new o files same spent got (At step (DifferentTable tag)) r = (spent, refl, refl, (files, got, r))
-join_stopped format remaining contents old new o files same spent got (At step (DifferentMapping code)) r = (spent, refl, refl, (files, got, r))
-join_stopped format remaining contents old new o files same spent got (At step (DifferentGlyph g)) r = (spent, refl, refl, (files, got, r))
+pub join_stopped : {R W : Type 0} (format : Format) (remaining : R → Option (List ℕ)) (contents : W → Option (List ℕ))
+    (old new : List (Inlet R)) (o : Outlet W) (files : List (List ℕ)) → length new ≡ length old → AreSpent new
+    → AreGot remaining old files
+    → (error : JoinAllError) → IsAllRefusal format files error
+    → JoinStops format remaining contents old new o o (of_join_error error)
+join_stopped format remaining contents old new o files same spent got NothingToJoin r =
+    (spent, refl, refl, (files, got, r))
+join_stopped format remaining contents old new o files same spent got (At step NoMemory) r =
+    (all_read_to old new same spent, refl)
+join_stopped format remaining contents old new o files same spent got (At step (TooLarge size)) r =
+    (spent, refl, refl, (files, got, r))
+join_stopped format remaining contents old new o files same spent got (At step (Font which error)) r =
+    (spent, refl, refl, (files, got, r))
+join_stopped format remaining contents old new o files same spent got (At step (NotACut which)) r =
+    (spent, refl, refl, (files, got, r))
+join_stopped format remaining contents old new o files same spent got (At step (DifferentTable tag)) r =
+    (spent, refl, refl, (files, got, r))
+join_stopped format remaining contents old new o files same spent got (At step (DifferentMapping code)) r =
+    (spent, refl, refl, (files, got, r))
+join_stopped format remaining contents old new o files same spent got (At step (DifferentGlyph g)) r =
+    (spent, refl, refl, (files, got, r))
 
-pub only_size_into : (format : Format) (F : List ℕ) (A : ℕ → ℕ → Bool) (files : List (List ℕ)) (count : ℕ) → length files ≡ count → (error : JoinAllIntoError) → IsForSizeInto format F A files error → OnlySize format F A count (of_join_into_error error)
+pub only_size_into : (format : Format) (F : List ℕ) (A : ℕ → ℕ → Bool) (files : List (List ℕ)) (count : ℕ)
+    → length files ≡ count → (error : JoinAllIntoError) → IsForSizeInto format F A files error
+    → OnlySize format F A count (of_join_into_error error)
 only_size_into format F A files count long (NotJoined error) is = only_size_of format F A files count long error is
 only_size_into format F A files count long (WriteFault written) is = tt
 
 -- files that were not all read: nothing was sent
-pub read_stopped : {R W : Type 0} (format : Format) (remaining : R → Option (List ℕ)) (contents : W → Option (List ℕ)) (old new : List (Inlet R)) (o : Outlet W) → (error : RunError) → ReadStops remaining old new error → JoinStops format remaining contents old new o o error
+pub read_stopped : {R W : Type 0} (format : Format) (remaining : R → Option (List ℕ)) (contents : W → Option (List ℕ))
+    (old new : List (Inlet R)) (o : Outlet W) → (error : RunError) → ReadStops remaining old new error
+    → JoinStops format remaining contents old new o o error
 read_stopped format remaining contents old new o (runs.Read count) stops = (stops, refl)
 read_stopped format remaining contents old new o runs.Memory stops = (stops, refl)
 read_stopped format remaining contents old new o (runs.Write count) stops = absurd stops
@@ -53,15 +71,23 @@ read_stopped format remaining contents old new o (runs.TooLarge size) stops = ab
 read_stopped format remaining contents old new o (runs.Join error) stops = absurd stops
 
 -- files that were not joined, or whose join did not all go out
-pub into_stopped : {R W : Type 0} (format : Format) (remaining : R → Option (List ℕ)) (contents : W → Option (List ℕ)) (old new : List (Inlet R)) (o p : Outlet W) (files : List (List ℕ)) → length new ≡ length old → AreSpent new → AreGot remaining old files
-    → (error : JoinAllIntoError) → StopsJoin format contents o p files error → JoinStops format remaining contents old new o p (of_join_into_error error)
+pub into_stopped : {R W : Type 0} (format : Format) (remaining : R → Option (List ℕ)) (contents : W → Option (List ℕ))
+    (old new : List (Inlet R)) (o p : Outlet W) (files : List (List ℕ)) → length new ≡ length old → AreSpent new
+    → AreGot remaining old files
+    → (error : JoinAllIntoError) → StopsJoin format contents o p files error
+    → JoinStops format remaining contents old new o p (of_join_into_error error)
 into_stopped format remaining contents old new o p files same spent got (NotJoined error) stops =
-    subst (λ q. JoinStops format remaining contents old new o q (of_join_error error)) (sym stops.0) (join_stopped format remaining contents old new o files same spent got error stops.1)
+    subst (λ q. JoinStops format remaining contents old new o q (of_join_error error)) (sym stops.0)
+    (join_stopped format remaining contents old new o files same spent got error stops.1)
 into_stopped format remaining contents old new o p files same spent got (WriteFault written) stops =
     (spent, stops.2.broken, sym stops.2.count, (files, got, (stops.0, stops.1, stops.2.front)))
 
 -- a join that all went out, and was not flushed
-pub finish_stopped : {R W : Type 0} (format : Format) (remaining : R → Option (List ℕ)) (contents : W → Option (List ℕ)) (old new : List (Inlet R)) (o m p : Outlet W) (files : List (List ℕ)) → AreSpent new → AreGot remaining old files → outlets.fresh_of o ≡ true
-    → (z : List ℕ) → IsAllJoined format files z → outlets.WentOut contents o m z → outlets.WentOut contents m p [] → (count : ℕ) → count ≡ outlets.written_of p → outlets.broken_of p ≡ true → JoinStops format remaining contents old new o p (runs.Write count)
+pub finish_stopped : {R W : Type 0} (format : Format) (remaining : R → Option (List ℕ)) (contents : W → Option (List ℕ))
+    (old new : List (Inlet R)) (o m p : Outlet W) (files : List (List ℕ)) → AreSpent new → AreGot remaining old files
+    → outlets.fresh_of o ≡ true
+    → (z : List ℕ) → IsAllJoined format files z → outlets.WentOut contents o m z → outlets.WentOut contents m p []
+    → (count : ℕ) → count ≡ outlets.written_of p → outlets.broken_of p ≡ true
+    → JoinStops format remaining contents old new o p (runs.Write count)
 finish_stopped format remaining contents old new o m p files spent got fresh z joined sent flushed count is broken =
     (spent, broken, sym is, (files, got, (z, joined, sends_all contents o m p z fresh sent flushed count is)))

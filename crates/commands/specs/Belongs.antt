@@ -1,6 +1,6 @@
 -- What `belongs` prints of two files, and how it leaves its inlets and its outlet, this project's own.
 use Rattle.std.specs.Prelude.{◌≡◌, ℕ, ◌⊎◌, ◌↔◌, Bool, false, true, IsTrue, List, None, Option, Some, codes, take}
-use Rattle.font_subset.specs.Kinds.{IsCutIn}
+use Rattle.font_subset.specs.CutOfKind.{IsCutIn}
 use Rattle.font_subset.specs.declared.layout_font.OpenError.{OpenError}
 use Rattle.font_subset.specs.declared.layout_font.OpenError.TheVariants as open_errors
 use Rattle.font_cut.specs.Fonts.{FontError, Kind, fault_of}
@@ -10,7 +10,7 @@ use Rattle.font_join.specs.declared.join_error.Which.TheVariants.{First, Second}
 use Rattle.streams.specs.declared.outlet.Outlet.{Outlet}
 use Rattle.commands.specs.Check.{line}
 use Rattle.streams.specs.Inlet as inlets
-use Rattle.commands.specs.Join.{IsSpent}
+use Rattle.commands.specs.JoinRun.{IsSpent}
 use Rattle.commands.specs.Run.{got}
 use Rattle.streams.specs.declared.inlet.Inlet.{Inlet}
 use Rattle.commands.specs.declared.run_error.RunError.{RunError}

@@ -1,8 +1,10 @@
 -- What `check` prints of a file, this project's own.
-use Rattle.std.specs.Prelude.{ℕ, List, [], ◌∷◌, ◌++◌, if◌then◌else◌, codes, decimal, is_none, length, Option, None, Some}
+use Rattle.std.specs.Prelude.{ℕ, List, [], ◌∷◌, ◌++◌, if◌then◌else◌, codes, decimal, is_none, length, Option, None}
+use Rattle.std.specs.Prelude.{Some}
 use Rattle.std.specs.List.{flat_map}
 use Rattle.std.specs.Option.{option_map, option_map_or}
-use Rattle.font_cut.specs.Fonts.{Finding, FontError, directory_fault, error_number, error_text, finding_text, findings_of, font_fault}
+use Rattle.font_cut.specs.Fonts.{Finding, FontError, directory_fault, error_number, error_text, finding_text}
+use Rattle.font_cut.specs.Fonts.{findings_of, font_fault}
 use Rattle.commands.specs.declared.check.Report.{Report}
 
 -- a text and a line break

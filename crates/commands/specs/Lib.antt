@@ -2,8 +2,8 @@ pub mod Belongs
 pub mod Check
 pub mod Codes
 pub mod Drop
-pub mod Glyphs
-pub mod Join
+pub mod MappedGlyphs
+pub mod JoinRun
 pub mod Places
 pub mod Run
 pub mod Show

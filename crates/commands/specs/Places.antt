@@ -1,7 +1,7 @@
 -- Where a walk over the mapped codes of a map stands, this project's own.
 use Rattle.std.specs.Prelude.{◌≡◌, ℕ, ◌+◌, ◌≤◌, List, [], ◌∷◌, Option, None, Some}
 use Rattle.codes.specs.Runs.{IsRun}
-use Rattle.commands.specs.Glyphs.{mapped_from}
+use Rattle.commands.specs.MappedGlyphs.{mapped_from}
 use Rattle.commands.specs.declared.mapped_glyphs.Place.{Place}
 
 -- a place is at a code of a run

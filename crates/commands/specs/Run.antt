@@ -1,8 +1,10 @@
 -- What a run is given, and how it leaves its inlet and its outlet, this project's own.
-use Rattle.std.specs.Prelude.{◌≡◌, ℕ, ◌+◌, ◌≤◌, Bool, false, true, length, List, None, Option, IfErr, IfSome, OnOk, Result, Some, take}
-use Rattle.font_subset.specs.Cut.{IsTooLarge}
-use Rattle.font_subset.specs.Kinds.{cut_in}
-use Rattle.font_cut.specs.Fonts.{Full, Kind, MAX_FILE, NO_MEMORY, READ_FAULT, TOO_LARGE, WRITE_FAULT, error_number, fault_of, font_fault}
+use Rattle.std.specs.Prelude.{◌≡◌, ℕ, ◌+◌, ◌≤◌, Bool, false, true, length, List, None, Option, IfErr, IfSome, OnOk}
+use Rattle.std.specs.Prelude.{Result, Some, take}
+use Rattle.font_subset.specs.CutOfFont.{IsTooLarge}
+use Rattle.font_subset.specs.CutOfKind.{cut_in}
+use Rattle.font_cut.specs.Fonts.{Full, Kind, MAX_FILE, NO_MEMORY, READ_FAULT, TOO_LARGE, WRITE_FAULT, error_number}
+use Rattle.font_cut.specs.Fonts.{fault_of, font_fault}
 use Rattle.font_subset.specs.declared.cut_font.CutIntoError.{CutIntoError}
 use Rattle.font_subset.specs.declared.cut_font.CutIntoError.TheVariants as cut_errors
 use Rattle.font_subset.specs.declared.layout_font.OpenError.{OpenError}

@@ -2,8 +2,10 @@
 use Rattle.std.specs.Prelude.{ℕ, List, [], ◌∷◌, ◌++◌, codes, decimal, length, Option}
 use Rattle.std.specs.List.{flat_map, range_with_len}
 use Rattle.std.specs.Option.{option_copied, option_map_or}
-use Rattle.font_subset.specs.Cut.{cut_form_of}
-use Rattle.font_cut.specs.Fonts.{Entry, LocaForm, Long, SLOTS, Short, Tag, chosen_of, cmap_of, dropped_of, glyph_count_of, kept_tag, loca_form_of, mapped_codes, mapping_of, metric_count_of, table_of, tag_text, units_per_em_of}
+use Rattle.font_subset.specs.CutOfFont.{cut_form_of}
+use Rattle.font_cut.specs.Fonts.{Entry, LocaForm, Long, SLOTS, Short, Tag, chosen_of, cmap_of, dropped_of}
+use Rattle.font_cut.specs.Fonts.{glyph_count_of, kept_tag, loca_form_of, mapped_codes, mapping_of, metric_count_of}
+use Rattle.font_cut.specs.Fonts.{table_of, tag_text, units_per_em_of}
 use Rattle.font_subset.specs.declared.forms.CutForm.{CutForm}
 use Rattle.font_subset.specs.declared.forms.CutForm.TheVariants.{Current, Not, Old}
 use Rattle.commands.specs.Check.{line}

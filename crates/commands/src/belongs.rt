@@ -1,10 +1,10 @@
 //! `belongs`: whether a file is a cut of a font.
 ghost use Rattle.std.specs.Prelude.{◌≡◌, None, IfErr, IfOk, MatchResult, OnOk, false, true};
-ghost use Rattle.streams.specs.Outlet.{WentOut, broken_of, fresh_of};
+ghost use Rattle.streams.specs.Outlet.{WentOut, broken_of, flushed_of, fresh_of};
 ghost use Rattle.font_cut.specs.Fonts.{Kind, fault_of};
 ghost use Rattle.commands.specs.Belongs.{Answers, BelongsStops, IsUnanswered, IsUnopened, answer_text, got_both, of_unopened};
 ghost use Rattle.streams.specs.Inlet.{inlet_fresh_of};
-ghost use Rattle.commands.specs.Join.{IsSpent};
+ghost use Rattle.commands.specs.JoinRun.{IsSpent};
 
 use crate::run_error::{RunError, send};
 use font_cut::{Font, FontOfKind, Kind, OpenError, Outlet, Which, belongs};
@@ -96,6 +96,7 @@ pub fn run_belongs<R: Read, W: Write, A: Allocator + Copy>(
         (λ x y. Answers kind x y answer)) }
     ensures sent { IfOk result (λ answer. WentOut W.contents outlet.old outlet.new (answer_text answer)) }
     ensures whole { OnOk result (IsSpent cut.new × IsSpent font.new × (broken_of outlet.new ≡ false)) }
+    ensures flushed { OnOk result (flushed_of outlet.new ≡ true) }
 
     ensures error { IfErr result
         (BelongsStops kind R.remaining W.contents cut.old cut.new font.old font.new

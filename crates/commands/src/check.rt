@@ -1,10 +1,10 @@
 //! `check`: the findings of a file, and whether it is accepted.
-ghost use Rattle.std.specs.Prelude.{◌≡◌, ◌↔◌, None, Some, IfOk, IsTrue, [], false, true};
+ghost use Rattle.std.specs.Prelude.{◌≡◌, ◌↔◌, None, Some, IfOk, IsTrue, OnOk, [], false, true};
 ghost use Rattle.std.specs.List.{flat_map};
 ghost use Rattle.font_cut.specs.Fonts.{findings_of, font_fault};
 ghost use Rattle.commands.specs.Check.{check_text, finding_line, read_findings, report_text, shown_findings};
 ghost use Rattle.streams.specs.Inlet.{inlet_fresh_of};
-ghost use Rattle.streams.specs.Outlet.{fresh_of};
+ghost use Rattle.streams.specs.Outlet.{flushed_of, fresh_of};
 ghost use Rattle.commands.specs.Run.{AnyFile, RefusesNone, SendsText, got};
 
 use crate::run_error::{RunError, send};
@@ -103,6 +103,7 @@ pub fn run_check<R: Read, W: Write, A: Allocator + Copy>(
     // `check` reports a refused file on the outlet; it is not an error of the run.
     ensures sent { SendsText R.remaining W.contents AnyFile check_text RefusesNone
         inlet.old inlet.new outlet.old outlet.new result }
+    ensures flushed { OnOk result (flushed_of outlet.new ≡ true) }
     ensures answer { IfOk result (λ clean. got R.remaining inlet.old
         (λ file. IsTrue clean ↔ (font_fault file ≡ None) × (findings_of file ≡ []))) }
 {

@@ -1,10 +1,10 @@
 //! `join`: the join of cuts.
 ghost use Rattle.std.specs.Prelude.{◌≡◌, ◌≤◌, ℕ, Bool, List, IfErr, IfOk, MatchResult, OnOk, false, length, map, true};
-ghost use Rattle.font_subset.specs.Cut.{cut_of};
-ghost use Rattle.font_subset.specs.Kinds.{cut_in};
+ghost use Rattle.font_subset.specs.CutOfFont.{cut_of};
+ghost use Rattle.font_subset.specs.CutOfKind.{cut_in};
 ghost use Rattle.font_cut.specs.Fonts.{MAX_FILE, format_of, our_format, union_below};
-ghost use Rattle.streams.specs.Outlet.{WentOut, broken_of, fresh_of};
-ghost use Rattle.commands.specs.Join.{AreFresh, AreGot, AreSpent, GotCuts, JoinStops, OnlySize, ReadStops, SendsJoin};
+ghost use Rattle.streams.specs.Outlet.{WentOut, broken_of, flushed_of, fresh_of};
+ghost use Rattle.commands.specs.JoinRun.{AreFresh, AreGot, AreSpent, GotCuts, JoinStops, OnlySize, ReadStops, SendsJoin};
 
 use crate::run_error::RunError;
 use font_cut::{Kind, Outlet, join_all_of_kind_into};
@@ -52,6 +52,7 @@ pub fn run_join_of_kind<R: Read, W: Write, A: Allocator + Copy>(
         (SendsJoin (format_of kind) R.remaining W.contents inlets.old outlet.old outlet.new) }
     ensures small { IfOk result (λ size. size ≤ MAX_FILE) }
     ensures whole { OnOk result (AreSpent inlets.new × (broken_of outlet.new ≡ false)) }
+    ensures flushed { OnOk result (flushed_of outlet.new ≡ true) }
     ensures cuts { (F : List ℕ) (A : ℕ → ℕ → Bool) → GotCuts (format_of kind) R.remaining inlets.old F A →
         MatchResult result (λ size. let z = cut_in kind F (union_below A (length inlets.old)) in
         (size ≡ length z) × WentOut W.contents outlet.old outlet.new z)
@@ -85,6 +86,7 @@ pub fn run_join<R: Read, W: Write, A: Allocator + Copy>(
         (SendsJoin our_format R.remaining W.contents inlets.old outlet.old outlet.new) }
     ensures small { IfOk result (λ size. size ≤ MAX_FILE) }
     ensures whole { OnOk result (AreSpent inlets.new × (broken_of outlet.new ≡ false)) }
+    ensures flushed { OnOk result (flushed_of outlet.new ≡ true) }
     ensures cuts { (F : List ℕ) (A : ℕ → ℕ → Bool) → GotCuts our_format R.remaining inlets.old F A →
         MatchResult result (λ size. let z = cut_of F (union_below A (length inlets.old)) in
         (size ≡ length z) × WentOut W.contents outlet.old outlet.new z)

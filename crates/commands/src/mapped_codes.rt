@@ -1,9 +1,9 @@
 //! `codes`: the mapped codes of a font, as words that `subset` reads.
-ghost use Rattle.std.specs.Prelude.{◌≡◌, ◌+◌, ◌≤◌, ◌∷◌, ℕ, [], MatchOption, Some, true};
+ghost use Rattle.std.specs.Prelude.{◌≡◌, ◌+◌, ◌≤◌, ◌∷◌, ℕ, [], MatchOption, OnOk, Some, true};
 ghost use Rattle.codes.specs.CharacterMap.{IsCharacterMap};
 ghost use Rattle.codes.specs.declared.code_points.TheConstants.{LAST_CODE};
 ghost use Rattle.font_cut.specs.Fonts.{mapping_of};
-ghost use Rattle.streams.specs.Outlet.{fresh_of};
+ghost use Rattle.streams.specs.Outlet.{flushed_of, fresh_of};
 ghost use Rattle.commands.specs.Codes.{CodesLaws, code_lines, code_ranges, codes_text};
 ghost use Rattle.streams.specs.Inlet.{inlet_fresh_of};
 ghost use Rattle.commands.specs.Run.{IsAccepted, RefusesFont, SendsText};
@@ -72,8 +72,9 @@ pub fn run_codes<R: Read, W: Write, A: Allocator + Copy>(
 ) -> Result<(), RunError>
     requires inlet { inlet_fresh_of inlet.old ≡ true }
     requires outlet { fresh_of outlet.old ≡ true }
-    ensures { SendsText R.remaining W.contents IsAccepted codes_text (RefusesFont R.remaining inlet.old)
+    ensures sent { SendsText R.remaining W.contents IsAccepted codes_text (RefusesFont R.remaining inlet.old)
         inlet.old inlet.new outlet.old outlet.new result }
+    ensures flushed { OnOk result (flushed_of outlet.new ≡ true) }
 {
     let file = inlet.read_all(alloc)?;
     let font = Font::open(&file)?;

@@ -1,13 +1,13 @@
 //! `codes --glyphs`: each mapped code of a font with its glyph and the advance width of that. OpenType 1.9,
 //! `cmap` and `hmtx`.
-ghost use Rattle.std.specs.Prelude.{◌≡◌, ◌+◌, ℕ, [], MatchOption, Some, true};
+ghost use Rattle.std.specs.Prelude.{◌≡◌, ◌+◌, ℕ, [], MatchOption, OnOk, Some, true};
 ghost use Rattle.codes.specs.CharacterMap.{IsCharacterMap, is_mapped};
 ghost use Rattle.codes.specs.Wanted.{IsBadRange};
 ghost use Rattle.codes.specs.Word.{IsWord, code_word};
 ghost use Rattle.font_cut.specs.Fonts.{map_of};
 ghost use Rattle.streams.specs.Inlet.{inlet_fresh_of};
-ghost use Rattle.streams.specs.Outlet.{fresh_of};
-ghost use Rattle.commands.specs.Glyphs.{glyph_line, glyph_text, glyphs_text, mapped_from};
+ghost use Rattle.streams.specs.Outlet.{flushed_of, fresh_of};
+ghost use Rattle.commands.specs.MappedGlyphs.{glyph_line, glyph_text, glyphs_text, mapped_from};
 ghost use Rattle.commands.specs.Places.{IsPlace, IsPlaceFrom};
 ghost use Rattle.commands.specs.Run.{IsAccepted, RefusesFont, SendsText};
 
@@ -133,8 +133,9 @@ pub fn run_glyphs<R: Read, W: Write, A: Allocator + Copy>(
 ) -> Result<(), RunError>
     requires inlet { inlet_fresh_of inlet.old ≡ true }
     requires outlet { fresh_of outlet.old ≡ true }
-    ensures { SendsText R.remaining W.contents IsAccepted glyphs_text (RefusesFont R.remaining inlet.old)
+    ensures sent { SendsText R.remaining W.contents IsAccepted glyphs_text (RefusesFont R.remaining inlet.old)
         inlet.old inlet.new outlet.old outlet.new result }
+    ensures flushed { OnOk result (flushed_of outlet.new ≡ true) }
 {
     let file = inlet.read_all(alloc)?;
     let font = Font::open(&file)?;

@@ -1,9 +1,9 @@
 //! `subset`: the cut of a font for the codes that are wanted.
-ghost use Rattle.std.specs.Prelude.{◌≡◌, ◌≤◌, IfOk, length, true};
-ghost use Rattle.font_subset.specs.Cut.{cut_of};
-ghost use Rattle.font_subset.specs.Kinds.{cut_in};
+ghost use Rattle.std.specs.Prelude.{◌≡◌, ◌≤◌, IfOk, OnOk, length, true};
+ghost use Rattle.font_subset.specs.CutOfFont.{cut_of};
+ghost use Rattle.font_subset.specs.CutOfKind.{cut_in};
 ghost use Rattle.font_cut.specs.Fonts.{MAX_FILE, member};
-ghost use Rattle.streams.specs.Outlet.{fresh_of};
+ghost use Rattle.streams.specs.Outlet.{flushed_of, fresh_of};
 ghost use Rattle.streams.specs.Inlet.{inlet_fresh_of};
 ghost use Rattle.commands.specs.Run.{HasCut, HasCutIn, RefusesCut, RefusesCutIn, SendsText, got};
 
@@ -34,6 +34,7 @@ pub fn run_subset_of_kind<R: Read, W: Write, A: Allocator + Copy>(
         (λ file. cut_in kind file (member wanted.now))
         (RefusesCutIn kind R.remaining inlet.old (member wanted.now))
         inlet.old inlet.new outlet.old outlet.new result }
+    ensures flushed { OnOk result (flushed_of outlet.new ≡ true) }
     ensures size { IfOk result (λ size. (size ≤ MAX_FILE) × got R.remaining inlet.old
         (λ file. size ≡ length (cut_in kind file (member wanted.now)))) }
 {
@@ -65,6 +66,7 @@ pub fn run_subset<R: Read, W: Write, A: Allocator + Copy>(
         (λ file. cut_of file (member wanted.now))
         (RefusesCut R.remaining inlet.old (member wanted.now))
         inlet.old inlet.new outlet.old outlet.new result }
+    ensures flushed { OnOk result (flushed_of outlet.new ≡ true) }
     ensures size { IfOk result (λ size. (size ≤ MAX_FILE) × got R.remaining inlet.old
         (λ file. size ≡ length (cut_of file (member wanted.now)))) }
 {

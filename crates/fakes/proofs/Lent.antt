@@ -1,5 +1,5 @@
 -- `Refusing::lent` at a call. Assumes `Logic`.
---     Lends, at_lent, lent_goes, lent_Gives      its contract, what it is handed, and the handle that it shows, if there is one
+--     Lends, at_lent, lent_goes, lent_Gives      its contract, what it is handed, the handle that it shows
 use mathlib.Core.Path.{◌≡◌, refl, ap, ◌∙◌}
 use mathlib.Core.List.{List, [], ◌∷◌, ◌++◌}
 use lib.Dec.{T, lit<}
@@ -13,7 +13,8 @@ use prog.Routine.{Routine}
 use types.Logic.{Logic, sem}
 use contract.BorrowLft.{◌⊑◌}
 use contract.Monad.{Fun, fact, fact_i}
-use types.Kit.{‵, raw, ◌⊛◌, some, later, given, ◌$◌, ◌∵◌, !, qed, move, keep, use0, use1, split, join, pick, learn, fsplit, fjoin, fpick, feq_l, feq_i, check, show, await, updating, now as at_once, done}
+use types.Kit.{‵, raw, ◌⊛◌, some, later, given, ◌$◌, ◌∵◌, !, qed, move, keep, use0, use1, split, join, pick, learn}
+use types.Kit.{fsplit, fjoin, fpick, feq_l, feq_i, check, show, await, updating, now as at_once, done}
 use types.Match.{live}
 use denote.RattleType.{RattleType}
 use denote.Memory.{hidden_shr}
@@ -67,22 +68,34 @@ module _ (Z : Al) {M : Type 1} {𝓤 : Ura M} (𝓛 : Logic 𝓤) (at_mem : Memo
     abbrev pub Told : Option (Bor Z.row.Denot) → Type 0
     Told o = MatchOption o (r.now.0 ≡ []) (λ h. r.now.0 ≡ h.now ∷ [])
 
-    pub lent_goes : ρ ⊑ Z.row.lives → ent 𝓤 (sep 𝓤 (sem 𝓛 (hidden_shr (L.the_row (param 0 Z.row)) κ r.now r.ref_ptr.0 r.ref_ptr.1)) Tokens) (Lends.pre at_lent)
-    lent_goes le = qed 𝓛 (‵ (hidden_shr (L.the_row (param 0 Z.row)) κ r.now r.ref_ptr.0 r.ref_ptr.1) ∷ raw Tokens ∷ []) ∵
-        feq_i ! (List Val) (shr_vals r) (shr_vals r) refl $ fjoin ! $ nothing ! $ move ! (1 ∷ 0 ∷ []) $ fjoin ! $ move ! (1 ∷ 0 ∷ []) $ join ! $
-        nothing ! $ use0 𝓛 (raw (fact 𝓤 (ρ ⊑ Z.row.lives))) (fact_i 𝓤 (ρ ⊑ Z.row.lives) (emp 𝓤) le) $ join ! $ move ! (1 ∷ 0 ∷ []) $ done !
+    pub lent_goes : ρ ⊑ Z.row.lives
+        → ent 𝓤 (sep 𝓤 (sem 𝓛 (hidden_shr (L.the_row (param 0 Z.row)) κ r.now r.ref_ptr.0 r.ref_ptr.1)) Tokens)
+        (Lends.pre at_lent)
+    lent_goes le = qed 𝓛 (‵ (hidden_shr (L.the_row (param 0 Z.row)) κ r.now r.ref_ptr.0 r.ref_ptr.1) ∷ raw Tokens ∷ [])
+        ∵
+        feq_i ! (List Val) (shr_vals r) (shr_vals r) refl $ fjoin ! $ nothing ! $ move ! (1 ∷ 0 ∷ []) $ fjoin !
+        $ move ! (1 ∷ 0 ∷ []) $ join ! $
+        nothing ! $ use0 𝓛 (raw (fact 𝓤 (ρ ⊑ Z.row.lives))) (fact_i 𝓤 (ρ ⊑ Z.row.lives) (emp 𝓤) le) $ join !
+        $ move ! (1 ∷ 0 ∷ []) $ done !
 
-    opened : (o : Option (Bor Z.row.Denot)) (v : Val) → ent 𝓤 (sem 𝓛 ((Shown Z κ).own_val o (v ∷ []))) (guard 𝓤 (v ≡ shown_val o) (sem 𝓛 (seen_if Z κ o)))
-    opened None v = qed 𝓛 (‵ ((Shown Z κ).own_val None (v ∷ [])) ∷ []) ∵ fpick ! (λ us. fsplit ! $ feq_l ! (λ e. fpick ! (λ vss. fsplit ! $ feq_l ! (λ e'.
+    opened : (o : Option (Bor Z.row.Denot)) (v : Val)
+        → ent 𝓤 (sem 𝓛 ((Shown Z κ).own_val o (v ∷ []))) (guard 𝓤 (v ≡ shown_val o) (sem 𝓛 (seen_if Z κ o)))
+    opened None v = qed 𝓛 (‵ ((Shown Z κ).own_val None (v ∷ [])) ∷ []) ∵ fpick ! (λ us. fsplit !
+        $ feq_l ! (λ e. fpick ! (λ vss. fsplit ! $ feq_l ! (λ e'.
         check ! (ap only e ∙ ap (λ (ws : List Val). live 0 (of_list ws)) e') $ done !))))
-    opened (Some b) v = qed 𝓛 (‵ ((Shown Z κ).own_val (Some b) (v ∷ [])) ∷ []) ∵ fpick ! (λ us. fsplit ! $ feq_l ! (λ e. fpick ! (λ vss. fsplit ! $ feq_l ! (λ e'. fsplit ! $ fsplit ! $ feq_l ! (λ e''.
-        check ! (ap only e ∙ ap (λ (ws : List Val). live 1 (of_list ws)) (e' ∙ ap (λ (ws : List Val). ws ++ []) e'')) $ keep ! (0 ∷ []) $ done !)))))
+    opened (Some b) v = qed 𝓛 (‵ ((Shown Z κ).own_val (Some b) (v ∷ [])) ∷ []) ∵ fpick ! (λ us. fsplit !
+        $ feq_l ! (λ e. fpick ! (λ vss. fsplit ! $ feq_l ! (λ e'. fsplit ! $ fsplit ! $ feq_l ! (λ e''.
+        check ! (ap only e ∙ ap (λ (ws : List Val). live 1 (of_list ws)) (e' ∙ ap (λ (ws : List Val). ws ++ []) e''))
+        $ keep ! (0 ∷ []) $ done !)))))
 
     abbrev pub Found : Val → Option (Bor Z.row.Denot) → SProp 𝓤
     Found v o = guard 𝓤 ((v ≡ shown_val o) × Told o) (sep 𝓤 (sem 𝓛 (seen_if Z κ o)) Tokens)
 
     pub lent_Gives : (v : Val) → ent 𝓤 (Lends.post at_lent v) (H.⇛ (ex 𝓤 (Found v)))
     lent_Gives v = qed 𝓛 (raw (Lends.post at_lent v) ∷ []) ∵ updating ! $
-        use1 𝓛 (later (some (λ (o : Option (Bor Z.row.Denot)). (raw Tokens ⊛ ‵ ((Shown Z κ).own_val o (v ∷ []))) ⊛ some (λ (ws : Unit {0} × Unit {0}). ‵ (fsep ftrue ftrue) ⊛ given (Told o) (‵ ftrue))))) (id⊢ 𝓤 _) $ await ! tt $ pick ! (λ o.
-        split ! $ split ! $ move ! (1 ∷ []) $ use1 𝓛 (given (v ≡ shown_val o) (‵ (seen_if Z κ o))) (opened o v) $ learn ! (λ e. move ! (2 ∷ []) $ pick ! (λ ws. split ! $ move ! (1 ∷ []) $ learn ! (λ k.
+        use1 𝓛 (later (some (λ (o : Option (Bor Z.row.Denot)). (raw Tokens ⊛ ‵ ((Shown Z κ).own_val o (v ∷ []))) ⊛ some
+        (λ (ws : Unit {0} × Unit {0}). ‵ (fsep ftrue ftrue) ⊛ given (Told o) (‵ ftrue))))) (id⊢ 𝓤 _) $ await ! tt
+        $ pick ! (λ o.
+        split ! $ split ! $ move ! (1 ∷ []) $ use1 𝓛 (given (v ≡ shown_val o) (‵ (seen_if Z κ o))) (opened o v)
+        $ learn ! (λ e. move ! (2 ∷ []) $ pick ! (λ ws. split ! $ move ! (1 ∷ []) $ learn ! (λ k.
         at_once ! $ show ! (Found v) o $ check ! (e, k) $ keep ! (2 ∷ 3 ∷ []) $ done !))))

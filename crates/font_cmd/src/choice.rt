@@ -1,16 +1,15 @@
 //! The codes that a line of `subset` keeps: those of its words, lists, texts and files, and what texts need.
-use crate::code_set::CodeSet;
 use crate::held_files::HeldFiles;
 use crate::inputs::sources;
-use crate::needed::{add_all_parts, add_texts};
 use crate::report::Fault;
 use crate::system::System;
-use crate::wanted::{add_files, add_lists, add_text_files, codes_of};
 use crate::wanted_files::FileKind;
+use crate::wanted_words::{add_files, add_lists, add_text_files, codes_of};
 use command_line::{CutKind, Subset};
 use font_cut::Wanted;
 use std::alloc::{AllocError, Global};
 use std::io::Read;
+use wanted_characters::{CodeSet, add_all_parts, add_texts};
 
 /// The codes that a cut is for.
 #[derive(Drop)]

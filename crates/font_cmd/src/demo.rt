@@ -1,5 +1,5 @@
 //! `demo`: what is found in the font that the program carries, and what its cuts come to.
-use crate::wanted::codes_of;
+use crate::wanted_words::codes_of;
 use commands::{RunError, run_join, run_subset};
 use font_cut::{BASE6, Directory, Font, Outlet};
 use std::alloc::{AllocError, Global};

@@ -2,13 +2,13 @@
 ghost use Rattle.std.specs.Prelude.{◌≡◌, true};
 ghost use Rattle.streams.specs.Outlet.{fresh_of};
 
-use crate::cutting::subset;
+use crate::cut_command::subset;
 use crate::demo::demo_text;
 use crate::details::{Details, NO_DETAILS};
 use crate::dropped_tables::without_named;
 use crate::held_files::HeldFiles;
 use crate::inputs::{inlet_at, read_whole};
-use crate::joining::join;
+use crate::join_command::join;
 use crate::outcome::{Outcome, answered, ended, print, report, say};
 use crate::refused_file::{Seen, look_again};
 use crate::report::{Fault, no_memory};

@@ -1,7 +1,7 @@
 //! Files that are read, and standard input.
 ghost use Rattle.std.specs.Prelude.{◌≡◌, IfOk, true};
 ghost use Rattle.streams.specs.Inlet.{inlet_fresh_of};
-ghost use Rattle.commands.specs.Join.{AreFresh};
+ghost use Rattle.commands.specs.JoinRun.{AreFresh};
 
 use crate::report::{Fault, no_memory};
 use crate::system::{KeepsReason, System};

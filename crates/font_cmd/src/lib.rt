@@ -3,10 +3,9 @@
 #![tactic(auto)]
 
 mod choice;
-mod code_set;
-mod coverage;
+mod code_coverage;
+mod cut_command;
 mod cut_kinds;
-mod cutting;
 mod demo;
 mod details;
 mod dispatch;
@@ -14,9 +13,7 @@ mod dropped_tables;
 mod glyph_columns;
 mod held_files;
 mod inputs;
-mod joining;
-mod listed_word;
-mod needed;
+mod join_command;
 mod out_file;
 mod outcome;
 mod output;
@@ -29,9 +26,8 @@ mod slice_list;
 mod slicing;
 mod style_sheet;
 mod system;
-mod utf8;
-mod wanted;
 mod wanted_files;
+mod wanted_words;
 
 pub use crate::dispatch::{run_on_system, run_words};
 pub use crate::held_files::HeldFiles;

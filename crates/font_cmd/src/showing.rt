@@ -3,7 +3,7 @@
 ghost use Rattle.std.specs.Prelude.{◌≡◌, true};
 ghost use Rattle.streams.specs.Outlet.{fresh_of};
 
-use crate::coverage::is_of_layout;
+use crate::code_coverage::is_of_layout;
 use crate::cut_kinds::is_cut_of;
 use crate::held_files::HeldFiles;
 use crate::inputs::inlet_at;

@@ -1,11 +1,11 @@
 //! Files of slices: in each line the name of a slice and the list of its codes. This project's own.
-use crate::code_set::CodeSet;
 use crate::report::{Fault, LONGEST_LINE, no_memory};
 use crate::wanted_files::{FileFault, FileKind, add_listed};
 use font_cut::MAX_FILE;
 use std::alloc::Global;
 use std::collections::BTreeSet;
 use std::io::Read;
+use wanted_characters::CodeSet;
 
 // The most bytes of one read.
 const PIECE: usize = 16 * 1024;

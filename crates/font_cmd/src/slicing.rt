@@ -2,8 +2,7 @@
 ghost use Rattle.std.specs.Prelude.{◌≡◌, true};
 ghost use Rattle.streams.specs.Outlet.{fresh_of};
 
-use crate::code_set::CodeSet;
-use crate::coverage::mapped_codes;
+use crate::code_coverage::mapped_codes;
 use crate::dropped_tables::without_named;
 use crate::held_files::HeldFiles;
 use crate::inputs::{read_whole, source};
@@ -20,6 +19,7 @@ use font_cut::{Font, FontOfKind, Kind, Outlet, Wanted, cut_of_kind_into};
 use std::alloc::{AllocError, Global};
 use std::fs;
 use std::io::{ErrorKind, Read, Write};
+use wanted_characters::CodeSet;
 
 // What is said first where a strict line is not done.
 const UNWRITTEN: &str = "fontcut: nothing was written: the font maps no character of some slices\n";

@@ -1,12 +1,9 @@
 //! Files of wanted characters, and of words that name ranges of wanted codes. They are read in pieces.
-use crate::code_set::CodeSet;
 use crate::glyph_columns::{GlyphColumns, Named};
-use crate::listed_word::read_listed;
-use crate::needed::TextNeeds;
-use crate::utf8::Utf8;
 use font_cut::read_word;
 use std::alloc::{AllocError, Global};
 use std::io::Read;
+use wanted_characters::{CodeSet, TextNeeds, Utf8, read_listed};
 
 // The most bytes of one read.
 const PIECE: usize = 16 * 1024;

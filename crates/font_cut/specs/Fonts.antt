@@ -23,7 +23,7 @@ pub use Rattle.font_file.specs.declared.font_error.FontError.{FontError}
 pub use Rattle.font_theory.specs.Cut.{Format, cut, our_format}
 pub use Rattle.font_theory.specs.Kinds.{fault_of, format_of}
 pub use Rattle.font_theory.specs.LayoutCut.{layout_fault, layout_format}
-pub use Rattle.font_theory.specs.Lean.{lean_format}
+pub use Rattle.font_theory.specs.LeanCut.{lean_format}
 pub use Rattle.font_theory.specs.declared.kinds.Kind.{Kind}
 pub use Rattle.font_theory.specs.declared.kinds.Kind.TheVariants.{Full, Layout, Lean}
 pub use Rattle.font_theory.specs.Tree.{file_at, union_below}

@@ -1,5 +1,6 @@
 -- The first refusal of a file, by those of its parts.
-use Rattle.std.proofs.Common.{◌≡◌, ℕ, ◌+◌, ◌-◌, ◌<◌, Bool, false, List, [], ◌∷◌, ◌++◌, find, get_or, map, Option, Some, None, refl, sym, ap, subst, ◌∙◌, arith, zero-add}
+use Rattle.std.proofs.Common.{◌≡◌, ℕ, ◌+◌, ◌-◌, ◌<◌, Bool, false, List, [], ◌∷◌, ◌++◌, find, get_or, map, Option, Some}
+use Rattle.std.proofs.Common.{None, refl, sym, ap, subst, ◌∙◌, arith, zero-add}
 use Rattle.std.specs.List.{range_with_len}
 use Rattle.std.proofs.lemmas.Bool.{not-false}
 use Rattle.std.proofs.lemmas.List.FromFn.{get_or-range_with_len, length-range_with_len}
@@ -23,7 +24,9 @@ use Rattle.font_file.specs.declared.font_error.FontError.{FontError}
 use Rattle.font_file.specs.declared.font_error.FontError.TheVariants.{BadGlyph, Directory, Mapping, Tables}
 
 -- the lines of a part, before others
-lines-then : {E : Type 0} (error : E → FontError) (lines : List (Option E)) (others : List (Option FontError)) → first_of_lines (map (option_map error) lines ++ others) ≡ option_or (option_map error (first_of_lines lines)) (first_of_lines others)
+lines-then : {E : Type 0} (error : E → FontError) (lines : List (Option E)) (others : List (Option FontError))
+    → first_of_lines (map (option_map error) lines ++ others) ≡ option_or (option_map error (first_of_lines lines))
+    (first_of_lines others)
 lines-then error lines others =
     first_of_lines-append (map (option_map error) lines) others
     ∙ ap (λ (first : Option FontError). option_or first (first_of_lines others)) (first_of_lines-map error lines)
@@ -37,7 +40,8 @@ abbrev pub glyph_fault : List ℕ → Option FontError
 glyph_fault file = option_map BadGlyph (find (is_bad_glyph file) (range_with_len 0 (glyph_count_of file)))
 
 pub font_fault_is : (file : List ℕ) → font_fault file
-    ≡ option_or (option_map Directory (directory_fault file)) (option_or (option_map Tables (table_fault file)) (option_or (option_map Mapping (map_fault (cmap_of file))) (glyph_fault file)))
+    ≡ option_or (option_map Directory (directory_fault file)) (option_or (option_map Tables (table_fault file))
+    (option_or (option_map Mapping (map_fault (cmap_of file))) (glyph_fault file)))
 unfolding font_fault directory_fault table_fault map_fault
 font_fault_is file =
     lines-then Directory (directory_lines file) _
@@ -45,20 +49,24 @@ font_fault_is file =
     (lines-then Tables (table_lines file) _
     ∙ ap (λ (rest : Option FontError). option_or (option_map Tables (first_of_lines (table_lines file))) rest)
     (lines-then Mapping (map_lines (cmap_of file)) (glyph_lines file)
-    ∙ ap (λ (rest : Option FontError). option_or (option_map Mapping (first_of_lines (map_lines (cmap_of file)))) rest) (first_of_lines-single (glyph_fault file))))
+    ∙ ap (λ (rest : Option FontError). option_or (option_map Mapping (first_of_lines (map_lines (cmap_of file)))) rest)
+    (first_of_lines-single (glyph_fault file))))
 
 -- a search through a range goes on where it has not found its number
-pub find_step : (p : ℕ → Bool) (i n : ℕ) → i < n → p i ≡ false → find p (range_with_len i (n - i)) ≡ find p (range_with_len (i + 1) (n - (i + 1)))
+pub find_step : (p : ℕ → Bool) (i n : ℕ) → i < n → p i ≡ false → find p (range_with_len i (n - i))
+    ≡ find p (range_with_len (i + 1) (n - (i + 1)))
 find_step p i n inside fails = ap (find p) (range_with_len-step i n inside) ∙ rw fails refl
 
-no_glyph : (directory tables mapping glyph : Option FontError) → option_or directory (option_or tables (option_or mapping glyph)) ≡ None → glyph ≡ None
+no_glyph : (directory tables mapping glyph : Option FontError)
+    → option_or directory (option_or tables (option_or mapping glyph)) ≡ None → glyph ≡ None
 no_glyph None None None glyph h = h
 no_glyph None None (Some error) glyph h = cc
 no_glyph None (Some error) mapping glyph h = cc
 no_glyph (Some error) tables mapping glyph h = cc
 
 -- the directory of an accepted font is not refused
-no_directory : (directory : Option DirError) (rest : Option FontError) → option_or (option_map Directory directory) rest ≡ None → directory ≡ None
+no_directory : (directory : Option DirError) (rest : Option FontError) → option_or (option_map Directory directory) rest
+    ≡ None → directory ≡ None
 no_directory None rest h = refl
 no_directory (Some error) rest h = cc
 
@@ -66,23 +74,28 @@ pub directory_fault-accepted : (file : List ℕ) → font_fault file ≡ None �
 directory_fault-accepted file accepted = no_directory (directory_fault file) _ (sym (font_fault_is file) ∙ accepted)
 
 -- nor are its tables
-no_table : (directory : Option FontError) (tables : Option TableError) (rest : Option FontError) → option_or directory (option_or (option_map Tables tables) rest) ≡ None → tables ≡ None
+no_table : (directory : Option FontError) (tables : Option TableError) (rest : Option FontError)
+    → option_or directory (option_or (option_map Tables tables) rest) ≡ None → tables ≡ None
 no_table None None rest h = refl
 no_table None (Some error) rest h = cc
 no_table (Some error) tables rest h = cc
 
 pub table_fault-accepted : (file : List ℕ) → font_fault file ≡ None → table_fault file ≡ None
-table_fault-accepted file accepted = no_table (option_map Directory (directory_fault file)) (table_fault file) _ (sym (font_fault_is file) ∙ accepted)
+table_fault-accepted file accepted = no_table (option_map Directory (directory_fault file)) (table_fault file) _
+    (sym (font_fault_is file) ∙ accepted)
 
 -- nor is its mapping
-no_map : (directory tables : Option FontError) (mapping : Option MapError) (rest : Option FontError) → option_or directory (option_or tables (option_or (option_map Mapping mapping) rest)) ≡ None → mapping ≡ None
+no_map : (directory tables : Option FontError) (mapping : Option MapError) (rest : Option FontError)
+    → option_or directory (option_or tables (option_or (option_map Mapping mapping) rest)) ≡ None → mapping ≡ None
 no_map None None None rest h = refl
 no_map None None (Some error) rest h = cc
 no_map None (Some error) mapping rest h = cc
 no_map (Some error) tables mapping rest h = cc
 
 map_fault-accepted : (file : List ℕ) → font_fault file ≡ None → map_fault (cmap_of file) ≡ None
-map_fault-accepted file accepted = no_map (option_map Directory (directory_fault file)) (option_map Tables (table_fault file)) (map_fault (cmap_of file)) (glyph_fault file) (sym (font_fault_is file) ∙ accepted)
+map_fault-accepted file accepted =
+    no_map (option_map Directory (directory_fault file)) (option_map Tables (table_fault file))
+    (map_fault (cmap_of file)) (glyph_fault file) (sym (font_fault_is file) ∙ accepted)
 
 -- nothing refuses a part of an accepted font
 pub record IsAccepted (file : List ℕ) : Type 0 where
@@ -100,21 +113,26 @@ is_accepted file accepted =
 
 -- an accepted font has a glyph
 pub has_glyph : (file value : List ℕ) → file ≡ value → font_fault file ≡ None → 0 < glyph_count_of value
-has_glyph file value same accepted = subst (λ (b : List ℕ). 0 < glyph_count_of b) same (is_measured file (table_fault-accepted file accepted)).glyphs
+has_glyph file value same accepted =
+    subst (λ (b : List ℕ). 0 < glyph_count_of b) same (is_measured file (table_fault-accepted file accepted)).glyphs
 
 -- each glyph of an accepted font has a record
-pub is_record-accepted : (file : List ℕ) (g : ℕ) → font_fault file ≡ None → g < glyph_count_of file → IsRecord (glyph_count_of file) (outline_of file g)
+pub is_record-accepted : (file : List ℕ) (g : ℕ) → font_fault file ≡ None → g < glyph_count_of file
+    → IsRecord (glyph_count_of file) (outline_of file g)
 unfolding is_bad_glyph
 is_record-accepted file g accepted inside =
-    let none = no_glyph (option_map Directory (directory_fault file)) (option_map Tables (table_fault file)) (option_map Mapping (map_fault (cmap_of file))) (glyph_fault file) (sym (font_fault_is file) ∙ accepted) in
+    let none = no_glyph (option_map Directory (directory_fault file)) (option_map Tables (table_fault file))
+    (option_map Mapping (map_fault (cmap_of file))) (glyph_fault file) (sym (font_fault_is file) ∙ accepted) in
     let n = glyph_count_of file in
     let long = length-range_with_len 0 n in
-    let fine = find-none_at (is_bad_glyph file) (range_with_len 0 n) g 0 (option_map-none BadGlyph _ none) (omega arith) in
+    let fine = find-none_at (is_bad_glyph file) (range_with_len 0 n) g 0 (option_map-none BadGlyph _ none)
+    (omega arith) in
     let there : get_or (range_with_len 0 n) g 0 ≡ g = get_or-range_with_len 0 n g 0 inside ∙ zero-add g in
     is_record-tells n (outline_of file g) (not-false _ (sym (ap (is_bad_glyph file) there) ∙ fine))
 
 -- the same of an outline that was looked up in a font
-pub is_record-opened : (file value b : List ℕ) (g : ℕ) → file ≡ value → b ≡ outline_of file g → font_fault file ≡ None → g < glyph_count_of value → IsRecord (glyph_count_of value) b
+pub is_record-opened : (file value b : List ℕ) (g : ℕ) → file ≡ value → b ≡ outline_of file g → font_fault file ≡ None
+    → g < glyph_count_of value → IsRecord (glyph_count_of value) b
 is_record-opened file value b g same is accepted =
     subst (λ (v : List ℕ). g < glyph_count_of v → IsRecord (glyph_count_of v) b) same
     (λ inside. subst (IsRecord (glyph_count_of file)) (sym is) (is_record-accepted file g accepted inside))

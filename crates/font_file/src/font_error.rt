@@ -5,7 +5,7 @@ ghost use Rattle.font_file.specs.declared.font_error.FontError.TheVariants.{Dire
 
 use font_map::MapError;
 use font_tables::TableError;
-use sfnt_bytes::DirError;
+use sfnt_bytes::{DirError, numbers};
 use std::error::Error;
 use std::fmt;
 
@@ -34,8 +34,8 @@ impl FontError {
             FontError::Directory(error) => error.number(),
             FontError::Tables(error) => error.number(),
             FontError::Mapping(error) => error.number(),
-            FontError::BadGlyph(_) => 17,
-            FontError::BadLayout => 27,
+            FontError::BadGlyph(_) => numbers::BAD_GLYPH,
+            FontError::BadLayout => numbers::BAD_LAYOUT,
         }
     }
 }

@@ -1,8 +1,10 @@
 -- The worklist of a closure.
-use Rattle.std.proofs.Common.{◌≡◌, ℕ, ◌+◌, ◌<◌, ◌⊎◌, ◌↔◌, Bool, true, not, List, [], ◌∷◌, ◌++◌, length, sym, ap, subst, ◌∙◌, arith, inl, inr}
+use Rattle.std.proofs.Common.{◌≡◌, ℕ, ◌+◌, ◌<◌, ◌⊎◌, ◌↔◌, Bool, true, not, List, [], ◌∷◌, ◌++◌, length, sym, ap, subst}
+use Rattle.std.proofs.Common.{◌∙◌, arith, inl, inr}
 use Rattle.std.specs.List.{All, AllByRecursion, Contains, count_by}
 use Rattle.std.proofs.lemmas.List.{length_push}
-use Rattle.std.proofs.lemmas.List.Elements.{All-from_recursion, recursion_from_All, All-pop, All-contains, Contains-push_cases}
+use Rattle.std.proofs.lemmas.List.Elements.{All-from_recursion, recursion_from_All, All-pop, All-contains}
+use Rattle.std.proofs.lemmas.List.Elements.{Contains-push_cases}
 use Rattle.std.proofs.Common.{Some}
 use Rattle.font_glyph.specs.declared.component.Component.{Component}
 use Rattle.font_glyph.specs.Marks.{has}
@@ -12,7 +14,8 @@ use Rattle.font_glyph.specs.Reach.{Reach, IsComponentOf}
 use Rattle.font_glyph.specs.Reach.Reach.{seed, part}
 use Rattle.font_glyph.proofs.RecordLemmas.{ComponentList-only}
 use Rattle.font_glyph.proofs.ReachLemmas.{Reach-within}
-use Rattle.font_glyph.proofs.VisitLemmas.{length-marks_after, marks_stay, marks_each, marks_only, work_stays, new_in_work, work_small, work_marked, work_count}
+use Rattle.font_glyph.proofs.VisitLemmas.{length-marks_after, marks_stay, marks_each, marks_only, work_stays}
+use Rattle.font_glyph.proofs.VisitLemmas.{new_in_work, work_small, work_marked, work_count}
 
 -- the marks and the work on the way, where o has the records, n is their number and s the seeds
 pub record Closing (o : ℕ → List ℕ) (n : ℕ) (s m : List Bool) (w : List ℕ) : Type 0 where
@@ -23,14 +26,16 @@ pub record Closing (o : ℕ → List ℕ) (n : ℕ) (s m : List Bool) (w : List 
   pub small : All (λ h. h < n) w
   pub marked : All (λ h. has m h ≡ true) w
 
-glyphs_by_recursion : (n : ℕ) (l : List Component) → AllByRecursion (λ c. c.glyph < n) l → AllByRecursion (λ g. g < n) (glyphs_of l)
+glyphs_by_recursion : (n : ℕ) (l : List Component) → AllByRecursion (λ c. c.glyph < n) l
+    → AllByRecursion (λ g. g < n) (glyphs_of l)
 glyphs_by_recursion n [] a = a
 glyphs_by_recursion n (c ∷ l) a = (a.0, glyphs_by_recursion n l a.1)
 
 pub glyphs_small : (n : ℕ) (l : List Component) → All (λ c. c.glyph < n) l → AllByRecursion (λ g. g < n) (glyphs_of l)
 glyphs_small n l a = glyphs_by_recursion n l (recursion_from_All (λ c. c.glyph < n) l a)
 
-pub closing_init : (o : ℕ → List ℕ) (n : ℕ) (s : List Bool) (w : List ℕ) → length s ≡ n → ((h : ℕ) → has s h ≡ true → Contains w h) → All (λ h. h < n) w → All (λ h. has s h ≡ true) w → Closing o n s s w
+pub closing_init : (o : ℕ → List ℕ) (n : ℕ) (s : List Bool) (w : List ℕ) → length s ≡ n
+    → ((h : ℕ) → has s h ≡ true → Contains w h) → All (λ h. h < n) w → All (λ h. has s h ≡ true) w → Closing o n s s w
 closing_init o n s w e f a b =
     record {
       length = e;
@@ -41,14 +46,24 @@ closing_init o n s w e f a b =
       marked = b;
     }
 
-pub closing_end : (o : ℕ → List ℕ) (n : ℕ) (s m : List Bool) (w : List ℕ) → Closing o n s m w → w ≡ [] → (g : ℕ) → has m g ≡ true ↔ Reach o (has s) g
+pub closing_end : (o : ℕ → List ℕ) (n : ℕ) (s m : List Bool) (w : List ℕ) → Closing o n s m w → w ≡ [] → (g : ℕ)
+    → has m g ≡ true ↔ Reach o (has s) g
 closing_end o n s m w k e g = (
   k.reached g,
-  Reach-within o (has s) (has m) (record { has_seeds = k.seeds; has_parts = λ h i x c. elim (k.done h i x c) [ inl y ↦ absurd (omega (arith, y.1, ap length e)) | inr y ↦ y ] }) g,
+  Reach-within o (has s) (has m) (record {
+    has_seeds = k.seeds;
+    has_parts = λ h i x c. elim (k.done h i x c) [
+      | inl y ↦
+          absurd (omega (arith, y.1, ap length e))
+      | inr y ↦ y
+    ];
+  }) g,
 )
 
 -- one visit
-closing_step : (o : ℕ → List ℕ) (n : ℕ) (s m : List Bool) (w v : List ℕ) (g : ℕ) (l : List Component) → Closing o n s m w → w ≡ v ++ g ∷ [] → ComponentList (o g) l → All (λ c. c.glyph < n) l → Closing o n s (marks_after (glyphs_of l) m) (work_after (glyphs_of l) m v)
+closing_step : (o : ℕ → List ℕ) (n : ℕ) (s m : List Bool) (w v : List ℕ) (g : ℕ) (l : List Component)
+    → Closing o n s m w → w ≡ v ++ g ∷ [] → ComponentList (o g) l → All (λ c. c.glyph < n) l
+    → Closing o n s (marks_after (glyphs_of l) m) (work_after (glyphs_of l) m v)
 closing_step o n s m w v g l k e c a =
     let gs : List ℕ = glyphs_of l in
     let mine : has m g ≡ true = (All-pop (λ h. has m h ≡ true) w v (Some g) e k.marked).1 in
@@ -65,25 +80,37 @@ closing_step o n s m w v g l k e c a =
             | inl p ↦ inl (work_stays gs m v h p)
             | inr p ↦
                 let q : IsComponentOf (o g) i = subst (λ (t : ℕ). IsComponentOf (o t) i) (sym p) d in
-                let r : Contains gs i = subst (λ (t : List Component). Contains (glyphs_of t) i) (ComponentList-only (o g) q.list l q.is c) q.among in
-                inr (marks_each gs m i r (omega (arith, All-contains (λ t. t < n) gs i (All-from_recursion (λ t. t < n) gs (glyphs_small n l a)) r, k.length)))
+                let r : Contains gs i =
+                subst (λ (t : List Component). Contains (glyphs_of t) i) (ComponentList-only (o g) q.list l q.is c)
+                q.among in
+                inr (marks_each gs m i r
+                (omega (
+                  arith,
+                  All-contains (λ t. t < n) gs i
+                      (All-from_recursion (λ t. t < n) gs (glyphs_small n l a)) r,
+                  k.length,
+                )))
           ]
           | inr z ↦ inr (marks_stay gs m i z)
         ]
         | inr y ↦ inl y
       ];
       small = work_small n gs m v (glyphs_small n l a) (All-pop (λ h. h < n) w v (Some g) e k.small).0;
-      marked = work_marked n gs m v k.length (glyphs_small n l a) (All-pop (λ h. has m h ≡ true) w v (Some g) e k.marked).0;
+      marked = work_marked n gs m v k.length (glyphs_small n l a) (All-pop (λ h. has m h ≡ true) w v (Some g) e
+          k.marked).0;
     }
 
-pub closing_visit : (o : ℕ → List ℕ) (n : ℕ) (s m t : List Bool) (w v u : List ℕ) (b : List ℕ) (g : ℕ) (l : List Component) → Closing o n s m w → w ≡ v ++ g ∷ [] → b ≡ o g → ComponentList b l → All (λ c. c.glyph < n) l
+pub closing_visit : (o : ℕ → List ℕ) (n : ℕ) (s m t : List Bool) (w v u : List ℕ) (b : List ℕ) (g : ℕ)
+    (l : List Component) → Closing o n s m w → w ≡ v ++ g ∷ [] → b ≡ o g → ComponentList b l → All (λ c. c.glyph < n) l
     → t ≡ marks_after (glyphs_of l) m → u ≡ work_after (glyphs_of l) m v → Closing o n s t u
 closing_visit o n s m t w v u b g l k e same c a marks work =
     rw (marks, work) (closing_step o n s m w v g l k e (subst (λ (x : List ℕ). ComponentList x l) same c) a)
 
 -- a visit lowers the number of glyphs that have no mark or wait
-pub closing_smaller : (n : ℕ) (m t : List Bool) (w v u : List ℕ) (g : ℕ) (l : List Component) → length m ≡ n → w ≡ v ++ g ∷ [] → All (λ c. c.glyph < n) l
-    → t ≡ marks_after (glyphs_of l) m → u ≡ work_after (glyphs_of l) m v → count_by not t + length u < count_by not m + length w
+pub closing_smaller : (n : ℕ) (m t : List Bool) (w v u : List ℕ) (g : ℕ) (l : List Component) → length m ≡ n
+    → w ≡ v ++ g ∷ [] → All (λ c. c.glyph < n) l
+    → t ≡ marks_after (glyphs_of l) m → u ≡ work_after (glyphs_of l) m v → count_by not t + length u < count_by not m
+    + length w
 closing_smaller n m t w v u g l long popped low marks work =
     let kept = work_count (glyphs_of l) m v n (sym long) (glyphs_small n l low) in
     let same_marks : count_by not t ≡ count_by not (marks_after (glyphs_of l) m) = ap (count_by not) marks in

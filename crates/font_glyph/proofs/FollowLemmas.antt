@@ -1,5 +1,6 @@
 -- The worklist of links.
-use Rattle.std.proofs.Common.{◌≡◌, ℕ, ◌+◌, ◌<◌, ◌⊎◌, ◌↔◌, Bool, true, false, not, cond, suc, List, [], ◌∷◌, ◌++◌, drop, get_or, length, set, sym, ap, subst, ◌∙◌, arith, inl, inr}
+use Rattle.std.proofs.Common.{◌≡◌, ℕ, ◌+◌, ◌<◌, ◌⊎◌, ◌↔◌, Bool, true, false, not, cond, suc, List, [], ◌∷◌, ◌++◌, drop}
+use Rattle.std.proofs.Common.{get_or, length, set, sym, ap, subst, ◌∙◌, arith, inl, inr}
 use Rattle.std.specs.List.{All, AllByRecursion, Contains, count_by}
 use Rattle.std.proofs.lemmas.List.{drop_more, length-set, length_push}
 use Rattle.std.proofs.lemmas.List.Elements.{All-from_recursion, All-nil, All-pop, All-contains, Contains-push_cases}
@@ -9,7 +10,8 @@ use Rattle.font_glyph.specs.Linked.{Linked}
 use Rattle.font_glyph.specs.Linked.Linked.{start, link}
 use Rattle.font_glyph.specs.Marks.{has}
 use Rattle.font_glyph.proofs.LinkedLemmas.{Linked-within}
-use Rattle.font_glyph.proofs.VisitLemmas.{has_within, length-marks_after, marks_stay, marks_each, marks_only, set-marked, work_stays, new_in_work, work_small, work_marked, work_count}
+use Rattle.font_glyph.proofs.VisitLemmas.{has_within, length-marks_after, marks_stay, marks_each, marks_only}
+use Rattle.font_glyph.proofs.VisitLemmas.{set-marked, work_stays, new_in_work, work_small, work_marked, work_count}
 
 -- on the way through links: what is left of them, and where it leads
 pub record Visiting (links : List ℕ) (k : ℕ) (m all : List Bool) (w end : List ℕ) : Type 0 where
@@ -18,7 +20,8 @@ pub record Visiting (links : List ℕ) (k : ℕ) (m all : List Bool) (w end : Li
   pub work : work_after (drop k links) m w ≡ end
 
 -- one step on: the number has a mark already, or gets one
-module _ (links : List ℕ) (k : ℕ) (m all : List Bool) (w end : List ℕ) (on : Visiting links k m all w end) (inside : k < length links) where
+module _ (links : List ℕ) (k : ℕ) (m all : List Bool) (w end : List ℕ) (on : Visiting links k m all w end) (inside : k
+    < length links) where
   abbrev x : ℕ
   x = get_or links k 0
 
@@ -66,27 +69,48 @@ pub record Following (l : ℕ → List ℕ) (n : ℕ) (s m : List Bool) (w : Lis
   pub marked : All (λ h. has m h ≡ true) w
 
 -- at the start, where z has no mark: one visit of the seeds
-pub following_init : (l : ℕ → List ℕ) (n : ℕ) (s z m : List Bool) (gs w : List ℕ) → length z ≡ n → ((h : ℕ) → has z h ≡ false) → AllByRecursion (λ h. h < n) gs → ((h : ℕ) → has s h ≡ true → Contains gs h) → All (λ h. has s h ≡ true) gs
+pub following_init : (l : ℕ → List ℕ) (n : ℕ) (s z m : List Bool) (gs w : List ℕ) → length z ≡ n
+    → ((h : ℕ) → has z h ≡ false) → AllByRecursion (λ h. h < n) gs → ((h : ℕ) → has s h ≡ true → Contains gs h)
+    → All (λ h. has s h ≡ true) gs
     → m ≡ marks_after gs z → w ≡ work_after gs z [] → Following l n s m w
 following_init l n s z m gs w e none low each only marks work =
     rw (marks, work)
     (record {
       length = length-marks_after gs z ∙ e;
-      seeds = λ h x. let c = each h x in marks_each gs z h c (omega (arith, All-contains (λ t. t < n) gs h (All-from_recursion (λ t. t < n) gs low) c, e));
-      linked = λ h x. elim (marks_only gs z h x) [ inl y ↦ let no : true ≡ false = sym y ∙ none h in cc | inr y ↦ start (All-contains (λ t. has s t ≡ true) gs h only y) ];
-      done = λ h i x c. elim (new_in_work gs z [] h x) [ inl y ↦ let no : true ≡ false = sym y ∙ none h in cc | inr y ↦ inl y ];
+      seeds = λ h x. let c = each h x in
+          marks_each gs z h c (omega (
+            arith,
+            All-contains (λ t. t < n) gs h (All-from_recursion (λ t. t < n) gs low) c,
+            e,
+          ));
+      linked = λ h x. elim (marks_only gs z h x) [
+        | inl y ↦ let no : true ≡ false = sym y ∙ none h in cc
+        | inr y ↦
+            start (All-contains (λ t. has s t ≡ true) gs h only y)
+      ];
+      done = λ h i x c. elim (new_in_work gs z [] h x) [
+        | inl y ↦ let no : true ≡ false = sym y ∙ none h in cc
+        | inr y ↦
+            inl y
+      ];
       small = work_small n gs z [] low (All-nil (λ h. h < n));
       marked = work_marked n gs z [] e low (All-nil (λ h. has z h ≡ true));
     })
 
-pub following_end : (l : ℕ → List ℕ) (n : ℕ) (s m : List Bool) (w : List ℕ) → Following l n s m w → w ≡ [] → (g : ℕ) → has m g ≡ true ↔ Linked l (has s) n g
+pub following_end : (l : ℕ → List ℕ) (n : ℕ) (s m : List Bool) (w : List ℕ) → Following l n s m w → w ≡ [] → (g : ℕ)
+    → has m g ≡ true ↔ Linked l (has s) n g
 following_end l n s m w k e g = (
   k.linked g,
-  Linked-within l (has s) n (has m) (record { has_seeds = k.seeds; has_links = λ h i low x c. elim (k.done h i x c) [ inl y ↦ absurd (omega (arith, y.1, ap length e)) | inr y ↦ y ] }) g,
+  Linked-within l (has s) n (has m) (record {
+    has_seeds = k.seeds;
+    has_links = λ h i low x c. elim (k.done h i x c)
+        [ inl y ↦ absurd (omega (arith, y.1, ap length e)) | inr y ↦ y ];
+  }) g,
 )
 
 -- one visit
-following_step : (l : ℕ → List ℕ) (n : ℕ) (s m : List Bool) (w v : List ℕ) (g : ℕ) → Following l n s m w → w ≡ v ++ g ∷ [] → AllByRecursion (λ h. h < n) (l g) → Following l n s (marks_after (l g) m) (work_after (l g) m v)
+following_step : (l : ℕ → List ℕ) (n : ℕ) (s m : List Bool) (w v : List ℕ) (g : ℕ) → Following l n s m w
+    → w ≡ v ++ g ∷ [] → AllByRecursion (λ h. h < n) (l g) → Following l n s (marks_after (l g) m) (work_after (l g) m v)
 following_step l n s m w v g k e a =
     let mine : has m g ≡ true = (All-pop (λ h. has m h ≡ true) w v (Some g) e k.marked).1 in
     let low : g < n = (All-pop (λ h. h < n) w v (Some g) e k.small).1 in
@@ -103,7 +127,12 @@ following_step l n s m w v g k e a =
             | inl p ↦ inl (work_stays (l g) m v h p)
             | inr p ↦
                 let r : Contains (l g) i = subst (λ (t : ℕ). Contains (l t) i) (sym p) d in
-                inr (marks_each (l g) m i r (omega (arith, All-contains (λ t. t < n) (l g) i (All-from_recursion (λ t. t < n) (l g) a) r, k.length)))
+                inr (marks_each (l g) m i r
+                (omega (
+                  arith,
+                  All-contains (λ t. t < n) (l g) i (All-from_recursion (λ t. t < n) (l g) a) r,
+                  k.length,
+                )))
           ]
           | inr z ↦ inr (marks_stay (l g) m i z)
         ]
@@ -113,13 +142,16 @@ following_step l n s m w v g k e a =
       marked = work_marked n (l g) m v k.length a (All-pop (λ h. has m h ≡ true) w v (Some g) e k.marked).0;
     }
 
-pub following_visit : (l : ℕ → List ℕ) (n : ℕ) (s m t : List Bool) (w v u : List ℕ) (b : List ℕ) (g : ℕ) → Following l n s m w → w ≡ v ++ g ∷ [] → b ≡ l g → AllByRecursion (λ h. h < n) b
+pub following_visit : (l : ℕ → List ℕ) (n : ℕ) (s m t : List Bool) (w v u : List ℕ) (b : List ℕ) (g : ℕ)
+    → Following l n s m w → w ≡ v ++ g ∷ [] → b ≡ l g → AllByRecursion (λ h. h < n) b
     → t ≡ marks_after b m → u ≡ work_after b m v → Following l n s t u
 following_visit l n s m t w v u b g k e same a marks work =
-    rw (marks, work, same) (following_step l n s m w v g k e (subst (λ (x : List ℕ). AllByRecursion (λ h. h < n) x) same a))
+    rw (marks, work, same) (following_step l n s m w v g k e (subst (λ (x : List ℕ). AllByRecursion (λ h. h < n) x) same
+    a))
 
 -- a visit lowers the number of numbers that have no mark or wait
-pub following_smaller : (n : ℕ) (m t : List Bool) (w v u b : List ℕ) (g : ℕ) → length m ≡ n → w ≡ v ++ g ∷ [] → AllByRecursion (λ h. h < n) b
+pub following_smaller : (n : ℕ) (m t : List Bool) (w v u b : List ℕ) (g : ℕ) → length m ≡ n → w ≡ v ++ g ∷ []
+    → AllByRecursion (λ h. h < n) b
     → t ≡ marks_after b m → u ≡ work_after b m v → count_by not t + length u < count_by not m + length w
 following_smaller n m t w v u b g long popped low marks work =
     let kept = work_count b m v n (sym long) low in
@@ -130,9 +162,11 @@ following_smaller n m t w v u b g long popped low marks work =
     omega arith
 
 -- the marks below a count
-pub following_below : (l : ℕ → List ℕ) (n count : ℕ) (s m t : List Bool) → ((g : ℕ) → has m g ≡ true ↔ Linked l (has s) n g) → length t ≡ count → ((g : ℕ) → g < count → has t g ≡ has m g)
+pub following_below : (l : ℕ → List ℕ) (n count : ℕ) (s m t : List Bool)
+    → ((g : ℕ) → has m g ≡ true ↔ Linked l (has s) n g) → length t ≡ count → ((g : ℕ) → g < count → has t g ≡ has m g)
     → (g : ℕ) → has t g ≡ true ↔ (g < count) × Linked l (has s) n g
 following_below l n count s m t all long same g = (
-  (λ h. let low : g < count = subst (λ (x : ℕ). g < x) long (has_within t g h) in (low, (all g).0 (sym (same g low) ∙ h))),
+  (λ h. let low : g < count = subst (λ (x : ℕ). g < x) long (has_within t g h) in
+      (low, (all g).0 (sym (same g low) ∙ h))),
   (λ r. same g r.0 ∙ (all g).1 r.1),
 )

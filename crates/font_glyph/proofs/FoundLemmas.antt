@@ -1,5 +1,6 @@
 -- Rounds over the numbers below a count: they find nothing more in time.
-use Rattle.std.proofs.Common.{◌≡◌, ℕ, zero, suc, ◌+◌, ◌<◌, ◌≤◌, ◌⊎◌, Bool, true, false, ◌&&◌, inl, inr, refl, sym, ◌∙◌, ap, subst, arith}
+use Rattle.std.proofs.Common.{◌≡◌, ℕ, zero, suc, ◌+◌, ◌<◌, ◌≤◌, ◌⊎◌, Bool, true, false, ◌&&◌, inl, inr, refl, sym, ◌∙◌}
+use Rattle.std.proofs.Common.{ap, subst, arith}
 use Rattle.std.specs.Bool.{Decides}
 use Rattle.std.proofs.lemmas.Bool.{cases_Bool, cases_eq, or_cases, or_left, or_right, and_parts, and_from, both_ways}
 use Rattle.std.proofs.lemmas.Bool.Decides.{Decides-below_or}
@@ -42,7 +43,14 @@ count_grows p q more (suc n) =
           let ep = bit-true (p n) pn in
           let eq = bit-true (q n) (more n pn) in
           elim ih [
-            | inl w ↦ inl ((λ k h qk. elim (cases_eq k n) [ inl e ↦ subst (λ x. p x ≡ true) (sym e) pn | inr ne ↦ w.0 k (omega arith) qk ]), omega (arith, ep, eq, w.1))
+            | inl w ↦ inl (
+              (λ k h qk. elim (cases_eq k n) [
+                | inl e ↦ subst (λ x. p x ≡ true) (sym e) pn
+                | inr ne ↦
+                    w.0 k (omega arith) qk
+              ]),
+              omega (arith, ep, eq, w.1),
+            )
             | inr w ↦ inr (omega (arith, ep, eq, w))
           ]
       | inr pn ↦
@@ -54,7 +62,14 @@ count_grows p q more (suc n) =
             | inr qn ↦
                 let eq = bit-false (q n) qn in
                 elim ih [
-                  | inl w ↦ inl ((λ k h qk. elim (cases_eq k n) [ inl e ↦ absurd (both_ways (q k) (ap q e ∙ qn) qk) | inr ne ↦ w.0 k (omega arith) qk ]), omega (arith, ep, eq, w.1))
+                  | inl w ↦ inl (
+                    (λ k h qk. elim (cases_eq k n) [
+                      | inl e ↦
+                          absurd (both_ways (q k) (ap q e ∙ qn) qk)
+                      | inr ne ↦ w.0 k (omega arith) qk
+                    ]),
+                    omega (arith, ep, eq, w.1),
+                  )
                   | inr w ↦ inr (omega (arith, ep, eq, w))
                 ]
           ]

@@ -3,7 +3,7 @@ use Rattle.std.specs.Prelude.{◌≡◌, ℕ, ◌<◌, ◌≤◌, ◌↔◌, Boo
 use Rattle.font_glyph.specs.Linked.{IsLinkClosed, Linked, is_linked}
 use Rattle.font_glyph.specs.Record.{ComponentList, components_of}
 use Rattle.font_glyph.specs.Reach.{IsClosed, IsComponentOf, Reach, reached}
-use Rattle.font_glyph.specs.Union.{AreAmong, AreEqualWhereBoth, HoldsComponents, Records, record_in, union_of}
+use Rattle.font_glyph.specs.RecordMap.{AreAmong, AreEqualWhereBoth, HoldsComponents, Records, record_in, union_of}
 use Rattle.font_glyph.specs.declared.component.Component.{Component}
 
 -- a record has at most one list

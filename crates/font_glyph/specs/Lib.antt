@@ -6,4 +6,4 @@ pub mod Marks
 pub mod Reach
 pub mod Record
 pub mod Text
-pub mod Union
+pub mod RecordMap

@@ -1,5 +1,6 @@
 -- The components of a glyph record (OpenType 1.9, glyf, Glyph Headers and Composite Glyph Description).
-use Rattle.std.specs.Prelude.{◌≡◌, ℕ, zero, suc, ◌<◌, ◌≤◌, true, false, nat_eq, nat_lt, if◌then◌else◌, List, [], ◌∷◌, All, drop, length, map, slice_index, Option, Some, None}
+use Rattle.std.specs.Prelude.{◌≡◌, ℕ, zero, suc, ◌<◌, ◌≤◌, true, false, nat_eq, nat_lt, if◌then◌else◌, List, [], ◌∷◌}
+use Rattle.std.specs.Prelude.{All, drop, length, map, slice_index, Option, Some, None}
 use Rattle.std.specs.Option.{option_map, unwrap_or}
 use Rattle.font_glyph.specs.Component.{StartsWith, component_size, first_component, has_more}
 use Rattle.font_glyph.specs.declared.component.Component.{Component}

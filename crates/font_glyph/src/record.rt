@@ -4,6 +4,7 @@ ghost use Rattle.font_glyph.specs.Record.{HasList, IsChain, IsRecord};
 ghost use Rattle.font_glyph.specs.Text.{fault_number, fault_text};
 
 use crate::component::{HEADER, NEGATIVE, split_component};
+use sfnt_bytes::numbers;
 use std::error::Error;
 use std::fmt;
 
@@ -26,7 +27,7 @@ impl GlyphFault {
     pub fn number(&self) -> u8
         ensures { result ≡ fault_number }
     {
-        17
+        numbers::BAD_GLYPH
     }
 }
 

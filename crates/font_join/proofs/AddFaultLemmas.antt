@@ -11,7 +11,8 @@ use Rattle.font_theory.specs.declared.Difference.TheVariants.{AtCode, AtGlyph, A
 use Rattle.font_join.specs.Inside.{IsAddRefusal, IsFormRefusal, add_fault, early_difference}
 use Rattle.font_join.specs.Join.{different, form_fault}
 use Rattle.font_join.specs.declared.join_error.JoinError.{JoinError}
-use Rattle.font_join.specs.declared.join_error.JoinError.TheVariants.{DifferentGlyph, DifferentMapping, DifferentTable, Font, NoMemory, NotACut, TooLarge}
+use Rattle.font_join.specs.declared.join_error.JoinError.TheVariants.{DifferentGlyph, DifferentMapping, DifferentTable}
+use Rattle.font_join.specs.declared.join_error.JoinError.TheVariants.{Font, NoMemory, NotACut, TooLarge}
 use Rattle.font_join.specs.declared.join_error.Which.TheVariants.{Second}
 
 -- the lines, at what they test
@@ -27,7 +28,8 @@ module _ (R : Format) (K : Content) (y : List ℕ) where
   unfolding add_fault
   form_first error e = λ i. lines_at (e i) (difference K (content_of_all R y))
 
-  pub difference_fault : form_fault R Second y ≡ None → (d : Option Difference) → d ≡ difference K (content_of_all R y) → add_fault R K y ≡ option_map different d
+  pub difference_fault : form_fault R Second y ≡ None → (d : Option Difference) → d ≡ difference K (content_of_all R y)
+      → add_fault R K y ≡ option_map different d
   unfolding add_fault
   difference_fault e d h = (λ i. lines_at (e i) (sym h i)) ∙ lines_at-difference d
 
@@ -41,7 +43,8 @@ module _ (R : Format) (K : Content) (y : List ℕ) where
   form_refused (DifferentGlyph g) r = form_first _ r
   form_refused (TooLarge s) r = form_first _ r
 
-  pub difference_refused : (d : Difference) → form_fault R Second y ≡ None → Some d ≡ difference K (content_of_all R y) → IsAddRefusal R K y (different d)
+  pub difference_refused : (d : Difference) → form_fault R Second y ≡ None → Some d ≡ difference K (content_of_all R y)
+      → IsAddRefusal R K y (different d)
   difference_refused (AtTable slot) e h = difference_fault e (Some (AtTable slot)) h
   difference_refused (AtCode code) e h = difference_fault e (Some (AtCode code)) h
   difference_refused (AtGlyph g) e h = difference_fault e (Some (AtGlyph g)) h
@@ -53,7 +56,8 @@ early_cases None (Some d) g h = cc
 early_cases None None None h = refl
 early_cases None None (Some d) h = refl
 
-early_is : (t c g : Option Difference) (d : Difference) → first_of_lines (t ∷ c ∷ []) ≡ Some d → first_of_lines (t ∷ c ∷ g ∷ []) ≡ Some d
+early_is : (t c g : Option Difference) (d : Difference) → first_of_lines (t ∷ c ∷ []) ≡ Some d
+    → first_of_lines (t ∷ c ∷ g ∷ []) ≡ Some d
 early_is (Some e) c g d h = h
 early_is None (Some e) g d h = h
 early_is None None g d h = cc
@@ -62,6 +66,7 @@ pub difference-early : (K L : Content) (d : Difference) → early_difference K L
 unfolding early_difference difference
 difference-early K L d h = early_is _ _ _ d h
 
-pub difference-late : (K L : Content) → early_difference K L ≡ None → difference K L ≡ option_map AtGlyph (find (is_different_glyph K L) (range_with_len 0 (glyph_count K.copied)))
+pub difference-late : (K L : Content) → early_difference K L ≡ None
+    → difference K L ≡ option_map AtGlyph (find (is_different_glyph K L) (range_with_len 0 (glyph_count K.copied)))
 unfolding early_difference difference
 difference-late K L h = early_cases _ _ _ h

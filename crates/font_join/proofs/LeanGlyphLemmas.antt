@@ -1,5 +1,6 @@
 -- The glyphs of lean cuts that are united, and where they differ.
-use Rattle.std.proofs.Common.{◌≡◌, ℕ, zero, suc, ◌+◌, ◌<◌, ◌≤◌, ◌&&◌, ◌||◌, Bool, true, false, cond, not, nat_lt, List, find, is_some, inl, inr, Option, None, Some, refl, sym, ap, ◌∙◌, arith}
+use Rattle.std.proofs.Common.{◌≡◌, ℕ, zero, suc, ◌+◌, ◌<◌, ◌≤◌, ◌&&◌, ◌||◌, Bool, true, false, cond, not, nat_lt, List}
+use Rattle.std.proofs.Common.{find, is_some, inl, inr, Option, None, Some, refl, sym, ap, ◌∙◌, arith}
 use Rattle.std.specs.List.{range_with_len}
 use Rattle.std.specs.Option.{option_map}
 use Rattle.std.specs.Str.{bytes_eq}
@@ -11,7 +12,7 @@ use Rattle.font_theory.specs.Bytes.{padded}
 use Rattle.font_theory.specs.Content.{Content, Font, IsFont, content, everything, glyph_count, is_kept, read_back}
 use Rattle.font_theory.specs.Cut.{Arises, Format}
 use Rattle.font_theory.specs.Difference.{are_different, difference, is_different_glyph}
-use Rattle.font_theory.specs.Lean.{metrics_at, spelled_out, thin, with_metrics}
+use Rattle.font_theory.specs.LeanCut.{metrics_at, spelled_out, thin, with_metrics}
 use Rattle.font_theory.specs.declared.Difference.TheVariants.{AtGlyph}
 use Rattle.font_theory.proofs.ArisesLemmas.{IsClosed-arises}
 use Rattle.font_theory.proofs.LeanContentLemmas.{IsClosed-spelled}
@@ -48,25 +49,29 @@ least_none (Some a) (Some b) h = go (nat_lt b a) h
 find_here : (p : ℕ → Bool) (k n : ℕ) → p k ≡ true → find p (range_with_len k (suc n)) ≡ Some k
 find_here p k n t = rw t refl
 
-find_later : (p : ℕ → Bool) (k n : ℕ) → p k ≡ false → find p (range_with_len k (suc n)) ≡ find p (range_with_len (k + 1) n)
+find_later : (p : ℕ → Bool) (k n : ℕ) → p k ≡ false → find p (range_with_len k (suc n))
+    ≡ find p (range_with_len (k + 1) n)
 find_later p k n f = rw f refl
 
 or_second : (a b : Bool) → b ≡ true → (a || b) ≡ true
 or_second true b t = refl
 or_second false b t = t
 
-pub find_either : (p q : ℕ → Bool) (k n : ℕ) → find (λ g. p g || q g) (range_with_len k n) ≡ least_of (find p (range_with_len k n)) (find q (range_with_len k n))
+pub find_either : (p q : ℕ → Bool) (k n : ℕ) → find (λ g. p g || q g) (range_with_len k n)
+    ≡ least_of (find p (range_with_len k n)) (find q (range_with_len k n))
 find_either p q k zero = refl
 find_either p q k (suc n) =
     elim (cases_Bool (p k)) [
       | inl t ↦
           find_here (λ g. p g || q g) k n (ap (λ b. b || q k) t)
-          ∙ sym (ap (λ (o : Option ℕ). least_of o (find q (range_with_len k (suc n)))) (find_here p k n t) ∙ least_first k (find q (range_with_len k (suc n))) (λ j e. (find-least_from q k (suc n) j e).from))
+          ∙ sym (ap (λ (o : Option ℕ). least_of o (find q (range_with_len k (suc n)))) (find_here p k n t)
+          ∙ least_first k (find q (range_with_len k (suc n))) (λ j e. (find-least_from q k (suc n) j e).from))
       | inr f ↦ elim (cases_Bool (q k)) [
         | inl t ↦
             find_here (λ g. p g || q g) k n (or_second (p k) (q k) t)
             ∙ sym ((λ i. least_of (find_later p k n f i) (find_here q k n t i))
-            ∙ least_second k (find p (range_with_len (k + 1) n)) (λ j e. let low = (find-least_from p (k + 1) n j e).from in omega arith))
+            ∙ least_second k (find p (range_with_len (k + 1) n))
+            (λ j e. let low = (find-least_from p (k + 1) n j e).from in omega arith))
         | inr f' ↦
             find_later (λ g. p g || q g) k n ((λ i. f i || f' i))
             ∙ find_either p q (k + 1) n
@@ -105,18 +110,24 @@ module _ {R : Format} (is_thin : IsThin R) (K : Content) (arises : Arises R K) w
   lean_font = IsFont-spelled K (IsClosed-arises R is_thin.law.is_font K arises).font (is_thin.lean K arises)
 
   lean_whole : content (thin F) everything ≡ K
-  lean_whole = ap (λ G. content G everything) (thin-spelled K (is_thin.lean K arises)) ∙ (IsClosed-arises R is_thin.law.is_font K arises).closed
+  lean_whole = ap (λ G. content G everything) (thin-spelled K (is_thin.lean K arises))
+      ∙ (IsClosed-arises R is_thin.law.is_font K arises).closed
 
-  lean_record : (g : ℕ) → K.outline g ≡ when (is_kept F everything g) (with_metrics (F.outline g) (metrics_at F.copied g))
+  lean_record : (g : ℕ)
+      → K.outline g ≡ when (is_kept F everything g) (with_metrics (F.outline g) (metrics_at F.copied g))
   lean_record g = sym (ap (λ C. C.outline g) lean_whole) ∙ ap (λ o. o g) (outline-records F lean_font everything)
 
   lean_outline : (g : ℕ) → (spelled_out K).outline g ≡ when (is_kept F everything g) (padded (F.outline g))
-  lean_outline g = sym (ap (λ C. C.outline g) (IsClosed-spelled K (IsClosed-arises R is_thin.law.is_font K arises) (is_thin.lean K arises)).closed)
+  lean_outline g =
+      sym (ap (λ C. C.outline g) (IsClosed-spelled K (IsClosed-arises R is_thin.law.is_font K arises)
+      (is_thin.lean K arises)).closed)
 
   absent : (g : ℕ) → (spelled_out K).outline g ≡ None → K.outline g ≡ None
-  absent g h = let no = when_none (is_kept F everything g) _ (sym (lean_outline g) ∙ h) in lean_record g ∙ ap (λ b. when b (with_metrics (F.outline g) (metrics_at F.copied g))) no
+  absent g h = let no = when_none (is_kept F everything g) _ (sym (lean_outline g) ∙ h) in lean_record g
+      ∙ ap (λ b. when b (with_metrics (F.outline g) (metrics_at F.copied g))) no
 
-  there : (g : ℕ) (a : List ℕ) → (spelled_out K).outline g ≡ Some a → (K.outline g ≡ Some (with_metrics (F.outline g) (metrics_at F.copied g))) × (padded (F.outline g) ≡ a)
+  there : (g : ℕ) (a : List ℕ) → (spelled_out K).outline g ≡ Some a
+      → (K.outline g ≡ Some (with_metrics (F.outline g) (metrics_at F.copied g))) × (padded (F.outline g) ≡ a)
   there g a h =
       let w = when_some (is_kept F everything g) _ a (sym (lean_outline g) ∙ h) in
       (lean_record g ∙ ap (λ b. when b (with_metrics (F.outline g) (metrics_at F.copied g))) w.0, w.1)
@@ -126,7 +137,8 @@ abbrev told_by : Bool → Option (List ℕ) → Option (List ℕ) → Bool
 told_by same o p = are_different o p || (is_some o && (is_some p && not same))
 
 -- two such contents differ in a glyph in its outline or in its metrics
-module _ {R : Format} (is_thin : IsThin R) (K L : Content) (first : Arises R K) (second : Arises R L) (count : glyph_count K.copied ≡ glyph_count L.copied) (g : ℕ) where
+module _ {R : Format} (is_thin : IsThin R) (K L : Content) (first : Arises R K) (second : Arises R L)
+    (count : glyph_count K.copied ≡ glyph_count L.copied) (g : ℕ) where
   abbrev C : Content
   C = spelled_out K
 
@@ -134,47 +146,68 @@ module _ {R : Format} (is_thin : IsThin R) (K L : Content) (first : Arises R K) 
   D = spelled_out L
 
   same_glyphs : glyph_count C.copied ≡ glyph_count D.copied
-  same_glyphs = glyph_count-alike K.copied C.copied (AreAlike-spelled K) ∙ count ∙ sym (glyph_count-alike L.copied D.copied (AreAlike-spelled L))
+  same_glyphs = glyph_count-alike K.copied C.copied (AreAlike-spelled K) ∙ count
+      ∙ sym (glyph_count-alike L.copied D.copied (AreAlike-spelled L))
 
   -- the records of a glyph that both keep
   records_told : (a b : List ℕ) → C.outline g ≡ Some a → D.outline g ≡ Some b
-      → are_different (K.outline g) (L.outline g) ≡ (not (bytes_eq a b) || not (bytes_eq (metrics_at C.copied g) (metrics_at D.copied g)))
+      → are_different (K.outline g) (L.outline g)
+      ≡ (not (bytes_eq a b) || not (bytes_eq (metrics_at C.copied g) (metrics_at D.copied g)))
   records_told a b p q =
       let x = there is_thin K first g a p in
       let y = there is_thin L second g b q in
       let fontK = lean_font is_thin K first in
       let fontL = lean_font is_thin L second in
       let test : (bytes_eq a b && bytes_eq (metrics_at C.copied g) (metrics_at D.copied g))
-      ≡ bytes_eq (with_metrics ((read_back C).outline g) (metrics_at C.copied g)) (with_metrics ((read_back D).outline g) (metrics_at D.copied g)) =
+      ≡ bytes_eq (with_metrics ((read_back C).outline g) (metrics_at C.copied g))
+      (with_metrics ((read_back D).outline g) (metrics_at D.copied g)) =
       bool_same _ _
       (λ t.
       let u = both_true _ _ t in
-      (bytes_eq-Decides _ _).1 (same-records (read_back C) (read_back D) fontK fontL same_glyphs g (x.1 ∙ (bytes_eq-Decides a b).0 u.0 ∙ sym y.1, (bytes_eq-Decides (metrics_at C.copied g) (metrics_at D.copied g)).0 u.1)))
+      (bytes_eq-Decides _ _).1 (same-records (read_back C) (read_back D) fontK fontL same_glyphs g (
+        x.1
+            ∙ (bytes_eq-Decides a b).0 u.0 ∙ sym y.1,
+        (bytes_eq-Decides (metrics_at C.copied g) (metrics_at D.copied g)).0
+            u.1,
+      )))
       (λ t.
       let w = records-same (read_back C) (read_back D) fontK fontL same_glyphs g ((bytes_eq-Decides _ _).0 t) in
       all_true _ _ ((bytes_eq-Decides a b).1 (sym x.1 ∙ w.0 ∙ y.1)) ((bytes_eq-Decides _ _).1 w.1)) in
-      (λ i. are_different (x.0 i) (y.0 i)) ∙ sym (ap not test) ∙ not_both (bytes_eq a b) (bytes_eq (metrics_at C.copied g) (metrics_at D.copied g))
+      (λ i. are_different (x.0 i) (y.0 i)) ∙ sym (ap not test)
+      ∙ not_both (bytes_eq a b) (bytes_eq (metrics_at C.copied g) (metrics_at D.copied g))
 
   pub glyph_told : is_different_glyph K L g ≡ (is_other C.outline D.outline g || has_other_metrics C D g)
   unfolding is_different_glyph
   glyph_told = go (C.outline g) (D.outline g) refl refl
     where
-      go : (o p : Option (List ℕ)) → C.outline g ≡ o → D.outline g ≡ p → are_different (K.outline g) (L.outline g) ≡ (is_other C.outline D.outline g || has_other_metrics C D g)
-      go None p x y = ap (λ (k : Option (List ℕ)). are_different k (L.outline g)) (absent is_thin K first g x) ∙ sym (λ i. told_by (bytes_eq (metrics_at C.copied g) (metrics_at D.copied g)) (x i) (y i))
-      go (Some a) None x y = ap (λ (l : Option (List ℕ)). are_different (K.outline g) l) (absent is_thin L second g y) ∙ different_none (K.outline g) ∙ sym (λ i. told_by (bytes_eq (metrics_at C.copied g) (metrics_at D.copied g)) (x i) (y i))
-      go (Some a) (Some b) x y = records_told a b x y ∙ sym (λ i. told_by (bytes_eq (metrics_at C.copied g) (metrics_at D.copied g)) (x i) (y i))
+      go : (o p : Option (List ℕ)) → C.outline g ≡ o → D.outline g ≡ p → are_different (K.outline g) (L.outline g)
+          ≡ (is_other C.outline D.outline g || has_other_metrics C D g)
+      go None p x y = ap (λ (k : Option (List ℕ)). are_different k (L.outline g)) (absent is_thin K first g x)
+          ∙ sym (λ i. told_by (bytes_eq (metrics_at C.copied g) (metrics_at D.copied g)) (x i) (y i))
+      go (Some a) None x y = ap (λ (l : Option (List ℕ)). are_different (K.outline g) l) (absent is_thin L second g y)
+          ∙ different_none (K.outline g)
+          ∙ sym (λ i. told_by (bytes_eq (metrics_at C.copied g) (metrics_at D.copied g)) (x i) (y i))
+      go (Some a) (Some b) x y = records_told a b x y
+          ∙ sym (λ i. told_by (bytes_eq (metrics_at C.copied g) (metrics_at D.copied g)) (x i) (y i))
 
 -- so the first one that they differ in is the lesser of two
-pub glyphs_told : {R : Format} → IsThin R → (C D K L : Content) → Spells R spelled_out C K → Spells R spelled_out D L → early_difference K L ≡ None → (found metrics : Option ℕ) (n : ℕ) → n ≡ glyph_count C.copied
-    → found ≡ find (is_other C.outline D.outline) (range_with_len 0 n) → metrics ≡ find (has_other_metrics C D) (range_with_len 0 n) → difference K L ≡ option_map AtGlyph (least_of metrics found)
+pub glyphs_told : {R : Format} → IsThin R → (C D K L : Content) → Spells R spelled_out C K → Spells R spelled_out D L
+    → early_difference K L ≡ None → (found metrics : Option ℕ) (n : ℕ) → n ≡ glyph_count C.copied
+    → found ≡ find (is_other C.outline D.outline) (range_with_len 0 n)
+    → metrics ≡ find (has_other_metrics C D) (range_with_len 0 n)
+    → difference K L ≡ option_map AtGlyph (least_of metrics found)
 glyphs_told is_thin C D K L h k early found metrics n size outlines others =
-    let same : n ≡ glyph_count K.copied = size ∙ ap (λ (M : Content). glyph_count M.copied) h.is ∙ glyph_count-alike K.copied (spelled_out K).copied (AreAlike-spelled K) in
+    let same : n ≡ glyph_count K.copied = size ∙ ap (λ (M : Content). glyph_count M.copied) h.is
+    ∙ glyph_count-alike K.copied (spelled_out K).copied (AreAlike-spelled K) in
     let told : is_different_glyph K L ≡ (λ g. has_other_metrics C D g || is_other C.outline D.outline g) =
-    fun_ext (λ g. glyph_told is_thin K L h.arises k.arises (same_count K L early) g ∙ or_swapped (is_other (spelled_out K).outline (spelled_out L).outline g) (has_other_metrics (spelled_out K) (spelled_out L) g)
+    fun_ext (λ g. glyph_told is_thin K L h.arises k.arises (same_count K L early) g
+    ∙ or_swapped (is_other (spelled_out K).outline (spelled_out L).outline g)
+    (has_other_metrics (spelled_out K) (spelled_out L) g)
     ∙ (λ i. has_other_metrics (sym h.is i) (sym k.is i) g || is_other (sym h.is i).outline (sym k.is i).outline g)) in
     difference-late K L early
     ∙ (λ i. option_map AtGlyph (find (told i) (range_with_len 0 (sym same i))))
-    ∙ ap (option_map AtGlyph) (find_either (has_other_metrics C D) (is_other C.outline D.outline) 0 n ∙ (λ i. least_of (sym others i) (sym outlines i)))
+    ∙ ap (option_map AtGlyph) (find_either (has_other_metrics C D) (is_other C.outline D.outline) 0 n
+    ∙ (λ i. least_of (sym others i) (sym outlines i)))
 
 -- the first glyph with other metrics, sought among those that the second content keeps
 module _ (C D : Content) where
@@ -182,20 +215,26 @@ module _ (C D : Content) where
   p = has_other_metrics C D
 
   absent-first : (g : ℕ) → C.outline g ≡ None → p g ≡ false
-  absent-first g none = ap (λ (o : Option (List ℕ)). is_some o && (is_some (D.outline g) && not (bytes_eq (metrics_at C.copied g) (metrics_at D.copied g)))) none
+  absent-first g none =
+      ap (λ (o : Option (List ℕ)). is_some o
+      && (is_some (D.outline g) && not (bytes_eq (metrics_at C.copied g) (metrics_at D.copied g)))) none
 
   absent-second : (g : ℕ) → D.outline g ≡ None → p g ≡ false
   absent-second g none =
-      ap (λ (o : Option (List ℕ)). is_some (C.outline g) && (is_some o && not (bytes_eq (metrics_at C.copied g) (metrics_at D.copied g)))) none ∙ and_false (is_some (C.outline g))
+      ap (λ (o : Option (List ℕ)). is_some (C.outline g)
+      && (is_some o && not (bytes_eq (metrics_at C.copied g) (metrics_at D.copied g)))) none
+      ∙ and_false (is_some (C.outline g))
     where
       and_false : (b : Bool) → (b && false) ≡ false
       and_false true = refl
       and_false false = refl
 
-  pub others-skip : (from g : ℕ) → IsNextKept D from g → ((h : ℕ) → h < from → p h ≡ false) → (h : ℕ) → h < g → p h ≡ false
+  pub others-skip : (from g : ℕ) → IsNextKept D from g → ((h : ℕ) → h < from → p h ≡ false) → (h : ℕ) → h < g
+      → p h ≡ false
   others-skip from g next below = fails_skip p from g below (λ h a b. absent-second h (next.passed h a b))
 
-  pub others-found : (g : ℕ) → ((h : ℕ) → glyph_count C.copied ≤ h → C.outline h ≡ None) → ((h : ℕ) → h < g → p h ≡ false) → p g ≡ true → Some g ≡ find p (range_with_len 0 (glyph_count C.copied))
+  pub others-found : (g : ℕ) → ((h : ℕ) → glyph_count C.copied ≤ h → C.outline h ≡ None)
+      → ((h : ℕ) → h < g → p h ≡ false) → p g ≡ true → Some g ≡ find p (range_with_len 0 (glyph_count C.copied))
   others-found g past below here = elim (cases_lt g (glyph_count C.copied)) [
     | inl low ↦ sym (first_of p g (glyph_count C.copied) low below here)
     | inr high ↦ absurd (true-false (sym here ∙ absent-first g (past g high)))
@@ -204,7 +243,9 @@ module _ (C D : Content) where
       true-false : true ≡ false → ⊥
       true-false e = cc
 
-  pub others-none : (g : ℕ) → ((h : ℕ) → glyph_count D.copied ≤ h → D.outline h ≡ None) → ((h : ℕ) → h < g → p h ≡ false) → glyph_count D.copied ≤ g → None ≡ find p (range_with_len 0 (glyph_count C.copied))
+  pub others-none : (g : ℕ) → ((h : ℕ) → glyph_count D.copied ≤ h → D.outline h ≡ None)
+      → ((h : ℕ) → h < g → p h ≡ false) → glyph_count D.copied ≤ g
+      → None ≡ find p (range_with_len 0 (glyph_count C.copied))
   others-none g past below end = sym (first_absent p (glyph_count C.copied) (λ h a. elim (cases_lt h g) [
     | inl low ↦ below h low
     | inr high ↦ absent-second h (past h (omega (arith, high, end)))

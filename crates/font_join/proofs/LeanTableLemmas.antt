@@ -1,5 +1,7 @@
 -- The tables of lean cuts that are united, and where they differ.
-use Rattle.std.proofs.Common.{◌≡◌, ◌≢◌, ℕ, ◌<◌, ◌≤◌, false, true, cond, nat_eq, nat_lt, ◌+◌, ◌&&◌, ◌||◌, not, Bool, List, [], ◌∷◌, ◌++◌, drop, get_or, take, MatchOption, Option, None, Some, unwrap_or, refl, sym, ap, ◌∙◌, subst, arith, inl, inr}
+use Rattle.std.proofs.Common.{◌≡◌, ◌≢◌, ℕ, ◌<◌, ◌≤◌, false, true, cond, nat_eq, nat_lt, ◌+◌, ◌&&◌, ◌||◌, not, Bool}
+use Rattle.std.proofs.Common.{List, [], ◌∷◌, ◌++◌, drop, get_or, take, Option, None, Some, unwrap_or, refl}
+use Rattle.std.proofs.Common.{sym, ap, ◌∙◌, subst, arith, inl, inr}
 use Rattle.std.specs.Option.{option_eq, option_map}
 use Rattle.std.specs.Str.{bytes_eq}
 use Rattle.std.proofs.Math.Path.{fun_ext}
@@ -9,11 +11,13 @@ use Rattle.sfnt_bytes.specs.Lines.{first_of_lines}
 use Rattle.sfnt_bytes.specs.declared.tag.TheConstants.{HHEA, HMTX, MAXP, POST, VHEA, VMTX}
 use Rattle.font_tables.specs.Fields.{num_glyphs, number_of_h_metrics}
 use Rattle.font_tables.specs.Refusals.{is_bad_hhea, is_bad_hmtx}
-use Rattle.font_theory.specs.Content.{Content, IsClosedContent, IsWritable, KeepsComponents, AreFixed, glyph_count, is_never_copied, table_in_slot}
+use Rattle.font_theory.specs.Content.{Content, IsClosedContent, IsWritable, KeepsComponents, AreFixed, glyph_count}
+use Rattle.font_theory.specs.Content.{is_never_copied, table_in_slot}
 use Rattle.font_theory.specs.Cut.{Arises, Format, IsFormat}
 use Rattle.font_theory.specs.Difference.{is_different_code, is_different_table}
 use Rattle.font_theory.specs.LayoutCut.{layout_format}
-use Rattle.font_theory.specs.Lean.{entry_at, entry_size, lean_format, metric_bytes, metrics_at, pairs_in, spelled_copied, spelled_out, thin_copied}
+use Rattle.font_theory.specs.LeanCut.{entry_at, entry_size, lean_format, metric_bytes, metrics_at, pairs_in}
+use Rattle.font_theory.specs.LeanCut.{spelled_copied, spelled_out, thin_copied}
 use Rattle.font_theory.specs.declared.Difference.{Difference}
 use Rattle.font_theory.specs.declared.Difference.TheVariants.{AtTable}
 use Rattle.font_theory.specs.Links.{fixed}
@@ -54,7 +58,8 @@ module _ (c : Tables) (h v : Option (List ℕ)) where
   replaced_copied slot a b = sym (replaced_other slot (ne_eqb slot HMTX a) (ne_eqb slot VMTX b))
 
   -- tables that are those of another content in each slot
-  pub replaced_is : (d : Tables) → h ≡ d HMTX → v ≡ d VMTX → ((slot : ℕ) → slot ≢ HMTX → slot ≢ VMTX → c slot ≡ d slot) → replaced c h v ≡ d
+  pub replaced_is : (d : Tables) → h ≡ d HMTX → v ≡ d VMTX → ((slot : ℕ) → slot ≢ HMTX → slot ≢ VMTX → c slot ≡ d slot)
+      → replaced c h v ≡ d
   replaced_is d across down others = fun_ext (λ slot. elim (cases_eq slot HMTX) [
     | inl e ↦ sym (replaced_hmtx slot e) ∙ across ∙ sym (ap d e)
     | inr a ↦ elim (cases_eq slot VMTX) [
@@ -63,21 +68,27 @@ module _ (c : Tables) (h v : Option (List ℕ)) where
     ]
   ])
 
-  pub replaced_made : ((slot : ℕ) → is_never_copied slot ≡ true → c slot ≡ None) → (slot : ℕ) → is_never_copied slot ≡ true → replaced c h v slot ≡ None
+  pub replaced_made : ((slot : ℕ) → is_never_copied slot ≡ true → c slot ≡ None) → (slot : ℕ)
+      → is_never_copied slot ≡ true → replaced c h v slot ≡ None
   replaced_made none slot made = elim (cases_eq slot HMTX) [
-    | inl e ↦ let no : is_never_copied HMTX ≡ true = ap is_never_copied (sym e) ∙ made in let q : false ≡ true = no in cc
+    | inl e ↦ let no : is_never_copied HMTX ≡ true = ap is_never_copied (sym e) ∙ made in let q : false ≡ true = no in
+        cc
     | inr a ↦ elim (cases_eq slot VMTX) [
-      | inl e ↦ let no : is_never_copied VMTX ≡ true = ap is_never_copied (sym e) ∙ made in let q : false ≡ true = no in cc
+      | inl e ↦ let no : is_never_copied VMTX ≡ true = ap is_never_copied (sym e) ∙ made in let q : false ≡ true = no in
+          cc
       | inr b ↦ sym (replaced_copied slot a b) ∙ none slot made
     ]
   ]
 
   pub replaced_fixed : AreFixed c → AreFixed (replaced c h v)
   replaced_fixed fine slot layout = elim (cases_eq slot HMTX) [
-    | inl e ↦ let no : is_layout_slot HMTX ≡ true = ap is_layout_slot (sym e) ∙ layout in let q : false ≡ true = no in cc
+    | inl e ↦ let no : is_layout_slot HMTX ≡ true = ap is_layout_slot (sym e) ∙ layout in let q : false ≡ true = no in
+        cc
     | inr a ↦ elim (cases_eq slot VMTX) [
-      | inl e ↦ let no : is_layout_slot VMTX ≡ true = ap is_layout_slot (sym e) ∙ layout in let q : false ≡ true = no in cc
-      | inr b ↦ ap (option_map (fixed slot)) (sym (replaced_copied slot a b)) ∙ fine slot layout ∙ replaced_copied slot a b
+      | inl e ↦ let no : is_layout_slot VMTX ≡ true = ap is_layout_slot (sym e) ∙ layout in let q : false ≡ true = no in
+          cc
+      | inr b ↦ ap (option_map (fixed slot)) (sym (replaced_copied slot a b)) ∙ fine slot layout
+          ∙ replaced_copied slot a b
     ]
   ]
 
@@ -114,11 +125,13 @@ spelled_post K = refl
 other_slot : (K : Content) → IsLean K → (slot : ℕ) → slot ≢ HMTX → slot ≢ VMTX → spelled_copied K slot ≡ K.copied slot
 other_slot K lean slot a b = elim (cases_eq slot POST) [
   | inl e ↦ ap (spelled_copied K) e ∙ spelled_post K ∙ sym (ap K.copied e)
-  | inr p ↦ sym (thin_copied-other (spelled_copied K) slot (ne_eqb slot HMTX a) (ne_eqb slot POST p) (ne_eqb slot VMTX b)) ∙ ap (λ (c : Tables). c slot) (thin_copied-spelled K ∙ lean.copied)
+  | inr p ↦ sym (thin_copied-other (spelled_copied K) slot (ne_eqb slot HMTX a) (ne_eqb slot POST p)
+      (ne_eqb slot VMTX b)) ∙ ap (λ (c : Tables). c slot) (thin_copied-spelled K ∙ lean.copied)
 ]
 
 pub blanked_copied : (K : Content) → IsLean K → (blanked (spelled_out K)).copied ≡ K.copied
-blanked_copied K lean = replaced_is (spelled_copied K) (blank_in (spelled_copied K) HHEA HMTX) (blank_in (spelled_copied K) VHEA VMTX) K.copied
+blanked_copied K lean = replaced_is (spelled_copied K) (blank_in (spelled_copied K) HHEA HMTX)
+    (blank_in (spelled_copied K) VHEA VMTX) K.copied
     (blanked_hmtx (spelled_copied K) ∙ ap (λ (c : Tables). c HMTX) (thin_copied-spelled K ∙ lean.copied))
     (blanked_vmtx (spelled_copied K) ∙ ap (λ (c : Tables). c VMTX) (thin_copied-spelled K ∙ lean.copied))
     (other_slot K lean)
@@ -135,24 +148,32 @@ pub layout_thin : IsThin layout_format
 layout_thin = record { law = layout_format-is; lean = IsLean-arises_layout }
 
 -- the tables of metrics with zeros for each glyph are those of the lean content
-pub blank-across : {R : Format} → IsThin R → (C K : Content) → Spells R spelled_out C K → blank_in C.copied HHEA HMTX ≡ K.copied HMTX
+pub blank-across : {R : Format} → IsThin R → (C K : Content) → Spells R spelled_out C K
+    → blank_in C.copied HHEA HMTX ≡ K.copied HMTX
 blank-across thin C K h =
-    (λ i. blank_in (h.is i).copied HHEA HMTX) ∙ blanked_hmtx (spelled_copied K) ∙ ap (λ (c : Tables). c HMTX) (thin_copied-spelled K ∙ (thin.lean K h.arises).copied)
+    (λ i. blank_in (h.is i).copied HHEA HMTX) ∙ blanked_hmtx (spelled_copied K)
+    ∙ ap (λ (c : Tables). c HMTX) (thin_copied-spelled K ∙ (thin.lean K h.arises).copied)
 
-pub blank-down : {R : Format} → IsThin R → (C K : Content) → Spells R spelled_out C K → blank_in C.copied VHEA VMTX ≡ K.copied VMTX
+pub blank-down : {R : Format} → IsThin R → (C K : Content) → Spells R spelled_out C K
+    → blank_in C.copied VHEA VMTX ≡ K.copied VMTX
 blank-down thin C K h =
-    (λ i. blank_in (h.is i).copied VHEA VMTX) ∙ blanked_vmtx (spelled_copied K) ∙ ap (λ (c : Tables). c VMTX) (thin_copied-spelled K ∙ (thin.lean K h.arises).copied)
+    (λ i. blank_in (h.is i).copied VHEA VMTX) ∙ blanked_vmtx (spelled_copied K)
+    ∙ ap (λ (c : Tables). c VMTX) (thin_copied-spelled K ∙ (thin.lean K h.arises).copied)
 
 -- what is read of contents before their outlines
-early_alike : (K L M N : Content) → K.copied ≡ M.copied → K.head ≡ M.head → K.map ≡ M.map → L.copied ≡ N.copied → L.head ≡ N.head → L.map ≡ N.map → early_difference K L ≡ early_difference M N
+early_alike : (K L M N : Content) → K.copied ≡ M.copied → K.head ≡ M.head → K.map ≡ M.map → L.copied ≡ N.copied
+    → L.head ≡ N.head → L.map ≡ N.map → early_difference K L ≡ early_difference M N
 unfolding early_difference is_different_table is_different_code
 early_alike K L M N a b c d e f =
-    λ i. early_difference (record { copied = a i; head = b i; map = c i; outline = M.outline }) (record { copied = d i; head = e i; map = f i; outline = N.outline })
+    λ i. early_difference (record { copied = a i; head = b i; map = c i; outline = M.outline })
+    (record { copied = d i; head = e i; map = f i; outline = N.outline })
 
-pub early_spelled : {R : Format} → IsThin R → (C D K L : Content) → Spells R spelled_out C K → Spells R spelled_out D L → early_difference (blanked C) (blanked D) ≡ early_difference K L
+pub early_spelled : {R : Format} → IsThin R → (C D K L : Content) → Spells R spelled_out C K → Spells R spelled_out D L
+    → early_difference (blanked C) (blanked D) ≡ early_difference K L
 early_spelled thin C D K L h k =
     (λ i. early_difference (blanked (h.is i)) (blanked (k.is i)))
-    ∙ early_alike (blanked (spelled_out K)) (blanked (spelled_out L)) K L (blanked_copied K (thin.lean K h.arises)) refl refl (blanked_copied L (thin.lean L k.arises)) refl refl
+    ∙ early_alike (blanked (spelled_out K)) (blanked (spelled_out L)) K L (blanked_copied K (thin.lean K h.arises)) refl
+    refl (blanked_copied L (thin.lean L k.arises)) refl refl
 
 -- contents with no difference in a table have as many glyphs
 option_same : (o p : Option (List ℕ)) → option_eq bytes_eq o p ≡ true → o ≡ p
@@ -183,33 +204,43 @@ same_count K L h =
 
 -- what is written of a lean content is closed
 pub closed_spelled : {R : Format} → IsThin R → (C K : Content) → Spells R spelled_out C K → IsClosedContent C
-closed_spelled {R} thin C K h = subst IsClosedContent (sym h.is) (IsClosed-spelled K (IsClosed-arises R thin.law.is_font K h.arises) (thin.lean K h.arises))
+closed_spelled {R} thin C K h =
+    subst IsClosedContent (sym h.is) (IsClosed-spelled K (IsClosed-arises R thin.law.is_font K h.arises)
+    (thin.lean K h.arises))
 
 -- the metrics of a glyph in one table
 pub metric_four : (k : ℕ) (t : List ℕ) (g a b c d : ℕ)
-    → a ≡ cond (nat_lt 0 (entry_size k g)) (get_or t (entry_at k g + 0) 0) 0 → b ≡ cond (nat_lt 1 (entry_size k g)) (get_or t (entry_at k g + 1) 0) 0
-    → c ≡ cond (nat_lt 2 (entry_size k g)) (get_or t (entry_at k g + 2) 0) 0 → d ≡ cond (nat_lt 3 (entry_size k g)) (get_or t (entry_at k g + 3) 0) 0
+    → a ≡ cond (nat_lt 0 (entry_size k g)) (get_or t (entry_at k g + 0) 0) 0
+    → b ≡ cond (nat_lt 1 (entry_size k g)) (get_or t (entry_at k g + 1) 0) 0
+    → c ≡ cond (nat_lt 2 (entry_size k g)) (get_or t (entry_at k g + 2) 0) 0
+    → d ≡ cond (nat_lt 3 (entry_size k g)) (get_or t (entry_at k g + 3) 0) 0
     → a ∷ b ∷ c ∷ d ∷ [] ≡ metric_bytes k t g
 unfolding metric_bytes
 metric_four k t g a b c d p q r s = λ i. p i ∷ q i ∷ r i ∷ s i ∷ []
 
-pub pairs_read : (copied : Tables) (h b count pairs : ℕ) (header table : List ℕ) → table ≡ table_in_slot copied b → header ≡ table_in_slot copied h → count ≡ glyph_count copied
-    → pairs ≡ cond (is_bad_hhea header count || is_bad_hmtx table (number_of_h_metrics header) count) 0 (number_of_h_metrics header) → pairs ≡ pairs_in copied h b
+pub pairs_read : (copied : Tables) (h b count pairs : ℕ) (header table : List ℕ) → table ≡ table_in_slot copied b
+    → header ≡ table_in_slot copied h → count ≡ glyph_count copied
+    → pairs ≡ cond (is_bad_hhea header count || is_bad_hmtx table (number_of_h_metrics header) count) 0
+    (number_of_h_metrics header) → pairs ≡ pairs_in copied h b
 unfolding pairs_in
 pairs_read copied h b count pairs header table there head n is =
-    is ∙ (λ i. cond (is_bad_hhea (head i) (n i) || is_bad_hmtx (there i) (number_of_h_metrics (head i)) (n i)) 0 (number_of_h_metrics (head i)))
+    is ∙ (λ i. cond (is_bad_hhea (head i) (n i) || is_bad_hmtx (there i) (number_of_h_metrics (head i)) (n i)) 0
+    (number_of_h_metrics (head i)))
 
-pub metrics_of_tables : (copied : Tables) (g k l : ℕ) (t s : List ℕ) → t ≡ table_in_slot copied HMTX → k ≡ pairs_in copied HHEA HMTX → s ≡ table_in_slot copied VMTX → l ≡ pairs_in copied VHEA VMTX
+pub metrics_of_tables : (copied : Tables) (g k l : ℕ) (t s : List ℕ) → t ≡ table_in_slot copied HMTX
+    → k ≡ pairs_in copied HHEA HMTX → s ≡ table_in_slot copied VMTX → l ≡ pairs_in copied VHEA VMTX
     → metrics_by ((k, t), (l, s)) g ≡ metrics_at copied g
 unfolding metrics_at
 metrics_of_tables copied g k l t s a b c d = λ i. metric_bytes (b i) (a i) g ++ metric_bytes (d i) (c i) g
 
 -- those of both tables are the same where each is
-half_first : (k l p q : ℕ) (t s u v : List ℕ) (g : ℕ) → metric_bytes k t g ++ metric_bytes l s g ≡ metric_bytes p u g ++ metric_bytes q v g → metric_bytes k t g ≡ metric_bytes p u g
+half_first : (k l p q : ℕ) (t s u v : List ℕ) (g : ℕ) → metric_bytes k t g ++ metric_bytes l s g ≡ metric_bytes p u g
+    ++ metric_bytes q v g → metric_bytes k t g ≡ metric_bytes p u g
 unfolding metric_bytes
 half_first k l p q t s u v g e = ap (take 4) e
 
-half_second : (k l p q : ℕ) (t s u v : List ℕ) (g : ℕ) → metric_bytes k t g ++ metric_bytes l s g ≡ metric_bytes p u g ++ metric_bytes q v g → metric_bytes l s g ≡ metric_bytes q v g
+half_second : (k l p q : ℕ) (t s u v : List ℕ) (g : ℕ) → metric_bytes k t g ++ metric_bytes l s g ≡ metric_bytes p u g
+    ++ metric_bytes q v g → metric_bytes l s g ≡ metric_bytes q v g
 unfolding metric_bytes
 half_second k l p q t s u v g e = ap (drop 4) e
 
@@ -228,19 +259,22 @@ all_true true y p q = q
 all_true false y p q = cc
 
 pub halves_same : (k l p q : ℕ) (t s u v : List ℕ) (g : ℕ)
-    → (bytes_eq (metric_bytes k t g) (metric_bytes p u g) && bytes_eq (metric_bytes l s g) (metric_bytes q v g)) ≡ bytes_eq (metric_bytes k t g ++ metric_bytes l s g) (metric_bytes p u g ++ metric_bytes q v g)
+    → (bytes_eq (metric_bytes k t g) (metric_bytes p u g) && bytes_eq (metric_bytes l s g) (metric_bytes q v g))
+    ≡ bytes_eq (metric_bytes k t g ++ metric_bytes l s g) (metric_bytes p u g ++ metric_bytes q v g)
 halves_same k l p q t s u v g = bool_same _ _
-    (λ h. let w = both_true _ _ h in (bytes_eq-Decides _ _).1 (λ i. (bytes_eq-Decides (metric_bytes k t g) (metric_bytes p u g)).0 w.0 i ++ (bytes_eq-Decides (metric_bytes l s g) (metric_bytes q v g)).0 w.1 i))
+    (λ h. let w = both_true _ _ h in
+    (bytes_eq-Decides _ _).1 (λ i. (bytes_eq-Decides (metric_bytes k t g) (metric_bytes p u g)).0 w.0 i
+    ++ (bytes_eq-Decides (metric_bytes l s g) (metric_bytes q v g)).0 w.1 i))
     (λ h.
-    let e = (bytes_eq-Decides (metric_bytes k t g ++ metric_bytes l s g) (metric_bytes p u g ++ metric_bytes q v g)).0 h in
-    all_true _ _ ((bytes_eq-Decides _ _).1 (half_first k l p q t s u v g e)) ((bytes_eq-Decides _ _).1 (half_second k l p q t s u v g e)))
+    let e = (bytes_eq-Decides (metric_bytes k t g ++ metric_bytes l s g) (metric_bytes p u g ++ metric_bytes q v g)).0
+    h in
+    all_true _ _ ((bytes_eq-Decides _ _).1 (half_first k l p q t s u v g e))
+    ((bytes_eq-Decides _ _).1 (half_second k l p q t s u v g e)))
 
-pub metrics_same : (m n : (ℕ × List ℕ) × (ℕ × List ℕ)) (g : ℕ) (a b : List ℕ) → a ≡ metric_bytes m.0.0 m.0.1 g → b ≡ metric_bytes n.0.0 n.0.1 g
-    → (bytes_eq a b && bytes_eq (metric_bytes m.1.0 m.1.1 g) (metric_bytes n.1.0 n.1.1 g)) ≡ bytes_eq (metrics_by m g) (metrics_by n g)
+pub metrics_same : (m n : (ℕ × List ℕ) × (ℕ × List ℕ)) (g : ℕ) (a b : List ℕ) → a ≡ metric_bytes m.0.0 m.0.1 g
+    → b ≡ metric_bytes n.0.0 n.0.1 g
+    → (bytes_eq a b && bytes_eq (metric_bytes m.1.0 m.1.1 g) (metric_bytes n.1.0 n.1.1 g)) ≡ bytes_eq (metrics_by m g)
+    (metrics_by n g)
 metrics_same m n g a b p q =
-    (λ i. bytes_eq (p i) (q i) && bytes_eq (metric_bytes m.1.0 m.1.1 g) (metric_bytes n.1.0 n.1.1 g)) ∙ halves_same m.0.0 m.1.0 n.0.0 n.1.0 m.0.1 m.1.1 n.0.1 n.1.1 g
-
--- a table that was found, as a clause has it
-pub found_in : {X : Type 0} (bytes : X → List ℕ) (o : Option X) (t : Option (List ℕ)) → option_map bytes o ≡ t → MatchOption o (t ≡ None) (λ x. t ≡ Some (bytes x))
-found_in bytes None t h = sym h
-found_in bytes (Some x) t h = sym h
+    (λ i. bytes_eq (p i) (q i) && bytes_eq (metric_bytes m.1.0 m.1.1 g) (metric_bytes n.1.0 n.1.1 g))
+    ∙ halves_same m.0.0 m.1.0 n.0.0 n.1.0 m.0.1 m.1.1 n.0.1 n.1.1 g

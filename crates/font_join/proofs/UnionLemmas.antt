@@ -15,7 +15,9 @@ use Rattle.font_join.specs.declared.join_error.Which.TheVariants.{First, Second}
 module _ (R : Format) (x y : List ℕ) where
   pub first_form : (error : JoinError) → form_fault R First x ≡ Some error → union_fault R x y ≡ Some error
   unfolding union_fault
-  first_form error e = λ i. first_of_lines (e i ∷ form_fault R Second y ∷ option_map different (difference (content_of_all R x) (content_of_all R y)) ∷ [])
+  first_form error e =
+      λ i. first_of_lines (e i ∷ form_fault R Second y
+      ∷ option_map different (difference (content_of_all R x) (content_of_all R y)) ∷ [])
 
 -- the slot of a difference
 pub slot_below : (K L : Content) (slot : ℕ) → difference K L ≡ Some (AtTable slot) → slot < ALL_SLOTS

@@ -6,20 +6,22 @@ use Rattle.codes.specs.Runs.{groups_from}
 use Rattle.codes.specs.declared.runs.Run.{Run}
 use Rattle.codes.proofs.RunLemmas.{groups_done}
 use Rattle.font_theory.specs.Content.{Content, IsWritable, KeepsComponents, glyph_count}
-use Rattle.font_theory.specs.File.{current_writing, file, writing_of, groups_of_content, outlines_of, second_writing, size_of}
+use Rattle.font_theory.specs.File.{current_writing, file, writing_of, groups_of_content, outlines_of, second_writing}
+use Rattle.font_theory.specs.File.{size_of}
 use Rattle.font_theory.proofs.SizeLemmas.{length-file}
 use Rattle.font_write.specs.Parts.{glyf_to, groups_bytes}
 use Rattle.font_write.specs.Plan.{AreCounts}
 use Rattle.font_write.proofs.ChecksumLemmas.{checksum_of-nil}
 use Rattle.font_write.proofs.GroupLemmas.{groups_bytes-nil}
 use Rattle.font_write.specs.declared.size.Counts.{Counts}
-use Rattle.font_join.specs.Union.{AreCounted, listed_outline, outlines_length}
+use Rattle.font_join.specs.Union.{HaveLength, listed_outline, outlines_length}
 use Rattle.font_join.specs.Inside.{without_codes}
 use Rattle.font_join.proofs.OutlineListLemmas.{length-glyf_to, outlines_length-most}
 use Rattle.map_union.proofs.UnionMapLemmas.{no_codes}
 
 -- the outlines of a content that has those of a list are counted
-module _ (K : Content) (outlines : List (Option (List ℕ))) (bytes : ℕ) (is : K.outline ≡ listed_outline outlines) (all : length outlines ≡ glyph_count K.copied) (counted : AreCounted outlines bytes) where
+module _ (K : Content) (outlines : List (Option (List ℕ))) (bytes : ℕ) (is : K.outline ≡ listed_outline outlines)
+    (all : length outlines ≡ glyph_count K.copied) (counted : HaveLength outlines bytes) where
   pub outlines_counted : bytes ≡ length (glyf_to K (glyph_count K.copied))
   outlines_counted = counted.counted ∙ sym (length-glyf_to K outlines is) ∙ ap (λ (n : ℕ). length (glyf_to K n)) all
 
@@ -49,17 +51,22 @@ module _ (K : Content) where
   no_groups = ap length (groups_done (without_codes K).map 0 no_codes (λ c x. refl))
 
   no_sum : checksum_of (groups_bytes (groups_from (without_codes K).map 0)) ≡ 0
-  no_sum = ap (λ (runs : List Run). checksum_of (groups_bytes runs)) (groups_done (without_codes K).map 0 no_codes (λ c x. refl)) ∙ ap checksum_of groups_bytes-nil ∙ checksum_of-nil
+  no_sum = ap (λ (runs : List Run). checksum_of (groups_bytes runs)) (groups_done (without_codes K).map 0 no_codes
+      (λ c x. refl)) ∙ ap checksum_of groups_bytes-nil ∙ checksum_of-nil
 
-  pub counts_without : (counts : Counts) → counts.groups ≡ 0 → counts.group_sum ≡ 0 → counts.outlines ≡ length (glyf_to K (glyph_count K.copied)) → counts.outlines ≤ 0x0001_0000_0000_0000 → AreCounts (without_codes K) counts
+  pub counts_without : (counts : Counts) → counts.groups ≡ 0 → counts.group_sum ≡ 0
+      → counts.outlines ≡ length (glyf_to K (glyph_count K.copied)) → counts.outlines ≤ 0x0001_0000_0000_0000
+      → AreCounts (without_codes K) counts
   unfolding groups_of_content glyf_to
-  counts_without counts groups group_sum outlines small = record { groups = groups ∙ sym no_groups; group_sum = group_sum ∙ sym no_sum; outlines = outlines; small = small }
+  counts_without counts groups group_sum outlines small =
+      record { groups = groups ∙ sym no_groups; group_sum = group_sum ∙ sym no_sum; outlines = outlines; small = small }
 
   size_apart : size_of current_writing K ≡ size_of current_writing (without_codes K) + 12 * length (groups_from K.map 0)
   unfolding size_of writing_of second_writing groups_of_content outlines_of
   size_apart = omega (arith, no_groups)
 
-  pub size_without : IsWritable K → length (file current_writing K) ≡ length (file current_writing (without_codes K)) + 12 * length (groups_from K.map 0)
+  pub size_without : IsWritable K → length (file current_writing K) ≡ length (file current_writing (without_codes K))
+      + 12 * length (groups_from K.map 0)
   size_without ok =
       let whole = length-file current_writing K ok in
       let rest = length-file current_writing (without_codes K) (writable_without ok) in

@@ -8,7 +8,7 @@ use Rattle.font_join.specs.declared.join_error.Which.{Which}
 use Rattle.font_join.specs.declared.join_error.Which.TheVariants.{Second}
 use Rattle.font_file.specs.Font.{font_fault}
 use Rattle.font_file.specs.declared.font_error.FontError.{FontError}
-use Rattle.font_glyph.specs.Union.{Records, union_of}
+use Rattle.font_glyph.specs.RecordMap.{Records, union_of}
 use Rattle.font_subset.specs.declared.layout_font.OpenError.{OpenError}
 use Rattle.font_subset.specs.declared.layout_font.OpenError.TheVariants as open_errors
 use Rattle.font_theory.specs.Content.{CODES, Content}

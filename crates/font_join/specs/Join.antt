@@ -12,11 +12,12 @@ use Rattle.font_write.specs.declared.whole_file.FileError.{FileError}
 use Rattle.font_write.specs.declared.whole_file.FileError.TheVariants as file_errors
 use Rattle.font_theory.specs.Cut.{Format, IsCurrent, Under, is_cut, joined, content_of_all}
 use Rattle.font_theory.specs.Difference.{difference}
-use Rattle.font_theory.specs.Join.{Agree}
+use Rattle.font_theory.specs.Agreement.{Agree}
 use Rattle.font_theory.specs.declared.Difference.{Difference}
 use Rattle.font_theory.specs.declared.Difference.TheVariants.{AtCode, AtGlyph, AtTable}
 use Rattle.font_join.specs.declared.join_error.JoinError.{JoinError}
-use Rattle.font_join.specs.declared.join_error.JoinError.TheVariants.{DifferentGlyph, DifferentMapping, DifferentTable, Font, NoMemory, NotACut, TooLarge}
+use Rattle.font_join.specs.declared.join_error.JoinError.TheVariants.{DifferentGlyph, DifferentMapping, DifferentTable}
+use Rattle.font_join.specs.declared.join_error.JoinError.TheVariants.{Font, NoMemory, NotACut, TooLarge}
 use Rattle.font_join.specs.declared.join_error.Which.{Which}
 use Rattle.font_join.specs.declared.join_error.Which.TheVariants.{First, Second}
 

@@ -1,6 +1,7 @@
 -- What the joins of a list of files in turn answer, this project's own, over the format of the cuts that are
 -- joined.
-use Rattle.std.specs.Prelude.{◌≡◌, ℕ, zero, suc, ◌<◌, ◌≤◌, Bool, true, List, [], length, take, Option, None, Result, IfOk, MatchResult}
+use Rattle.std.specs.Prelude.{◌≡◌, ℕ, zero, suc, ◌<◌, ◌≤◌, Bool, true, List, [], length, take, Option, None, Result}
+use Rattle.std.specs.Prelude.{IfOk, MatchResult}
 use Rattle.sfnt_bytes.specs.declared.directory.TheConstants.{MAX_FILE}
 use Rattle.font_file.specs.Font.{font_fault}
 use Rattle.font_theory.specs.Content.{content}

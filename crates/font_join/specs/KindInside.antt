@@ -1,5 +1,6 @@
 -- Words of private contracts and of proofs, of each kind of cut: no public clause names them.
-use Rattle.std.specs.Prelude.{◌≡◌, ℕ, ◌≤◌, nat_lt, not, find, Bool, ◌&&◌, List, [], ◌++◌, length, is_some, if◌then◌else◌, Option, None, Some, unwrap_or}
+use Rattle.std.specs.Prelude.{◌≡◌, ℕ, ◌≤◌, nat_lt, not, find, Bool, ◌&&◌, List, [], ◌++◌, length, is_some}
+use Rattle.std.specs.Prelude.{if◌then◌else◌, Option, None, Some, unwrap_or}
 use Rattle.std.specs.List.{range_with_len}
 use Rattle.std.specs.Option.{option_map}
 use Rattle.std.specs.Str.{bytes_eq}
@@ -7,10 +8,10 @@ use Rattle.sfnt_bytes.specs.declared.directory.TheConstants.{MAX_FILE}
 use Rattle.sfnt_bytes.specs.declared.tag.TheConstants.{HHEA, HMTX, VHEA, VMTX}
 use Rattle.font_tables.specs.Fields.{glyph_count_of}
 use Rattle.font_theory.specs.Content.{Content, glyph_count}
-use Rattle.font_theory.specs.Lean.{blank, metric_bytes, metrics_at, pairs_in}
+use Rattle.font_theory.specs.LeanCut.{blank, metric_bytes, metrics_at, pairs_in}
 use Rattle.font_theory.specs.Cut.{content_of_all}
 use Rattle.font_theory.specs.Difference.{difference}
-use Rattle.font_theory.specs.Join.{both}
+use Rattle.font_theory.specs.Agreement.{both}
 use Rattle.font_theory.specs.Kinds.{format_of, spelled_by}
 use Rattle.font_theory.specs.declared.kinds.Kind.{Kind}
 use Rattle.font_theory.specs.declared.kinds.Kind.TheVariants.{Full, Layout, Lean}

@@ -1,9 +1,10 @@
 -- The union of many files in cut form, this project's own: what is held of it, and its content.
-use Rattle.std.specs.Prelude.{◌≡◌, ℕ, ◌+◌, ◌<◌, ◌≤◌, nat_eq, Bool, List, [], ◌∷◌, get_or, length, if◌then◌else◌, Option, None, IfSome}
+use Rattle.std.specs.Prelude.{◌≡◌, ℕ, ◌+◌, ◌<◌, ◌≤◌, nat_eq, Bool, List, [], ◌∷◌, get_or, length, if◌then◌else◌, Option}
+use Rattle.std.specs.Prelude.{None, IfSome}
 use Rattle.std.specs.Option.{unwrap_or}
 use Rattle.sfnt_bytes.specs.declared.directory.TheConstants.{MAX_FILE}
 use Rattle.sfnt_bytes.specs.declared.tag.TheConstants.{HMTX, VMTX}
-use Rattle.font_glyph.specs.Union.{Records}
+use Rattle.font_glyph.specs.RecordMap.{Records}
 use Rattle.font_theory.specs.Content.{Content, font_of}
 use Rattle.font_theory.specs.Difference.{are_different}
 use Rattle.font_theory.specs.Kinds.{tables_as}
@@ -56,7 +57,7 @@ outlines_length [] = 0
 outlines_length (outline ∷ outlines) = length (unwrap_or outline []) + outlines_length outlines
 
 -- the outlines of fewer than 65,536 glyphs, none of them too large, have this number of bytes
-pub record AreCounted (outlines : List (Option (List ℕ))) (bytes : ℕ) : Type 0 where
+pub record HaveLength (outlines : List (Option (List ℕ))) (bytes : ℕ) : Type 0 where
   pub few : length outlines < 65536
   pub small : AreSmall outlines
   pub counted : bytes ≡ outlines_length outlines

@@ -58,10 +58,10 @@ impl JoinError {
     {
         match self {
             JoinError::Font(_, error) => error.number(),
-            JoinError::NotACut(_) => 20,
-            JoinError::DifferentTable(_) => 21,
-            JoinError::DifferentMapping(_) => 22,
-            JoinError::DifferentGlyph(_) => 23,
+            JoinError::NotACut(_) => numbers::NOT_A_CUT,
+            JoinError::DifferentTable(_) => numbers::DIFFERENT_TABLE,
+            JoinError::DifferentMapping(_) => numbers::DIFFERENT_MAPPING,
+            JoinError::DifferentGlyph(_) => numbers::DIFFERENT_GLYPH,
             JoinError::TooLarge(_) => numbers::TOO_LARGE,
             JoinError::NoMemory => numbers::NO_MEMORY,
         }
@@ -142,7 +142,7 @@ impl JoinAllError {
         ensures { result ≡ join_all_error_number self.now }
     {
         match self {
-            JoinAllError::NothingToJoin => 24,
+            JoinAllError::NothingToJoin => numbers::NOTHING_TO_JOIN,
             JoinAllError::At { step: _, error } => error.number(),
         }
     }

@@ -44,7 +44,8 @@ fn join_in_turn<A: Allocator + Copy>(
     files: &[Vec<u8, A>],
 ) -> Result<Vec<u8, A>, JoinAllError>
     ensures { let bytes = map (λ v. v.items) files.now in
-        MatchResult result (λ z. IsAllJoined (format_of kind) bytes z.items) (IsAllRefusal (format_of kind) bytes) }
+        MatchResult result (λ z. IsAllJoined (format_of kind) bytes z.items)
+        (IsAllRefusal (format_of kind) bytes) }
 {
     let first = open_first(files)?;
     let all = union_of_all(alloc, kind, &first, files)?;
@@ -63,7 +64,8 @@ pub fn join_all_of_kind<A: Allocator + Copy>(
     files: &[Vec<u8, A>],
 ) -> Result<Vec<u8, A>, JoinAllError>
     ensures exact { let bytes = map (λ v. v.items) files.now in
-        MatchResult result (λ z. IsAllJoined (format_of kind) bytes z.items) (IsAllRefusal (format_of kind) bytes) }
+        MatchResult result (λ z. IsAllJoined (format_of kind) bytes z.items)
+        (IsAllRefusal (format_of kind) bytes) }
     ensures small { IfOk result (λ z. length z.items ≤ MAX_FILE) }
     ensures laws { let bytes = map (λ v. v.items) files.now in
         JoinLaws (format_of kind) bytes result (λ z v. v.items ≡ z) (IsForSizeOf (format_of kind)) }
@@ -133,7 +135,8 @@ pub fn union_of_files<'f, 'a, A: Allocator + Copy>(
 ) -> Result<Union<'f, 'a, A>, JoinAllError>
     requires { IsFirst (map (λ f. f.now) files.now) first.now }
     ensures exact { let bytes = map (λ f. f.now) files.now in
-        MatchResult result (λ union. IsAllJoined (format_of kind) bytes (file current_writing (content_in union)))
+        MatchResult result (λ union. IsAllJoined (format_of kind) bytes
+        (file current_writing (content_in union)))
         (IsAllRefusal (format_of kind) bytes) }
     ensures small { IfOk result (λ union. length (file current_writing (content_in union)) ≤ MAX_FILE) }
 {
@@ -183,9 +186,11 @@ pub fn join_all_of_kind_into<A: Allocator + Copy, W: Write>(
 
     // The laws of `join_all`, of the bytes that went out.
     ensures laws { let bytes = map (λ v. v.items) files.now in
-        JoinLaws (format_of kind) bytes result (IsSentAs W.contents out.old out.new) (IsForSizeInto (format_of kind)) }
+        JoinLaws (format_of kind) bytes result (IsSentAs W.contents out.old out.new)
+        (IsForSizeInto (format_of kind)) }
     ensures clash { let bytes = map (λ v. v.items) files.now in
-        (error : JoinAllError) → result ≡ Err (NotJoined error) → EveryTreeDiffers (format_of kind) bytes error }
+        (error : JoinAllError) → result ≡ Err (NotJoined error)
+        → EveryTreeDiffers (format_of kind) bytes error }
 {
     send_in_turn(alloc, kind, files, out)
 }

@@ -5,8 +5,8 @@ ghost use Rattle.font_file.specs.Font.{font_fault};
 ghost use Rattle.font_theory.specs.Content.{content, everything};
 ghost use Rattle.font_theory.specs.Cut.{IsCut, Writes, either, our_format, renewed};
 ghost use Rattle.font_theory.specs.Kinds.{fault_of, format_of};
-ghost use Rattle.font_subset.specs.Kinds.{cut_in};
-ghost use Rattle.font_subset.specs.Cut.{IsCutOf, cut_of};
+ghost use Rattle.font_subset.specs.CutOfKind.{cut_in};
+ghost use Rattle.font_subset.specs.CutOfFont.{IsCutOf, cut_of};
 ghost use Rattle.font_join.specs.Join.{IsForSize, IsJoin, IsJoinRefusal, IsLeastUpper, RefusalIsRight};
 
 use crate::join_error::{JoinError, Which};

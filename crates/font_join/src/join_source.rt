@@ -2,7 +2,7 @@
 ghost use Rattle.std.specs.Prelude.{◌≡◌, None, MatchResult};
 ghost use Rattle.font_theory.specs.Content.{content, everything, font_of};
 ghost use Rattle.font_theory.specs.Cut.{content_of_all, our_format};
-ghost use Rattle.font_theory.specs.Join.{both};
+ghost use Rattle.font_theory.specs.Agreement.{both};
 ghost use Rattle.font_join.specs.Join.{IsUnionRefusal, union_fault};
 ghost use Rattle.font_theory.specs.Kinds.{format_of, spelled_by};
 ghost use Rattle.font_join.specs.Union.{content_in};
@@ -46,7 +46,8 @@ impl<'a, A: Allocator + Copy> Union<'a, 'a, A> {
         y: &'a Font<'a>,
     ) -> Result<Joined<'a, A>, JoinError>
         ensures { MatchResult result (λ joined. (content_in joined ≡ spelled_by kind
-            (both (content_of_all (format_of kind) x.entry.now) (content_of_all (format_of kind) y.entry.now)))
+            (both (content_of_all (format_of kind) x.entry.now)
+            (content_of_all (format_of kind) y.entry.now)))
             × (union_fault (format_of kind) x.entry.now y.entry.now ≡ None))
             (IsUnionRefusal (format_of kind) x.entry.now y.entry.now) }
     {

@@ -11,8 +11,8 @@ mod join_pair;
 mod join_source;
 mod listed;
 mod metrics;
-mod outlines;
 mod own_tables;
+mod taken_outlines;
 mod union;
 mod without_codes;
 

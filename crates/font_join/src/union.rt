@@ -21,8 +21,8 @@ use crate::join_error::{JoinError, Which};
 use crate::join_input::open_for_kind;
 use crate::listed::Listed;
 use crate::metrics::different_metrics;
-use crate::outlines::Outlines;
 use crate::own_tables::{either_table, own_table};
+use crate::taken_outlines::Outlines;
 use crate::without_codes::size_if_too_large;
 use font_file::Font;
 use font_map::Run;
@@ -268,7 +268,8 @@ impl<'f, 'a, A: Allocator + Copy> Union<'f, 'a, A> {
     /// `Font` of the second where its tables of layout are refused, `NotACut` of the second, the first difference,
     /// or `NoMemory`.
     pub(crate) fn add(self, alloc: A, font: &Font<'a>) -> Result<Union<'f, 'a, A>, JoinError>
-        ensures { (kind : Kind) (K : Content) → self.entry.kind ≡ kind → SpellsIn kind (content_in self.entry) K →
+        ensures { (kind : Kind) (K : Content) → self.entry.kind ≡ kind
+            → SpellsIn kind (content_in self.entry) K →
             MatchResult result
             (λ union. IsGrown kind font.now K union × (add_fault (format_of kind) K font.now ≡ None))
             (IsAddRefusal (format_of kind) K font.now) }

@@ -10,7 +10,7 @@ ghost use Rattle.font_theory.specs.Content.{glyph_count};
 ghost use Rattle.font_theory.specs.File.{current_writing, file};
 ghost use Rattle.font_write.specs.Parts.{glyf_to};
 
-use crate::outlines::Outlines;
+use crate::taken_outlines::Outlines;
 use font_map::Run;
 use font_write::{CURRENT, Counts, Source, counted_size, file_size};
 use map_union::UnionMap;

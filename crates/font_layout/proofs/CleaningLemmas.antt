@@ -1,8 +1,9 @@
 -- Cleaning a table twice.
-use Rattle.std.proofs.Common.{◌≡◌, ℕ, ◌+◌, ◌<◌, ◌≤◌, ◌⊎◌, Bool, true, false, cond, eqb, leb, ◌&&◌, List, get_or, length, set, sym, ap, refl, ◌∙◌, arith, inl, inr}
+use Rattle.std.proofs.Common.{◌≡◌, ℕ, ◌+◌, ◌<◌, ◌≤◌, ◌⊎◌, Bool, true, false, cond, eqb, leb, ◌&&◌, List, get_or, length}
+use Rattle.std.proofs.Common.{set, sym, ap, refl, ◌∙◌, arith, inl, inr}
 use Rattle.std.proofs.lemmas.Bool.{and_parts, cases_Bool, cases_eq, cases_lt, leb-true}
 use Rattle.std.proofs.lemmas.List.{get_or-set_same, get_or-set_other, get_or_past, length-set, set-get_or}
-use Rattle.sfnt_bytes.specs.Number.{u16_at}
+use Rattle.sfnt_bytes.specs.Number.{u16_at, u32_at}
 use Rattle.sfnt_bytes.specs.declared.tag.TheConstants.{BASE, GDEF, GSUB}
 use Rattle.font_layout.specs.Cleaning.{field_at, fixed, has_field, with_zeros}
 
@@ -12,7 +13,8 @@ zeros at table = with_zeros at table
 pub length-with_zeros : (at : ℕ) (table : List ℕ) → length (with_zeros at table) ≡ length table
 length-with_zeros at table =
     length-set (set (set (set table at 0) (at + 1) 0) (at + 2) 0) (at + 3) 0
-    ∙ length-set (set (set table at 0) (at + 1) 0) (at + 2) 0 ∙ length-set (set table at 0) (at + 1) 0 ∙ length-set table at 0
+    ∙ length-set (set (set table at 0) (at + 1) 0) (at + 2) 0 ∙ length-set (set table at 0) (at + 1) 0
+    ∙ length-set table at 0
 
 -- a byte before the zeros
 before_zeros : (at : ℕ) (table : List ℕ) (k : ℕ) → k < at → get_or (with_zeros at table) k 0 ≡ get_or table k 0
@@ -28,7 +30,8 @@ set-zero table j k is =
     elim (cases_eq k j) [
       | inl same ↦ elim (below j (length table)) [
         | inl low ↦ rw same (get_or-set_same table j 0 0 low)
-        | inr past ↦ let long = length-set table j 0 in get_or_past (set table j 0) k 0 (omega (arith, long, same, past))
+        | inr past ↦ let long = length-set table j 0 in
+            get_or_past (set table j 0) k 0 (omega (arith, long, same, past))
       ]
       | inr other ↦ get_or-set_other table j k 0 0 other ∙ is
     ]
@@ -45,6 +48,19 @@ made-zero table j =
 
 set-done : (table : List ℕ) (j : ℕ) → get_or table j 0 ≡ 0 → set table j 0 ≡ table
 set-done table j is = ap (set table j) (sym is) ∙ set-get_or table j 0
+
+-- a table with these zeros already
+zeros-done : (at : ℕ) (table : List ℕ) → u32_at table at ≡ 0 → with_zeros at table ≡ table
+unfolding u32_at u16_at
+zeros-done at table is =
+    let first : get_or table at 0 ≡ 0 = omega (arith, is) in
+    let second : get_or table (at + 1) 0 ≡ 0 = omega (arith, is) in
+    let third : get_or table (at + 2) 0 ≡ 0 = omega (arith, is) in
+    let fourth : get_or table (at + 3) 0 ≡ 0 = omega (arith, is) in
+    ap (λ (x : List ℕ). set (set (set x (at + 1) 0) (at + 2) 0) (at + 3) 0) (set-done table at first)
+    ∙ ap (λ (x : List ℕ). set (set x (at + 2) 0) (at + 3) 0) (set-done table (at + 1) second)
+    ∙ ap (λ (x : List ℕ). set x (at + 3) 0) (set-done table (at + 2) third)
+    ∙ set-done table (at + 3) fourth
 
 zeros-zeros : (at : ℕ) (table : List ℕ) → with_zeros at (with_zeros at table) ≡ with_zeros at table
 zeros-zeros at table =
@@ -110,9 +126,23 @@ pub fixed-not : (slot : ℕ) (table : List ℕ) → has_field slot table ≡ fal
 unfolding fixed
 fixed-not slot table not_is = rw not_is refl
 
-pub fixed-where : (slot : ℕ) (table bytes : List ℕ) (at : ℕ) → has_field slot table ≡ true → at ≡ field_at slot → bytes ≡ with_zeros at table → bytes ≡ fixed slot table
+-- by whether the field is 0 already
+pub fixed-done : (slot : ℕ) (table : List ℕ) (at : ℕ) → at ≡ field_at slot → u32_at table at ≡ 0
+    → fixed slot table ≡ table
 unfolding fixed
-fixed-where slot table bytes at is place made = made ∙ ap (λ a. with_zeros a table) place ∙ sym (let yes : fixed slot table ≡ with_zeros (field_at slot) table = rw is refl in yes)
+fixed-done slot table at place is =
+    let done : with_zeros (field_at slot) table ≡ table =
+    ap (λ a. with_zeros a table) (sym place) ∙ zeros-done at table is in
+    elim (cases_Bool (has_field slot table)) [
+      | inl has ↦ rw has done
+      | inr has_not ↦ rw has_not refl
+    ]
+
+pub fixed-where : (slot : ℕ) (table bytes : List ℕ) (at : ℕ) → has_field slot table ≡ true → at ≡ field_at slot
+    → bytes ≡ with_zeros at table → bytes ≡ fixed slot table
+unfolding fixed
+fixed-where slot table bytes at is place made = made ∙ ap (λ a. with_zeros a table) place
+    ∙ sym (let yes : fixed slot table ≡ with_zeros (field_at slot) table = rw is refl in yes)
 
 pub field_place : (slot : ℕ) (table : List ℕ) → has_field slot table ≡ true → field_at slot + 4 ≤ length table
 unfolding has_field

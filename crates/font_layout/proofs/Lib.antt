@@ -2,7 +2,7 @@ pub mod CountedLemmas
 pub mod RuleLemmas
 pub mod WalkLemmas
 pub mod LayoutLemmas
-pub mod KeptLemmas
+pub mod TallyLemmas
 pub mod LinkLemmas
 pub mod LawLemmas
 pub mod NumberLemmas

@@ -1,5 +1,5 @@
 -- The glyphs that may stand for others (OpenType 1.9, GSUB), and what is refused, this project's own.
-use Rattle.std.specs.Prelude.{ℕ, nat_eq, nat_lt, Bool, true, false, ◌&&◌, ◌||◌, List, [], ◌∷◌, filter, length, map}
+use Rattle.std.specs.Prelude.{ℕ, ◌+◌, nat_eq, nat_lt, Bool, true, false, ◌&&◌, ◌||◌, List, [], ◌∷◌, filter, map}
 use Rattle.std.specs.List.{list_any}
 use Rattle.std.specs.Option.{is_none}
 use Rattle.font_layout.specs.Steps.{lookup_list, steps_in}
@@ -10,20 +10,27 @@ use Rattle.font_layout.specs.declared.step.Step.TheVariants.{Part, Leads, Fault}
 
 -- a step at which something does not lie within the table, or is unknown
 abbrev pub is_fault : Step → Bool
-is_fault Part = false
+is_fault (Part n) = false
 is_fault (Leads link) = false
 is_fault Fault = true
+
+-- how many steps are counted: one for each offset, item of a Coverage, covered glyph and link
+abbrev pub step_count : List Step → ℕ
+step_count [] = 0
+step_count (Part n ∷ steps) = n + step_count steps
+step_count (Leads link ∷ steps) = 1 + step_count steps
+step_count (Fault ∷ steps) = step_count steps
 
 -- a table is refused: it has no header or no whole list of lookups, a fault, or more steps than the limit
 unfoldable pub is_bad_layout : List ℕ → Bool
 is_bad_layout table =
     is_none (lookup_list table) || list_any is_fault (steps_in table)
-    || nat_lt STEP_LIMIT (length (steps_in table))
+    || nat_lt STEP_LIMIT (step_count (steps_in table))
 
 -- the links among steps
 abbrev pub links_among : List Step → List Link
 links_among [] = []
-links_among (Part ∷ steps) = links_among steps
+links_among (Part n ∷ steps) = links_among steps
 links_among (Leads link ∷ steps) = link ∷ links_among steps
 links_among (Fault ∷ steps) = links_among steps
 

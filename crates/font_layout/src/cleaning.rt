@@ -3,7 +3,7 @@ ghost use Rattle.std.specs.Prelude.{◌≡◌, ◌≤◌, ◌+◌, IfOk, IsTrue,
 ghost use Rattle.std.specs.Option.{option_map, option_or};
 ghost use Rattle.font_layout.specs.Cleaning.{field_at, field_since, fixed, has_field, with_zeros};
 
-use sfnt_bytes::{BASE, GDEF, GSUB, NoMemory, be16};
+use sfnt_bytes::{BASE, GDEF, GSUB, NoMemory, be16, be32};
 use std::alloc::Allocator;
 
 // Returns where the offset to what varies stands in the table of a slot.
@@ -50,8 +50,8 @@ fn with_zeros<A: Allocator>(alloc: A, table: &[u8], at: usize) -> Result<Vec<u8,
     Ok(bytes)
 }
 
-/// Returns the table of a slot of layout without what varies. Where there is nothing of it, the table itself
-/// serves, and none is returned.
+/// Returns the table of a slot of layout without what varies. Where there is nothing of it, as in each cut, the table
+/// itself serves, and none is returned.
 ///
 /// # Errors
 ///
@@ -69,6 +69,10 @@ pub fn fixed_table<A: Allocator>(
     if !has_field(slot, table) {
         return Ok(None);
     }
-    let bytes = with_zeros(alloc, table, field_at(slot))?;
+    let at = field_at(slot);
+    if be32(table, at) == 0 {
+        return Ok(None);
+    }
+    let bytes = with_zeros(alloc, table, at)?;
     Ok(Some(bytes))
 }

@@ -6,14 +6,15 @@ mod cleaning;
 mod counted;
 mod coverage;
 mod entry;
-mod kept;
 mod laws;
 mod layout;
+mod link_steps;
 mod links;
 mod lookup;
+mod lookup_subtable;
 mod rule;
 mod step;
-mod subtable;
+mod tally;
 mod walk;
 
 pub use crate::cleaning::fixed_table;

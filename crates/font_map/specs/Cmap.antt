@@ -1,5 +1,6 @@
 -- Encoding records, and the subtable that is chosen (OpenType 1.9, cmap, Encoding records and encodings).
-use Rattle.std.specs.Prelude.{ℕ, ◌+◌, ◌*◌, ◌%◌, nat_lt, nat_le, nat_eq, Bool, ◌&&◌, ◌||◌, List, [], ◌∷◌, length, drop, find, if◌then◌else◌, Option}
+use Rattle.std.specs.Prelude.{ℕ, ◌+◌, ◌*◌, ◌%◌, nat_lt, nat_le, nat_eq, Bool, ◌&&◌, ◌||◌, List, [], ◌∷◌, length, drop}
+use Rattle.std.specs.Prelude.{find, if◌then◌else◌, Option}
 use Rattle.std.specs.List.{range_with_len}
 use Rattle.std.specs.Option.{option_map_or}
 use Rattle.sfnt_bytes.specs.Number.{u16_at, u32_at}

@@ -3,6 +3,7 @@ ghost use Rattle.std.specs.Prelude.{◌≡◌, Some};
 ghost use Rattle.font_map.specs.Text.{error_number, error_text};
 
 use crate::mapping::MapError;
+use sfnt_bytes::numbers;
 use std::error::Error;
 use std::fmt;
 
@@ -25,8 +26,8 @@ impl MapError {
         ensures { result ≡ error_number self.now }
     {
         match self {
-            MapError::NoMapping => 13,
-            MapError::BadCmap => 14,
+            MapError::NoMapping => numbers::NO_MAPPING,
+            MapError::BadCmap => numbers::BAD_CMAP,
         }
     }
 }

@@ -1,5 +1,6 @@
 -- What a font holds for all codes, and whether its file is the file of that.
-use Rattle.std.proofs.Common.{◌≡◌, ℕ, ◌<◌, Some, Bool, true, false, ◌||◌, if◌then◌else◌, List, [], None, IsTrue, ◌↔◌, inl, inr, refl, sym, ◌∙◌, ap}
+use Rattle.std.proofs.Common.{◌≡◌, ℕ, ◌<◌, Some, Bool, true, false, ◌||◌, if◌then◌else◌, List, [], None, IsTrue, ◌↔◌}
+use Rattle.std.proofs.Common.{inl, inr, refl, sym, ◌∙◌, ap}
 use Rattle.std.specs.Option.{is_some, unwrap_or}
 use Rattle.std.specs.Str.{bytes_eq}
 use Rattle.std.proofs.lemmas.Slice.Eq.{bytes_eq-Decides}
@@ -7,21 +8,23 @@ use Rattle.std.proofs.lemmas.Bool.{false_from_ne_true}
 use Rattle.font_file.specs.Font.{font_fault}
 use Rattle.sfnt_bytes.specs.Lines.{when}
 use Rattle.font_theory.specs.Bytes.{padded}
-use Rattle.font_theory.specs.Content.{Content, Font, content, everything, font_of, is_kept}
-use Rattle.font_theory.specs.Cut.{Format, IsCurrent, IsCut, IsOld, Writes, is_current, is_cut, is_old, our_format, content_of_all}
-use Rattle.font_theory.proofs.CutLemmas.{IsCut-cases, IsCut-current, IsCut-old, is_current-of, is_current-tells, is_cut-tells, is_old-of, is_old-tells}
+use Rattle.font_theory.specs.Content.{Font, content, everything, font_of, is_kept}
+use Rattle.font_theory.specs.Cut.{Format, IsCurrent, IsCut, IsOld, is_current, is_cut, is_old, our_format}
+use Rattle.font_theory.specs.Cut.{content_of_all}
+use Rattle.font_theory.proofs.CutLemmas.{IsCut-cases, IsCut-current, IsCut-old, is_current-of, is_current-tells}
+use Rattle.font_theory.proofs.CutLemmas.{is_cut-tells, is_old-of, is_old-tells}
 use Rattle.font_theory.proofs.WritingLemmas.{no_cut-both}
 use Rattle.font_theory.specs.Kinds.{fault_of, font_as, format_of}
 use Rattle.font_theory.specs.declared.kinds.Kind.{Kind}
 use Rattle.font_theory.proofs.KindLemmas.{kind_is, read_whole}
-use Rattle.font_subset.specs.Cut.{IsFormOf, cut_form_of, form_in}
+use Rattle.font_subset.specs.CutOfFont.{IsFormOf, cut_form_of, form_in}
 use Rattle.font_subset.specs.Inside.{IsFileIn}
 use Rattle.font_subset.specs.declared.forms.CutForm.{CutForm}
 use Rattle.font_subset.specs.declared.forms.CutForm.TheVariants.{Current, Not, Old}
 use Rattle.font_theory.proofs.FileWantedLemmas.{outline-file}
 use Rattle.font_tables.specs.Fields.{glyph_count_of}
 use Rattle.font_tables.specs.Outlines.{outline_of}
-use Rattle.font_subset.specs.Content.{IsKeptSet}
+use Rattle.font_subset.specs.KeptGlyphs.{IsKeptSet}
 use Rattle.font_subset.proofs.SourceLemmas.{kept_below, kept_is}
 
 -- what this program reads of a file, and why it refuses one
@@ -67,12 +70,6 @@ is_current_form _ = false
 abbrev pub is_some_form : CutForm → Bool
 is_some_form Not = false
 is_some_form _ = true
-
--- a file in some form is written of the content
-pub writes_by : (R : Format) (K : Content) (X : List ℕ) (form : CutForm) → IsFileIn R K X form → IsTrue (is_some_form form) ↔ Writes R K X
-writes_by R K X Current h = (λ t. inl h, λ w. refl)
-writes_by R K X Old h = (λ t. inr h.1, λ w. refl)
-writes_by R K X Not h = (λ t. cc, λ w. absurd (elim w [ inl e ↦ h.0 e | inr e ↦ h.1 e ]))
 
 module _ (R : Format) where
   pub is_current_by : (form : CutForm) (X : List ℕ) → form ≡ form_in R X → is_current_form form ≡ is_current R X
@@ -125,7 +122,8 @@ form_told form X accepted e = go (is_current our_format X) (is_old our_format X)
     other : (a b : CutForm) → form ≡ a → form ≡ b → (a ≡ b → ⊥) → ⊥
     other a b p q n = n (sym p ∙ q)
 
-    go : (b c : Bool) → is_current our_format X ≡ b → is_old our_format X ≡ c → form ≡ (if b then Current else if c then Old else Not) → IsFormOf X form
+    go : (b c : Bool) → is_current our_format X ≡ b → is_old our_format X ≡ c
+        → form ≡ (if b then Current else if c then Old else Not) → IsFormOf X form
     go true c p q e =
         let is = is_current-tells our_format X ok p in
         record {
@@ -141,7 +139,8 @@ form_told form X accepted e = go (is_current our_format X) (is_old our_format X)
           neither = (λ h. absurd (other Old Not e h (λ n. cc)), λ no. absurd (no (IsCut-old our_format X is)));
         }
     go false false p q e =
-        let no_current : IsCurrent our_format X → ⊥ = λ h. both_false (is_current our_format X) p (is_current-of our_format X h) in
+        let no_current : IsCurrent our_format X → ⊥ =
+        λ h. both_false (is_current our_format X) p (is_current-of our_format X h) in
         let no_old : IsOld our_format X → ⊥ = λ h. both_false (is_old our_format X) q (is_old-of our_format X h) in
         record {
           current = (λ h. absurd (other Not Current e h (λ n. cc)), λ h. absurd (no_current h));
@@ -153,26 +152,34 @@ form_told form X accepted e = go (is_current our_format X) (is_old our_format X)
         both_false b f t = let n : false ≡ true = sym f ∙ t in cc
 
 -- in words
-pub is_current_in_words : (kind : Kind) (b : Bool) (X : List ℕ) → fault_of kind X ≡ None → b ≡ is_current (format_of kind) X → IsTrue b ↔ IsCurrent (format_of kind) X
+pub is_current_in_words : (kind : Kind) (b : Bool) (X : List ℕ) → fault_of kind X ≡ None
+    → b ≡ is_current (format_of kind) X → IsTrue b ↔ IsCurrent (format_of kind) X
 is_current_in_words kind b X accepted e =
     let R : Format = format_of kind in
     (λ t. is_current-tells R X ((kind_is kind).fault_is X ∙ accepted) (sym e ∙ t), λ is. e ∙ is_current-of R X is)
 
-pub is_cut_tells : (kind : Kind) (b : Bool) (X : List ℕ) → fault_of kind X ≡ None → b ≡ is_cut (format_of kind) X → IsTrue b → IsCut (format_of kind) X
-is_cut_tells kind b X accepted e t = is_cut-tells (format_of kind) (kind_is kind).law X ((kind_is kind).fault_is X ∙ accepted) (sym e ∙ t)
+pub is_cut_tells : (kind : Kind) (b : Bool) (X : List ℕ) → fault_of kind X ≡ None → b ≡ is_cut (format_of kind) X
+    → IsTrue b → IsCut (format_of kind) X
+is_cut_tells kind b X accepted e t = is_cut-tells (format_of kind) (kind_is kind).law X ((kind_is kind).fault_is X
+    ∙ accepted) (sym e ∙ t)
 
 -- an outline that a file in cut form keeps stands in it as it is written: with its zeros
-filled : (kind : Kind) (file : List ℕ) → IsCut (format_of kind) file → (g : ℕ) → is_kept (font_as kind file) everything g ≡ true → (content (font_as kind file) everything).outline g ≡ Some ((font_of file).outline g)
+filled : (kind : Kind) (file : List ℕ) → IsCut (format_of kind) file → (g : ℕ)
+    → is_kept (font_as kind file) everything g ≡ true → (content (font_as kind file) everything).outline g
+    ≡ Some ((font_of file).outline g)
 filled kind file form g kept =
-    let e : (content (font_as kind file) everything).outline g ≡ Some (padded ((font_of file).outline g)) = ap (λ b. when b (padded ((font_of file).outline g))) kept in
+    let e : (content (font_as kind file) everything).outline g ≡ Some (padded ((font_of file).outline g)) =
+    ap (λ b. when b (padded ((font_of file).outline g))) kept in
     e ∙ ap Some (sym (ap (λ (F : Font). F.outline g) (read_whole kind file form) ∙ ap (λ o. unwrap_or o []) e))
 
 -- an outline that is kept is one of the font, and in a file in cut form has its zeros
 module _ (kind : Kind) (file : List ℕ) (marks : List Bool) (kept : IsKeptSet kind file everything marks) where
-  pub written_below : (g : ℕ) (b : Bool) → b ≡ is_some ((content (font_as kind file) everything).outline g) → b ≡ true → g < glyph_count_of file
+  pub written_below : (g : ℕ) (b : Bool) → b ≡ is_some ((content (font_as kind file) everything).outline g) → b ≡ true
+      → g < glyph_count_of file
   written_below g b is t = kept_below kind file everything marks kept g (sym is ∙ t)
 
-  pub written_is : IsCut (format_of kind) file → (g : ℕ) (b : Bool) → b ≡ is_some ((content (font_as kind file) everything).outline g) → b ≡ true
+  pub written_is : IsCut (format_of kind) file → (g : ℕ) (b : Bool)
+      → b ≡ is_some ((content (font_as kind file) everything).outline g) → b ≡ true
       → (content (font_as kind file) everything).outline g ≡ Some (outline_of file g)
   written_is form g b is t =
       filled kind file form g (sym (kept.kept g) ∙ kept_is kind file everything marks kept g ∙ sym is ∙ t)

@@ -1,5 +1,6 @@
 -- What a cut that was made holds of its font.
-use Rattle.std.proofs.Common.{◌≡◌, ℕ, ◌≤◌, ◌&&◌, Bool, List, length, Option, None, Some, Result, Ok, Err, MatchResult, inl, refl, sym, subst, ◌∙◌, ap}
+use Rattle.std.proofs.Common.{◌≡◌, ℕ, ◌≤◌, ◌&&◌, Bool, List, length, Option, None, Some, Result, Ok, Err, MatchResult}
+use Rattle.std.proofs.Common.{inl, refl, sym, subst, ◌∙◌, ap}
 use Rattle.std.specs.Result.{IsErrAnd}
 use Rattle.sfnt_bytes.specs.Findings.{findings_of}
 use Rattle.sfnt_bytes.specs.declared.directory.TheConstants.{MAX_FILE}
@@ -21,12 +22,12 @@ use Rattle.font_theory.specs.declared.kinds.Kind.{Kind}
 use Rattle.font_theory.specs.declared.kinds.Kind.TheVariants.{Full, Layout, Lean}
 use Rattle.font_theory.specs.Kinds.{fault_of}
 use Rattle.font_theory.proofs.KindLemmas.{kind_is}
-use Rattle.font_subset.specs.Content.{written_of}
-use Rattle.font_subset.specs.Kinds.{IsSoundIn, cut_in}
+use Rattle.font_subset.specs.KeptGlyphs.{written_of}
+use Rattle.font_subset.specs.CutOfKind.{IsSoundIn, cut_in}
 use Rattle.font_subset.proofs.LayoutCutLemmas.{layout_sound}
 use Rattle.font_subset.proofs.SourceLemmas.{Held}
 use Rattle.font_subset.proofs.LeanCutLemmas.{lean_sound}
-use Rattle.font_subset.specs.Cut.{IsCutRefusal, IsSound, IsWritten, StopsCut, cut_of}
+use Rattle.font_subset.specs.CutOfFont.{IsCutRefusal, IsSound, IsWritten, StopsCut, cut_of}
 use Rattle.font_subset.specs.Inside.{of_file_error, of_send_error}
 use Rattle.font_write.specs.WholeFile.{IsFileRefusal, StopsFile}
 use Rattle.font_write.specs.declared.whole_file.FileError.{FileError}
@@ -36,38 +37,48 @@ use Rattle.font_write.specs.declared.whole_file.SendError.TheVariants as send_er
 use Rattle.streams.specs.declared.outlet.Outlet.{Outlet}
 
 -- an error that a `?` passes on
-pub passed_on : {T E : Type 0} (P : T → Type 0) (Q : E → Type 0) (r : Result T E) (error : E) → IsErrAnd r (λ e. e ≡ error) → Q error → MatchResult r P Q
+pub passed_on : {T E : Type 0} (P : T → Type 0) (Q : E → Type 0) (r : Result T E) (error : E)
+    → IsErrAnd r (λ e. e ≡ error) → Q error → MatchResult r P Q
 passed_on P Q (Ok x) error is h = absurd is
 passed_on P Q (Err e) error is h = subst Q (sym is) h
 
 -- why there is no cut, in the words of its file
-pub file_refused : (whole : List ℕ) (error : FileError) → IsFileRefusal whole error → IsCutRefusal whole (of_file_error error)
+pub file_refused : (whole : List ℕ) (error : FileError) → IsFileRefusal whole error
+    → IsCutRefusal whole (of_file_error error)
 file_refused whole file_errors.NoMemory h = tt
 file_refused whole (file_errors.TooLarge size) h = h
 
-pub send_stopped : {W : Type 0} (contents : W → Option (List ℕ)) (old new : Outlet W) (whole : List ℕ) (error : SendError) → StopsFile contents old new whole error → StopsCut contents old new whole (of_send_error error)
+pub send_stopped : {W : Type 0} (contents : W → Option (List ℕ)) (old new : Outlet W) (whole : List ℕ)
+    (error : SendError) → StopsFile contents old new whole error → StopsCut contents old new whole (of_send_error error)
 send_stopped contents old new whole (send_errors.TooLarge size) h = h
 send_stopped contents old new whole (send_errors.WriteFault written) h = h
 
 -- the cut of an accepted file is the file of its content
-pub cut_of_is : (file_bytes : List ℕ) (wanted : ℕ → Bool) → cut_of file_bytes wanted ≡ file current_writing (content (font_of file_bytes) wanted)
+pub cut_of_is : (file_bytes : List ℕ) (wanted : ℕ → Bool)
+    → cut_of file_bytes wanted ≡ file current_writing (content (font_of file_bytes) wanted)
 unfolding our_format
 cut_of_is file_bytes wanted = refl
 
 -- in the words of any reader and writer
-is_current_of : (font made : List ℕ) (wanted : ℕ → Bool) → font_fault font ≡ None → made ≡ cut_of font wanted → length made ≤ MAX_FILE
+is_current_of : (font made : List ℕ) (wanted : ℕ → Bool) → font_fault font ≡ None → made ≡ cut_of font wanted
+    → length made ≤ MAX_FILE
     → IsCurrent our_format made × ((others : ℕ → Bool) → cut_of made others ≡ cut_of font (λ c. wanted c && others c))
 unfolding our_format
-is_current_of font made wanted accepted is small =
-    (IsCurrent-cut our_format our_format-is font accepted wanted made is small, λ others. cut-cut our_format our_format-is font accepted wanted made (inl (sym is)) small others)
+is_current_of font made wanted accepted is small = (
+  IsCurrent-cut our_format our_format-is font accepted wanted made is small,
+  λ others. cut-cut our_format our_format-is font accepted wanted made (inl (sym is)) small others,
+)
 
 -- what is read of it
-font_of-cut : (font made : List ℕ) (wanted : ℕ → Bool) → font_fault font ≡ None → made ≡ cut_of font wanted → length made ≤ MAX_FILE → (font_fault made ≡ None) × (font_of made ≡ read_back (content (font_of font) wanted))
+font_of-cut : (font made : List ℕ) (wanted : ℕ → Bool) → font_fault font ≡ None → made ≡ cut_of font wanted
+    → length made ≤ MAX_FILE → (font_fault made ≡ None) × (font_of made ≡ read_back (content (font_of font) wanted))
 unfolding our_format
 font_of-cut font made wanted accepted is small =
-    our_format-is.reads_back (content (font_of font) wanted) made (of_file font wanted accepted refl) (inl (sym is)) small
+    our_format-is.reads_back (content (font_of font) wanted) made (of_file font wanted accepted refl) (inl (sym is))
+    small
 
-pub is_sound : (font made : List ℕ) (wanted : ℕ → Bool) → font_fault font ≡ None → IsWritten (cut_of font wanted) made → IsSound font wanted made
+pub is_sound : (font made : List ℕ) (wanted : ℕ → Bool) → font_fault font ≡ None → IsWritten (cut_of font wanted) made
+    → IsSound font wanted made
 is_sound font made wanted accepted written =
     let K : Content = content (font_of font) wanted in
     let ok = IsWritable-closed K (IsClosed-content (font_of font) wanted (IsFont-accepted font accepted)) in
@@ -77,6 +88,7 @@ is_sound font made wanted accepted written =
       accepted = read.0;
       clean = ap findings_of (written.is ∙ cut_of_is font wanted) ∙ findings_of-file current_writing K ok;
       metrics = metric_of-same font made (ap (λ (F : Font). F.copied) read.1);
+      copied = λ slot. ap (λ (F : Font). F.copied slot) read.1;
       wanted_codes = map_of-wanted font made wanted accepted read.1;
       other_codes = λ c out. ap (λ (F : Font). F.map c) read.1 ∙ rw out refl;
       kept = outline_of-wanted font made wanted accepted read.1;
@@ -85,14 +97,18 @@ is_sound font made wanted accepted written =
     }
 
 -- the cut of a kind is the file of what is written of it
-pub cut_in_is : (font : Kind × List ℕ) (ranges : List CodeRange) (held : Held) → held ≡ (font.0, (font.1, Some ranges)) → file current_writing (written_of held) ≡ cut_in font.0 font.1 (member ranges)
+pub cut_in_is : (font : Kind × List ℕ) (ranges : List CodeRange) (held : Held) → held ≡ (font.0, (font.1, Some ranges))
+    → file current_writing (written_of held) ≡ cut_in font.0 font.1 (member ranges)
 unfolding written_of
-cut_in_is font ranges held same = ap (λ (v : Held). file current_writing (written_of v)) same ∙ sym ((kind_is font.0).writes _)
+cut_in_is font ranges held same = ap (λ (v : Held). file current_writing (written_of v)) same
+    ∙ sym ((kind_is font.0).writes _)
 
-pub is_sound_in : (font : Kind × List ℕ) (made : List ℕ) (wanted : ℕ → Bool) → fault_of font.0 font.1 ≡ None → IsWritten (cut_in font.0 font.1 wanted) made → IsSoundIn font.0 font.1 wanted made
+pub is_sound_in : (font : Kind × List ℕ) (made : List ℕ) (wanted : ℕ → Bool) → fault_of font.0 font.1 ≡ None
+    → IsWritten (cut_in font.0 font.1 wanted) made → IsSoundIn font.0 font.1 wanted made
 is_sound_in font made wanted = by_kind font.0 font.1
   where
-    by_kind : (kind : Kind) (file : List ℕ) → fault_of kind file ≡ None → IsWritten (cut_in kind file wanted) made → IsSoundIn kind file wanted made
+    by_kind : (kind : Kind) (file : List ℕ) → fault_of kind file ≡ None → IsWritten (cut_in kind file wanted) made
+        → IsSoundIn kind file wanted made
     by_kind Full file = is_sound file made wanted
     by_kind Lean file = lean_sound file made wanted
     by_kind Layout file = layout_sound file made wanted

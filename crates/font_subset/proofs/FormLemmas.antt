@@ -6,21 +6,22 @@ use Rattle.font_theory.specs.Cut.{our_format}
 use Rattle.font_theory.specs.File.{current_writing, file, writing_of}
 use Rattle.font_theory.specs.Kinds.{format_of, spelled_by}
 use Rattle.font_theory.specs.LayoutCut.{layout_format}
-use Rattle.font_theory.specs.Lean.{lean_format}
+use Rattle.font_theory.specs.LeanCut.{lean_format}
 use Rattle.font_theory.specs.declared.Profile.TheVariants.{First}
 use Rattle.font_theory.specs.declared.kinds.Kind.{Kind}
 use Rattle.font_theory.specs.declared.kinds.Kind.TheVariants.{Full, Layout, Lean}
 use Rattle.font_theory.proofs.KindLemmas.{kind_is}
-use Rattle.font_subset.specs.Content.{codes_wanted, written_of}
+use Rattle.font_subset.specs.KeptGlyphs.{codes_wanted, written_of}
 use Rattle.font_subset.specs.Inside.{IsFileIn}
-use Rattle.font_subset.specs.Kinds.{form_as}
+use Rattle.font_subset.specs.CutOfKind.{form_as}
 use Rattle.font_subset.specs.declared.forms.CutForm.{CutForm}
 use Rattle.font_subset.proofs.ContentOfAllLemmas.{form_by}
 use Rattle.font_subset.proofs.KindSourceLemmas.{written_spelled}
 use Rattle.font_subset.proofs.SourceLemmas.{Held}
 
 -- what was written before, by the kinds
-old_full : (kind : Kind) (C K : Content) (X : List ℕ) → kind ≡ Full → C ≡ spelled_by kind K → (format_of kind).old K ≡ file (writing_of First) C
+old_full : (kind : Kind) (C K : Content) (X : List ℕ) → kind ≡ Full → C ≡ spelled_by kind K
+    → (format_of kind).old K ≡ file (writing_of First) C
 unfolding our_format
 old_full Full C K X full spells = ap (λ L. file (writing_of First) L) (sym spells)
 old_full Lean C K X full spells = absurd (let n : Lean ≡ Full = full in cc)
@@ -56,9 +57,15 @@ pub layout_other : (kind : Kind) → kind ≡ Layout → kind ≢ Full
 layout_other kind is full = let n : Layout ≡ Full = sym is ∙ full in cc
 
 -- the form of a font's file, of what is held for all codes
-pub form_of_held : (kind : Kind) (held : Held) (X : List ℕ) (form : CutForm) → kind ≡ held.0 → held.1.1 ≡ None → X ≡ held.1.0 → ((K : Content) → written_of held ≡ spelled_by kind K → IsFileIn (format_of kind) K X form) → form ≡ form_as held.0 held.1.0
+pub form_of_held : (kind : Kind) (held : Held) (X : List ℕ) (form : CutForm) → kind ≡ held.0 → held.1.1 ≡ None
+    → X ≡ held.1.0 → ((K : Content) → written_of held ≡ spelled_by kind K → IsFileIn (format_of kind) K X form)
+    → form ≡ form_as held.0 held.1.0
 form_of_held kind held X form same all is told =
     let here : (K : Content) → written_of held ≡ spelled_by held.0 K → IsFileIn (format_of held.0) K X form =
-    subst (λ (k : Kind). (K : Content) → written_of held ≡ spelled_by k K → IsFileIn (format_of k) K X form) same told in
-    let whole = subst (λ (o : Option (List CodeRange)). IsFileIn (format_of held.0) (content ((format_of held.0).font held.1.0) (codes_wanted o)) X form) all (here _ (written_spelled held)) in
-    form_by (format_of held.0) form held.1.0 (subst (λ (b : List ℕ). IsFileIn (format_of held.0) (content ((format_of held.0).font held.1.0) (codes_wanted None)) b form) is whole)
+    subst (λ (k : Kind). (K : Content) → written_of held ≡ spelled_by k K → IsFileIn (format_of k) K X form) same
+    told in
+    let whole = subst (λ (o : Option (List CodeRange)). IsFileIn (format_of held.0)
+    (content ((format_of held.0).font held.1.0) (codes_wanted o)) X form) all (here _ (written_spelled held)) in
+    form_by (format_of held.0) form held.1.0
+    (subst (λ (b : List ℕ). IsFileIn (format_of held.0) (content ((format_of held.0).font held.1.0)
+    (codes_wanted None)) b form) is whole)

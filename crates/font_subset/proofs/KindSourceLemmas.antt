@@ -1,5 +1,6 @@
 -- What a font gives to its cuts of each kind.
-use Rattle.std.proofs.Common.{◌≡◌, ◌≢◌, ℕ, suc, ◌<◌, ◌≤◌, ◌||◌, cond, Bool, true, refl, List, [], length, Option, None, Some, sym, ◌∙◌, ap, subst, arith, MatchOption}
+use Rattle.std.proofs.Common.{◌≡◌, ◌≢◌, ℕ, suc, ◌<◌, ◌≤◌, ◌||◌, cond, Bool, true, refl, List, [], length, Option, None}
+use Rattle.std.proofs.Common.{Some, sym, ◌∙◌, ap, subst, arith, MatchOption}
 use Rattle.std.specs.Option.{IsSome, is_some, option_map, option_or, unwrap_or}
 use Rattle.std.proofs.Math.Path.{fun_ext}
 use Rattle.std.proofs.lemmas.Bool.{lt-ltb}
@@ -7,21 +8,23 @@ use Rattle.sfnt_bytes.specs.declared.directory.TheConstants.{MAX_FILE}
 use Rattle.sfnt_bytes.specs.declared.tag.TheConstants.{HHEA, HMTX, POST, VHEA, VMTX}
 use Rattle.font_tables.specs.Fields.{number_of_h_metrics}
 use Rattle.font_tables.specs.Refusals.{is_bad_hhea, is_bad_hmtx}
-use Rattle.font_theory.specs.Content.{Content, IsWritable, KeepsComponents, content, font_of, glyph_count, layout_font_of}
+use Rattle.font_theory.specs.Content.{Content, IsWritable, KeepsComponents, content, font_of, glyph_count}
+use Rattle.font_theory.specs.Content.{layout_font_of}
 use Rattle.font_theory.specs.Cut.{our_format}
 use Rattle.font_theory.specs.Kinds.{fault_of, font_as, format_of, spelled_by}
 use Rattle.font_theory.specs.LayoutCut.{layout_format}
-use Rattle.font_theory.specs.Lean.{blank, cleared, lean_format, leaned, pairs_in, thin_post}
+use Rattle.font_theory.specs.LeanCut.{blank, cleared, lean_format, leaned, pairs_in, thin_post}
 use Rattle.font_theory.specs.declared.kinds.Kind.{Kind}
 use Rattle.font_theory.specs.declared.kinds.Kind.TheVariants.{Full, Layout, Lean}
 use Rattle.font_theory.proofs.FontLemmas.{IsFont-accepted}
 use Rattle.font_theory.proofs.LayoutCutLemmas.{IsFont-layout}
 use Rattle.font_theory.proofs.LeanedLemmas.{leaned-is}
 use Rattle.font_write.specs.Parts.{IsNextKept}
-use Rattle.font_subset.specs.Content.{codes_wanted, selected, written_of}
+use Rattle.font_subset.specs.KeptGlyphs.{codes_wanted, selected, written_of}
 use Rattle.font_subset.specs.Inside.{IsMadeTable}
 use Rattle.font_subset.proofs.LeanTableLemmas.{cleared-none}
-use Rattle.font_subset.proofs.LeanedLemmas.{leaned_components, leaned_count, leaned_head, leaned_hmtx, leaned_map, leaned_other, leaned_outline, leaned_post, leaned_vmtx, leaned_writable}
+use Rattle.font_subset.proofs.LeanedLemmas.{leaned_components, leaned_count, leaned_head, leaned_hmtx, leaned_map}
+use Rattle.font_subset.proofs.LeanedLemmas.{leaned_other, leaned_outline, leaned_post, leaned_vmtx, leaned_writable}
 use Rattle.font_subset.proofs.SourceLemmas.{Held, is_writable, keeps_components}
 
 -- what is written of a content of a kind, where that is of the font itself and not of a lean reading
@@ -30,13 +33,15 @@ kept_by Full K = K
 kept_by Lean K = leaned K
 kept_by Layout K = leaned K
 
-by_kind : (kind : Kind) (font : List ℕ) (wanted : ℕ → Bool) → fault_of kind font ≡ None → spelled_by kind (content ((format_of kind).font font) wanted) ≡ kept_by kind (content (font_as kind font) wanted)
+by_kind : (kind : Kind) (font : List ℕ) (wanted : ℕ → Bool) → fault_of kind font ≡ None
+    → spelled_by kind (content ((format_of kind).font font) wanted) ≡ kept_by kind (content (font_as kind font) wanted)
 unfolding our_format lean_format layout_format
 by_kind Full font wanted ok = refl
 by_kind Lean font wanted ok = leaned-is (font_of font) (IsFont-accepted font ok) wanted
 by_kind Layout font wanted ok = leaned-is (layout_font_of font) (IsFont-layout font ok) wanted
 
-pub written_spelled : (cut : Held) → written_of cut ≡ spelled_by cut.0 (content ((format_of cut.0).font cut.1.0) (codes_wanted cut.1.1))
+pub written_spelled : (cut : Held)
+    → written_of cut ≡ spelled_by cut.0 (content ((format_of cut.0).font cut.1.0) (codes_wanted cut.1.1))
 unfolding written_of
 written_spelled cut = refl
 
@@ -64,7 +69,8 @@ kept_count Full K = refl
 kept_count Lean K = leaned_count K
 kept_count Layout K = leaned_count K
 
-kept_other : (kind : Kind) (K : Content) (slot : ℕ) → slot ≢ HMTX → slot ≢ POST → slot ≢ VMTX → (kept_by kind K).copied slot ≡ K.copied slot
+kept_other : (kind : Kind) (K : Content) (slot : ℕ) → slot ≢ HMTX → slot ≢ POST → slot ≢ VMTX
+    → (kept_by kind K).copied slot ≡ K.copied slot
 kept_other Full K slot a b c = refl
 kept_other Lean K slot a b c = leaned_other K slot a b c
 kept_other Layout K slot a b c = leaned_other K slot a b c
@@ -92,7 +98,8 @@ module _ (cut : Held) (ok : fault_of cut.0 cut.1.0 ≡ None) where
   in_writable = subst IsWritable (sym (written_is cut ok)) (kept_writable cut.0 (selected cut) (is_writable cut ok))
 
   pub in_components : KeepsComponents (written_of cut)
-  in_components = subst KeepsComponents (sym (written_is cut ok)) (kept_components cut.0 (selected cut) (keeps_components cut ok))
+  in_components = subst KeepsComponents (sym (written_is cut ok)) (kept_components cut.0 (selected cut)
+      (keeps_components cut ok))
 
   pub in_head : (written_of cut).head ≡ (selected cut).head
   in_head = ap (λ (K : Content). K.head) (written_is cut ok) ∙ kept_head cut.0 (selected cut)
@@ -109,7 +116,8 @@ module _ (cut : Held) (ok : fault_of cut.0 cut.1.0 ≡ None) where
   pub in_keeps : (g : ℕ) → is_some ((written_of cut).outline g) ≡ is_some ((selected cut).outline g)
   in_keeps g = ap (λ o. is_some (o g)) in_outline
 
-  pub in_outline_at : (g : ℕ) (b : List ℕ) → (IsSome ((selected cut).outline g) → (selected cut).outline g ≡ Some b) → IsSome ((written_of cut).outline g) → (written_of cut).outline g ≡ Some b
+  pub in_outline_at : (g : ℕ) (b : List ℕ) → (IsSome ((selected cut).outline g) → (selected cut).outline g ≡ Some b)
+      → IsSome ((written_of cut).outline g) → (written_of cut).outline g ≡ Some b
   in_outline_at g b h some = ap (λ o. o g) in_outline ∙ h (subst (λ o. IsSome (o g)) in_outline some)
 
   pub in_next : (from g : ℕ) → IsNextKept (selected cut) from g → IsNextKept (written_of cut) from g
@@ -117,15 +125,22 @@ module _ (cut : Held) (ok : fault_of cut.0 cut.1.0 ≡ None) where
     from_on = next.from_on;
     within = subst (λ (n : ℕ). g ≤ n) (sym in_count) next.within;
     passed = λ h a b. ap (λ o. o h) in_outline ∙ next.passed h a b;
-    kept = λ low. subst (λ o. is_some (o g) ≡ true) (sym in_outline) (next.kept (subst (λ (n : ℕ). suc g ≤ n) in_count low));
+    kept = λ low. subst (λ o. is_some (o g) ≡ true) (sym in_outline)
+        (next.kept (subst (λ (n : ℕ). suc g ≤ n) in_count low));
   }
 
-  pub other_slot : (slot : ℕ) → slot ≢ HMTX → slot ≢ POST → slot ≢ VMTX → (written_of cut).copied slot ≡ (selected cut).copied slot
-  other_slot slot a b c = ap (λ (K : Content). K.copied slot) (written_is cut ok) ∙ kept_other cut.0 (selected cut) slot a b c
+  pub other_slot : (slot : ℕ) → slot ≢ HMTX → slot ≢ POST → slot ≢ VMTX
+      → (written_of cut).copied slot ≡ (selected cut).copied slot
+  other_slot slot a b c = ap (λ (K : Content). K.copied slot) (written_is cut ok)
+      ∙ kept_other cut.0 (selected cut) slot a b c
 
   -- a full cut has no table anew
   pub made_none : (slot : ℕ) → cut.0 ≡ Full → IsMadeTable cut slot None
-  made_none slot full = record { is = sym (ap (λ (K : Content). K.copied slot) (written_is cut ok ∙ kept_full cut.0 (selected cut) full)); small = omega arith }
+  made_none slot full =
+      record {
+        is = sym (ap (λ (K : Content). K.copied slot) (written_is cut ok ∙ kept_full cut.0 (selected cut) full));
+        small = omega arith;
+      }
 
   -- the tables that others have anew
   module _ (other : cut.0 ≢ Full) where
@@ -135,76 +150,107 @@ module _ (cut : Held) (ok : fault_of cut.0 cut.1.0 ≡ None) where
     abbrev K : Content
     K = selected cut
 
-    pub made_hmtx : (table : Option (List ℕ)) → option_or table (K.copied HMTX) ≡ option_map (cleared (λ g. is_some (K.outline g)) (pairs_in K.copied HHEA HMTX) (glyph_count K.copied)) (K.copied HMTX)
+    pub made_hmtx : (table : Option (List ℕ)) → option_or table (K.copied HMTX)
+        ≡ option_map (cleared (λ g. is_some (K.outline g)) (pairs_in K.copied HHEA HMTX) (glyph_count K.copied))
+        (K.copied HMTX)
         → length (unwrap_or table []) ≤ MAX_FILE → IsMadeTable cut HMTX table
-    made_hmtx table is small = record { is = is ∙ sym (ap (λ (L : Content). L.copied HMTX) written_leaned ∙ leaned_hmtx K); small = small }
+    made_hmtx table is small =
+        record { is = is ∙ sym (ap (λ (L : Content). L.copied HMTX) written_leaned ∙ leaned_hmtx K); small = small }
 
-    pub made_vmtx : (table : Option (List ℕ)) → option_or table (K.copied VMTX) ≡ option_map (cleared (λ g. is_some (K.outline g)) (pairs_in K.copied VHEA VMTX) (glyph_count K.copied)) (K.copied VMTX)
+    pub made_vmtx : (table : Option (List ℕ)) → option_or table (K.copied VMTX)
+        ≡ option_map (cleared (λ g. is_some (K.outline g)) (pairs_in K.copied VHEA VMTX) (glyph_count K.copied))
+        (K.copied VMTX)
         → length (unwrap_or table []) ≤ MAX_FILE → IsMadeTable cut VMTX table
-    made_vmtx table is small = record { is = is ∙ sym (ap (λ (L : Content). L.copied VMTX) written_leaned ∙ leaned_vmtx K); small = small }
+    made_vmtx table is small =
+        record { is = is ∙ sym (ap (λ (L : Content). L.copied VMTX) written_leaned ∙ leaned_vmtx K); small = small }
 
-    pub made_post : (table : Option (List ℕ)) → option_or table (K.copied POST) ≡ option_map thin_post (K.copied POST) → length (unwrap_or table []) ≤ MAX_FILE → IsMadeTable cut POST table
-    made_post table is small = record { is = is ∙ sym (ap (λ (L : Content). L.copied POST) written_leaned ∙ leaned_post K); small = small }
+    pub made_post : (table : Option (List ℕ)) → option_or table (K.copied POST) ≡ option_map thin_post (K.copied POST)
+        → length (unwrap_or table []) ≤ MAX_FILE → IsMadeTable cut POST table
+    made_post table is small =
+        record { is = is ∙ sym (ap (λ (L : Content). L.copied POST) written_leaned ∙ leaned_post K); small = small }
 
 -- what is returned of a table that was made anew, or of none
-pub given_by : {X : Type 0} (bytes : X → List ℕ) (o : Option X) (made table lean : Option (List ℕ)) → MatchOption o (made ≡ None) (λ x. made ≡ Some (bytes x)) → option_or made table ≡ lean
+pub given_by : {X : Type 0} (bytes : X → List ℕ) (o : Option X) (made table lean : Option (List ℕ))
+    → MatchOption o (made ≡ None) (λ x. made ≡ Some (bytes x)) → option_or made table ≡ lean
     → MatchOption o (lean ≡ table) (λ x. lean ≡ Some (bytes x))
 given_by bytes None made table lean none is = sym is ∙ ap (λ o. option_or o table) none
 given_by bytes (Some x) made table lean some is = sym is ∙ ap (λ o. option_or o table) some
 
-pub small_by : {X : Type 0} (bytes : X → List ℕ) (o : Option X) (made : Option (List ℕ)) → MatchOption o (made ≡ None) (λ x. made ≡ Some (bytes x)) → length (unwrap_or made []) ≤ MAX_FILE
+pub small_by : {X : Type 0} (bytes : X → List ℕ) (o : Option X) (made : Option (List ℕ))
+    → MatchOption o (made ≡ None) (λ x. made ≡ Some (bytes x)) → length (unwrap_or made []) ≤ MAX_FILE
     → MatchOption o (Unit {0}) (λ x. length (bytes x) ≤ MAX_FILE)
 small_by bytes None made none small = tt
 small_by bytes (Some x) made some small = subst (λ (o : Option (List ℕ)). length (unwrap_or o []) ≤ MAX_FILE) some small
 
 -- what a cut has at a slot at which it may have a table anew
-pub made_at : {X : Type 0} (bytes : X → List ℕ) (o : Option X) (held now : Held) (at slot : ℕ) (made : Option (List ℕ)) → held ≡ now → slot ≡ at → IsMadeTable held at made → MatchOption o (made ≡ None) (λ x. made ≡ Some (bytes x))
-    → MatchOption o ((written_of now).copied slot ≡ (selected now).copied slot) (λ x. (written_of now).copied slot ≡ Some (bytes x))
+pub made_at : {X : Type 0} (bytes : X → List ℕ) (o : Option X) (held now : Held) (at slot : ℕ) (made : Option (List ℕ))
+    → held ≡ now → slot ≡ at → IsMadeTable held at made → MatchOption o (made ≡ None) (λ x. made ≡ Some (bytes x))
+    → MatchOption o ((written_of now).copied slot ≡ (selected now).copied slot) (λ x. (written_of now).copied slot
+    ≡ Some (bytes x))
 made_at bytes o held now at slot made same here anew given =
     let there : option_or made ((selected held).copied slot) ≡ (written_of held).copied slot =
     subst (λ (s : ℕ). option_or made ((selected held).copied s) ≡ (written_of held).copied s) (sym here) anew.is in
-    given_by bytes o made ((selected now).copied slot) ((written_of now).copied slot) given (subst (λ (k : Held). option_or made ((selected k).copied slot) ≡ (written_of k).copied slot) same there)
+    given_by bytes o made ((selected now).copied slot) ((written_of now).copied slot) given
+    (subst (λ (k : Held). option_or made ((selected k).copied slot) ≡ (written_of k).copied slot) same there)
 
-pairs_same : (copied : ℕ → Option (List ℕ)) (h b count pairs : ℕ) (header table : List ℕ) → copied b ≡ Some table → unwrap_or (copied h) [] ≡ header → count ≡ glyph_count copied
-    → pairs ≡ cond (is_bad_hhea header count || is_bad_hmtx table (number_of_h_metrics header) count) 0 (number_of_h_metrics header) → pairs ≡ pairs_in copied h b
+pairs_same : (copied : ℕ → Option (List ℕ)) (h b count pairs : ℕ) (header table : List ℕ) → copied b ≡ Some table
+    → unwrap_or (copied h) [] ≡ header → count ≡ glyph_count copied
+    → pairs ≡ cond (is_bad_hhea header count || is_bad_hmtx table (number_of_h_metrics header) count) 0
+    (number_of_h_metrics header) → pairs ≡ pairs_in copied h b
 unfolding pairs_in
 pairs_same copied h b count pairs header table there head n is =
-    is ∙ (λ i. cond (is_bad_hhea (sym head i) (n i) || is_bad_hmtx (unwrap_or (sym there i) []) (number_of_h_metrics (sym head i)) (n i)) 0 (number_of_h_metrics (sym head i)))
+    is ∙ (λ i. cond (is_bad_hhea (sym head i) (n i) || is_bad_hmtx (unwrap_or (sym there i) [])
+    (number_of_h_metrics (sym head i)) (n i)) 0 (number_of_h_metrics (sym head i)))
 
 -- a table of metrics that was made blank
-pub blank_made : (copied : ℕ → Option (List ℕ)) (h b count pairs : ℕ) (header table bytes : List ℕ) → copied b ≡ Some table → unwrap_or (copied h) [] ≡ header → count ≡ glyph_count copied
-    → pairs ≡ cond (is_bad_hhea header count || is_bad_hmtx table (number_of_h_metrics header) count) 0 (number_of_h_metrics header)
-    → bytes ≡ blank pairs count table → Some bytes ≡ option_map (blank (pairs_in copied h b) (glyph_count copied)) (copied b)
+pub blank_made : (copied : ℕ → Option (List ℕ)) (h b count pairs : ℕ) (header table bytes : List ℕ)
+    → copied b ≡ Some table → unwrap_or (copied h) [] ≡ header → count ≡ glyph_count copied
+    → pairs ≡ cond (is_bad_hhea header count || is_bad_hmtx table (number_of_h_metrics header) count) 0
+    (number_of_h_metrics header)
+    → bytes ≡ blank pairs count table → Some bytes ≡ option_map (blank (pairs_in copied h b) (glyph_count copied))
+    (copied b)
 blank_made copied h b count pairs header table bytes there head n is made =
     ap Some made ∙ (λ i. Some (blank (pairs_same copied h b count pairs header table there head n is i) (n i) table))
     ∙ sym (ap (option_map (blank (pairs_in copied h b) (glyph_count copied))) there)
 
 -- a table of metrics that is cleared for the marked glyphs, where these are the kept ones
-pub cleared_for : (copied : ℕ → Option (List ℕ)) (h b count pairs : ℕ) (header table bytes : List ℕ) (marks keeps : ℕ → Bool) → copied b ≡ Some table → unwrap_or (copied h) [] ≡ header
-    → count ≡ glyph_count copied → pairs ≡ cond (is_bad_hhea header count || is_bad_hmtx table (number_of_h_metrics header) count) 0 (number_of_h_metrics header)
-    → bytes ≡ cleared marks pairs (glyph_count copied) table → ((g : ℕ) → marks g ≡ keeps g) → Some bytes ≡ option_map (cleared keeps (pairs_in copied h b) (glyph_count copied)) (copied b)
+pub cleared_for : (copied : ℕ → Option (List ℕ)) (h b count pairs : ℕ) (header table bytes : List ℕ) (marks keeps : ℕ
+    → Bool) → copied b ≡ Some table → unwrap_or (copied h) [] ≡ header
+    → count ≡ glyph_count copied
+    → pairs ≡ cond (is_bad_hhea header count || is_bad_hmtx table (number_of_h_metrics header) count) 0
+    (number_of_h_metrics header)
+    → bytes ≡ cleared marks pairs (glyph_count copied) table → ((g : ℕ) → marks g ≡ keeps g)
+    → Some bytes ≡ option_map (cleared keeps (pairs_in copied h b) (glyph_count copied)) (copied b)
 cleared_for copied h b count pairs header table bytes marks keeps there head n is made same =
-    ap Some made ∙ (λ i. Some (cleared (fun_ext same i) (pairs_same copied h b count pairs header table there head n is i) (glyph_count copied) table))
+    ap Some made ∙ (λ i. Some (cleared (fun_ext same i) (pairs_same copied h b count pairs header table there head n is
+    i) (glyph_count copied) table))
     ∙ sym (ap (option_map (cleared keeps (pairs_in copied h b) (glyph_count copied))) there)
 
 -- a table of metrics that its header does not describe stays
-pub cleared_nowhere : (copied : ℕ → Option (List ℕ)) (h b count pairs : ℕ) (header table : List ℕ) (keeps : ℕ → Bool) → copied b ≡ Some table → unwrap_or (copied h) [] ≡ header → count ≡ glyph_count copied
-    → pairs ≡ cond (is_bad_hhea header count || is_bad_hmtx table (number_of_h_metrics header) count) 0 (number_of_h_metrics header) → pairs ≡ 0
+pub cleared_nowhere : (copied : ℕ → Option (List ℕ)) (h b count pairs : ℕ) (header table : List ℕ) (keeps : ℕ → Bool)
+    → copied b ≡ Some table → unwrap_or (copied h) [] ≡ header → count ≡ glyph_count copied
+    → pairs ≡ cond (is_bad_hhea header count || is_bad_hmtx table (number_of_h_metrics header) count) 0
+    (number_of_h_metrics header) → pairs ≡ 0
     → copied b ≡ option_map (cleared keeps (pairs_in copied h b) (glyph_count copied)) (copied b)
 cleared_nowhere copied h b count pairs header table keeps there head n is none =
     let zero : pairs_in copied h b ≡ 0 = sym (pairs_same copied h b count pairs header table there head n is) ∙ none in
-    there ∙ sym (ap (option_map (cleared keeps (pairs_in copied h b) (glyph_count copied))) there ∙ ap Some (ap (λ (k : ℕ). cleared keeps k (glyph_count copied) table) zero ∙ cleared-none keeps (glyph_count copied) table))
+    there ∙ sym (ap (option_map (cleared keeps (pairs_in copied h b) (glyph_count copied))) there
+    ∙ ap Some (ap (λ (k : ℕ). cleared keeps k (glyph_count copied) table) zero
+    ∙ cleared-none keeps (glyph_count copied) table))
 
 -- so does a `post` that is too short
 thin_post-short : (post : List ℕ) → length post < 32 → thin_post post ≡ post
 unfolding thin_post
 thin_post-short post short = let t = lt-ltb (length post) 32 short in rw t refl
 
-pub thin_nowhere : (table : Option (List ℕ)) (post : List ℕ) → table ≡ Some post → length post < 32 → table ≡ option_map thin_post table
-thin_nowhere table post there short = there ∙ sym (ap (option_map thin_post) there ∙ ap Some (thin_post-short post short))
+pub thin_nowhere : (table : Option (List ℕ)) (post : List ℕ) → table ≡ Some post → length post < 32
+    → table ≡ option_map thin_post table
+thin_nowhere table post there short =
+    there ∙ sym (ap (option_map thin_post) there ∙ ap Some (thin_post-short post short))
 
 -- a table that may be missing, read as an empty one
-pub or_empty : {X : Type 0} (bytes : X → List ℕ) (o : Option X) (d read : X) (table : Option (List ℕ)) → MatchOption o (table ≡ None) (λ x. table ≡ Some (bytes x)) → read ≡ unwrap_or o d → bytes d ≡ []
+pub or_empty : {X : Type 0} (bytes : X → List ℕ) (o : Option X) (d read : X) (table : Option (List ℕ))
+    → MatchOption o (table ≡ None) (λ x. table ≡ Some (bytes x)) → read ≡ unwrap_or o d → bytes d ≡ []
     → unwrap_or table [] ≡ bytes read
 or_empty bytes None d read table none is nil = ap (λ t. unwrap_or t []) none ∙ sym (ap bytes is ∙ nil)
 or_empty bytes (Some x) d read table some is nil = ap (λ t. unwrap_or t []) some ∙ sym (ap bytes is)

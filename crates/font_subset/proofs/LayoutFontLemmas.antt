@@ -1,9 +1,9 @@
 -- What opening a font for layout cuts shows.
-use Rattle.std.proofs.Common.{◌≡◌, ℕ, ◌≤◌, Bool, true, false, nat_le, nat_lt, List, [], ◌∷◌, find, get_or, length, Option, None, Some, MatchOption, refl, sym, ◌∙◌, ap, subst, arith, inl, inr, unwrap_or, option_map}
+use Rattle.std.proofs.Common.{◌≡◌, ℕ, ◌≤◌, Bool, true, false, List, [], ◌∷◌, find, get_or, length}
+use Rattle.std.proofs.Common.{Option, None, Some, refl, sym, ◌∙◌, ap, arith, unwrap_or}
+use Rattle.std.proofs.Common.{option_map}
 use Rattle.std.specs.Option.{option_or}
 use Rattle.std.proofs.Math.Path.{fun_ext}
-use Rattle.std.proofs.lemmas.Bool.{and_parts, cases_eq, leb-true, ltb-true}
-use Rattle.sfnt_bytes.specs.Directory.{is_layout_slot}
 use Rattle.sfnt_bytes.specs.Lines.{first_of_lines, when}
 use Rattle.sfnt_bytes.specs.Refusals.{is_duplicate, is_outside, layout_directory_fault}
 use Rattle.sfnt_bytes.specs.declared.directory.DirError.{DirError}
@@ -24,12 +24,17 @@ use Rattle.font_layout.proofs.CleaningLemmas.{length-fixed}
 use Rattle.font_subset.specs.Inside.{AreLinksOf}
 
 -- a refusal by the directory is that of the font
-pub layout_refused : (file : List ℕ) (error : DirError) → font_fault file ≡ None → layout_directory_fault file ≡ Some error → layout_fault file ≡ Some (Directory error)
+pub layout_refused : (file : List ℕ) (error : DirError) → font_fault file ≡ None
+    → layout_directory_fault file ≡ Some error → layout_fault file ≡ Some (Directory error)
 unfolding layout_fault layout_directory_fault
-layout_refused file error accepted refused = go (font_fault file) (find (is_duplicate file) LAYOUT) (find (is_outside file) LAYOUT) (when (is_bad_layout (gsub_of file)) BadLayout) accepted refused
+layout_refused file error accepted refused =
+    go (font_fault file) (find (is_duplicate file) LAYOUT) (find (is_outside file) LAYOUT)
+    (when (is_bad_layout (gsub_of file)) BadLayout) accepted refused
   where
-    go : (o : Option FontError) (a b : Option Tag) (bad : Option FontError) → o ≡ None → first_of_lines (option_map DuplicateTable a ∷ option_map TableOutOfFile b ∷ []) ≡ Some error
-        → option_or o (first_of_lines (option_map Directory (option_map DuplicateTable a) ∷ option_map Directory (option_map TableOutOfFile b) ∷ bad ∷ [])) ≡ Some (Directory error)
+    go : (o : Option FontError) (a b : Option Tag) (bad : Option FontError) → o ≡ None
+        → first_of_lines (option_map DuplicateTable a ∷ option_map TableOutOfFile b ∷ []) ≡ Some error
+        → option_or o (first_of_lines (option_map Directory (option_map DuplicateTable a)
+        ∷ option_map Directory (option_map TableOutOfFile b) ∷ bad ∷ [])) ≡ Some (Directory error)
     go None (Some t) b bad e h = ap (option_map Directory) h
     go None None (Some t) bad e h = ap (option_map Directory) h
     go None None None bad e h = let no : None ≡ Some error = h in cc
@@ -39,52 +44,30 @@ module _ (file : List ℕ) (accepted : font_fault file ≡ None) (inside : layou
   by_links : (bad : Bool) → is_bad_layout (gsub_of file) ≡ bad → layout_fault file ≡ when bad BadLayout
   unfolding layout_fault
   by_links bad is = (λ i. option_or (accepted i) (first_of_lines
-      (option_map Directory (option_map DuplicateTable (layout_single file inside i)) ∷ option_map Directory (option_map TableOutOfFile (layout_inside file inside i)) ∷ when (is i) BadLayout ∷ []))) ∙ end bad
+      (option_map Directory (option_map DuplicateTable (layout_single file inside i))
+      ∷ option_map Directory (option_map TableOutOfFile (layout_inside file inside i)) ∷ when (is i) BadLayout
+      ∷ []))) ∙ end bad
     where
       end : (b : Bool) → first_of_lines (when b BadLayout ∷ []) ≡ when b BadLayout
       end true = refl
       end false = refl
 
-  pub layout_bad : (gsub : List ℕ) → gsub ≡ gsub_of file → is_bad_layout gsub ≡ true → layout_fault file ≡ Some BadLayout
+  pub layout_bad : (gsub : List ℕ) → gsub ≡ gsub_of file → is_bad_layout gsub ≡ true
+      → layout_fault file ≡ Some BadLayout
   layout_bad gsub same bad = by_links true (ap is_bad_layout (sym same) ∙ bad)
 
   pub layout_fine : (gsub : List ℕ) → gsub ≡ gsub_of file → is_bad_layout gsub ≡ false → layout_fault file ≡ None
   layout_fine gsub same fine = by_links false (ap is_bad_layout (sym same) ∙ fine)
 
 -- the bytes of `GSUB`
-pub gsub_bytes : (file : List ℕ) (table : Option (List ℕ)) → table ≡ table_read file GSUB → unwrap_or table [] ≡ gsub_of file
+pub gsub_bytes : (file : List ℕ) (table : Option (List ℕ)) → table ≡ table_read file GSUB
+    → unwrap_or table [] ≡ gsub_of file
 unfolding gsub_of
 gsub_bytes file table is = ap (λ (o : Option (List ℕ)). unwrap_or o []) is
 
--- the table of a slot
-pub given_at : {X : Type 0} (bytes : X → List ℕ) (o : Option X) (t c : Option (List ℕ)) → t ≡ c → MatchOption o (t ≡ None) (λ x. t ≡ Some (bytes x)) → MatchOption o (c ≡ None) (λ x. c ≡ Some (bytes x))
-given_at bytes o t c same h = subst (λ (d : Option (List ℕ)). MatchOption o (d ≡ None) (λ x. d ≡ Some (bytes x))) same h
-
-pub read_at : (file : List ℕ) (slot at : ℕ) (t : Option (List ℕ)) → slot ≡ at → t ≡ (layout_font_of file).copied at → t ≡ (layout_font_of file).copied slot
-read_at file slot at t same is = is ∙ ap (layout_font_of file).copied (sym same)
-
-pub last_slot : (slot : ℕ) → is_layout_slot slot ≡ true → (slot ≡ 16 → ⊥) → (slot ≡ 17 → ⊥) → (slot ≡ 18 → ⊥) → (slot ≡ 19 → ⊥) → slot ≡ 20
-last_slot slot layout a b c d =
-    let both = and_parts (nat_le 16 slot) (nat_lt slot 21) layout in
-    let from = leb-true 16 slot both.0 in
-    let to = ltb-true slot 21 both.1 in
-    elim (cases_eq slot 16) [
-      | inl e ↦ absurd (a e)
-      | inr na ↦ elim (cases_eq slot 17) [
-        | inl e ↦ absurd (b e)
-        | inr nb ↦ elim (cases_eq slot 18) [
-          | inl e ↦ absurd (c e)
-          | inr nc ↦ elim (cases_eq slot 19) [
-            | inl e ↦ absurd (d e)
-            | inr nd ↦
-                omega (arith, from, to, na, nb, nc, nd)
-          ]
-        ]
-      ]
-    ]
-
 -- the links that are listed are those of the font
-pub links_listed : (file : List ℕ) (listed : List (List ℕ)) → AreLinksOf (gsub_of file) listed → (λ h. get_or listed h []) ≡ font_links (layout_font_of file).copied
+pub links_listed : (file : List ℕ) (listed : List (List ℕ)) → AreLinksOf (gsub_of file) listed
+    → (λ h. get_or listed h []) ≡ font_links (layout_font_of file).copied
 unfolding font_links gsub_of
 links_listed file listed are = fun_ext are.each
 
@@ -97,10 +80,20 @@ nothing_linked : (g : ℕ) → links [] g ≡ []
 unfolding links leads_of kept_in links_in steps_in lookup_list
 nothing_linked g = refl
 
-pub empty_links : (gsub : List ℕ) (listed : List (List ℕ)) → length gsub ≡ 0 → listed ≡ [] → (is_bad_layout gsub ≡ false) × AreLinksOf gsub listed
-empty_links [] listed none nothing = (nothing_bad, record { few = let no = ap length nothing in omega (arith, no); each = λ g. ap (λ (l : List (List ℕ)). get_or l g []) nothing ∙ sym (nothing_linked g) })
+pub empty_links : (gsub : List ℕ) (listed : List (List ℕ)) → length gsub ≡ 0 → listed ≡ []
+    → (is_bad_layout gsub ≡ false) × AreLinksOf gsub listed
+empty_links [] listed none nothing = (
+  nothing_bad,
+  record {
+    few = let no = ap length nothing in
+        omega (arith, no);
+    each = λ g. ap (λ (l : List (List ℕ)). get_or l g []) nothing ∙ sym (nothing_linked g);
+  },
+)
 empty_links (x ∷ gsub) listed none nothing = absurd (omega (arith, none))
 
 -- a table without what varies is no longer
-pub fixed_small : (slot : ℕ) (table : List ℕ) (o : Option (List ℕ)) → o ≡ Some (fixed slot table) → length table ≤ MAX_FILE → length (unwrap_or o []) ≤ MAX_FILE
-fixed_small slot table o is small = let long = ap (λ (p : Option (List ℕ)). length (unwrap_or p [])) is ∙ length-fixed slot table in omega (arith, long, small)
+pub fixed_small : (slot : ℕ) (table : List ℕ) (o : Option (List ℕ)) → o ≡ Some (fixed slot table)
+    → length table ≤ MAX_FILE → length (unwrap_or o []) ≤ MAX_FILE
+fixed_small slot table o is small = let long = ap (λ (p : Option (List ℕ)). length (unwrap_or p [])) is
+    ∙ length-fixed slot table in omega (arith, long, small)

@@ -2,18 +2,20 @@
 use Rattle.std.proofs.Common.{◌≡◌, ℕ, ◌≤◌, Bool, inl, refl, List, length, None, sym, ◌∙◌, ap, subst}
 use Rattle.sfnt_bytes.specs.declared.directory.TheConstants.{MAX_FILE}
 use Rattle.font_file.specs.Font.{font_fault}
-use Rattle.font_theory.specs.Content.{font_of}
+use Rattle.font_theory.specs.Content.{Font, content, font_of}
 use Rattle.font_theory.specs.Cut.{cut, our_format}
-use Rattle.font_theory.specs.Lean.{lean_format, metrics_at}
+use Rattle.font_theory.specs.Cut.Arises.{of_file}
+use Rattle.font_theory.specs.LeanCut.{lean_format, metrics_at, thin, thin_copied}
 use Rattle.font_theory.proofs.ContentLemmas.{wanted-map}
 use Rattle.font_theory.proofs.CutLemmas.{IsCurrent-cut, cut-cut}
 use Rattle.font_theory.proofs.FontLemmas.{IsFont-accepted}
 use Rattle.font_theory.proofs.LeanCutLemmas.{metrics_at-kept}
-use Rattle.font_theory.proofs.LeanFileLemmas.{IsCurrent-full, findings_of-lean, length-lean_cut, map_of-lean, outline_of-lean, font_of-lean_cut}
+use Rattle.font_theory.proofs.LeanFileLemmas.{IsCurrent-full, findings_of-lean, length-lean_cut, map_of-lean}
+use Rattle.font_theory.proofs.LeanFileLemmas.{outline_of-lean, font_of-lean_cut}
 use Rattle.font_theory.proofs.LeanFormatLemmas.{lean_format-is}
 use Rattle.font_theory.proofs.LeanMetricLemmas.{metric_of-lean}
-use Rattle.font_subset.specs.Cut.{IsWritten}
-use Rattle.font_subset.specs.Lean.{IsLeanSound, lean_cut_of}
+use Rattle.font_subset.specs.CutOfFont.{IsWritten}
+use Rattle.font_subset.specs.LeanCutOfFont.{IsLeanSound, lean_cut_of}
 
 lean_accepted : (font : List ℕ) → font_fault font ≡ None → lean_format.fault font ≡ None
 unfolding lean_format
@@ -23,12 +25,23 @@ lean_most : (made : List ℕ) → length made ≤ MAX_FILE → length made ≤ l
 unfolding lean_format
 lean_most made h = h
 
+-- its tables without what is of single glyphs are the font's
+lean_copied : (font made : List ℕ) (wanted : ℕ → Bool) → font_fault font ≡ None → made ≡ lean_cut_of font wanted
+    → length made ≤ MAX_FILE → (slot : ℕ)
+    → thin_copied (font_of made).copied slot ≡ thin_copied (font_of font).copied slot
+unfolding lean_format
+lean_copied font made wanted accepted is small slot =
+    ap (λ (F : Font). F.copied slot) (lean_format-is.reads_back (content (thin (font_of font)) wanted) made
+    (of_file font wanted accepted refl) (inl (sym is)) small).1
+
 -- what a lean cut that was made holds of its font
-pub lean_sound : (font made : List ℕ) (wanted : ℕ → Bool) → font_fault font ≡ None → IsWritten (lean_cut_of font wanted) made → IsLeanSound font wanted made
+pub lean_sound : (font made : List ℕ) (wanted : ℕ → Bool) → font_fault font ≡ None
+    → IsWritten (lean_cut_of font wanted) made → IsLeanSound font wanted made
 unfolding our_format
 lean_sound font made wanted accepted written =
     let read = font_of-lean_cut font wanted accepted made written.is written.small in
-    let form = IsCurrent-cut lean_format lean_format-is font (lean_accepted font accepted) wanted made written.is (lean_most made written.small) in
+    let form = IsCurrent-cut lean_format lean_format-is font (lean_accepted font accepted) wanted made written.is
+    (lean_most made written.small) in
     let map = map_of-lean font made wanted accepted read.1 in
     record {
       accepted = read.0;
@@ -37,9 +50,13 @@ lean_sound font made wanted accepted written =
       other_codes = λ c out. ap (λ m. m c) map ∙ rw out refl;
       kept = outline_of-lean font made wanted accepted read.1;
       metrics = metric_of-lean font made wanted accepted read.1;
-      vertical = λ g kept. ap (λ G. metrics_at G.copied g) read.1 ∙ metrics_at-kept (font_of font) (IsFont-accepted font accepted) wanted g kept;
+      vertical = λ g kept. ap (λ G. metrics_at G.copied g) read.1
+          ∙ metrics_at-kept (font_of font) (IsFont-accepted font accepted) wanted g kept;
+      copied = lean_copied font made wanted accepted written.is written.small;
       lean_form = form;
       cut_form = IsCurrent-full made form;
-      no_longer = subst (λ (b : List ℕ). length b ≤ length (cut our_format font wanted)) (sym written.is) (length-lean_cut font wanted accepted);
-      cuts = λ others. cut-cut lean_format lean_format-is font (lean_accepted font accepted) wanted made (inl (sym written.is)) (lean_most made written.small) others;
+      no_longer = subst (λ (b : List ℕ). length b ≤ length (cut our_format font wanted)) (sym written.is)
+          (length-lean_cut font wanted accepted);
+      cuts = λ others. cut-cut lean_format lean_format-is font (lean_accepted font accepted) wanted made
+          (inl (sym written.is)) (lean_most made written.small) others;
     }

@@ -1,25 +1,34 @@
 -- Tables of metrics that are filled glyph by glyph.
-use Rattle.std.proofs.Common.{◌≡◌, ℕ, ◌+◌, ◌-◌, ◌*◌, ◌<◌, ◌≤◌, ◌⊎◌, inl, inr, nat_eq, nat_le, nat_lt, ◌&&◌, Bool, true, false, cond, not, List, ◌++◌, length, get_or, drop, take, replicate, refl, sym, ◌∙◌, ap, subst, arith}
+use Rattle.std.proofs.Common.{◌≡◌, ℕ, ◌+◌, ◌-◌, ◌*◌, ◌<◌, ◌≤◌, ◌⊎◌, inl, inr, nat_eq, nat_le, nat_lt, ◌&&◌, Bool, true}
+use Rattle.std.proofs.Common.{false, cond, not, List, ◌++◌, length, get_or, drop, take, replicate, refl, sym, ◌∙◌, ap}
+use Rattle.std.proofs.Common.{subst, arith}
 use Rattle.std.proofs.lemmas.Bool.{cases_Bool, cases_lt, le-leb, le-ltb, lt-leb, lt-ltb, ne_eqb}
-use Rattle.std.proofs.lemmas.List.{drop-take, ext_get_or, get_or-append_right, get_or-drop, get_or-replicate, get_or-take, get_or_append_left, length-append, length-drop, length-replicate, length-take, length-take-le}
+use Rattle.std.proofs.lemmas.List.{drop-take, ext_get_or, get_or-append_right, get_or-drop, get_or-replicate}
+use Rattle.std.proofs.lemmas.List.{get_or-take, get_or_append_left, length-append, length-drop, length-replicate}
+use Rattle.std.proofs.lemmas.List.{length-take, length-take-le}
 use Rattle.std.specs.Option.{IsSome, is_some}
 use Rattle.font_theory.specs.Bytes.{bytes32}
 use Rattle.font_theory.specs.Content.{Content, glyph_count}
-use Rattle.font_theory.specs.Lean.{blank, cleared, entry_at, entry_size, holder, is_entry, thin_post, within}
-use Rattle.font_theory.proofs.LeanEntryLemmas.{get_or-blank, get_or-cleared, is_byte_of, is_place, length-blank, length-cleared}
+use Rattle.font_theory.specs.LeanCut.{blank, cleared, entry_at, entry_size, holder, is_entry, thin_post, within}
+use Rattle.font_theory.proofs.LeanEntryLemmas.{get_or-blank, get_or-cleared, is_byte_of, is_place, length-blank}
+use Rattle.font_theory.proofs.LeanEntryLemmas.{length-cleared}
 use Rattle.font_write.specs.Parts.{IsNextKept}
 use Rattle.font_subset.specs.Inside.{AreCopied}
 use borrow.Rule.Slice.PartMut.{post_of, put_mid}
 
 -- a part of a table, copied
-pub copied_part : (from old part : List ℕ) (at size k : ℕ) → k ≡ size → at + size ≤ length from → length old ≡ length from → part ≡ take k (drop at from)
+pub copied_part : (from old part : List ℕ) (at size k : ℕ) → k ≡ size → at + size ≤ length from
+    → length old ≡ length from → part ≡ take k (drop at from)
     → AreCopied from at size old (put_mid at k old part)
 copied_part from old part at size k same room long is =
     let front : length (take at old) ≡ at = length-take-le at old (omega arith) in
-    let middle : length part ≡ size = ap (λ (l : List ℕ). length l) is ∙ length-take k (drop at from) ∙ (let d = length-drop at from in omega arith) in
-    let rest : length (post_of at k old) ≡ length old - at - k = length-drop k (drop at old) ∙ (let d = length-drop at old in omega arith) in
+    let middle : length part ≡ size = ap (λ (l : List ℕ). length l) is ∙ length-take k (drop at from)
+    ∙ (let d = length-drop at from in omega arith) in
+    let rest : length (post_of at k old) ≡ length old - at - k = length-drop k (drop at old)
+    ∙ (let d = length-drop at old in omega arith) in
     record {
-      count = let a = length-append (take at old) (part ++ post_of at k old) in let b = length-append part (post_of at k old) in omega arith;
+      count = let a = length-append (take at old) (part ++ post_of at k old) in let b =
+          length-append part (post_of at k old) in omega arith;
       inside = λ j low high.
           get_or-append_right (take at old) (part ++ post_of at k old) at j 0 front low
           ∙ get_or_append_left part (post_of at k old) 0 (j - at) (omega arith)
@@ -28,7 +37,8 @@ copied_part from old part at size k same room long is =
           ∙ get_or-drop at from (j - at) 0
           ∙ (let e : at + (j - at) ≡ j = omega arith in ap (λ (x : ℕ). get_or from x 0) e);
       outside = λ j out. elim out [
-        | inl low ↦ get_or_append_left (take at old) (part ++ post_of at k old) 0 j (omega arith) ∙ get_or-take at old j 0 low
+        | inl low ↦ get_or_append_left (take at old) (part ++ post_of at k old) 0 j (omega arith)
+            ∙ get_or-take at old j 0 low
         | inr high ↦
             get_or-append_right (take at old) (part ++ post_of at k old) at j 0 front (omega arith)
             ∙ get_or-append_right part (post_of at k old) size (j - at) 0 middle (omega arith)
@@ -76,43 +86,51 @@ is_entry-past k n j past =
     none true = refl
 
 -- zeros, the last advance, and what stands after the bearings
-module _ (k n : ℕ) (t zeros one two : List ℕ) (some : 0 < k) (few : k ≤ n) (room : 2 * (k + n) ≤ length t) (is : zeros ≡ replicate (length t) 0)
-    (last : AreCopied t (4 * (k - 1)) 2 zeros one) (rest : AreCopied t (2 * (k + n)) (length t - 2 * (k + n)) one two) where
-  byte-blank : (j : ℕ) → j < length t → get_or two j 0 ≡ cond (is_entry k n j) 0 (get_or t j 0)
-  byte-blank j low =
-      elim (cases_lt j (2 * (k + n))) [
-        | inr past ↦ rest.inside j past (omega arith) ∙ sym (ap (λ b. cond b 0 (get_or t j 0)) (is_entry-past k n j past))
-        | inl here ↦
-            rest.outside j (inl here)
-            ∙ elim (cases_lt j (4 * (k - 1))) [
-              | inl before ↦
-                  last.outside j (inl before) ∙ ap (λ (l : List ℕ). get_or l j 0) is ∙ get_or-replicate (length t) j 0 0 low
-                  ∙ sym (ap (λ b. cond b 0 (get_or t j 0)) (is_entry-some k n j some here (inl (omega arith))))
-              | inr from ↦ elim (cases_lt j (4 * (k - 1) + 2)) [
-                | inl among ↦ last.inside j from among ∙ sym (ap (λ b. cond b 0 (get_or t j 0)) (is_entry-last k n j (omega arith) (omega arith)))
-                | inr after ↦
-                    last.outside j (inr after) ∙ ap (λ (l : List ℕ). get_or l j 0) is ∙ get_or-replicate (length t) j 0 0 low
-                    ∙ sym (ap (λ b. cond b 0 (get_or t j 0)) (is_entry-some k n j some here (inr (omega arith))))
+module _ (k n : ℕ) (t zeros one two : List ℕ) (some : 0 < k) (few : k ≤ n) (room : 2 * (k + n) ≤ length t)
+    (is : zeros ≡ replicate (length t) 0)
+    (last : AreCopied t (4 * (k - 1)) 2 zeros one) (rest : AreCopied t (2 * (k + n)) (length t - 2 * (k + n)) one two)
+  where
+    byte-blank : (j : ℕ) → j < length t → get_or two j 0 ≡ cond (is_entry k n j) 0 (get_or t j 0)
+    byte-blank j low =
+        elim (cases_lt j (2 * (k + n))) [
+          | inr past ↦ rest.inside j past (omega arith)
+              ∙ sym (ap (λ b. cond b 0 (get_or t j 0)) (is_entry-past k n j past))
+          | inl here ↦
+              rest.outside j (inl here)
+              ∙ elim (cases_lt j (4 * (k - 1))) [
+                | inl before ↦
+                    last.outside j (inl before) ∙ ap (λ (l : List ℕ). get_or l j 0) is
+                    ∙ get_or-replicate (length t) j 0 0 low
+                    ∙ sym (ap (λ b. cond b 0 (get_or t j 0)) (is_entry-some k n j some here (inl (omega arith))))
+                | inr from ↦ elim (cases_lt j (4 * (k - 1) + 2)) [
+                  | inl among ↦ last.inside j from among
+                      ∙ sym (ap (λ b. cond b 0 (get_or t j 0)) (is_entry-last k n j (omega arith) (omega arith)))
+                  | inr after ↦
+                      last.outside j (inr after) ∙ ap (λ (l : List ℕ). get_or l j 0) is
+                      ∙ get_or-replicate (length t) j 0 0 low
+                      ∙ sym (ap (λ b. cond b 0 (get_or t j 0)) (is_entry-some k n j some here (inr (omega arith))))
+                ]
               ]
-            ]
-      ]
+        ]
 
-  pub blank_is : two ≡ blank k n t
-  blank_is =
-      let size = length-blank k n t in
-      let zero : length zeros ≡ length t = ap (λ (l : List ℕ). length l) is ∙ length-replicate (length t) 0 in
-      let same : length two ≡ length t = rest.count ∙ last.count ∙ zero in
-      ext_get_or 0 two (blank k n t) (omega arith) (λ j low. byte-blank j (omega arith) ∙ sym (get_or-blank k n t j))
+    pub blank_is : two ≡ blank k n t
+    blank_is =
+        let size = length-blank k n t in
+        let zero : length zeros ≡ length t = ap (λ (l : List ℕ). length l) is ∙ length-replicate (length t) 0 in
+        let same : length two ≡ length t = rest.count ∙ last.count ∙ zero in
+        ext_get_or 0 two (blank k n t) (omega arith) (λ j low. byte-blank j (omega arith) ∙ sym (get_or-blank k n t j))
 
 -- a table with the bytes of the kept glyphs below a given one
 abbrev pub filled : (ℕ → Bool) → ℕ → ℕ → List ℕ → ℕ → List ℕ
 filled keeps k n t stop = cleared (λ h. keeps h && nat_lt h stop) k n t
 
 abbrev filled_byte : (ℕ → Bool) → ℕ → ℕ → List ℕ → ℕ → ℕ → ℕ
-filled_byte keeps k n t stop j = cond (is_entry k n j && not (keeps (holder k j) && nat_lt (holder k j) stop)) 0 (get_or t j 0)
+filled_byte keeps k n t stop j = cond (is_entry k n j && not (keeps (holder k j) && nat_lt (holder k j) stop)) 0
+    (get_or t j 0)
 
 -- the byte of a glyph below the place, and of one that is not
-byte_below : (keeps : ℕ → Bool) (k n : ℕ) (t : List ℕ) (stop j : ℕ) → holder k j < stop → filled_byte keeps k n t stop j ≡ cond (is_entry k n j && not (keeps (holder k j))) 0 (get_or t j 0)
+byte_below : (keeps : ℕ → Bool) (k n : ℕ) (t : List ℕ) (stop j : ℕ) → holder k j < stop → filled_byte keeps k n t stop j
+    ≡ cond (is_entry k n j && not (keeps (holder k j))) 0 (get_or t j 0)
 byte_below keeps k n t stop j low =
     ap (λ b. cond (is_entry k n j && not (keeps (holder k j) && b)) 0 (get_or t j 0)) (lt-ltb _ _ low)
     ∙ ap (λ b. cond (is_entry k n j && not b) 0 (get_or t j 0)) (and-true (keeps (holder k j)))
@@ -121,7 +139,8 @@ byte_below keeps k n t stop j low =
     and-true true = refl
     and-true false = refl
 
-byte_above : (keeps : ℕ → Bool) (k n : ℕ) (t : List ℕ) (stop j : ℕ) → is_entry k n j ≡ true → stop ≤ holder k j → filled_byte keeps k n t stop j ≡ 0
+byte_above : (keeps : ℕ → Bool) (k n : ℕ) (t : List ℕ) (stop j : ℕ) → is_entry k n j ≡ true → stop ≤ holder k j
+    → filled_byte keeps k n t stop j ≡ 0
 byte_above keeps k n t stop j e high =
     ap (λ b. cond (is_entry k n j && not (keeps (holder k j) && b)) 0 (get_or t j 0)) (le-ltb _ _ high)
     ∙ ap (λ b. cond (is_entry k n j && not b) 0 (get_or t j 0)) (and-false (keeps (holder k j)))
@@ -132,11 +151,14 @@ byte_above keeps k n t stop j e high =
     and-false false = refl
 
 -- that of a glyph that is not kept, and that of none
-byte_dropped : (keeps : ℕ → Bool) (k n : ℕ) (t : List ℕ) (stop j : ℕ) → is_entry k n j ≡ true → keeps (holder k j) ≡ false → filled_byte keeps k n t stop j ≡ 0
+byte_dropped : (keeps : ℕ → Bool) (k n : ℕ) (t : List ℕ) (stop j : ℕ) → is_entry k n j ≡ true
+    → keeps (holder k j) ≡ false → filled_byte keeps k n t stop j ≡ 0
 byte_dropped keeps k n t stop j e none = (λ i. cond (e i && not (none i && nat_lt (holder k j) stop)) 0 (get_or t j 0))
 
-byte_other : (keeps : ℕ → Bool) (k n : ℕ) (t : List ℕ) (stop j : ℕ) → is_entry k n j ≡ false → filled_byte keeps k n t stop j ≡ get_or t j 0
-byte_other keeps k n t stop j f = ap (λ b. cond (b && not (keeps (holder k j) && nat_lt (holder k j) stop)) 0 (get_or t j 0)) f
+byte_other : (keeps : ℕ → Bool) (k n : ℕ) (t : List ℕ) (stop j : ℕ) → is_entry k n j ≡ false
+    → filled_byte keeps k n t stop j ≡ get_or t j 0
+byte_other keeps k n t stop j f =
+    ap (λ b. cond (b && not (keeps (holder k j) && nat_lt (holder k j) stop)) 0 (get_or t j 0)) f
 
 module _ (keeps : ℕ → Bool) (k n : ℕ) (t : List ℕ) where
   -- at first nothing is there
@@ -144,7 +166,8 @@ module _ (keeps : ℕ → Bool) (k n : ℕ) (t : List ℕ) where
   filled-none stop none =
       let size = length-cleared (λ h. keeps h && nat_lt h stop) k n t in
       let size' = length-blank k n t in
-      ext_get_or 0 _ _ (omega arith) (λ j low. get_or-cleared (λ h. keeps h && nat_lt h stop) k n t j (omega arith) ∙ byte j ∙ sym (get_or-blank k n t j))
+      ext_get_or 0 _ _ (omega arith) (λ j low. get_or-cleared (λ h. keeps h && nat_lt h stop) k n t j (omega arith)
+      ∙ byte j ∙ sym (get_or-blank k n t j))
     where
       byte : (j : ℕ) → filled_byte keeps k n t stop j ≡ cond (is_entry k n j) 0 (get_or t j 0)
       byte j =
@@ -163,27 +186,37 @@ module _ (keeps : ℕ → Bool) (k n : ℕ) (t : List ℕ) where
   filled-all stop few past =
       let size = length-cleared (λ h. keeps h && nat_lt h stop) k n t in
       let size' = length-cleared keeps k n t in
-      ext_get_or 0 _ _ (omega arith) (λ j low. get_or-cleared (λ h. keeps h && nat_lt h stop) k n t j (omega arith) ∙ byte j ∙ sym (get_or-cleared keeps k n t j (omega arith)))
+      ext_get_or 0 _ _ (omega arith) (λ j low. get_or-cleared (λ h. keeps h && nat_lt h stop) k n t j (omega arith)
+      ∙ byte j ∙ sym (get_or-cleared keeps k n t j (omega arith)))
     where
-      byte : (j : ℕ) → filled_byte keeps k n t stop j ≡ cond (is_entry k n j && not (keeps (holder k j))) 0 (get_or t j 0)
+      byte : (j : ℕ) → filled_byte keeps k n t stop j ≡ cond (is_entry k n j && not (keeps (holder k j))) 0
+          (get_or t j 0)
       byte j =
           elim (cases_Bool (is_entry k n j)) [
-            | inr f ↦ byte_other keeps k n t stop j f ∙ sym (ap (λ b. cond (b && not (keeps (holder k j))) 0 (get_or t j 0)) f)
+            | inr f ↦ byte_other keeps k n t stop j f
+                ∙ sym (ap (λ b. cond (b && not (keeps (holder k j))) 0 (get_or t j 0)) f)
             | inl e ↦ let low = (is_place k n j few e).low in byte_below keeps k n t stop j (omega arith)
           ]
 
   -- the bytes of one more glyph
-  module _ (old new : List ℕ) (g next : ℕ) (some : 0 < k) (few : k ≤ n) (low : g < n) (kept : keeps g ≡ true) (more : g < next)
-      (none : (h : ℕ) → g + 1 ≤ h → h < next → keeps h ≡ false) (was : old ≡ filled keeps k n t g) (copied : AreCopied t (entry_at k g) (entry_size k g) old new) where
+  module _ (old new : List ℕ) (g next : ℕ) (some : 0 < k) (few : k ≤ n) (low : g < n) (kept : keeps g ≡ true) (more : g
+      < next)
+      (none : (h : ℕ) → g + 1 ≤ h → h < next → keeps h ≡ false) (was : old ≡ filled keeps k n t g)
+      (copied : AreCopied t (entry_at k g) (entry_size k g) old new) where
     was_byte : (j : ℕ) → j < length t → get_or old j 0 ≡ filled_byte keeps k n t g j
     was_byte j small = ap (λ (l : List ℕ). get_or l j 0) was ∙ get_or-cleared (λ h. keeps h && nat_lt h g) k n t j small
 
     -- a byte that is not of this glyph stays
-    is_outside : (j : ℕ) → ((entry_at k g ≤ j) → (j < entry_at k g + entry_size k g) → ⊥) → (j < entry_at k g) ⊎ (entry_at k g + entry_size k g ≤ j)
+    is_outside : (j : ℕ) → ((entry_at k g ≤ j) → (j < entry_at k g + entry_size k g) → ⊥) → (j < entry_at k g)
+        ⊎ (entry_at k g + entry_size k g ≤ j)
     is_outside j not_in =
         elim (cases_lt j (entry_at k g)) [
           | inl before ↦ inl before
-          | inr from ↦ elim (cases_lt j (entry_at k g + entry_size k g)) [ inl here ↦ absurd (not_in from here) | inr after ↦ inr after ]
+          | inr from ↦ elim (cases_lt j (entry_at k g + entry_size k g)) [
+            | inl here ↦
+                absurd (not_in from here)
+            | inr after ↦ inr after
+          ]
         ]
 
     holder_in : (j : ℕ) → entry_at k g ≤ j → j < entry_at k g + entry_size k g → holder k j ≡ g
@@ -210,12 +243,15 @@ module _ (keeps : ℕ → Bool) (k n : ℕ) (t : List ℕ) where
         let at : entry_at k g + within k j ≡ j = ap (λ (x : ℕ). entry_at k x + within k j) (sym same) ∙ place.at in
         let small : within k j < entry_size k g = subst (λ (x : ℕ). within k j < entry_size k x) same place.small in
         copied.inside j (omega arith) (omega arith)
-        ∙ sym (byte_below keeps k n t next j (omega arith) ∙ (λ i. cond (e i && not ((ap keeps same ∙ kept) i)) 0 (get_or t j 0)))
+        ∙ sym (byte_below keeps k n t next j (omega arith)
+        ∙ (λ i. cond (e i && not ((ap keeps same ∙ kept) i)) 0 (get_or t j 0)))
 
     -- a byte of another glyph
-    byte_of_other : (j : ℕ) → j < length t → is_entry k n j ≡ true → (holder k j < g) ⊎ (g < holder k j) → get_or new j 0 ≡ filled_byte keeps k n t next j
+    byte_of_other : (j : ℕ) → j < length t → is_entry k n j ≡ true → (holder k j < g) ⊎ (g < holder k j)
+        → get_or new j 0 ≡ filled_byte keeps k n t next j
     byte_of_other j small e other =
-        copied.outside j (is_outside j (λ from here. let same = holder_in j from here in elim other [ inl a ↦ omega arith | inr b ↦ omega arith ]))
+        copied.outside j (is_outside j (λ from here. let same = holder_in j from here in
+        elim other [ inl a ↦ omega arith | inr b ↦ omega arith ]))
         ∙ was_byte j small
         ∙ elim other [
           | inl below ↦ byte_below keeps k n t g j below ∙ sym (byte_below keeps k n t next j (omega arith))
@@ -233,7 +269,11 @@ module _ (keeps : ℕ → Bool) (k n : ℕ) (t : List ℕ) where
           | inr f ↦ byte_of_none j small f
           | inl e ↦ elim (cases_lt (holder k j) g) [
             | inl below ↦ byte_of_other j small e (inl below)
-            | inr from ↦ elim (cases_lt g (holder k j)) [ inl above ↦ byte_of_other j small e (inr above) | inr same ↦ byte_of_this j e (omega arith) ]
+            | inr from ↦ elim (cases_lt g (holder k j)) [
+              | inl above ↦ byte_of_other j small e (inr above)
+              | inr same ↦
+                  byte_of_this j e (omega arith)
+            ]
           ]
         ]
 
@@ -242,10 +282,12 @@ module _ (keeps : ℕ → Bool) (k n : ℕ) (t : List ℕ) where
         let size = length-cleared (λ h. keeps h && nat_lt h next) k n t in
         let size' = length-cleared (λ h. keeps h && nat_lt h g) k n t in
         let same : length new ≡ length t = copied.count ∙ ap (λ (l : List ℕ). length l) was ∙ size' in
-        ext_get_or 0 new _ (omega arith) (λ j small. byte-more j (omega arith) ∙ sym (get_or-cleared (λ h. keeps h && nat_lt h next) k n t j (omega arith)))
+        ext_get_or 0 new _ (omega arith) (λ j small. byte-more j (omega arith)
+        ∙ sym (get_or-cleared (λ h. keeps h && nat_lt h next) k n t j (omega arith)))
 
 -- `post` with another version, and no names
-pub thin_post_is : (post made : List ℕ) → 32 ≤ length post → made ≡ bytes32 0x00030000 ++ drop 4 (take 32 post) → made ≡ thin_post post
+pub thin_post_is : (post made : List ℕ) → 32 ≤ length post → made ≡ bytes32 0x00030000 ++ drop 4 (take 32 post)
+    → made ≡ thin_post post
 unfolding thin_post
 thin_post_is post made long is =
     let f : nat_lt (length post) 32 ≡ false = le-ltb (length post) 32 long in
@@ -261,27 +303,34 @@ module _ (K : Content) (k : ℕ) (t : List ℕ) where
   abbrev n : ℕ
   n = glyph_count K.copied
 
-  pub filled_start : (bytes : List ℕ) (count g : ℕ) → count ≡ n → bytes ≡ blank k count t → IsNextKept K 0 g → AreFilled K k t bytes g
+  pub filled_start : (bytes : List ℕ) (count g : ℕ) → count ≡ n → bytes ≡ blank k count t → IsNextKept K 0 g
+      → AreFilled K k t bytes g
   filled_start bytes count g same is next = record {
-    is = is ∙ ap (λ (x : ℕ). blank k x t) same ∙ sym (filled-none (λ h. is_some (K.outline h)) k n t g (λ h low. ap is_some (next.passed h (omega arith) low)));
+    is = is ∙ ap (λ (x : ℕ). blank k x t) same
+        ∙ sym (filled-none (λ h. is_some (K.outline h)) k n t g
+        (λ h low. ap is_some (next.passed h (omega arith) low)));
     within = next.within;
     kept = next.kept;
   }
 
-  pub filled_step : (old new : List ℕ) (g place next : ℕ) → 0 < k → k ≤ n → g < n → place ≡ g → AreFilled K k t old g → AreCopied t (entry_at k place) (entry_size k place) old new → IsNextKept K (g + 1) next
+  pub filled_step : (old new : List ℕ) (g place next : ℕ) → 0 < k → k ≤ n → g < n → place ≡ g → AreFilled K k t old g
+      → AreCopied t (entry_at k place) (entry_size k place) old new → IsNextKept K (g + 1) next
       → AreFilled K k t new next
   filled_step old new g place next some few low same are copied to = record {
-    is = filled-more (λ h. is_some (K.outline h)) k n t old new g next some few low (are.kept low) (let from = to.from_on in omega arith) (λ h from below. ap is_some (to.passed h from below)) are.is
+    is = filled-more (λ h. is_some (K.outline h)) k n t old new g next some few low (are.kept low)
+        (let from = to.from_on in omega arith) (λ h from below. ap is_some (to.passed h from below)) are.is
         (subst (λ (x : ℕ). AreCopied t (entry_at k x) (entry_size k x) old new) same copied);
     within = to.within;
     kept = to.kept;
   }
 
-  pub filled_end : (bytes : List ℕ) (g : ℕ) → k ≤ n → n ≤ g → AreFilled K k t bytes g → bytes ≡ cleared (λ h. is_some (K.outline h)) k n t
+  pub filled_end : (bytes : List ℕ) (g : ℕ) → k ≤ n → n ≤ g → AreFilled K k t bytes g
+      → bytes ≡ cleared (λ h. is_some (K.outline h)) k n t
   filled_end bytes g few past are = are.is ∙ filled-all (λ h. is_some (K.outline h)) k n t g few past
 
 -- the bytes of a glyph stand in the table
-pub entry_room : (k n g : ℕ) (t : List ℕ) → 0 < k → k ≤ n → g < n → 2 * (k + n) ≤ length t → entry_at k g + entry_size k g ≤ length t
+pub entry_room : (k n g : ℕ) (t : List ℕ) → 0 < k → k ≤ n → g < n → 2 * (k + n) ≤ length t
+    → entry_at k g + entry_size k g ≤ length t
 unfolding entry_at entry_size
 entry_room k n g t some few low room =
     let ne : nat_eq k 0 ≡ false = ne_eqb k 0 (λ e. omega arith) in

@@ -4,7 +4,7 @@ use Rattle.std.proofs.lemmas.Bool.{ne_eqb}
 use Rattle.sfnt_bytes.specs.Directory.{is_layout_slot}
 use Rattle.sfnt_bytes.specs.declared.tag.TheConstants.{HHEA, HMTX, POST, VHEA, VMTX}
 use Rattle.font_theory.specs.Content.{Content, IsWritable, KeepsComponents, glyph_count, is_never_copied}
-use Rattle.font_theory.specs.Lean.{cleared, leaned, pairs_in, thin_post}
+use Rattle.font_theory.specs.LeanCut.{cleared, leaned, pairs_in, thin_post}
 use Rattle.font_theory.specs.Links.{fixed}
 use Rattle.font_theory.proofs.LeanCopiedLemmas.{by_slot}
 
@@ -24,7 +24,9 @@ pub leaned_count : (K : Content) → glyph_count (leaned K).copied ≡ glyph_cou
 unfolding leaned glyph_count
 leaned_count K = refl
 
-pub leaned_hmtx : (K : Content) → (leaned K).copied HMTX ≡ option_map (cleared (λ g. is_some (K.outline g)) (pairs_in K.copied HHEA HMTX) (glyph_count K.copied)) (K.copied HMTX)
+pub leaned_hmtx : (K : Content)
+    → (leaned K).copied HMTX ≡ option_map (cleared (λ g. is_some (K.outline g)) (pairs_in K.copied HHEA HMTX)
+    (glyph_count K.copied)) (K.copied HMTX)
 unfolding leaned
 leaned_hmtx K = refl
 
@@ -32,15 +34,19 @@ pub leaned_post : (K : Content) → (leaned K).copied POST ≡ option_map thin_p
 unfolding leaned
 leaned_post K = refl
 
-pub leaned_vmtx : (K : Content) → (leaned K).copied VMTX ≡ option_map (cleared (λ g. is_some (K.outline g)) (pairs_in K.copied VHEA VMTX) (glyph_count K.copied)) (K.copied VMTX)
+pub leaned_vmtx : (K : Content)
+    → (leaned K).copied VMTX ≡ option_map (cleared (λ g. is_some (K.outline g)) (pairs_in K.copied VHEA VMTX)
+    (glyph_count K.copied)) (K.copied VMTX)
 unfolding leaned
 leaned_vmtx K = refl
 
-at_other : (K : Content) (slot : ℕ) → nat_eq slot HMTX ≡ false → nat_eq slot POST ≡ false → nat_eq slot VMTX ≡ false → (leaned K).copied slot ≡ K.copied slot
+at_other : (K : Content) (slot : ℕ) → nat_eq slot HMTX ≡ false → nat_eq slot POST ≡ false → nat_eq slot VMTX ≡ false
+    → (leaned K).copied slot ≡ K.copied slot
 unfolding leaned
 at_other K slot x y z = rw (x, y, z) refl
 
-pub leaned_other : (K : Content) (slot : ℕ) → slot ≢ HMTX → slot ≢ POST → slot ≢ VMTX → (leaned K).copied slot ≡ K.copied slot
+pub leaned_other : (K : Content) (slot : ℕ) → slot ≢ HMTX → slot ≢ POST → slot ≢ VMTX
+    → (leaned K).copied slot ≡ K.copied slot
 leaned_other K slot a b c = at_other K slot (ne_eqb slot HMTX a) (ne_eqb slot POST b) (ne_eqb slot VMTX c)
 
 no_slot : {X : Type 0} → false ≡ true → X
@@ -52,9 +58,12 @@ unfolding leaned glyph_count
 leaned_writable K ok = record {
   mapped_below = ok.mapped_below;
   mapped_codes = ok.mapped_codes;
-  slots = by_slot (λ slot. is_never_copied slot ≡ true → (leaned K).copied slot ≡ None) (λ e. no_slot e) (λ e. no_slot e) (λ e. no_slot e) (λ slot x y z never. at_other K slot x y z ∙ ok.slots slot never);
-  fixed = by_slot (λ slot. is_layout_slot slot ≡ true → option_map (fixed slot) ((leaned K).copied slot) ≡ (leaned K).copied slot) (λ e. no_slot e) (λ e. no_slot e) (λ e. no_slot e)
-      (λ slot x y z layout. ap (option_map (fixed slot)) (at_other K slot x y z) ∙ ok.fixed slot layout ∙ sym (at_other K slot x y z));
+  slots = by_slot (λ slot. is_never_copied slot ≡ true → (leaned K).copied slot ≡ None) (λ e. no_slot e)
+      (λ e. no_slot e) (λ e. no_slot e) (λ slot x y z never. at_other K slot x y z ∙ ok.slots slot never);
+  fixed = by_slot (λ slot. is_layout_slot slot ≡ true → option_map (fixed slot) ((leaned K).copied slot)
+      ≡ (leaned K).copied slot) (λ e. no_slot e) (λ e. no_slot e) (λ e. no_slot e)
+      (λ slot x y z layout. ap (option_map (fixed slot)) (at_other K slot x y z) ∙ ok.fixed slot layout
+      ∙ sym (at_other K slot x y z));
   head_form = ok.head_form;
   head_size = ok.head_size;
   past = ok.past;

@@ -1,5 +1,6 @@
 -- Marks of .notdef and of the glyphs of codes.
-use Rattle.std.proofs.Common.{◌≡◌, ℕ, ◌+◌, ◌-◌, ◌<◌, ◌≤◌, ◌↔◌, inl, inr, Bool, true, ◌||◌, nat_eq, List, [], length, Option, None, Some, ap, unwrap_or, refl, sym, ◌∙◌, subst, arith}
+use Rattle.std.proofs.Common.{◌≡◌, ℕ, ◌+◌, ◌-◌, ◌<◌, ◌≤◌, ◌↔◌, inl, inr, Bool, true, ◌||◌, nat_eq, List, [], length}
+use Rattle.std.proofs.Common.{Option, None, Some, ap, unwrap_or, refl, sym, ◌∙◌, subst, arith}
 use mathlib.Core.Path.{fun_ext}
 use Rattle.std.proofs.lemmas.Bool.{cases_eq, cases_lt, eq-eqb, eqb-true, or_cases, or_left, or_right}
 use Rattle.std.specs.Cmp.{both_ways}
@@ -8,7 +9,8 @@ use Rattle.codes.specs.CharacterMap.{IsCharacterMap, restricted}
 use Rattle.codes.specs.Runs.{IsRun, NoRun}
 use Rattle.codes.specs.declared.runs.Run.{Run}
 use Rattle.font_glyph.specs.Reach.{Reach}
-use Rattle.font_theory.specs.Content.{CODES, everything, font_of, glyph_count, is_kept, is_root, is_seed, layout_font_of, links_in}
+use Rattle.font_theory.specs.Content.{CODES, everything, font_of, glyph_count, is_kept, is_root, is_seed}
+use Rattle.font_theory.specs.Content.{layout_font_of, links_in}
 use Rattle.font_theory.specs.Kinds.{fault_of, font_as, tables_as}
 use Rattle.font_theory.specs.declared.kinds.Kind.{Kind}
 use Rattle.font_theory.specs.declared.kinds.Kind.TheVariants.{Full, Layout, Lean}
@@ -25,7 +27,7 @@ use Rattle.font_theory.proofs.FileWantedLemmas.{is_kept-file, roots-font}
 use Rattle.font_theory.proofs.FontLemmas.{IsFont-accepted, glyph_count-file}
 use Rattle.font_theory.proofs.SpellingLemmas.{codes_are}
 use Rattle.font_theory.proofs.WantedLemmas.{restricted-cases}
-use Rattle.font_subset.specs.Content.{IsKeptSet, IsRootSet, layout_read}
+use Rattle.font_subset.specs.KeptGlyphs.{IsKeptSet, IsRootSet, layout_read}
 use Rattle.font_subset.proofs.SourceLemmas.{count_as}
 use Rattle.font_subset.specs.Inside.{AreMarked, AreSeedsTo, IsSeedSet}
 
@@ -37,7 +39,9 @@ marked_start old low =
     }
 
 -- one more
-pub marked_more : (old marks new : List Bool) (low at : ℕ) → low ≤ at → AreMarked old marks low (at - low) → length new ≡ length marks → ((h : ℕ) → has new h ≡ (nat_eq h at || has marks h)) → AreMarked old new low (at + 1 - low)
+pub marked_more : (old marks new : List Bool) (low at : ℕ) → low ≤ at → AreMarked old marks low (at - low)
+    → length new ≡ length marks → ((h : ℕ) → has new h ≡ (nat_eq h at || has marks h))
+    → AreMarked old new low (at + 1 - low)
 marked_more old marks new low at le before count is =
     record {
       count = count ∙ before.count;
@@ -60,15 +64,18 @@ pub marked_end : (old marks : List Bool) (low n k : ℕ) → n ≡ k → AreMark
 marked_end old marks low n k e h = subst (AreMarked old marks low) e h
 
 -- the glyphs of one more run
-pub seeds_more : (m : ℕ → ℕ) (from : ℕ) (run : Run) (old new : List Bool) → IsRun m from run → AreSeedsTo m from old → AreMarked old new run.glyph (run.last - run.first + 1) → AreSeedsTo m (run.last + 1) new
+pub seeds_more : (m : ℕ → ℕ) (from : ℕ) (run : Run) (old new : List Bool) → IsRun m from run → AreSeedsTo m from old
+    → AreMarked old new run.glyph (run.last - run.first + 1) → AreSeedsTo m (run.last + 1) new
 seeds_more m from run old new is before more =
     record {
       zero = (more.marked 0).1 (inr before.zero);
       codes = λ c low. elim (cases_lt c from) [
         | inl below ↦ (more.marked (m c)).1 (inr (before.codes c below))
         | inr above ↦ elim (cases_lt c run.first) [
-          | inl gap ↦ subst (λ (g : ℕ). has new g ≡ true) (sym (is.piece.least c above gap)) ((more.marked 0).1 (inr before.zero))
-          | inr on ↦ let e = is.piece.along c on (omega arith) in let o = is.piece.order in (more.marked (m c)).1 (inl (omega arith, omega arith))
+          | inl gap ↦ subst (λ (g : ℕ). has new g ≡ true) (sym (is.piece.least c above gap))
+              ((more.marked 0).1 (inr before.zero))
+          | inr on ↦ let e = is.piece.along c on (omega arith) in let o = is.piece.order in
+              (more.marked (m c)).1 (inl (omega arith, omega arith))
         ]
       ];
       only = λ g h. elim ((more.marked g).0 h) [
@@ -83,7 +90,8 @@ seeds_more m from run old new is before more =
     }
 
 -- all codes
-pub seeds_end : (m : ℕ → ℕ) (from : ℕ) (marks : List Bool) → ((c : ℕ) → CODES ≤ c → m c ≡ 0) → NoRun m from → AreSeedsTo m from marks → (g : ℕ) → has marks g ≡ is_seed m g
+pub seeds_end : (m : ℕ → ℕ) (from : ℕ) (marks : List Bool) → ((c : ℕ) → CODES ≤ c → m c ≡ 0) → NoRun m from
+    → AreSeedsTo m from marks → (g : ℕ) → has marks g ≡ is_seed m g
 seeds_end m from marks past none are g = both_ways (has marks g) (is_seed m g) forth back
   where
     forth : has marks g ≡ true → is_seed m g ≡ true
@@ -102,17 +110,21 @@ seeds_end m from marks past none are g = both_ways (has marks g) (is_seed m g) f
     ]
 
 -- the wanted codes of an accepted file are codes, and their glyphs are glyphs
-pub wanted_past : (file : List ℕ) (wanted : ℕ → Bool) → font_fault file ≡ None → (c : ℕ) → CODES ≤ c → restricted wanted (map_of file) c ≡ 0
-wanted_past file wanted accepted c past = restricted-cases wanted (map_of file) (λ g. g ≡ 0) c ((IsFont-accepted file accepted).mapped_codes c past) refl
+pub wanted_past : (file : List ℕ) (wanted : ℕ → Bool) → font_fault file ≡ None → (c : ℕ) → CODES ≤ c
+    → restricted wanted (map_of file) c ≡ 0
+wanted_past file wanted accepted c past =
+    restricted-cases wanted (map_of file) (λ g. g ≡ 0) c ((IsFont-accepted file accepted).mapped_codes c past) refl
 
-wanted_below : (file : List ℕ) (wanted : ℕ → Bool) → font_fault file ≡ None → (c : ℕ) → restricted wanted (map_of file) c < glyph_count_of file
+wanted_below : (file : List ℕ) (wanted : ℕ → Bool) → font_fault file ≡ None → (c : ℕ)
+    → restricted wanted (map_of file) c < glyph_count_of file
 wanted_below file wanted accepted c =
     let ok = IsFont-accepted file accepted in
     let low = ok.mapped_below c in
     let count = glyph_count-file file in
     restricted-cases wanted (map_of file) (λ g. g < glyph_count_of file) c (omega arith) (omega arith)
 
-pub run_within : (file : List ℕ) (wanted : ℕ → Bool) (from : ℕ) (run : Run) → font_fault file ≡ None → IsRun (restricted wanted (map_of file)) from run → run.glyph + (run.last - run.first) < glyph_count_of file
+pub run_within : (file : List ℕ) (wanted : ℕ → Bool) (from : ℕ) (run : Run) → font_fault file ≡ None
+    → IsRun (restricted wanted (map_of file)) from run → run.glyph + (run.last - run.first) < glyph_count_of file
 run_within file wanted from run accepted is =
     let o = is.piece.order in
     let e = is.piece.along run.last o (omega arith) in
@@ -120,41 +132,64 @@ run_within file wanted from run accepted is =
     omega arith
 
 -- where no table of layout is read the roots are the seeds
-pub seeds_alone : (kind : Kind) (file : List ℕ) (wanted : ℕ → Bool) (marks : List Bool) → fault_of kind file ≡ None → None ≡ layout_read kind file → IsSeedSet file wanted marks → IsRootSet kind file wanted marks
-seeds_alone Full file wanted marks accepted none is = record { count = is.count; roots = λ g. is.seeds g ∙ sym (ap (λ s. s g) (roots-font file wanted accepted)) }
-seeds_alone Lean file wanted marks accepted none is = record { count = is.count; roots = λ g. is.seeds g ∙ sym (ap (λ s. s g) (roots-font file wanted accepted)) }
+pub seeds_alone : (kind : Kind) (file : List ℕ) (wanted : ℕ → Bool) (marks : List Bool) → fault_of kind file ≡ None
+    → None ≡ layout_read kind file → IsSeedSet file wanted marks → IsRootSet kind file wanted marks
+seeds_alone Full file wanted marks accepted none is = record {
+  count = is.count;
+  roots = λ g. is.seeds g
+      ∙ sym (ap (λ s. s g) (roots-font file wanted accepted));
+}
+seeds_alone Lean file wanted marks accepted none is = record {
+  count = is.count;
+  roots = λ g. is.seeds g
+      ∙ sym (ap (λ s. s g) (roots-font file wanted accepted));
+}
 seeds_alone Layout file wanted marks accepted none is = cc
 
 -- and else what links lead to from the seeds
-pub roots_found : (file : List ℕ) (wanted : ℕ → Bool) (l : ℕ → List ℕ) (seeds marks : List Bool) (n : ℕ) → l ≡ links_in (layout_font_of file).copied → n ≡ glyph_count_of file → IsSeedSet file wanted seeds → length marks ≡ n
-    → ((g : ℕ) → has marks g ≡ true ↔ (g < n) × Linked l (has seeds) numbers.NUMBERS g) → IsRootSet Layout file wanted marks
+pub roots_found : (file : List ℕ) (wanted : ℕ → Bool) (l : ℕ → List ℕ) (seeds marks : List Bool) (n : ℕ)
+    → l ≡ links_in (layout_font_of file).copied → n ≡ glyph_count_of file → IsSeedSet file wanted seeds
+    → length marks ≡ n
+    → ((g : ℕ) → has marks g ≡ true ↔ (g < n) × Linked l (has seeds) numbers.NUMBERS g)
+    → IsRootSet Layout file wanted marks
 roots_found file wanted l seeds marks n same size is count found =
     let whole : n ≡ glyph_count (layout_font_of file).copied = size ∙ count_as Layout file in
-    let P : ℕ → (ℕ → List ℕ) → ℕ → Type 0 = λ k m g. has marks g ≡ true ↔ (g < k) × Linked m (has seeds) numbers.NUMBERS g in
+    let P : ℕ → (ℕ → List ℕ) → ℕ → Type 0 = λ k m g. has marks g ≡ true ↔ (g < k)
+    × Linked m (has seeds) numbers.NUMBERS g in
     record {
       count = count ∙ size;
-      roots = roots_marked (layout_font_of file).copied (restricted wanted (map_of file)) seeds marks is.seeds (λ g. subst (λ (X : Type 0). X) (λ i. P (whole i) (same i) g) (found g));
+      roots = roots_marked (layout_font_of file).copied (restricted wanted (map_of file)) seeds marks is.seeds
+          (λ g. subst (λ (X : Type 0). X) (λ i. P (whole i) (same i) g) (found g));
     }
 
-pub roots_of_layout : (kind : Kind) (file held : List ℕ) (wanted : ℕ → Bool) (marks : List Bool) → Some held ≡ layout_read kind file → IsRootSet Layout held wanted marks → IsRootSet kind file wanted marks
+pub roots_of_layout : (kind : Kind) (file held : List ℕ) (wanted : ℕ → Bool) (marks : List Bool)
+    → Some held ≡ layout_read kind file → IsRootSet Layout held wanted marks → IsRootSet kind file wanted marks
 roots_of_layout Full file held wanted marks some is = cc
 roots_of_layout Lean file held wanted marks some is = cc
-roots_of_layout Layout file held wanted marks some is = subst (λ (o : Option (List ℕ)). IsRootSet Layout (unwrap_or o []) wanted marks) some is
+roots_of_layout Layout file held wanted marks some is =
+    subst (λ (o : Option (List ℕ)). IsRootSet Layout (unwrap_or o []) wanted marks) some is
 
-pub seeds_of_layout : (kind : Kind) (file held : List ℕ) (wanted : ℕ → Bool) (marks : List Bool) → Some held ≡ layout_read kind file → IsSeedSet file wanted marks → IsSeedSet held wanted marks
+pub seeds_of_layout : (kind : Kind) (file held : List ℕ) (wanted : ℕ → Bool) (marks : List Bool)
+    → Some held ≡ layout_read kind file → IsSeedSet file wanted marks → IsSeedSet held wanted marks
 seeds_of_layout Full file held wanted marks some is = cc
 seeds_of_layout Lean file held wanted marks some is = cc
-seeds_of_layout Layout file held wanted marks some is = subst (λ (o : Option (List ℕ)). IsSeedSet (unwrap_or o []) wanted marks) (sym some) is
+seeds_of_layout Layout file held wanted marks some is =
+    subst (λ (o : Option (List ℕ)). IsSeedSet (unwrap_or o []) wanted marks) (sym some) is
 
 -- what is reached from the roots is what a cut keeps
-is_kept_as : (kind : Kind) (file : List ℕ) (wanted : ℕ → Bool) → fault_of kind file ≡ None → (g : ℕ) → Decides (is_kept (font_as kind file) wanted g) (Reach (outline_of file) (is_root (tables_as kind file) (restricted wanted (map_of file))) g)
+is_kept_as : (kind : Kind) (file : List ℕ) (wanted : ℕ → Bool) → fault_of kind file ≡ None → (g : ℕ)
+    → Decides (is_kept (font_as kind file) wanted g)
+    (Reach (outline_of file) (is_root (tables_as kind file) (restricted wanted (map_of file))) g)
 is_kept_as Full file wanted accepted g =
-    subst (λ s. Decides (is_kept (font_of file) wanted g) (Reach (outline_of file) s g)) (sym (roots-font file wanted accepted)) (is_kept-file file wanted accepted g)
+    subst (λ s. Decides (is_kept (font_of file) wanted g) (Reach (outline_of file) s g))
+    (sym (roots-font file wanted accepted)) (is_kept-file file wanted accepted g)
 is_kept_as Lean file wanted accepted g =
-    subst (λ s. Decides (is_kept (font_of file) wanted g) (Reach (outline_of file) s g)) (sym (roots-font file wanted accepted)) (is_kept-file file wanted accepted g)
+    subst (λ s. Decides (is_kept (font_of file) wanted g) (Reach (outline_of file) s g))
+    (sym (roots-font file wanted accepted)) (is_kept-file file wanted accepted g)
 is_kept_as Layout file wanted accepted g = is_kept-layout file wanted accepted g
 
-pub kept_marked : (kind : Kind) (file : List ℕ) (wanted : ℕ → Bool) (roots marks : List Bool) → fault_of kind file ≡ None → IsRootSet kind file wanted roots → length marks ≡ glyph_count_of file
+pub kept_marked : (kind : Kind) (file : List ℕ) (wanted : ℕ → Bool) (roots marks : List Bool)
+    → fault_of kind file ≡ None → IsRootSet kind file wanted roots → length marks ≡ glyph_count_of file
     → ((g : ℕ) → has marks g ≡ true ↔ Reach (outline_of file) (has roots) g) → IsKeptSet kind file wanted marks
 kept_marked kind file wanted roots marks accepted is count reached =
     let same : has roots ≡ is_root (tables_as kind file) (restricted wanted (map_of file)) = fun_ext is.roots in
@@ -168,7 +203,8 @@ kept_marked kind file wanted roots marks accepted is count reached =
     }
 
 -- the map of an accepted file is a character map
-pub whole_map : (file : List ℕ) (count : ℕ) → font_fault file ≡ None → count ≡ glyph_count_of file → count < 65536 → IsCharacterMap (restricted everything (map_of file))
+pub whole_map : (file : List ℕ) (count : ℕ) → font_fault file ≡ None → count ≡ glyph_count_of file → count < 65536
+    → IsCharacterMap (restricted everything (map_of file))
 whole_map file count accepted is small =
     record {
       codes = λ c past. wanted_past file everything accepted c (subst (λ (n : ℕ). n ≤ c) (sym codes_are) past);

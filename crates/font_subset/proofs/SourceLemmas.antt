@@ -1,10 +1,12 @@
 -- What a font gives to its cuts.
-use Rattle.std.proofs.Common.{◌≡◌, ℕ, zero, suc, ◌+◌, ◌-◌, ◌<◌, ◌≤◌, Bool, true, false, cond, List, [], ◌∷◌, nat_le, nat_lt, length, slice_range, drop, Option, None, Some, refl, sym, ◌∙◌, ap, subst, arith, MatchOption}
+use Rattle.std.proofs.Common.{◌≡◌, ℕ, zero, suc, ◌+◌, ◌-◌, ◌<◌, ◌≤◌, Bool, true, false, List, [], ◌∷◌}
+use Rattle.std.proofs.Common.{nat_lt, length, slice_range, drop, Option, None, Some, refl, sym, ◌∙◌, ap, subst, arith}
+use Rattle.std.proofs.Common.{MatchOption}
 use Rattle.std.specs.Option.{option_map, unwrap_or, is_some, IsSome}
 use Rattle.std.proofs.lemmas.List.{length-drop, length-take}
-use Rattle.std.proofs.lemmas.Bool.{and_from, false_from_ne_true, le-leb, le-ltb, lt-ltb, or_right}
-use Rattle.sfnt_bytes.specs.Directory.{is_layout_slot, kept_tag, table_bytes, table_entry, table_of}
-use Rattle.sfnt_bytes.specs.declared.tag.TheConstants.{ALL_SLOTS, SLOTS}
+use Rattle.std.proofs.lemmas.Bool.{false_from_ne_true, le-ltb}
+use Rattle.sfnt_bytes.specs.Directory.{kept_tag, table_bytes, table_entry, table_of}
+use Rattle.sfnt_bytes.specs.declared.tag.TheConstants.{SLOTS}
 use Rattle.sfnt_bytes.specs.Lines.{when}
 use Rattle.sfnt_bytes.specs.declared.directory.TheConstants.{MAX_FILE}
 use Rattle.sfnt_bytes.specs.declared.records.Entry.{Entry}
@@ -17,20 +19,21 @@ use Rattle.font_theory.specs.Bytes.{padded}
 use Rattle.font_glyph.specs.Marks.{NoMark, has}
 use Rattle.font_write.specs.Parts.{IsNextKept}
 use Rattle.font_write.proofs.MeasureLemmas.{none_if}
-use Rattle.font_theory.specs.Content.{Content, IsFont, IsWritable, KeepsComponents, content, font_of, glyph_count, is_kept, is_made, is_never_copied, layout_font_of, table_read}
+use Rattle.font_theory.specs.Content.{Content, IsFont, IsWritable, KeepsComponents, content, font_of, glyph_count}
+use Rattle.font_theory.specs.Content.{is_kept}
 use Rattle.font_theory.specs.Kinds.{fault_of, font_as, tables_as}
 use Rattle.font_theory.specs.declared.kinds.Kind.{Kind}
 use Rattle.font_theory.specs.declared.kinds.Kind.TheVariants.{Full, Layout, Lean}
 use Rattle.font_theory.proofs.LayoutCutLemmas.{IsFont-layout, layout_count}
 use Rattle.font_theory.proofs.LayoutLeanLemmas.{copied-below}
-use Rattle.font_theory.proofs.LinkLemmas.{layout-made}
 use Rattle.codes.specs.declared.code_range.CodeRange.{CodeRange}
 use Rattle.font_theory.proofs.ContentLemmas.{IsClosed-content}
 use Rattle.font_theory.proofs.FileWantedLemmas.{outline-file}
 use Rattle.font_theory.proofs.HeldLemmas.{KeepsComponents-closed}
 use Rattle.font_theory.proofs.WritableLemmas.{IsWritable-closed}
-use Rattle.font_subset.specs.Content.{IsKeptSet, codes_wanted, layout_read, selected}
-use Rattle.font_theory.proofs.FontLemmas.{IsFont-accepted, are_sound, glyph_count-file, size-accepted, table_fault-accepted}
+use Rattle.font_subset.specs.KeptGlyphs.{IsKeptSet, codes_wanted, selected}
+use Rattle.font_theory.proofs.FontLemmas.{IsFont-accepted, are_sound, glyph_count-file, size-accepted}
+use Rattle.font_theory.proofs.FontLemmas.{table_fault-accepted}
 use Rattle.font_theory.proofs.CutHeadLemmas.{head-size}
 
 -- the kind of a cut, the file of its font, and the ranges of its codes
@@ -57,7 +60,8 @@ unfolding table_of
 table_short file tag = table_by file (table_entry file tag)
 
 -- a table of an accepted file is not too large
-pub table_small : (file : List ℕ) (tag : Tag) → font_fault file ≡ None → length (unwrap_or (table_of file tag) []) ≤ MAX_FILE
+pub table_small : (file : List ℕ) (tag : Tag) → font_fault file ≡ None → length (unwrap_or (table_of file tag) [])
+    ≤ MAX_FILE
 table_small file tag accepted = omega (arith, table_short file tag, size-accepted file accepted)
 
 pub head_small : (file : List ℕ) → font_fault file ≡ None → length (head_of file) ≤ MAX_FILE
@@ -68,12 +72,12 @@ head_small file accepted = table_small file head_tag accepted
 pub outline_small : (file : List ℕ) (g : ℕ) → font_fault file ≡ None → length (outline_of file g) ≤ MAX_FILE
 unfolding outline_of table_or_empty
 outline_small file g accepted =
-    omega (arith, slice_small (glyf_of file) (offset_at (loca_form_of file) (loca_of file) g) (offset_at (loca_form_of file) (loca_of file) (g + 1)), table_small file glyf_tag accepted)
-
-plain_past : (file : List ℕ) (slot : ℕ) → SLOTS ≤ slot → (font_of file).copied slot ≡ None
-plain_past file slot past =
-    let made : is_made slot ≡ true = or_right _ (nat_le SLOTS slot) (le-leb SLOTS slot past) in
-    ap (λ b. cond b None (table_of file (kept_tag slot))) made
+    omega (
+      arith,
+      slice_small (glyf_of file) (offset_at (loca_form_of file) (loca_of file) g)
+          (offset_at (loca_form_of file) (loca_of file) (g + 1)),
+      table_small file glyf_tag accepted,
+    )
 
 -- what an accepted file means to cuts of a kind is a font
 pub is_font : (kind : Kind) (file : List ℕ) → fault_of kind file ≡ None → IsFont (font_as kind file)
@@ -89,37 +93,21 @@ count_as Layout file = sym (layout_count file ∙ glyph_count-file file)
 
 -- a file of the content can be written, and it keeps what its own outlines are made of
 pub is_writable : (cut : Held) → fault_of cut.0 cut.1.0 ≡ None → IsWritable (selected cut)
-is_writable cut accepted = IsWritable-closed (selected cut) (IsClosed-content (font_as cut.0 cut.1.0) (codes_wanted cut.1.1) (is_font cut.0 cut.1.0 accepted))
+is_writable cut accepted =
+    IsWritable-closed (selected cut) (IsClosed-content (font_as cut.0 cut.1.0) (codes_wanted cut.1.1)
+    (is_font cut.0 cut.1.0 accepted))
 
 pub keeps_components : (cut : Held) → fault_of cut.0 cut.1.0 ≡ None → KeepsComponents (selected cut)
-keeps_components cut accepted = KeepsComponents-closed (selected cut) (IsClosed-content (font_as cut.0 cut.1.0) (codes_wanted cut.1.1) (is_font cut.0 cut.1.0 accepted))
+keeps_components cut accepted =
+    KeepsComponents-closed (selected cut) (IsClosed-content (font_as cut.0 cut.1.0) (codes_wanted cut.1.1)
+    (is_font cut.0 cut.1.0 accepted))
 
 -- the tables by slot
-pub copied_low : (kind : Kind) (file : List ℕ) (slot : ℕ) → slot < SLOTS → (font_of file).copied slot ≡ tables_as kind file slot
+pub copied_low : (kind : Kind) (file : List ℕ) (slot : ℕ) → slot < SLOTS
+    → (font_of file).copied slot ≡ tables_as kind file slot
 copied_low Full file slot low = refl
 copied_low Lean file slot low = refl
 copied_low Layout file slot low = sym (copied-below file slot low)
-
-pub copied_past : (kind : Kind) (file : List ℕ) (slot : ℕ) → ALL_SLOTS ≤ slot → tables_as kind file slot ≡ None
-copied_past Full file slot past = plain_past file slot (omega (arith, past))
-copied_past Lean file slot past = plain_past file slot (omega (arith, past))
-copied_past Layout file slot past =
-    let never : is_never_copied slot ≡ true = or_right _ (nat_le ALL_SLOTS slot) (le-leb ALL_SLOTS slot past) in
-    ap (λ b. cond b None (table_read file slot)) never
-
-pub slot_between : (slot : ℕ) → SLOTS ≤ slot → slot < ALL_SLOTS → is_layout_slot slot ≡ true
-slot_between slot from to = and_from (nat_le SLOTS slot) (nat_lt slot ALL_SLOTS) (le-leb SLOTS slot from) (lt-ltb slot ALL_SLOTS to)
-
--- where no table of layout is read there is none
-pub no_layout : (kind : Kind) (file : List ℕ) (slot : ℕ) → None ≡ layout_read kind file → is_layout_slot slot ≡ true → tables_as kind file slot ≡ None
-no_layout Full file slot none layout = ap (λ b. cond b None (table_of file (kept_tag slot))) (layout-made slot layout)
-no_layout Lean file slot none layout = ap (λ b. cond b None (table_of file (kept_tag slot))) (layout-made slot layout)
-no_layout Layout file slot none layout = cc
-
-pub layout_there : (kind : Kind) (file held : List ℕ) → Some held ≡ layout_read kind file → (slot : ℕ) → (layout_font_of held).copied slot ≡ tables_as kind file slot
-layout_there Full file held some slot = cc
-layout_there Lean file held some slot = cc
-layout_there Layout file held some slot = ap (λ (o : Option (List ℕ)). (layout_font_of (unwrap_or o [])).copied slot) some
 
 -- no mark stands past the marks
 has-past : (marks : List Bool) (g : ℕ) → has marks g ≡ true → g < length marks
@@ -136,47 +124,57 @@ is_some-when : (b : Bool) (x : List ℕ) → is_some (when b x) ≡ b
 is_some-when true x = refl
 is_some-when false x = refl
 
-module _ (kind : Kind) (file : List ℕ) (wanted : ℕ → Bool) (marks : List Bool) (kept : IsKeptSet kind file wanted marks) where
-  abbrev K : Content
-  K = content (font_as kind file) wanted
+module _ (kind : Kind) (file : List ℕ) (wanted : ℕ → Bool) (marks : List Bool) (kept : IsKeptSet kind file wanted marks)
+  where
+    abbrev K : Content
+    K = content (font_as kind file) wanted
 
-  pub kept_below : (g : ℕ) → IsSome (K.outline g) → g < glyph_count_of file
-  kept_below g some =
-      let marked = kept.kept g ∙ when-some (is_kept (font_as kind file) wanted g) (padded ((font_of file).outline g)) some in
-      omega (arith, has-past marks g marked, kept.count)
+    pub kept_below : (g : ℕ) → IsSome (K.outline g) → g < glyph_count_of file
+    kept_below g some =
+        let marked = kept.kept g ∙ when-some (is_kept (font_as kind file) wanted g) (padded ((font_of file).outline g))
+        some in
+        omega (arith, has-past marks g marked, kept.count)
 
-  pub kept_is : (g : ℕ) → has marks g ≡ is_some (K.outline g)
-  kept_is g = kept.kept g ∙ sym (is_some-when (is_kept (font_as kind file) wanted g) (padded ((font_of file).outline g)))
+    pub kept_is : (g : ℕ) → has marks g ≡ is_some (K.outline g)
+    kept_is g = kept.kept g
+        ∙ sym (is_some-when (is_kept (font_as kind file) wanted g) (padded ((font_of file).outline g)))
 
-  pub not_kept : (g : ℕ) → glyph_count_of file ≤ g → nat_lt g (glyph_count_of file) ≡ is_some (K.outline g)
-  not_kept g past =
-      let none : has marks g ≡ false = false_from_ne_true (has marks g) (λ h. let low = has-past marks g h in omega (arith, low, kept.count)) in
-      le-ltb g (glyph_count_of file) past ∙ sym none ∙ kept_is g
+    pub not_kept : (g : ℕ) → glyph_count_of file ≤ g → nat_lt g (glyph_count_of file) ≡ is_some (K.outline g)
+    not_kept g past =
+        let none : has marks g ≡ false = false_from_ne_true (has marks g) (λ h. let low = has-past marks g h in
+        omega (arith, low, kept.count)) in
+        le-ltb g (glyph_count_of file) past ∙ sym none ∙ kept_is g
 
-  pub kept_outline : (g : ℕ) → IsSome (K.outline g) → K.outline g ≡ Some (padded (outline_of file g))
-  kept_outline g some =
-      let is = when-some (is_kept (font_as kind file) wanted g) (padded ((font_of file).outline g)) some in
-      ap (λ b. when b (padded ((font_of file).outline g))) is ∙ ap (λ (b : List ℕ). Some (padded b)) (outline-file file g (kept_below g some))
+    pub kept_outline : (g : ℕ) → IsSome (K.outline g) → K.outline g ≡ Some (padded (outline_of file g))
+    kept_outline g some =
+        let is = when-some (is_kept (font_as kind file) wanted g) (padded ((font_of file).outline g)) some in
+        ap (λ b. when b (padded ((font_of file).outline g))) is
+        ∙ ap (λ (b : List ℕ). Some (padded b)) (outline-file file g (kept_below g some))
 
-  pub next_is : (from g : ℕ) → from ≤ g → g ≤ length marks → NoMark marks from g → (g < length marks → has marks g ≡ true) → IsNextKept K from g
-  next_is from g on within none here =
-      let count : length marks ≡ glyph_count (tables_as kind file) = kept.count ∙ count_as kind file in
-      record {
-        from_on = on;
-        within = omega (arith, within, count);
-        passed = λ h a b. none_if (K.outline h) (sym (kept_is h) ∙ none h a b);
-        kept = λ low. sym (kept_is g) ∙ here (omega (arith, low, count));
-      }
+    pub next_is : (from g : ℕ) → from ≤ g → g ≤ length marks → NoMark marks from g
+        → (g < length marks → has marks g ≡ true) → IsNextKept K from g
+    next_is from g on within none here =
+        let count : length marks ≡ glyph_count (tables_as kind file) = kept.count ∙ count_as kind file in
+        record {
+          from_on = on;
+          within = omega (arith, within, count);
+          passed = λ h a b. none_if (K.outline h) (sym (kept_is h) ∙ none h a b);
+          kept = λ low. sym (kept_is g) ∙ here (omega (arith, low, count));
+        }
 
 -- a table that was looked up is as small as the table
-pub looked_up : {X : Type 0} (bytes : X → List ℕ) (o : Option X) (t : Option (List ℕ)) (most : ℕ) → option_map bytes o ≡ t → length (unwrap_or t []) ≤ most → MatchOption o (Unit {0}) (λ x. length (bytes x) ≤ most)
+pub looked_up : {X : Type 0} (bytes : X → List ℕ) (o : Option X) (t : Option (List ℕ)) (most : ℕ)
+    → option_map bytes o ≡ t → length (unwrap_or t []) ≤ most → MatchOption o (Unit {0}) (λ x. length (bytes x) ≤ most)
 looked_up bytes None t most is small = tt
-looked_up bytes (Some x) t most is small = subst (λ (o : Option (List ℕ)). length (unwrap_or o []) ≤ most) (sym is) small
+looked_up bytes (Some x) t most is small = subst (λ (o : Option (List ℕ)). length (unwrap_or o []) ≤ most) (sym is)
+    small
 
 -- a table that was looked up, as a clause has it
-pub found_as : {X : Type 0} (bytes : X → List ℕ) (o : Option X) (t : Option (List ℕ)) → option_map bytes o ≡ t → MatchOption o (t ≡ None) (λ x. t ≡ Some (bytes x))
+pub found_as : {X : Type 0} (bytes : X → List ℕ) (o : Option X) (t : Option (List ℕ)) → option_map bytes o ≡ t
+    → MatchOption o (t ≡ None) (λ x. t ≡ Some (bytes x))
 found_as bytes None t is = sym is
 found_as bytes (Some x) t is = sym is
 
-pub found_at : {X : Type 0} (bytes : X → List ℕ) (o : Option X) (t u : Option (List ℕ)) → t ≡ u → MatchOption o (t ≡ None) (λ x. t ≡ Some (bytes x)) → MatchOption o (u ≡ None) (λ x. u ≡ Some (bytes x))
+pub found_at : {X : Type 0} (bytes : X → List ℕ) (o : Option X) (t u : Option (List ℕ)) → t ≡ u
+    → MatchOption o (t ≡ None) (λ x. t ≡ Some (bytes x)) → MatchOption o (u ≡ None) (λ x. u ≡ Some (bytes x))
 found_at bytes o t u same is = subst (λ v. MatchOption o (v ≡ None) (λ x. v ≡ Some (bytes x))) same is

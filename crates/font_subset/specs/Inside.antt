@@ -21,10 +21,11 @@ use Rattle.font_subset.specs.declared.cut_font.CutIntoError.{CutIntoError}
 use Rattle.font_subset.specs.declared.cut_font.CutIntoError.TheVariants as into_errors
 use Rattle.sfnt_bytes.specs.declared.directory.TheConstants.{MAX_FILE}
 use Rattle.sfnt_bytes.specs.declared.tag.TheConstants.{BASE, GDEF, GPOS, GSUB, KERN}
-use Rattle.std.specs.Prelude.{◌≡◌, ◌≢◌, ℕ, ◌+◌, ◌<◌, ◌≤◌, ◌⊎◌, ◌↔◌, nat_lt, ◌&&◌, Bool, true, List, [], length, slice_index, slice_index_or, Option, None, unwrap_or}
+use Rattle.std.specs.Prelude.{◌≡◌, ◌≢◌, ℕ, ◌+◌, ◌<◌, ◌≤◌, ◌⊎◌, ◌↔◌, nat_lt, ◌&&◌, Bool, true, List, [], length}
+use Rattle.std.specs.Prelude.{slice_index, slice_index_or, Option, None, unwrap_or}
 use Rattle.std.specs.Option.{option_or}
 use Rattle.codes.specs.declared.code_range.CodeRange.{CodeRange}
-use Rattle.font_subset.specs.Content.{IsKeptSet, layout_read, selected, written_of}
+use Rattle.font_subset.specs.KeptGlyphs.{IsKeptSet, layout_read, selected, written_of}
 
 -- the n glyphs from a given one on are marked, beside those that were
 pub record AreMarked (old new : List Bool) (low n : ℕ) : Type 0 where

@@ -1,9 +1,9 @@
-pub mod Content
-pub mod Cut
+pub mod KeptGlyphs
+pub mod CutOfFont
 pub mod Inside
-pub mod Kinds
-pub mod Layout
-pub mod Lean
+pub mod CutOfKind
+pub mod LayoutCutOfFont
+pub mod LeanCutOfFont
 pub mod ListedRuns
 pub mod OpenedFont
 pub mod Text

@@ -3,9 +3,9 @@
 ghost use Rattle.std.specs.Prelude.{◌≡◌, ◌≤◌, length, false, true, IfErr, IfOk, IsSome, MatchResult, OnOk};
 ghost use Rattle.sfnt_bytes.specs.declared.directory.TheConstants.{MAX_FILE};
 ghost use Rattle.codes.specs.Wanted.{member};
-ghost use Rattle.font_subset.specs.Cut.{IsCutRefusal, IsSound, IsWritten, StopsCut, cut_of};
+ghost use Rattle.font_subset.specs.CutOfFont.{IsCutRefusal, IsSound, IsWritten, StopsCut, cut_of};
 ghost use Rattle.font_subset.specs.Inside.{of_file_error, of_send_error};
-ghost use Rattle.font_subset.specs.Kinds.{IsSoundIn, cut_in};
+ghost use Rattle.font_subset.specs.CutOfKind.{IsSoundIn, cut_in};
 ghost use Rattle.streams.specs.Outlet.{HasSent, WentOut, broken_of, fresh_of, writer_of};
 ghost use Rattle.font_subset.specs.declared.cut_font.CutError.TheVariants.{NoMemory as CutNoMemory};
 ghost use Rattle.font_subset.specs.declared.cut_font.CutIntoError.TheVariants.{NoMemory as IntoNoMemory};
@@ -229,7 +229,8 @@ pub fn cut_of_kind_into<W: Write, A: Allocator + Copy>(
     ensures stops { IfErr result
         (StopsCut W.contents out.old out.new (cut_in font.now.0 font.now.1 (member wanted.now))) }
     ensures sound { OnOk result
-        (IsSoundIn font.now.0 font.now.1 (member wanted.now) (cut_in font.now.0 font.now.1 (member wanted.now))) }
+        (IsSoundIn font.now.0 font.now.1 (member wanted.now)
+        (cut_in font.now.0 font.now.1 (member wanted.now))) }
 {
     let _kind = font.kind();
     cut_into_exactly(alloc, font, wanted, out)

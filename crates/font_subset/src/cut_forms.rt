@@ -8,8 +8,8 @@ ghost use Rattle.font_file.specs.Font.{map_of};
 ghost use Rattle.font_theory.specs.Cut.{IsCurrent, Under, Writes, is_current, our_format};
 ghost use Rattle.font_theory.specs.Content.{Content, content};
 ghost use Rattle.font_theory.specs.Kinds.{format_of, spelled_by};
-ghost use Rattle.font_subset.specs.Cut.{IsCutForSome, IsFormOf, cut_form_of};
-ghost use Rattle.font_subset.specs.Kinds.{IsCutIn, form_as};
+ghost use Rattle.font_subset.specs.CutOfFont.{IsCutForSome, IsFormOf, cut_form_of};
+ghost use Rattle.font_subset.specs.CutOfKind.{IsCutIn, form_as};
 
 use crate::accepted::recall_accepted;
 use crate::font_of_kind::FontOfKind;

@@ -63,7 +63,7 @@ impl<'f, 'a, A: Allocator + Copy> CutOf<'f, 'a, A> {
 
 impl<'f, 'a, A: Allocator> Source for CutOf<'f, 'a, A> {
     ghost use Rattle.font_theory.specs.Content.{content, font_of};
-    ghost use Rattle.font_subset.specs.Content.{codes_wanted};
+    ghost use Rattle.font_subset.specs.KeptGlyphs.{codes_wanted};
 
     ghost content_of = { λ c. content (font_of c.0) (codes_wanted c.1) };
 

@@ -5,7 +5,7 @@ ghost use Rattle.sfnt_bytes.specs.declared.directory.TheConstants.{MAX_FILE};
 ghost use Rattle.font_theory.specs.Kinds.{fault_of, tables_as};
 ghost use Rattle.font_theory.specs.declared.kinds.Kind.TheVariants.{Full, Lean};
 ghost use Rattle.font_file.specs.Font.{font_fault};
-ghost use Rattle.font_subset.specs.Content.{layout_read};
+ghost use Rattle.font_subset.specs.KeptGlyphs.{layout_read};
 ghost use Rattle.font_subset.specs.OpenedFont.{IsOpenRefusal};
 
 use crate::accepted::{copied, recall_accepted};
@@ -31,13 +31,14 @@ impl<'f, 'a, A: Allocator> Model for FontOfKind<'f, 'a, A> {
     ghost use Rattle.std.specs.Prelude.{◌≡◌, None, ℕ, List};
     ghost use Rattle.font_theory.specs.Kinds.{fault_of};
     ghost use Rattle.font_theory.specs.declared.kinds.Kind.{Kind};
-    ghost use Rattle.font_subset.specs.Content.{layout_read};
+    ghost use Rattle.font_subset.specs.KeptGlyphs.{layout_read};
 
     ghost Value = { Kind × List ℕ };
 
     ghost view = { λ f. (f.kind, f.font.now) };
 
-    ghost invariant = { λ f. (fault_of f.kind f.font.now ≡ None) × (f.layout ≡ layout_read f.kind f.font.now) };
+    ghost invariant = { λ f. (fault_of f.kind f.font.now ≡ None)
+        × (f.layout ≡ layout_read f.kind f.font.now) };
 }
 
 impl<'f, 'a, A: Allocator> FontOfKind<'f, 'a, A> {

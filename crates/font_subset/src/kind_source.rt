@@ -8,10 +8,10 @@ ghost use Rattle.font_tables.specs.Fields.{number_of_h_metrics};
 ghost use Rattle.font_tables.specs.Refusals.{is_bad_hhea, is_bad_hmtx};
 ghost use Rattle.font_theory.specs.Content.{glyph_count};
 ghost use Rattle.font_theory.specs.declared.kinds.Kind.TheVariants.{Full};
-ghost use Rattle.font_theory.specs.Lean.{blank, cleared, pairs_in, thin_post};
+ghost use Rattle.font_theory.specs.LeanCut.{blank, cleared, pairs_in, thin_post};
 ghost use Rattle.sfnt_bytes.specs.declared.tag.TheConstants.{POST};
-ghost use Rattle.font_subset.specs.Content.{selected, written_of};
-ghost use Rattle.font_subset.specs.Kinds.{form_as};
+ghost use Rattle.font_subset.specs.KeptGlyphs.{selected, written_of};
+ghost use Rattle.font_subset.specs.CutOfKind.{form_as};
 
 use crate::font_of_kind::FontOfKind;
 use crate::forms::{CutForm, form_of_file};
@@ -268,7 +268,7 @@ impl<'f, 'a, A: Allocator> CutOfKind<'f, 'a, A> {
 }
 
 impl<'f, 'a, A: Allocator> Source for CutOfKind<'f, 'a, A> {
-    ghost use Rattle.font_subset.specs.Content.{written_of};
+    ghost use Rattle.font_subset.specs.KeptGlyphs.{written_of};
 
     ghost content_of = { written_of };
 

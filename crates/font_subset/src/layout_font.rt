@@ -10,7 +10,7 @@ ghost use Rattle.font_theory.specs.Content.{layout_font_of};
 ghost use Rattle.font_theory.specs.LayoutCut.{layout_fault};
 ghost use Rattle.font_theory.specs.Links.{fixed, is_bad_layout};
 ghost use Rattle.font_theory.specs.declared.kinds.Kind.TheVariants.{Layout as LayoutKind};
-ghost use Rattle.font_subset.specs.Content.{IsRootSet};
+ghost use Rattle.font_subset.specs.KeptGlyphs.{IsRootSet};
 ghost use Rattle.font_subset.specs.Inside.{AreLinksOf, IsSeedSet};
 ghost use Rattle.font_subset.specs.OpenedFont.{IsLayoutRefusal};
 ghost use Rattle.font_subset.specs.declared.layout_font.OpenError.TheVariants.{NoMemory as OpenNoMemory};

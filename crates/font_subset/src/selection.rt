@@ -17,7 +17,7 @@ ghost use Rattle.font_theory.specs.Cut.{IsCut};
 ghost use Rattle.font_theory.specs.Kinds.{fault_of, font_as, format_of, tables_as};
 ghost use Rattle.font_theory.specs.declared.kinds.Kind.{Kind};
 ghost use Rattle.font_theory.specs.declared.kinds.Kind.TheVariants.{Full};
-ghost use Rattle.font_subset.specs.Content.{IsKeptSet, IsRootSet, codes_wanted, layout_read, wanted_map};
+ghost use Rattle.font_subset.specs.KeptGlyphs.{IsKeptSet, IsRootSet, codes_wanted, layout_read, wanted_map};
 ghost use Rattle.font_subset.specs.Inside.{AreMarked, IsSeedSet};
 ghost use Rattle.font_subset.specs.ListedRuns.{AreRunsOf};
 
@@ -272,7 +272,7 @@ impl<'f, 'a, A: Allocator> Model for Selection<'f, 'a, A> {
     ghost use Rattle.std.specs.Prelude.{ℕ, List, Option, option_copied};
     ghost use Rattle.codes.specs.declared.code_range.CodeRange.{CodeRange};
     ghost use Rattle.font_theory.specs.declared.kinds.Kind.{Kind};
-    ghost use Rattle.font_subset.specs.Content.{codes_wanted};
+    ghost use Rattle.font_subset.specs.KeptGlyphs.{codes_wanted};
     ghost use Rattle.font_subset.specs.Inside.{IsSelected};
 
     ghost Value = { Kind × (List ℕ × Option (List CodeRange)) };
@@ -384,7 +384,7 @@ impl<'f, 'a, A: Allocator> Selection<'f, 'a, A> {
 }
 
 impl<'f, 'a, A: Allocator> Source for Selection<'f, 'a, A> {
-    ghost use Rattle.font_subset.specs.Content.{selected};
+    ghost use Rattle.font_subset.specs.KeptGlyphs.{selected};
 
     ghost content_of = { selected };
 

@@ -1,7 +1,8 @@
 -- The slots of the required tables are those of their tags.
 use Rattle.std.proofs.Common.{◌≡◌, [], ◌∷◌, map, refl}
 use Rattle.sfnt_bytes.specs.Directory.{kept_tag}
-use Rattle.font_tables.specs.Tables.{cmap_tag, glyf_tag, head_tag, hhea_tag, hmtx_tag, loca_tag, maxp_tag, required_tags}
+use Rattle.font_tables.specs.Tables.{cmap_tag, glyf_tag, head_tag, hhea_tag, hmtx_tag, loca_tag, maxp_tag}
+use Rattle.font_tables.specs.Tables.{required_tags}
 
 pub record AreSlots : Type 0 where
   pub cmap : kept_tag 1 ≡ cmap_tag
@@ -18,4 +19,12 @@ are_slots = record { cmap = refl; glyf = refl; head = refl; hhea = refl; hmtx = 
 
 pub required_slots : map kept_tag (1 ∷ 5 ∷ 6 ∷ 7 ∷ 8 ∷ 9 ∷ 10 ∷ []) ≡ required_tags
 unfolding required_tags
-required_slots = rw (are_slots.cmap, are_slots.glyf, are_slots.head, are_slots.hhea, are_slots.hmtx, are_slots.loca, are_slots.maxp) refl
+required_slots = rw (
+  are_slots.cmap,
+  are_slots.glyf,
+  are_slots.head,
+  are_slots.hhea,
+  are_slots.hmtx,
+  are_slots.loca,
+  are_slots.maxp,
+) refl

@@ -1,5 +1,6 @@
 -- What is known of a file whose tables are not refused.
-use Rattle.std.proofs.Common.{◌≡◌, ℕ, ◌+◌, ◌-◌, ◌*◌, ◌<◌, ◌≤◌, false, eqb, List, length, get_or, None, sym, ap, ◌∙◌, arith}
+use Rattle.std.proofs.Common.{◌≡◌, ℕ, ◌+◌, ◌-◌, ◌*◌, ◌<◌, ◌≤◌, false, eqb, List, length, get_or, None, sym, ap, ◌∙◌}
+use Rattle.std.proofs.Common.{arith}
 use Rattle.std.specs.List.{range_with_len}
 use Rattle.std.proofs.lemmas.Bool.{eqb-false, ltb-false, or_parts}
 use Rattle.std.proofs.lemmas.List.FromFn.{get_or-range_with_len, length-range_with_len}
@@ -25,7 +26,8 @@ not_zero n h = let e = eqb-false n 0 h in omega arith
 pub is_measured : (file : List ℕ) → table_fault file ≡ None → IsMeasured file
 unfolding table_fault glyph_count_of metric_count_of
 is_measured file no_fault =
-    let line : (k : ℕ) → get_or (table_lines file) k None ≡ None = λ k. first_of_lines-none_at (table_lines file) k no_fault in
+    let line : (k : ℕ) → get_or (table_lines file) k None ≡ None =
+    λ k. first_of_lines-none_at (table_lines file) k no_fault in
     let maxp = or_parts _ _ (when-none _ BadMaxp (line 2)) in
     let hhea = or_parts _ _ (when-none _ BadHhea (line 3)) in
     let pairs = or_parts _ _ hhea.0 in
@@ -37,7 +39,8 @@ is_measured file no_fault =
     }
 
 -- no offset is bad
-pub offset_is_good : (file : List ℕ) (j : ℕ) → table_fault file ≡ None → j ≤ glyph_count_of file → IsGoodOffset (loca_form_of file) (loca_of file) (length (glyf_of file)) j
+pub offset_is_good : (file : List ℕ) (j : ℕ) → table_fault file ≡ None → j ≤ glyph_count_of file
+    → IsGoodOffset (loca_form_of file) (loca_of file) (length (glyf_of file)) j
 unfolding table_fault
 offset_is_good file j no_fault low =
     let last = first_of_lines-none_at (table_lines file) 5 no_fault in
@@ -45,10 +48,12 @@ offset_is_good file j no_fault low =
     let long : j < length range = omega (arith, length-range_with_len 0 (glyph_count_of file + 1)) in
     let at : get_or range j 0 ≡ 0 + j = get_or-range_with_len 0 (glyph_count_of file + 1) j 0 (omega arith) in
     let here : get_or range j 0 ≡ j = omega arith in
-    is_good_offset _ _ _ j (ap (is_bad_loca_at file) (sym here) ∙ find-none_at (is_bad_loca_at file) range j 0 (option_map-none BadLoca _ last) long)
+    is_good_offset _ _ _ j (ap (is_bad_loca_at file) (sym here)
+    ∙ find-none_at (is_bad_loca_at file) range j 0 (option_map-none BadLoca _ last) long)
 
 -- what a look-up of a metric needs
-pub has_metric : (file hmtx : List ℕ) (h g : ℕ) → table_fault file ≡ None → hmtx ≡ hmtx_of file → h ≡ metric_count_of file → g < glyph_count_of file → HasMetric hmtx h g
+pub has_metric : (file hmtx : List ℕ) (h g : ℕ) → table_fault file ≡ None → hmtx ≡ hmtx_of file
+    → h ≡ metric_count_of file → g < glyph_count_of file → HasMetric hmtx h g
 has_metric file hmtx h g no_fault hmtx_is h_is low =
     let known = is_measured file no_fault in
     let some = known.pairs in let few = known.few in let room = known.room in
@@ -56,7 +61,8 @@ has_metric file hmtx h g no_fault hmtx_is h_is low =
     record { some = omega arith; pairs = omega arith; bearings = λ past. omega arith }
 
 -- what a look-up of an outline needs
-pub has_outline : (file loca glyf : List ℕ) (form : LocaForm) (g : ℕ) → table_fault file ≡ None → loca ≡ loca_of file → glyf ≡ glyf_of file → form ≡ loca_form_of file → g < glyph_count_of file → HasOutline form loca glyf g
+pub has_outline : (file loca glyf : List ℕ) (form : LocaForm) (g : ℕ) → table_fault file ≡ None → loca ≡ loca_of file
+    → glyf ≡ glyf_of file → form ≡ loca_form_of file → g < glyph_count_of file → HasOutline form loca glyf g
 has_outline file loca glyf form g no_fault loca_is glyf_is form_is low =
     rw (loca_is, glyf_is, form_is)
     (let start = offset_is_good file g no_fault (omega arith) in

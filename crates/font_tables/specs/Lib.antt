@@ -1,7 +1,7 @@
 pub mod Fields
 pub mod Inside
 pub mod Metrics
-pub mod Opened
+pub mod OpenedTables
 pub mod Outlines
 pub mod Refusals
 pub mod Tables

@@ -1,16 +1,19 @@
 -- Why the tables of a font are refused, this project's own: lines in their order, each with its condition.
-use Rattle.std.specs.Prelude.{ℕ, ◌+◌, ◌-◌, ◌*◌, nat_lt, nat_eq, not, Bool, ◌&&◌, ◌||◌, List, [], ◌∷◌, length, find, Option, is_none}
+use Rattle.std.specs.Prelude.{ℕ, ◌+◌, ◌-◌, ◌*◌, nat_lt, nat_eq, not, Bool, ◌&&◌, ◌||◌, List, [], ◌∷◌, length, find}
+use Rattle.std.specs.Prelude.{Option, is_none}
 use Rattle.std.specs.List.{range_with_len}
 use Rattle.std.specs.Option.{option_map}
 use Rattle.sfnt_bytes.specs.Directory.{table_of}
 use Rattle.sfnt_bytes.specs.Lines.{when, first_of_lines}
 use Rattle.sfnt_bytes.specs.declared.tag.Tag.{Tag}
-use Rattle.font_tables.specs.Fields.{glyph_count_of, index_to_loc_format, loca_form_of, magic_number, maxp_version, metric_count_of, num_glyphs, number_of_h_metrics}
+use Rattle.font_tables.specs.Fields.{glyph_count_of, index_to_loc_format, loca_form_of, magic_number, maxp_version}
+use Rattle.font_tables.specs.Fields.{metric_count_of, num_glyphs, number_of_h_metrics}
 use Rattle.font_tables.specs.Outlines.{offset_at, offset_size}
 use Rattle.font_tables.specs.Tables.{glyf_of, head_of, hhea_of, hmtx_of, loca_of, maxp_of, required_tags}
 use Rattle.font_tables.specs.declared.loca.LocaForm.{LocaForm}
 use Rattle.font_tables.specs.declared.tables.TableError.{TableError}
-use Rattle.font_tables.specs.declared.tables.TableError.TheVariants.{MissingTable, BadHead, BadMaxp, BadHhea, BadHmtx, BadLoca}
+use Rattle.font_tables.specs.declared.tables.TableError.TheVariants.{MissingTable, BadHead, BadMaxp, BadHhea, BadHmtx}
+use Rattle.font_tables.specs.declared.tables.TableError.TheVariants.{BadLoca}
 
 -- no record carries the tag
 unfoldable pub is_missing : List ℕ → Tag → Bool

@@ -2,7 +2,8 @@
 use Rattle.std.specs.Prelude.{ℕ, List, ◌++◌, codes, decimal}
 use Rattle.sfnt_bytes.specs.Text.{tag_text}
 use Rattle.font_tables.specs.declared.tables.TableError.{TableError}
-use Rattle.font_tables.specs.declared.tables.TableError.TheVariants.{MissingTable, BadHead, BadMaxp, BadHhea, BadHmtx, BadLoca}
+use Rattle.font_tables.specs.declared.tables.TableError.TheVariants.{MissingTable, BadHead, BadMaxp, BadHhea, BadHmtx}
+use Rattle.font_tables.specs.declared.tables.TableError.TheVariants.{BadLoca}
 
 -- the text of a refusal of tables
 abbrev pub error_text : TableError → List ℕ

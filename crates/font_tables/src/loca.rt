@@ -1,7 +1,7 @@
 //! The offsets of glyphs. OpenType 1.9, `loca` and `glyf`.
 ghost use Rattle.std.specs.Prelude.{◌≡◌, ◌+◌, ◌*◌, ◌<◌, ◌≤◌, find, length};
 ghost use Rattle.std.specs.List.{range_with_len};
-ghost use Rattle.font_tables.specs.Opened.{falls};
+ghost use Rattle.font_tables.specs.OpenedTables.{falls};
 ghost use Rattle.font_tables.specs.Inside.{HasOutline};
 ghost use Rattle.font_tables.specs.Outlines.{offset_at, offset_size, outline_in};
 ghost use Rattle.font_tables.specs.Refusals.{is_bad_offset};

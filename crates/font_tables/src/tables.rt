@@ -94,7 +94,7 @@ pub struct Tables<'a> {
 
 impl<'a> Model for Tables<'a> {
     ghost use Rattle.std.specs.Prelude.{ℕ, List};
-    ghost use Rattle.font_tables.specs.Opened.{IsOpened};
+    ghost use Rattle.font_tables.specs.OpenedTables.{IsOpened};
 
     ghost Value = { List ℕ };
 

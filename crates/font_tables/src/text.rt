@@ -3,6 +3,7 @@ ghost use Rattle.std.specs.Prelude.{◌≡◌, Some};
 ghost use Rattle.font_tables.specs.Text.{error_number, error_text};
 
 use crate::tables::TableError;
+use sfnt_bytes::numbers;
 use std::error::Error;
 use std::fmt;
 
@@ -29,12 +30,12 @@ impl TableError {
         ensures { result ≡ error_number self.now }
     {
         match self {
-            TableError::MissingTable(_) => 7,
-            TableError::BadHead => 8,
-            TableError::BadMaxp => 9,
-            TableError::BadHhea => 10,
-            TableError::BadHmtx => 11,
-            TableError::BadLoca(_) => 12,
+            TableError::MissingTable(_) => numbers::MISSING_TABLE,
+            TableError::BadHead => numbers::BAD_HEAD,
+            TableError::BadMaxp => numbers::BAD_MAXP,
+            TableError::BadHhea => numbers::BAD_HHEA,
+            TableError::BadHmtx => numbers::BAD_HMTX,
+            TableError::BadLoca(_) => numbers::BAD_LOCA,
         }
     }
 }

@@ -1,5 +1,7 @@
 -- Cuts and joins of files, and the order of files.
-use Rattle.std.proofs.Common.{◌≡◌, ◌≢◌, ℕ, ◌≤◌, Bool, true, false, cond, nat_eq, nat_lt, ◌&&◌, ◌||◌, ◌⊎◌, inl, inr, List, length, refl, sym, ◌∙◌, ap, subst, arith, is_none, unwrap_or, [], Option, Some, None}
+use Rattle.std.proofs.Common.{◌≡◌, ◌≢◌, ℕ, ◌≤◌, Bool, true, false, cond, nat_eq, nat_lt, ◌&&◌, ◌||◌, ◌⊎◌, inl, inr}
+use Rattle.std.proofs.Common.{List, length, refl, sym, ◌∙◌, ap, subst, arith, is_none, unwrap_or, [], Option, Some}
+use Rattle.std.proofs.Common.{None}
 use Rattle.std.proofs.Math.Path.{fun_ext}
 use Rattle.std.specs.Str.{bytes_eq}
 use Rattle.std.proofs.lemmas.Bool.{and_from, and_parts, lt-ltb, ltb-true, or_cases, or_left, or_right}
@@ -10,12 +12,14 @@ use Rattle.sfnt_bytes.specs.Lines.{when}
 use Rattle.font_theory.specs.Bytes.{padded}
 use Rattle.codes.proofs.MapLemmas.{same_cond}
 use Rattle.font_theory.specs.Content.{Content, IsClosedContent, content, everything, is_kept, read_back}
-use Rattle.font_theory.specs.Cut.{Arises, CanJoin, Format, IsCurrent, IsCut, IsFormat, IsOld, Under, Writes, codes_of, cut, either, is_current, is_cut, is_old, joined, old_cut, renewed, content_of_all}
+use Rattle.font_theory.specs.Cut.{Arises, CanJoin, Format, IsCurrent, IsCut, IsFormat, IsOld, Under, Writes, codes_of}
+use Rattle.font_theory.specs.Cut.{cut, either, is_current, is_cut, is_old, joined, old_cut, renewed, content_of_all}
 use Rattle.font_theory.specs.Cut.Arises.{of_file, of_two}
-use Rattle.font_theory.specs.Join.{Agree, both}
+use Rattle.font_theory.specs.Agreement.{Agree, both}
 use Rattle.font_theory.proofs.ArisesLemmas.{IsClosed-arises}
 use Rattle.font_theory.proofs.ContentLemmas.{IsClosed-content, content-mapped, content-read_back}
-use Rattle.font_theory.proofs.JoinLemmas.{Agree-content, Agree-self, both-content, both-self, content-left, content-right}
+use Rattle.font_theory.proofs.JoinLemmas.{Agree-content, Agree-self, both-content, both-self, content-left}
+use Rattle.font_theory.proofs.JoinLemmas.{content-right}
 
 mapped_either : (x y : ℕ) → nat_lt 0 (cond (nat_eq x 0) y x) ≡ (nat_lt 0 x || nat_lt 0 y)
 mapped_either x y = grind (arith, nat_tests)
@@ -81,8 +85,10 @@ module _ (R : Format) (law : IsFormat R) where
   codes_of-accepted X h = ap (λ o c. is_none o && is_mapped (R.font X).map c) h
 
   -- a file that is written of a content that arises is in cut form, and has that content
-  pub content_of_all-written : (K : Content) (X : List ℕ) → Arises R K → Writes R K X → length X ≤ R.limit → content_of_all R X ≡ K
-  content_of_all-written K X ok w small = ap (λ F. content F everything) (law.reads_back K X ok w small).1 ∙ (IsClosed-arises R law.is_font K ok).closed
+  pub content_of_all-written : (K : Content) (X : List ℕ) → Arises R K → Writes R K X → length X ≤ R.limit
+      → content_of_all R X ≡ K
+  content_of_all-written K X ok w small = ap (λ F. content F everything) (law.reads_back K X ok w small).1
+      ∙ (IsClosed-arises R law.is_font K ok).closed
 
   pub IsCut-written : (K : Content) (X : List ℕ) → Arises R K → Writes R K X → length X ≤ R.limit → IsCut R X
   IsCut-written K X ok w small = record {
@@ -103,12 +109,16 @@ module _ (R : Format) (law : IsFormat R) where
   }
 
   pub font-whole : (X : List ℕ) → IsCut R X → R.font X ≡ read_back (content_of_all R X)
-  font-whole X ok = (law.reads_back (content_of_all R X) X (of_file X everything ok.accepted refl) ok.written (law.accepted_size X ok.accepted)).1
+  font-whole X ok =
+      (law.reads_back (content_of_all R X) X (of_file X everything ok.accepted refl) ok.written
+      (law.accepted_size X ok.accepted)).1
 
   -- what is kept of a file in cut form stands in it as it is written: with its zeros
-  pub outline-whole : (X : List ℕ) → IsCut R X → (g : ℕ) → is_kept (R.font X) everything g ≡ true → (content_of_all R X).outline g ≡ Some ((R.font X).outline g)
+  pub outline-whole : (X : List ℕ) → IsCut R X → (g : ℕ) → is_kept (R.font X) everything g ≡ true
+      → (content_of_all R X).outline g ≡ Some ((R.font X).outline g)
   outline-whole X ok g kept =
-      let e : (content_of_all R X).outline g ≡ Some (padded ((R.font X).outline g)) = ap (λ b. when b (padded ((R.font X).outline g))) kept in
+      let e : (content_of_all R X).outline g ≡ Some (padded ((R.font X).outline g)) =
+      ap (λ b. when b (padded ((R.font X).outline g))) kept in
       e ∙ ap Some (sym (ap (λ F. F.outline g) (font-whole X ok) ∙ ap (λ o. unwrap_or o []) e))
 
   pub IsClosed-whole : (X : List ℕ) → R.fault X ≡ None → IsClosedContent (content_of_all R X)
@@ -128,12 +138,15 @@ module _ (R : Format) (law : IsFormat R) where
   pub is_cut-of : (X : List ℕ) → IsCut R X → is_cut R X ≡ true
   unfolding is_cut
   is_cut-of X ok = elim ok.written [
-    | inl e ↦ or_left (bytes_eq (R.file (content_of_all R X)) X) _ ((bytes_eq-Decides (R.file (content_of_all R X)) X).1 e)
-    | inr e ↦ or_right (bytes_eq (R.file (content_of_all R X)) X) _ ((bytes_eq-Decides (R.old (content_of_all R X)) X).1 e)
+    | inl e ↦ or_left (bytes_eq (R.file (content_of_all R X)) X) _ ((bytes_eq-Decides (R.file (content_of_all R X)) X).1
+        e)
+    | inr e ↦ or_right (bytes_eq (R.file (content_of_all R X)) X) _ ((bytes_eq-Decides (R.old (content_of_all R X)) X).1
+        e)
   ]
 
   -- what holds of a file X that is a cut of an accepted font for A
-  module _ (F : List ℕ) (h : R.fault F ≡ None) (A : ℕ → Bool) (X : List ℕ) (w : Writes R (content (R.font F) A) X) (small : length X ≤ R.limit) where
+  module _ (F : List ℕ) (h : R.fault F ≡ None) (A : ℕ → Bool) (X : List ℕ) (w : Writes R (content (R.font F) A) X)
+      (small : length X ≤ R.limit) where
     arises : Arises R (content (R.font F) A)
     arises = of_file F A h refl
 
@@ -153,28 +166,34 @@ module _ (R : Format) (law : IsFormat R) where
     cut-cut B = ap R.file (content-cut B)
 
   -- and as it is written it is current
-  pub IsCurrent-cut : (F : List ℕ) → R.fault F ≡ None → (A : ℕ → Bool) (X : List ℕ) → X ≡ cut R F A → length X ≤ R.limit → IsCurrent R X
+  pub IsCurrent-cut : (F : List ℕ) → R.fault F ≡ None → (A : ℕ → Bool) (X : List ℕ) → X ≡ cut R F A → length X ≤ R.limit
+      → IsCurrent R X
   IsCurrent-cut F h A X is small = IsCurrent-written (content (R.font F) A) X (of_file F A h refl) (sym is) small
 
   -- as it was written before it is an old one, of the same content
-  pub IsOld-cut : (F : List ℕ) → R.fault F ≡ None → (A : ℕ → Bool) (X : List ℕ) → X ≡ old_cut R F A → length X ≤ R.limit → IsOld R X
+  pub IsOld-cut : (F : List ℕ) → R.fault F ≡ None → (A : ℕ → Bool) (X : List ℕ) → X ≡ old_cut R F A → length X ≤ R.limit
+      → IsOld R X
   IsOld-cut F h A X is small = IsOld-written (content (R.font F) A) X (of_file F A h refl) (sym is) small
 
-  pub content_of_all-old_cut : (F : List ℕ) → R.fault F ≡ None → (A : ℕ → Bool) → length (old_cut R F A) ≤ R.limit → content_of_all R (old_cut R F A) ≡ content (R.font F) A
+  pub content_of_all-old_cut : (F : List ℕ) → R.fault F ≡ None → (A : ℕ → Bool) → length (old_cut R F A) ≤ R.limit
+      → content_of_all R (old_cut R F A) ≡ content (R.font F) A
   content_of_all-old_cut F h A small = content_of_all-cut F h A (old_cut R F A) (inr refl) small
 
   -- joining two cuts of a font, in any forms
   module _ (F : List ℕ) (h : R.fault F ≡ None) (A B : ℕ → Bool) (X Y : List ℕ)
-      (wX : Writes R (content (R.font F) A) X) (wY : Writes R (content (R.font F) B) Y) (sX : length X ≤ R.limit) (sY : length Y ≤ R.limit) where
+      (wX : Writes R (content (R.font F) A) X) (wY : Writes R (content (R.font F) B) Y) (sX : length X ≤ R.limit)
+      (sY : length Y ≤ R.limit) where
     pub CanJoin-cuts : CanJoin R X Y
     CanJoin-cuts = record {
       first = IsCut-cut F h A X wX sX;
       second = IsCut-cut F h B Y wY sY;
-      agree = rw (content_of_all-cut F h A X wX sX, content_of_all-cut F h B Y wY sY) (Agree-content (R.font F) A B (law.is_font F h));
+      agree = rw (content_of_all-cut F h A X wX sX, content_of_all-cut F h B Y wY sY)
+          (Agree-content (R.font F) A B (law.is_font F h));
     }
 
     pub joined-cuts : joined R X Y ≡ cut R F (either A B)
-    joined-cuts = ap R.file (both_is (content_of_all-cut F h A X wX sX) (content_of_all-cut F h B Y wY sY) ∙ both-content (R.font F) A B (law.is_font F h))
+    joined-cuts = ap R.file (both_is (content_of_all-cut F h A X wX sX) (content_of_all-cut F h B Y wY sY)
+        ∙ both-content (R.font F) A B (law.is_font F h))
 
   -- a join is above both files
   module _ (X Y : List ℕ) (can : CanJoin R X Y) (small : length (joined R X Y) ≤ R.limit) where
@@ -185,9 +204,11 @@ module _ (R : Format) (law : IsFormat R) where
     okY = IsClosed-whole Y can.second.accepted
 
     arU : Arises R (both (content_of_all R X) (content_of_all R Y))
-    arU = of_two _ _ (of_file X everything can.first.accepted refl) (of_file Y everything can.second.accepted refl) can.agree refl
+    arU = of_two _ _ (of_file X everything can.first.accepted refl) (of_file Y everything can.second.accepted refl)
+        can.agree refl
 
-    back : (R.fault (joined R X Y) ≡ None) × (R.font (joined R X Y) ≡ read_back (both (content_of_all R X) (content_of_all R Y)))
+    back : (R.fault (joined R X Y) ≡ None)
+        × (R.font (joined R X Y) ≡ read_back (both (content_of_all R X) (content_of_all R Y)))
     back = law.reads_back _ _ arU (inl refl) small
 
     pub IsCurrent-joined : IsCurrent R (joined R X Y)
@@ -203,7 +224,8 @@ module _ (R : Format) (law : IsFormat R) where
     Under-joined_left = record {
       accepted = back.0;
       written = subst (λ K. Writes R K X)
-          (sym ((λ i. content (back.1 i) (codes_of-accepted X can.first.accepted i)) ∙ content-left _ _ okX okY can.agree))
+          (sym ((λ i. content (back.1 i) (codes_of-accepted X can.first.accepted i))
+          ∙ content-left _ _ okX okY can.agree))
           can.first.written;
     }
 
@@ -211,7 +233,8 @@ module _ (R : Format) (law : IsFormat R) where
     Under-joined_right = record {
       accepted = back.0;
       written = subst (λ K. Writes R K Y)
-          (sym ((λ i. content (back.1 i) (codes_of-accepted Y can.second.accepted i)) ∙ content-right _ _ okX okY can.agree))
+          (sym ((λ i. content (back.1 i) (codes_of-accepted Y can.second.accepted i))
+          ∙ content-right _ _ okX okY can.agree))
           can.second.written;
     }
 
@@ -223,11 +246,14 @@ module _ (R : Format) (law : IsFormat R) where
     pub content_of_all-under : content_of_all R X ≡ content (R.font F) (codes_of R X)
     content_of_all-under = content_of_all-cut F u.accepted (codes_of R X) X u.written small
 
-  pub Agree-under : (X Y F : List ℕ) → Under R X F → Under R Y F → length X ≤ R.limit → length Y ≤ R.limit → Agree (content_of_all R X) (content_of_all R Y)
+  pub Agree-under : (X Y F : List ℕ) → Under R X F → Under R Y F → length X ≤ R.limit → length Y ≤ R.limit
+      → Agree (content_of_all R X) (content_of_all R Y)
   Agree-under X Y F u v sx sy =
-      rw (content_of_all-under X F u sx, content_of_all-under Y F v sy) (Agree-content (R.font F) _ _ (law.is_font F u.accepted))
+      rw (content_of_all-under X F u sx, content_of_all-under Y F v sy)
+      (Agree-content (R.font F) _ _ (law.is_font F u.accepted))
 
-  pub CanJoin-under : (X Y F : List ℕ) → Under R X F → Under R Y F → length X ≤ R.limit → length Y ≤ R.limit → CanJoin R X Y
+  pub CanJoin-under : (X Y F : List ℕ) → Under R X F → Under R Y F → length X ≤ R.limit → length Y ≤ R.limit
+      → CanJoin R X Y
   CanJoin-under X Y F u v sx sy = record {
     first = IsCut-under X F u sx;
     second = IsCut-under Y F v sy;
@@ -235,8 +261,10 @@ module _ (R : Format) (law : IsFormat R) where
   }
 
   -- and below each file that is above both
-  pub Under-least : (X Y F : List ℕ) → CanJoin R X Y → length (joined R X Y) ≤ R.limit → Under R X F → Under R Y F → Under R (joined R X Y) F
-  Under-least X Y F can small u v = record { accepted = u.accepted; written = subst (λ K. Writes R K (joined R X Y)) same (inl refl) }
+  pub Under-least : (X Y F : List ℕ) → CanJoin R X Y → length (joined R X Y) ≤ R.limit → Under R X F → Under R Y F
+      → Under R (joined R X Y) F
+  Under-least X Y F can small u v =
+      record { accepted = u.accepted; written = subst (λ K. Writes R K (joined R X Y)) same (inl refl) }
     where
       sx : length X ≤ R.limit
       sx = law.accepted_size X can.first.accepted
@@ -245,7 +273,8 @@ module _ (R : Format) (law : IsFormat R) where
       sy = law.accepted_size Y can.second.accepted
 
       union : both (content_of_all R X) (content_of_all R Y) ≡ content (R.font F) (either (codes_of R X) (codes_of R Y))
-      union = both_is (content_of_all-under X F u sx) (content_of_all-under Y F v sy) ∙ both-content (R.font F) _ _ (law.is_font F u.accepted)
+      union = both_is (content_of_all-under X F u sx) (content_of_all-under Y F v sy)
+          ∙ both-content (R.font F) _ _ (law.is_font F u.accepted)
 
       codes_joined : (c : ℕ) → codes_of R (joined R X Y) c ≡ (codes_of R X c || codes_of R Y c)
       codes_joined c =
@@ -268,7 +297,8 @@ module _ (R : Format) (law : IsFormat R) where
   codes_of-under X F u c h =
       let w = codes_of-tells X c h in
       let sx = law.accepted_size X w.0 in
-      let m : (R.font X).map c ≡ restricted (codes_of R X) (R.font F).map c = ap (λ K. K.map c) (content_of_all-under X F u sx) in
+      let m : (R.font X).map c ≡ restricted (codes_of R X) (R.font F).map c =
+      ap (λ K. K.map c) (content_of_all-under X F u sx) in
       codes_of-some F c u.accepted (λ e. w.1 (m ∙ ap (λ g. cond (codes_of R X c) g 0) e ∙ same_cond (codes_of R X c) 0))
 
   -- the order is reflexive on files in cut form, and transitive
@@ -276,7 +306,8 @@ module _ (R : Format) (law : IsFormat R) where
   Under-self X ok = record {
     accepted = ok.accepted;
     written = subst (λ K. Writes R K X)
-        (sym (content-mapped (R.font X) (codes_of R X) everything (law.is_font X ok.accepted) (λ c n. codes_of-some X c ok.accepted n))) ok.written;
+        (sym (content-mapped (R.font X) (codes_of R X) everything (law.is_font X ok.accepted)
+        (λ c n. codes_of-some X c ok.accepted n))) ok.written;
   }
 
   pub Under-through : (X Y Z : List ℕ) → Under R X Y → Under R Y Z → Under R X Z
@@ -297,10 +328,12 @@ module _ (R : Format) (law : IsFormat R) where
   -- files under each other have one content
   pub content_of_all-mutual : (X Z : List ℕ) → Under R X Z → Under R Z X → content_of_all R X ≡ content_of_all R Z
   content_of_all-mutual X Z u v =
-      let same : codes_of R X ≡ codes_of R Z = fun_ext (λ c. go (codes_of R X c) (codes_of R Z c) (codes_of-under X Z u c) (codes_of-under Z X v c)) in
+      let same : codes_of R X ≡ codes_of R Z =
+      fun_ext (λ c. go (codes_of R X c) (codes_of R Z c) (codes_of-under X Z u c) (codes_of-under Z X v c)) in
       content_of_all-under X Z u (law.accepted_size X v.accepted)
       ∙ ap (content (R.font Z)) same
-      ∙ content-mapped (R.font Z) (codes_of R Z) everything (law.is_font Z u.accepted) (λ c n. codes_of-some Z c u.accepted n)
+      ∙ content-mapped (R.font Z) (codes_of R Z) everything (law.is_font Z u.accepted)
+      (λ c n. codes_of-some Z c u.accepted n)
     where
       go : (a b : Bool) → (a ≡ true → b ≡ true) → (b ≡ true → a ≡ true) → a ≡ b
       go true true h k = refl

@@ -1,9 +1,11 @@
 -- The first difference of two contents.
-use Rattle.std.proofs.Common.{◌≡◌, ℕ, ◌<◌, ◌≤◌, Bool, true, false, cond, not, nat_eq, nat_lt, ◌&&◌, ◌⊎◌, inl, inr, List, [], ◌∷◌, find, get_or, refl, sym, ◌∙◌, ap, subst, arith, Option, Some, None}
+use Rattle.std.proofs.Common.{◌≡◌, ℕ, ◌<◌, ◌≤◌, Bool, true, false, cond, not, nat_eq, nat_lt, ◌&&◌, ◌⊎◌, inl, inr, List}
+use Rattle.std.proofs.Common.{[], ◌∷◌, find, get_or, refl, sym, ◌∙◌, ap, subst, arith, Option, Some, None}
 use Rattle.std.specs.List.{range_with_len}
 use Rattle.std.specs.Option.{option_eq, option_map}
 use Rattle.std.specs.Str.{bytes_eq}
-use Rattle.std.proofs.lemmas.Bool.{cases_eq, cases_lt, eqb-true, eq-eqb, le-leb, lt-ltb, ltb-true, ne_eqb, not-false, or_right}
+use Rattle.std.proofs.lemmas.Bool.{cases_eq, cases_lt, eqb-true, eq-eqb, le-leb, lt-ltb, ltb-true, ne_eqb, not-false}
+use Rattle.std.proofs.lemmas.Bool.{or_right}
 use Rattle.std.proofs.lemmas.Slice.Eq.{bytes_eq-Decides}
 use Rattle.sfnt_bytes.specs.Directory.{slot_at}
 use Rattle.sfnt_bytes.specs.Lines.{first_of_lines}
@@ -11,9 +13,11 @@ use Rattle.sfnt_bytes.specs.declared.tag.TheConstants.{ALL_SLOTS}
 use Rattle.sfnt_bytes.proofs.LineLemmas.{option_map-none}
 use Rattle.sfnt_bytes.proofs.PlaceLemmas.{slot_at_low}
 use Rattle.codes.proofs.OrderLemmas.{find_none}
-use Rattle.font_theory.specs.Content.{CODES, Content, IsClosedContent, everything, glyph_count, is_never_copied, read_back}
-use Rattle.font_theory.specs.Difference.{are_different, difference, first_slot, is_different_code, is_different_glyph, is_different_table}
-use Rattle.font_theory.specs.Join.{Agree}
+use Rattle.font_theory.specs.Content.{CODES, Content, IsClosedContent, everything, glyph_count, is_never_copied}
+use Rattle.font_theory.specs.Content.{read_back}
+use Rattle.font_theory.specs.Difference.{are_different, difference, first_slot, is_different_code, is_different_glyph}
+use Rattle.font_theory.specs.Difference.{is_different_table}
+use Rattle.font_theory.specs.Agreement.{Agree}
 use Rattle.font_theory.specs.declared.Difference.{Difference}
 use Rattle.font_theory.specs.declared.Difference.TheVariants.{AtCode, AtGlyph, AtTable}
 use Rattle.font_theory.proofs.HeldLemmas.{cases_option, some-held}
@@ -58,14 +62,18 @@ some_from f (Some x) y h = let e : f x ≡ y = cc in (x, (refl, e))
 pub first_slot-low : (p : ℕ → Bool) (slot : ℕ) → first_slot p ≡ Some slot → slot < ALL_SLOTS
 first_slot-low p slot h =
     let place = some_from slot_at (find (λ k. p (slot_at k)) (range_with_len 0 ALL_SLOTS)) slot h in
-    subst (λ (s : ℕ). s < ALL_SLOTS) place.1.1 (slot_at_low place.0 (find-least (λ k. p (slot_at k)) ALL_SLOTS place.0 place.1.0).below)
+    subst (λ (s : ℕ). s < ALL_SLOTS) place.1.1
+    (slot_at_low place.0 (find-least (λ k. p (slot_at k)) ALL_SLOTS place.0 place.1.0).below)
 
 pub first_slot-none : (p : ℕ → Bool) (slot : ℕ) → first_slot p ≡ None → slot < ALL_SLOTS → p slot ≡ false
 first_slot-none p slot h low =
-    subst (λ (s : ℕ). p s ≡ false) (slot_at-place_of slot low) (find-none (λ k. p (slot_at k)) ALL_SLOTS (place_of slot) (option_map-none slot_at _ h) (place_of-low slot low))
+    subst (λ (s : ℕ). p s ≡ false) (slot_at-place_of slot low) (find-none (λ k. p (slot_at k)) ALL_SLOTS (place_of slot)
+    (option_map-none slot_at _ h) (place_of-low slot low))
 
 pub no_slot : (p : ℕ → Bool) → ((slot : ℕ) → p slot ≡ false) → first_slot p ≡ None
-no_slot p fails = ap (option_map slot_at) (find_none (λ k. p (slot_at k)) 0 (range_with_len 0 ALL_SLOTS) (λ k low. fails (slot_at (get_or (range_with_len 0 ALL_SLOTS) k 0))))
+no_slot p fails =
+    ap (option_map slot_at) (find_none (λ k. p (slot_at k)) 0 (range_with_len 0 ALL_SLOTS)
+    (λ k low. fails (slot_at (get_or (range_with_len 0 ALL_SLOTS) k 0))))
 
 -- a table that tells two contents apart is one of those that there are
 pub difference-table : (K L : Content) (slot : ℕ) → difference K L ≡ Some (AtTable slot) → slot < ALL_SLOTS
@@ -77,7 +85,8 @@ same_head : (K L : Content) → is_different_table K L 6 ≡ false → K.head �
 unfolding is_different_table
 same_head K L h = (bytes_eq-Decides K.head L.head).0 (not-false _ h)
 
-same_table : (K L : Content) (slot : ℕ) → (slot ≡ 6 → ⊥) → is_different_table K L slot ≡ false → K.copied slot ≡ L.copied slot
+same_table : (K L : Content) (slot : ℕ) → (slot ≡ 6 → ⊥) → is_different_table K L slot ≡ false
+    → K.copied slot ≡ L.copied slot
 unfolding is_different_table
 same_table K L slot other h =
     let f = ne_eqb slot 6 other in
@@ -92,31 +101,37 @@ same_code K L c h some also =
     let d : not (nat_eq (K.map c) (L.map c)) ≡ false = rw (t, u) at h in
     eqb-true _ _ (not-false _ d)
 
-same_glyph : (K L : Content) (g : ℕ) (a b : List ℕ) → is_different_glyph K L g ≡ false → K.outline g ≡ Some a → L.outline g ≡ Some b → a ≡ b
+same_glyph : (K L : Content) (g : ℕ) (a b : List ℕ) → is_different_glyph K L g ≡ false → K.outline g ≡ Some a
+    → L.outline g ≡ Some b → a ≡ b
 unfolding is_different_glyph
 same_glyph K L g a b h ea eb =
     let d : not (bytes_eq a b) ≡ false = (λ i. are_different (sym ea i) (sym eb i)) ∙ h in
     (bytes_eq-Decides a b).0 (not-false _ d)
 
 -- where there is none to find
-table_same : (K L : Content) (slot : ℕ) → K.head ≡ L.head → K.copied slot ≡ L.copied slot → is_different_table K L slot ≡ false
+table_same : (K L : Content) (slot : ℕ) → K.head ≡ L.head → K.copied slot ≡ L.copied slot
+    → is_different_table K L slot ≡ false
 unfolding is_different_table
 table_same K L slot head copied =
-    elim (nat_eq slot 6) as (λ b. cond b (not (bytes_eq K.head L.head)) (not (option_eq bytes_eq (K.copied slot) (L.copied slot))) ≡ false) [
+    elim (nat_eq slot 6) as (λ b. cond b (not (bytes_eq K.head L.head))
+    (not (option_eq bytes_eq (K.copied slot) (L.copied slot))) ≡ false) [
       | true ↦ ap not ((bytes_eq-Decides K.head L.head).1 head)
-      | false ↦ ap not (subst (λ x. option_eq bytes_eq (K.copied slot) x ≡ true) copied (option_eq-self (K.copied slot)))
+      | false ↦ ap not (subst (λ x. option_eq bytes_eq (K.copied slot) x ≡ true) copied
+          (option_eq-self (K.copied slot)))
     ]
 
 code_same : (K L : Content) (c : ℕ) → (0 < K.map c → 0 < L.map c → K.map c ≡ L.map c) → is_different_code K L c ≡ false
 unfolding is_different_code
 code_same K L c h = go (nat_lt 0 (K.map c)) (nat_lt 0 (L.map c)) refl refl
   where
-    go : (a b : Bool) → nat_lt 0 (K.map c) ≡ a → nat_lt 0 (L.map c) ≡ b → (a && (b && not (nat_eq (K.map c) (L.map c)))) ≡ false
+    go : (a b : Bool) → nat_lt 0 (K.map c) ≡ a → nat_lt 0 (L.map c) ≡ b → (a && (b && not (nat_eq (K.map c) (L.map c))))
+        ≡ false
     go false b x y = refl
     go true false x y = refl
     go true true x y = ap not (eq-eqb _ _ (h (ltb-true 0 (K.map c) x) (ltb-true 0 (L.map c) y)))
 
-glyph_same : (K L : Content) (g : ℕ) → ((a b : List ℕ) → K.outline g ≡ Some a → L.outline g ≡ Some b → a ≡ b) → is_different_glyph K L g ≡ false
+glyph_same : (K L : Content) (g : ℕ) → ((a b : List ℕ) → K.outline g ≡ Some a → L.outline g ≡ Some b → a ≡ b)
+    → is_different_glyph K L g ≡ false
 unfolding is_different_glyph
 glyph_same K L g h = go (K.outline g) (L.outline g) refl refl
   where
@@ -137,7 +152,8 @@ module _ (K L : Content) (okK : IsClosedContent K) (okL : IsClosedContent L) whe
   pub Agree-from_none : difference K L ≡ None → Agree K L
   unfolding difference
   Agree-from_none h =
-      let w : (first_slot (is_different_table K L) ≡ None) × (find (is_different_code K L) (range_with_len 0 CODES) ≡ None)
+      let w : (first_slot (is_different_table K L) ≡ None)
+      × (find (is_different_code K L) (range_with_len 0 CODES) ≡ None)
       × (find (is_different_glyph K L) (range_with_len 0 (glyph_count K.copied)) ≡ None) = line_of-none _ _ _ h in
       record {
         head = same_head K L (first_slot-none (is_different_table K L) 6 w.0 (omega arith));
@@ -153,7 +169,8 @@ module _ (K L : Content) (okK : IsClosedContent K) (okL : IsClosedContent L) whe
           | inr past ↦ let none = okK.font.mapped_codes c past in absurd (omega (arith, none, some))
         ];
         outline = λ g a b ea eb.
-            let low : g < glyph_count K.copied = IsKept-below (read_back K) everything okK.font g (some-held K okK g a ea) in
+            let low : g < glyph_count K.copied =
+            IsKept-below (read_back K) everything okK.font g (some-held K okK g a ea) in
             same_glyph K L g a b (find-none (is_different_glyph K L) (glyph_count K.copied) g w.2 low) ea eb;
       }
 
@@ -161,7 +178,8 @@ module _ (K L : Content) (okK : IsClosedContent K) (okL : IsClosedContent L) whe
   unfolding difference
   none_from-Agree agree =
       let t = no_slot (is_different_table K L) (λ slot. table_same K L slot agree.head (agree.copied slot)) in
-      let c = find_none (is_different_code K L) 0 (range_with_len 0 CODES) (λ k low. let x = get_or (range_with_len 0 CODES) k 0 in code_same K L x (agree.map x)) in
+      let c = find_none (is_different_code K L) 0 (range_with_len 0 CODES)
+      (λ k low. let x = get_or (range_with_len 0 CODES) k 0 in code_same K L x (agree.map x)) in
       let g = find_none (is_different_glyph K L) 0 (range_with_len 0 (glyph_count K.copied))
       (λ k low. let x = get_or (range_with_len 0 (glyph_count K.copied)) k 0 in glyph_same K L x (agree.outline x)) in
       λ i. line_of (t i) (c i) (g i)

@@ -22,17 +22,24 @@ use Rattle.font_theory.proofs.WantedLemmas.{component-below, is_kept-decides, se
 pub outline-file : (file : List ℕ) (g : ℕ) → g < glyph_count_of file → (font_of file).outline g ≡ outline_of file g
 outline-file file g low = ap (λ b. cond b (outline_of file g) []) (lt-ltb g (glyph_count_of file) low)
 
-module _ (file : List ℕ) (accepted : font_fault file ≡ None) (seeds : ℕ → Bool) (below : (g : ℕ) → seeds g ≡ true → g < glyph_count_of file) where
-  component-accepted : (s g : ℕ) → s < glyph_count_of file → IsComponentOf (outline_of file s) g → g < glyph_count_of file
-  component-accepted s g low = component-below (glyph_count_of file) (outline_of file s) g (is_record-accepted file s accepted low)
+module _ (file : List ℕ) (accepted : font_fault file ≡ None) (seeds : ℕ → Bool) (below : (g : ℕ) → seeds g ≡ true
+    → g < glyph_count_of file) where
+  component-accepted : (s g : ℕ) → s < glyph_count_of file → IsComponentOf (outline_of file s) g
+      → g < glyph_count_of file
+  component-accepted s g low =
+      component-below (glyph_count_of file) (outline_of file s) g (is_record-accepted file s accepted low)
 
-  pub Reach-font : (g : ℕ) → Reach (outline_of file) seeds g → Reach (font_of file).outline seeds g × (g < glyph_count_of file)
+  pub Reach-font : (g : ℕ) → Reach (outline_of file) seeds g → Reach (font_of file).outline seeds g
+      × (g < glyph_count_of file)
   Reach-font g (seed h) = (seed h, below g h)
   Reach-font g (part {s = s} r c) =
-      let w = Reach-font s r in
-      (part w.0 (subst (λ (b : List ℕ). IsComponentOf b g) (sym (outline-file file s w.1)) c), component-accepted s g w.1 c)
+      let w = Reach-font s r in (
+        part w.0 (subst (λ (b : List ℕ). IsComponentOf b g) (sym (outline-file file s w.1)) c),
+        component-accepted s g w.1 c,
+      )
 
-  pub Reach-file : (g : ℕ) → Reach (font_of file).outline seeds g → Reach (outline_of file) seeds g × (g < glyph_count_of file)
+  pub Reach-file : (g : ℕ) → Reach (font_of file).outline seeds g → Reach (outline_of file) seeds g
+      × (g < glyph_count_of file)
   Reach-file g (seed h) = (seed h, below g h)
   Reach-file g (part {s = s} r c) =
       let w = Reach-file s r in
@@ -40,8 +47,10 @@ module _ (file : List ℕ) (accepted : font_fault file ≡ None) (seeds : ℕ �
       (part w.0 c', component-accepted s g w.1 c')
 
 -- a plain reader sees no links
-pub roots-font : (file : List ℕ) (wanted : ℕ → Bool) → font_fault file ≡ None → is_root (font_of file).copied (restricted wanted (map_of file)) ≡ is_seed (restricted wanted (map_of file))
-roots-font file wanted accepted = is_root-alone (font_of file).copied (restricted wanted (map_of file)) (links_in-none (font_of file).copied refl) (seeds-below (font_of file) wanted (IsFont-accepted file accepted))
+pub roots-font : (file : List ℕ) (wanted : ℕ → Bool) → font_fault file ≡ None
+    → is_root (font_of file).copied (restricted wanted (map_of file)) ≡ is_seed (restricted wanted (map_of file))
+roots-font file wanted accepted = is_root-alone (font_of file).copied (restricted wanted (map_of file))
+    (links_in-none (font_of file).copied refl) (seeds-below (font_of file) wanted (IsFont-accepted file accepted))
 
 -- what is kept of an accepted file is what its outlines lead to
 pub is_kept-file : (file : List ℕ) (wanted : ℕ → Bool) → font_fault file ≡ None → (g : ℕ)
@@ -52,21 +61,25 @@ is_kept-file file wanted accepted g =
     λ h s. subst (λ (n : ℕ). h < n) (glyph_count-file file) (seeds-below (font_of file) wanted ok h s) in
     let P : (ℕ → Bool) → Type 0 = λ s. Reach (font_of file).outline s g in
     let same = roots-font file wanted accepted in
-    Decides-like _ (λ r. (Reach-file file accepted _ below g (subst P same r)).0) (λ r. subst P (sym same) (Reach-font file accepted _ below g r).0) (is_kept-decides (font_of file) wanted ok g)
+    Decides-like _ (λ r. (Reach-file file accepted _ below g (subst P same r)).0)
+    (λ r. subst P (sym same) (Reach-font file accepted _ below g r).0) (is_kept-decides (font_of file) wanted ok g)
 
 -- a file of which a content of an accepted one is read back
-module _ (file other : List ℕ) (wanted : ℕ → Bool) (accepted : font_fault file ≡ None) (same : font_of other ≡ read_back (content (font_of file) wanted)) where
+module _ (file other : List ℕ) (wanted : ℕ → Bool) (accepted : font_fault file ≡ None) (same : font_of other
+    ≡ read_back (content (font_of file) wanted)) where
   pub glyph_count_of-same : glyph_count_of other ≡ glyph_count_of file
   glyph_count_of-same = sym (glyph_count-file other) ∙ ap (λ F. glyph_count F.copied) same ∙ glyph_count-file file
 
   pub map_of-wanted : (c : ℕ) → wanted c ≡ true → map_of other c ≡ map_of file c
   map_of-wanted c h = ap (λ F. F.map c) same ∙ wanted-map (font_of file) wanted c h
 
-  pub outline_of-wanted : (c : ℕ) → wanted c ≡ true → (g : ℕ) → Reach (outline_of file) (nat_eq (map_of file c)) g → outline_of other g ≡ padded (outline_of file g)
+  pub outline_of-wanted : (c : ℕ) → wanted c ≡ true → (g : ℕ) → Reach (outline_of file) (nat_eq (map_of file c)) g
+      → outline_of other g ≡ padded (outline_of file g)
   outline_of-wanted c h g r =
       let ok = IsFont-accepted file accepted in
       let below : (x : ℕ) → nat_eq (map_of file c) x ≡ true → x < glyph_count_of file =
-      λ x e. subst (λ (y : ℕ). y < glyph_count_of file) (eqb-true (map_of file c) x e) (subst (λ (n : ℕ). map_of file c < n) (glyph_count-file file) (ok.mapped_below c)) in
+      λ x e. subst (λ (y : ℕ). y < glyph_count_of file) (eqb-true (map_of file c) x e)
+      (subst (λ (n : ℕ). map_of file c < n) (glyph_count-file file) (ok.mapped_below c)) in
       let w = Reach-font file accepted _ below g r in
       sym (outline-file other g (subst (λ (n : ℕ). g < n) (sym glyph_count_of-same) w.1))
       ∙ ap (λ F. F.outline g) same

@@ -1,7 +1,9 @@
 -- What an accepted file means is a font.
-use Rattle.std.proofs.Common.{◌≡◌, ◌≢◌, ℕ, ◌<◌, ◌≤◌, true, false, nat_le, nat_lt, inl, inr, List, [], length, get_or, refl, sym, ◌∙◌, ap, subst, arith, unwrap_or, Option, Some, None}
+use Rattle.std.proofs.Common.{◌≡◌, ◌≢◌, ℕ, ◌<◌, ◌≤◌, true, false, nat_le, nat_lt, inl, inr, List, [], length, get_or}
+use Rattle.std.proofs.Common.{refl, sym, ◌∙◌, ap, subst, arith, unwrap_or, Option, Some, None}
 use Rattle.std.specs.Option.{option_map, option_map_or, option_or}
-use Rattle.std.proofs.lemmas.Bool.{cases_Bool, cases_lt, le-leb, le-ltb, leb-true, lt-ltb, ltb-false, or_cases, or_left, or_right}
+use Rattle.std.proofs.lemmas.Bool.{cases_Bool, cases_lt, le-leb, le-ltb, leb-true, lt-ltb, ltb-false, or_cases, or_left}
+use Rattle.std.proofs.lemmas.Bool.{or_right}
 use Rattle.sfnt_bytes.specs.Directory.{table_of}
 use Rattle.sfnt_bytes.specs.Refusals.{directory_fault}
 use Rattle.sfnt_bytes.specs.declared.directory.DirError.TheVariants.{FileTooLarge}
@@ -24,12 +26,14 @@ use Rattle.font_file.specs.Font.{cmap_of, font_fault, map_of}
 use Rattle.font_file.specs.declared.font_error.FontError.{FontError}
 use Rattle.font_file.specs.declared.font_error.FontError.TheVariants.{Directory, Tables}
 use Rattle.font_file.proofs.FontLemmas.{directory_fault-accepted, font_fault_is, is_record-accepted}
-use Rattle.font_theory.specs.Content.{CODES, IsFont, IsPlain, font_of, glyph_count, is_made, is_never_copied, metric_count, table_in_slot}
+use Rattle.font_theory.specs.Content.{CODES, IsFont, IsPlain, font_of, glyph_count, is_made, is_never_copied}
+use Rattle.font_theory.specs.Content.{metric_count, table_in_slot}
 use Rattle.font_theory.proofs.LinkLemmas.{AreFixed-plain, is_bad_layout_in-none}
 use Rattle.font_theory.proofs.CutHeadLemmas.{cut_head-cut_head, head-size, is_bad_head-cut_head}
 use Rattle.font_theory.proofs.PaddedLemmas.{IsRecord-nil}
 
-no_tables : (directory tables rest : Option FontError) → option_or directory (option_or tables rest) ≡ None → tables ≡ None
+no_tables : (directory tables rest : Option FontError) → option_or directory (option_or tables rest) ≡ None
+    → tables ≡ None
 no_tables None None rest h = refl
 no_tables None (Some error) rest h = cc
 no_tables (Some error) tables rest h = cc
@@ -37,7 +41,8 @@ no_tables (Some error) tables rest h = cc
 -- the tables of an accepted file are not refused
 pub table_fault-accepted : (file : List ℕ) → font_fault file ≡ None → table_fault file ≡ None
 table_fault-accepted file accepted =
-    none (table_fault file) (no_tables (option_map Directory (directory_fault file)) (option_map Tables (table_fault file)) _ (sym (font_fault_is file) ∙ accepted))
+    none (table_fault file) (no_tables (option_map Directory (directory_fault file))
+    (option_map Tables (table_fault file)) _ (sym (font_fault_is file) ∙ accepted))
   where
     none : (o : Option TableError) → option_map Tables o ≡ None → o ≡ None
     none None h = refl
@@ -65,12 +70,15 @@ unfolding metric_count metric_count_of
 metric_count-file file = ap number_of_h_metrics (hhea-slot file)
 
 -- files with the same copied tables have the same metrics
-pub metric_of-same : (file other : List ℕ) → (font_of other).copied ≡ (font_of file).copied → (g : ℕ) → metric_of other g ≡ metric_of file g
+pub metric_of-same : (file other : List ℕ) → (font_of other).copied ≡ (font_of file).copied → (g : ℕ)
+    → metric_of other g ≡ metric_of file g
 unfolding metric_of
 metric_of-same file other same g =
-    let table : table_in_slot (font_of other).copied 8 ≡ table_in_slot (font_of file).copied 8 = ap (λ copied. table_in_slot copied 8) same in
+    let table : table_in_slot (font_of other).copied 8 ≡ table_in_slot (font_of file).copied 8 =
+    ap (λ copied. table_in_slot copied 8) same in
     let count : metric_count (font_of other).copied ≡ metric_count (font_of file).copied = ap metric_count same in
-    (λ i. metric_in ((sym (hmtx-slot other) ∙ table ∙ hmtx-slot file) i) ((sym (metric_count-file other) ∙ count ∙ metric_count-file file) i) g)
+    (λ i. metric_in ((sym (hmtx-slot other) ∙ table ∙ hmtx-slot file) i) ((sym (metric_count-file other) ∙ count
+    ∙ metric_count-file file) i) g)
 
 -- no table of an accepted file is bad
 pub record AreSound (file : List ℕ) : Type 0 where
@@ -82,15 +90,27 @@ pub record AreSound (file : List ℕ) : Type 0 where
 pub are_sound : (file : List ℕ) → table_fault file ≡ None → AreSound file
 unfolding table_fault
 are_sound file no_fault =
-    let line : (k : ℕ) → get_or (table_lines file) k None ≡ None = λ k. first_of_lines-none_at (table_lines file) k no_fault in
-    record { head = when-none _ BadHead (line 1); maxp = when-none _ BadMaxp (line 2); hhea = when-none _ BadHhea (line 3); hmtx = when-none _ BadHmtx (line 4) }
+    let line : (k : ℕ) → get_or (table_lines file) k None ≡ None =
+    λ k. first_of_lines-none_at (table_lines file) k no_fault in
+    record {
+      head = when-none _ BadHead (line 1);
+      maxp = when-none _ BadMaxp (line 2);
+      hhea = when-none _ BadHhea (line 3);
+      hmtx = when-none _ BadHmtx (line 4);
+    }
 
 map_of-below : (file : List ℕ) (c : ℕ) → 0 < glyph_count_of file → map_of file c < glyph_count_of file
-map_of-below file c some = elim (mapping_of-small (cmap_of file) (glyph_count_of file) c) [ inl none ↦ omega (arith, some, none) | inr low ↦ low ]
+map_of-below file c some = elim (mapping_of-small (cmap_of file) (glyph_count_of file) c) [
+  | inl none ↦
+      omega (arith, some, none)
+  | inr low ↦ low
+]
 
 map_of-past : (file : List ℕ) (c : ℕ) → CODES ≤ c → map_of file c ≡ 0
 unfolding mapping_of CODES
-map_of-past file c past = clipped_past (glyph_count_of file) (λ x. option_map_or (λ k. listed_glyph (subtable_at (cmap_of file) k) x) (chosen_record (cmap_of file)) 0) c past
+map_of-past file c past =
+    clipped_past (glyph_count_of file) (λ x. option_map_or (λ k. listed_glyph (subtable_at (cmap_of file) k) x)
+    (chosen_record (cmap_of file)) 0) c past
 
 -- what no cut copies, a plain one does not copy
 pub never-made : (slot : ℕ) → is_never_copied slot ≡ true → is_made slot ≡ true
@@ -133,9 +153,11 @@ too_large : (file : List ℕ) → nat_lt MAX_FILE (length file) ≡ true → fon
 unfolding font_fault
 too_large file h = rw h refl
 
-pub size-refused : (file : List ℕ) (error : FontError) → font_fault file ≡ Some error → error ≢ Directory FileTooLarge → length file ≤ MAX_FILE
+pub size-refused : (file : List ℕ) (error : FontError) → font_fault file ≡ Some error → error ≢ Directory FileTooLarge
+    → length file ≤ MAX_FILE
 size-refused file error refused other =
     elim (cases_Bool (nat_lt MAX_FILE (length file))) [
-      | inl large ↦ let e : Some (Directory FileTooLarge) ≡ Some error = sym (too_large file large) ∙ refused in let same : error ≡ Directory FileTooLarge = cc in absurd (other same)
+      | inl large ↦ let e : Some (Directory FileTooLarge) ≡ Some error = sym (too_large file large) ∙ refused in
+          let same : error ≡ Directory FileTooLarge = cc in absurd (other same)
       | inr small ↦ ltb-false _ _ small
     ]

@@ -1,13 +1,15 @@
 -- What a closed content keeps.
-use Rattle.std.proofs.Common.{◌≡◌, ℕ, ◌⊎◌, true, inl, inr, List, [], refl, sym, ◌∙◌, ap, subst, arith, unwrap_or, Option, Some, None}
+use Rattle.std.proofs.Common.{◌≡◌, ℕ, ◌⊎◌, true, inl, inr, List, [], refl, sym, ◌∙◌, ap, subst, arith, unwrap_or}
+use Rattle.std.proofs.Common.{Option, Some, None}
 use Rattle.std.specs.Option.{IsSome}
 use Rattle.std.proofs.lemmas.Bool.{cases_Bool}
 use Rattle.sfnt_bytes.specs.Lines.{when}
 use Rattle.font_glyph.specs.Reach.{IsComponentOf, Reach}
 use Rattle.font_glyph.specs.Reach.Reach.{seed, part}
-use Rattle.font_glyph.specs.Union.{HoldsComponents}
+use Rattle.font_glyph.specs.RecordMap.{HoldsComponents}
 use Rattle.font_theory.specs.Bytes.{padded}
-use Rattle.font_theory.specs.Content.{KeepsComponents, Content, IsClosedContent, everything, is_kept, is_root, read_back}
+use Rattle.font_theory.specs.Content.{KeepsComponents, Content, IsClosedContent, everything, is_kept, is_root}
+use Rattle.font_theory.specs.Content.{read_back}
 use Rattle.font_theory.proofs.RootLemmas.{is_root-seed}
 use Rattle.font_theory.proofs.PaddedLemmas.{IsRecord-nil}
 use Rattle.font_theory.proofs.WantedLemmas.{component-below, is_kept-decides, is_seed-code, is_seed-zero}
@@ -26,43 +28,53 @@ component-nil : (g : ℕ) → IsComponentOf [] g → ⊥
 component-nil g h = let low = component-below 0 [] g (IsRecord-nil 0) h in absurd (omega (arith, low))
 
 module _ (K : Content) (ok : IsClosedContent K) where
-  pub outline_is : (g : ℕ) → when (is_kept (read_back K) everything g) (padded (unwrap_or (K.outline g) [])) ≡ K.outline g
+  pub outline_is : (g : ℕ) → when (is_kept (read_back K) everything g) (padded (unwrap_or (K.outline g) []))
+      ≡ K.outline g
   outline_is g = ap (λ C. C.outline g) ok.closed
 
   pub held-some : (g : ℕ) → IsHeld K g → (b : List ℕ) × (K.outline g ≡ Some b)
   held-some g r =
-      let e = (is_kept-decides (read_back K) everything ok.font g).1 r in
-      (padded (unwrap_or (K.outline g) []), sym (outline_is g) ∙ ap (λ x. when x (padded (unwrap_or (K.outline g) []))) e)
+      let e = (is_kept-decides (read_back K) everything ok.font g).1 r in (
+        padded (unwrap_or (K.outline g) []),
+        sym (outline_is g) ∙ ap (λ x. when x (padded (unwrap_or (K.outline g) [])))
+            e,
+      )
 
   pub some-held : (g : ℕ) (b : List ℕ) → K.outline g ≡ Some b → IsHeld K g
   some-held g b e =
       elim (cases_Bool (is_kept (read_back K) everything g)) [
         | inl t ↦ (is_kept-decides (read_back K) everything ok.font g).0 t
         | inr f ↦
-            let n : None ≡ Some b = sym (ap (λ x. when x (padded (unwrap_or (K.outline g) []))) f) ∙ outline_is g ∙ e in cc
+            let n : None ≡ Some b = sym (ap (λ x. when x (padded (unwrap_or (K.outline g) []))) f) ∙ outline_is g ∙ e in
+            cc
       ]
 
   pub some-padded : (g : ℕ) (b : List ℕ) → K.outline g ≡ Some b → padded b ≡ b
   some-padded g b e =
       let t = (is_kept-decides (read_back K) everything ok.font g).1 (some-held g b e) in
       let n : Some (padded b) ≡ Some b =
-      sym (ap (λ o. Some (padded (unwrap_or o []))) e) ∙ sym (ap (λ x. when x (padded (unwrap_or (K.outline g) []))) t) ∙ outline_is g ∙ e in cc
+      sym (ap (λ o. Some (padded (unwrap_or o []))) e) ∙ sym (ap (λ x. when x (padded (unwrap_or (K.outline g) []))) t)
+      ∙ outline_is g ∙ e in cc
 
   some-is : (g : ℕ) → IsHeld K g → IsSome (K.outline g)
   some-is g r = let w = held-some g r in rw (w.1) refl
 
   -- .notdef, the glyph of each code, and each component of what it keeps
   pub zero-kept : IsSome (K.outline 0)
-  zero-kept = let low = ok.font.mapped_below 0 in some-is 0 (seed (is_root-seed K.copied K.map 0 (omega arith) (is_seed-zero K.map)))
+  zero-kept = let low = ok.font.mapped_below 0 in
+      some-is 0 (seed (is_root-seed K.copied K.map 0 (omega arith) (is_seed-zero K.map)))
 
   pub code-kept : (c : ℕ) → IsSome (K.outline (K.map c))
-  code-kept c = some-is (K.map c) (seed (is_root-seed K.copied K.map (K.map c) (ok.font.mapped_below c) (is_seed-code K.map ok.font.mapped_codes c)))
+  code-kept c = some-is (K.map c)
+      (seed (is_root-seed K.copied K.map (K.map c) (ok.font.mapped_below c) (is_seed-code K.map ok.font.mapped_codes
+      c)))
 
   pub components-kept : HoldsComponents K.outline
   components-kept s g p = go (cases_option (K.outline s))
     where
       go : ((K.outline s ≡ None) ⊎ ((b : List ℕ) × (K.outline s ≡ Some b))) → IsSome (K.outline g)
-      go (inl none) = absurd (component-nil g (subst (λ (b : List ℕ). IsComponentOf b g) (ap (λ o. unwrap_or o []) none) p))
+      go (inl none) = absurd (component-nil g (subst (λ (b : List ℕ). IsComponentOf b g) (ap (λ o. unwrap_or o []) none)
+          p))
       go (inr some) = some-is g (part (some-held s some.0 some.1) p)
 
 module _ (K : Content) (ok : IsClosedContent K) where
@@ -71,4 +83,5 @@ module _ (K : Content) (ok : IsClosedContent K) where
   roots-kept g h = some-is K ok g (seed h)
 
 pub KeepsComponents-closed : (K : Content) → IsClosedContent K → KeepsComponents K
-KeepsComponents-closed K ok = record { notdef = zero-kept K ok; mapped = code-kept K ok; components = components-kept K ok }
+KeepsComponents-closed K ok =
+    record { notdef = zero-kept K ok; mapped = code-kept K ok; components = components-kept K ok }

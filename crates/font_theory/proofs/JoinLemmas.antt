@@ -1,5 +1,6 @@
 -- Contents that agree, and their union.
-use Rattle.std.proofs.Common.{◌≡◌, ℕ, ◌<◌, ◌≤◌, Bool, true, false, cond, nat_eq, nat_lt, ◌||◌, ◌⊎◌, inl, inr, List, [], refl, sym, ◌∙◌, ap, subst, unwrap_or, Option, Some, None, arith}
+use Rattle.std.proofs.Common.{◌≡◌, ℕ, ◌<◌, ◌≤◌, Bool, true, false, cond, nat_eq, nat_lt, ◌||◌, ◌⊎◌, inl, inr, List, []}
+use Rattle.std.proofs.Common.{refl, sym, ◌∙◌, ap, subst, unwrap_or, Option, Some, None, arith}
 use Rattle.std.proofs.Math.Path.{fun_ext}
 use Rattle.std.specs.Option.{option_or}
 use Rattle.std.proofs.lemmas.Bool.{cases_lt, false_from_ne_true}
@@ -11,13 +12,15 @@ use Rattle.font_glyph.specs.Reach.{IsComponentOf}
 use Rattle.font_glyph.specs.Reach.Reach.{seed, part}
 use Rattle.font_glyph.specs.Record.{IsRecord}
 use Rattle.font_theory.specs.Bytes.{padded}
-use Rattle.font_theory.specs.Content.{Content, Font, IsClosedContent, IsFont, content, everything, glyph_count, is_kept, is_root, is_seed, read_back}
+use Rattle.font_theory.specs.Content.{Content, Font, IsClosedContent, IsFont, content, everything, glyph_count, is_kept}
+use Rattle.font_theory.specs.Content.{is_root, is_seed, read_back}
 use Rattle.font_theory.specs.Cut.{either}
-use Rattle.font_theory.specs.Join.{Agree, both}
+use Rattle.font_theory.specs.Agreement.{Agree, both}
 use Rattle.font_theory.proofs.ContentLemmas.{content-path, content-same}
 use Rattle.font_theory.proofs.HeldLemmas.{IsHeld, cases_option, held-some, some-held, some-padded}
 use Rattle.font_theory.proofs.RootLemmas.{is_root-more, is_root-split}
-use Rattle.font_theory.proofs.WantedLemmas.{IsKept, Reach-along, is_kept-decides, is_seed-code, is_seed-more, is_seed-tells, is_seed-zero, restricted-past}
+use Rattle.font_theory.proofs.WantedLemmas.{IsKept, Reach-along, is_kept-decides, is_seed-code, is_seed-more}
+use Rattle.font_theory.proofs.WantedLemmas.{is_seed-tells, is_seed-zero, restricted-past}
 
 pub Agree-sym : (K L : Content) → Agree K L → Agree L K
 Agree-sym K L h = record {
@@ -53,7 +56,8 @@ module _ (K L : Content) (agree : Agree K L) where
       go (Some a) (Some b) x y = ap Some (agree.outline g a b x y)
 
   pub both-swapped : both K L ≡ both L K
-  both-swapped = content-path (fun_ext agree.copied) agree.head (united-swapped K.map L.map agree.map) (fun_ext outline_swapped)
+  both-swapped = content-path (fun_ext agree.copied) agree.head (united-swapped K.map L.map agree.map)
+      (fun_ext outline_swapped)
 
 pub in_left : (K L : Content) (g : ℕ) (b : List ℕ) → K.outline g ≡ Some b → (both K L).outline g ≡ Some b
 in_left K L g b e = ap (λ o. option_or o (L.outline g)) e
@@ -62,7 +66,8 @@ in_left K L g b e = ap (λ o. option_or o (L.outline g)) e
 both-map : (K L : Content) (P : ℕ → Type 0) (c : ℕ) → P (K.map c) → P (L.map c) → P ((both K L).map c)
 both-map K L P c x y = elim (nat_eq (K.map c) 0) as (λ b. P (cond b (L.map c) (K.map c))) [ true ↦ y | false ↦ x ]
 
-pub both-outline : (K L : Content) (P : List ℕ → Type 0) (g : ℕ) → P ((read_back K).outline g) → P ((read_back L).outline g) → P ((read_back (both K L)).outline g)
+pub both-outline : (K L : Content) (P : List ℕ → Type 0) (g : ℕ) → P ((read_back K).outline g)
+    → P ((read_back L).outline g) → P ((read_back (both K L)).outline g)
 both-outline K L P g x y = go (K.outline g) x
   where
     go : (o : Option (List ℕ)) → P (unwrap_or o []) → P (unwrap_or (option_or o (L.outline g)) [])
@@ -73,9 +78,12 @@ pub IsFont-both : (K L : Content) → IsClosedContent K → IsClosedContent L �
 IsFont-both K L okK okL agree =
     let n : glyph_count L.copied ≡ glyph_count K.copied = sym (ap glyph_count (fun_ext agree.copied)) in
     record {
-      mapped_below = λ c. both-map K L (λ g. g < glyph_count K.copied) c (okK.font.mapped_below c) (rw n at okL.font.mapped_below c);
-      mapped_codes = λ c past. both-map K L (λ g. g ≡ 0) c (okK.font.mapped_codes c past) (okL.font.mapped_codes c past);
-      records = λ g. both-outline K L (IsRecord (glyph_count K.copied)) g (okK.font.records g) (rw n at okL.font.records g);
+      mapped_below = λ c. both-map K L (λ g. g < glyph_count K.copied) c (okK.font.mapped_below c)
+          (rw n at okL.font.mapped_below c);
+      mapped_codes = λ c past. both-map K L (λ g. g ≡ 0) c (okK.font.mapped_codes c past)
+          (okL.font.mapped_codes c past);
+      records = λ g. both-outline K L (IsRecord (glyph_count K.copied)) g (okK.font.records g)
+          (rw n at okL.font.records g);
       slots = okK.font.slots;
       head_form = okK.font.head_form;
       head = okK.font.head;
@@ -101,30 +109,37 @@ module _ (K L : Content) (okK : IsClosedContent K) (okL : IsClosedContent L) (ag
   -- the union gives its first part back
   pub content-left : content (read_back (both K L)) (is_mapped K.map) ≡ K
   content-left =
-      content-same _ (read_back K) _ everything (IsFont-both K L okK okL agree) okK.font refl refl (restricted-own K.map L.map)
+      content-same _ (read_back K) _ everything (IsFont-both K L okK okL agree) okK.font refl refl
+      (restricted-own K.map L.map)
       (λ g r. ap padded (read_back-left g r))
       ∙ okK.closed
 
-pub content-right : (K L : Content) → IsClosedContent K → IsClosedContent L → Agree K L → content (read_back (both K L)) (is_mapped L.map) ≡ L
+pub content-right : (K L : Content) → IsClosedContent K → IsClosedContent L → Agree K L
+    → content (read_back (both K L)) (is_mapped L.map) ≡ L
 content-right K L okK okL agree =
-    ap (λ C. content (read_back C) (is_mapped L.map)) (both-swapped K L agree) ∙ content-left L K okL okK (Agree-sym K L agree)
+    ap (λ C. content (read_back C) (is_mapped L.map)) (both-swapped K L agree)
+    ∙ content-left L K okL okK (Agree-sym K L agree)
 
-IsHeld-left : (K L : Content) → IsClosedContent K → IsClosedContent L → Agree K L → (g : ℕ) → IsHeld K g → IsHeld (both K L) g
+IsHeld-left : (K L : Content) → IsClosedContent K → IsClosedContent L → Agree K L → (g : ℕ) → IsHeld K g
+    → IsHeld (both K L) g
 IsHeld-left K L okK okL agree =
     Reach-along _ _ _ _
-    (is_root-more K.copied _ _ (is_seed-more _ _ (IsFont-both K L okK okL agree).mapped_codes (λ c. go c (cases_lt 0 (K.map c)))))
+    (is_root-more K.copied _ _ (is_seed-more _ _ (IsFont-both K L okK okL agree).mapped_codes
+    (λ c. go c (cases_lt 0 (K.map c)))))
     (λ g h r p. subst (λ (b : List ℕ). IsComponentOf b h) (sym (read_back-left K L okK okL agree g r)) p)
   where
     go : (c : ℕ) → ((0 < K.map c) ⊎ (K.map c ≤ 0)) → (K.map c ≡ 0) ⊎ (K.map c ≡ (both K L).map c)
     go c (inl some) = inr (sym (united-some K.map L.map c some))
     go c (inr none) = inl (omega arith)
 
-IsHeld-right : (K L : Content) → IsClosedContent K → IsClosedContent L → Agree K L → (g : ℕ) → IsHeld L g → IsHeld (both K L) g
+IsHeld-right : (K L : Content) → IsClosedContent K → IsClosedContent L → Agree K L → (g : ℕ) → IsHeld L g
+    → IsHeld (both K L) g
 IsHeld-right K L okK okL agree g r =
     subst (λ C. IsHeld C g) (sym (both-swapped K L agree)) (IsHeld-left L K okL okK (Agree-sym K L agree) g r)
 
 -- a seed of the union is one of a part
-seeds_of-both : (K L : Content) → IsClosedContent K → IsClosedContent L → (g : ℕ) → is_seed (both K L).map g ≡ true → (is_seed K.map g ≡ true) ⊎ (is_seed L.map g ≡ true)
+seeds_of-both : (K L : Content) → IsClosedContent K → IsClosedContent L → (g : ℕ) → is_seed (both K L).map g ≡ true
+    → (is_seed K.map g ≡ true) ⊎ (is_seed L.map g ≡ true)
 seeds_of-both K L okK okL g h =
     elim (is_seed-tells _ g h) [
       | inl e ↦ inl (subst (λ (x : ℕ). is_seed K.map x ≡ true) (sym e) (is_seed-zero K.map))
@@ -138,7 +153,8 @@ seeds_of-both K L okK okL g h =
     ]
 
 -- what the union's codes reach is reached in one of its parts
-IsHeld-split : (K L : Content) → IsClosedContent K → IsClosedContent L → Agree K L → (g : ℕ) → IsHeld (both K L) g → IsHeld K g ⊎ IsHeld L g
+IsHeld-split : (K L : Content) → IsClosedContent K → IsClosedContent L → Agree K L → (g : ℕ) → IsHeld (both K L) g
+    → IsHeld K g ⊎ IsHeld L g
 IsHeld-split K L okK okL agree g (seed h) =
     elim (is_root-split K.copied (both K L).map K.map L.map (seeds_of-both K L okK okL) g h) [
       | inl x ↦ inl (seed x)
@@ -149,7 +165,8 @@ IsHeld-split K L okK okL agree g (part {s = s} r p) =
       | inl h ↦ inl (part h (subst (λ (b : List ℕ). IsComponentOf b g) (read_back-left K L okK okL agree s h) p))
       | inr h ↦
           let e : (read_back (both K L)).outline s ≡ (read_back L).outline s =
-          ap (λ C. (read_back C).outline s) (both-swapped K L agree) ∙ read_back-left L K okL okK (Agree-sym K L agree) s h in
+          ap (λ C. (read_back C).outline s) (both-swapped K L agree)
+          ∙ read_back-left L K okL okK (Agree-sym K L agree) s h in
           inr (part h (subst (λ (b : List ℕ). IsComponentOf b g) e p))
     ]
 
@@ -166,8 +183,10 @@ module _ (K L : Content) (okK : IsClosedContent K) (okL : IsClosedContent L) (ag
           (IsHeld-right K L okK okL agree g (some-held L okL g b l), some-padded L okL g b l)
       go (inr w) =
           let k : Some w.0 ≡ Some b = sym (in_left K L g w.0 w.1) ∙ e in
-          let q : w.0 ≡ b = cc in
-          (IsHeld-left K L okK okL agree g (some-held K okK g w.0 w.1), subst (λ (x : List ℕ). padded x ≡ x) q (some-padded K okK g w.0 w.1))
+          let q : w.0 ≡ b = cc in (
+            IsHeld-left K L okK okL agree g (some-held K okK g w.0 w.1),
+            subst (λ (x : List ℕ). padded x ≡ x) q (some-padded K okK g w.0 w.1),
+          )
 
   held-union : (g : ℕ) → IsHeld union g → union.outline g ≡ None → ⊥
   held-union g r e =
@@ -175,7 +194,8 @@ module _ (K L : Content) (okK : IsClosedContent K) (okL : IsClosedContent L) (ag
         | inl h ↦ let w = held-some K okK g h in let n : Some w.0 ≡ None = sym (in_left K L g w.0 w.1) ∙ e in cc
         | inr h ↦
             let w = held-some L okL g h in
-            let n : Some w.0 ≡ None = sym (in_left L K g w.0 w.1) ∙ sym (ap (λ C. C.outline g) (both-swapped K L agree)) ∙ e in cc
+            let n : Some w.0 ≡ None = sym (in_left L K g w.0 w.1) ∙ sym (ap (λ C. C.outline g) (both-swapped K L agree))
+            ∙ e in cc
       ]
 
   -- the union of closed contents is closed
@@ -186,14 +206,18 @@ module _ (K L : Content) (okK : IsClosedContent K) (okL : IsClosedContent L) (ag
         closed = content-path refl refl refl (fun_ext (λ g. go g (cases_option (union.outline g))));
       }
     where
-      go : (g : ℕ) → ((union.outline g ≡ None) ⊎ ((b : List ℕ) × (union.outline g ≡ Some b))) → when (is_kept (read_back union) everything g) (padded (unwrap_or (union.outline g) [])) ≡ union.outline g
+      go : (g : ℕ) → ((union.outline g ≡ None) ⊎ ((b : List ℕ) × (union.outline g ≡ Some b)))
+          → when (is_kept (read_back union) everything g) (padded (unwrap_or (union.outline g) [])) ≡ union.outline g
       go g (inl e) =
-          let f = false_from_ne_true (is_kept (read_back union) everything g) (λ t. held-union g ((is_kept-decides (read_back union) everything (IsFont-both K L okK okL agree) g).0 t) e) in
+          let f = false_from_ne_true (is_kept (read_back union) everything g)
+          (λ t. held-union g ((is_kept-decides (read_back union) everything (IsFont-both K L okK okL agree) g).0 t)
+          e) in
           ap (λ x. when x (padded (unwrap_or (union.outline g) []))) f ∙ sym e
       go g (inr w) =
           let h = union-held g w.0 w.1 in
           let t = (is_kept-decides (read_back union) everything (IsFont-both K L okK okL agree) g).1 h.0 in
-          ap (λ x. when x (padded (unwrap_or (union.outline g) []))) t ∙ ap (λ o. Some (padded (unwrap_or o []))) w.1 ∙ ap Some h.1 ∙ sym w.1
+          ap (λ x. when x (padded (unwrap_or (union.outline g) []))) t ∙ ap (λ o. Some (padded (unwrap_or o []))) w.1
+          ∙ ap Some h.1 ∙ sym w.1
 
 -- two contents of one font agree, and their union is its content for the codes of both
 module _ (F : Font) (A B : ℕ → Bool) (ok : IsFont F) where
@@ -215,14 +239,18 @@ module _ (F : Font) (A B : ℕ → Bool) (ok : IsFont F) where
       same_outline true false o u v x y = cc
       same_outline false b o u v x y = cc
 
-  seeds_either : (g : ℕ) → is_seed (restricted (either A B) F.map) g ≡ true → (is_seed (restricted A F.map) g ≡ true) ⊎ (is_seed (restricted B F.map) g ≡ true)
+  seeds_either : (g : ℕ) → is_seed (restricted (either A B) F.map) g ≡ true → (is_seed (restricted A F.map) g ≡ true)
+      ⊎ (is_seed (restricted B F.map) g ≡ true)
   seeds_either g h =
       elim (is_seed-tells _ g h) [
-        | inl e ↦ inl (subst (λ (x : ℕ). is_seed (restricted A F.map) x ≡ true) (sym e) (is_seed-zero (restricted A F.map)))
+        | inl e ↦ inl (subst (λ (x : ℕ). is_seed (restricted A F.map) x ≡ true) (sym e)
+            (is_seed-zero (restricted A F.map)))
         | inr w ↦
             elim (go (A w.0) (B w.0) (F.map w.0)) [
-              | inl e ↦ inl (subst (λ (x : ℕ). is_seed (restricted A F.map) x ≡ true) (sym e ∙ w.1) (is_seed-code _ (restricted-past F A ok) w.0))
-              | inr e ↦ inr (subst (λ (x : ℕ). is_seed (restricted B F.map) x ≡ true) (sym e ∙ w.1) (is_seed-code _ (restricted-past F B ok) w.0))
+              | inl e ↦ inl (subst (λ (x : ℕ). is_seed (restricted A F.map) x ≡ true) (sym e
+                  ∙ w.1) (is_seed-code _ (restricted-past F A ok) w.0))
+              | inr e ↦ inr (subst (λ (x : ℕ). is_seed (restricted B F.map) x ≡ true) (sym e
+                  ∙ w.1) (is_seed-code _ (restricted-past F B ok) w.0))
             ]
       ]
     where
@@ -231,16 +259,21 @@ module _ (F : Font) (A B : ℕ → Bool) (ok : IsFont F) where
       go false b x = inr refl
 
   kept-one : (g : ℕ) → IsKept F (either A B) g → IsKept F A g ⊎ IsKept F B g
-  kept-one g (seed h) = elim (is_root-split F.copied _ (restricted A F.map) (restricted B F.map) seeds_either g h) [ inl e ↦ inl (seed e) | inr e ↦ inr (seed e) ]
+  kept-one g (seed h) = elim (is_root-split F.copied _ (restricted A F.map) (restricted B F.map) seeds_either g h)
+      [ inl e ↦ inl (seed e) | inr e ↦ inr (seed e) ]
   kept-one g (part {s = s} r p) = elim (kept-one s r) [ inl h ↦ inl (part h p) | inr h ↦ inr (part h p) ]
 
   kept-either : (g : ℕ) → IsKept F A g ⊎ IsKept F B g → IsKept F (either A B) g
-  kept-either g (inl h) = Reach-along _ _ _ _ (is_root-more F.copied _ _ (is_seed-more _ _ (restricted-past F (either A B) ok) (λ c. go (A c) (B c) (F.map c)))) (λ _ _ _ p. p) g h
+  kept-either g (inl h) =
+      Reach-along _ _ _ _ (is_root-more F.copied _ _ (is_seed-more _ _ (restricted-past F (either A B) ok)
+      (λ c. go (A c) (B c) (F.map c)))) (λ _ _ _ p. p) g h
     where
       go : (a b : Bool) (x : ℕ) → (cond a x 0 ≡ 0) ⊎ (cond a x 0 ≡ cond (a || b) x 0)
       go true b x = inr refl
       go false b x = inl refl
-  kept-either g (inr h) = Reach-along _ _ _ _ (is_root-more F.copied _ _ (is_seed-more _ _ (restricted-past F (either A B) ok) (λ c. go (A c) (B c) (F.map c)))) (λ _ _ _ p. p) g h
+  kept-either g (inr h) =
+      Reach-along _ _ _ _ (is_root-more F.copied _ _ (is_seed-more _ _ (restricted-past F (either A B) ok)
+      (λ c. go (A c) (B c) (F.map c)))) (λ _ _ _ p. p) g h
     where
       go : (a b : Bool) (x : ℕ) → (cond b x 0 ≡ 0) ⊎ (cond b x 0 ≡ cond (a || b) x 0)
       go true true x = inr refl
@@ -250,7 +283,8 @@ module _ (F : Font) (A B : ℕ → Bool) (ok : IsFont F) where
   is_kept-either : (g : ℕ) → (is_kept F A g || is_kept F B g) ≡ is_kept F (either A B) g
   is_kept-either g =
       same_from_decides {P = IsKept F (either A B) g} _ _
-      (Decides-like _ (kept-either g) (kept-one g) (Decides-or _ _ (is_kept-decides F A ok g) (is_kept-decides F B ok g)))
+      (Decides-like _ (kept-either g) (kept-one g) (Decides-or _ _ (is_kept-decides F A ok g)
+      (is_kept-decides F B ok g)))
       (is_kept-decides F (either A B) ok g)
 
   pub both-content : both (content F A) (content F B) ≡ content F (either A B)
@@ -262,4 +296,5 @@ module _ (F : Font) (A B : ℕ → Bool) (ok : IsFont F) where
       go false false o = refl
 
       outline_either : (g : ℕ) → (both (content F A) (content F B)).outline g ≡ (content F (either A B)).outline g
-      outline_either g = go (is_kept F A g) (is_kept F B g) (padded (F.outline g)) ∙ ap (λ x. when x (padded (F.outline g))) (is_kept-either g)
+      outline_either g = go (is_kept F A g) (is_kept F B g) (padded (F.outline g))
+          ∙ ap (λ x. when x (padded (F.outline g))) (is_kept-either g)

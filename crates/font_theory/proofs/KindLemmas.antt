@@ -4,12 +4,13 @@ use Rattle.std.specs.Option.{option_or}
 use Rattle.sfnt_bytes.specs.Lines.{first_of_lines}
 use Rattle.font_file.specs.Font.{font_fault}
 use Rattle.font_file.specs.declared.font_error.FontError.{FontError}
-use Rattle.font_theory.specs.Content.{Content, Font, IsClosedContent, content, everything, font_of, layout_font_of, read_back}
+use Rattle.font_theory.specs.Content.{Content, Font, IsClosedContent, content, everything, font_of, layout_font_of}
+use Rattle.font_theory.specs.Content.{read_back}
 use Rattle.font_theory.specs.Cut.{IsCurrent, IsCut, content_of_all, our_format}
 use Rattle.font_theory.specs.File.{current_writing, file}
 use Rattle.font_theory.specs.Kinds.{IsKind, fault_of, font_as, format_of, spelled_by}
 use Rattle.font_theory.specs.LayoutCut.{layout_fault, layout_format, layout_lines}
-use Rattle.font_theory.specs.Lean.{lean_format, spelled_out, thin}
+use Rattle.font_theory.specs.LeanCut.{lean_format, spelled_out, thin}
 use Rattle.font_theory.specs.declared.kinds.Kind.{Kind}
 use Rattle.font_theory.specs.declared.kinds.Kind.TheVariants.{Full, Layout, Lean}
 use Rattle.font_theory.proofs.ContentLemmas.{IsClosed-content}
@@ -36,17 +37,27 @@ unfolding our_format
 our_means X = refl
 
 full : IsKind our_format font_fault font_of (λ K. K)
-full = record { law = our_format-is; fault_is = our_fault; refused = λ X error h. h; limit = our_format-limit; writes = our_writes; means = λ X form. our_means X }
+full = record {
+  law = our_format-is;
+  fault_is = our_fault;
+  refused = λ X error h. h;
+  limit = our_format-limit;
+  writes = our_writes;
+  means = λ X form. our_means X;
+}
 
 -- what is read of a file that is spelled of a thin content is spelled of it
-closed_thin : (F G : Font) → IsClosedContent (spelled_out (content (thin F) everything)) → G ≡ read_back (spelled_out (content (thin F) everything)) → content G everything ≡ spelled_out (content (thin F) everything)
+closed_thin : (F G : Font) → IsClosedContent (spelled_out (content (thin F) everything))
+    → G ≡ read_back (spelled_out (content (thin F) everything))
+    → content G everything ≡ spelled_out (content (thin F) everything)
 closed_thin F G closed is = ap (λ (H : Font). content H everything) is ∙ closed.closed
 
 lean_current : (X : List ℕ) → IsCut lean_format X → IsCurrent lean_format X
 unfolding lean_format
 lean_current X form = record { accepted = form.accepted; written = elim form.written [ inl e ↦ e | inr e ↦ e ] }
 
-lean_means : (X : List ℕ) → IsCut lean_format X → content (font_of X) everything ≡ spelled_out (content_of_all lean_format X)
+lean_means : (X : List ℕ) → IsCut lean_format X → content (font_of X) everything
+    ≡ spelled_out (content_of_all lean_format X)
 unfolding lean_format
 lean_means X form =
     let read = read-current X (lean_current X form) in
@@ -55,19 +66,29 @@ lean_means X form =
 
 lean : IsKind lean_format font_fault font_of spelled_out
 unfolding lean_format
-lean = record { law = lean_format-is; fault_is = λ X. refl; refused = λ X error h. h; limit = refl; writes = λ K. refl; means = lean_means }
+lean = record {
+  law = lean_format-is;
+  fault_is = λ X. refl;
+  refused = λ X error h. h;
+  limit = refl;
+  writes = λ K. refl;
+  means = lean_means;
+}
 
 layout_current : (X : List ℕ) → IsCut layout_format X → IsCurrent layout_format X
 unfolding layout_format
 layout_current X form = record { accepted = form.accepted; written = elim form.written [ inl e ↦ e | inr e ↦ e ] }
 
-layout_means : (X : List ℕ) → IsCut layout_format X → content (layout_font_of X) everything ≡ spelled_out (content_of_all layout_format X)
+layout_means : (X : List ℕ) → IsCut layout_format X → content (layout_font_of X) everything
+    ≡ spelled_out (content_of_all layout_format X)
 unfolding layout_format
 layout_means X form =
     let accepted : layout_fault X ≡ None = form.accepted in
     let read = read-layout X (layout_current X form) in
-    let ok = IsClosed-content (thin (layout_font_of X)) everything (IsFont-thin (layout_font_of X) (IsFont-layout X accepted)) in
-    closed_thin (layout_font_of X) (layout_font_of X) (IsClosed-spelled (content_of_all layout_format X) ok read.1) read.0
+    let ok = IsClosed-content (thin (layout_font_of X)) everything
+    (IsFont-thin (layout_font_of X) (IsFont-layout X accepted)) in
+    closed_thin (layout_font_of X) (layout_font_of X) (IsClosed-spelled (content_of_all layout_format X) ok read.1)
+    read.0
 
 layout_refused : (X : List ℕ) (error : FontError) → font_fault X ≡ Some error → layout_fault X ≡ Some error
 unfolding layout_fault
@@ -75,7 +96,14 @@ layout_refused X error h = ap (λ (o : Option FontError). option_or o (first_of_
 
 layout : IsKind layout_format layout_fault layout_font_of spelled_out
 unfolding layout_format
-layout = record { law = layout_format-is; fault_is = λ X. refl; refused = layout_refused; limit = refl; writes = λ K. refl; means = layout_means }
+layout = record {
+  law = layout_format-is;
+  fault_is = λ X. refl;
+  refused = layout_refused;
+  limit = refl;
+  writes = λ K. refl;
+  means = layout_means;
+}
 
 pub kind_is : (kind : Kind) → IsKind (format_of kind) (fault_of kind) (font_as kind) (spelled_by kind)
 kind_is Full = full
@@ -96,10 +124,12 @@ whole_full X form = font-whole our_format our_format-is X form
 whole_lean : (X : List ℕ) → IsCut lean_format X → font_of X ≡ read_back (content (font_of X) everything)
 whole_lean X form = (read-current X (lean_current X form)).0 ∙ ap read_back (sym (lean_means X form))
 
-whole_layout : (X : List ℕ) → IsCut layout_format X → layout_font_of X ≡ read_back (content (layout_font_of X) everything)
+whole_layout : (X : List ℕ) → IsCut layout_format X
+    → layout_font_of X ≡ read_back (content (layout_font_of X) everything)
 whole_layout X form = (read-layout X (layout_current X form)).0 ∙ ap read_back (sym (layout_means X form))
 
-pub read_whole : (kind : Kind) (X : List ℕ) → IsCut (format_of kind) X → font_as kind X ≡ read_back (content (font_as kind X) everything)
+pub read_whole : (kind : Kind) (X : List ℕ) → IsCut (format_of kind) X
+    → font_as kind X ≡ read_back (content (font_as kind X) everything)
 read_whole Full = whole_full
 read_whole Lean = whole_lean
 read_whole Layout = whole_layout

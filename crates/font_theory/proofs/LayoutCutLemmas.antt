@@ -1,5 +1,6 @@
 -- The reader and the writer of layout cuts go together.
-use Rattle.std.proofs.Common.{◌≡◌, ◌≢◌, ℕ, ◌<◌, ◌≤◌, true, false, cond, nat_le, nat_lt, inl, inr, List, [], ◌∷◌, Option, Some, None, find, unwrap_or, length, refl, sym, ◌∙◌, ap, subst, arith, option_map}
+use Rattle.std.proofs.Common.{◌≡◌, ◌≢◌, ℕ, ◌<◌, ◌≤◌, true, false, cond, nat_le, nat_lt, inl, inr, List, [], ◌∷◌, Option}
+use Rattle.std.proofs.Common.{Some, None, find, unwrap_or, length, refl, sym, ◌∙◌, ap, subst, arith, option_map}
 use Rattle.std.specs.Option.{option_or}
 use Rattle.sfnt_bytes.specs.Directory.{is_layout_slot, records_of, slot_tag, table_of}
 use Rattle.sfnt_bytes.specs.Lines.{first_of_lines, when}
@@ -14,12 +15,14 @@ use Rattle.font_glyph.specs.Record.{IsRecord}
 use Rattle.font_file.specs.Font.{font_fault}
 use Rattle.font_file.specs.declared.font_error.FontError.{FontError}
 use Rattle.font_file.specs.declared.font_error.FontError.TheVariants.{BadLayout, Directory}
-use Rattle.font_theory.specs.Content.{Content, IsClosedContent, IsFont, font_of, glyph_count, AreFixed, is_bad_layout_in, is_never_copied, layout_font_of, metric_count, read_back, table_in_slot}
+use Rattle.font_theory.specs.Content.{Content, IsClosedContent, IsFont, font_of, glyph_count, AreFixed}
+use Rattle.font_theory.specs.Content.{is_bad_layout_in, is_never_copied, layout_font_of, metric_count, read_back}
+use Rattle.font_theory.specs.Content.{table_in_slot}
 use Rattle.font_theory.specs.Cut.{Arises, IsFormat}
 use Rattle.font_theory.specs.Cut.Arises.{of_file, of_two}
 use Rattle.font_theory.specs.File.{IsWriting, Writing, bytes_in_slot, current_writing, current_profile, file}
 use Rattle.font_theory.specs.LayoutCut.{gsub_of, layout_fault, layout_format, layout_lines}
-use Rattle.font_theory.specs.Lean.{lean_file, spelled_out, thin}
+use Rattle.font_theory.specs.LeanCut.{lean_file, spelled_out, thin}
 use Rattle.font_theory.specs.Links.{fixed, is_bad_layout}
 use Rattle.font_theory.proofs.AcceptedLemmas.{climb-file, font_fault-file}
 use Rattle.font_theory.proofs.ArisesLemmas.{IsClosed-arises}
@@ -52,7 +55,8 @@ font_fault-layout file h = (either_none (font_fault file) (first_of_lines (layou
 
 pub gsub_fine : (file : List ℕ) → layout_fault file ≡ None → is_bad_layout (gsub_of file) ≡ false
 unfolding layout_fault
-gsub_fine file h = when-none _ BadLayout (three_none _ _ _ (either_none (font_fault file) (first_of_lines (layout_lines file)) h).1)
+gsub_fine file h =
+    when-none _ BadLayout (three_none _ _ _ (either_none (font_fault file) (first_of_lines (layout_lines file)) h).1)
 
 -- a table of layout is one that a layout cut copies
 pub layout-copied : (slot : ℕ) → is_layout_slot slot ≡ true → is_never_copied slot ≡ false
@@ -60,7 +64,8 @@ layout-copied slot h =
     let both = and_parts (nat_le 16 slot) (nat_lt slot 21) h in
     let from = leb-true 16 slot both.0 in
     let to = ltb-true slot 21 both.1 in
-    let e1 = ne_eqb slot 1 (λ e. omega arith) in let e5 = ne_eqb slot 5 (λ e. omega arith) in let e6 = ne_eqb slot 6 (λ e. omega arith) in let e9 = ne_eqb slot 9 (λ e. omega arith) in
+    let e1 = ne_eqb slot 1 (λ e. omega arith) in let e5 = ne_eqb slot 5 (λ e. omega arith) in let e6 =
+    ne_eqb slot 6 (λ e. omega arith) in let e9 = ne_eqb slot 9 (λ e. omega arith) in
     let last : nat_le 21 slot ≡ false = lt-leb 21 slot to in
     rw (e1, e5, e6, e9) last
 
@@ -69,7 +74,8 @@ fixed-read : (file : List ℕ) → AreFixed (layout_font_of file).copied
 fixed-read file slot h =
     let none = layout-copied slot h in
     let is : (layout_font_of file).copied slot ≡ option_map (fixed slot) (table_of file (slot_tag slot)) =
-    (λ i. cond (none i) None (cond (h i) (option_map (fixed slot) (table_of file (slot_tag slot))) (table_of file (slot_tag slot)))) in
+    (λ i. cond (none i) None (cond (h i) (option_map (fixed slot) (table_of file (slot_tag slot)))
+    (table_of file (slot_tag slot)))) in
     ap (option_map (fixed slot)) is ∙ fixed-map slot (table_of file (slot_tag slot)) ∙ sym is
 
 -- the tables of a plain reader, for a layout reader
@@ -112,11 +118,13 @@ module _ (file : List ℕ) where
         fixed = λ slot h. fixed-read file slot h;
       }
 
-pub size-layout : (file : List ℕ) (error : FontError) → layout_fault file ≡ Some error → error ≢ Directory FileTooLarge → length file ≤ MAX_FILE
+pub size-layout : (file : List ℕ) (error : FontError) → layout_fault file ≡ Some error → error ≢ Directory FileTooLarge
+    → length file ≤ MAX_FILE
 unfolding layout_fault
 size-layout file error refused other = go (font_fault file) refl refused
   where
-    go : (o : Option FontError) → font_fault file ≡ o → option_or o (first_of_lines (layout_lines file)) ≡ Some error → length file ≤ MAX_FILE
+    go : (o : Option FontError) → font_fault file ≡ o → option_or o (first_of_lines (layout_lines file)) ≡ Some error
+        → length file ≤ MAX_FILE
     go None e r = size-accepted file e
     go (Some x) e r = size-refused file error (e ∙ r) other
 
@@ -129,15 +137,18 @@ module _ (writing : Writing) (asked : IsWriting writing) (K : Content) (ok : IsC
   written_twice : find (is_duplicate (file writing K)) LAYOUT ≡ None
   written_twice =
       subst (λ (b : List ℕ). find (is_duplicate b) LAYOUT ≡ None) (sym (file-is writing K))
-      (nothing_twice (last_tables writing K) 0 LAYOUT (subst (λ (b : List ℕ). Climb 0 (records_of b)) (file-is writing K) (climb-file writing K)))
+      (nothing_twice (last_tables writing K) 0 LAYOUT (subst (λ (b : List ℕ). Climb 0 (records_of b))
+      (file-is writing K) (climb-file writing K)))
 
   written_outside : find (is_outside (file writing K)) LAYOUT ≡ None
   written_outside =
-      subst (λ (b : List ℕ). find (is_outside b) LAYOUT ≡ None) (sym (file-is writing K)) (nothing_outside (last_tables writing K) LAYOUT (are_tables writing K (last_head writing K)))
+      subst (λ (b : List ℕ). find (is_outside b) LAYOUT ≡ None) (sym (file-is writing K))
+      (nothing_outside (last_tables writing K) LAYOUT (are_tables writing K (last_head writing K)))
 
   written_gsub : gsub_of (file writing K) ≡ table_in_slot K.copied GSUB
   unfolding gsub_of bytes_in_slot
-  written_gsub = ap (λ (o : Option (List ℕ)). unwrap_or o []) (ap (option_map (fixed GSUB)) (table_of-file writing K GSUB (omega arith)) ∙ ok.font.fixed GSUB refl)
+  written_gsub = ap (λ (o : Option (List ℕ)). unwrap_or o [])
+      (ap (option_map (fixed GSUB)) (table_of-file writing K GSUB (omega arith)) ∙ ok.font.fixed GSUB refl)
 
   written_fine : is_bad_layout (gsub_of (file writing K)) ≡ false
   unfolding is_bad_layout_in
@@ -149,25 +160,33 @@ module _ (writing : Writing) (asked : IsWriting writing) (K : Content) (ok : IsC
       let fine = font_fault-file writing asked K (IsWritable-closed K ok) ok.font small in
       λ i. option_or (fine i)
       (first_of_lines
-      (option_map Directory (option_map DuplicateTable (written_twice i)) ∷ option_map Directory (option_map TableOutOfFile (written_outside i)) ∷ when (written_fine i) BadLayout ∷ []))
+      (option_map Directory (option_map DuplicateTable (written_twice i))
+      ∷ option_map Directory (option_map TableOutOfFile (written_outside i)) ∷ when (written_fine i) BadLayout
+      ∷ []))
 
 -- what accepted files come to is lean
 pub IsLean-arises_layout : (K : Content) → Arises layout_format K → IsLean K
 unfolding layout_format
 IsLean-arises_layout K (of_file X A h e) = subst IsLean e (IsLean-content (layout_font_of X) A (IsFont-layout X h))
-IsLean-arises_layout K (of_two L M l m agree e) = subst IsLean e (IsLean-both L M agree (IsLean-arises_layout L l) (IsLean-arises_layout M m))
+IsLean-arises_layout K (of_two L M l m agree e) =
+    subst IsLean e (IsLean-both L M agree (IsLean-arises_layout L l) (IsLean-arises_layout M m))
 
 -- the file of a closed lean content is accepted, and means what is spelled of it
-pub reads-layout_spelled : (K : Content) (X : List ℕ) → IsClosedContent K → IsLean K → lean_file K ≡ X → length X ≤ MAX_FILE → (layout_fault X ≡ None) × (layout_font_of X ≡ read_back (spelled_out K))
+pub reads-layout_spelled : (K : Content) (X : List ℕ) → IsClosedContent K → IsLean K → lean_file K ≡ X
+    → length X ≤ MAX_FILE → (layout_fault X ≡ None) × (layout_font_of X ≡ read_back (spelled_out K))
 reads-layout_spelled K X ok lean e small =
     let S : Content = spelled_out K in
     let closed = IsClosed-spelled K ok lean in
     let asked = IsWriting-writing_of current_profile in
-    subst (λ (Y : List ℕ). (layout_fault Y ≡ None) × (layout_font_of Y ≡ read_back S)) e
-    (layout_fault-file current_writing asked S closed (subst (λ (Y : List ℕ). length Y ≤ MAX_FILE) (sym e) small), layout_font_of-file current_writing S (IsWritable-closed S closed) asked)
+    subst (λ (Y : List ℕ). (layout_fault Y ≡ None) × (layout_font_of Y ≡ read_back S)) e (
+      layout_fault-file current_writing asked S closed (subst (λ (Y : List ℕ). length Y ≤ MAX_FILE) (sym e) small),
+      layout_font_of-file current_writing S (IsWritable-closed S closed) asked,
+    )
 
-reads-layout : (K : Content) (X : List ℕ) → IsClosedContent K → IsLean K → lean_file K ≡ X → length X ≤ MAX_FILE → (layout_fault X ≡ None) × (thin (layout_font_of X) ≡ read_back K)
-reads-layout K X ok lean e small = let read = reads-layout_spelled K X ok lean e small in (read.0, ap thin read.1 ∙ thin-spelled K lean)
+reads-layout : (K : Content) (X : List ℕ) → IsClosedContent K → IsLean K → lean_file K ≡ X → length X ≤ MAX_FILE
+    → (layout_fault X ≡ None) × (thin (layout_font_of X) ≡ read_back K)
+reads-layout K X ok lean e small = let read = reads-layout_spelled K X ok lean e small in
+    (read.0, ap thin read.1 ∙ thin-spelled K lean)
 
 pub layout_format-is : IsFormat layout_format
 unfolding layout_format
@@ -175,6 +194,8 @@ layout_format-is = record {
   is_font = λ X h. IsFont-thin (layout_font_of X) (IsFont-layout X h);
   accepted_size = λ X h. size-accepted X (font_fault-layout X h);
   refused_size = size-layout;
-  reads_back = λ K X arises w small. reads-layout K X (IsClosed-arises layout_format (λ Y h. IsFont-thin (layout_font_of Y) (IsFont-layout Y h)) K arises) (IsLean-arises_layout K arises)
+  reads_back = λ K X arises w small. reads-layout K X
+      (IsClosed-arises layout_format (λ Y h. IsFont-thin (layout_font_of Y) (IsFont-layout Y h)) K arises)
+      (IsLean-arises_layout K arises)
       (elim w [ inl e ↦ e | inr e ↦ e ]) small;
 }

@@ -1,5 +1,6 @@
 -- Layout cuts of files, in the words of the files.
-use Rattle.std.proofs.Common.{◌≡◌, ◌↔◌, ℕ, ◌<◌, ◌≤◌, Bool, true, cond, nat_le, nat_lt, List, [], None, option_map, length, refl, sym, ◌∙◌, ap, subst, arith}
+use Rattle.std.proofs.Common.{◌≡◌, ◌↔◌, ℕ, ◌<◌, ◌≤◌, Bool, true, cond, nat_le, nat_lt, List, [], None, option_map}
+use Rattle.std.proofs.Common.{length, refl, sym, ◌∙◌, ap, subst, arith}
 use Rattle.std.specs.Bool.{Decides}
 use Rattle.std.proofs.lemmas.Bool.{and_parts, leb-true, ltb-true, ne_eqb}
 use Rattle.std.proofs.lemmas.Bool.Decides.{Decides-like, same_from_decides}
@@ -15,18 +16,20 @@ use Rattle.font_glyph.specs.Marks.{has}
 use Rattle.font_glyph.specs.Reach.{Reach}
 use Rattle.font_glyph.specs.declared.linked.TheConstants as numbers
 use Rattle.font_file.specs.Font.{map_of}
-use Rattle.font_theory.specs.Content.{Content, IsClosedContent, IsFont, NUMBERS, content, everything, font_of, glyph_count, is_kept, is_root, is_seed, layout_font_of, links_in, read_back}
+use Rattle.font_theory.specs.Content.{Content, IsClosedContent, IsFont, NUMBERS, content, everything, font_of}
+use Rattle.font_theory.specs.Content.{glyph_count, is_kept, is_root, is_seed, layout_font_of, links_in, read_back}
 use Rattle.font_theory.specs.Cut.{Arises, IsCurrent, cut, content_of_all}
 use Rattle.font_theory.specs.File.{bytes_in_slot, current_writing}
 use Rattle.font_theory.specs.LayoutCut.{gsub_of, layout_fault, layout_format}
-use Rattle.font_theory.specs.Lean.{lean_file, spelled_out, thin}
+use Rattle.font_theory.specs.LeanCut.{lean_file, spelled_out, thin}
 use Rattle.font_theory.specs.Links.{fixed, links}
 use Rattle.font_theory.proofs.ArisesLemmas.{IsClosed-arises}
 use Rattle.font_theory.proofs.ContentLemmas.{IsClosed-content}
 use Rattle.font_theory.proofs.FileWantedLemmas.{Reach-file, Reach-font, roots-font}
 use Rattle.font_theory.proofs.FindingLemmas.{findings_of-file}
 use Rattle.font_theory.proofs.FontLemmas.{IsFont-accepted, glyph_count-file, size-accepted}
-use Rattle.font_theory.proofs.LayoutCutLemmas.{layout-copied, IsFont-layout, IsLean-arises_layout, font_fault-layout, glyph_count-same, layout_format-is, reads-layout_spelled}
+use Rattle.font_theory.proofs.LayoutCutLemmas.{layout-copied, IsFont-layout, IsLean-arises_layout, font_fault-layout}
+use Rattle.font_theory.proofs.LayoutCutLemmas.{glyph_count-same, layout_format-is, reads-layout_spelled}
 use Rattle.font_theory.proofs.LeanContentLemmas.{IsClosed-spelled, IsLean-content}
 use Rattle.font_theory.proofs.LeanCopiedLemmas.{AreAlike-spelled, AreAlike-thin}
 use Rattle.font_theory.proofs.LeanLemmas.{IsFont-thin, IsLean}
@@ -54,32 +57,42 @@ module _ (font : List ℕ) (wanted : ℕ → Bool) (accepted : layout_fault font
   cut-layout_file = refl
 
   -- a layout cut is accepted, and what is spelled of its content is read of it
-  pub layout_font_of-cut : (made : List ℕ) → made ≡ cut layout_format font wanted → length made ≤ MAX_FILE → (layout_fault made ≡ None) × (layout_font_of made ≡ read_back (spelled_out layout_content))
-  layout_font_of-cut made is small = reads-layout_spelled layout_content made closed lean (sym (is ∙ cut-layout_file)) small
+  pub layout_font_of-cut : (made : List ℕ) → made ≡ cut layout_format font wanted → length made ≤ MAX_FILE
+      → (layout_fault made ≡ None) × (layout_font_of made ≡ read_back (spelled_out layout_content))
+  layout_font_of-cut made is small = reads-layout_spelled layout_content made closed lean (sym (is ∙ cut-layout_file))
+      small
 
   -- nothing is found in it
   pub findings_of-layout : (made : List ℕ) → made ≡ cut layout_format font wanted → findings_of made ≡ []
   findings_of-layout made is =
-      ap findings_of (is ∙ cut-layout_file) ∙ findings_of-file current_writing (spelled_out layout_content) (IsWritable-closed (spelled_out layout_content) (IsClosed-spelled layout_content closed lean))
+      ap findings_of (is ∙ cut-layout_file) ∙ findings_of-file current_writing (spelled_out layout_content)
+      (IsWritable-closed (spelled_out layout_content) (IsClosed-spelled layout_content closed lean))
 
   -- its tables of layout are those of the font without what varies
-  written_layout : (made : List ℕ) → made ≡ cut layout_format font wanted → (slot : ℕ) → is_layout_slot slot ≡ true → table_of made (slot_tag slot) ≡ option_map (fixed slot) (table_of font (slot_tag slot))
+  written_layout : (made : List ℕ) → made ≡ cut layout_format font wanted → (slot : ℕ) → is_layout_slot slot ≡ true
+      → table_of made (slot_tag slot) ≡ option_map (fixed slot) (table_of font (slot_tag slot))
   unfolding bytes_in_slot
   written_layout made is slot h =
       let S : Content = spelled_out layout_content in
       let both = and_parts (nat_le 16 slot) (nat_lt slot 21) h in
       let from = leb-true 16 slot both.0 in
       let low = ltb-true slot 21 both.1 in
-      let e1 = ne_eqb slot 1 (λ e. omega arith) in let e5 = ne_eqb slot 5 (λ e. omega arith) in let e6 = ne_eqb slot 6 (λ e. omega arith) in let e9 = ne_eqb slot 9 (λ e. omega arith) in
-      let copied : bytes_in_slot current_writing S (last_head current_writing S) slot ≡ S.copied slot = rw (e1, e5, e6, e9) refl in
+      let e1 = ne_eqb slot 1 (λ e. omega arith) in let e5 = ne_eqb slot 5 (λ e. omega arith) in let e6 =
+      ne_eqb slot 6 (λ e. omega arith) in let e9 = ne_eqb slot 9 (λ e. omega arith) in
+      let copied : bytes_in_slot current_writing S (last_head current_writing S) slot ≡ S.copied slot =
+      rw (e1, e5, e6, e9) refl in
       let none = layout-copied slot h in
-      ap (λ (b : List ℕ). table_of b (slot_tag slot)) (is ∙ cut-layout_file) ∙ table_of-file current_writing S slot low ∙ copied
+      ap (λ (b : List ℕ). table_of b (slot_tag slot)) (is ∙ cut-layout_file) ∙ table_of-file current_writing S slot low
+      ∙ copied
       ∙ (AreAlike-spelled layout_content).made slot (layout-made slot h)
       ∙ (AreAlike-thin (layout_font_of font).copied).made slot (layout-made slot h)
-      ∙ (λ i. cond (none i) None (cond (h i) (option_map (fixed slot) (table_of font (slot_tag slot))) (table_of font (slot_tag slot))))
+      ∙ (λ i. cond (none i) None (cond (h i) (option_map (fixed slot) (table_of font (slot_tag slot)))
+      (table_of font (slot_tag slot))))
 
   -- its tables of layout are those of the font
-  pub tables-layout : (made : List ℕ) → made ≡ cut layout_format font wanted → length made ≤ MAX_FILE → (slot : ℕ) → is_layout_slot slot ≡ true → table_of made (slot_tag slot) ≡ option_map (fixed slot) (table_of font (slot_tag slot))
+  pub tables-layout : (made : List ℕ) → made ≡ cut layout_format font wanted → length made ≤ MAX_FILE → (slot : ℕ)
+      → is_layout_slot slot ≡ true → table_of made (slot_tag slot) ≡ option_map (fixed slot)
+      (table_of font (slot_tag slot))
   tables-layout made is small slot h = written_layout made is slot h
 
   -- its links are those of the file
@@ -94,29 +107,42 @@ module _ (font : List ℕ) (wanted : ℕ → Bool) (accepted : layout_fault font
   same_count = glyph_count-same font ∙ glyph_count-file font
 
   -- what may be shaped is what the links of the file lead to
-  pub is_root-layout : (m : ℕ → ℕ) (g : ℕ) → Decides (is_root (layout_font_of font).copied m g) ((g < glyph_count_of font) × Linked (links (gsub_of font)) (is_seed m) NUMBERS g)
+  pub is_root-layout : (m : ℕ → ℕ) (g : ℕ)
+      → Decides (is_root (layout_font_of font).copied m g) ((g < glyph_count_of font)
+      × Linked (links (gsub_of font)) (is_seed m) NUMBERS g)
   is_root-layout m g =
       let P : ℕ → (ℕ → List ℕ) → Type 0 = λ n l. (g < n) × Linked l (is_seed m) NUMBERS g in
-      let same : P (glyph_count (layout_font_of font).copied) (links_in (layout_font_of font).copied) ≡ P (glyph_count_of font) (links (gsub_of font)) = λ i. P (same_count i) (links_in-layout i) in
-      Decides-like _ (λ r. subst (λ (X : Type 0). X) same r) (λ r. subst (λ (X : Type 0). X) (sym same) r) (is_root-decides (layout_font_of font).copied m g)
+      let same : P (glyph_count (layout_font_of font).copied) (links_in (layout_font_of font).copied)
+      ≡ P (glyph_count_of font) (links (gsub_of font)) = λ i. P (same_count i) (links_in-layout i) in
+      Decides-like _ (λ r. subst (λ (X : Type 0). X) same r) (λ r. subst (λ (X : Type 0). X) (sym same) r)
+      (is_root-decides (layout_font_of font).copied m g)
 
   low_roots : (h : ℕ) → roots h ≡ true → h < glyph_count_of font
-  low_roots h s = subst (λ (n : ℕ). h < n) same_count (is_root-below (layout_font_of font).copied (restricted wanted (map_of font)) h s)
+  low_roots h s = subst (λ (n : ℕ). h < n) same_count (is_root-below (layout_font_of font).copied
+      (restricted wanted (map_of font)) h s)
 
   -- what is kept is what outlines lead to from there
-  pub is_kept-layout : (g : ℕ) → Decides (is_kept (layout_font_of font) wanted g) (Reach (outline_of font) (is_root (layout_font_of font).copied (restricted wanted (map_of font))) g)
+  pub is_kept-layout : (g : ℕ)
+      → Decides (is_kept (layout_font_of font) wanted g)
+      (Reach (outline_of font) (is_root (layout_font_of font).copied (restricted wanted (map_of font))) g)
   is_kept-layout g =
       let fault = font_fault-layout font accepted in
-      Decides-like _ (λ r. (Reach-file font fault roots low_roots g r).0) (λ r. (Reach-font font fault roots low_roots g r).0) (is_kept-decides (layout_font_of font) wanted ok g)
+      Decides-like _ (λ r. (Reach-file font fault roots low_roots g r).0)
+      (λ r. (Reach-font font fault roots low_roots g r).0) (is_kept-decides (layout_font_of font) wanted ok g)
 
   -- marks of the roots that `follow` finds, and of what `close` finds from there, are those of what is kept
-  pub kept_by_phases : (seeds found marks : List Bool) → ((g : ℕ) → has seeds g ≡ is_seed (restricted wanted (map_of font)) g)
-      → ((g : ℕ) → has found g ≡ true ↔ (g < glyph_count_of font) × Linked (links (gsub_of font)) (has seeds) numbers.NUMBERS g) → ((g : ℕ) → has marks g ≡ true ↔ Reach (outline_of font) (has found) g)
+  pub kept_by_phases : (seeds found marks : List Bool)
+      → ((g : ℕ) → has seeds g ≡ is_seed (restricted wanted (map_of font)) g)
+      → ((g : ℕ) → has found g ≡ true ↔ (g < glyph_count_of font)
+      × Linked (links (gsub_of font)) (has seeds) numbers.NUMBERS g)
+      → ((g : ℕ) → has marks g ≡ true ↔ Reach (outline_of font) (has found) g)
       → (g : ℕ) → has marks g ≡ is_kept (layout_font_of font) wanted g
   kept_by_phases seeds found marks are first second g =
-      let P : ℕ → (ℕ → List ℕ) → ℕ → Type 0 = λ n l h. has found h ≡ true ↔ (h < n) × Linked l (has seeds) numbers.NUMBERS h in
+      let P : ℕ → (ℕ → List ℕ) → ℕ → Type 0 = λ n l h. has found h ≡ true ↔ (h < n)
+      × Linked l (has seeds) numbers.NUMBERS h in
       let same : has found ≡ roots =
-      fun_ext (roots_marked (layout_font_of font).copied (restricted wanted (map_of font)) seeds found are (λ h. subst (λ (X : Type 0). X) (λ i. P (sym same_count i) (sym links_in-layout i) h) (first h))) in
+      fun_ext (roots_marked (layout_font_of font).copied (restricted wanted (map_of font)) seeds found are
+      (λ h. subst (λ (X : Type 0). X) (λ i. P (sym same_count i) (sym links_in-layout i) h) (first h))) in
       let Q : (ℕ → Bool) → Type 0 = λ s. Reach (outline_of font) s g in
       same_from_decides {P = Reach (outline_of font) roots g} (has marks g) (is_kept (layout_font_of font) wanted g)
       ((λ h. subst Q same ((second g).0 h)), (λ r. (second g).1 (subst Q (sym same) r))) (is_kept-layout g)
@@ -127,18 +153,25 @@ module _ (font : List ℕ) (wanted : ℕ → Bool) (accepted : layout_fault font
       let fault = font_fault-layout font accepted in
       let r = (is_kept-decides (font_of font) wanted (IsFont-accepted font fault) g).0 h in
       (is_kept-decides (layout_font_of font) wanted ok g).1
-      (Reach-along _ _ _ _ (λ x e. seeds-roots (layout_font_of font) wanted ok x (subst (λ (p : ℕ → Bool). p x ≡ true) (roots-font font wanted fault) e)) (λ _ _ _ p. p) g r)
+      (Reach-along _ _ _ _ (λ x e. seeds-roots (layout_font_of font) wanted ok x (subst (λ (p : ℕ → Bool). p x ≡ true)
+      (roots-font font wanted fault) e)) (λ _ _ _ p. p) g r)
 
 -- what accepted files come to is closed once it is spelled
 pub IsClosed-layout : (K : Content) → Arises layout_format K → IsClosedContent (spelled_out K)
-IsClosed-layout K arises = IsClosed-spelled K (IsClosed-arises layout_format layout_format-is.is_font K arises) (IsLean-arises_layout K arises)
+IsClosed-layout K arises = IsClosed-spelled K (IsClosed-arises layout_format layout_format-is.is_font K arises)
+    (IsLean-arises_layout K arises)
 
 -- what is read of a file in layout cut form is spelled of its content
-pub read-layout : (X : List ℕ) → IsCurrent layout_format X → (layout_font_of X ≡ read_back (spelled_out (content_of_all layout_format X))) × IsLean (content_of_all layout_format X)
+pub read-layout : (X : List ℕ) → IsCurrent layout_format X
+    → (layout_font_of X ≡ read_back (spelled_out (content_of_all layout_format X)))
+    × IsLean (content_of_all layout_format X)
 unfolding layout_format
 read-layout X form =
     let accepted : layout_fault X ≡ None = form.accepted in
     let font = IsFont-layout X accepted in
     let K : Content = content (thin (layout_font_of X)) everything in
-    let lean = IsLean-content (layout_font_of X) everything font in
-    ((reads-layout_spelled K X (IsClosed-content (thin (layout_font_of X)) everything (IsFont-thin (layout_font_of X) font)) lean form.written (size-accepted X (font_fault-layout X accepted))).1, lean)
+    let lean = IsLean-content (layout_font_of X) everything font in (
+      (reads-layout_spelled K X (IsClosed-content (thin (layout_font_of X)) everything
+          (IsFont-thin (layout_font_of X) font)) lean form.written (size-accepted X (font_fault-layout X accepted))).1,
+      lean,
+    )

@@ -1,5 +1,7 @@
 -- The lean cut of a layout cut is that of the font.
-use Rattle.std.proofs.Common.{◌≡◌, ℕ, ◌<◌, ◌≤◌, ◌&&◌, ◌||◌, Bool, true, false, cond, nat_eq, nat_le, nat_lt, option_map, List, [], Option, None, ◌⊎◌, inl, inr, length, refl, sym, ◌∙◌, ap, subst, arith, unwrap_or}
+use Rattle.std.proofs.Common.{◌≡◌, ℕ, ◌<◌, ◌≤◌, ◌&&◌, ◌||◌, Bool, true, false, cond, nat_eq, nat_le, nat_lt, option_map}
+use Rattle.std.proofs.Common.{List, [], Option, None, ◌⊎◌, inl, inr, length, refl, sym, ◌∙◌, ap, subst, arith}
+use Rattle.std.proofs.Common.{unwrap_or}
 use Rattle.std.proofs.Math.Bool.{and_comm}
 use Rattle.std.proofs.Math.Path.{fun_ext}
 use Rattle.std.proofs.lemmas.Bool.{both_ways, cases_Bool, false_from_ne_true, leb-false, lt-leb, or_parts}
@@ -9,10 +11,12 @@ use Rattle.sfnt_bytes.specs.Directory.{is_layout_slot, kept_tag, slot_tag, table
 use Rattle.font_theory.specs.Links.{fixed}
 use Rattle.sfnt_bytes.specs.declared.directory.TheConstants.{MAX_FILE}
 use Rattle.font_theory.specs.Bytes.{padded}
-use Rattle.font_theory.specs.Content.{Content, Font, IsFont, content, font_of, glyph_count, is_kept, is_made, is_never_copied, is_root, is_seed, layout_font_of, metric_count, read_back}
+use Rattle.font_theory.specs.Content.{Content, Font, IsFont, content, font_of, glyph_count, is_kept, is_made}
+use Rattle.font_theory.specs.Content.{is_never_copied, is_root, is_seed, layout_font_of, metric_count, read_back}
 use Rattle.font_theory.specs.Cut.{cut}
 use Rattle.font_theory.specs.LayoutCut.{layout_fault, layout_format, without_layout}
-use Rattle.font_theory.specs.Lean.{lean_file, lean_format, metrics_at, pairs_in, spelled_out, thin, thin_copied, with_metrics}
+use Rattle.font_theory.specs.LeanCut.{lean_file, lean_format, metrics_at, pairs_in, spelled_out, thin, thin_copied}
+use Rattle.font_theory.specs.LeanCut.{with_metrics}
 use Rattle.font_theory.proofs.ContentLemmas.{IsClosed-content, IsKept-less, content-same, read_back-kept}
 use Rattle.font_theory.proofs.RootLemmas.{is_root-alone}
 use Rattle.font_theory.proofs.WantedLemmas.{seeds-below, seeds-roots}
@@ -20,7 +24,8 @@ use Rattle.font_theory.proofs.FontLemmas.{never-made}
 use Rattle.font_theory.proofs.LayoutCutLemmas.{IsFont-layout}
 use Rattle.font_theory.proofs.LayoutFileLemmas.{layout_font_of-cut}
 use Rattle.font_theory.proofs.LeanContentLemmas.{IsClosed-spelled, IsLean-content}
-use Rattle.font_theory.proofs.LeanCopiedLemmas.{by_slot, thin_copied-other, thin_copied-spelled, thin_copied-thin_copied}
+use Rattle.font_theory.proofs.LeanCopiedLemmas.{by_slot, thin_copied-other, thin_copied-spelled}
+use Rattle.font_theory.proofs.LeanCopiedLemmas.{thin_copied-thin_copied}
 use Rattle.font_theory.proofs.LeanCutLemmas.{below, is_kept-thin, metrics_at-kept, outline-lean, outline-thin}
 use Rattle.font_theory.proofs.LeanLemmas.{IsFont-thin}
 use Rattle.font_theory.proofs.LeanMetricLemmas.{glyph_count-lean}
@@ -40,24 +45,36 @@ plain_slot : (slot : ℕ) → slot < 16 → is_layout_slot slot ≡ false
 plain_slot slot low = ap (λ b. b && nat_lt slot 21) (lt-leb 16 slot low)
 
 -- a table of a plain slot is the same to both readers
-pub copied-below : (file : List ℕ) (slot : ℕ) → slot < 16 → (layout_font_of file).copied slot ≡ (font_of file).copied slot
+pub copied-below : (file : List ℕ) (slot : ℕ) → slot < 16 → (layout_font_of file).copied slot ≡ (font_of file).copied
+    slot
 copied-below file slot low =
     let none : nat_le 16 slot ≡ false = lt-leb 16 slot low in
     let far : nat_le 21 slot ≡ false = lt-leb 21 slot (omega arith) in
     (λ i. cond (nat_eq slot 1 || nat_eq slot 5 || nat_eq slot 6 || nat_eq slot 9 || far i) None
-    (cond (plain_slot slot low i) (option_map (fixed slot) (table_of file (slot_tag-kept slot low i))) (table_of file (slot_tag-kept slot low i))))
-    ∙ sym (λ i. cond (nat_eq slot 1 || nat_eq slot 5 || nat_eq slot 6 || nat_eq slot 9 || none i) None (table_of file (kept_tag slot)))
+    (cond (plain_slot slot low i) (option_map (fixed slot) (table_of file (slot_tag-kept slot low i)))
+    (table_of file (slot_tag-kept slot low i))))
+    ∙ sym (λ i. cond (nat_eq slot 1 || nat_eq slot 5 || nat_eq slot 6 || nat_eq slot 9 || none i) None
+    (table_of file (kept_tag slot)))
 
 -- what a plain reader takes a file for
 pub font_of-without : (file : List ℕ) → font_of file ≡ without_layout (layout_font_of file)
-font_of-without file = λ i. record { copied = λ slot. go slot (cases_Bool (is_made slot)) i; head = (font_of file).head; map = (font_of file).map; outline = (font_of file).outline }
+font_of-without file = λ i. record {
+  copied = λ slot. go slot (cases_Bool (is_made slot)) i;
+  head = (font_of file).head;
+  map = (font_of file).map;
+  outline = (font_of file).outline;
+}
   where
-    go : (slot : ℕ) → ((is_made slot ≡ true) ⊎ (is_made slot ≡ false)) → (font_of file).copied slot ≡ plain (layout_font_of file).copied slot
+    go : (slot : ℕ) → ((is_made slot ≡ true) ⊎ (is_made slot ≡ false))
+        → (font_of file).copied slot ≡ plain (layout_font_of file).copied slot
     go slot (inl t) = rw t refl
     go slot (inr f) =
         let low : slot < 16 = leb-false 16 slot (or_parts _ (nat_le 16 slot) f).1 in
         let copied : is_never_copied slot ≡ false = false_from_ne_true _ (λ t. both_ways _ f (never-made slot t)) in
-        rw f (ap (table_of file) (sym (slot_tag-kept slot low)) ∙ sym (λ i. cond (copied i) None (cond (plain_slot slot low i) (option_map (fixed slot) (table_of file (slot_tag slot))) (table_of file (slot_tag slot)))))
+        rw f (ap (table_of file) (sym (slot_tag-kept slot low))
+        ∙ sym (λ i. cond (copied i) None
+        (cond (plain_slot slot low i) (option_map (fixed slot) (table_of file (slot_tag slot)))
+        (table_of file (slot_tag slot)))))
 
 -- such a font is one
 pub IsFont-without : (F : Font) → IsFont F → IsFont (without_layout F)
@@ -76,20 +93,20 @@ IsFont-without F ok = record {
   fixed = AreFixed-plain (plain F.copied) (λ slot made. rw made refl);
 }
 
-count_plain : (F : Font) → glyph_count (plain F.copied) ≡ glyph_count F.copied
-unfolding glyph_count
-count_plain F = refl
-
 -- it has no links
-roots-without : (F : Font) (A : ℕ → Bool) → IsFont F → is_root (plain F.copied) (restricted A F.map) ≡ is_seed (restricted A F.map)
-roots-without F A ok = is_root-alone (plain F.copied) (restricted A F.map) (links_in-none (plain F.copied) refl) (seeds-below (without_layout F) A (IsFont-without F ok))
+roots-without : (F : Font) (A : ℕ → Bool) → IsFont F → is_root (plain F.copied) (restricted A F.map)
+    ≡ is_seed (restricted A F.map)
+roots-without F A ok = is_root-alone (plain F.copied) (restricted A F.map) (links_in-none (plain F.copied) refl)
+    (seeds-below (without_layout F) A (IsFont-without F ok))
 
 -- it keeps no more
-kept-with : (F : Font) → IsFont F → (A : ℕ → Bool) (g : ℕ) → is_kept (without_layout F) A g ≡ true → is_kept F A g ≡ true
+kept-with : (F : Font) → IsFont F → (A : ℕ → Bool) (g : ℕ) → is_kept (without_layout F) A g ≡ true
+    → is_kept F A g ≡ true
 kept-with F ok A g h =
     let r = (is_kept-decides (without_layout F) A (IsFont-without F ok) g).0 h in
     (is_kept-decides F A ok g).1
-    (Reach-along _ _ _ _ (λ x e. seeds-roots F A ok x (subst (λ (p : ℕ → Bool). p x ≡ true) (roots-without F A ok) e)) (λ _ _ _ p. p) g r)
+    (Reach-along _ _ _ _ (λ x e. seeds-roots F A ok x (subst (λ (p : ℕ → Bool). p x ≡ true) (roots-without F A ok) e))
+    (λ _ _ _ p. p) g r)
 
 -- the metrics of a glyph do not depend on tables of layout
 metrics_plain : (c : Tables) (g : ℕ) → metrics_at (plain c) g ≡ metrics_at c g
@@ -110,8 +127,10 @@ at_vmtx c = refl
 
 -- its tables without what is of single glyphs
 thin_copied-plain : (c : Tables) → thin_copied (plain c) ≡ plain (thin_copied c)
-thin_copied-plain c = fun_ext (by_slot (λ slot. thin_copied (plain c) slot ≡ plain (thin_copied c) slot) across names down
-    (λ slot x y z. thin_copied-other (plain c) slot x y z ∙ ap (λ (o : Option (List ℕ)). cond (is_made slot) None o) (sym (thin_copied-other c slot x y z))))
+thin_copied-plain c =
+    fun_ext (by_slot (λ slot. thin_copied (plain c) slot ≡ plain (thin_copied c) slot) across names down
+    (λ slot x y z. thin_copied-other (plain c) slot x y z ∙ ap (λ (o : Option (List ℕ)). cond (is_made slot) None o)
+    (sym (thin_copied-other c slot x y z))))
   where
     across : thin_copied (plain c) 8 ≡ plain (thin_copied c) 8
     across = at_hmtx c
@@ -137,32 +156,43 @@ module _ (F : Font) (ok : IsFont F) (A B : ℕ → Bool) where
   count_same = glyph_count-lean F ok A
 
   tables_same : thin_copied (plain S.copied) ≡ thin_copied (plain F.copied)
-  tables_same = thin_copied-plain S.copied ∙ ap plain (thin_copied-spelled K ∙ thin_copied-thin_copied F.copied) ∙ sym (thin_copied-plain F.copied)
+  tables_same = thin_copied-plain S.copied ∙ ap plain (thin_copied-spelled K ∙ thin_copied-thin_copied F.copied)
+      ∙ sym (thin_copied-plain F.copied)
 
-  records_same : (g : ℕ) → IsKept (thin (without_layout F)) (λ c. A c && B c) g → (thin (without_layout (read_back S))).outline g ≡ (thin (without_layout F)).outline g
+  records_same : (g : ℕ) → IsKept (thin (without_layout F)) (λ c. A c && B c) g
+      → (thin (without_layout (read_back S))).outline g ≡ (thin (without_layout F)).outline g
   records_same g r =
       let plainF = IsFont-without F ok in
       let low = below (without_layout F) plainF (λ c. A c && B c) g r in
       let here : is_kept (without_layout F) (λ c. A c && B c) g ≡ true =
-      sym (is_kept-thin (without_layout F) plainF (λ c. A c && B c) g) ∙ (is_kept-decides (thin (without_layout F)) (λ c. A c && B c) (IsFont-thin (without_layout F) plainF) g).1 r in
+      sym (is_kept-thin (without_layout F) plainF (λ c. A c && B c) g)
+      ∙ (is_kept-decides (thin (without_layout F)) (λ c. A c && B c) (IsFont-thin (without_layout F) plainF) g).1
+      r in
       let also = kept-with F ok (λ c. A c && B c) g here in
-      let kept = (is_kept-decides F A ok g).1 (IsKept-less F A B ok g ((is_kept-decides F (λ c. A c && B c) ok g).0 also)) in
-      let own : (read_back S).outline g ≡ padded (F.outline g) = ap (λ o. unwrap_or (o g) []) (outline-lean F ok A) ∙ read_back-kept F A g kept in
+      let kept = (is_kept-decides F A ok g).1
+      (IsKept-less F A B ok g ((is_kept-decides F (λ c. A c && B c) ok g).0 also)) in
+      let own : (read_back S).outline g ≡ padded (F.outline g) = ap (λ o. unwrap_or (o g) []) (outline-lean F ok A)
+      ∙ read_back-kept F A g kept in
       let metrics : metrics_at S.copied g ≡ metrics_at F.copied g = metrics_at-kept F ok A g kept in
-      outline-thin (without_layout (read_back S)) (IsFont-without (read_back S) font_S) g (subst (λ (n : ℕ). g < n) (sym count_same) low)
+      outline-thin (without_layout (read_back S)) (IsFont-without (read_back S) font_S) g
+      (subst (λ (n : ℕ). g < n) (sym count_same) low)
       ∙ (λ i. with_metrics (own i) ((metrics_plain S.copied g ∙ metrics) i))
       ∙ with_metrics-padded (glyph_count F.copied) (F.outline g) (metrics_at F.copied g) (ok.records g)
       ∙ ap (with_metrics (F.outline g)) (sym (metrics_plain F.copied g))
       ∙ sym (outline-thin (without_layout F) plainF g low)
 
-  pub content-lean_layout : content (thin (without_layout (read_back S))) B ≡ content (thin (without_layout F)) (λ c. A c && B c)
+  pub content-lean_layout : content (thin (without_layout (read_back S))) B ≡ content (thin (without_layout F))
+      (λ c. A c && B c)
   content-lean_layout =
-      content-same _ _ _ _ (IsFont-thin (without_layout (read_back S)) (IsFont-without (read_back S) font_S)) (IsFont-thin (without_layout F) (IsFont-without F ok)) tables_same refl
-      (restricted-restricted B A F.map ∙ ap (λ (w : ℕ → Bool). restricted w F.map) (fun_ext (λ c. and_comm (B c) (A c))))
+      content-same _ _ _ _ (IsFont-thin (without_layout (read_back S)) (IsFont-without (read_back S) font_S))
+      (IsFont-thin (without_layout F) (IsFont-without F ok)) tables_same refl
+      (restricted-restricted B A F.map
+      ∙ ap (λ (w : ℕ → Bool). restricted w F.map) (fun_ext (λ c. and_comm (B c) (A c))))
       (λ g r. ap padded (records_same g r))
 
 -- the lean cut of a layout cut is that of the font, for the codes in both
-pub cut-lean_layout : (file : List ℕ) → layout_fault file ≡ None → (A : ℕ → Bool) → length (cut layout_format file A) ≤ MAX_FILE → (B : ℕ → Bool) → cut lean_format (cut layout_format file A) B ≡ cut lean_format file (λ c. A c && B c)
+pub cut-lean_layout : (file : List ℕ) → layout_fault file ≡ None → (A : ℕ → Bool) → length (cut layout_format file A)
+    ≤ MAX_FILE → (B : ℕ → Bool) → cut lean_format (cut layout_format file A) B ≡ cut lean_format file (λ c. A c && B c)
 unfolding lean_format
 cut-lean_layout file accepted A small B =
     let read = layout_font_of-cut file A accepted (cut layout_format file A) refl small in

@@ -1,5 +1,7 @@
 -- Where the metrics of a glyph stand in a table, and tables without them and with those of records.
-use Rattle.std.proofs.Common.{◌≡◌, ℕ, zero, suc, ◌+◌, ◌-◌, ◌*◌, ◌<◌, ◌≤◌, Bool, true, false, cond, nat_eq, nat_lt, nat_le, not, ◌&&◌, ◌||◌, ◌/◌, ◌⊎◌, inl, inr, List, length, get_or, map, replicate, refl, sym, ◌∙◌, ap, arith}
+use Rattle.std.proofs.Common.{◌≡◌, ℕ, zero, suc, ◌+◌, ◌-◌, ◌*◌, ◌<◌, ◌≤◌, Bool, true, false, cond, nat_eq, nat_lt}
+use Rattle.std.proofs.Common.{nat_le, not, ◌&&◌, ◌||◌, ◌/◌, ◌⊎◌, inl, inr, List, length, get_or, map, replicate, refl}
+use Rattle.std.proofs.Common.{sym, ◌∙◌, ap, arith}
 use Rattle.std.proofs.Math.Path.{fun_ext}
 use Rattle.std.specs.List.{range_with_len}
 use Rattle.std.proofs.lemmas.Bool.{and_parts, cases_lt, le-leb, le-ltb, leb-true, lt-ltb, ltb-true, ne_eqb, or_cases}
@@ -7,8 +9,9 @@ use Rattle.std.proofs.lemmas.Bool.Decides.{nat_tests}
 use Rattle.std.proofs.lemmas.List.{ext_get_or, get_or_past}
 use Rattle.std.proofs.lemmas.List.FromFn.{get_or-map-range_with_len, length-map-range_with_len}
 use Rattle.codes.proofs.MapLemmas.{same_cond}
-use Rattle.font_glyph.specs.Union.{Records, record_in}
-use Rattle.font_theory.specs.Lean.{blank, cleared, entry_at, entry_size, holder, is_entry, laid, metric_bytes, within}
+use Rattle.font_glyph.specs.RecordMap.{Records, record_in}
+use Rattle.font_theory.specs.LeanCut.{blank, cleared, entry_at, entry_size, holder, is_entry, laid, metric_bytes}
+use Rattle.font_theory.specs.LeanCut.{within}
 
 -- byte i of glyph g is of that glyph
 pub record IsByteOf (k n g i j : ℕ) : Type 0 where
@@ -68,24 +71,29 @@ pub get_or-blank : (k n : ℕ) (t : List ℕ) (j : ℕ) → get_or (blank k n t)
 unfolding blank
 get_or-blank k n t j =
     elim (cases_lt j (length t)) [
-      | inl low ↦ get_or-map-range_with_len (λ j. cond (is_entry k n j) 0 (get_or t j 0)) 0 (length t) j j 0 low (omega arith)
+      | inl low ↦ get_or-map-range_with_len (λ j. cond (is_entry k n j) 0 (get_or t j 0)) 0 (length t) j j 0 low
+          (omega arith)
       | inr past ↦
           let size = length-map-range_with_len (λ j. cond (is_entry k n j) 0 (get_or t j 0)) 0 (length t) in
-          get_or_past _ j 0 (omega arith) ∙ sym (ap (λ (x : ℕ). cond (is_entry k n j) 0 x) (get_or_past t j 0 past) ∙ same_cond (is_entry k n j) 0)
+          get_or_past _ j 0 (omega arith) ∙ sym (ap (λ (x : ℕ). cond (is_entry k n j) 0 x) (get_or_past t j 0 past)
+          ∙ same_cond (is_entry k n j) 0)
     ]
 
 -- byte j of a table with the metrics of records
 abbrev pub laid_byte : Records → ℕ → ℕ → ℕ → List ℕ → ℕ → ℕ
 laid_byte records back k n t j =
-    cond (is_entry k n j && nat_lt 0 (length (record_in records (holder k j)))) (get_or (record_in records (holder k j)) (length (record_in records (holder k j)) - back + within k j) 0) (get_or t j 0)
+    cond (is_entry k n j && nat_lt 0 (length (record_in records (holder k j)))) (get_or (record_in records (holder k j))
+    (length (record_in records (holder k j)) - back + within k j) 0) (get_or t j 0)
 
 pub length-laid : (records : Records) (back k n : ℕ) (t : List ℕ) → length (laid records back k n t) ≡ length t
 unfolding laid
 length-laid records back k n t = length-map-range_with_len (laid_byte records back k n t) 0 (length t)
 
-pub get_or-laid : (records : Records) (back k n : ℕ) (t : List ℕ) (j : ℕ) → j < length t → get_or (laid records back k n t) j 0 ≡ laid_byte records back k n t j
+pub get_or-laid : (records : Records) (back k n : ℕ) (t : List ℕ) (j : ℕ) → j < length t
+    → get_or (laid records back k n t) j 0 ≡ laid_byte records back k n t j
 unfolding laid
-get_or-laid records back k n t j low = get_or-map-range_with_len (laid_byte records back k n t) 0 (length t) j j 0 low (omega arith)
+get_or-laid records back k n t j low = get_or-map-range_with_len (laid_byte records back k n t) 0 (length t) j j 0 low
+    (omega arith)
 
 blank_again : (e : Bool) (x y : ℕ) → (e ≡ false → x ≡ y) → cond e 0 x ≡ cond e 0 y
 blank_again true x y h = refl
@@ -98,7 +106,10 @@ blank-laid records back k n t =
     let size' = length-blank k n (laid records back k n t) in
     let size'' = length-laid records back k n t in
     ext_get_or 0 _ _ (omega arith) (λ j low. get_or-blank k n (laid records back k n t) j
-    ∙ blank_again (is_entry k n j) _ _ (λ f. get_or-laid records back k n t j (omega arith) ∙ ap (λ b. cond (b && nat_lt 0 (length (record_in records (holder k j)))) (get_or (record_in records (holder k j)) (length (record_in records (holder k j)) - back + within k j) 0) (get_or t j 0)) f)
+    ∙ blank_again (is_entry k n j) _ _ (λ f. get_or-laid records back k n t j (omega arith)
+    ∙ ap (λ b. cond (b && nat_lt 0 (length (record_in records (holder k j))))
+    (get_or (record_in records (holder k j)) (length (record_in records (holder k j)) - back + within k j) 0)
+    (get_or t j 0)) f)
     ∙ sym (get_or-blank k n t j))
 
 pub blank-blank : (k n : ℕ) (t : List ℕ) → blank k n (blank k n t) ≡ blank k n t
@@ -130,7 +141,8 @@ four k g byte = map (λ i. cond (nat_lt i (entry_size k g)) (byte i) 0) (range_w
 pub four-same : (k g : ℕ) (a b : ℕ → ℕ) → ((i : ℕ) → i < entry_size k g → a i ≡ b i) → four k g a ≡ four k g b
 four-same k g a b h = ap (λ f. map f (range_with_len 0 4)) (fun_ext (λ i. go i (cases_lt i (entry_size k g))))
   where
-    go : (i : ℕ) → ((i < entry_size k g) ⊎ (entry_size k g ≤ i)) → cond (nat_lt i (entry_size k g)) (a i) 0 ≡ cond (nat_lt i (entry_size k g)) (b i) 0
+    go : (i : ℕ) → ((i < entry_size k g) ⊎ (entry_size k g ≤ i)) → cond (nat_lt i (entry_size k g)) (a i) 0
+        ≡ cond (nat_lt i (entry_size k g)) (b i) 0
     go i (inl low) = let t = lt-ltb i (entry_size k g) low in rw t (h i low)
     go i (inr high) = let f = le-ltb i (entry_size k g) high in rw f refl
 
@@ -149,13 +161,16 @@ pub get_or-four : (k g : ℕ) (byte : ℕ → ℕ) (i : ℕ) → i < entry_size 
 get_or-four k g byte i low =
     let small = entry_size-four k g in
     let t = lt-ltb i (entry_size k g) low in
-    get_or-map-range_with_len (λ i. cond (nat_lt i (entry_size k g)) (byte i) 0) 0 4 i i 0 (omega arith) (omega arith) ∙ ap (λ b. cond b (byte i) 0) t
+    get_or-map-range_with_len (λ i. cond (nat_lt i (entry_size k g)) (byte i) 0) 0 4 i i 0 (omega arith) (omega arith)
+    ∙ ap (λ b. cond b (byte i) 0) t
 
 -- a table without the bytes of glyphs has zeros for each
-pub metric_bytes-blank : (k n : ℕ) (t : List ℕ) (g : ℕ) → AreThere k n t → g < n → metric_bytes k (blank k n t) g ≡ replicate 4 0
+pub metric_bytes-blank : (k n : ℕ) (t : List ℕ) (g : ℕ) → AreThere k n t → g < n → metric_bytes k (blank k n t) g
+    ≡ replicate 4 0
 metric_bytes-blank k n t g there low =
     metric_bytes-is k (blank k n t) g
-    ∙ four-same k g _ (λ i. 0) (λ i h. let some = entry_size-some k g i h in let b = is_byte_of k n g i some (there.few some) low h in
+    ∙ four-same k g _ (λ i. 0) (λ i h. let some = entry_size-some k g i h in
+    let b = is_byte_of k n g i some (there.few some) low h in
     get_or-blank k n t (entry_at k g + i) ∙ ap (λ e. cond e 0 (get_or t (entry_at k g + i) 0)) b.is_entry)
     ∙ four-zero k g
 
@@ -174,7 +189,9 @@ metric_bytes-laid records back k n t g there low =
     let room = there.room some in
     let inside = b.inside in
     get_or-laid records back k n t (entry_at k g + i) (omega arith)
-    ∙ (λ p. cond (b.is_entry p && nat_lt 0 (length (record_in records (b.holder p)))) (get_or (record_in records (b.holder p)) (length (record_in records (b.holder p)) - back + b.within p) 0) (get_or t (entry_at k g + i) 0)))
+    ∙ (λ p. cond (b.is_entry p && nat_lt 0 (length (record_in records (b.holder p))))
+    (get_or (record_in records (b.holder p)) (length (record_in records (b.holder p)) - back + b.within p) 0)
+    (get_or t (entry_at k g + i) 0)))
 
 -- a byte that is of one glyph stands where that glyph's bytes do
 pub record IsPlace (k n j : ℕ) : Type 0 where
@@ -201,7 +218,8 @@ place-bearing k n j some few inside late =
 pub is_place : (k n j : ℕ) → k ≤ n → is_entry k n j ≡ true → IsPlace k n j
 unfolding is_entry
 is_place k n j few e =
-    let w = and_parts (not (nat_eq k 0)) (nat_lt j (2 * (k + n)) && (nat_lt (j + 4) (4 * k) || nat_le (4 * k) (j + 2))) e in
+    let w = and_parts (not (nat_eq k 0)) (nat_lt j (2 * (k + n)) && (nat_lt (j + 4) (4 * k) || nat_le (4 * k) (j + 2)))
+    e in
     let v = and_parts (nat_lt j (2 * (k + n))) (nat_lt (j + 4) (4 * k) || nat_le (4 * k) (j + 2)) w.1 in
     let inside : j < 2 * (k + n) = ltb-true _ _ v.0 in
     let some : 0 < k = positive k w.0 in
@@ -221,16 +239,22 @@ entry-some (suc k) n j h = omega arith
 
 pub length-cleared : (keeps : ℕ → Bool) (k n : ℕ) (t : List ℕ) → length (cleared keeps k n t) ≡ length t
 unfolding cleared
-length-cleared keeps k n t = length-map-range_with_len (λ j. cond (is_entry k n j && not (keeps (holder k j))) 0 (get_or t j 0)) 0 (length t)
+length-cleared keeps k n t =
+    length-map-range_with_len (λ j. cond (is_entry k n j && not (keeps (holder k j))) 0 (get_or t j 0)) 0 (length t)
 
-pub get_or-cleared : (keeps : ℕ → Bool) (k n : ℕ) (t : List ℕ) (j : ℕ) → j < length t → get_or (cleared keeps k n t) j 0 ≡ cond (is_entry k n j && not (keeps (holder k j))) 0 (get_or t j 0)
+pub get_or-cleared : (keeps : ℕ → Bool) (k n : ℕ) (t : List ℕ) (j : ℕ) → j < length t → get_or (cleared keeps k n t) j 0
+    ≡ cond (is_entry k n j && not (keeps (holder k j))) 0 (get_or t j 0)
 unfolding cleared
-get_or-cleared keeps k n t j low = get_or-map-range_with_len (λ j. cond (is_entry k n j && not (keeps (holder k j))) 0 (get_or t j 0)) 0 (length t) j j 0 low (omega arith)
+get_or-cleared keeps k n t j low =
+    get_or-map-range_with_len (λ j. cond (is_entry k n j && not (keeps (holder k j))) 0 (get_or t j 0)) 0 (length t) j j
+    0 low (omega arith)
 
 -- outside the bytes of glyphs a table stays
-pub laid-other : (records : Records) (back k n : ℕ) (t : List ℕ) (j : ℕ) → j < length t → is_entry k n j ≡ false → get_or (laid records back k n (blank k n t)) j 0 ≡ get_or t j 0
+pub laid-other : (records : Records) (back k n : ℕ) (t : List ℕ) (j : ℕ) → j < length t → is_entry k n j ≡ false
+    → get_or (laid records back k n (blank k n t)) j 0 ≡ get_or t j 0
 laid-other records back k n t j low f =
     let size = length-blank k n t in
     get_or-laid records back k n (blank k n t) j (omega arith)
-    ∙ ap (λ b. cond (b && nat_lt 0 (length (record_in records (holder k j)))) (get_or (record_in records (holder k j)) (length (record_in records (holder k j)) - back + within k j) 0) (get_or (blank k n t) j 0)) f
+    ∙ ap (λ b. cond (b && nat_lt 0 (length (record_in records (holder k j)))) (get_or (record_in records (holder k j))
+    (length (record_in records (holder k j)) - back + within k j) 0) (get_or (blank k n t) j 0)) f
     ∙ get_or-blank k n t j ∙ ap (λ b. cond b 0 (get_or t j 0)) f

@@ -1,5 +1,6 @@
 -- The records of lean contents: outlines with metrics after them.
-use Rattle.std.proofs.Common.{◌≡◌, ℕ, ◌+◌, ◌-◌, ◌%◌, ◌<◌, ◌≤◌, false, cond, nat_le, ◌⊎◌, inl, inr, List, [], ◌++◌, length, get_or, take, replicate, refl, sym, ◌∙◌, ap, subst, arith, drop}
+use Rattle.std.proofs.Common.{◌≡◌, ℕ, ◌+◌, ◌-◌, ◌%◌, ◌<◌, ◌≤◌, false, cond, nat_le, ◌⊎◌, inl, inr, List, [], ◌++◌}
+use Rattle.std.proofs.Common.{length, get_or, take, replicate, refl, sym, ◌∙◌, ap, subst, arith, drop}
 use Rattle.std.specs.Str.{bytes_eq}
 use Rattle.std.proofs.lemmas.Bool.{cases_Bool, le-leb, lt-leb, lt-ltb}
 use Rattle.std.proofs.lemmas.List.{append_assoc, drop_at, get_or-append-add, length-append, take_at}
@@ -11,7 +12,7 @@ use Rattle.font_glyph.specs.Record.ComponentList.{Empty, Simple, Composite}
 use Rattle.font_glyph.specs.declared.component.Component.{Component}
 use Rattle.font_glyph.proofs.RecordLemmas.{ComponentList-append, ComponentList-only}
 use Rattle.font_theory.specs.Bytes.{padded}
-use Rattle.font_theory.specs.Lean.{stripped, with_metrics}
+use Rattle.font_theory.specs.LeanCut.{stripped, with_metrics}
 use Rattle.font_theory.proofs.PaddedLemmas.{length-padded, padded-nil, padded-padded, padded-same}
 use Rattle.font_theory.proofs.PaddingLemmas.{length-padded-is}
 
@@ -67,31 +68,57 @@ stripped-long x m eight long =
     let at : length x ≡ length (x ++ m) - 8 = omega arith in
     ap (λ b. cond b [] (take (length (x ++ m) - 8) (x ++ m))) f ∙ take_at x m (length (x ++ m) - 8) at
 
-pub with_metrics-cases : (count : ℕ) (o m : List ℕ) → IsRecord count o → length m ≡ 8 → ((x : List ℕ) × IsBefore o m x) ⊎ IsNothing o m
+pub with_metrics-cases : (count : ℕ) (o m : List ℕ) → IsRecord count o → length m ≡ 8 → ((x : List ℕ) × IsBefore o m x)
+    ⊎ IsNothing o m
 with_metrics-cases count o m ok eight =
     elim (header count o ok) [
       | inl e ↦
           elim (with_metrics-nil m) [
-            | inl none ↦ inr (record { outline = e; metrics = none.0; is = ap (λ (x : List ℕ). with_metrics x m) e ∙ none.1 })
+            | inl none ↦ inr (record {
+              outline = e;
+              metrics = none.0;
+              is = ap (λ (x : List ℕ). with_metrics x m) e
+                  ∙ none.1;
+            })
             | inr some ↦
                 let is : with_metrics o m ≡ replicate 4 0 ++ m = ap (λ (x : List ℕ). with_metrics x m) e ∙ some in
                 let small : length (replicate 4 0 ++ m) ≤ 12 = omega arith in
-                inl (replicate 4 0, record { is = is; long = omega arith; words = refl; outline = ap stripped is ∙ stripped-short (replicate 4 0 ++ m) small ∙ sym padded-nil ∙ ap padded (sym e) })
+                inl (
+                  replicate 4 0,
+                  record {
+                    is = is;
+                    long = omega arith;
+                    words = refl;
+                    outline = ap stripped is
+                        ∙ stripped-short (replicate 4 0 ++ m) small ∙ sym padded-nil ∙ ap padded (sym e);
+                  },
+                )
           ]
       | inr long ↦
           let size = length-padded-is o in
           let is = with_metrics-some o m long in
-          inl (padded o, record { is = is; long = omega arith; words = length-padded o; outline = ap stripped is ∙ stripped-long (padded o) m eight (omega arith) })
+          inl (
+            padded o,
+            record {
+              is = is;
+              long = omega arith;
+              words = length-padded o;
+              outline = ap stripped is
+                  ∙ stripped-long (padded o) m eight (omega arith);
+            },
+          )
     ]
 
-pub stripped-with_metrics : (count : ℕ) (o m : List ℕ) → IsRecord count o → length m ≡ 8 → stripped (with_metrics o m) ≡ padded o
+pub stripped-with_metrics : (count : ℕ) (o m : List ℕ) → IsRecord count o → length m ≡ 8
+    → stripped (with_metrics o m) ≡ padded o
 stripped-with_metrics count o m ok eight =
     elim (with_metrics-cases count o m ok eight) [
       | inl some ↦ some.1.outline
       | inr none ↦ ap stripped none.is ∙ stripped-nil ∙ sym padded-nil ∙ ap padded (sym none.outline)
     ]
 
-pub padded-with_metrics : (count : ℕ) (o m : List ℕ) → IsRecord count o → length m ≡ 8 → padded (with_metrics o m) ≡ with_metrics o m
+pub padded-with_metrics : (count : ℕ) (o m : List ℕ) → IsRecord count o → length m ≡ 8
+    → padded (with_metrics o m) ≡ with_metrics o m
 padded-with_metrics count o m ok eight =
     elim (with_metrics-cases count o m ok eight) [
       | inl some ↦
@@ -110,20 +137,25 @@ with_metrics-padded count o m ok =
       | inl e ↦ ap (λ (x : List ℕ). with_metrics x m) (ap padded e ∙ padded-nil ∙ sym e)
       | inr long ↦
           let size = length-padded-is o in
-          with_metrics-some (padded o) m (omega arith) ∙ ap (λ (x : List ℕ). x ++ m) (padded-padded o) ∙ sym (with_metrics-some o m long)
+          with_metrics-some (padded o) m (omega arith) ∙ ap (λ (x : List ℕ). x ++ m) (padded-padded o)
+          ∙ sym (with_metrics-some o m long)
     ]
 
 -- metrics after an outline leave what it names
-ComponentList-with_some : (o m : List ℕ) (list : List Component) → 10 ≤ length o → ComponentList o list → ComponentList (with_metrics o m) list
+ComponentList-with_some : (o m : List ℕ) (list : List Component) → 10 ≤ length o → ComponentList o list
+    → ComponentList (with_metrics o m) list
 unfolding padded
 ComponentList-with_some o m list long is =
-    subst (λ (b : List ℕ). ComponentList b list) (sym (with_metrics-some o m long ∙ append_assoc o (replicate (padding_of (length o)) 0) m))
+    subst (λ (b : List ℕ). ComponentList b list) (sym (with_metrics-some o m long
+    ∙ append_assoc o (replicate (padding_of (length o)) 0) m))
     (ComponentList-append o (replicate (padding_of (length o)) 0 ++ m) list long is)
 
-ComponentList-zeros : (m : List ℕ) (list : List Component) → length m ≡ 8 → list ≡ [] → ComponentList (replicate 4 0 ++ m) list
+ComponentList-zeros : (m : List ℕ) (list : List Component) → length m ≡ 8 → list ≡ []
+    → ComponentList (replicate 4 0 ++ m) list
 ComponentList-zeros m list eight none = Simple (omega arith, omega arith) none
 
-ComponentList-with_metrics : (o m : List ℕ) (list : List Component) → length m ≡ 8 → ComponentList o list → ComponentList (with_metrics o m) list
+ComponentList-with_metrics : (o m : List ℕ) (list : List Component) → length m ≡ 8 → ComponentList o list
+    → ComponentList (with_metrics o m) list
 ComponentList-with_metrics o m list eight (Empty e k) =
     subst (λ (x : List ℕ). ComponentList (with_metrics x m) list) (sym e)
     (elim (with_metrics-nil m) [
@@ -133,21 +165,29 @@ ComponentList-with_metrics o m list eight (Empty e k) =
 ComponentList-with_metrics o m list eight (Simple h k) = ComponentList-with_some o m list h.0 (Simple h k)
 ComponentList-with_metrics o m list eight (Composite h c) = ComponentList-with_some o m list h.0 (Composite h c)
 
-pub IsRecord-with_metrics : (count : ℕ) (o m : List ℕ) → length m ≡ 8 → IsRecord count o → IsRecord count (with_metrics o m)
+pub IsRecord-with_metrics : (count : ℕ) (o m : List ℕ) → length m ≡ 8 → IsRecord count o
+    → IsRecord count (with_metrics o m)
 unfolding IsRecord
 IsRecord-with_metrics count o m eight (list, is, below) = (list, ComponentList-with_metrics o m list eight is, below)
 
-pub component-with_metrics : (o m : List ℕ) (g : ℕ) → length m ≡ 8 → IsComponentOf o g → IsComponentOf (with_metrics o m) g
-component-with_metrics o m g eight h = record { list = h.list; is = ComponentList-with_metrics o m h.list eight h.is; among = h.among }
+pub component-with_metrics : (o m : List ℕ) (g : ℕ) → length m ≡ 8 → IsComponentOf o g
+    → IsComponentOf (with_metrics o m) g
+component-with_metrics o m g eight h = record {
+  list = h.list;
+  is = ComponentList-with_metrics o m h.list eight h.is;
+  among = h.among;
+}
 
-pub component-outline : (count : ℕ) (o m : List ℕ) (g : ℕ) → length m ≡ 8 → IsRecord count o → IsComponentOf (with_metrics o m) g → IsComponentOf o g
+pub component-outline : (count : ℕ) (o m : List ℕ) (g : ℕ) → length m ≡ 8 → IsRecord count o
+    → IsComponentOf (with_metrics o m) g → IsComponentOf o g
 unfolding IsRecord
 component-outline count o m g eight (list, is, below) h =
     let same = ComponentList-only (with_metrics o m) h.list list h.is (ComponentList-with_metrics o m list eight is) in
     record { list = list; is = is; among = rw same at h.among }
 
 -- a byte of the metrics in a record
-pub get_or-append_end : (x m : List ℕ) (back i : ℕ) → length m ≡ 8 → back ≤ 8 → get_or (x ++ m) (length (x ++ m) - back + i) 0 ≡ get_or m (8 - back + i) 0
+pub get_or-append_end : (x m : List ℕ) (back i : ℕ) → length m ≡ 8 → back ≤ 8
+    → get_or (x ++ m) (length (x ++ m) - back + i) 0 ≡ get_or m (8 - back + i) 0
 get_or-append_end x m back i eight few =
     let size = length-append x m in
     let place : length (x ++ m) - back + i ≡ length x + (8 - back + i) = omega arith in
@@ -162,7 +202,8 @@ append_end-same x m y n e a b =
     let place : length y ≡ length x = omega arith in
     sym (drop_at x m (length x) refl) ∙ ap (drop (length x)) e ∙ drop_at y n (length x) place
 
-pub with_metrics-same : (count : ℕ) (o m p n : List ℕ) → IsRecord count o → IsRecord count p → length m ≡ 8 → length n ≡ 8 → with_metrics o m ≡ with_metrics p n → (padded o ≡ padded p) × (m ≡ n)
+pub with_metrics-same : (count : ℕ) (o m p n : List ℕ) → IsRecord count o → IsRecord count p → length m ≡ 8
+    → length n ≡ 8 → with_metrics o m ≡ with_metrics p n → (padded o ≡ padded p) × (m ≡ n)
 with_metrics-same count o m p n okO okP a b e =
     let all = ap (λ (l : List ℕ). length l) e in (
       sym (stripped-with_metrics count o m okO a) ∙ ap stripped e ∙ stripped-with_metrics count p n okP b,
@@ -189,5 +230,7 @@ with_metrics-same count o m p n okO okP a b e =
     )
 
 -- and where those are, the records are
-pub same-with_metrics : (count : ℕ) (o m p n : List ℕ) → IsRecord count o → IsRecord count p → padded o ≡ padded p → m ≡ n → with_metrics o m ≡ with_metrics p n
-same-with_metrics count o m p n okO okP e f = sym (with_metrics-padded count o m okO) ∙ (λ i. with_metrics (e i) (f i)) ∙ with_metrics-padded count p n okP
+pub same-with_metrics : (count : ℕ) (o m p n : List ℕ) → IsRecord count o → IsRecord count p → padded o ≡ padded p
+    → m ≡ n → with_metrics o m ≡ with_metrics p n
+same-with_metrics count o m p n okO okP e f = sym (with_metrics-padded count o m okO) ∙ (λ i. with_metrics (e i) (f i))
+    ∙ with_metrics-padded count p n okP

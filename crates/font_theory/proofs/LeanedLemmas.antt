@@ -6,9 +6,10 @@ use Rattle.sfnt_bytes.specs.Lines.{when}
 use Rattle.sfnt_bytes.specs.declared.tag.TheConstants.{HHEA, HMTX, POST, VHEA, VMTX}
 use Rattle.font_theory.specs.Bytes.{padded}
 use Rattle.font_theory.specs.Content.{Content, Font, IsFont, content, glyph_count, is_kept}
-use Rattle.font_theory.specs.Lean.{cleared, leaned, pairs_in, spelled_out, thin}
+use Rattle.font_theory.specs.LeanCut.{cleared, leaned, pairs_in, spelled_out, thin}
 use Rattle.font_theory.proofs.ContentLemmas.{content-path}
-use Rattle.font_theory.proofs.LeanCopiedLemmas.{by_slot, spelled_copied-other, spelled_copied-thin_post, thin_copied-other}
+use Rattle.font_theory.proofs.LeanCopiedLemmas.{by_slot, spelled_copied-other, spelled_copied-thin_post}
+use Rattle.font_theory.proofs.LeanCopiedLemmas.{thin_copied-other}
 use Rattle.font_theory.proofs.LeanCutLemmas.{outline-lean}
 use Rattle.font_theory.proofs.LeanTableLemmas.{spelled_copied-cleared_hmtx, spelled_copied-cleared_vmtx}
 
@@ -28,7 +29,9 @@ module _ (F : Font) (ok : IsFont F) (A : ℕ → Bool) where
 
   at_hmtx : S.copied HMTX ≡ L.copied HMTX
   unfolding leaned
-  at_hmtx = spelled_copied-cleared_hmtx F ok A ∙ ap (λ keeps. option_map (cleared keeps (pairs_in F.copied HHEA HMTX) (glyph_count F.copied)) (F.copied HMTX)) (sym keeps-is)
+  at_hmtx = spelled_copied-cleared_hmtx F ok A
+      ∙ ap (λ keeps. option_map (cleared keeps (pairs_in F.copied HHEA HMTX) (glyph_count F.copied)) (F.copied HMTX))
+      (sym keeps-is)
 
   at_post : S.copied POST ≡ L.copied POST
   unfolding leaned
@@ -36,11 +39,15 @@ module _ (F : Font) (ok : IsFont F) (A : ℕ → Bool) where
 
   at_vmtx : S.copied VMTX ≡ L.copied VMTX
   unfolding leaned
-  at_vmtx = spelled_copied-cleared_vmtx F ok A ∙ ap (λ keeps. option_map (cleared keeps (pairs_in F.copied VHEA VMTX) (glyph_count F.copied)) (F.copied VMTX)) (sym keeps-is)
+  at_vmtx = spelled_copied-cleared_vmtx F ok A
+      ∙ ap (λ keeps. option_map (cleared keeps (pairs_in F.copied VHEA VMTX) (glyph_count F.copied)) (F.copied VMTX))
+      (sym keeps-is)
 
-  at_other : (slot : ℕ) → nat_eq slot HMTX ≡ false → nat_eq slot POST ≡ false → nat_eq slot VMTX ≡ false → S.copied slot ≡ L.copied slot
+  at_other : (slot : ℕ) → nat_eq slot HMTX ≡ false → nat_eq slot POST ≡ false → nat_eq slot VMTX ≡ false
+      → S.copied slot ≡ L.copied slot
   unfolding leaned
-  at_other slot x y z = spelled_copied-other (content (thin F) A) slot x z ∙ thin_copied-other F.copied slot x y z ∙ rw (x, y, z) refl
+  at_other slot x y z = spelled_copied-other (content (thin F) A) slot x z ∙ thin_copied-other F.copied slot x y z
+      ∙ rw (x, y, z) refl
 
   parts : (slot : ℕ) → S.copied slot ≡ L.copied slot
   parts = by_slot (λ slot. S.copied slot ≡ L.copied slot) at_hmtx at_post at_vmtx at_other

@@ -1,5 +1,6 @@
 -- The least number of a range that passes a test.
-use Rattle.std.proofs.Common.{◌≡◌, ℕ, zero, suc, ◌+◌, ◌<◌, ◌≤◌, Bool, true, false, inl, inr, find, sym, ◌∙◌, ap, subst, arith, zero-add, Some, None, get_or}
+use Rattle.std.proofs.Common.{◌≡◌, ℕ, zero, suc, ◌+◌, ◌<◌, ◌≤◌, Bool, true, false, inl, inr, find, sym, ◌∙◌, ap, subst}
+use Rattle.std.proofs.Common.{arith, zero-add, Some, None, get_or}
 use Rattle.std.specs.List.{range_with_len}
 use Rattle.std.proofs.lemmas.Bool.{cases_Bool, cases_eq}
 use Rattle.std.proofs.lemmas.List.FromFn.{get_or-range_with_len, length-range_with_len}
@@ -13,7 +14,12 @@ pub record IsLeast (p : ℕ → Bool) (k stop j : ℕ) : Type 0 where
   pub before : (i : ℕ) → k ≤ i → i < j → p i ≡ false
 
 least_here : (p : ℕ → Bool) (k n : ℕ) → p k ≡ true → IsLeast p k (k + suc n) k
-least_here p k n t = record { passes = t; from = omega arith; below = omega arith; before = λ i a b. absurd (omega arith) }
+least_here p k n t = record {
+  passes = t;
+  from = omega arith;
+  below = omega arith;
+  before = λ i a b. absurd (omega arith);
+}
 
 least_later : (p : ℕ → Bool) (k n j : ℕ) → p k ≡ false → IsLeast p (k + 1) (k + 1 + n) j → IsLeast p k (k + suc n) j
 least_later p k n j f w =
@@ -23,7 +29,11 @@ least_later p k n j f w =
       passes = w.passes;
       from = omega arith;
       below = omega arith;
-      before = λ i a b. elim (cases_eq k i) [ inl e ↦ subst (λ (x : ℕ). p x ≡ false) e f | inr ne ↦ w.before i (omega arith) b ];
+      before = λ i a b. elim (cases_eq k i) [
+        | inl e ↦ subst (λ (x : ℕ). p x ≡ false) e f
+        | inr ne ↦
+            w.before i (omega arith) b
+      ];
     }
 
 pub find-least_from : (p : ℕ → Bool) (k n j : ℕ) → find p (range_with_len k n) ≡ Some j → IsLeast p k (k + n) j

@@ -1,5 +1,6 @@
 -- What the theory asks of links: there are none without `GSUB`, and `GSUB` alone says what they are.
-use Rattle.std.proofs.Common.{◌≡◌, ℕ, true, false, nat_le, nat_lt, List, [], refl, sym, ◌∙◌, ap, Option, Some, None, option_map, unwrap_or}
+use Rattle.std.proofs.Common.{◌≡◌, ℕ, true, false, nat_le, nat_lt, List, [], refl, sym, ◌∙◌, ap, Option, Some, None}
+use Rattle.std.proofs.Common.{option_map, unwrap_or}
 use Rattle.std.proofs.lemmas.Bool.{and_parts, or_right}
 use Rattle.std.proofs.Math.Path.{fun_ext}
 use Rattle.sfnt_bytes.specs.Directory.{is_layout_slot}
@@ -19,7 +20,8 @@ is_bad_layout-nothing : is_bad_layout [] ≡ false
 unfolding is_bad_layout
 is_bad_layout-nothing = refl
 
-pub fixed-map : (slot : ℕ) (o : Option (List ℕ)) → option_map (fixed slot) (option_map (fixed slot) o) ≡ option_map (fixed slot) o
+pub fixed-map : (slot : ℕ) (o : Option (List ℕ)) → option_map (fixed slot) (option_map (fixed slot) o)
+    ≡ option_map (fixed slot) o
 fixed-map slot None = refl
 fixed-map slot (Some table) = ap Some (fixed-fixed slot table)
 
@@ -49,10 +51,12 @@ pub links_in-same : (c d : Tables) → table_in_slot d GSUB ≡ table_in_slot c 
 unfolding links_in
 links_in-same c d same = fun_ext (λ g. ap (λ (b : List ℕ). links b g) same)
 
-pub is_bad_layout_in-same : (c d : Tables) → table_in_slot d GSUB ≡ table_in_slot c GSUB → is_bad_layout_in d ≡ is_bad_layout_in c
+pub is_bad_layout_in-same : (c d : Tables) → table_in_slot d GSUB ≡ table_in_slot c GSUB
+    → is_bad_layout_in d ≡ is_bad_layout_in c
 unfolding is_bad_layout_in
 is_bad_layout_in-same c d same = ap is_bad_layout same
 
 -- plain tables have none of layout to be fixed
 pub AreFixed-plain : (c : Tables) → IsPlain c → AreFixed c
-AreFixed-plain c plain slot h = ap (option_map (fixed slot)) (plain slot (layout-made slot h)) ∙ sym (plain slot (layout-made slot h))
+AreFixed-plain c plain slot h = ap (option_map (fixed slot)) (plain slot (layout-made slot h))
+    ∙ sym (plain slot (layout-made slot h))

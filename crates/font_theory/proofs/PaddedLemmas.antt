@@ -42,12 +42,15 @@ IsRecord-nil count = ([], Empty refl refl, λ k d inside. absurd (omega arith))
 pub component-padded : (b : List ℕ) (g : ℕ) → IsComponentOf b g → IsComponentOf (padded b) g
 component-padded b g h = record { list = h.list; is = ComponentList-padded b h.list h.is; among = h.among }
 
-pub padded-component : (count : ℕ) (b : List ℕ) (g : ℕ) → IsRecord count b → IsComponentOf (padded b) g → IsComponentOf b g
+pub padded-component : (count : ℕ) (b : List ℕ) (g : ℕ) → IsRecord count b → IsComponentOf (padded b) g
+    → IsComponentOf b g
 unfolding IsRecord
 padded-component count b g (list, is, below) h =
     let same = ComponentList-only (padded b) h.list list h.is (ComponentList-padded b list is) in
     record { list = list; is = is; among = rw same at h.among }
 
 -- records that are equal once they are padded name the same
-pub component-alike : (count : ℕ) (a b : List ℕ) (g : ℕ) → IsRecord count b → padded a ≡ padded b → IsComponentOf a g → IsComponentOf b g
-component-alike count a b g ok same h = padded-component count b g ok (subst (λ (r : List ℕ). IsComponentOf r g) same (component-padded a g h))
+pub component-alike : (count : ℕ) (a b : List ℕ) (g : ℕ) → IsRecord count b → padded a ≡ padded b → IsComponentOf a g
+    → IsComponentOf b g
+component-alike count a b g ok same h =
+    padded-component count b g ok (subst (λ (r : List ℕ). IsComponentOf r g) same (component-padded a g h))

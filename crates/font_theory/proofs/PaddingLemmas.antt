@@ -1,5 +1,6 @@
 -- Lists that are filled with zeros to a multiple of 4, and their sums.
-use Rattle.std.proofs.Common.{◌≡◌, ℕ, ◌+◌, ◌%◌, ◌^◌, List, ◌++◌, take, drop, length, replicate, sum, refl, ap, ◌∙◌, arith}
+use Rattle.std.proofs.Common.{◌≡◌, ℕ, ◌+◌, ◌%◌, ◌^◌, List, ◌++◌, take, drop, length, replicate, sum, refl, ap, ◌∙◌}
+use Rattle.std.proofs.Common.{arith}
 use Rattle.std.proofs.lemmas.List.{append_assoc, drop_at, length-append, length-replicate, take_at}
 use Rattle.sfnt_bytes.specs.Findings.{padding_of}
 use Rattle.sfnt_bytes.specs.Sums.{checksum_of, words}
@@ -19,7 +20,8 @@ take-padded b z =
     ap (take (length b)) (append_assoc b zeros z) ∙ take_at b (zeros ++ z) (length b) refl
 
 -- the padding
-pub take-drop-padded : (b z : List ℕ) → take (padding_of (length b)) (drop (length b) (padded b ++ z)) ≡ replicate (padding_of (length b)) 0
+pub take-drop-padded : (b z : List ℕ) → take (padding_of (length b)) (drop (length b) (padded b ++ z))
+    ≡ replicate (padding_of (length b)) 0
 unfolding padded
 take-drop-padded b z =
     let zeros : List ℕ = replicate (padding_of (length b)) 0 in

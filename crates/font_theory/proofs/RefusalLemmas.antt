@@ -11,27 +11,36 @@ use Rattle.font_theory.proofs.DifferenceLemmas.{Agree-from_none, none_from-Agree
 
 module _ (R : Format) (law : IsFormat R) where
   module _ (X Y : List ℕ) (okX : R.fault X ≡ None) (okY : R.fault Y ≡ None) where
-    pub CanJoin-tested : (is_cut R X ≡ true) × (is_cut R Y ≡ true) × (difference (content_of_all R X) (content_of_all R Y) ≡ None) → CanJoin R X Y
+    pub CanJoin-tested : (is_cut R X ≡ true) × (is_cut R Y ≡ true)
+        × (difference (content_of_all R X) (content_of_all R Y) ≡ None) → CanJoin R X Y
     CanJoin-tested h = record {
       first = is_cut-tells R law X okX h.0;
       second = is_cut-tells R law Y okY h.1;
       agree = Agree-from_none _ _ (IsClosed-whole R law X okX) (IsClosed-whole R law Y okY) h.2;
     }
 
-    pub tested-CanJoin : CanJoin R X Y → (is_cut R X ≡ true) × (is_cut R Y ≡ true) × (difference (content_of_all R X) (content_of_all R Y) ≡ None)
-    tested-CanJoin can =
-        (is_cut-of R law X can.first, is_cut-of R law Y can.second, none_from-Agree _ _ (IsClosed-whole R law X okX) (IsClosed-whole R law Y okY) can.agree)
+    pub tested-CanJoin : CanJoin R X Y → (is_cut R X ≡ true) × (is_cut R Y ≡ true)
+        × (difference (content_of_all R X) (content_of_all R Y) ≡ None)
+    tested-CanJoin can = (
+      is_cut-of R law X can.first,
+      is_cut-of R law Y can.second,
+      none_from-Agree _ _ (IsClosed-whole R law X okX)
+          (IsClosed-whole R law Y okY) can.agree,
+    )
 
     -- no file is above two that differ
-    pub different-under : (F : List ℕ) → difference (content_of_all R X) (content_of_all R Y) ≢ None → Under R X F → ¬ Under R Y F
+    pub different-under : (F : List ℕ) → difference (content_of_all R X) (content_of_all R Y) ≢ None → Under R X F
+        → ¬ Under R Y F
     different-under F differ u v =
         differ (none_from-Agree _ _ (IsClosed-whole R law X okX) (IsClosed-whole R law Y okY)
         (Agree-under R law X Y F u v (law.accepted_size X okX) (law.accepted_size Y okY)))
 
   -- a file that is refused, but for its size, is under none
-  pub refused-under : (X F : List ℕ) (error : FontError) → R.fault X ≡ Some error → error ≢ Directory FileTooLarge → ¬ Under R X F
+  pub refused-under : (X F : List ℕ) (error : FontError) → R.fault X ≡ Some error → error ≢ Directory FileTooLarge
+      → ¬ Under R X F
   refused-under X F error refused other u =
-      let none : Some error ≡ None = sym refused ∙ (IsCut-under R law X F u (law.refused_size X error refused other)).accepted in cc
+      let none : Some error ≡ None = sym refused
+      ∙ (IsCut-under R law X F u (law.refused_size X error refused other)).accepted in cc
 
   -- nor is one that is not in cut form
   pub no_cut-under : (X F : List ℕ) → R.fault X ≡ None → is_cut R X ≡ false → ¬ Under R X F

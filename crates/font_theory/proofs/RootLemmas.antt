@@ -33,13 +33,15 @@ pub is_root-seed : (c : Tables) (m : ℕ → ℕ) (g : ℕ) → g < glyph_count 
 is_root-seed c m g low h = (is_root-decides c m g).1 (low, start h)
 
 -- more seeds have no fewer roots
-pub is_root-more : (c : Tables) (m k : ℕ → ℕ) → ((g : ℕ) → is_seed m g ≡ true → is_seed k g ≡ true) → (g : ℕ) → is_root c m g ≡ true → is_root c k g ≡ true
+pub is_root-more : (c : Tables) (m k : ℕ → ℕ) → ((g : ℕ) → is_seed m g ≡ true → is_seed k g ≡ true) → (g : ℕ)
+    → is_root c m g ≡ true → is_root c k g ≡ true
 is_root-more c m k more g h =
     let r = (is_root-decides c m g).0 h in
     (is_root-decides c k g).1 (r.0, Linked-more (links_in c) NUMBERS (is_seed m) (is_seed k) more g r.1)
 
 -- the roots of seeds of two maps are those of one map or of the other
-pub is_root-split : (c : Tables) (all m k : ℕ → ℕ) → ((g : ℕ) → is_seed all g ≡ true → (is_seed m g ≡ true) ⊎ (is_seed k g ≡ true)) → (g : ℕ)
+pub is_root-split : (c : Tables) (all m k : ℕ → ℕ) → ((g : ℕ) → is_seed all g ≡ true → (is_seed m g ≡ true)
+    ⊎ (is_seed k g ≡ true)) → (g : ℕ)
     → is_root c all g ≡ true → (is_root c m g ≡ true) ⊎ (is_root c k g ≡ true)
 is_root-split c all m k either g h =
     let r = (is_root-decides c all g).0 h in
@@ -49,7 +51,8 @@ is_root-split c all m k either g h =
     ]
 
 -- marks of what links lead to from marks of the seeds are those of the roots
-pub roots_marked : (c : Tables) (m : ℕ → ℕ) (seeds marks : List Bool) → ((g : ℕ) → has seeds g ≡ is_seed m g) → ((g : ℕ) → has marks g ≡ true ↔ (g < glyph_count c) × Linked (links_in c) (has seeds) numbers.NUMBERS g) → (g : ℕ)
+pub roots_marked : (c : Tables) (m : ℕ → ℕ) (seeds marks : List Bool) → ((g : ℕ) → has seeds g ≡ is_seed m g)
+    → ((g : ℕ) → has marks g ≡ true ↔ (g < glyph_count c) × Linked (links_in c) (has seeds) numbers.NUMBERS g) → (g : ℕ)
     → has marks g ≡ is_root c m g
 unfolding NUMBERS
 roots_marked c m seeds marks are found g =
@@ -60,13 +63,17 @@ roots_marked c m seeds marks are found g =
     (is_root-decides c m g)
 
 -- where there are no links, the roots are the seeds
-pub is_root-alone : (c : Tables) (m : ℕ → ℕ) → ((g : ℕ) → links_in c g ≡ []) → ((g : ℕ) → is_seed m g ≡ true → g < glyph_count c) → is_root c m ≡ is_seed m
+pub is_root-alone : (c : Tables) (m : ℕ → ℕ) → ((g : ℕ) → links_in c g ≡ [])
+    → ((g : ℕ) → is_seed m g ≡ true → g < glyph_count c) → is_root c m ≡ is_seed m
 is_root-alone c m none below =
-    fun_ext (λ g. same_from_decides {P = is_seed m g ≡ true} (is_root c m g) (is_seed m g)
-    ((λ h. Linked-alone (links_in c) NUMBERS (is_seed m) none g ((is_root-decides c m g).0 h).1), (λ h. is_root-seed c m g (below g h) h))
+    fun_ext (λ g. same_from_decides {P = is_seed m g ≡ true} (is_root c m g) (is_seed m g) (
+      (λ h. Linked-alone (links_in c) NUMBERS (is_seed m) none g ((is_root-decides c m g).0 h).1),
+      (λ h. is_root-seed c m g (below g h) h),
+    )
     ((λ h. h), (λ h. h)))
 
 -- tables with the same links and as many glyphs have the same roots
-pub is_root-same : (c d : Tables) (m : ℕ → ℕ) → links_in d ≡ links_in c → glyph_count d ≡ glyph_count c → is_root d m ≡ is_root c m
+pub is_root-same : (c d : Tables) (m : ℕ → ℕ) → links_in d ≡ links_in c → glyph_count d ≡ glyph_count c
+    → is_root d m ≡ is_root c m
 unfolding is_root
 is_root-same c d m linked count = λ i. λ g. nat_lt g (count i) && is_linked (linked i) (is_seed m) NUMBERS g

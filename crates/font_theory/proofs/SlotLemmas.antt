@@ -1,5 +1,6 @@
 -- The tables at places: each is found under the tag of its slot.
-use Rattle.std.proofs.Common.{◌≡◌, ◌≢◌, ℕ, zero, suc, ◌+◌, ◌<◌, ◌≤◌, ◌⊎◌, Bool, true, false, List, [], ◌∷◌, ◌++◌, find, length, map, refl, sym, ap, subst, ◌∙◌, arith, Option, Some, None, option_map, inl, inr}
+use Rattle.std.proofs.Common.{◌≡◌, ◌≢◌, ℕ, zero, suc, ◌+◌, ◌<◌, ◌≤◌, ◌⊎◌, Bool, true, false, List, [], ◌∷◌, ◌++◌, find}
+use Rattle.std.proofs.Common.{length, map, refl, sym, ap, subst, ◌∙◌, arith, Option, Some, None, option_map, inl, inr}
 use Rattle.std.specs.List.{range_with_len}
 use Rattle.std.proofs.lemmas.Bool.{cases_eq, eq-eqb, ne_eqb}
 use Rattle.sfnt_bytes.specs.Directory.{slot_at, slot_tag}
@@ -7,7 +8,8 @@ use Rattle.sfnt_bytes.specs.Lines.{said_lines}
 use Rattle.sfnt_bytes.specs.Tag.{same_tag}
 use Rattle.sfnt_bytes.proofs.LineLemmas.{length-said_lines}
 use Rattle.font_theory.specs.Content.{Content, IsPlain}
-use Rattle.font_theory.specs.File.{Writing, Table, bytes_in_slot, checksum_in_slot, table_at_place, table_in, tables_from}
+use Rattle.font_theory.specs.File.{Writing, Table, bytes_in_slot, checksum_in_slot, table_at_place, table_in}
+use Rattle.font_theory.specs.File.{tables_from}
 use Rattle.font_theory.proofs.TagLemmas.{length-place_tag, place_of, place_of-low, same_tag-places, slot_at-place_of}
 use Rattle.font_theory.proofs.RecordLemmas.{AreTables, Each, HasFour}
 
@@ -20,13 +22,15 @@ abbrev pub is_of : ℕ → Table → Bool
 is_of slot table = same_tag table.tag (slot_tag slot)
 
 -- a slot with another tag in front
-find_other : (slot k : ℕ) (o : Option (List ℕ)) (rest : List (Option Table)) → same_tag (slot_tag k) (slot_tag slot) ≡ false
+find_other : (slot k : ℕ) (o : Option (List ℕ)) (rest : List (Option Table)) → same_tag (slot_tag k) (slot_tag slot)
+    ≡ false
     → find (is_of slot) (said_lines (option_map (table_with k) o ∷ rest)) ≡ find (is_of slot) (said_lines rest)
 find_other slot k None rest f = refl
 find_other slot k (Some b) rest f = rw f refl
 
 -- the slot itself
-find_same : (slot : ℕ) (o : Option (List ℕ)) (rest : List (Option Table)) → same_tag (slot_tag slot) (slot_tag slot) ≡ true → find (is_of slot) (said_lines rest) ≡ None
+find_same : (slot : ℕ) (o : Option (List ℕ)) (rest : List (Option Table)) → same_tag (slot_tag slot) (slot_tag slot)
+    ≡ true → find (is_of slot) (said_lines rest) ≡ None
     → find (is_of slot) (said_lines (option_map (table_with slot) o ∷ rest)) ≡ option_map (table_with slot) o
 find_same slot None rest t none = none
 find_same slot (Some b) rest t none = rw t refl
@@ -36,15 +40,22 @@ module _ (writing : Writing) (K : Content) (head : List ℕ) where
   bytes_at = bytes_in_slot writing K head
 
   -- and nowhere else
-  pub found_nowhere : (place k n : ℕ) → place < 21 → k + n ≤ 21 → (place < k) ⊎ (k + n ≤ place) → find (is_of (slot_at place)) (tables_from writing K head k n) ≡ None
+  pub found_nowhere : (place k n : ℕ) → place < 21 → k + n ≤ 21 → (place < k) ⊎ (k + n ≤ place)
+      → find (is_of (slot_at place)) (tables_from writing K head k n) ≡ None
   found_nowhere place k zero low few out = refl
   found_nowhere place k (suc n) low few out =
       let other : k ≢ place = λ e. elim out [ inl h ↦ omega arith | inr h ↦ omega arith ] in
-      let next : (place < k + 1) ⊎ (k + 1 + n ≤ place) = elim out [ inl h ↦ inl (omega arith) | inr h ↦ inr (omega arith) ] in
-      find_other (slot_at place) (slot_at k) (bytes_at (slot_at k)) _ (same_tag-places k place (omega arith) low ∙ ne_eqb k place other) ∙ found_nowhere place (k + 1) n low (omega arith) next
+      let next : (place < k + 1) ⊎ (k + 1 + n ≤ place) = elim out [
+        | inl h ↦ inl (omega arith)
+        | inr h ↦
+            inr (omega arith)
+      ] in
+      find_other (slot_at place) (slot_at k) (bytes_at (slot_at k)) _ (same_tag-places k place (omega arith) low
+      ∙ ne_eqb k place other) ∙ found_nowhere place (k + 1) n low (omega arith) next
 
   -- the table at a place is found under its tag
-  pub found_at_place : (place k n : ℕ) → place < 21 → k + n ≤ 21 → k ≤ place → place < k + n → find (is_of (slot_at place)) (tables_from writing K head k n) ≡ table_at_place writing K head place
+  pub found_at_place : (place k n : ℕ) → place < 21 → k + n ≤ 21 → k ≤ place → place < k + n
+      → find (is_of (slot_at place)) (tables_from writing K head k n) ≡ table_at_place writing K head place
   found_at_place place k zero low few from to = absurd (omega arith)
   found_at_place place k (suc n) low few from to =
       elim (cases_eq k place) [
@@ -52,26 +63,37 @@ module _ (writing : Writing) (K : Content) (head : List ℕ) where
             let rest = map (table_at_place writing K head) (range_with_len (k + 1) n) in
             let none = found_nowhere place (k + 1) n low (omega arith) (inl (omega arith)) in
             ap (λ (j : ℕ). find (is_of (slot_at place)) (said_lines (table_at_place writing K head j ∷ rest))) e
-            ∙ find_same (slot_at place) (bytes_at (slot_at place)) rest (same_tag-places place place low low ∙ eq-eqb place place refl) none
+            ∙ find_same (slot_at place) (bytes_at (slot_at place)) rest (same_tag-places place place low low
+            ∙ eq-eqb place place refl) none
         | inr ne ↦
-            find_other (slot_at place) (slot_at k) (bytes_at (slot_at k)) _ (same_tag-places k place (omega arith) low ∙ ne_eqb k place ne)
+            find_other (slot_at place) (slot_at k) (bytes_at (slot_at k)) _ (same_tag-places k place (omega arith) low
+            ∙ ne_eqb k place ne)
             ∙ found_at_place place (k + 1) n low (omega arith) (omega arith) (omega arith)
       ]
 
   -- and so that in a slot
-  pub found_in_slot : (slot : ℕ) → slot < 21 → find (is_of slot) (tables_from writing K head 0 21) ≡ table_in writing K head slot
+  pub found_in_slot : (slot : ℕ) → slot < 21 → find (is_of slot) (tables_from writing K head 0 21)
+      ≡ table_in writing K head slot
   found_in_slot slot low =
       let inside = place_of-low slot low in
-      subst (λ (s : ℕ). find (is_of s) (tables_from writing K head 0 21) ≡ table_in writing K head s) (slot_at-place_of slot low)
+      subst (λ (s : ℕ). find (is_of s) (tables_from writing K head 0 21) ≡ table_in writing K head s)
+      (slot_at-place_of slot low)
       (found_at_place (place_of slot) 0 21 inside (omega arith) (omega arith) (omega arith))
 
   -- what holds of the table of each slot holds of all tables
-  pub each_slot : (P : Table → Type 0) (k n : ℕ) → ((place : ℕ) (b : List ℕ) → k ≤ place → place < k + n → bytes_at (slot_at place) ≡ Some b → P (table_with (slot_at place) b)) → Each P (tables_from writing K head k n)
+  pub each_slot : (P : Table → Type 0) (k n : ℕ) → ((place : ℕ) (b : List ℕ) → k ≤ place → place < k + n
+      → bytes_at (slot_at place) ≡ Some b → P (table_with (slot_at place) b)) → Each P (tables_from writing K head k n)
   each_slot P k zero h = tt
-  each_slot P k (suc n) h = each_more P k n (bytes_at (slot_at k)) refl h (each_slot P (k + 1) n (λ slot b from to e. h slot b (omega arith) (omega arith) e))
+  each_slot P k (suc n) h =
+      each_more P k n (bytes_at (slot_at k)) refl h
+      (each_slot P (k + 1) n (λ slot b from to e. h slot b (omega arith) (omega arith) e))
     where
-      each_more : (P : Table → Type 0) (k n : ℕ) (o : Option (List ℕ)) → bytes_at (slot_at k) ≡ o → ((place : ℕ) (b : List ℕ) → k ≤ place → place < k + suc n → bytes_at (slot_at place) ≡ Some b → P (table_with (slot_at place) b))
-          → Each P (tables_from writing K head (k + 1) n) → Each P (said_lines (option_map (table_with (slot_at k)) o ∷ map (table_at_place writing K head) (range_with_len (k + 1) n)))
+      each_more : (P : Table → Type 0) (k n : ℕ) (o : Option (List ℕ)) → bytes_at (slot_at k) ≡ o
+          → ((place : ℕ) (b : List ℕ) → k ≤ place → place < k + suc n → bytes_at (slot_at place) ≡ Some b
+          → P (table_with (slot_at place) b))
+          → Each P (tables_from writing K head (k + 1) n)
+          → Each P (said_lines (option_map (table_with (slot_at k)) o ∷ map (table_at_place writing K head)
+          (range_with_len (k + 1) n)))
       each_more P k n None e h rest = rest
       each_more P k n (Some b) e h rest = (h k b (omega arith) (omega arith) e, rest)
 
@@ -81,29 +103,42 @@ module _ (writing : Writing) (K : Content) (head : List ℕ) where
   said_lines-append (None ∷ xs) ys = said_lines-append xs ys
   said_lines-append (Some x ∷ xs) ys = ap (λ (l : List Table). x ∷ l) (said_lines-append xs ys)
 
-  pub tables_from-split : (k n m : ℕ) → tables_from writing K head k (n + m) ≡ tables_from writing K head k n ++ tables_from writing K head (k + n) m
+  pub tables_from-split : (k n m : ℕ) → tables_from writing K head k (n + m) ≡ tables_from writing K head k n
+      ++ tables_from writing K head (k + n) m
   tables_from-split k n m =
-      ap (λ (l : List (Option Table)). said_lines l) (map_split k n m) ∙ said_lines-append (map (table_at_place writing K head) (range_with_len k n)) (map (table_at_place writing K head) (range_with_len (k + n) m))
+      ap (λ (l : List (Option Table)). said_lines l) (map_split k n m)
+      ∙ said_lines-append (map (table_at_place writing K head) (range_with_len k n))
+      (map (table_at_place writing K head) (range_with_len (k + n) m))
     where
-      map_split : (k n m : ℕ) → map (table_at_place writing K head) (range_with_len k (n + m)) ≡ map (table_at_place writing K head) (range_with_len k n) ++ map (table_at_place writing K head) (range_with_len (k + n) m)
-      map_split k zero m = let a : 0 + m ≡ m = omega arith in let b : k ≡ k + 0 = omega arith in λ i. map (table_at_place writing K head) (range_with_len (b i) (a i))
+      map_split : (k n m : ℕ) → map (table_at_place writing K head) (range_with_len k (n + m))
+          ≡ map (table_at_place writing K head) (range_with_len k n) ++ map (table_at_place writing K head)
+          (range_with_len (k + n) m)
+      map_split k zero m = let a : 0 + m ≡ m = omega arith in let b : k ≡ k + 0 = omega arith in
+          λ i. map (table_at_place writing K head) (range_with_len (b i) (a i))
       map_split k (suc n) m =
           let a : suc n + m ≡ suc (n + m) = omega arith in
           let b : k + 1 + n ≡ k + suc n = omega arith in
           ap (λ (j : ℕ). map (table_at_place writing K head) (range_with_len k j)) a
-          ∙ ap (λ (l : List (Option Table)). table_at_place writing K head k ∷ l) (map_split (k + 1) n m ∙ ap (λ (j : ℕ). map (table_at_place writing K head) (range_with_len (k + 1) n) ++ map (table_at_place writing K head) (range_with_len j m)) b)
+          ∙ ap (λ (l : List (Option Table)). table_at_place writing K head k ∷ l) (map_split (k + 1) n m
+          ∙ ap (λ (j : ℕ). map (table_at_place writing K head) (range_with_len (k + 1) n)
+          ++ map (table_at_place writing K head) (range_with_len j m)) b)
 
-  pub tables_from-more : (n : ℕ) → tables_from writing K head 0 (n + 1) ≡ tables_from writing K head 0 n ++ said_lines (table_at_place writing K head n ∷ [])
-  tables_from-more n = tables_from-split 0 n 1 ∙ (let e : 0 + n ≡ n = omega arith in ap (λ (j : ℕ). tables_from writing K head 0 n ++ said_lines (table_at_place writing K head j ∷ [])) e)
+  pub tables_from-more : (n : ℕ) → tables_from writing K head 0 (n + 1) ≡ tables_from writing K head 0 n
+      ++ said_lines (table_at_place writing K head n ∷ [])
+  tables_from-more n = tables_from-split 0 n 1 ∙ (let e : 0 + n ≡ n = omega arith in
+      ap (λ (j : ℕ). tables_from writing K head 0 n ++ said_lines (table_at_place writing K head j ∷ [])) e)
 
   -- without tables of layout, those that stand at the places are those of the slots, in their order
-  pub tables_from-plain : IsPlain K.copied → tables_from writing K head 0 21 ≡ said_lines (map (table_in writing K head) (range_with_len 0 16))
+  pub tables_from-plain : IsPlain K.copied → tables_from writing K head 0 21
+      ≡ said_lines (map (table_in writing K head) (range_with_len 0 16))
   unfolding slot_at bytes_in_slot
   tables_from-plain plain =
-      let base = plain 16 refl in let gdef = plain 17 refl in let gpos = plain 18 refl in let gsub = plain 19 refl in let kern = plain 20 refl in
+      let base = plain 16 refl in let gdef = plain 17 refl in let gpos = plain 18 refl in let gsub = plain 19 refl in
+      let kern = plain 20 refl in
       let first : List (Option Table) = map (table_in writing K head) (range_with_len 0 9) in
       let last : List (Option Table) = map (table_in writing K head) (range_with_len 9 7) in
-      (λ i. said_lines (option_map (table_with 16) (base i) ∷ option_map (table_with 17) (gdef i) ∷ option_map (table_with 18) (gpos i) ∷ option_map (table_with 19) (gsub i)
+      (λ i. said_lines (option_map (table_with 16) (base i) ∷ option_map (table_with 17) (gdef i)
+      ∷ option_map (table_with 18) (gpos i) ∷ option_map (table_with 19) (gsub i)
       ∷ (first ++ (option_map (table_with 20) (kern i) ∷ last))))
       ∙ said_lines-append first (None ∷ last) ∙ sym (said_lines-append first last)
 

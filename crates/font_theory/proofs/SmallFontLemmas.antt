@@ -1,8 +1,11 @@
 -- What is read of a small font, and what is kept of it for two sets of codes, by computation.
-use Rattle.std.proofs.Common.{◌≡◌, ℕ, zero, suc, ◌<◌, ◌≤◌, ◌⊎◌, ◌||◌, Bool, true, false, cond, nat_eq, nat_lt, List, [], ◌∷◌, get_or, map, take, refl, sym, ap, subst, ◌∙◌, arith, Option, Some, None, option_map, inl, inr, flat_map}
+use Rattle.std.proofs.Common.{◌≡◌, ℕ, zero, suc, ◌<◌, ◌≤◌, ◌⊎◌, ◌||◌, Bool, true, false, cond, nat_eq, nat_lt, List, []}
+use Rattle.std.proofs.Common.{◌∷◌, get_or, map, take, refl, sym, ap, subst, ◌∙◌, arith, Option, Some, None, option_map}
+use Rattle.std.proofs.Common.{inl, inr, flat_map}
 use Rattle.std.specs.List.{range_with_len}
 use Rattle.std.specs.Option.{option_or}
-use Rattle.std.proofs.lemmas.Bool.{cases_eq, cases_lt, eqb-true, le-leb, le-ltb, lt-ltb, ltb-true, ne_eqb, or_cases, or_right}
+use Rattle.std.proofs.lemmas.Bool.{cases_eq, cases_lt, eqb-true, le-leb, le-ltb, lt-ltb, ltb-true, ne_eqb, or_cases}
+use Rattle.std.proofs.lemmas.Bool.{or_right}
 use Rattle.std.proofs.lemmas.Bool.Decides.{same_from_decides}
 use Rattle.std.proofs.lemmas.List.{get_or-take, get_or_past, length-take}
 use Rattle.std.proofs.lemmas.List.FromFn.{get_or-map-range_with_len}
@@ -11,10 +14,12 @@ use Rattle.sfnt_bytes.specs.Lines.{when}
 use Rattle.sfnt_bytes.specs.Number.{u16_at, u32_at}
 use Rattle.sfnt_bytes.specs.Refusals.{directory_fault, is_duplicate, is_outside}
 use Rattle.sfnt_bytes.specs.declared.base6.TheConstants.{BASE6}
-use Rattle.font_tables.specs.Fields.{glyph_count_of, index_to_loc_format, loca_form_of, magic_number, maxp_version, metric_count_of, num_glyphs, number_of_h_metrics}
+use Rattle.font_tables.specs.Fields.{glyph_count_of, index_to_loc_format, loca_form_of, magic_number, maxp_version}
+use Rattle.font_tables.specs.Fields.{metric_count_of, num_glyphs, number_of_h_metrics}
 use Rattle.font_tables.specs.Outlines.{offset_at, outline_of}
 use Rattle.font_tables.specs.Refusals.{is_bad_offset, is_missing, table_fault}
-use Rattle.font_tables.specs.Tables.{cmap_tag, glyf_tag, head_tag, hhea_tag, hmtx_tag, loca_tag, maxp_tag, required_tags, table_or_empty}
+use Rattle.font_tables.specs.Tables.{cmap_tag, glyf_tag, head_tag, hhea_tag, hmtx_tag, loca_tag, maxp_tag}
+use Rattle.font_tables.specs.Tables.{required_tags, table_or_empty}
 use Rattle.codes.specs.CharacterMap.{restricted}
 use Rattle.font_map.specs.Cmap.{candidate_of, chosen_record, encoding_count, is_candidate, is_malformed, subtable_at}
 use Rattle.cmap_subtables.specs.Format4.{entry_or_zero, glyph_by, segment_count, segment_glyph, segment_in, segments_of}
@@ -34,7 +39,8 @@ use Rattle.font_theory.proofs.LinkLemmas.{links_in-none}
 use Rattle.font_theory.proofs.RootLemmas.{is_root-alone}
 use Rattle.font_theory.specs.WorkedFiles.{of_words}
 use Rattle.font_theory.proofs.FontLemmas.{IsFont-accepted}
-use Rattle.font_theory.proofs.WantedLemmas.{IsKept, is_kept-decides, is_seed-code, is_seed-tells, is_seed-zero, restricted-past, seeds-below, seeds-roots}
+use Rattle.font_theory.proofs.WantedLemmas.{IsKept, is_kept-decides, is_seed-code, is_seed-tells, is_seed-zero}
+use Rattle.font_theory.proofs.WantedLemmas.{restricted-past, seeds-below, seeds-roots}
 
 -- the bytes of numbers of 16 bits
 abbrev of_halves : List ℕ → List ℕ
@@ -48,13 +54,15 @@ small_head = of_halves (
     ∷ 0x01F4 ∷ 0x01F4 ∷ 0x0000 ∷ 0x0008 ∷ 0x0002 ∷ 0x0001 ∷ 0x0000 ∷ [])
 
 abbrev pub small_hhea : List ℕ
-small_hhea = of_words (0x00010000 ∷ 0x0320FF38 ∷ 0x00000258 ∷ 0x00000000 ∷ 0x01F40001 ∷ 0x00000000 ∷ 0x00000000 ∷ 0x00000000 ∷ 0x00000006 ∷ [])
+small_hhea = of_words (0x00010000 ∷ 0x0320FF38 ∷ 0x00000258 ∷ 0x00000000 ∷ 0x01F40001 ∷ 0x00000000 ∷ 0x00000000
+    ∷ 0x00000000 ∷ 0x00000006 ∷ [])
 
 abbrev pub small_hmtx : List ℕ
 small_hmtx = of_words (0x02580000 ∷ 0x01F40000 ∷ 0x01900000 ∷ 0x01F40000 ∷ 0x00FA0000 ∷ 0x012C0000 ∷ [])
 
 abbrev pub small_maxp : List ℕ
-small_maxp = of_words (0x00010000 ∷ 0x00060000 ∷ 0x00000000 ∷ 0x00000001 ∷ 0x00000000 ∷ 0x00000000 ∷ 0x00000002 ∷ 0x00020001 ∷ [])
+small_maxp = of_words (0x00010000 ∷ 0x00060000 ∷ 0x00000000 ∷ 0x00000001 ∷ 0x00000000 ∷ 0x00000000 ∷ 0x00000002
+    ∷ 0x00020001 ∷ [])
 
 abbrev pub small_notdef : List ℕ
 small_notdef = of_words (0x00000000 ∷ 0x00000064 ∷ 0x00640000 ∷ [])
@@ -69,7 +77,8 @@ abbrev pub small_aacute : List ℕ
 small_aacute = of_words (0xFFFF0000 ∷ 0x000001F4 ∷ 0x01F40022 ∷ 0x00010000 ∷ 0x00020002 ∷ 0x05050000 ∷ [])
 
 abbrev small_tables : List (Option (List ℕ))
-small_tables = None ∷ None ∷ None ∷ None ∷ None ∷ None ∷ None ∷ Some small_hhea ∷ Some small_hmtx ∷ None ∷ Some small_maxp ∷ None ∷ None ∷ None ∷ None ∷ None ∷ []
+small_tables = None ∷ None ∷ None ∷ None ∷ None ∷ None ∷ None ∷ Some small_hhea ∷ Some small_hmtx ∷ None
+    ∷ Some small_maxp ∷ None ∷ None ∷ None ∷ None ∷ None ∷ []
 
 abbrev pub small_copied : ℕ → Option (List ℕ)
 small_copied slot = get_or small_tables slot None
@@ -83,21 +92,27 @@ unfolding directory_fault is_duplicate is_outside table_entry records_of entry_a
 directory_fine = refl
 
 tables_fine : table_fault BASE6 ≡ None
-unfolding table_fault is_missing required_tags cmap_tag glyf_tag head_tag hhea_tag hmtx_tag loca_tag maxp_tag table_or_empty table_of table_entry records_of entry_at tag_at u16_at u32_at glyph_count_of metric_count_of num_glyphs number_of_h_metrics index_to_loc_format loca_form_of magic_number maxp_version is_bad_offset offset_at
+unfolding table_fault is_missing required_tags cmap_tag glyf_tag head_tag hhea_tag hmtx_tag loca_tag maxp_tag
+    table_or_empty table_of table_entry records_of entry_at tag_at u16_at u32_at glyph_count_of metric_count_of
+    num_glyphs number_of_h_metrics index_to_loc_format loca_form_of magic_number maxp_version is_bad_offset offset_at
 tables_fine = refl
 
 map_fine : map_fault (cmap_of BASE6) ≡ None
-unfolding map_fault cmap_of kept_tag table_of table_entry records_of entry_at tag_at u16_at u32_at chosen_record candidate_of encoding_count is_candidate subtable_at is_malformed segment_count
+unfolding map_fault cmap_of kept_tag table_of table_entry records_of entry_at tag_at u16_at u32_at chosen_record
+    candidate_of encoding_count is_candidate subtable_at is_malformed segment_count
 map_fine = refl
 
 glyphs_fine : glyph_fault BASE6 ≡ None
-unfolding is_bad_glyph is_record components_of chain_of component_size outline_of offset_at glyph_count_of num_glyphs index_to_loc_format loca_form_of table_or_empty glyf_tag head_tag loca_tag maxp_tag table_of table_entry records_of entry_at tag_at u16_at u32_at
+unfolding is_bad_glyph is_record components_of chain_of component_size outline_of offset_at glyph_count_of num_glyphs
+    index_to_loc_format loca_form_of table_or_empty glyf_tag head_tag loca_tag maxp_tag table_of table_entry records_of
+    entry_at tag_at u16_at u32_at
 glyphs_fine = refl
 
 accepted : font_fault BASE6 ≡ None
 accepted =
     font_fault_is BASE6
-    ∙ (λ i. option_or (option_map Directory (directory_fine i)) (option_or (option_map Tables (tables_fine i)) (option_or (option_map Mapping (map_fine i)) (glyphs_fine i))))
+    ∙ (λ i. option_or (option_map Directory (directory_fine i)) (option_or (option_map Tables (tables_fine i))
+    (option_or (option_map Mapping (map_fine i)) (glyphs_fine i))))
 
 pub is_font : IsFont font
 is_font = IsFont-accepted BASE6 accepted
@@ -119,7 +134,8 @@ copied_is slot = elim (cases_lt slot 16) [
       ∙ get_or-map-range_with_len small_copied 0 16 slot slot None low (omega arith)
   | inr past ↦
       let made : is_made slot ≡ true = or_right _ _ (le-leb 16 slot past) in
-      ap (λ (b : Bool). cond b None (table_of BASE6 (kept_tag slot))) made ∙ sym (get_or_past small_tables slot None past)
+      ap (λ (b : Bool). cond b None (table_of BASE6 (kept_tag slot))) made
+      ∙ sym (get_or_past small_tables slot None past)
 ]
 
 -- the outlines: those of the first four glyphs, as they are padded, and what they name
@@ -127,16 +143,22 @@ abbrev pub small_outlines : List (Option (List ℕ))
 small_outlines = Some small_notdef ∷ Some small_a ∷ Some small_acute ∷ Some small_aacute ∷ []
 
 outlines_listed : map (λ g. Some (padded (font.outline g))) (range_with_len 0 4) ≡ small_outlines
-unfolding glyph_count_of outline_of offset_at loca_form_of index_to_loc_format num_glyphs table_or_empty cmap_tag glyf_tag head_tag hhea_tag hmtx_tag loca_tag maxp_tag table_of table_entry records_of entry_at tag_at u16_at u32_at padded
+unfolding glyph_count_of outline_of offset_at loca_form_of index_to_loc_format num_glyphs table_or_empty cmap_tag
+    glyf_tag head_tag hhea_tag hmtx_tag loca_tag maxp_tag table_of table_entry records_of entry_at tag_at u16_at u32_at
+    padded
 outlines_listed = refl
 
 outline_is : (g : ℕ) → g < 4 → Some (padded (font.outline g)) ≡ get_or small_outlines g None
 outline_is g low =
-    sym (get_or-map-range_with_len (λ h. Some (padded (font.outline h))) 0 4 g g None low (omega arith)) ∙ ap (λ (l : List (Option (List ℕ))). get_or l g None) outlines_listed
+    sym (get_or-map-range_with_len (λ h. Some (padded (font.outline h))) 0 4 g g None low (omega arith))
+    ∙ ap (λ (l : List (Option (List ℕ))). get_or l g None) outlines_listed
 
 -- the components of the first four glyphs are among them, and .notdef has none
-named_listed : (g : ℕ) → map (λ s. names (font.outline s) g) (range_with_len 0 4) ≡ false ∷ false ∷ false ∷ (nat_eq 1 g || (nat_eq 2 g || false)) ∷ []
-unfolding names components_of chain_of component_size glyph_count_of outline_of offset_at loca_form_of index_to_loc_format num_glyphs table_or_empty cmap_tag glyf_tag head_tag hhea_tag hmtx_tag loca_tag maxp_tag table_of table_entry records_of entry_at tag_at u16_at u32_at
+named_listed : (g : ℕ) → map (λ s. names (font.outline s) g) (range_with_len 0 4) ≡ false ∷ false ∷ false
+    ∷ (nat_eq 1 g || (nat_eq 2 g || false)) ∷ []
+unfolding names components_of chain_of component_size glyph_count_of outline_of offset_at loca_form_of
+    index_to_loc_format num_glyphs table_or_empty cmap_tag glyf_tag head_tag hhea_tag hmtx_tag loca_tag maxp_tag
+    table_of table_entry records_of entry_at tag_at u16_at u32_at
 named_listed g = refl
 
 component_of-small : (s g : ℕ) → s < 4 → IsComponentOf (font.outline s) g → (s ≡ 3) × ((g ≡ 1) ⊎ (g ≡ 2))
@@ -147,7 +169,8 @@ component_of-small s g low h = cases s low (there ∙ (names_decides (font.outli
 
     there : get_or named s false ≡ names (font.outline s) g
     there =
-        ap (λ (l : List Bool). get_or l s false) (sym (named_listed g)) ∙ get_or-map-range_with_len (λ k. names (font.outline k) g) 0 4 s s false low (omega arith)
+        ap (λ (l : List Bool). get_or l s false) (sym (named_listed g))
+        ∙ get_or-map-range_with_len (λ k. names (font.outline k) g) 0 4 s s false low (omega arith)
 
     cases : (k : ℕ) → k < 4 → get_or named k false ≡ true → (k ≡ 3) × ((g ≡ 1) ⊎ (g ≡ 2))
     cases zero l e = cc
@@ -158,24 +181,35 @@ component_of-small s g low h = cases s low (there ∙ (names_decides (font.outli
         either : (nat_eq 1 g || (nat_eq 2 g || false)) ≡ true → (g ≡ 1) ⊎ (g ≡ 2)
         either t = elim (or_cases (nat_eq 1 g) (nat_eq 2 g || false) t) [
           | inl one ↦ inl (sym (eqb-true 1 g one))
-          | inr other ↦ elim (or_cases (nat_eq 2 g) false other) [ inl two ↦ inr (sym (eqb-true 2 g two)) | inr none ↦ cc ]
+          | inr other ↦ elim (or_cases (nat_eq 2 g) false other) [
+            | inl two ↦ inr (sym (eqb-true 2 g two))
+            | inr none ↦
+                cc
+          ]
         ]
     cases (suc (suc (suc (suc k)))) l e = absurd (omega arith)
 
 -- it has no `GSUB`, and so no links
-roots_are : (wanted : ℕ → Bool) → is_root font.copied (restricted wanted font.map) ≡ is_seed (restricted wanted font.map)
-roots_are wanted = is_root-alone font.copied (restricted wanted font.map) (links_in-none font.copied refl) (seeds-below font wanted is_font)
+roots_are : (wanted : ℕ → Bool) → is_root font.copied (restricted wanted font.map)
+    ≡ is_seed (restricted wanted font.map)
+roots_are wanted = is_root-alone font.copied (restricted wanted font.map) (links_in-none font.copied refl)
+    (seeds-below font wanted is_font)
 
 first : (wanted : ℕ → Bool) (g : ℕ) → is_seed (restricted wanted font.map) g ≡ true → IsKept font wanted g
 first wanted g h = seed (seeds-roots font wanted is_font g h)
 
 -- what is kept are the glyphs below a number, where seeds and components stay below it and each of them is
 -- reached
-kept_below : (wanted : ℕ → Bool) (n : ℕ) → ((g : ℕ) → is_seed (restricted wanted font.map) g ≡ true → g < n) → ((s g : ℕ) → s < n → IsComponentOf (font.outline s) g → g < n)
+kept_below : (wanted : ℕ → Bool) (n : ℕ) → ((g : ℕ) → is_seed (restricted wanted font.map) g ≡ true → g < n)
+    → ((s g : ℕ) → s < n → IsComponentOf (font.outline s) g → g < n)
     → ((g : ℕ) → g < n → IsKept font wanted g) → (g : ℕ) → is_kept font wanted g ≡ nat_lt g n
 kept_below wanted n seeds parts back g =
-    same_from_decides {P = IsKept font wanted g} (is_kept font wanted g) (nat_lt g n) (is_kept-decides font wanted is_font g)
-    ((λ t. back g (ltb-true g n t)), (λ r. Reach-within font.outline (is_root font.copied (restricted wanted font.map)) (λ h. nat_lt h n) closed g r))
+    same_from_decides {P = IsKept font wanted g} (is_kept font wanted g) (nat_lt g n)
+    (is_kept-decides font wanted is_font g) (
+      (λ t. back g (ltb-true g n t)),
+      (λ r. Reach-within font.outline (is_root font.copied (restricted wanted font.map))
+          (λ h. nat_lt h n) closed g r),
+    )
   where
     closed : IsClosed font.outline (is_root font.copied (restricted wanted font.map)) (λ h. nat_lt h n ≡ true)
     closed = record {
@@ -191,13 +225,18 @@ nothing_kept : (g : ℕ) → is_kept font nothing g ≡ nat_lt g 1
 nothing_kept g = kept_below nothing 1 seeds parts back g
   where
     seeds : (h : ℕ) → is_seed (restricted nothing font.map) h ≡ true → h < 1
-    seeds h e = elim (is_seed-tells (restricted nothing font.map) h e) [ inl zero_is ↦ omega arith | inr w ↦ let same : 0 ≡ h = w.1 in omega arith ]
+    seeds h e = elim (is_seed-tells (restricted nothing font.map) h e) [
+      | inl zero_is ↦ omega arith
+      | inr w ↦
+          let same : 0 ≡ h = w.1 in omega arith
+    ]
 
     parts : (s h : ℕ) → s < 1 → IsComponentOf (font.outline s) h → h < 1
     parts s h low c = let w = component_of-small s h (omega arith) c in let three : s ≡ 3 = w.0 in absurd (omega arith)
 
     back : (h : ℕ) → h < 1 → IsKept font nothing h
-    back h low = let e : 0 ≡ h = omega arith in subst (IsKept font nothing) e (first nothing 0 (is_seed-zero (restricted nothing font.map)))
+    back h low = let e : 0 ≡ h = omega arith in
+        subst (IsKept font nothing) e (first nothing 0 (is_seed-zero (restricted nothing font.map)))
 
 -- for 0xC1: its glyph 3, the components 1 and 2 of that, and .notdef
 abbrev pub only_aacute : ℕ → Bool
@@ -207,7 +246,9 @@ abbrev aacute_map : ℕ → ℕ
 aacute_map = restricted only_aacute font.map
 
 mapped_there : font.map 0xC1 ≡ 3
-unfolding mapping_of cmap_of chosen_record candidate_of encoding_count is_candidate subtable_at listed_glyph segment_glyph segments_of segment_in segment_count glyph_by entry_or_zero glyph_count_of num_glyphs table_or_empty maxp_tag kept_tag table_of table_entry records_of entry_at tag_at u16_at u32_at
+unfolding mapping_of cmap_of chosen_record candidate_of encoding_count is_candidate subtable_at listed_glyph
+    segment_glyph segments_of segment_in segment_count glyph_by entry_or_zero glyph_count_of num_glyphs table_or_empty
+    maxp_tag kept_tag table_of table_entry records_of entry_at tag_at u16_at u32_at
 mapped_there = refl
 
 -- one code on one glyph
@@ -231,7 +272,8 @@ aacute_kept g = kept_below only_aacute 4 seeds parts back g
       | inl zero_is ↦ omega arith
       | inr w ↦ let same : one_code w.0 ≡ h = sym (aacute_map_is w.0) ∙ w.1 in elim (cases_eq w.0 0xC1) [
         | inl is ↦ let at : one_code w.0 ≡ 3 = ap one_code is in omega arith
-        | inr other ↦ let f = ne_eqb w.0 0xC1 other in let at : one_code w.0 ≡ 0 = ap {B = ℕ} (λ (b : Bool). cond b 3 0) f in omega arith
+        | inr other ↦ let f = ne_eqb w.0 0xC1 other in let at : one_code w.0 ≡ 0 =
+            ap {B = ℕ} (λ (b : Bool). cond b 3 0) f in omega arith
       ]
     ]
 
@@ -239,10 +281,12 @@ aacute_kept g = kept_below only_aacute 4 seeds parts back g
     parts s h low c = let w = component_of-small s h low c in elim w.1 [ inl one ↦ omega arith | inr two ↦ omega arith ]
 
     third : IsKept font only_aacute 3
-    third = first only_aacute 3 (subst (λ (k : ℕ). is_seed aacute_map k ≡ true) three (is_seed-code aacute_map (restricted-past font only_aacute is_font) 0xC1))
+    third = first only_aacute 3 (subst (λ (k : ℕ). is_seed aacute_map k ≡ true) three
+        (is_seed-code aacute_map (restricted-past font only_aacute is_font) 0xC1))
 
     named : (h : ℕ) → (nat_eq 1 h || (nat_eq 2 h || false)) ≡ true → IsKept font only_aacute h
-    named h e = part third ((names_decides (font.outline 3) h).0 (ap (λ (l : List Bool). get_or l 3 false) (named_listed h) ∙ e))
+    named h e = part third ((names_decides (font.outline 3) h).0 (ap (λ (l : List Bool). get_or l 3 false)
+        (named_listed h) ∙ e))
 
     back : (h : ℕ) → h < 4 → IsKept font only_aacute h
     back zero low = first only_aacute 0 (is_seed-zero aacute_map)
@@ -253,19 +297,27 @@ aacute_kept g = kept_below only_aacute 4 seeds parts back g
 
 -- the content with these outlines and this map
 abbrev pub small_content : (ℕ → ℕ) → ℕ → Content
-small_content m n = record { copied = small_copied; head = small_head; map = m; outline = λ g. get_or (take n small_outlines) g None }
+small_content m n = record {
+  copied = small_copied;
+  head = small_head;
+  map = m;
+  outline = λ g. get_or (take n small_outlines) g None;
+}
 
 outlines_are : (n g : ℕ) → n ≤ 4 → when (nat_lt g n) (padded (font.outline g)) ≡ get_or (take n small_outlines) g None
 outlines_are n g few = elim (cases_lt g n) [
   | inl low ↦
       let t = lt-ltb g n low in
-      ap (λ (b : Bool). when b (padded (font.outline g))) t ∙ outline_is g (omega arith) ∙ sym (get_or-take n small_outlines g None low)
+      ap (λ (b : Bool). when b (padded (font.outline g))) t ∙ outline_is g (omega arith)
+      ∙ sym (get_or-take n small_outlines g None low)
   | inr past ↦
       let f = le-ltb g n past in
-      ap (λ (b : Bool). when b (padded (font.outline g))) f ∙ sym (get_or_past (take n small_outlines) g None (omega (arith, length-take n small_outlines)))
+      ap (λ (b : Bool). when b (padded (font.outline g))) f
+      ∙ sym (get_or_past (take n small_outlines) g None (omega (arith, length-take n small_outlines)))
 ]
 
-content_is : (wanted : ℕ → Bool) (m : ℕ → ℕ) (n : ℕ) → n ≤ 4 → ((c : ℕ) → restricted wanted font.map c ≡ m c) → ((g : ℕ) → is_kept font wanted g ≡ nat_lt g n) → content font wanted ≡ small_content m n
+content_is : (wanted : ℕ → Bool) (m : ℕ → ℕ) (n : ℕ) → n ≤ 4 → ((c : ℕ) → restricted wanted font.map c ≡ m c)
+    → ((g : ℕ) → is_kept font wanted g ≡ nat_lt g n) → content font wanted ≡ small_content m n
 content_is wanted m n few maps kept = λ i. record {
   copied = λ slot. copied_is slot i;
   head = head_is i;

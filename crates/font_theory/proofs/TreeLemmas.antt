@@ -1,43 +1,55 @@
 -- Trees of joins, and what they come to.
-use Rattle.std.proofs.Common.{◌≡◌, ℕ, ◌≤◌, Bool, true, false, ◌⊎◌, inl, inr, List, length, None, refl, sym, ◌∙◌, ap, subst}
+use Rattle.std.proofs.Common.{◌≡◌, ℕ, ◌≤◌, Bool, true, false, ◌⊎◌, inl, inr, List, length, None, refl, sym, ◌∙◌, ap}
+use Rattle.std.proofs.Common.{subst}
 use Rattle.std.proofs.Math.Path.{fun_ext}
 use Rattle.std.proofs.lemmas.Bool.{or_cases, or_left, or_right}
 use Rattle.font_theory.specs.Cut.{Format, IsCurrent, IsCut, IsFormat, Under, cut, joined, content_of_all}
-use Rattle.font_theory.specs.Join.{Agree}
+use Rattle.font_theory.specs.Agreement.{Agree}
 use Rattle.font_theory.specs.Tree.{Clash, Differs, IsSmall, JoinTree, Takes, Value, cuts, union_in}
 use Rattle.font_theory.specs.Tree.JoinTree.{leaf, node}
-use Rattle.font_theory.proofs.CutLemmas.{Agree-under, CanJoin-cuts, CanJoin-under, IsClosed-whole, IsCurrent-joined, IsCut-joined, Under-joined_left, Under-joined_right, Under-least, Under-self, Under-through, joined-cuts, content_of_all-joined, content_of_all-mutual}
+use Rattle.font_theory.proofs.CutLemmas.{Agree-under, CanJoin-cuts, CanJoin-under, IsClosed-whole, IsCurrent-joined}
+use Rattle.font_theory.proofs.CutLemmas.{IsCut-joined, Under-joined_left, Under-joined_right, Under-least, Under-self}
+use Rattle.font_theory.proofs.CutLemmas.{Under-through, joined-cuts, content_of_all-joined, content_of_all-mutual}
 use Rattle.font_theory.proofs.DifferenceLemmas.{Agree-decided}
 
 module _ (R : Format) (law : IsFormat R) where
   pub Value-one : (t : JoinTree (List ℕ)) (v w : List ℕ) → Value R t v → Value R t w → v ≡ w
   Value-one (leaf x) v w p q = p ∙ sym q
   Value-one (node s t) v w p q =
-      p.5 ∙ ap (λ x. joined R x p.1) (Value-one s p.0 q.0 p.2 q.2) ∙ ap (joined R q.0) (Value-one t p.1 q.1 p.3 q.3) ∙ sym q.5
+      p.5 ∙ ap (λ x. joined R x p.1) (Value-one s p.0 q.0 p.2 q.2) ∙ ap (joined R q.0) (Value-one t p.1 q.1 p.3 q.3)
+      ∙ sym q.5
 
   pub Value-small : (t : JoinTree (List ℕ)) (v : List ℕ) → IsSmall R t → Value R t v → length v ≤ R.limit
   Value-small (leaf x) v small p = subst (λ (y : List ℕ). length y ≤ R.limit) (sym p) small
   Value-small (node s t) v small p = small.2 v p
 
-  joined-small : (s t : JoinTree (List ℕ)) (v : List ℕ) → IsSmall R (node s t) → (p : Value R (node s t) v) → length (joined R p.0 p.1) ≤ R.limit
+  joined-small : (s t : JoinTree (List ℕ)) (v : List ℕ) → IsSmall R (node s t) → (p : Value R (node s t) v)
+      → length (joined R p.0 p.1) ≤ R.limit
   joined-small s t v small p = subst (λ (y : List ℕ). length y ≤ R.limit) p.5 (small.2 v p)
 
-  pub Value-cut : (t : JoinTree (List ℕ)) (v : List ℕ) → IsSmall R t → ((x : List ℕ) → Takes t x → IsCut R x) → Value R t v → IsCut R v
+  pub Value-cut : (t : JoinTree (List ℕ)) (v : List ℕ) → IsSmall R t → ((x : List ℕ) → Takes t x → IsCut R x)
+      → Value R t v → IsCut R v
   Value-cut (leaf x) v small each p = each v p
-  Value-cut (node s t) v small each p = subst (IsCut R) (sym p.5) (IsCut-joined R law p.0 p.1 p.4 (joined-small s t v small p))
+  Value-cut (node s t) v small each p =
+      subst (IsCut R) (sym p.5) (IsCut-joined R law p.0 p.1 p.4 (joined-small s t v small p))
 
   -- each file of a tree is under its value
-  pub Value-above : (t : JoinTree (List ℕ)) (v : List ℕ) → IsSmall R t → ((x : List ℕ) → Takes t x → IsCut R x) → Value R t v → (x : List ℕ) → Takes t x → Under R x v
-  Value-above (leaf y) v small each p x h = subst (λ (z : List ℕ). Under R z v) (p ∙ sym h) (Under-self R law v (each v p))
+  pub Value-above : (t : JoinTree (List ℕ)) (v : List ℕ) → IsSmall R t → ((x : List ℕ) → Takes t x → IsCut R x)
+      → Value R t v → (x : List ℕ) → Takes t x → Under R x v
+  Value-above (leaf y) v small each p x h =
+      subst (λ (z : List ℕ). Under R z v) (p ∙ sym h) (Under-self R law v (each v p))
   Value-above (node s t) v small each p x (inl h) =
       Under-through R law x p.0 v (Value-above s p.0 small.0 (λ y k. each y (inl k)) p.2 x h)
-      (subst (λ (z : List ℕ). Under R p.0 z) (sym p.5) (Under-joined_left R law p.0 p.1 p.4 (joined-small s t v small p)))
+      (subst (λ (z : List ℕ). Under R p.0 z) (sym p.5) (Under-joined_left R law p.0 p.1 p.4
+      (joined-small s t v small p)))
   Value-above (node s t) v small each p x (inr h) =
       Under-through R law x p.1 v (Value-above t p.1 small.1 (λ y k. each y (inr k)) p.3 x h)
-      (subst (λ (z : List ℕ). Under R p.1 z) (sym p.5) (Under-joined_right R law p.0 p.1 p.4 (joined-small s t v small p)))
+      (subst (λ (z : List ℕ). Under R p.1 z) (sym p.5) (Under-joined_right R law p.0 p.1 p.4
+      (joined-small s t v small p)))
 
   -- and the value is under each file that has all of them under it
-  pub Value-least : (t : JoinTree (List ℕ)) (v F : List ℕ) → IsSmall R t → ((x : List ℕ) → Takes t x → Under R x F) → Value R t v → Under R v F
+  pub Value-least : (t : JoinTree (List ℕ)) (v F : List ℕ) → IsSmall R t → ((x : List ℕ) → Takes t x → Under R x F)
+      → Value R t v → Under R v F
   Value-least (leaf x) v F small each p = each v p
   Value-least (node s t) v F small each p =
       subst (λ (z : List ℕ). Under R z F) (sym p.5)
@@ -46,18 +58,21 @@ module _ (R : Format) (law : IsFormat R) where
       (Value-least t p.1 F small.1 (λ x h. each x (inr h)) p.3))
 
   -- files that are under one file have a value in each tree that meets no size
-  pub Value-exists : (t : JoinTree (List ℕ)) (F : List ℕ) → IsSmall R t → ((x : List ℕ) → Takes t x → Under R x F) → (v : List ℕ) × Value R t v
+  pub Value-exists : (t : JoinTree (List ℕ)) (F : List ℕ) → IsSmall R t → ((x : List ℕ) → Takes t x → Under R x F)
+      → (v : List ℕ) × Value R t v
   Value-exists (leaf x) F small each = (x, refl)
   Value-exists (node s t) F small each =
       let p = Value-exists s F small.0 (λ x h. each x (inl h)) in
       let q = Value-exists t F small.1 (λ x h. each x (inr h)) in
-      let can = CanJoin-under R law p.0 q.0 F (Value-least s p.0 F small.0 (λ x h. each x (inl h)) p.1) (Value-least t q.0 F small.1 (λ x h. each x (inr h)) q.1)
+      let can = CanJoin-under R law p.0 q.0 F (Value-least s p.0 F small.0 (λ x h. each x (inl h)) p.1)
+      (Value-least t q.0 F small.1 (λ x h. each x (inr h)) q.1)
       (Value-small s p.0 small.0 p.1) (Value-small t q.0 small.1 q.1) in
       (joined R p.0 q.0, (p.0, q.0, p.1, q.1, can, refl))
 
   -- two trees over the same files that meet no size have values of one content
   pub Value-same : (s t : JoinTree (List ℕ)) (z : List ℕ) → IsSmall R s → IsSmall R t
-      → ((x : List ℕ) → Takes s x → IsCut R x) → ((x : List ℕ) → Takes s x → Takes t x) → ((x : List ℕ) → Takes t x → Takes s x)
+      → ((x : List ℕ) → Takes s x → IsCut R x) → ((x : List ℕ) → Takes s x → Takes t x)
+      → ((x : List ℕ) → Takes t x → Takes s x)
       → Value R s z → (v : List ℕ) × Value R t v × (content_of_all R v ≡ content_of_all R z)
   Value-same s t z ss st each to from p =
       let up = Value-above s z ss each p in
@@ -67,17 +82,22 @@ module _ (R : Format) (law : IsFormat R) where
       (q.0, q.1, content_of_all-mutual R law q.0 z below above)
 
   -- the value of a join is the file of its content
-  pub Value-file : (s t : JoinTree (List ℕ)) (v : List ℕ) → IsSmall R (node s t) → Value R (node s t) v → R.file (content_of_all R v) ≡ v
+  pub Value-file : (s t : JoinTree (List ℕ)) (v : List ℕ) → IsSmall R (node s t) → Value R (node s t) v
+      → R.file (content_of_all R v) ≡ v
   Value-file s t v small p =
-      ap (λ (y : List ℕ). R.file (content_of_all R y)) p.5 ∙ ap R.file (content_of_all-joined R law p.0 p.1 p.4 (joined-small s t v small p)) ∙ sym p.5
+      ap (λ (y : List ℕ). R.file (content_of_all R y)) p.5
+      ∙ ap R.file (content_of_all-joined R law p.0 p.1 p.4 (joined-small s t v small p)) ∙ sym p.5
 
   -- that of a tree over current files is current
-  pub Value-current : (t : JoinTree (List ℕ)) (v : List ℕ) → IsSmall R t → ((x : List ℕ) → Takes t x → IsCurrent R x) → Value R t v → IsCurrent R v
+  pub Value-current : (t : JoinTree (List ℕ)) (v : List ℕ) → IsSmall R t → ((x : List ℕ) → Takes t x → IsCurrent R x)
+      → Value R t v → IsCurrent R v
   Value-current (leaf x) v small each p = each v p
-  Value-current (node s t) v small each p = subst (IsCurrent R) (sym p.5) (IsCurrent-joined R law p.0 p.1 p.4 (joined-small s t v small p))
+  Value-current (node s t) v small each p =
+      subst (IsCurrent R) (sym p.5) (IsCurrent-joined R law p.0 p.1 p.4 (joined-small s t v small p))
 
   -- a tree of cuts of one font has as its value the cut for the union
-  pub Value-cuts : (F : List ℕ) → R.fault F ≡ None → (t : JoinTree (ℕ → Bool)) → IsSmall R (cuts R F t) → Value R (cuts R F t) (cut R F (union_in t))
+  pub Value-cuts : (F : List ℕ) → R.fault F ≡ None → (t : JoinTree (ℕ → Bool)) → IsSmall R (cuts R F t)
+      → Value R (cuts R F t) (cut R F (union_in t))
   Value-cuts F h (leaf A) small = refl
   Value-cuts F h (node s t) small =
       let p = Value-cuts F h s small.0 in
@@ -92,11 +112,13 @@ module _ (R : Format) (law : IsFormat R) where
         sym (joined-cuts R law F h (union_in s) (union_in t) _ _ (inl refl) (inl refl) sp sq),
       )
 
-  decide : (x y : List ℕ) → IsCut R x → IsCut R y → Agree (content_of_all R x) (content_of_all R y) ⊎ (¬ Agree (content_of_all R x) (content_of_all R y))
+  decide : (x y : List ℕ) → IsCut R x → IsCut R y → Agree (content_of_all R x) (content_of_all R y)
+      ⊎ (¬ Agree (content_of_all R x) (content_of_all R y))
   decide x y cx cy = Agree-decided _ _ (IsClosed-whole R law x cx.accepted) (IsClosed-whole R law y cy.accepted)
 
   -- a tree that meets no size has a value or meets a difference
-  pub Value-or_differs : (t : JoinTree (List ℕ)) → IsSmall R t → ((x : List ℕ) → Takes t x → IsCut R x) → ((v : List ℕ) × Value R t v) ⊎ Differs R t
+  pub Value-or_differs : (t : JoinTree (List ℕ)) → IsSmall R t → ((x : List ℕ) → Takes t x → IsCut R x)
+      → ((v : List ℕ) × Value R t v) ⊎ Differs R t
   Value-or_differs (leaf x) small each = inl (x, refl)
   Value-or_differs (node s t) small each =
       elim (Value-or_differs s small.0 (λ x h. each x (inl h))) [
@@ -107,7 +129,17 @@ module _ (R : Format) (law : IsFormat R) where
               let cp = Value-cut s p.0 small.0 (λ x h. each x (inl h)) p.1 in
               let cq = Value-cut t q.0 small.1 (λ x h. each x (inr h)) q.1 in
               elim (decide p.0 q.0 cp cq) [
-                | inl a ↦ inl (joined R p.0 q.0, (p.0, q.0, p.1, q.1, record { first = cp; second = cq; agree = a }, refl))
+                | inl a ↦ inl (
+                  joined R p.0 q.0,
+                  (
+                    p.0,
+                    q.0,
+                    p.1,
+                    q.1,
+                    record { first = cp; second = cq; agree = a },
+                    refl,
+                  ),
+                )
                 | inr n ↦ inr (inr (inr (p.0, q.0, p.1, q.1, (cp, cq, n))))
               ]
         ]
@@ -115,7 +147,8 @@ module _ (R : Format) (law : IsFormat R) where
 
   -- where the value of one tree clashes with a file, each tree over at least these files that meets no size
   -- meets a difference
-  pub Differs-clash : (s t : JoinTree (List ℕ)) → IsSmall R s → IsSmall R t → ((x : List ℕ) → Takes t x → IsCut R x) → ((x : List ℕ) → Takes s x → Takes t x)
+  pub Differs-clash : (s t : JoinTree (List ℕ)) → IsSmall R s → IsSmall R t → ((x : List ℕ) → Takes t x → IsCut R x)
+      → ((x : List ℕ) → Takes s x → Takes t x)
       → (x y : List ℕ) → Value R s x → Takes t y → Clash R x y → Differs R t
   Differs-clash s t ss small each to x y p h clash =
       elim (Value-or_differs t small each) [
@@ -124,7 +157,8 @@ module _ (R : Format) (law : IsFormat R) where
             let up = Value-above t q.0 small each q.1 in
             let ux = Value-least s x q.0 ss (λ z k. up z (to z k)) p in
             let uy = up y h in
-            absurd (clash.2 (Agree-under R law x y q.0 ux uy (law.accepted_size x clash.0.accepted) (law.accepted_size y clash.1.accepted)))
+            absurd (clash.2 (Agree-under R law x y q.0 ux uy (law.accepted_size x clash.0.accepted)
+            (law.accepted_size y clash.1.accepted)))
       ]
 
 -- the union of a tree of sets has what some set in it has
@@ -142,7 +176,8 @@ union_in-has (node s t) c A (inl h) e = or_left (union_in s c) (union_in t c) (u
 union_in-has (node s t) c A (inr h) e = or_right (union_in s c) (union_in t c) (union_in-has t c A h e)
 
 -- so trees that take the same sets have one union
-pub union_in-same : (s t : JoinTree (ℕ → Bool)) → ((A : ℕ → Bool) → Takes s A → Takes t A) → ((A : ℕ → Bool) → Takes t A → Takes s A) → union_in s ≡ union_in t
+pub union_in-same : (s t : JoinTree (ℕ → Bool)) → ((A : ℕ → Bool) → Takes s A → Takes t A)
+    → ((A : ℕ → Bool) → Takes t A → Takes s A) → union_in s ≡ union_in t
 union_in-same s t to from = fun_ext (λ c. go c (union_in s c) (union_in t c) refl refl)
   where
     go : (c : ℕ) (a b : Bool) → union_in s c ≡ a → union_in t c ≡ b → union_in s c ≡ union_in t c

@@ -9,7 +9,8 @@ outline-past : (K : Content) → IsClosedContent K → (g : ℕ) → glyph_count
 outline-past K ok g past =
     elim (cases_option (K.outline g)) [
       | inl none ↦ none
-      | inr some ↦ let low = IsKept-below (read_back K) everything ok.font g (some-held K ok g some.0 some.1) in absurd (omega (arith, low, past))
+      | inr some ↦ let low = IsKept-below (read_back K) everything ok.font g (some-held K ok g some.0 some.1) in
+          absurd (omega (arith, low, past))
     ]
 
 pub IsWritable-closed : (K : Content) → IsClosedContent K → IsWritable K

@@ -1,5 +1,6 @@
 -- What is read of an accepted font, and what a cut is made of, this project's own; tables stand by slot.
-use Rattle.std.specs.Prelude.{◌≡◌, ℕ, ◌<◌, ◌≤◌, ◌&&◌, nat_eq, nat_le, nat_lt, Bool, true, false, ◌||◌, List, [], length, if◌then◌else◌, Option, None, IsSome, unwrap_or}
+use Rattle.std.specs.Prelude.{◌≡◌, ℕ, ◌<◌, ◌≤◌, ◌&&◌, nat_eq, nat_le, nat_lt, Bool, true, false, ◌||◌, List, [], length}
+use Rattle.std.specs.Prelude.{if◌then◌else◌, Option, None, IsSome, unwrap_or}
 use Rattle.std.specs.Option.{option_map}
 use Rattle.sfnt_bytes.specs.Directory.{is_layout_slot, kept_tag, slot_tag, table_of}
 use Rattle.sfnt_bytes.specs.Lines.{when}
@@ -14,7 +15,7 @@ use Rattle.font_glyph.specs.Linked.{is_linked}
 use Rattle.font_glyph.specs.Reach.{any_below, reached}
 use Rattle.font_glyph.specs.Record.{IsRecord}
 use Rattle.font_glyph.specs.declared.linked.TheConstants as numbers
-use Rattle.font_glyph.specs.Union.{HoldsComponents, Records, record_in}
+use Rattle.font_glyph.specs.RecordMap.{HoldsComponents, Records, record_in}
 use Rattle.font_file.specs.Font.{map_of}
 use Rattle.font_theory.specs.Bytes.{cut_head, padded}
 use Rattle.font_theory.specs.Links.{fixed, is_bad_layout, links}

@@ -9,7 +9,7 @@ use Rattle.font_file.specs.declared.font_error.FontError.{FontError}
 use Rattle.font_file.specs.declared.font_error.FontError.TheVariants.{Directory}
 use Rattle.font_theory.specs.Content.{Content, Font, IsFont, content, everything, font_of, read_back}
 use Rattle.font_theory.specs.File.{Writing, current_writing, file, writing_of}
-use Rattle.font_theory.specs.Join.{Agree, both}
+use Rattle.font_theory.specs.Agreement.{Agree, both}
 use Rattle.font_theory.specs.declared.Profile.TheVariants.{First}
 pub use Rattle.codes.specs.Wanted.{either}
 

@@ -1,5 +1,6 @@
 -- The first difference of two contents, this project's own.
-use Rattle.std.specs.Prelude.{ℕ, nat_eq, nat_lt, not, Bool, false, ◌&&◌, List, [], ◌∷◌, find, if◌then◌else◌, Option, Some}
+use Rattle.std.specs.Prelude.{ℕ, nat_eq, nat_lt, not, Bool, false, ◌&&◌, List, [], ◌∷◌, find, if◌then◌else◌, Option}
+use Rattle.std.specs.Prelude.{Some}
 use Rattle.std.specs.List.{range_with_len}
 use Rattle.std.specs.Option.{option_eq, option_map}
 use Rattle.std.specs.Str.{bytes_eq}

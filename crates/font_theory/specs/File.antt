@@ -1,5 +1,6 @@
 -- The one file of a content (OpenType 1.9, Organization of an OpenType Font; cmap, Format 12; loca; glyf).
-use Rattle.std.specs.Prelude.{◌≡◌, ℕ, ◌+◌, ◌*◌, nat_eq, List, [], ◌∷◌, ◌++◌, length, map, replicate, if◌then◌else◌, Option, None, Some, sum}
+use Rattle.std.specs.Prelude.{◌≡◌, ℕ, ◌+◌, ◌*◌, nat_eq, List, [], ◌∷◌, ◌++◌, length, map, replicate, if◌then◌else◌}
+use Rattle.std.specs.Prelude.{Option, None, Some, sum}
 use Rattle.std.specs.List.{concat, flat_map, range_with_len}
 use Rattle.std.specs.Option.{option_map, option_map_or}
 use Rattle.sfnt_bytes.specs.Directory.{slot_at, slot_tag}
@@ -14,7 +15,7 @@ use Rattle.font_map.specs.Mapping.{mapping_of}
 use Rattle.font_map.specs.Refusals.{map_fault}
 use Rattle.codes.specs.Runs.{groups_from, spelled}
 use Rattle.codes.specs.declared.runs.Run.{Run}
-use Rattle.font_glyph.specs.Union.{record_in}
+use Rattle.font_glyph.specs.RecordMap.{record_in}
 use Rattle.font_theory.specs.Bytes.{bytes16, bytes32, padded, with_adjustment}
 use Rattle.font_theory.specs.Content.{Content, glyph_count}
 use Rattle.font_theory.specs.declared.Profile.{Profile}

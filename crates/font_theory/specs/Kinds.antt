@@ -7,7 +7,7 @@ use Rattle.font_theory.specs.Content.{Content, Font, content, everything, font_o
 use Rattle.font_theory.specs.Cut.{Format, IsCut, IsFormat, content_of_all, our_format}
 use Rattle.font_theory.specs.File.{current_writing, file}
 use Rattle.font_theory.specs.LayoutCut.{layout_fault, layout_format}
-use Rattle.font_theory.specs.Lean.{lean_format, spelled_out}
+use Rattle.font_theory.specs.LeanCut.{lean_format, spelled_out}
 use Rattle.font_theory.specs.declared.kinds.Kind.{Kind}
 use Rattle.font_theory.specs.declared.kinds.Kind.TheVariants.{Full, Layout, Lean}
 

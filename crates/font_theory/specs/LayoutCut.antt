@@ -12,7 +12,7 @@ use Rattle.font_file.specs.declared.font_error.FontError.{FontError}
 use Rattle.font_file.specs.declared.font_error.FontError.TheVariants.{BadLayout, Directory}
 use Rattle.font_theory.specs.Content.{Font, is_made, layout_font_of, table_read}
 use Rattle.font_theory.specs.Cut.{Format}
-use Rattle.font_theory.specs.Lean.{lean_file, thin}
+use Rattle.font_theory.specs.LeanCut.{lean_file, thin}
 use Rattle.font_theory.specs.Links.{is_bad_layout}
 
 -- the bytes of `GSUB` without what varies, none where there is no such table

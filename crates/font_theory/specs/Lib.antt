@@ -3,10 +3,10 @@ pub mod Content
 pub mod Cut
 pub mod Difference
 pub mod File
-pub mod Join
+pub mod Agreement
 pub mod Kinds
 pub mod LayoutCut
-pub mod Lean
+pub mod LeanCut
 pub mod Links
 pub mod Tree
 pub mod WorkedFiles

@@ -1,7 +1,7 @@
 -- Trees of joins, and what they come to, this project's own.
 use Rattle.std.specs.Prelude.{◌≡◌, ℕ, zero, suc, ◌<◌, ◌≤◌, Bool, false, ◌||◌, ◌⊎◌, List, [], length, get_or}
 use Rattle.font_theory.specs.Cut.{CanJoin, Format, IsCut, cut, joined, content_of_all}
-use Rattle.font_theory.specs.Join.{Agree}
+use Rattle.font_theory.specs.Agreement.{Agree}
 
 -- a tree of joins
 pub data JoinTree (A : Type 0) : Type 0 where

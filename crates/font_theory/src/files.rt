@@ -99,7 +99,8 @@ pub fn second_glyf_has_bytes()
 /// The reader of this program goes with any form that is written, and any that is read as a cut
 /// too.
 pub fn writings_are_formats()
-    ensures { (writing old : Writing) → IsWriting writing → IsWriting old → IsFormat (format_with writing old) }
+    ensures { (writing old : Writing) → IsWriting writing → IsWriting old
+        → IsFormat (format_with writing old) }
 {}
 
 /// The reader and the writer of this program go together: it writes the second profile, and reads cuts of
@@ -122,10 +123,12 @@ pub fn cut_of_nothing()
 
 /// The same in the second profile.
 pub fn cut_of_nothing_second()
-    ensures { cut (format_with (writing_of Second) (writing_of First)) BASE6 (λ c. false) ≡ nothing_second_file }
+    ensures { cut (format_with (writing_of Second) (writing_of First)) BASE6
+        (λ c. false) ≡ nothing_second_file }
 {}
 
 /// Its cut for the code of a composite glyph, byte by byte.
 pub fn cut_of_aacute()
-    ensures { cut (format_with (writing_of First) (writing_of First)) BASE6 (λ c. nat_eq c 0xC1) ≡ aacute_file }
+    ensures { cut (format_with (writing_of First) (writing_of First)) BASE6
+        (λ c. nat_eq c 0xC1) ≡ aacute_file }
 {}

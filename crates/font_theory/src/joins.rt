@@ -7,7 +7,7 @@ ghost use Rattle.font_file.specs.declared.font_error.FontError.TheVariants.{Dire
 ghost use Rattle.font_theory.specs.Content.{Content, Font, IsClosedContent, IsFont, content};
 ghost use Rattle.font_theory.specs.Cut.{CanJoin, Format, IsCurrent, IsCut, IsFormat, Under, Writes, cut, either, is_cut, joined, renewed, content_of_all};
 ghost use Rattle.font_theory.specs.Difference.{difference};
-ghost use Rattle.font_theory.specs.Join.{Agree, both};
+ghost use Rattle.font_theory.specs.Agreement.{Agree, both};
 
 /// Two contents of a font agree, and their union is its content for the codes of either set.
 pub fn union_of_cuts()

@@ -12,14 +12,14 @@ ghost use Rattle.font_tables.specs.Tables.{named};
 ghost use Rattle.codes.specs.CharacterMap.{restricted, united};
 ghost use Rattle.font_glyph.specs.Linked.{Linked};
 ghost use Rattle.font_glyph.specs.Reach.{Reach};
-ghost use Rattle.font_glyph.specs.Union.{union_of};
+ghost use Rattle.font_glyph.specs.RecordMap.{union_of};
 ghost use Rattle.font_theory.specs.Bytes.{padded};
-ghost use Rattle.font_theory.specs.Join.{Agree, both};
+ghost use Rattle.font_theory.specs.Agreement.{Agree, both};
 ghost use Rattle.font_file.specs.Font.{font_fault, map_of};
 ghost use Rattle.font_theory.specs.Content.{Content, IsClosedContent, IsFont, NUMBERS, content, font_of, is_kept, is_root, is_seed, layout_font_of, read_back, table_in_slot};
 ghost use Rattle.font_theory.specs.Cut.{Arises, CanJoin, IsCurrent, IsFormat, Under, cut, either, joined, content_of_all};
 ghost use Rattle.font_theory.specs.LayoutCut.{gsub_of, layout_fault, layout_format, without_layout};
-ghost use Rattle.font_theory.specs.Lean.{AgreeLean, either_bytes, lean_file, lean_format, spelled_out, thin};
+ghost use Rattle.font_theory.specs.LeanCut.{AgreeLean, either_bytes, lean_file, lean_format, spelled_out, thin};
 ghost use Rattle.font_theory.specs.Links.{fixed, is_bad_layout, links};
 ghost use Rattle.font_theory.specs.Tree.{IsSmall, JoinTree, Value, cuts, union_in};
 

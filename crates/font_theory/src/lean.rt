@@ -10,13 +10,13 @@ ghost use Rattle.font_tables.specs.Metrics.{metric_of};
 ghost use Rattle.font_tables.specs.Outlines.{outline_of};
 ghost use Rattle.codes.specs.CharacterMap.{restricted, united};
 ghost use Rattle.font_glyph.specs.Reach.{Reach};
-ghost use Rattle.font_glyph.specs.Union.{union_of};
+ghost use Rattle.font_glyph.specs.RecordMap.{union_of};
 ghost use Rattle.font_file.specs.Font.{font_fault, map_of};
 ghost use Rattle.font_theory.specs.Bytes.{padded};
 ghost use Rattle.font_theory.specs.Content.{Content, Font, IsClosedContent, IsFont, content, font_of, glyph_count, is_kept, read_back, table_in_slot};
 ghost use Rattle.font_theory.specs.Cut.{Arises, CanJoin, IsCurrent, IsFormat, Under, Writes, cut, either, joined, our_format, content_of_all};
-ghost use Rattle.font_theory.specs.Join.{Agree, both};
-ghost use Rattle.font_theory.specs.Lean.{AgreeLean, cleared, either_bytes, lean_file, lean_format, leaned, metrics_at, pairs_in, spelled_out, thin, thin_copied, thin_post, with_metrics};
+ghost use Rattle.font_theory.specs.Agreement.{Agree, both};
+ghost use Rattle.font_theory.specs.LeanCut.{AgreeLean, cleared, either_bytes, lean_file, lean_format, leaned, metrics_at, pairs_in, spelled_out, thin, thin_copied, thin_post, with_metrics};
 ghost use Rattle.font_theory.specs.Tree.{IsSmall, JoinTree, Value, cuts, union_in};
 ghost use Rattle.sfnt_bytes.specs.declared.tag.TheConstants.{HHEA, HMTX, POST, VHEA, VMTX};
 

@@ -2,7 +2,7 @@
 ghost use Rattle.std.specs.Prelude.{◌≡◌, ℕ, suc, ◌<◌, ◌≤◌, Bool, List, length, None};
 ghost use Rattle.font_theory.specs.Content.{content};
 ghost use Rattle.font_theory.specs.Cut.{CanJoin, Format, IsCurrent, IsCut, IsFormat, Writes, cut, joined, renewed, content_of_all};
-ghost use Rattle.font_theory.specs.Join.{Agree};
+ghost use Rattle.font_theory.specs.Agreement.{Agree};
 ghost use Rattle.font_theory.specs.Tree.{Differs, IsOver, IsSmall, JoinTree, Takes, Value, cuts, file_at, grown, union_below, union_in};
 
 /// A tree of cuts of one font that meets no size has as its value the cut for the union of its sets.

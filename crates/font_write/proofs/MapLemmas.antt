@@ -7,7 +7,8 @@ codes_are : CODES ≡ 0x110000
 unfolding CODES
 codes_are = refl
 
-pub is_map : (K : Content) (count : ℕ) → IsWritable K → count ≡ glyph_count K.copied → count < 65536 → IsCharacterMap K.map
+pub is_map : (K : Content) (count : ℕ) → IsWritable K → count ≡ glyph_count K.copied → count < 65536
+    → IsCharacterMap K.map
 is_map K count ok is small =
     record {
       codes = λ c h. let e = codes_are in ok.mapped_codes c (omega arith);

@@ -4,7 +4,8 @@ use Rattle.sfnt_bytes.specs.Sums.{checksum_of}
 use Rattle.sfnt_bytes.specs.declared.tag.TheConstants.{ALL_SLOTS}
 use Rattle.sfnt_bytes.specs.Directory.{slot_at}
 use Rattle.font_theory.specs.Content.{Content, glyph_count}
-use Rattle.font_theory.specs.File.{Writing, adjustment_in, checksum_in_slot, file, writing_of, groups_of_content, size_of}
+use Rattle.font_theory.specs.File.{Writing, adjustment_in, checksum_in_slot, file, writing_of, groups_of_content}
+use Rattle.font_theory.specs.File.{size_of}
 use Rattle.font_write.specs.Parts.{bytes_at, count_to, glyf_to, groups_bytes, table_at}
 use Rattle.font_write.specs.declared.plan.Measure.{Measure}
 use Rattle.font_write.specs.declared.plan.Plan.{Plan}

@@ -1,11 +1,13 @@
 -- Room that is filled from the front, and the first byte that finds none.
-use Rattle.std.proofs.Common.{◌≡◌, ℕ, suc, ◌+◌, ◌<◌, ◌≤◌, Bool, true, List, [], ◌∷◌, ◌++◌, get_or, length, take, drop, refl, sym, ◌∙◌, ap, arith}
+use Rattle.std.proofs.Common.{◌≡◌, ℕ, suc, ◌+◌, ◌<◌, ◌≤◌, Bool, true, List, [], ◌∷◌, ◌++◌, get_or, length, take, drop}
+use Rattle.std.proofs.Common.{refl, sym, ◌∙◌, ap, arith}
 use Rattle.std.proofs.Math.Seq.{drop-cons, take-length}
 use Rattle.std.proofs.lemmas.List.{append_assoc, length-take-le, take-append-drop}
 use Rattle.font_write.specs.Trace.{IsPrefix, SentFront}
 use Rattle.fontcut_c.specs.Inside.{filling}
 
-module _ (name at odd : ℕ) (stopped : Bool) (out new bytes : List ℕ) (fit : ℕ) (within : at ≤ length out) (full : at + fit ≡ length out) (long : length new ≡ length out) (more : fit < length bytes)
+module _ (name at odd : ℕ) (stopped : Bool) (out new bytes : List ℕ) (fit : ℕ) (within : at ≤ length out)
+    (full : at + fit ≡ length out) (long : length new ≡ length out) (more : fit < length bytes)
     (is : take (at + fit) new ≡ take at out ++ take fit bytes) where
   all_filled : new ≡ take at out ++ take fit bytes
   all_filled = sym (take-length new) ∙ (ap (λ (n : ℕ). take n new) (long ∙ sym full) ∙ is)

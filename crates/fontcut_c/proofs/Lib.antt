@@ -1,5 +1,6 @@
 mod CutLemmas
 mod CutListLemmas
+mod ErrorLemmas
 mod FileListLemmas
 mod FilledLemmas
 mod InfoLemmas

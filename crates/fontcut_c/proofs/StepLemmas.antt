@@ -1,5 +1,6 @@
 -- The refusal of a list of files names the file that is no cut as its step does.
-use Rattle.std.proofs.Common.{◌≡◌, ℕ, zero, suc, Bool, true, false, nat_lt, not, List, [], ◌∷◌, Option, None, Some, length, ap, sym, subst, ◌∙◌, arith}
+use Rattle.std.proofs.Common.{◌≡◌, ℕ, zero, suc, Bool, true, false, nat_lt, not, List, [], ◌∷◌, Option, None, Some}
+use Rattle.std.proofs.Common.{length, ap, sym, subst, ◌∙◌, arith}
 use Rattle.std.proofs.lemmas.Bool.{ne_eqb}
 use Rattle.std.specs.Prelude.{if◌then◌else◌}
 use Rattle.std.specs.Option.{option_map, option_or}
@@ -22,7 +23,8 @@ use Rattle.font_join.specs.JoinList.{IsAllRefusal, IsRefusedAt}
 use Rattle.font_join.specs.declared.join_error.JoinAllError.{JoinAllError}
 use Rattle.font_join.specs.declared.join_error.JoinAllError.TheVariants.{At, NothingToJoin}
 use Rattle.font_join.specs.declared.join_error.JoinError.{JoinError}
-use Rattle.font_join.specs.declared.join_error.JoinError.TheVariants.{DifferentGlyph, DifferentMapping, DifferentTable, Font, NoMemory, NotACut, TooLarge}
+use Rattle.font_join.specs.declared.join_error.JoinError.TheVariants.{DifferentGlyph, DifferentMapping, DifferentTable}
+use Rattle.font_join.specs.declared.join_error.JoinError.TheVariants.{Font, NoMemory, NotACut, TooLarge}
 use Rattle.font_join.specs.declared.join_error.Which.{Which}
 use Rattle.font_join.specs.declared.join_error.Which.TheVariants.{First, Second}
 use Rattle.font_join.proofs.JoinLemmas.{least_upper}
@@ -30,14 +32,17 @@ use Rattle.fontcut_c.specs.Errors.{which_at}
 use Rattle.fontcut_c.specs.Text.{NamesByItsStep}
 
 -- the refusals of a join, at what they test
-abbrev lines_at : Option FontError → Option FontError → Option FontError → Option FontError → Bool → Bool → Option Difference → Bool → ℕ → Option JoinError
+abbrev lines_at : Option FontError → Option FontError → Option FontError → Option FontError → Bool → Bool
+    → Option Difference → Bool → ℕ → Option JoinError
 lines_at fx fy gx gy cx cy d big size =
     first_of_lines (option_map (Font First) fx ∷ option_map (Font Second) fy
-    ∷ option_or (option_map (Font First) gx) (when (not cx) (NotACut First)) ∷ option_or (option_map (Font Second) gy) (when (not cy) (NotACut Second))
+    ∷ option_or (option_map (Font First) gx) (when (not cx) (NotACut First)) ∷ option_or (option_map (Font Second) gy)
+    (when (not cy) (NotACut Second))
     ∷ option_map different d ∷ when big (TooLarge size) ∷ [])
 
 -- of a file with itself the first is named
-first_named : (f g : Option FontError) (c : Bool) (d : Option Difference) (big : Bool) (size : ℕ) (which : Which) → lines_at f f g g c c d big size ≡ Some (NotACut which) → which ≡ First
+first_named : (f g : Option FontError) (c : Bool) (d : Option Difference) (big : Bool) (size : ℕ) (which : Which)
+    → lines_at f f g g c c d big size ≡ Some (NotACut which) → which ≡ First
 first_named (Some e) g c d big size which h = cc
 first_named None (Some e) c d big size which h = cc
 first_named None None false d big size which h = cc
@@ -48,7 +53,8 @@ first_named None None true None true size which h = cc
 first_named None None true None false size which h = cc
 
 -- after a file that is a cut the second is named
-second_named : (fx fy gx gy : Option FontError) (cy : Bool) (d : Option Difference) (big : Bool) (size : ℕ) (which : Which) → lines_at fx fy gx gy true cy d big size ≡ Some (NotACut which) → which ≡ Second
+second_named : (fx fy gx gy : Option FontError) (cy : Bool) (d : Option Difference) (big : Bool) (size : ℕ)
+    (which : Which) → lines_at fx fy gx gy true cy d big size ≡ Some (NotACut which) → which ≡ Second
 second_named (Some e) fy gx gy cy d big size which h = cc
 second_named None (Some e) gx gy cy d big size which h = cc
 second_named None None (Some e) gy cy d big size which h = cc
@@ -63,19 +69,26 @@ second_named None None None None true None false size which h = cc
 second_at : (k : ℕ) → which_at (suc k) ≡ Second
 second_at k = ap (λ (b : Bool). if b then First else Second) (ne_eqb (suc k) 0 (λ (e : suc k ≡ 0). omega (arith, e)))
 
-module _ {R : Format} {fault : List ℕ → Option FontError} {font : List ℕ → FontRead} {spelled : Content → Content} (kind : IsKind R fault font spelled) (files : List (List ℕ)) where
+module _ {R : Format} {fault : List ℕ → Option FontError} {font : List ℕ → FontRead} {spelled : Content
+    → Content} (kind : IsKind R fault font spelled) (files : List (List ℕ)) where
   named : (step : ℕ) (which : Which) → IsRefusedAt R files step (NotACut which) → which ≡ which_at step
   unfolding join_fault form_fault
   named zero which r =
       let x = file_at files 0 in
-      first_named (font_fault x) (R.fault x) (is_cut R x) (difference (content_of_all R x) (content_of_all R x)) (nat_lt MAX_FILE (length (joined R x x))) (length (joined R x x)) which
+      first_named (font_fault x) (R.fault x) (is_cut R x) (difference (content_of_all R x) (content_of_all R x))
+      (nat_lt MAX_FILE (length (joined R x x))) (length (joined R x x)) which
       (subst (λ (b : List ℕ). join_fault R b x ≡ Some (NotACut which)) r.stands r.refused)
   named (suc k) which r =
       let x = r.before in
       let y = file_at files (suc k) in
-      let is_one = is_cut-of R kind.law x (IsCut-current R x (least_upper kind r.stands.0 (file_at files k) x r.stands.2).cut_form) in
-      second_named (font_fault x) (font_fault y) (R.fault x) (R.fault y) (is_cut R y) (difference (content_of_all R x) (content_of_all R y)) (nat_lt MAX_FILE (length (joined R x y))) (length (joined R x y)) which
-      (subst (λ (c : Bool). lines_at (font_fault x) (font_fault y) (R.fault x) (R.fault y) c (is_cut R y) (difference (content_of_all R x) (content_of_all R y)) (nat_lt MAX_FILE (length (joined R x y))) (length (joined R x y)) ≡ Some (NotACut which)) is_one r.refused)
+      let is_one = is_cut-of R kind.law x
+      (IsCut-current R x (least_upper kind r.stands.0 (file_at files k) x r.stands.2).cut_form) in
+      second_named (font_fault x) (font_fault y) (R.fault x) (R.fault y) (is_cut R y)
+      (difference (content_of_all R x) (content_of_all R y)) (nat_lt MAX_FILE (length (joined R x y)))
+      (length (joined R x y)) which
+      (subst (λ (c : Bool). lines_at (font_fault x) (font_fault y) (R.fault x) (R.fault y) c (is_cut R y)
+      (difference (content_of_all R x) (content_of_all R y)) (nat_lt MAX_FILE (length (joined R x y)))
+      (length (joined R x y)) ≡ Some (NotACut which)) is_one r.refused)
       ∙ sym (second_at k)
 
   named_by_step : (error : JoinAllError) → IsAllRefusal R files error → NamesByItsStep error
@@ -89,5 +102,6 @@ module _ {R : Format} {fault : List ℕ → Option FontError} {font : List ℕ �
   named_by_step (At step NoMemory) r = tt
 
 -- of cuts of each kind
-pub names_file : (kind : Kind) (files : List (List ℕ)) (error : JoinAllError) → IsAllRefusal (format_of kind) files error → NamesByItsStep error
+pub names_file : (kind : Kind) (files : List (List ℕ)) (error : JoinAllError)
+    → IsAllRefusal (format_of kind) files error → NamesByItsStep error
 names_file kind files error r = named_by_step (kind_is kind) files error r

@@ -1,5 +1,6 @@
 -- The answers of calls, this project's own: what is answered where a call is done, and what at each refusal.
-use Rattle.std.specs.Prelude.{◌≡◌, ℕ, nat_lt, Bool, true, false, List, length, drop, ◌++◌, ◌≤◌, Option, None, Some, Result, Ok, Err, if◌then◌else◌}
+use Rattle.std.specs.Prelude.{◌≡◌, ℕ, nat_lt, Bool, true, false, List, length, drop, ◌++◌, ◌≤◌, Option, None, Some}
+use Rattle.std.specs.Prelude.{Result, Ok, Err, if◌then◌else◌}
 use Rattle.sfnt_bytes.specs.Tag.{tag_number}
 use Rattle.sfnt_bytes.specs.declared.numbers.TheConstants as numbers
 use Rattle.sfnt_bytes.specs.declared.directory.DirError.TheVariants.{DuplicateTable, TableOutOfFile}
@@ -17,16 +18,9 @@ use Rattle.font_join.specs.declared.join_error.JoinAllError.TheVariants.{At, Not
 use Rattle.font_join.specs.declared.join_error.JoinError.{JoinError}
 use Rattle.font_join.specs.declared.join_error.JoinError.TheVariants as joins
 use Rattle.fontcut_c.specs.declared.answer.Answer.{Answer}
-use Rattle.fontcut_c.specs.declared.refusal.CutsRefusal.{CutsRefusal}
-use Rattle.fontcut_c.specs.declared.refusal.CutsRefusal.TheVariants as of_cuts
-use Rattle.fontcut_c.specs.declared.refusal.JoinRefusal.{JoinRefusal}
-use Rattle.fontcut_c.specs.declared.refusal.JoinRefusal.TheVariants as of_join
-use Rattle.fontcut_c.specs.declared.refusal.LookupRefusal.{LookupRefusal}
-use Rattle.fontcut_c.specs.declared.refusal.LookupRefusal.TheVariants as of_lookup
-use Rattle.fontcut_c.specs.declared.refusal.PairRefusal.{PairRefusal}
-use Rattle.fontcut_c.specs.declared.refusal.PairRefusal.TheVariants as of_pair
 use Rattle.fontcut_c.specs.declared.refusal.Refusal.{Refusal}
-use Rattle.fontcut_c.specs.declared.refusal.Refusal.TheVariants.{BadRange, Font, NoMemory, SmallRoom, TooLarge}
+use Rattle.fontcut_c.specs.declared.refusal.Refusal.TheVariants.{BadCounts, BadRange, Font, Join, NoGlyph, NoMemory}
+use Rattle.fontcut_c.specs.declared.refusal.Refusal.TheVariants.{Second, SmallRoom, TooLarge}
 
 -- a call is done, and wrote this number of bytes, or ranges
 abbrev pub done : ℕ → Answer
@@ -78,31 +72,6 @@ of_open_error (open_errors.Refused error) = Font error
 abbrev pub as_detail : ℕ → ℕ
 as_detail index = if nat_lt index 0x1_0000_0000 then index else 0xFFFF_FFFF
 
--- the answer at a refusal
-abbrev pub refusal_answer : Refusal → Answer
-refusal_answer (Font error) = font_answer error
-refusal_answer (BadRange index) = refused numbers.BAD_RANGE (as_detail index)
-refusal_answer NoMemory = refused numbers.NO_MEMORY 0
-refusal_answer (TooLarge size) = sized numbers.TOO_LARGE size
-refusal_answer (SmallRoom size) = sized 100 size
-
--- the answer where the cuts for many sets are not written
-abbrev pub cuts_refusal_answer : CutsRefusal → Answer
-cuts_refusal_answer of_cuts.BadCounts = refused 103 0
-cuts_refusal_answer (of_cuts.Cut refusal) = refusal_answer refusal
-
--- the answer at a refusal of the first or the second of two files
-abbrev pub pair_refusal_answer : PairRefusal → Answer
-pair_refusal_answer (of_pair.Cut error) = font_answer error
-pair_refusal_answer (of_pair.Font error) = at_step 1 (font_answer error)
-pair_refusal_answer of_pair.NoMemory = refused numbers.NO_MEMORY 0
-
--- the answer where nothing is looked up
-abbrev pub lookup_refusal_answer : LookupRefusal → Answer
-lookup_refusal_answer (of_lookup.Font error) = font_answer error
-lookup_refusal_answer (of_lookup.NoGlyph index) = refused 102 (as_detail index)
-lookup_refusal_answer (of_lookup.SmallRoom size) = sized 100 size
-
 -- what the refusal of a join names: a tag as a number, a code or a glyph, and else 0
 abbrev pub join_argument : JoinError → ℕ
 join_argument (joins.Font which error) = font_argument error
@@ -123,10 +92,17 @@ abbrev pub join_all_error_answer : JoinAllError → Answer
 join_all_error_answer NothingToJoin = refused (join_all_error_number NothingToJoin) 0
 join_all_error_answer (At step error) = at_step step (join_error_answer error)
 
--- the answer where their join is not written
-abbrev pub join_refusal_answer : JoinRefusal → Answer
-join_refusal_answer (of_join.Join error) = join_all_error_answer error
-join_refusal_answer (of_join.SmallRoom size) = sized 100 size
+-- the answer at a refusal
+abbrev pub refusal_answer : Refusal → Answer
+refusal_answer (Font error) = font_answer error
+refusal_answer (Second error) = at_step 1 (font_answer error)
+refusal_answer (Join error) = join_all_error_answer error
+refusal_answer (BadRange index) = refused numbers.BAD_RANGE (as_detail index)
+refusal_answer BadCounts = refused 103 0
+refusal_answer (NoGlyph index) = refused 102 (as_detail index)
+refusal_answer NoMemory = refused numbers.NO_MEMORY 0
+refusal_answer (TooLarge size) = sized numbers.TOO_LARGE size
+refusal_answer (SmallRoom size) = sized 100 size
 
 -- the answer of a check
 abbrev pub check_answer : Option FontError → Answer
@@ -144,25 +120,10 @@ abbrev pub bool_number : Bool → ℕ
 bool_number true = 1
 bool_number false = 0
 
--- the answer of a call that writes this number of bytes, or is refused
+-- the answer of a call that writes this number of bytes, ranges, glyphs or metrics, or is refused
 abbrev pub size_answer : Result ℕ Refusal → Answer
 size_answer (Ok size) = done size
 size_answer (Err refusal) = refusal_answer refusal
-
--- the same of the cuts for many sets
-abbrev pub cuts_answer : Result ℕ CutsRefusal → Answer
-cuts_answer (Ok size) = done size
-cuts_answer (Err refusal) = cuts_refusal_answer refusal
-
--- the same of a join
-abbrev pub join_answer : Result ℕ JoinRefusal → Answer
-join_answer (Ok size) = done size
-join_answer (Err refusal) = join_refusal_answer refusal
-
--- the same of a call that looks numbers up
-abbrev pub lookup_answer : Result ℕ LookupRefusal → Answer
-lookup_answer (Ok size) = done size
-lookup_answer (Err refusal) = lookup_refusal_answer refusal
 
 -- the answer to what form a file has
 abbrev pub form_answer : Result CutForm Refusal → Answer
@@ -170,9 +131,9 @@ form_answer (Ok form) = told (form_number form)
 form_answer (Err refusal) = refusal_answer refusal
 
 -- the answer to whether a file is a cut of another
-abbrev pub belongs_answer : Result Bool PairRefusal → Answer
+abbrev pub belongs_answer : Result Bool Refusal → Answer
 belongs_answer (Ok answer) = told (bool_number answer)
-belongs_answer (Err refusal) = pair_refusal_answer refusal
+belongs_answer (Err refusal) = refusal_answer refusal
 
 -- bytes are at the front of room, and what was after them is as it was
 pub record IsInRoom {X : Type 0} (items old new : List X) (size : ℕ) : Type 0 where

@@ -1,12 +1,13 @@
 -- What a call for a cut answers, this project's own: the first refusal, or the cut in the caller's room.
-use Rattle.std.specs.Prelude.{◌≡◌, ℕ, ◌<◌, ◌≤◌, Bool, List, [], ◌∷◌, length, None, Some, Result, MatchResult, slice_index_or}
+use Rattle.std.specs.Prelude.{◌≡◌, ℕ, ◌<◌, ◌≤◌, Bool, List, [], ◌∷◌, length, None, Some, Result, MatchResult}
+use Rattle.std.specs.Prelude.{slice_index_or}
 use Rattle.sfnt_bytes.specs.declared.directory.TheConstants.{MAX_FILE}
 use Rattle.codes.specs.Wanted.{IsBadRange, codes_between, either, no_codes}
 use Rattle.font_file.specs.Font.{font_fault}
 use Rattle.font_file.specs.declared.font_error.FontError.{FontError}
 use Rattle.font_theory.specs.Kinds.{fault_of}
 use Rattle.font_theory.specs.declared.kinds.Kind.{Kind}
-use Rattle.font_subset.specs.Kinds.{cut_in}
+use Rattle.font_subset.specs.CutOfKind.{cut_in}
 use Rattle.fontcut_c.specs.Answers.{IsInRoom, size_answer}
 use Rattle.fontcut_c.specs.declared.answer.Answer.{Answer}
 use Rattle.codes.specs.declared.code_range.CodeRange.{CodeRange}
@@ -68,7 +69,7 @@ RefusesSize kind font ranges (Font error) = IsRefusedFor kind font ranges error
 RefusesSize kind font ranges (BadRange k) = (font_fault font ≡ None) × IsFirstBad ranges k
 RefusesSize kind font ranges NoMemory = IsAccepted font ranges
 RefusesSize kind font ranges (TooLarge size) = IsCutSize kind font ranges size × (MAX_FILE < size)
-RefusesSize kind font ranges (SmallRoom size) = ⊥
+RefusesSize kind font ranges _ = ⊥
 
 -- why the cut is not written: as before, and then for the room
 abbrev pub RefusesCut : Kind → List ℕ → List CodeRange → ℕ → Refusal → Type 0
@@ -78,6 +79,7 @@ RefusesCut kind font ranges room NoMemory = RefusesSize kind font ranges NoMemor
 RefusesCut kind font ranges room (TooLarge size) = RefusesSize kind font ranges (TooLarge size)
 RefusesCut kind font ranges room (SmallRoom size) =
     IsCutSize kind font ranges size × (size ≤ MAX_FILE) × (room < size)
+RefusesCut kind font ranges room _ = ⊥
 
 -- the cut is in the room
 pub record IsCutInRoom (kind : Kind) (font : List ℕ) (ranges : List CodeRange) (old new : List ℕ) (size : ℕ)

@@ -1,11 +1,13 @@
 -- The error that an answer says, and its text, this project's own.
-use Rattle.std.specs.Prelude.{ℕ, nat_eq, nat_lt, ◌&&◌, List, [], ◌∷◌, Option, if◌then◌else◌}
+use Rattle.std.specs.Prelude.{ℕ, Bool, nat_eq, nat_lt, ◌&&◌, List, [], ◌∷◌, Option, if◌then◌else◌}
 use Rattle.std.specs.Int.{to_be_bytes, w32}
 use Rattle.std.specs.Option.{option_map}
 use Rattle.sfnt_bytes.specs.Lines.{first_of_lines, when}
-use Rattle.sfnt_bytes.specs.declared.directory.DirError.TheVariants.{Collection, DuplicateTable, FileTooLarge, NotTrueType, TableOutOfFile, Truncated}
+use Rattle.sfnt_bytes.specs.declared.directory.DirError.TheVariants.{Collection, DuplicateTable, FileTooLarge}
+use Rattle.sfnt_bytes.specs.declared.directory.DirError.TheVariants.{NotTrueType, TableOutOfFile, Truncated}
 use Rattle.sfnt_bytes.specs.declared.tag.Tag.{Tag}
-use Rattle.font_tables.specs.declared.tables.TableError.TheVariants.{BadHead, BadHhea, BadHmtx, BadLoca, BadMaxp, MissingTable}
+use Rattle.font_tables.specs.declared.tables.TableError.TheVariants.{BadHead, BadHhea, BadHmtx, BadLoca, BadMaxp}
+use Rattle.font_tables.specs.declared.tables.TableError.TheVariants.{MissingTable}
 use Rattle.codes.specs.Text.{wanted_error_text}
 use Rattle.codes.specs.declared.wanted.WantedError.TheVariants.{BadRange, NoMemory}
 use Rattle.font_map.specs.declared.mapping.MapError.TheVariants.{BadCmap, NoMapping}
@@ -15,7 +17,8 @@ use Rattle.font_file.specs.declared.font_error.FontError.TheVariants.{BadGlyph, 
 use Rattle.font_join.specs.JoinText.{join_all_error_text}
 use Rattle.font_join.specs.declared.join_error.JoinAllError.TheVariants.{At, NothingToJoin}
 use Rattle.font_join.specs.declared.join_error.JoinError.{JoinError}
-use Rattle.font_join.specs.declared.join_error.JoinError.TheVariants.{DifferentGlyph, DifferentMapping, DifferentTable, NotACut, TooLarge}
+use Rattle.font_join.specs.declared.join_error.JoinError.TheVariants.{DifferentGlyph, DifferentMapping, DifferentTable}
+use Rattle.font_join.specs.declared.join_error.JoinError.TheVariants.{NotACut, TooLarge}
 use Rattle.font_join.specs.declared.join_error.Which.{Which}
 use Rattle.font_join.specs.declared.join_error.Which.TheVariants.{First, Second}
 use Rattle.fontcut_c.specs.declared.answer.Answer.{Answer}
@@ -26,10 +29,9 @@ use Rattle.fontcut_c.specs.declared.any_error.AnyError.TheVariants.{Font, Join, 
 abbrev pub tag_of : ℕ → Tag
 tag_of number = record { 0 = to_be_bytes w32 number }
 
--- the refusals of a font, each where it has this number, with what it names
-abbrev pub font_error_lines : ℕ → ℕ → List (Option FontError)
-font_error_lines number detail =
-    let is = nat_eq number in
+-- the refusals of a font, each where this is its number, with what it names
+abbrev pub font_error_lines : (ℕ → Bool) → ℕ → List (Option FontError)
+font_error_lines is detail =
     let tag = tag_of detail in
     when (is 1) (Directory FileTooLarge)
     ∷ when (is 2) (Directory Truncated)
@@ -51,16 +53,15 @@ font_error_lines number detail =
 
 -- the one that has it
 unfoldable pub font_error_of : ℕ → ℕ → Option FontError
-font_error_of number detail = first_of_lines (font_error_lines number detail)
+font_error_of number detail = first_of_lines (font_error_lines (nat_eq number) detail)
 
 -- which file of a join a step names: step 0 joins the first file with itself
 abbrev pub which_at : ℕ → Which
 which_at step = if nat_eq step 0 then First else Second
 
--- the refusals of a join but for those of fonts and of memory, each where an answer says it
-abbrev pub join_error_lines : Answer → List (Option JoinError)
-join_error_lines answer =
-    let is = nat_eq answer.status in
+-- the refusals of a join but for those of fonts and of memory, each where this is its number, as an answer says it
+abbrev pub join_error_lines : (ℕ → Bool) → Answer → List (Option JoinError)
+join_error_lines is answer =
     when (is 18) (TooLarge answer.size)
     ∷ when (is 20) (NotACut (which_at answer.step))
     ∷ when (is 21) (DifferentTable (tag_of answer.detail))
@@ -70,7 +71,7 @@ join_error_lines answer =
 
 -- the one that it says
 unfoldable pub join_error_of : Answer → Option JoinError
-join_error_of answer = first_of_lines (join_error_lines answer)
+join_error_of answer = first_of_lines (join_error_lines (nat_eq answer.status) answer)
 
 -- the errors, each where an answer says it
 abbrev pub error_lines : Answer → List (Option AnyError)

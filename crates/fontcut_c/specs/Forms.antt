@@ -3,14 +3,12 @@ use Rattle.std.specs.Prelude.{◌≡◌, ℕ, ◌↔◌, IsTrue, Bool, List, Non
 use Rattle.font_file.specs.Font.{font_fault}
 use Rattle.font_theory.specs.Kinds.{fault_of}
 use Rattle.font_theory.specs.declared.kinds.Kind.{Kind}
-use Rattle.font_subset.specs.Kinds.{IsCutIn, form_as}
+use Rattle.font_subset.specs.CutOfKind.{IsCutIn, form_as}
 use Rattle.font_subset.specs.declared.forms.CutForm.{CutForm}
 use Rattle.fontcut_c.specs.Answers.{belongs_answer, form_answer}
 use Rattle.fontcut_c.specs.declared.answer.Answer.{Answer}
-use Rattle.fontcut_c.specs.declared.refusal.PairRefusal.{PairRefusal}
-use Rattle.fontcut_c.specs.declared.refusal.PairRefusal.TheVariants as of_pair
 use Rattle.fontcut_c.specs.declared.refusal.Refusal.{Refusal}
-use Rattle.fontcut_c.specs.declared.refusal.Refusal.TheVariants.{Font, NoMemory}
+use Rattle.fontcut_c.specs.declared.refusal.Refusal.TheVariants.{Font, NoMemory, Second}
 
 -- why one font is not looked into for cuts of a kind: it is refused for them, or else memory is
 abbrev pub RefusesFont : Kind → List ℕ → Refusal → Type 0
@@ -20,13 +18,14 @@ RefusesFont kind font _ = ⊥
 
 -- why two fonts are not compared for cuts of a kind: the cut is refused as a font, or the font is; the cut is
 -- refused for cuts of the kind, or the font is; or memory is
-abbrev pub RefusesPair : Kind → List ℕ → List ℕ → PairRefusal → Type 0
-RefusesPair kind cut font (of_pair.Cut error) =
+abbrev pub RefusesPair : Kind → List ℕ → List ℕ → Refusal → Type 0
+RefusesPair kind cut font (Font error) =
     (fault_of kind cut ≡ Some error) × (font_fault cut ≡ None → font_fault font ≡ None)
-RefusesPair kind cut font (of_pair.Font error) =
+RefusesPair kind cut font (Second error) =
     (font_fault cut ≡ None) × (fault_of kind font ≡ Some error)
     × (font_fault font ≡ None → fault_of kind cut ≡ None)
-RefusesPair kind cut font of_pair.NoMemory = (font_fault cut ≡ None) × (font_fault font ≡ None)
+RefusesPair kind cut font NoMemory = (font_fault cut ≡ None) × (font_fault font ≡ None)
+RefusesPair kind cut font _ = ⊥
 
 -- whether a file is a cut of a font, of a kind, both being accepted for cuts of the kind
 pub record IsBelonging (kind : Kind) (cut font : List ℕ) (is : Bool) : Type 0 where
@@ -43,6 +42,6 @@ pub record AnswersForm (kind : Kind) (font : List ℕ) (answer : Answer) : Type 
 
 -- what a call answers that asks whether a file is a cut of a font, of a kind
 pub record AnswersBelonging (kind : Kind) (cut font : List ℕ) (answer : Answer) : Type 0 where
-  pub outcome : Result Bool PairRefusal
+  pub outcome : Result Bool Refusal
   pub told : answer ≡ belongs_answer outcome
   pub holds : MatchResult outcome (IsBelonging kind cut font) (RefusesPair kind cut font)

@@ -4,11 +4,11 @@ use Rattle.std.specs.Prelude.{◌≡◌, ℕ, ◌<◌, ◌≤◌, ℤ, List, len
 use Rattle.font_tables.specs.Fields.{glyph_count_of}
 use Rattle.font_tables.specs.Metrics.{metric_of}
 use Rattle.font_file.specs.Font.{font_fault, map_of}
-use Rattle.fontcut_c.specs.Answers.{IsInRoom, lookup_answer}
+use Rattle.fontcut_c.specs.Answers.{IsInRoom, size_answer}
 use Rattle.fontcut_c.specs.declared.answer.Answer.{Answer}
-use Rattle.fontcut_c.specs.declared.metrics.Metric.{Metric}
-use Rattle.fontcut_c.specs.declared.refusal.LookupRefusal.{LookupRefusal}
-use Rattle.fontcut_c.specs.declared.refusal.LookupRefusal.TheVariants.{Font, NoGlyph, SmallRoom}
+use Rattle.fontcut_c.specs.declared.glyph_metrics.Metric.{Metric}
+use Rattle.fontcut_c.specs.declared.refusal.Refusal.{Refusal}
+use Rattle.fontcut_c.specs.declared.refusal.Refusal.TheVariants.{Font, NoGlyph, SmallRoom}
 
 -- the glyphs to which a font maps codes, in the order of the codes, 0 where it maps one to none
 abbrev pub glyphs_of : List ℕ → List ℕ → List ℕ
@@ -50,11 +50,11 @@ pub record AreGlyphsInRoom (font codes old new : List ℕ) (size : ℕ) : Type 0
   pub written : IsInRoom (glyphs_of font codes) old new size
 
 -- why they are not written: the font, and then the room
-abbrev pub RefusesGlyphs : List ℕ → List ℕ → ℕ → LookupRefusal → Type 0
+abbrev pub RefusesGlyphs : List ℕ → List ℕ → ℕ → Refusal → Type 0
 RefusesGlyphs font codes room (Font error) = font_fault font ≡ Some error
-RefusesGlyphs font codes room (NoGlyph index) = ⊥
 RefusesGlyphs font codes room (SmallRoom size) =
     (font_fault font ≡ None) × (size ≡ length codes) × (room < size)
+RefusesGlyphs font codes room _ = ⊥
 
 -- the metrics of glyphs are in the room
 pub record AreMetricsInRoom (font glyphs : List ℕ) (old new : List Metric) (size : ℕ) : Type 0 where
@@ -63,22 +63,23 @@ pub record AreMetricsInRoom (font glyphs : List ℕ) (old new : List Metric) (si
   pub written : IsInRoom (metrics_of font glyphs) old new size
 
 -- why they are not written: the font, then the first number that is none of its glyphs, and then the room
-abbrev pub RefusesMetrics : List ℕ → List ℕ → ℕ → LookupRefusal → Type 0
+abbrev pub RefusesMetrics : List ℕ → List ℕ → ℕ → Refusal → Type 0
 RefusesMetrics font glyphs room (Font error) = font_fault font ≡ Some error
 RefusesMetrics font glyphs room (NoGlyph index) = (font_fault font ≡ None) × IsFirstNoGlyph font glyphs index
 RefusesMetrics font glyphs room (SmallRoom size) =
     (font_fault font ≡ None) × AreGlyphs font glyphs × (size ≡ length glyphs) × (room < size)
+RefusesMetrics font glyphs room _ = ⊥
 
 -- what `fontcut_glyphs` answers: a refusal leaves the room as it was
 pub record AnswersGlyphs (font codes old new : List ℕ) (answer : Answer) : Type 0 where
-  pub outcome : Result ℕ LookupRefusal
-  pub told : answer ≡ lookup_answer outcome
+  pub outcome : Result ℕ Refusal
+  pub told : answer ≡ size_answer outcome
   pub holds : MatchResult outcome (AreGlyphsInRoom font codes old new)
       (λ refusal. (new ≡ old) × RefusesGlyphs font codes (length old) refusal)
 
 -- what `fontcut_metrics` answers: a refusal leaves the room as it was
 pub record AnswersMetrics (font glyphs : List ℕ) (old new : List Metric) (answer : Answer) : Type 0 where
-  pub outcome : Result ℕ LookupRefusal
-  pub told : answer ≡ lookup_answer outcome
+  pub outcome : Result ℕ Refusal
+  pub told : answer ≡ size_answer outcome
   pub holds : MatchResult outcome (AreMetricsInRoom font glyphs old new)
       (λ refusal. (new ≡ old) × RefusesMetrics font glyphs (length old) refusal)

@@ -1,5 +1,6 @@
 -- Words of private contracts and of proofs: no public clause names them.
-use Rattle.std.specs.Prelude.{◌≡◌, ℕ, ◌+◌, ◌<◌, ◌≤◌, Bool, List, [], ◌∷◌, ◌++◌, drop, length, map, sum, take, None, Some, if◌then◌else◌}
+use Rattle.std.specs.Prelude.{◌≡◌, ℕ, ◌+◌, ◌<◌, ◌≤◌, Bool, List, [], ◌∷◌, ◌++◌, drop, length, map, sum, take, None}
+use Rattle.std.specs.Prelude.{Some, if◌then◌else◌}
 use Rattle.std.specs.List.{concat}
 use Rattle.sfnt_bytes.specs.declared.directory.TheConstants.{MAX_FILE}
 use Rattle.font_file.specs.Font.{font_fault}
@@ -11,17 +12,12 @@ use Rattle.font_write.specs.Trace.{Trace}
 use Rattle.font_subset.specs.declared.layout_font.OpenError.{OpenError}
 use Rattle.font_subset.specs.declared.layout_font.OpenError.TheVariants as open_errors
 use Rattle.fontcut_c.specs.Answers.{IsInRoom}
-use Rattle.fontcut_c.specs.Cuts.{AddUp, AreInRoom, AreSmall, AreSmallTo, IsFirstLarge, sets_of, size_of_all}
+use Rattle.fontcut_c.specs.ManyCuts.{AddUp, AreInRoom, AreSmall, AreSmallTo, IsFirstLarge, sets_of, size_of_all}
 use Rattle.fontcut_c.specs.Cutting.{IsFirstBad, wanted_by}
 use Rattle.codes.specs.declared.code_range.CodeRange.{CodeRange}
-use Rattle.fontcut_c.specs.declared.refusal.CutsRefusal.{CutsRefusal}
-use Rattle.fontcut_c.specs.declared.refusal.CutsRefusal.TheVariants as of_cuts
-use Rattle.fontcut_c.specs.declared.refusal.JoinRefusal.{JoinRefusal}
-use Rattle.fontcut_c.specs.declared.refusal.JoinRefusal.TheVariants as of_join
-use Rattle.fontcut_c.specs.declared.refusal.PairRefusal.{PairRefusal}
-use Rattle.fontcut_c.specs.declared.refusal.PairRefusal.TheVariants as of_pair
 use Rattle.fontcut_c.specs.declared.refusal.Refusal.{Refusal}
-use Rattle.fontcut_c.specs.declared.refusal.Refusal.TheVariants.{BadRange, Font, NoMemory, SmallRoom, TooLarge}
+use Rattle.fontcut_c.specs.declared.refusal.Refusal.TheVariants.{BadCounts, BadRange, Font, NoMemory, Second}
+use Rattle.fontcut_c.specs.declared.refusal.Refusal.TheVariants.{SmallRoom, TooLarge}
 
 -- what was shown to room: what is filled, or, where it is stopped, all of it and the byte that found no room
 abbrev pub shown_to : List ℕ → ℕ → ℕ → Bool → List ℕ
@@ -67,8 +63,8 @@ abbrev pub IsSmallFile : List ℕ → Type 0
 IsSmallFile bytes = length bytes ≤ MAX_FILE
 
 -- the join of files is larger than the room
-abbrev pub RefusesJoined : List ℕ → ℕ → JoinRefusal → Type 0
-RefusesJoined bytes room (of_join.SmallRoom size) = IsLargerFile bytes room size
+abbrev pub RefusesJoined : List ℕ → ℕ → Refusal → Type 0
+RefusesJoined bytes room (SmallRoom size) = IsLargerFile bytes room size
 RefusesJoined bytes room _ = ⊥
 
 -- what refuses a request before memory is asked for: the font, and then the first bad range
@@ -79,25 +75,21 @@ RefusesRequest font ranges _ = ⊥
 
 -- what refuses a request for sets before memory is asked for: their counts, the font, and then the first
 -- bad range
-abbrev pub RefusesRequestForSets : List ℕ → List CodeRange → List ℕ → ℕ → CutsRefusal → Type 0
-RefusesRequestForSets font ranges counts places of_cuts.BadCounts = ¬ AddUp counts ranges places
-RefusesRequestForSets font ranges counts places (of_cuts.Cut refusal) =
+abbrev pub RefusesRequestForSets : List ℕ → List CodeRange → List ℕ → ℕ → Refusal → Type 0
+RefusesRequestForSets font ranges counts places BadCounts = ¬ AddUp counts ranges places
+RefusesRequestForSets font ranges counts places refusal =
     AddUp counts ranges places × RefusesRequest font ranges refusal
 
 -- what refuses a cut and its font before they are opened for a kind: the cut, or else the font
-abbrev pub RefusesFonts : List ℕ → List ℕ → PairRefusal → Type 0
-RefusesFonts cut font (of_pair.Cut error) = font_fault cut ≡ Some error
-RefusesFonts cut font (of_pair.Font error) = (font_fault cut ≡ None) × (font_fault font ≡ Some error)
+abbrev pub RefusesFonts : List ℕ → List ℕ → Refusal → Type 0
+RefusesFonts cut font (Font error) = font_fault cut ≡ Some error
+RefusesFonts cut font (Second error) = (font_fault cut ≡ None) × (font_fault font ≡ Some error)
 RefusesFonts cut font _ = ⊥
 
--- the refusals of a cut and of its font that are not opened for cuts of a kind
-abbrev pub of_unopened_cut : OpenError → PairRefusal
-of_unopened_cut open_errors.NoMemory = of_pair.NoMemory
-of_unopened_cut (open_errors.Refused error) = of_pair.Cut error
-
-abbrev pub of_unopened_font : OpenError → PairRefusal
-of_unopened_font open_errors.NoMemory = of_pair.NoMemory
-of_unopened_font (open_errors.Refused error) = of_pair.Font error
+-- the refusal of the second of two fonts, which is not opened for cuts of a kind
+abbrev pub of_unopened_second : OpenError → Refusal
+of_unopened_second open_errors.NoMemory = NoMemory
+of_unopened_second (open_errors.Refused error) = Second error
 
 -- the codes of the first n sets, and where the ranges of the others begin
 pub record AreSetsTo (counts : List ℕ) (ranges : List CodeRange) (n from : ℕ) (codes : List (ℕ → Bool))
@@ -111,7 +103,7 @@ abbrev pub files_of : {S : Type 0} → (S → Content) → List S → List (List
 files_of content_of sources = map (λ source. file current_writing (content_of source)) sources
 
 -- the first n files are counted, and none of them is too large
-pub record AreCounted (files : List (List ℕ)) (n total : ℕ) : Type 0 where
+pub record AreMeasured (files : List (List ℕ)) (n total : ℕ) : Type 0 where
   pub small : AreSmallTo files n
   pub total_is : total ≡ size_of_all (take n files)
 

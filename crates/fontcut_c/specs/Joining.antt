@@ -5,11 +5,11 @@ use Rattle.font_theory.specs.Cut.{Format}
 use Rattle.font_theory.specs.Kinds.{format_of}
 use Rattle.font_theory.specs.declared.kinds.Kind.{Kind}
 use Rattle.font_join.specs.JoinList.{IsAllJoined, IsAllRefusal}
-use Rattle.fontcut_c.specs.Answers.{IsInRoom, join_answer}
-use Rattle.fontcut_c.specs.Text.{join_text, refusal_text}
+use Rattle.fontcut_c.specs.Answers.{IsInRoom, size_answer}
+use Rattle.fontcut_c.specs.Text.{answer_text, refusal_text}
 use Rattle.fontcut_c.specs.declared.answer.Answer.{Answer}
-use Rattle.fontcut_c.specs.declared.refusal.JoinRefusal.{JoinRefusal}
-use Rattle.fontcut_c.specs.declared.refusal.JoinRefusal.TheVariants.{Join, SmallRoom}
+use Rattle.fontcut_c.specs.declared.refusal.Refusal.{Refusal}
+use Rattle.fontcut_c.specs.declared.refusal.Refusal.TheVariants.{Join, SmallRoom}
 
 -- the join of all files, of which there is one at least, over a format, is in the room
 pub record IsJoinInRoom (R : Format) (files : List (List ℕ)) (old new : List ℕ) (size : ℕ) : Type 0 where
@@ -27,15 +27,16 @@ pub record IsLargerJoin (R : Format) (files : List (List ℕ)) (room size : ℕ)
   pub over : room < size
 
 -- why the join is not written: a step is refused, or the room is too small
-abbrev pub RefusesJoin : Format → List (List ℕ) → ℕ → JoinRefusal → Type 0
+abbrev pub RefusesJoin : Format → List (List ℕ) → ℕ → Refusal → Type 0
 RefusesJoin R files room (Join error) = IsAllRefusal R files error
 RefusesJoin R files room (SmallRoom size) = IsLargerJoin R files room size
+RefusesJoin R files room _ = ⊥
 
 -- what a call for a join of a kind answers: a refusal leaves the room as it was
 pub record AnswersJoin (kind : Kind) (files : List (List ℕ)) (old new : List ℕ) (answer : Answer)
     : Type 0 where
-  pub outcome : Result ℕ JoinRefusal
-  pub told : answer ≡ join_answer outcome
-  pub text : refusal_text answer ≡ join_text outcome
+  pub outcome : Result ℕ Refusal
+  pub told : answer ≡ size_answer outcome
+  pub text : refusal_text answer ≡ answer_text outcome
   pub holds : MatchResult outcome (IsJoinInRoom (format_of kind) files old new)
       (λ refusal. (new ≡ old) × RefusesJoin (format_of kind) files (length old) refusal)

@@ -1,5 +1,5 @@
 pub mod Answers
-pub mod Cuts
+pub mod ManyCuts
 pub mod Cutting
 pub mod Errors
 pub mod Forms
@@ -7,6 +7,6 @@ pub mod Glyphs
 pub mod Info
 pub mod Inside
 pub mod Joining
-pub mod Kinds
+pub mod KindNumbers
 pub mod Mapped
 pub mod Text

@@ -13,10 +13,9 @@ use Rattle.fontcut_c.specs.Answers.{IsInRoom, size_answer}
 use Rattle.fontcut_c.specs.Errors.{any_error_text, error_of, which_at}
 use Rattle.fontcut_c.specs.declared.answer.Answer.{Answer}
 use Rattle.fontcut_c.specs.declared.any_error.AnyError.{AnyError}
-use Rattle.fontcut_c.specs.declared.refusal.JoinRefusal.{JoinRefusal}
-use Rattle.fontcut_c.specs.declared.refusal.JoinRefusal.TheVariants as of_join
 use Rattle.fontcut_c.specs.declared.refusal.Refusal.{Refusal}
-use Rattle.fontcut_c.specs.declared.refusal.Refusal.TheVariants.{BadRange, Font, NoMemory, SmallRoom, TooLarge}
+use Rattle.fontcut_c.specs.declared.refusal.Refusal.TheVariants.{BadRange, Font, Join, NoMemory, Second, SmallRoom}
+use Rattle.fontcut_c.specs.declared.refusal.Refusal.TheVariants.{TooLarge}
 
 -- the text of an error, where there is one
 abbrev pub text_of : Option AnyError → List ℕ
@@ -32,13 +31,15 @@ abbrev pub check_text : Option FontError → List ℕ
 check_text None = []
 check_text (Some error) = error_text error
 
--- the text of a refusal of a call on one font, and none where the room is too small
+-- the text of a refusal, and none of one that is of this call alone, as where the room is too small
 abbrev pub text_of_refusal : Refusal → List ℕ
 text_of_refusal (Font error) = error_text error
+text_of_refusal (Second error) = error_text error
+text_of_refusal (Join error) = join_all_error_text error
 text_of_refusal (BadRange index) = wanted_error_text wanted.BadRange
 text_of_refusal NoMemory = wanted_error_text wanted.NoMemory
 text_of_refusal (TooLarge size) = join_error_text (joins.TooLarge size)
-text_of_refusal (SmallRoom size) = []
+text_of_refusal _ = []
 
 -- the refusal of a join names the file that is no cut as its step does
 abbrev pub NamesByStep : ℕ → JoinError → Type 0
@@ -50,16 +51,15 @@ abbrev pub NamesByItsStep : JoinAllError → Type 0
 NamesByItsStep NothingToJoin = Unit {0}
 NamesByItsStep (At step error) = NamesByStep step error
 
--- the same of what refuses a join
-abbrev pub NamesFile : JoinRefusal → Type 0
-NamesFile (of_join.Join error) = NamesByItsStep error
-NamesFile (of_join.SmallRoom size) = Unit {0}
+-- the same of each refusal
+abbrev pub NamesFile : Refusal → Type 0
+NamesFile (Join error) = NamesByItsStep error
+NamesFile _ = Unit {0}
 
--- the text of what a call for a join answers, and none where it is done or the room is too small
-abbrev pub join_text : Result ℕ JoinRefusal → List ℕ
-join_text (Ok size) = []
-join_text (Err (of_join.Join error)) = join_all_error_text error
-join_text (Err (of_join.SmallRoom size)) = []
+-- the text of what a call answers, and none where it is done
+abbrev pub answer_text : Result ℕ Refusal → List ℕ
+answer_text (Ok size) = []
+answer_text (Err refusal) = text_of_refusal refusal
 
 -- why a text is not written: memory is refused, or the room is too small
 abbrev pub RefusesText : Answer → ℕ → Refusal → Type 0

@@ -6,6 +6,7 @@ use crate::answer::Answer;
 use font_cut::{
     DirError, FontError, JoinAllError, JoinError, MapError, TableError, Tag, WantedError, Which,
 };
+use sfnt_bytes::numbers;
 use std::fmt;
 
 /// An error that the library answers.
@@ -33,27 +34,27 @@ impl fmt::Display for AnyError {
 
 // Returns the refusal of a font that has a number, and names this.
 #[tactic(auto, unfolding(crate::specs::Errors::font_error_of))]
-fn font_error(number: u32, detail: u32) -> Option<FontError>
+fn font_error(number: u8, detail: u32) -> Option<FontError>
     ensures { result ≡ font_error_of number detail }
 {
     let tag = Tag(detail.to_be_bytes());
     match number {
-        1 => Some(FontError::Directory(DirError::FileTooLarge)),
-        2 => Some(FontError::Directory(DirError::Truncated)),
-        3 => Some(FontError::Directory(DirError::Collection)),
-        4 => Some(FontError::Directory(DirError::NotTrueType)),
-        5 => Some(FontError::Directory(DirError::DuplicateTable(tag))),
-        6 => Some(FontError::Directory(DirError::TableOutOfFile(tag))),
-        7 => Some(FontError::Tables(TableError::MissingTable(tag))),
-        8 => Some(FontError::Tables(TableError::BadHead)),
-        9 => Some(FontError::Tables(TableError::BadMaxp)),
-        10 => Some(FontError::Tables(TableError::BadHhea)),
-        11 => Some(FontError::Tables(TableError::BadHmtx)),
-        12 => Some(FontError::Tables(TableError::BadLoca(detail))),
-        13 => Some(FontError::Mapping(MapError::NoMapping)),
-        14 => Some(FontError::Mapping(MapError::BadCmap)),
-        17 => u16::try_from(detail).ok().map(FontError::BadGlyph),
-        27 => Some(FontError::BadLayout),
+        numbers::FILE_TOO_LARGE => Some(FontError::Directory(DirError::FileTooLarge)),
+        numbers::TRUNCATED => Some(FontError::Directory(DirError::Truncated)),
+        numbers::COLLECTION => Some(FontError::Directory(DirError::Collection)),
+        numbers::NOT_TRUETYPE => Some(FontError::Directory(DirError::NotTrueType)),
+        numbers::DUPLICATE_TABLE => Some(FontError::Directory(DirError::DuplicateTable(tag))),
+        numbers::TABLE_OUT_OF_FILE => Some(FontError::Directory(DirError::TableOutOfFile(tag))),
+        numbers::MISSING_TABLE => Some(FontError::Tables(TableError::MissingTable(tag))),
+        numbers::BAD_HEAD => Some(FontError::Tables(TableError::BadHead)),
+        numbers::BAD_MAXP => Some(FontError::Tables(TableError::BadMaxp)),
+        numbers::BAD_HHEA => Some(FontError::Tables(TableError::BadHhea)),
+        numbers::BAD_HMTX => Some(FontError::Tables(TableError::BadHmtx)),
+        numbers::BAD_LOCA => Some(FontError::Tables(TableError::BadLoca(detail))),
+        numbers::NO_MAPPING => Some(FontError::Mapping(MapError::NoMapping)),
+        numbers::BAD_CMAP => Some(FontError::Mapping(MapError::BadCmap)),
+        numbers::BAD_GLYPH => u16::try_from(detail).ok().map(FontError::BadGlyph),
+        numbers::BAD_LAYOUT => Some(FontError::BadLayout),
         _ => None,
     }
 }
@@ -71,16 +72,17 @@ fn which_of(step: u64) -> Which
 
 // Returns the refusal of a join that an answer says, but for those of fonts and of memory.
 #[tactic(auto, unfolding(crate::specs::Errors::join_error_of))]
-fn join_error(answer: Answer) -> Option<JoinError>
+fn join_error(number: u8, answer: Answer) -> Option<JoinError>
+    requires { answer.status ≡ number }
     ensures { result ≡ join_error_of answer }
 {
     let detail = answer.detail;
-    match answer.status {
-        18 => Some(JoinError::TooLarge(answer.size)),
-        20 => Some(JoinError::NotACut(which_of(answer.step))),
-        21 => Some(JoinError::DifferentTable(Tag(detail.to_be_bytes()))),
-        22 => Some(JoinError::DifferentMapping(detail)),
-        23 => u16::try_from(detail).ok().map(JoinError::DifferentGlyph),
+    match number {
+        numbers::TOO_LARGE => Some(JoinError::TooLarge(answer.size)),
+        numbers::NOT_A_CUT => Some(JoinError::NotACut(which_of(answer.step))),
+        numbers::DIFFERENT_TABLE => Some(JoinError::DifferentTable(Tag(detail.to_be_bytes()))),
+        numbers::DIFFERENT_MAPPING => Some(JoinError::DifferentMapping(detail)),
+        numbers::DIFFERENT_GLYPH => u16::try_from(detail).ok().map(JoinError::DifferentGlyph),
         _ => None,
     }
 }
@@ -90,14 +92,17 @@ fn join_error(answer: Answer) -> Option<JoinError>
 pub(crate) fn error_of(answer: Answer) -> Option<AnyError>
     ensures { result ≡ error_of_answer answer }
 {
-    if let Some(error) = font_error(answer.status, answer.detail) {
+    let Ok(number) = u8::try_from(answer.status) else {
+        return None;
+    };
+    if let Some(error) = font_error(number, answer.detail) {
         return Some(AnyError::Font(error));
     }
-    match answer.status {
-        15 => Some(AnyError::Wanted(WantedError::BadRange)),
-        16 => Some(AnyError::Wanted(WantedError::NoMemory)),
-        24 => Some(AnyError::Join(JoinAllError::NothingToJoin)),
-        _ => match join_error(answer) {
+    match number {
+        numbers::BAD_RANGE => Some(AnyError::Wanted(WantedError::BadRange)),
+        numbers::NO_MEMORY => Some(AnyError::Wanted(WantedError::NoMemory)),
+        numbers::NOTHING_TO_JOIN => Some(AnyError::Join(JoinAllError::NothingToJoin)),
+        _ => match join_error(number, answer) {
             Some(error) => Some(AnyError::Join(JoinAllError::At {
                 step: answer.step as usize,
                 error,

@@ -13,10 +13,7 @@ pub(crate) fn size_of<S: Source>(source: &S) -> Result<u64, Refusal>
     ensures { MatchResult result (IsFileLength (file current_writing (S.content_of source.now)))
         (RefusesFileSize (file current_writing (S.content_of source.now))) }
 {
-    match measured(source) {
-        Ok(size) => Ok(size.bytes),
-        Err(size) => Err(Refusal::TooLarge(size)),
-    }
+    Ok(measured(source).map_err(Refusal::TooLarge)?.bytes)
 }
 
 /// Writes the file of a source, which has been measured, to the front of room, and returns its length.

@@ -6,8 +6,8 @@ ghost use Rattle.fontcut_c.specs.Cutting.{IsAccepted, IsCutInRoom, IsCutSize, Re
 ghost use Rattle.fontcut_c.specs.Inside.{RefusesRequest};
 
 use crate::caller_room::{size_of, write_to};
-use crate::ranges::{first_bad, wanted_of};
 use crate::refusal::Refusal;
+use crate::wanted_ranges::{first_bad, wanted_of};
 use font_cut::{CodeRange, CutOfKind, Font, FontOfKind, Kind};
 use std::alloc::Global;
 
@@ -19,7 +19,7 @@ pub(crate) fn opened_for_ranges<'a>(
     ensures { MatchResult result (λ font. (font ≡ file.now) × IsAccepted file.now ranges.now)
         (RefusesRequest file.now ranges.now) }
 {
-    let font = Font::open(file).map_err(Refusal::Font)?;
+    let font = Font::open(file)?;
     match first_bad(ranges) {
         Some(index) => Err(Refusal::BadRange(index)),
         None => Ok(font),

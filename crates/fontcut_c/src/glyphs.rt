@@ -4,7 +4,7 @@ ghost use Rattle.std.specs.Prelude.{◌≡◌, ◌≤◌, ◌++◌, MatchResult,
 ghost use Rattle.font_file.specs.Font.{font_fault};
 ghost use Rattle.fontcut_c.specs.Glyphs.{AreGlyphsInRoom, RefusesGlyphs, glyphs_of};
 
-use crate::refusal::LookupRefusal;
+use crate::refusal::Refusal;
 use font_cut::Font;
 
 // Writes the glyph of each code to the front of room that has a place for each.
@@ -19,13 +19,13 @@ fn put_glyphs(font: &Font<'_>, codes: &[u32], out: &mut [u16])
 }
 
 // Writes the glyph of each code to the front of room, and returns how many they are.
-fn glyphs_in(font: &Font<'_>, codes: &[u32], out: &mut [u16]) -> Result<u64, LookupRefusal>
+fn glyphs_in(font: &Font<'_>, codes: &[u32], out: &mut [u16]) -> Result<u64, Refusal>
     requires { font_fault font.now ≡ None }
     ensures { MatchResult result (AreGlyphsInRoom font.now codes.now out.old out.new)
         (λ refusal. (out.new ≡ out.old) × RefusesGlyphs font.now codes.now (length out.old) refusal) }
 {
     if out.len() < codes.len() {
-        return Err(LookupRefusal::SmallRoom(codes.len()));
+        return Err(Refusal::SmallRoom(codes.len() as u64));
     }
     put_glyphs(font, codes, out);
     Ok(codes.len() as u64)
@@ -33,22 +33,15 @@ fn glyphs_in(font: &Font<'_>, codes: &[u32], out: &mut [u16]) -> Result<u64, Loo
 
 /// Writes the glyph of each code to the front of room, 0 where the font maps it to none, and returns how many
 /// they are. It asks for no memory.
-pub(crate) fn glyphs_to(file: &[u8], codes: &[u32], out: &mut [u16]) -> Result<u64, LookupRefusal>
+pub(crate) fn glyphs_to(file: &[u8], codes: &[u32], out: &mut [u16]) -> Result<u64, Refusal>
     ensures { MatchResult result (AreGlyphsInRoom file.now codes.now out.old out.new)
         (λ refusal. (out.new ≡ out.old) × RefusesGlyphs file.now codes.now (length out.old) refusal) }
 {
-    match Font::open(file) {
-        Ok(font) => glyphs_in(&font, codes, out),
-        Err(error) => Err(LookupRefusal::Font(error)),
-    }
+    glyphs_in(&Font::open(file)?, codes, out)
 }
 
 /// Does the same for a font that is accepted, which is not tested again.
-pub(crate) fn checked_glyphs_to(
-    file: &[u8],
-    codes: &[u32],
-    out: &mut [u16],
-) -> Result<u64, LookupRefusal>
+pub(crate) fn checked_glyphs_to(file: &[u8], codes: &[u32], out: &mut [u16]) -> Result<u64, Refusal>
     requires { font_fault file.now ≡ None }
     ensures { MatchResult result (AreGlyphsInRoom file.now codes.now out.old out.new)
         (λ refusal. (out.new ≡ out.old) × RefusesGlyphs file.now codes.now (length out.old) refusal) }

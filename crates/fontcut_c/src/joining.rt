@@ -7,14 +7,14 @@ ghost use Rattle.fontcut_c.specs.Joining.{IsJoinInRoom, RefusesJoin};
 ghost use Rattle.fontcut_c.specs.Text.{NamesFile};
 
 use crate::caller_room::write_sized;
-use crate::refusal::JoinRefusal;
+use crate::refusal::Refusal;
 use font_cut::Kind;
 use font_join::{open_first_file, union_of_files};
 use font_write::{CURRENT, Source, file_size};
 use std::alloc::Global;
 
 // Writes the file of a union to the front of room, and returns its length.
-fn write_union<S: Source>(union: &S, out: &mut [u8]) -> Result<u64, JoinRefusal>
+fn write_union<S: Source>(union: &S, out: &mut [u8]) -> Result<u64, Refusal>
     requires { IsSmallFile (file current_writing (S.content_of union.now)) }
     ensures exact { let z = file current_writing (S.content_of union.now) in
         MatchResult result (IsFileInRoom z out.old out.new)
@@ -22,7 +22,7 @@ fn write_union<S: Source>(union: &S, out: &mut [u8]) -> Result<u64, JoinRefusal>
     ensures named { IfErr result NamesFile }
 {
     let size = file_size(union, CURRENT);
-    write_sized(union, size, out).map_err(JoinRefusal::SmallRoom)
+    write_sized(union, size, out).map_err(Refusal::SmallRoom)
 }
 
 /// Writes the join of all files, of a kind, to the front of room, and returns its length.
@@ -32,7 +32,7 @@ pub(crate) fn join_to(
     kind: Kind,
     files: &[&[u8]],
     out: &mut [u8],
-) -> Result<u64, JoinRefusal>
+) -> Result<u64, Refusal>
     ensures exact { let bytes = map (λ f. f.now) files.now in
         MatchResult result (IsJoinInRoom (format_of kind) bytes out.old out.new)
         (λ refusal. (out.new ≡ out.old)

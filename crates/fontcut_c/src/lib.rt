@@ -4,56 +4,56 @@
 
 mod answer;
 mod any_error;
+mod belonging;
 mod caller_room;
-mod cuts;
 mod cutting;
 mod filled;
-mod forms;
+mod glyph_metrics;
 mod glyphs;
 mod info;
 mod joining;
 mod kind;
+mod many_cuts;
 mod mapped;
-mod metrics;
-mod ranges;
 mod refusal;
 mod text;
+mod wanted_ranges;
 
 ghost use Rattle.std.specs.Prelude.{◌≡◌, ◌≢◌, IfErr, None, length, map};
 ghost use Rattle.std.specs.List.{concat};
 ghost use Rattle.font_file.specs.Font.{font_fault};
-ghost use Rattle.font_subset.specs.Cut.{cut_of};
-ghost use Rattle.font_subset.specs.Kinds.{cut_in};
+ghost use Rattle.font_subset.specs.CutOfFont.{cut_of};
+ghost use Rattle.font_subset.specs.CutOfKind.{cut_in};
 ghost use Rattle.font_theory.specs.declared.kinds.Kind.TheVariants.{Full};
-ghost use Rattle.fontcut_c.specs.Answers.{IsInRoom, belongs_answer, check_answer, cuts_answer, form_answer, join_answer, lookup_answer, size_answer};
-ghost use Rattle.fontcut_c.specs.Cuts.{AnswersCuts, cuts_for};
+ghost use Rattle.fontcut_c.specs.Answers.{IsInRoom, check_answer, size_answer};
+ghost use Rattle.fontcut_c.specs.ManyCuts.{AnswersCuts, cuts_for};
 ghost use Rattle.fontcut_c.specs.Cutting.{AnswersCut, AnswersCutSize, wanted_by};
 ghost use Rattle.fontcut_c.specs.Forms.{AnswersBelonging, AnswersForm};
 ghost use Rattle.fontcut_c.specs.Glyphs.{AnswersGlyphs, AnswersMetrics, glyphs_of, metrics_of};
 ghost use Rattle.fontcut_c.specs.Info.{info_of};
 ghost use Rattle.fontcut_c.specs.Joining.{AnswersJoin};
-ghost use Rattle.fontcut_c.specs.Kinds.{AnswersInKind, HoldsInKind};
+ghost use Rattle.fontcut_c.specs.KindNumbers.{AnswersInKind, HoldsInKind};
 ghost use Rattle.fontcut_c.specs.Mapped.{AnswersCodes};
-ghost use Rattle.fontcut_c.specs.Text.{AnswersText, NamesFile, check_text, join_text, refusal_text};
+ghost use Rattle.fontcut_c.specs.Text.{AnswersText, NamesFile, answer_text, check_text, refusal_text};
 ghost use Rattle.fontcut_c.specs.declared.TheConstants.{VERSION};
 
 pub use crate::answer::Answer;
 pub use crate::any_error::AnyError;
-use crate::cuts::cuts_to;
+use crate::belonging::{belonging_answer, form_answer};
 use crate::cutting::{checked_cut_size, checked_cut_to, cut_size, cut_to};
-use crate::forms::{file_belongs, form_of, number_of};
+pub use crate::glyph_metrics::Metric;
+use crate::glyph_metrics::{checked_metrics_to, metrics_to};
 use crate::glyphs::{checked_glyphs_to, glyphs_to};
 pub use crate::info::Info;
 use crate::info::info_in;
 use crate::joining::join_to;
 use crate::kind::kind_of_number;
+use crate::many_cuts::cuts_to;
 use crate::mapped::codes_to;
-pub use crate::metrics::Metric;
-use crate::metrics::{checked_metrics_to, metrics_to};
-pub use crate::refusal::{CutsRefusal, JoinRefusal, LookupRefusal, PairRefusal, Refusal};
+pub use crate::refusal::Refusal;
 use crate::text::text_to;
 pub use font_cut::CodeRange;
-use font_cut::{CutForm, Font, Kind};
+use font_cut::{Font, Kind};
 use std::alloc::Global;
 
 /// Says whether a font is accepted: status 0, or the first refusal that applies, whose text [`fontcut_refusal_text`]
@@ -70,61 +70,11 @@ pub extern "C" fn fontcut_check(font: &[u8]) -> Answer
     }
 }
 
-// Returns the answer of a call that measures or writes a cut.
-fn size_answered(outcome: Result<u64, Refusal>) -> Answer
-    ensures { result ≡ size_answer outcome }
-{
-    match outcome {
-        Ok(size) => Answer::done(size),
-        Err(refusal) => refusal.answer(),
-    }
-}
-
-// Returns the answer of the call that writes the cuts for many sets.
-fn cuts_answered(outcome: Result<u64, CutsRefusal>) -> Answer
-    ensures { result ≡ cuts_answer outcome }
-{
-    match outcome {
-        Ok(size) => Answer::done(size),
-        Err(refusal) => refusal.answer(),
-    }
-}
-
-// Returns the answer of a call that asks for the form of a font.
-fn form_answered(outcome: Result<CutForm, Refusal>) -> Answer
-    ensures { result ≡ form_answer outcome }
-{
-    match outcome {
-        Ok(form) => Answer::told(number_of(form)),
-        Err(refusal) => refusal.answer(),
-    }
-}
-
-// Returns the answer of a call that asks whether a file is a cut of another.
-fn belonging_answered(outcome: Result<bool, PairRefusal>) -> Answer
-    ensures { result ≡ belongs_answer outcome }
-{
-    match outcome {
-        Ok(yes) => Answer::told(u32::from(yes)),
-        Err(refusal) => refusal.answer(),
-    }
-}
-
-// Returns the answer of a call that looks numbers up.
-fn lookup_answered(outcome: Result<u64, LookupRefusal>) -> Answer
-    ensures { result ≡ lookup_answer outcome }
-{
-    match outcome {
-        Ok(size) => Answer::done(size),
-        Err(refusal) => refusal.answer(),
-    }
-}
-
-// Returns the answer of a call that writes a join.
+// Returns the answer of a call that writes this much, or is refused: then its text is that of the refusal.
 #[tactic(auto, unfolding(crate::specs::Errors::error_of, crate::specs::Errors::font_error_of, crate::specs::Errors::join_error_of, crate::specs::Text::refusal_text))]
-fn join_answered(outcome: Result<u64, JoinRefusal>) -> Answer
-    ensures exact { result ≡ join_answer outcome }
-    ensures text { IfErr outcome NamesFile → refusal_text result ≡ join_text outcome }
+fn answered(outcome: Result<u64, Refusal>) -> Answer
+    ensures exact { result ≡ size_answer outcome }
+    ensures text { IfErr outcome NamesFile → refusal_text result ≡ answer_text outcome }
 {
     match outcome {
         Ok(size) => Answer::done(size),
@@ -144,7 +94,7 @@ pub extern "C" fn fontcut_subset_size(
     ensures { AnswersInKind kind result (λ k. AnswersCutSize k font.now ranges.now result) }
 {
     match kind_of_number(kind) {
-        Some(kind) => size_answered(cut_size(alloc, kind, font, ranges)),
+        Some(kind) => answered(cut_size(alloc, kind, font, ranges)),
         None => Answer::unknown_kind(kind),
     }
 }
@@ -167,7 +117,7 @@ pub extern "C" fn fontcut_subset(
     ensures untouched { result.status ≢ 0 → out.new ≡ out.old }
 {
     match kind_of_number(kind) {
-        Some(kind) => size_answered(cut_to(alloc, kind, font, ranges, out)),
+        Some(kind) => answered(cut_to(alloc, kind, font, ranges, out)),
         None => Answer::unknown_kind(kind),
     }
 }
@@ -185,7 +135,7 @@ pub extern "C" fn fontcut_subset_size_checked(
     ensures { AnswersInKind kind result (λ k. AnswersCutSize k font.now ranges.now result) }
 {
     match kind_of_number(kind) {
-        Some(kind) => size_answered(checked_cut_size(alloc, kind, font, ranges)),
+        Some(kind) => answered(checked_cut_size(alloc, kind, font, ranges)),
         None => Answer::unknown_kind(kind),
     }
 }
@@ -208,7 +158,7 @@ pub extern "C" fn fontcut_subset_checked(
     ensures untouched { result.status ≢ 0 → out.new ≡ out.old }
 {
     match kind_of_number(kind) {
-        Some(kind) => size_answered(checked_cut_to(alloc, kind, font, ranges, out)),
+        Some(kind) => answered(checked_cut_to(alloc, kind, font, ranges, out)),
         None => Answer::unknown_kind(kind),
     }
 }
@@ -238,7 +188,7 @@ pub extern "C" fn fontcut_cuts(
     ensures sizes_untouched { result.status ≢ 0 → sizes.new ≡ sizes.old }
 {
     match kind_of_number(kind) {
-        Some(kind) => cuts_answered(cuts_to(alloc, kind, font, ranges, counts, out, sizes)),
+        Some(kind) => answered(cuts_to(alloc, kind, font, ranges, counts, out, sizes)),
         None => Answer::unknown_kind(kind),
     }
 }
@@ -251,7 +201,7 @@ pub extern "C" fn fontcut_cut_form(alloc: Global, kind: u32, font: &[u8]) -> Ans
     ensures { AnswersInKind kind result (λ k. AnswersForm k font.now result) }
 {
     match kind_of_number(kind) {
-        Some(kind) => form_answered(form_of(alloc, kind, font)),
+        Some(kind) => form_answer(alloc, kind, font),
         None => Answer::unknown_kind(kind),
     }
 }
@@ -264,7 +214,7 @@ pub extern "C" fn fontcut_belongs(alloc: Global, kind: u32, cut: &[u8], font: &[
     ensures { AnswersInKind kind result (λ k. AnswersBelonging k cut.now font.now result) }
 {
     match kind_of_number(kind) {
-        Some(kind) => belonging_answered(file_belongs(alloc, kind, cut, font)),
+        Some(kind) => belonging_answer(alloc, kind, cut, font),
         None => Answer::unknown_kind(kind),
     }
 }
@@ -274,7 +224,7 @@ pub extern "C" fn fontcut_belongs(alloc: Global, kind: u32, cut: &[u8], font: &[
 pub extern "C" fn fontcut_cut_size(alloc: Global, font: &[u8], ranges: &[CodeRange]) -> Answer
     ensures { AnswersCutSize Full font.now ranges.now result }
 {
-    size_answered(cut_size(alloc, Kind::Full, font, ranges))
+    answered(cut_size(alloc, Kind::Full, font, ranges))
 }
 
 /// [`fontcut_subset`] of a full cut. Deprecated: the next version does not have it.
@@ -290,7 +240,7 @@ pub extern "C" fn fontcut_cut(
         IsInRoom (cut_of font.now (wanted_by ranges.now)) out.old out.new result.size }
     ensures untouched { result.status ≢ 0 → out.new ≡ out.old }
 {
-    size_answered(cut_to(alloc, Kind::Full, font, ranges, out))
+    answered(cut_to(alloc, Kind::Full, font, ranges, out))
 }
 
 /// [`fontcut_cut_form`] of a full cut. Deprecated: the next version does not have it.
@@ -298,7 +248,7 @@ pub extern "C" fn fontcut_cut(
 pub extern "C" fn fontcut_is_cut(alloc: Global, font: &[u8]) -> Answer
     ensures { AnswersForm Full font.now result }
 {
-    form_answered(form_of(alloc, Kind::Full, font))
+    form_answer(alloc, Kind::Full, font)
 }
 
 /// [`fontcut_belongs`] of a full cut. Deprecated: the next version does not have it.
@@ -306,7 +256,7 @@ pub extern "C" fn fontcut_is_cut(alloc: Global, font: &[u8]) -> Answer
 pub extern "C" fn fontcut_is_cut_of(alloc: Global, cut: &[u8], font: &[u8]) -> Answer
     ensures { AnswersBelonging Full cut.now font.now result }
 {
-    belonging_answered(file_belongs(alloc, Kind::Full, cut, font))
+    belonging_answer(alloc, Kind::Full, cut, font)
 }
 
 /// Writes the join of all files, cuts of the kind that the number names, to the front of `out`. A refusal
@@ -319,7 +269,7 @@ pub extern "C" fn fontcut_join(alloc: Global, kind: u32, files: &[&[u8]], out: &
     ensures untouched { result.status ≢ 0 → out.new ≡ out.old }
 {
     match kind_of_number(kind) {
-        Some(kind) => join_answered(join_to(alloc, kind, files, out)),
+        Some(kind) => answered(join_to(alloc, kind, files, out)),
         None => Answer::unknown_kind(kind),
     }
 }
@@ -330,7 +280,7 @@ pub extern "C" fn fontcut_join_all(alloc: Global, files: &[&[u8]], out: &mut [u8
     ensures exact { let bytes = map (λ f. f.now) files.now in AnswersJoin Full bytes out.old out.new result }
     ensures untouched { result.status ≢ 0 → out.new ≡ out.old }
 {
-    join_answered(join_to(alloc, Kind::Full, files, out))
+    answered(join_to(alloc, Kind::Full, files, out))
 }
 
 /// Writes the ranges of the codes that a font maps to the front of `out`, ascending, each as long as it
@@ -340,10 +290,7 @@ pub extern "C" fn fontcut_codes(alloc: Global, font: &[u8], out: &mut [CodeRange
     ensures exact { AnswersCodes font.now out.old out.new result }
     ensures untouched { result.status ≢ 0 → out.new ≡ out.old }
 {
-    match codes_to(alloc, font, out) {
-        Ok(size) => Answer::done(size),
-        Err(refusal) => refusal.answer(),
-    }
+    answered(codes_to(alloc, font, out))
 }
 
 /// Writes the glyph of each code to the front of `out`, 0 where the font maps it to none. `size` counts glyphs. A
@@ -354,7 +301,7 @@ pub extern "C" fn fontcut_glyphs(font: &[u8], codes: &[u32], out: &mut [u16]) ->
     ensures done { result.status ≡ 0 → IsInRoom (glyphs_of font.now codes.now) out.old out.new result.size }
     ensures untouched { result.status ≢ 0 → out.new ≡ out.old }
 {
-    lookup_answered(glyphs_to(font, codes, out))
+    answered(glyphs_to(font, codes, out))
 }
 
 /// Writes the advance width and the left side bearing of each glyph to the front of `out`, in font units. `size`
@@ -366,7 +313,7 @@ pub extern "C" fn fontcut_metrics(font: &[u8], glyphs: &[u16], out: &mut [Metric
     ensures done { result.status ≡ 0 → IsInRoom (metrics_of font.now glyphs.now) out.old out.new result.size }
     ensures untouched { result.status ≢ 0 → out.new ≡ out.old }
 {
-    lookup_answered(metrics_to(font, glyphs, out))
+    answered(metrics_to(font, glyphs, out))
 }
 
 /// Does what [`fontcut_glyphs`] does, with a font that [`fontcut_check`] has accepted: these bytes, or others that are
@@ -378,7 +325,7 @@ pub extern "C" fn fontcut_glyphs_checked(font: &[u8], codes: &[u32], out: &mut [
     ensures done { result.status ≡ 0 → IsInRoom (glyphs_of font.now codes.now) out.old out.new result.size }
     ensures untouched { result.status ≢ 0 → out.new ≡ out.old }
 {
-    lookup_answered(checked_glyphs_to(font, codes, out))
+    answered(checked_glyphs_to(font, codes, out))
 }
 
 /// Does what [`fontcut_metrics`] does, with a font that [`fontcut_check`] has accepted: these bytes, or others that are
@@ -390,7 +337,7 @@ pub extern "C" fn fontcut_metrics_checked(font: &[u8], glyphs: &[u16], out: &mut
     ensures done { result.status ≡ 0 → IsInRoom (metrics_of font.now glyphs.now) out.old out.new result.size }
     ensures untouched { result.status ≢ 0 → out.new ≡ out.old }
 {
-    lookup_answered(checked_metrics_to(font, glyphs, out))
+    answered(checked_metrics_to(font, glyphs, out))
 }
 
 /// Writes the numbers of a whole font to `info`, and answers as [`fontcut_check`]. A refusal leaves `info` as it was.
@@ -417,10 +364,7 @@ pub extern "C" fn fontcut_refusal_text(alloc: Global, answer: Answer, out: &mut 
     ensures exact { AnswersText answer out.old out.new result }
     ensures untouched { result.status ≢ 0 → out.new ≡ out.old }
 {
-    match text_to(alloc, answer, out) {
-        Ok(size) => Answer::done(size),
-        Err(refusal) => refusal.answer(),
-    }
+    answered(text_to(alloc, answer, out))
 }
 
 /// The version of the library, 0.11.0.

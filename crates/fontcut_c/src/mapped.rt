@@ -42,14 +42,8 @@ pub(crate) fn codes_to(alloc: Global, file: &[u8], out: &mut [CodeRange]) -> Res
     ensures { MatchResult result (IsListInRoom file.now out.old out.new)
         (λ refusal. (out.new ≡ out.old) × RefusesList file.now (length out.old) refusal) }
 {
-    let font = match Font::open(file) {
-        Ok(font) => font,
-        Err(error) => return Err(Refusal::Font(error)),
-    };
-    let chart = match Chart::of(alloc, font.mapping()) {
-        Ok(chart) => chart,
-        Err(_) => return Err(Refusal::NoMemory),
-    };
+    let font = Font::open(file)?;
+    let chart = Chart::of(alloc, font.mapping())?;
     let count = count_ranges(&chart);
     if out.len() < count {
         return Err(Refusal::SmallRoom(count as u64));

@@ -1,15 +1,14 @@
 //! Why a call is not done, and what it answers then.
-ghost use Rattle.std.specs.Prelude.{◌≡◌, ℕ, Err, Some};
+ghost use Rattle.std.specs.Prelude.{◌≡◌, ℕ, Some};
 ghost use Rattle.std.specs.Int.{to_be_bytes, w32};
 ghost use Rattle.sfnt_bytes.specs.Tag.{tag_number};
 ghost use Rattle.font_file.specs.Text.{error_number};
 ghost use Rattle.font_join.specs.JoinText.{join_all_error_text, join_error_text};
-ghost use Rattle.fontcut_c.specs.Answers.{as_detail, at_step, cuts_refusal_answer, font_answer, font_argument, join_all_error_answer, join_error_answer, join_refusal_answer, lookup_refusal_answer, of_open_error, pair_refusal_answer, refusal_answer};
+ghost use Rattle.fontcut_c.specs.Answers.{as_detail, at_step, font_answer, font_argument, join_all_error_answer, join_error_answer, of_open_error, refusal_answer};
 ghost use Rattle.fontcut_c.specs.Errors.{error_of, font_error_of};
-ghost use Rattle.fontcut_c.specs.Text.{NamesByItsStep, NamesByStep, NamesFile, join_text, refusal_text, text_of_refusal};
+ghost use Rattle.fontcut_c.specs.Text.{NamesByItsStep, NamesByStep, NamesFile, refusal_text, text_of_refusal};
 ghost use Rattle.fontcut_c.specs.declared.any_error.AnyError.TheVariants.{Font};
-ghost use Rattle.fontcut_c.specs.declared.refusal.JoinRefusal.TheVariants.{Join};
-ghost use Rattle.fontcut_c.specs.declared.refusal.Refusal.TheVariants.{NoMemory as MemoryRefused};
+ghost use Rattle.fontcut_c.specs.declared.refusal.Refusal.TheVariants.{Font as FontRefused, Join as JoinRefused, NoMemory as MemoryRefused};
 
 use crate::answer::Answer;
 use font_cut::{DirError, FontError, JoinAllError, JoinError, OpenError, TableError};
@@ -24,19 +23,44 @@ const NO_GLYPH: u8 = 102;
 /// The status of counts of sets that do not add up.
 const BAD_COUNTS: u8 = 103;
 
-/// Why a call on one font is not done.
+/// Why a call is not done.
 #[derive(Clone, Copy, Debug, PartialEq, Eq)]
 pub enum Refusal {
-    /// The font is refused.
+    /// The font is refused, or the first of two files.
     Font(FontError),
+    /// The second of two files is refused.
+    Second(FontError),
+    /// A list of files is not joined.
+    Join(JoinAllError),
     /// The range at this index ends before it begins, or past the last code point.
     BadRange(usize),
+    /// The counts of the sets do not add up to the number of ranges, or there is another number of sizes than of
+    /// sets.
+    BadCounts,
+    /// The number at this index is no glyph of the font.
+    NoGlyph(usize),
     /// Memory is refused.
     NoMemory,
     /// The cut would have this number of bytes, more than a file may have.
     TooLarge(u64),
-    /// There is this number of bytes, or of ranges, which is more than there is room for.
+    /// There is this number of bytes, ranges, glyphs or metrics, which is more than there is room for.
     SmallRoom(u64),
+}
+
+impl From<FontError> for Refusal {
+    ghost from_gives = { λ held refusal. refusal ≡ FontRefused held };
+
+    fn from(error: FontError) -> Refusal {
+        Refusal::Font(error)
+    }
+}
+
+impl From<JoinAllError> for Refusal {
+    ghost from_gives = { λ held refusal. refusal ≡ JoinRefused held };
+
+    fn from(error: JoinAllError) -> Refusal {
+        Refusal::Join(error)
+    }
 }
 
 impl From<NoMemory> for Refusal {
@@ -55,55 +79,6 @@ impl From<OpenError> for Refusal {
             OpenError::NoMemory => Refusal::NoMemory,
             OpenError::Refused(error) => Refusal::Font(error),
         }
-    }
-}
-
-/// Why the cuts for many sets are not written.
-#[derive(Clone, Copy, Debug, PartialEq, Eq)]
-pub enum CutsRefusal {
-    /// The counts of the sets do not add up to the number of ranges, or there is another number of sizes than of
-    /// sets.
-    BadCounts,
-    /// The cuts are refused.
-    Cut(Refusal),
-}
-
-/// Why a call on a cut and a font is not done.
-#[derive(Clone, Copy, Debug, PartialEq, Eq)]
-pub enum PairRefusal {
-    /// The cut is refused.
-    Cut(FontError),
-    /// The font is refused.
-    Font(FontError),
-    /// Memory is refused.
-    NoMemory,
-}
-
-/// Why nothing is looked up in a font.
-#[derive(Clone, Copy, Debug, PartialEq, Eq)]
-pub enum LookupRefusal {
-    /// The font is refused.
-    Font(FontError),
-    /// The number at this index is no glyph of the font.
-    NoGlyph(usize),
-    /// There is this number of answers, which is more than there is room for.
-    SmallRoom(usize),
-}
-
-/// Why a join is not written.
-#[derive(Clone, Copy, Debug, PartialEq, Eq)]
-pub enum JoinRefusal {
-    /// The join is refused.
-    Join(JoinAllError),
-    /// The join has this number of bytes, more than there is room for.
-    SmallRoom(u64),
-}
-
-impl From<JoinAllError> for JoinRefusal {
-    ghost from_gives = { λ held refusal. refusal ≡ Join held };
-
-    fn from(error: JoinAllError) -> JoinRefusal {
-        JoinRefusal::Join(error)
     }
 }
 
@@ -155,61 +130,6 @@ fn detail_of(index: usize) -> u32
     }
 }
 
-impl Refusal {
-    /// Returns what is answered, whose text is that of the refusal.
-    #[tactic(auto, unfolding(crate::specs::Errors::error_of, crate::specs::Errors::font_error_of, crate::specs::Errors::join_error_of, crate::specs::Text::refusal_text))]
-    pub(crate) fn answer(self) -> Answer
-        ensures exact { result ≡ refusal_answer self }
-        ensures text { refusal_text result ≡ text_of_refusal self }
-    {
-        match self {
-            Refusal::Font(error) => refused_font(error),
-            Refusal::BadRange(index) => Answer::refused(numbers::BAD_RANGE, detail_of(index)),
-            Refusal::NoMemory => Answer::refused(numbers::NO_MEMORY, 0),
-            Refusal::TooLarge(size) => Answer::sized(numbers::TOO_LARGE, size),
-            Refusal::SmallRoom(size) => Answer::sized(SMALL_ROOM, size),
-        }
-    }
-}
-
-impl CutsRefusal {
-    /// Returns what is answered.
-    pub(crate) fn answer(self) -> Answer
-        ensures { result ≡ cuts_refusal_answer self }
-    {
-        match self {
-            CutsRefusal::BadCounts => Answer::refused(BAD_COUNTS, 0),
-            CutsRefusal::Cut(refusal) => refusal.answer(),
-        }
-    }
-}
-
-impl PairRefusal {
-    /// Returns what is answered.
-    pub(crate) fn answer(self) -> Answer
-        ensures { result ≡ pair_refusal_answer self }
-    {
-        match self {
-            PairRefusal::Cut(error) => refused_font(error),
-            PairRefusal::Font(error) => refused_font(error).at(1),
-            PairRefusal::NoMemory => Answer::refused(numbers::NO_MEMORY, 0),
-        }
-    }
-}
-
-impl LookupRefusal {
-    /// Returns what is answered.
-    pub(crate) fn answer(self) -> Answer
-        ensures { result ≡ lookup_refusal_answer self }
-    {
-        match self {
-            LookupRefusal::Font(error) => refused_font(error),
-            LookupRefusal::NoGlyph(index) => Answer::refused(NO_GLYPH, detail_of(index)),
-            LookupRefusal::SmallRoom(size) => Answer::sized(SMALL_ROOM, size as u64),
-        }
-    }
-}
-
 // Returns the answer where two files are not joined, whose text is that of the refusal, once its step is set.
 #[tactic(auto, unfolding(crate::specs::Errors::error_of, crate::specs::Errors::font_error_of, crate::specs::Errors::join_error_of, crate::specs::Text::refusal_text))]
 fn refused_join(error: JoinError) -> Answer
@@ -240,16 +160,23 @@ fn refused_list(error: JoinAllError) -> Answer
     }
 }
 
-impl JoinRefusal {
+impl Refusal {
     /// Returns what is answered, whose text is that of the refusal.
     #[tactic(auto, unfolding(crate::specs::Errors::error_of, crate::specs::Errors::font_error_of, crate::specs::Errors::join_error_of, crate::specs::Text::refusal_text))]
     pub(crate) fn answer(self) -> Answer
-        ensures exact { result ≡ join_refusal_answer self }
-        ensures text { NamesFile self → refusal_text result ≡ join_text (Err self) }
+        ensures exact { result ≡ refusal_answer self }
+        ensures text { NamesFile self → refusal_text result ≡ text_of_refusal self }
     {
         match self {
-            JoinRefusal::Join(error) => refused_list(error),
-            JoinRefusal::SmallRoom(size) => Answer::sized(SMALL_ROOM, size),
+            Refusal::Font(error) => refused_font(error),
+            Refusal::Second(error) => refused_font(error).at(1),
+            Refusal::Join(error) => refused_list(error),
+            Refusal::BadRange(index) => Answer::refused(numbers::BAD_RANGE, detail_of(index)),
+            Refusal::BadCounts => Answer::refused(BAD_COUNTS, 0),
+            Refusal::NoGlyph(index) => Answer::refused(NO_GLYPH, detail_of(index)),
+            Refusal::NoMemory => Answer::refused(numbers::NO_MEMORY, 0),
+            Refusal::TooLarge(size) => Answer::sized(numbers::TOO_LARGE, size),
+            Refusal::SmallRoom(size) => Answer::sized(SMALL_ROOM, size),
         }
     }
 }

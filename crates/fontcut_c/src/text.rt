@@ -30,12 +30,6 @@ pub(crate) fn text_to(alloc: Global, answer: Answer, out: &mut [u8]) -> Result<u
     let Some(error) = error_of(answer) else {
         return Ok(0);
     };
-    let text = match error.to_string(alloc) {
-        Ok(text) => text,
-        Err(_) => return Err(Refusal::NoMemory),
-    };
-    match put_front(text.as_bytes(), out) {
-        Ok(size) => Ok(size),
-        Err(size) => Err(Refusal::SmallRoom(size)),
-    }
+    let text = error.to_string(alloc).map_err(|_| Refusal::NoMemory)?;
+    put_front(text.as_bytes(), out).map_err(Refusal::SmallRoom)
 }

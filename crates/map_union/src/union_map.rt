@@ -145,7 +145,12 @@ impl<A: Allocator + Copy> UnionMap<A> {
     }
 
     // Returns the map with more runs, which are merged with the short list.
-    fn with_recent(self, alloc: A, runs: &[Run], passed: usize) -> Result<UnionMap<A>, NoMemory>
+    fn merged_with_recent(
+        self,
+        alloc: A,
+        runs: &[Run],
+        passed: usize,
+    ) -> Result<UnionMap<A>, NoMemory>
         requires runs { AreMapRuns runs.now }
         requires agree { AreCompatible (map_in self) (spelled runs.now) }
         ensures { IfOk result (λ map. map_in map ≡ united (map_in self) (spelled runs.now)) }
@@ -174,7 +179,7 @@ impl<A: Allocator + Copy> UnionMap<A> {
     {
         let passed = self.passed.saturating_add(self.recent.len());
         if passed < self.settled.len() && !self.recent.is_empty() {
-            return self.with_recent(alloc, &runs, passed);
+            return self.merged_with_recent(alloc, &runs, passed);
         }
         Ok(self.settle(alloc)?.with_first(runs))
     }

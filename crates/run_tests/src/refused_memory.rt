@@ -13,7 +13,12 @@ use streams::{Inlet, ReadError};
 fn is_refused(run: Command, ended: &Outcome, k: u64) -> bool {
     let asks_first = matches!(
         run,
-        Command::Subset | Command::JoinFirst | Command::JoinSecond
+        Command::Subset
+            | Command::LeanSubset
+            | Command::JoinFirst
+            | Command::JoinSecond
+            | Command::LeanJoinFirst
+            | Command::LeanJoinSecond
     );
     let may_be_unread = k == 1 && asks_first;
     ended.answer == Err(RunError::Memory)

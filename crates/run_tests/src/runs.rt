@@ -1,10 +1,15 @@
 //! The runs, each over one reader and one writer of the test's, and what they are to send.
-use commands::{RunError, run_belongs, run_check, run_codes, run_join, run_show, run_subset};
+use commands::{
+    RunError, run_belongs, run_check, run_codes, run_glyphs, run_join_of_kind, run_show,
+    run_subset_of_kind,
+};
 use fakes::Refusing;
 use fakes::devices::{Failure, Narrow, Pieces};
 use font_cut::{BASE6, Kind, Outlet, Wanted};
 use sample_fonts::fonts::BASE6_SHOWN;
-use sample_fonts::known_cuts::{A_AND_B, A_B_AACUTE, AACUTE};
+use sample_fonts::known_cuts::{
+    A_AND_B, A_B_AACUTE, AACUTE, LEAN_A_AND_B, LEAN_A_B_AACUTE, LEAN_AACUTE,
+};
 use std::alloc::Global;
 use streams::Inlet;
 
@@ -12,29 +17,39 @@ const CHECKED: &[u8] = b"findings 0\naccepted\n";
 
 const CODES: &[u8] = b"U+20\nU+41-42\nU+C1\n";
 
+const GLYPHS: &[u8] = b"U+20 4 250\nU+41 1 500\nU+42 5 300\nU+C1 3 500\n";
+
 /// A run, and of one over more inlets than one which of them has the reader of the test's.
 #[derive(Clone, Copy, Debug, PartialEq, Eq)]
 pub enum Command {
     Check,
     Show,
     Codes,
+    Glyphs,
     Subset,
+    LeanSubset,
     BelongsFirst,
     BelongsSecond,
     JoinFirst,
     JoinSecond,
+    LeanJoinFirst,
+    LeanJoinSecond,
 }
 
 /// All runs.
-pub const RUNS: [Command; 8] = [
+pub const RUNS: [Command; 12] = [
     Command::Check,
     Command::Show,
     Command::Codes,
+    Command::Glyphs,
     Command::Subset,
+    Command::LeanSubset,
     Command::BelongsFirst,
     Command::BelongsSecond,
     Command::JoinFirst,
     Command::JoinSecond,
+    Command::LeanJoinFirst,
+    Command::LeanJoinSecond,
 ];
 
 /// How an inlet is after a run.
@@ -52,9 +67,20 @@ impl Command {
             Command::Check
             | Command::Show
             | Command::Codes
+            | Command::Glyphs
             | Command::Subset
+            | Command::LeanSubset
             | Command::BelongsSecond => &BASE6,
             Command::BelongsFirst | Command::JoinFirst | Command::JoinSecond => &AACUTE,
+            Command::LeanJoinFirst | Command::LeanJoinSecond => &LEAN_AACUTE,
+        }
+    }
+
+    /// Returns the kind of what is cut or joined.
+    pub fn kind(self) -> Kind {
+        match self {
+            Command::LeanSubset | Command::LeanJoinFirst | Command::LeanJoinSecond => Kind::Lean,
+            _ => Kind::Full,
         }
     }
 
@@ -64,44 +90,49 @@ impl Command {
             Command::Check => CHECKED,
             Command::Show => BASE6_SHOWN,
             Command::Codes => CODES,
+            Command::Glyphs => GLYPHS,
             Command::Subset => &AACUTE,
+            Command::LeanSubset => &LEAN_AACUTE,
             Command::BelongsFirst | Command::BelongsSecond => b"yes\n",
             Command::JoinFirst | Command::JoinSecond => &A_B_AACUTE,
+            Command::LeanJoinFirst | Command::LeanJoinSecond => &LEAN_A_B_AACUTE,
         }
     }
 
     /// Returns what is to be answered: of `check` 1 for an accepted font, of `belongs` 1 for a cut of
-    /// the font, and of `show` and `codes` nothing.
+    /// the font, and of `show`, `codes` and `codes --glyphs` nothing.
     pub fn answer(self) -> u64 {
         match self {
             Command::Check | Command::BelongsFirst | Command::BelongsSecond => 1,
-            Command::Show | Command::Codes => 0,
-            Command::Subset => 412,
-            Command::JoinFirst | Command::JoinSecond => 448,
+            Command::Show | Command::Codes | Command::Glyphs => 0,
+            Command::Subset | Command::LeanSubset => self.text().len() as u64,
+            Command::JoinFirst
+            | Command::JoinSecond
+            | Command::LeanJoinFirst
+            | Command::LeanJoinSecond => self.text().len() as u64,
         }
     }
 
     /// How the inlets are once all were read.
     pub fn read(self) -> [State; 3] {
         match self {
-            Command::Check | Command::Show | Command::Codes | Command::Subset => [
-                State::Read,
-                State::Fresh,
-                State::Fresh,
-            ],
             Command::BelongsFirst | Command::BelongsSecond => [
                 State::Read,
                 State::Read,
                 State::Fresh,
             ],
-            Command::JoinFirst | Command::JoinSecond => [State::Read; 3],
+            Command::JoinFirst
+            | Command::JoinSecond
+            | Command::LeanJoinFirst
+            | Command::LeanJoinSecond => [State::Read; 3],
+            _ => [State::Read, State::Fresh, State::Fresh],
         }
     }
 
     /// How the inlets are where the test's reader fails: those after it are not read.
     pub fn stopped(self) -> [State; 3] {
         match self {
-            Command::BelongsSecond | Command::JoinSecond => [
+            Command::BelongsSecond | Command::JoinSecond | Command::LeanJoinSecond => [
                 State::Read,
                 State::Broken,
                 State::Fresh,
@@ -120,6 +151,7 @@ pub struct Outcome {
     pub inlets: [State; 3],
     pub is_fresh: bool,
     pub is_broken: bool,
+    pub is_flushed: bool,
     pub written: u64,
     pub writer: Narrow,
 }
@@ -144,6 +176,7 @@ fn outcome_of(
         inlets,
         is_fresh: outlet.is_fresh(),
         is_broken: outlet.is_broken(),
+        is_flushed: outlet.is_flushed(),
         written: outlet.written(),
         writer: outlet.into_inner(),
     }
@@ -162,10 +195,11 @@ fn run_alone(
         Command::Check => run_check(memory, &mut inlet, &mut outlet).map(u64::from),
         Command::Show => run_show(memory, &mut inlet, &mut outlet).map(|_| 0),
         Command::Codes => run_codes(memory, &mut inlet, &mut outlet).map(|_| 0),
+        Command::Glyphs => run_glyphs(memory, &mut inlet, &mut outlet).map(|_| 0),
         _ => {
             let mut wanted = Wanted::new(memory);
             match wanted.add(0xC1, 0xC1) {
-                Ok(()) => run_subset(memory, &mut inlet, &wanted, &mut outlet),
+                Ok(()) => run_subset_of_kind(memory, run.kind(), &mut inlet, &wanted, &mut outlet),
                 Err(_) => Err(RunError::Memory),
             }
         }
@@ -177,19 +211,25 @@ fn run_alone(
 // Runs a join, of whose three inlets the second one is the test's where `is_second`, and else the first.
 fn run_joined(
     memory: &Refusing<Global>,
+    kind: Kind,
     is_second: bool,
     reader: Pieces<'_>,
     writer: Narrow,
 ) -> Outcome {
-    let other = Pieces::new(&A_AND_B, 4096, Failure::Nowhere);
-    let last = Inlet::new(Pieces::new(&A_AND_B, 4096, Failure::Nowhere));
+    let file: &[u8] = if kind == Kind::Lean {
+        &LEAN_A_AND_B
+    } else {
+        &A_AND_B
+    };
+    let other = Pieces::new(file, 4096, Failure::Nowhere);
+    let last = Inlet::new(Pieces::new(file, 4096, Failure::Nowhere));
     let mut outlet = Outlet::new(writer);
     let mut inlets = if is_second {
         [Inlet::new(other), Inlet::new(reader), last]
     } else {
         [Inlet::new(reader), Inlet::new(other), last]
     };
-    let answer = run_join(memory, &mut inlets, &mut outlet);
+    let answer = run_join_of_kind(memory, kind, &mut inlets, &mut outlet);
     let states = [
         state_of(&inlets[0]),
         state_of(&inlets[1]),
@@ -232,8 +272,12 @@ pub fn made(
     match run {
         Command::BelongsFirst => run_compared(memory, false, reader, writer),
         Command::BelongsSecond => run_compared(memory, true, reader, writer),
-        Command::JoinFirst => run_joined(memory, false, reader, writer),
-        Command::JoinSecond => run_joined(memory, true, reader, writer),
+        Command::JoinFirst | Command::LeanJoinFirst => {
+            run_joined(memory, run.kind(), false, reader, writer)
+        }
+        Command::JoinSecond | Command::LeanJoinSecond => {
+            run_joined(memory, run.kind(), true, reader, writer)
+        }
         _ => run_alone(memory, run, reader, writer),
     }
 }
@@ -251,6 +295,7 @@ pub fn is_done(run: Command, ended: &Outcome) -> bool {
     ended.answer == Ok(run.answer())
         && ended.inlets == run.read()
         && !ended.is_broken
+        && ended.is_flushed
         && ended.writer.held() == run.text()
         && ended.written == run.text().len() as u64
 }

@@ -6,4 +6,5 @@ use Rattle.sfnt_bytes.specs.declared.tag.TheConstants.{ALL_SLOTS}
 
 pub slot_at_low : (place : ℕ) → place < ALL_SLOTS → slot_at place < ALL_SLOTS
 unfolding slot_at
-slot_at_low place low = ltb-true _ _ (agree_below_at (λ i. ltb (slot_at i) ALL_SLOTS) (λ _. true) ALL_SLOTS place refl low)
+slot_at_low place low =
+    ltb-true _ _ (agree_below_at (λ i. ltb (slot_at i) ALL_SLOTS) (λ _. true) ALL_SLOTS place refl low)

@@ -1,13 +1,16 @@
 -- What is known of a file whose directory is not refused.
-use Rattle.std.proofs.Common.{◌≡◌, ℕ, ◌+◌, ◌-◌, ◌<◌, ◌≤◌, Bool, true, false, not, ◌&&◌, ltb, List, [], length, get_or, find, Some, None, sym, ap, ◌∙◌, arith, refl}
+use Rattle.std.proofs.Common.{◌≡◌, ℕ, ◌+◌, ◌-◌, ◌<◌, ◌≤◌, Bool, true, false, not, ◌&&◌, ltb, List, [], length, get_or}
+use Rattle.std.proofs.Common.{find, Some, None, sym, ap, ◌∙◌, arith, refl}
 use Rattle.std.specs.Option.{option_map_or}
 use Rattle.std.proofs.lemmas.Bool.{le-ltb, not-false, or_parts, ltb-false, leb-true}
 use Rattle.sfnt_bytes.specs.Directory.{HasRecords, table_entry, is_within, kept_tag, slot_tag}
-use Rattle.sfnt_bytes.specs.Refusals.{directory_lines, directory_fault, is_truetype, is_outside, is_duplicate, layout_directory_fault, layout_directory_lines}
+use Rattle.sfnt_bytes.specs.Refusals.{directory_lines, directory_fault, is_truetype, is_outside, is_duplicate}
+use Rattle.sfnt_bytes.specs.Refusals.{layout_directory_fault, layout_directory_lines}
 use Rattle.sfnt_bytes.specs.declared.tag.Tag.{Tag}
 use Rattle.sfnt_bytes.specs.declared.tag.TheConstants.{ALL_SLOTS, KEPT, LAYOUT, SLOTS}
 use Rattle.sfnt_bytes.specs.declared.records.Entry.{Entry}
-use Rattle.sfnt_bytes.specs.declared.directory.DirError.TheVariants.{FileTooLarge, Truncated, NotTrueType, DuplicateTable, TableOutOfFile}
+use Rattle.sfnt_bytes.specs.declared.directory.DirError.TheVariants.{FileTooLarge, Truncated, NotTrueType}
+use Rattle.sfnt_bytes.specs.declared.directory.DirError.TheVariants.{DuplicateTable, TableOutOfFile}
 use Rattle.sfnt_bytes.specs.declared.directory.TheConstants.{MAX_FILE}
 use Rattle.sfnt_bytes.proofs.LineLemmas.{find-none_at, first_of_lines-none_at, option_map-none, when-none}
 
@@ -27,7 +30,8 @@ pub record IsReadable (file : List ℕ) : Type 0 where
 pub is_readable : (file : List ℕ) → directory_fault file ≡ None → IsReadable file
 unfolding directory_fault
 is_readable file no_fault =
-    let line : (k : ℕ) → get_or (directory_lines file) k None ≡ None = λ k. first_of_lines-none_at (directory_lines file) k no_fault in
+    let line : (k : ℕ) → get_or (directory_lines file) k None ≡ None =
+    λ k. first_of_lines-none_at (directory_lines file) k no_fault in
     let truetype = not-false (is_truetype file) (when-none _ NotTrueType (line 3)) in
     let lengths = or_parts (ltb (length file) 12) _ (when-none _ Truncated (line 1)) in
     record {
@@ -40,31 +44,39 @@ is_readable file no_fault =
     }
 
 -- no kept table lies outside
-pub kept_not_outside : (file : List ℕ) (slot : ℕ) → directory_fault file ≡ None → slot < SLOTS → is_outside file (kept_tag slot) ≡ false
+pub kept_not_outside : (file : List ℕ) (slot : ℕ) → directory_fault file ≡ None → slot < SLOTS
+    → is_outside file (kept_tag slot) ≡ false
 unfolding kept_tag
-kept_not_outside file slot no_fault low = find-none_at (is_outside file) KEPT slot (record { 0 = [] }) (is_readable file no_fault).inside low
+kept_not_outside file slot no_fault low =
+    find-none_at (is_outside file) KEPT slot (record { 0 = [] }) (is_readable file no_fault).inside low
 
 -- no table of layout lies outside
 pub layout_inside : (file : List ℕ) → layout_directory_fault file ≡ None → find (is_outside file) LAYOUT ≡ None
 unfolding layout_directory_fault
-layout_inside file no_fault = option_map-none TableOutOfFile _ (first_of_lines-none_at (layout_directory_lines file) 1 no_fault)
+layout_inside file no_fault =
+    option_map-none TableOutOfFile _ (first_of_lines-none_at (layout_directory_lines file) 1 no_fault)
 
 pub layout_single : (file : List ℕ) → layout_directory_fault file ≡ None → find (is_duplicate file) LAYOUT ≡ None
 unfolding layout_directory_fault
-layout_single file no_fault = option_map-none DuplicateTable _ (first_of_lines-none_at (layout_directory_lines file) 0 no_fault)
+layout_single file no_fault =
+    option_map-none DuplicateTable _ (first_of_lines-none_at (layout_directory_lines file) 0 no_fault)
 
 pub layout_slot_tag : (slot : ℕ) → SLOTS ≤ slot → get_or LAYOUT (slot - SLOTS) (record { 0 = [] }) ≡ slot_tag slot
 unfolding slot_tag
 layout_slot_tag slot from = let past = le-ltb slot SLOTS from in rw past refl
 
-pub layout_not_outside : (file : List ℕ) (slot : ℕ) → layout_directory_fault file ≡ None → SLOTS ≤ slot → slot < ALL_SLOTS → is_outside file (slot_tag slot) ≡ false
+pub layout_not_outside : (file : List ℕ) (slot : ℕ) → layout_directory_fault file ≡ None → SLOTS ≤ slot
+    → slot < ALL_SLOTS → is_outside file (slot_tag slot) ≡ false
 layout_not_outside file slot no_fault from to =
     ap (is_outside file) (sym (layout_slot_tag slot from))
-    ∙ find-none_at (is_outside file) LAYOUT (slot - SLOTS) (record { 0 = [] }) (layout_inside file no_fault) (omega (arith, from, to))
+    ∙ find-none_at (is_outside file) LAYOUT (slot - SLOTS) (record { 0 = [] }) (layout_inside file no_fault)
+    (omega (arith, from, to))
 
 -- the table of a tag that is not outside lies within the file
-pub table_is_within : (file : List ℕ) (tag : Tag) (entry : Entry) → is_outside file tag ≡ false → table_entry file tag ≡ Some entry → entry.offset + entry.length ≤ length file
+pub table_is_within : (file : List ℕ) (tag : Tag) (entry : Entry) → is_outside file tag ≡ false
+    → table_entry file tag ≡ Some entry → entry.offset + entry.length ≤ length file
 unfolding is_outside
 table_is_within file tag entry inside is =
-    let at : option_map_or (λ e. not (is_within file e)) (Some entry) false ≡ false = ap (λ o. option_map_or (λ e. not (is_within file e)) o false) (sym is) ∙ inside in
+    let at : option_map_or (λ e. not (is_within file e)) (Some entry) false ≡ false =
+    ap (λ o. option_map_or (λ e. not (is_within file e)) o false) (sym is) ∙ inside in
     leb-true _ _ (not-false _ at)

@@ -1,5 +1,6 @@
 -- How a sum of words goes on: by a whole word, and by the last bytes.
-use Rattle.std.proofs.Common.{◌≡◌, ℕ, ◌+◌, ◌-◌, ◌*◌, ◌%◌, ◌^◌, ◌<◌, ◌≤◌, List, [], ◌∷◌, ◌++◌, length, drop, sum, refl, sym, ap, ◌∙◌, arith, zero-add}
+use Rattle.std.proofs.Common.{◌≡◌, ℕ, ◌+◌, ◌-◌, ◌*◌, ◌%◌, ◌^◌, ◌<◌, ◌≤◌, List, [], ◌∷◌, ◌++◌, length, drop, sum, refl}
+use Rattle.std.proofs.Common.{sym, ap, ◌∙◌, arith, zero-add}
 use Rattle.std.proofs.Math.Nat.{mod-add-mod}
 use Rattle.std.proofs.lemmas.List.Sums.{sum_by-cons}
 use Rattle.sfnt_bytes.specs.Number.{number, u32_at}
@@ -24,14 +25,18 @@ sum_words-last (a ∷ b ∷ c ∷ []) h = zero-add _
 sum_words-last (a ∷ b ∷ c ∷ d ∷ rest) h = absurd (omega arith)
 
 -- a word moves from what is left into the sum so far
-pub word_moves : (b left : List ℕ) (s x t : ℕ) → 4 ≤ length b → x ≡ u32_at b 0 → left ≡ drop 4 b → (s + sum (words b)) % 2 ^ 32 ≡ t → ((s + x) % 2 ^ 32 + sum (words left)) % 2 ^ 32 ≡ t
+pub word_moves : (b left : List ℕ) (s x t : ℕ) → 4 ≤ length b → x ≡ u32_at b 0 → left ≡ drop 4 b
+    → (s + sum (words b)) % 2 ^ 32 ≡ t → ((s + x) % 2 ^ 32 + sum (words left)) % 2 ^ 32 ≡ t
 word_moves b left s x t h read is_left e =
     mod-add-mod (s + x) (2 ^ 32) (sum (words left))
-    ∙ ap (λ (n : ℕ). n % 2 ^ 32) (let first = sum_words-first b h in let same : sum (words left) ≡ sum (words (drop 4 b)) = ap (λ (r : List ℕ). sum (words r)) is_left in omega arith)
+    ∙ ap (λ (n : ℕ). n % 2 ^ 32) (let first = sum_words-first b h in
+    let same : sum (words left) ≡ sum (words (drop 4 b)) = ap (λ (r : List ℕ). sum (words r)) is_left in
+    omega arith)
     ∙ e
 
 -- what is summed and the last bytes are the whole
-pub last_moves : (b : List ℕ) (s x t : ℕ) → length b < 4 → x ≡ u32_at b 0 → (s + sum (words b)) % 2 ^ 32 ≡ t → (s + x) % 2 ^ 32 ≡ t
+pub last_moves : (b : List ℕ) (s x t : ℕ) → length b < 4 → x ≡ u32_at b 0 → (s + sum (words b)) % 2 ^ 32 ≡ t
+    → (s + x) % 2 ^ 32 ≡ t
 last_moves b s x t h read e = ap (λ (n : ℕ). (s + n) % 2 ^ 32) (read ∙ sym (sum_words-last b h)) ∙ e
 
 -- the words of whole words and of what follows them
@@ -57,7 +62,8 @@ unfoldable pub weighted : ℕ → List ℕ → ℕ
 weighted r [] = 0
 weighted r (x ∷ xs) = x * 256 ^ (3 - r) + weighted ((r + 1) % 4) xs
 
-pub weighted-append : (r : ℕ) (xs ys : List ℕ) → r < 4 → weighted r (xs ++ ys) ≡ weighted r xs + weighted ((r + length xs) % 4) ys
+pub weighted-append : (r : ℕ) (xs ys : List ℕ) → r < 4 → weighted r (xs ++ ys) ≡ weighted r xs
+    + weighted ((r + length xs) % 4) ys
 unfolding weighted
 weighted-append r [] ys h = ap (λ (k : ℕ). weighted k ys) (omega arith) ∙ sym (zero-add _)
 weighted-append r (x ∷ xs) ys h =

@@ -1,5 +1,6 @@
 -- Records, and the table of a tag (OpenType 1.9, Organization of an OpenType Font, Table Directory).
-use Rattle.std.specs.Prelude.{ℕ, ◌+◌, ◌*◌, ◌-◌, ◌≤◌, nat_le, nat_lt, not, ◌&&◌, if◌then◌else◌, Bool, List, [], ◌∷◌, filter, find, length, map, slice_index, slice_index_or, slice_range, Option}
+use Rattle.std.specs.Prelude.{ℕ, ◌+◌, ◌*◌, ◌-◌, ◌≤◌, nat_le, nat_lt, not, ◌&&◌, if◌then◌else◌, Bool, List, [], ◌∷◌}
+use Rattle.std.specs.Prelude.{filter, find, length, map, slice_index, slice_index_or, slice_range, Option}
 use Rattle.std.specs.List.{range_with_len}
 use Rattle.std.specs.Option.{option_map}
 use Rattle.sfnt_bytes.specs.Number.{u16_at, u32_at}

@@ -1,6 +1,7 @@
 -- What is not as the standard asks, and is read all the same (OpenType 1.9, Organization of an OpenType
 -- Font).
-use Rattle.std.specs.Prelude.{ℕ, ◌+◌, ◌-◌, ◌%◌, nat_le, nat_lt, nat_eq, not, Bool, true, false, ◌&&◌, List, [], ◌∷◌, ◌++◌, drop, replicate, if◌then◌else◌, Option}
+use Rattle.std.specs.Prelude.{ℕ, ◌+◌, ◌-◌, ◌%◌, nat_le, nat_lt, nat_eq, not, Bool, true, false, ◌&&◌, List, [], ◌∷◌}
+use Rattle.std.specs.Prelude.{◌++◌, drop, replicate, if◌then◌else◌, Option}
 use Rattle.std.specs.List.{flat_map, starts_with}
 use Rattle.std.specs.Option.{option_map_or}
 use Rattle.sfnt_bytes.specs.Number.{u16_at, u32_at}
@@ -12,7 +13,8 @@ use Rattle.sfnt_bytes.specs.Directory.{table_count, has_tag, is_within, records_
 use Rattle.sfnt_bytes.specs.declared.records.Entry.{Entry}
 use Rattle.sfnt_bytes.specs.declared.tag.TheConstants.{HEAD_TAG}
 use Rattle.sfnt_bytes.specs.declared.findings.Finding.{Finding}
-use Rattle.sfnt_bytes.specs.declared.findings.Finding.TheVariants.{Unsorted, SearchFields, OutOfFile, Unaligned, Padding, Checksum, FileSum}
+use Rattle.sfnt_bytes.specs.declared.findings.Finding.TheVariants.{Unsorted, SearchFields, OutOfFile, Unaligned}
+use Rattle.sfnt_bytes.specs.declared.findings.Finding.TheVariants.{Padding, Checksum, FileSum}
 
 -- each tag is below the next one
 unfoldable pub is_ascending : List Entry → Bool

@@ -1,5 +1,6 @@
 -- Why a table directory is refused, this project's own: the lines in their order, each with its condition.
-use Rattle.std.specs.Prelude.{ℕ, ◌+◌, ◌*◌, nat_lt, nat_eq, not, Bool, false, ◌&&◌, ◌||◌, List, [], ◌∷◌, length, find, count_by, Option}
+use Rattle.std.specs.Prelude.{ℕ, ◌+◌, ◌*◌, nat_lt, nat_eq, not, Bool, false, ◌&&◌, ◌||◌, List, [], ◌∷◌, length, find}
+use Rattle.std.specs.Prelude.{count_by, Option}
 use Rattle.std.specs.Option.{option_map, option_map_or}
 use Rattle.sfnt_bytes.specs.Number.{u32_at}
 use Rattle.sfnt_bytes.specs.Lines.{when, first_of_lines}
@@ -7,7 +8,8 @@ use Rattle.sfnt_bytes.specs.Directory.{table_count, has_tag, is_within, records_
 use Rattle.sfnt_bytes.specs.declared.tag.Tag.{Tag}
 use Rattle.sfnt_bytes.specs.declared.tag.TheConstants.{KEPT, LAYOUT}
 use Rattle.sfnt_bytes.specs.declared.directory.DirError.{DirError}
-use Rattle.sfnt_bytes.specs.declared.directory.DirError.TheVariants.{FileTooLarge, Truncated, Collection, NotTrueType, DuplicateTable, TableOutOfFile}
+use Rattle.sfnt_bytes.specs.declared.directory.DirError.TheVariants.{FileTooLarge, Truncated, Collection, NotTrueType}
+use Rattle.sfnt_bytes.specs.declared.directory.DirError.TheVariants.{DuplicateTable, TableOutOfFile}
 use Rattle.sfnt_bytes.specs.declared.directory.TheConstants.{MAX_FILE}
 
 -- sfntVersion `ttcf`

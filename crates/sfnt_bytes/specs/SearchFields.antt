@@ -1,5 +1,6 @@
 -- searchRange, entrySelector, rangeShift (OpenType 1.9, Organization of an OpenType Font, Table Directory).
-use Rattle.std.specs.Prelude.{ℕ, zero, suc, ◌-◌, ◌*◌, ◌^◌, nat_lt, nat_le, nat_eq, ◌||◌, if◌then◌else◌, Option, Some, None}
+use Rattle.std.specs.Prelude.{ℕ, zero, suc, ◌-◌, ◌*◌, ◌^◌, nat_lt, nat_le, nat_eq, ◌||◌, if◌then◌else◌, Option, Some}
+use Rattle.std.specs.Prelude.{None}
 
 -- the exponent of the largest power of two not above n, where that is at most a highest one
 unfoldable pub exponent : ℕ → ℕ → ℕ

@@ -4,9 +4,11 @@ use Rattle.std.specs.List.{flat_map, list_all}
 use Rattle.std.specs.Char.{digit_char}
 use Rattle.sfnt_bytes.specs.declared.tag.Tag.{Tag}
 use Rattle.sfnt_bytes.specs.declared.findings.Finding.{Finding}
-use Rattle.sfnt_bytes.specs.declared.findings.Finding.TheVariants.{Unsorted, SearchFields, OutOfFile, Unaligned, Padding, Checksum, FileSum}
+use Rattle.sfnt_bytes.specs.declared.findings.Finding.TheVariants.{Unsorted, SearchFields, OutOfFile, Unaligned}
+use Rattle.sfnt_bytes.specs.declared.findings.Finding.TheVariants.{Padding, Checksum, FileSum}
 use Rattle.sfnt_bytes.specs.declared.directory.DirError.{DirError}
-use Rattle.sfnt_bytes.specs.declared.directory.DirError.TheVariants.{FileTooLarge, Truncated, Collection, NotTrueType, DuplicateTable, TableOutOfFile}
+use Rattle.sfnt_bytes.specs.declared.directory.DirError.TheVariants.{FileTooLarge, Truncated, Collection, NotTrueType}
+use Rattle.sfnt_bytes.specs.declared.directory.DirError.TheVariants.{DuplicateTable, TableOutOfFile}
 
 -- printable ASCII
 abbrev pub is_printable : ℕ → Bool

@@ -7,7 +7,7 @@ ghost use Rattle.sfnt_bytes.specs.declared.numbers.TheConstants.{NO_MEMORY};
 
 use crate::directory::{DirError, NoMemory};
 use crate::findings::Finding;
-use crate::numbers::NO_MEMORY;
+use crate::numbers;
 use crate::tag::Tag;
 use std::error::Error;
 use std::fmt;
@@ -101,12 +101,12 @@ impl DirError {
         ensures { result ≡ error_number self.now }
     {
         match self {
-            DirError::FileTooLarge => 1,
-            DirError::Truncated => 2,
-            DirError::Collection => 3,
-            DirError::NotTrueType => 4,
-            DirError::DuplicateTable(_) => 5,
-            DirError::TableOutOfFile(_) => 6,
+            DirError::FileTooLarge => numbers::FILE_TOO_LARGE,
+            DirError::Truncated => numbers::TRUNCATED,
+            DirError::Collection => numbers::COLLECTION,
+            DirError::NotTrueType => numbers::NOT_TRUETYPE,
+            DirError::DuplicateTable(_) => numbers::DUPLICATE_TABLE,
+            DirError::TableOutOfFile(_) => numbers::TABLE_OUT_OF_FILE,
         }
     }
 }
@@ -126,6 +126,6 @@ impl NoMemory {
     pub fn number(&self) -> u8
         ensures { result ≡ NO_MEMORY }
     {
-        NO_MEMORY
+        numbers::NO_MEMORY
     }
 }

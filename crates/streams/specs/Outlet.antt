@@ -12,6 +12,10 @@ written_of outlet = outlet.written
 abbrev pub broken_of : {W : Type 0} → Outlet W → Bool
 broken_of outlet = outlet.broken
 
+-- `outlet.is_flushed()`: the writer was flushed after the last byte that it took
+abbrev pub flushed_of : {W : Type 0} → Outlet W → Bool
+flushed_of outlet = outlet.flushed
+
 -- `outlet.is_fresh()`: nothing was sent, and nothing has failed
 abbrev pub fresh_of : {W : Type 0} → Outlet W → Bool
 fresh_of outlet = (outlet.written == 0) && not outlet.broken

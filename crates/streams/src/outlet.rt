@@ -1,7 +1,7 @@
 //! A writer that counts the bytes it took, and stays broken after its first failure.
 ghost use Rattle.std.specs.Prelude.{◌≡◌, ℕ, ◌++◌, List, IsSome, ◌+◌, ◌-◌, ◌^◌, ◌<◌, [], take, false, true, length, IfErr, OnErr, OnOk, Some};
 ghost use Rattle.sfnt_bytes.specs.declared.numbers.TheConstants.{WRITE_FAULT};
-ghost use Rattle.streams.specs.Outlet.{HasSent, WentOut, broken_of, write_fault_text, fresh_of, writer_of, written_of};
+ghost use Rattle.streams.specs.Outlet.{HasSent, WentOut, broken_of, flushed_of, fresh_of, write_fault_text, writer_of, written_of};
 
 use sfnt_bytes::numbers;
 use std::error::Error;
@@ -35,12 +35,13 @@ impl fmt::Display for WriteFault {
 
 impl Error for WriteFault {}
 
-/// A writer, the count of the bytes that it took, and whether it has failed.
+/// A writer, the count of the bytes that it took, whether it has failed, and whether all that it took was flushed.
 #[derive(Drop)]
 pub struct Outlet<W> {
     writer: W,
     written: u64,
     broken: bool,
+    flushed: bool,
 }
 
 impl<W: Write> Outlet<W> {
@@ -54,6 +55,7 @@ impl<W: Write> Outlet<W> {
             writer,
             written: 0,
             broken: false,
+            flushed: false,
         }
     }
 
@@ -69,6 +71,13 @@ impl<W: Write> Outlet<W> {
         ensures { result ≡ broken_of self.now }
     {
         self.broken
+    }
+
+    /// Returns whether `finish` has flushed the writer, and nothing was put since.
+    pub fn is_flushed(&self) -> bool
+        ensures { result ≡ flushed_of self.now }
+    {
+        self.flushed
     }
 
     /// Returns whether nothing was sent, and nothing has failed.
@@ -91,6 +100,7 @@ impl<W: Write> Outlet<W> {
         ensures sent { OnOk result ((bs : List ℕ) → HasSent W.contents self.old bs →
             HasSent W.contents self.new (bs ++ bytes.now)) }
         ensures unbroken { OnOk result (broken_of self.new ≡ false) }
+        ensures unflushed { flushed_of self.new ≡ false }
 
         // What went out before a failure is a front of the bytes, and never all of them.
         ensures broken { OnErr result (broken_of self.new ≡ true) }
@@ -99,6 +109,7 @@ impl<W: Write> Outlet<W> {
         ensures prefix { OnErr result (WentOut W.contents self.old self.new
             (take (written_of self.new - written_of self.old) bytes.now)) }
     {
+        self.flushed = false;
         let mut at = 0;
         while at < bytes.len() {
             match self.writer.write(&bytes[at..]) {
@@ -125,11 +136,15 @@ impl<W: Write> Outlet<W> {
         requires { broken_of self.old ≡ false }
         ensures sends { WentOut W.contents self.old self.new [] }
         ensures unbroken { OnOk result (broken_of self.new ≡ false) }
+        ensures flushed { OnOk result (flushed_of self.new ≡ true) }
         ensures broken { OnErr result (broken_of self.new ≡ true) }
         ensures count { IfErr result (λ fault. fault.written ≡ written_of self.new) }
     {
         match self.writer.flush() {
-            Ok(()) => Ok(()),
+            Ok(()) => {
+                self.flushed = true;
+                Ok(())
+            }
             Err(_) => {
                 self.broken = true;
                 Err(WriteFault {

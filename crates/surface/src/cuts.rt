@@ -3,9 +3,9 @@ ghost use Rattle.std.specs.Prelude.{◌≡◌, true};
 ghost use Rattle.streams.specs.Outlet.{fresh_of};
 
 use font_cut::{
-    CODES, Component, Components, CutError, CutIntoError, CutOf, Font, FontError, JoinAllError,
-    JoinError, Joined, LAST_CODE, Mapping, NoMemory, Outlet, SLOTS, Source, Tables, Wanted,
-    WriteFault, cut, cut_into, is_cut, join, join_all,
+    CODES, Component, Components, CutError, CutForm, CutIntoError, CutOf, Font, FontError,
+    JoinAllError, JoinError, Joined, LAST_CODE, Mapping, NoMemory, Outlet, SLOTS, Source, Tables,
+    Wanted, Which, WriteFault, cut, cut_form, cut_into, is_cut, join, join_all,
 };
 use std::alloc::Global;
 use std::io::Write;
@@ -92,7 +92,25 @@ pub fn sources<'a>(
 /// `NoMemory` where memory is refused.
 pub fn cut_forms(alloc: Global, font: &Font<'_>) -> Result<bool, NoMemory> {
     let is: bool = is_cut(alloc, font)?;
-    Ok(is)
+    let form: CutForm = cut_form(alloc, font)?;
+    let is_old = match form {
+        CutForm::Current | CutForm::Not => false,
+        CutForm::Old => true,
+    };
+    Ok(is && is_old)
+}
+
+/// Returns which file a join refuses as a font or as a cut, if it is one of the two.
+pub fn refused_file(error: &JoinError) -> Option<bool> {
+    let which: Which = match error {
+        JoinError::Font(which, _error) => *which,
+        JoinError::NotACut(which) => *which,
+        _ => return None,
+    };
+    Some(match which {
+        Which::First => true,
+        Which::Second => false,
+    })
 }
 
 /// Joins cuts.
@@ -117,6 +135,6 @@ pub fn outlet<W: Write + Drop>(writer: W, b: &[u8]) -> Result<W, WriteFault> {
     let finished: Result<(), WriteFault> = outlet.finish();
     finished?;
     let _written: u64 = outlet.written();
-    let _state: (bool, bool) = (outlet.is_broken(), outlet.is_fresh());
+    let _state: (bool, bool, bool) = (outlet.is_broken(), outlet.is_flushed(), outlet.is_fresh());
     Ok(outlet.into_inner())
 }

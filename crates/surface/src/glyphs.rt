@@ -1,7 +1,7 @@
 //! The items of `font_glyph`.
 ghost use Rattle.std.specs.Prelude.{◌≡◌, length};
 
-use font_glyph::{Component, GlyphFault, Marks, Outlines, check_record, close};
+use font_glyph::{Component, Components, GlyphFault, Marks, Outlines, check_record, close};
 use sfnt_bytes::NoMemory;
 use std::alloc::Global;
 
@@ -12,6 +12,16 @@ use std::alloc::Global;
 pub fn records(b: &[u8], glyphs: u16) -> Result<(), GlyphFault> {
     let judged: Result<(), GlyphFault> = check_record(b, glyphs);
     judged
+}
+
+/// Returns the number of the components of a record of a font of this number of glyphs.
+///
+/// # Errors
+/// The refusal of the record.
+pub fn parts(b: &[u8], glyphs: u16) -> Result<usize, GlyphFault> {
+    check_record(b, glyphs)?;
+    let components: Components<'_> = Components::of(b);
+    Ok(components.count())
 }
 
 /// Returns the number of the glyph that a component names.

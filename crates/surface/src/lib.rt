@@ -4,14 +4,20 @@
 
 mod bytes;
 mod cuts;
+mod error_numbers;
 mod glyphs;
 mod mapped;
 mod program;
 mod tables;
 
 pub use crate::bytes::{directory, numbers};
-pub use crate::cuts::{cut_forms, font, joins, looked_at, made_cuts, outlet, sources};
-pub use crate::glyphs::{closure, named, records};
+pub use crate::cuts::{
+    cut_forms, font, joins, looked_at, made_cuts, outlet, refused_file, sources,
+};
+pub use crate::error_numbers::{
+    numbers_of_cuts, numbers_of_fonts, numbers_of_joins, numbers_of_parts, numbers_of_runs,
+};
+pub use crate::glyphs::{closure, named, parts, records};
 pub use crate::mapped::{mapping, wanted_sets};
 pub use crate::program::{checked, cut_of_inlet, inlet, join_of_files, program_of_words, shown};
 pub use crate::tables::metrics;

@@ -1,6 +1,6 @@
 //! The items of `font_cmd`.
 ghost use Rattle.std.specs.Prelude.{◌≡◌, true};
-ghost use Rattle.commands.specs.Join.{AreFresh};
+ghost use Rattle.commands.specs.JoinRun.{AreFresh};
 ghost use Rattle.streams.specs.Inlet.{inlet_fresh_of};
 ghost use Rattle.streams.specs.Outlet.{fresh_of};
 

@@ -166,6 +166,39 @@ fn refused_ranges(rt: HostRuntime) -> Result<(), Fail> {
     panic!(rt; "each of 99 requests was refused")
 }
 
+// Forty codes are taken out of one range, which each time leaves one range more: where a request is refused the set is
+// as it was, and the same code is taken away once there is memory.
+#[test]
+fn refused_removals(rt: HostRuntime) -> Result<(), Fail> {
+    for k in 1..100u64 {
+        let memory = Refusing::new(rt.alloc(), k);
+        let mut wanted = Wanted::new(&memory);
+        let mut codes = [false; 200];
+        let mut refused = wanted.add(5, 190).is_err();
+        if refused {
+            assert_eq!(rt; wanted.add(5, 190), Ok(()), "request {k}");
+        }
+        put_codes(&mut codes, 5, 190);
+        for i in 0..40u32 {
+            let code = if i % 2 == 0 { 100 + 2 * i } else { 100 - 2 * i };
+            if let Err(error) = wanted.remove(code, code) {
+                assert_eq!(rt; error, WantedError::NoMemory, "request {k}");
+                assert!(rt; has_codes(&wanted, codes.as_slice()), "request {k}");
+                assert_eq!(rt; wanted.remove(code, code), Ok(()), "request {k}");
+                refused = true;
+            }
+            codes[code as usize] = false;
+            assert!(rt; has_codes(&wanted, codes.as_slice()), "request {k}");
+        }
+        if !memory.has_refused() {
+            assert!(rt; !refused);
+            return Ok(());
+        }
+        assert!(rt; refused, "request {k}");
+    }
+    panic!(rt; "each of 99 requests was refused")
+}
+
 #[test]
 fn runs_of_mapping(rt: HostRuntime) -> Result<(), Fail> {
     let mapping = Mapping::choose(&BASE6[124..192], 6)?;

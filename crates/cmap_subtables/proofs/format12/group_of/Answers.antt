@@ -6,7 +6,9 @@ pub returns-then-i-count_groups-clause-value : goal.returns-then-i-count_groups-
 returns-then-i-count_groups-clause-value c = sym (none_past _ _ _ _ c.requires.place (omega arith) (omega arith))
 
 pub returns-then-code-group-clause-value : goal.returns-then-code-group-clause-value
-returns-then-code-group-clause-value c = none_below _ _ _ _ c.requires.order c.requires.place (omega arith) c.group_at-group.ensures.value c.if-code-group.true
+returns-then-code-group-clause-value c = none_below _ _ _ _ c.requires.order c.requires.place (omega arith)
+    c.group_at-group.ensures.value c.if-code-group.true
 
 pub returns-clause-value : goal.returns-clause-value
-returns-clause-value c = some_at _ _ _ _ c.requires.place (omega arith) c.group_at-group.ensures.value (omega (arith, c.if-code-group.false))
+returns-clause-value c = some_at _ _ _ _ c.requires.place (omega arith) c.group_at-group.ensures.value
+    (omega (arith, c.if-code-group.false))

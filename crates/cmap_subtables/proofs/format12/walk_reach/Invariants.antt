@@ -8,5 +8,6 @@ invariant-loop-i l =
       count : l.count ≡ group_count l.s;
       order : l.from < l.stop;
       small : l.stop ≤ 0x110000;
-      left : (c : ℕ) → l.from ≤ c → c < l.stop → find (holds c) (groups_of l.s) ≡ find (holds c) (drop l.i (groups_of l.s));
+      left : (c : ℕ) → l.from ≤ c → c < l.stop → find (holds c) (groups_of l.s)
+          ≡ find (holds c) (drop l.i (groups_of l.s));
     }

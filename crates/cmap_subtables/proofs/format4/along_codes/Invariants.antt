@@ -9,7 +9,8 @@ invariant-loop-run l =
     record {
       bound : l.stop ≤ l.segment.last;
       order : l.run.first ≤ l.run.last;
-      piece : (from : ℕ) → IsPiece (clipped l.glyphs (glyph_of_segment l.s l.segment)) from l.fn.piece → IsPiece (clipped l.glyphs (glyph_of_segment l.s l.segment)) from l.run;
+      piece : (from : ℕ) → IsPiece (clipped l.glyphs (glyph_of_segment l.s l.segment)) from l.fn.piece
+          → IsPiece (clipped l.glyphs (glyph_of_segment l.s l.segment)) from l.run;
     }
 
 abbrev pub decreases-loop-run : goal.decreases-loop-run

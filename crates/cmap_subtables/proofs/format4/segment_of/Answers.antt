@@ -10,4 +10,5 @@ pub returns-clause-value : goal.returns-clause-value
 returns-clause-value c = some_at _ _ _ _ c.requires.place (omega arith) c.segment_at.ensures.value
 
 pub returns-clause-ends : goal.returns-clause-ends
-returns-clause-ends c = subst (λ (g : Segment). c.args.code ≤ g.last) (sym c.segment_at.ensures.value) (c.requires.place.here (omega arith))
+returns-clause-ends c = subst (λ (g : Segment). c.args.code ≤ g.last) (sym c.segment_at.ensures.value)
+    (c.requires.place.here (omega arith))

@@ -7,7 +7,8 @@ invariant-loop-next g l =
     record {
       order : l.run.first ≤ l.run.last;
       small : l.run.last ≤ 0x10FFFF;
-      piece : (from : ℕ) → IsPiece (g.P.Pieces.map_of l.pieces) from l.fn.piece → IsPiece (g.P.Pieces.map_of l.pieces) from l.run;
+      piece : (from : ℕ) → IsPiece (g.P.Pieces.map_of l.pieces) from l.fn.piece
+          → IsPiece (g.P.Pieces.map_of l.pieces) from l.run;
     }
 
 abbrev pub decreases-loop-next : goal.decreases-loop-next

@@ -5,4 +5,5 @@ use Rattle.commands.proofs.belongs.opened_for.Goals as goal
 
 pub returns-in-Err : goal.returns-in-Err
 returns-in-Err g c =
-    subst (IsUnopened c.args.kind c.args.which c.args.font.now) (sym c.unopened.ensures) (not_opened c.args.kind c.args.which c.args.font.now c.in-Err.error c.in-Err.ensures.exact)
+    subst (IsUnopened c.args.kind c.args.which c.args.font.now) (sym c.unopened.ensures)
+    (not_opened c.args.kind c.args.which c.args.font.now c.in-Err.error c.in-Err.ensures.exact)

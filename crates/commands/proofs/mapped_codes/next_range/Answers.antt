@@ -16,7 +16,8 @@ loop-next-init g c = walk_start _ c.args.from c.in_ok-run.run' c.in_ok-run.ensur
 
 pub loop-next-preserved : goal.loop-next-preserved
 loop-next-preserved g c =
-    walk_on _ c.args.from _ _ c.in-Some.next c.in-Some.ensures.map c.loop-next.invariant c.in-Some.ensures.run (omega arith)
+    walk_on _ c.args.from _ _ c.in-Some.next c.in-Some.ensures.map c.loop-next.invariant c.in-Some.ensures.run
+    (omega arith)
 
 pub returns-then-next-range-clause-range : goal.returns-then-next-range-clause-range
 returns-then-next-range-clause-range g c =
@@ -24,4 +25,5 @@ returns-then-next-range-clause-range g c =
     (λ e. absurd (omega (arith, e)))
 
 pub returns-in_default-clause-range : goal.returns-in_default-clause-range
-returns-in_default-clause-range g c = walk_end _ c.args.from _ _ c.in_default.ensures.map c.loop-next.invariant c.in_default.ensures.run
+returns-in_default-clause-range g c = walk_end _ c.args.from _ _ c.in_default.ensures.map c.loop-next.invariant
+    c.in_default.ensures.run

@@ -1,5 +1,5 @@
 -- None of the inlets so far was read.
-use Rattle.commands.specs.Join.{AreFresh}
+use Rattle.commands.specs.JoinRun.{AreFresh}
 use Rattle.font_cmd.proofs.inputs.inlets_at.Given as goal
 
 abbrev pub invariant-loop-path : goal.invariant-loop-path

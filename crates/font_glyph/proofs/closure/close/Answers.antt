@@ -25,18 +25,26 @@ of-requires g c = IsRecord-has_list _ _ c.record_of.ensures.law
 pub visit-requires : goal.visit-requires
 visit-requires g c =
     subst (λ (n : ℕ). AllByRecursion (λ (x : Component). x.glyph < n) c.of.result) (sym c.loop-g.invariant.length)
-    (recursion_from_All (λ (x : Component). x.glyph < g.O.Outlines.count_of c.args.outlines.now) c.of.result (IsRecord-list _ _ _ c.record_of.ensures.law c.of.ensures.list))
+    (recursion_from_All (λ (x : Component). x.glyph < g.O.Outlines.count_of c.args.outlines.now) c.of.result
+    (IsRecord-list _ _ _ c.record_of.ensures.law c.of.ensures.list))
 
 pub loop-g-smaller : goal.loop-g-smaller
 loop-g-smaller g c =
-    closing_smaller (g.O.Outlines.count_of c.args.outlines.now) c.loop-g.marks c.visit.new.marks c.loop-g.work.items c.pop.new.self.items c.visit.new.work.items c.in-Some.g c.of.result
-    c.loop-g.invariant.length c.in-Some.ensures.items (IsRecord-list _ _ _ c.record_of.ensures.law c.of.ensures.list) c.in_ok-visit.ensures.marks c.in_ok-visit.ensures.work
+    closing_smaller (g.O.Outlines.count_of c.args.outlines.now) c.loop-g.marks c.visit.new.marks c.loop-g.work.items
+    c.pop.new.self.items c.visit.new.work.items c.in-Some.g c.of.result
+    c.loop-g.invariant.length c.in-Some.ensures.items (IsRecord-list _ _ _ c.record_of.ensures.law c.of.ensures.list)
+    c.in_ok-visit.ensures.marks c.in_ok-visit.ensures.work
 
 pub loop-g-preserved : goal.loop-g-preserved
 loop-g-preserved g c =
-    closing_visit (g.O.Outlines.record_at c.args.outlines.now) (g.O.Outlines.count_of c.args.outlines.now) c.args.seeds.now c.loop-g.marks c.visit.new.marks c.loop-g.work.items c.pop.new.self.items c.visit.new.work.items
-    c.record_of.result.now c.in-Some.g c.of.result c.loop-g.invariant c.in-Some.ensures.items c.record_of.ensures.record c.of.ensures.list
-    (IsRecord-list _ _ _ c.record_of.ensures.law c.of.ensures.list) c.in_ok-visit.ensures.marks c.in_ok-visit.ensures.work
+    closing_visit (g.O.Outlines.record_at c.args.outlines.now) (g.O.Outlines.count_of c.args.outlines.now)
+    c.args.seeds.now c.loop-g.marks c.visit.new.marks c.loop-g.work.items c.pop.new.self.items
+    c.visit.new.work.items
+    c.record_of.result.now c.in-Some.g c.of.result c.loop-g.invariant c.in-Some.ensures.items c.record_of.ensures.record
+    c.of.ensures.list
+    (IsRecord-list _ _ _ c.record_of.ensures.law c.of.ensures.list) c.in_ok-visit.ensures.marks
+    c.in_ok-visit.ensures.work
 
 pub returns-clause-reached : goal.returns-clause-reached
-returns-clause-reached g c = closing_end _ _ _ _ c.loop-g.work.items c.loop-g.invariant (nil_from_length c.loop-g.work.items (search rules))
+returns-clause-reached g c =
+    closing_end _ _ _ _ c.loop-g.work.items c.loop-g.invariant (nil_from_length c.loop-g.work.items (search rules))

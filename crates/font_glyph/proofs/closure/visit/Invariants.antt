@@ -9,5 +9,6 @@ invariant-loop-component g l =
     record {
       small : AllByRecursion (λ c. c.glyph < length l.marks) l.component-iterator;
       marks : marks_after (glyphs_of l.component-iterator) l.marks ≡ marks_after (glyphs_of l.fn.components) l.fn.marks;
-      work : work_after (glyphs_of l.component-iterator) l.marks l.work.items ≡ work_after (glyphs_of l.fn.components) l.fn.marks l.fn.work.items;
+      work : work_after (glyphs_of l.component-iterator) l.marks l.work.items ≡ work_after (glyphs_of l.fn.components)
+          l.fn.marks l.fn.work.items;
     }

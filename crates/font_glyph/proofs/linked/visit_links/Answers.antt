@@ -9,16 +9,21 @@ use Rattle.font_glyph.proofs.linked.visit_links.Goals.{then-not-has+in_ok-put, e
 pub loop-link-preserved : goal.loop-link-preserved
 loop-link-preserved g c = elim c.if-not-has.branch [
   | then-not-has+in_ok-put w ↦ rw (w.marks-is, w.work-is, w.in_ok-put.ensures, w.set.ensures.exact)
-      (visiting_no c.args.links.now c.loop-link.link-index c.loop-link.marks (marks_after c.args.links.now c.args.marks.now) c.loop-link.work.items (work_after c.args.links.now c.args.marks.now c.args.work.now.items)
+      (visiting_no c.args.links.now c.loop-link.link-index c.loop-link.marks
+      (marks_after c.args.links.now c.args.marks.now) c.loop-link.work.items
+      (work_after c.args.links.now c.args.marks.now c.args.work.now.items)
       c.loop-link.invariant (omega arith) (sym c.has.ensures ∙ w.if-not-has.true))
   | else-not-has w ↦ rw (w.marks-is, w.work-is)
-      (visiting_yes c.args.links.now c.loop-link.link-index c.loop-link.marks (marks_after c.args.links.now c.args.marks.now) c.loop-link.work.items (work_after c.args.links.now c.args.marks.now c.args.work.now.items)
+      (visiting_yes c.args.links.now c.loop-link.link-index c.loop-link.marks
+      (marks_after c.args.links.now c.args.marks.now) c.loop-link.work.items
+      (work_after c.args.links.now c.args.marks.now c.args.work.now.items)
       c.loop-link.invariant (omega arith) (sym c.has.ensures ∙ w.if-not-has.false))
 ]
 
 pub loop-link-init : goal.loop-link-init
 loop-link-init g c = record {
-  small = subst (λ (n : ℕ). AllByRecursion (λ h. h < n) c.args.links.now) (sym c.requires) (below_all NUMBERS c.args.links.now (λ i. (c.type_inv.links i).fits));
+  small = subst (λ (n : ℕ). AllByRecursion (λ h. h < n) c.args.links.now) (sym c.requires)
+      (below_all NUMBERS c.args.links.now (λ i. (c.type_inv.links i).fits));
   marks = refl;
   work = refl;
 }

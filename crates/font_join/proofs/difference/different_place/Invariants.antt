@@ -7,5 +7,6 @@ use Rattle.font_join.proofs.difference.different_place.Given as goal
 
 abbrev pub invariant-loop-place : goal.invariant-loop-place
 invariant-loop-place g l =
-    let p : ℕ → Bool = λ place. is_different_table (g.K.Source.content_of l.k) (g.L.Source.content_of l.l) (slot_at place) in
+    let p : ℕ → Bool = λ place. is_different_table (g.K.Source.content_of l.k) (g.L.Source.content_of l.l)
+    (slot_at place) in
     find p (range_with_len 0 ALL_SLOTS) ≡ find p (range_with_len l.place (ALL_SLOTS - l.place))

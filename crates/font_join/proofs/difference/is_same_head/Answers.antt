@@ -12,4 +12,5 @@ returns c =
     let q : bytes_eq (take 38 (drop 12 a)) (take 38 (drop 12 b)) ≡ true = search rules in
     let e = c.is_same-2.ensures in
     let r = e ∙ (λ i. bytes_eq (take_rest a 52 i) (take_rest b 52 i)) in
-    r ∙ sym (same_heads a b c.requires.first c.requires.second ∙ (λ i. p i && (q i && bytes_eq (drop 52 a) (drop 52 b))))
+    r ∙ sym (same_heads a b c.requires.first c.requires.second
+    ∙ (λ i. p i && (q i && bytes_eq (drop 52 a) (drop 52 b))))

@@ -10,11 +10,13 @@ use Rattle.font_join.proofs.TurnLemmas.{united_file, united_refused}
 use Rattle.font_join.proofs.in_turn.file_of_all.Goals as goal
 
 pub returns-in-Ok : goal.returns-in-Ok
-returns-in-Ok g c = λ kind h. united_file (kind_is kind) (map g.F.AsSlice.items c.args.files.now) (content_in c.args.all.now) h.united c.in-Ok.file.items c.in-Ok.ensures
+returns-in-Ok g c = λ kind h. united_file (kind_is kind) (map g.F.AsSlice.items c.args.files.now)
+    (content_in c.args.all.now) h.united c.in-Ok.file.items c.in-Ok.ensures
 
 pub returns-in-Err : goal.returns-in-Err
 returns-in-Err g c = λ kind h.
     let bytes = map g.F.AsSlice.items c.args.files.now in
     subst (λ (e : JoinError). IsRefusedAt (format_of kind) bytes (length c.args.files.now - 1) e) (sym c.from.ensures)
-    (subst (λ (n : ℕ). IsRefusedAt (format_of kind) bytes (n - 1) (of_file_error c.in-Err.error)) (length-map c.args.files.now g.F.AsSlice.items)
+    (subst (λ (n : ℕ). IsRefusedAt (format_of kind) bytes (n - 1) (of_file_error c.in-Err.error))
+    (length-map c.args.files.now g.F.AsSlice.items)
     (united_refused (kind_is kind) bytes (content_in c.args.all.now) h.united c.in-Err.error c.in-Err.ensures))

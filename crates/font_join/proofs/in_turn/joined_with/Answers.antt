@@ -16,7 +16,8 @@ use Rattle.font_join.proofs.in_turn.joined_with.Goals as goal
 pub returns-in_err-next : goal.returns-in_err-next
 returns-in_err-next g c = λ kind x h.
     passed_on _ _ c.from_residual.result _ c.from_residual.ensures.1
-    (second_refused (format_of kind) x c.args.y.now c.in_err-next.field-0.0 (font_accepted (kind_is kind) x h.holds.form.accepted) c.in_err-next.ensures)
+    (second_refused (format_of kind) x c.args.y.now c.in_err-next.field-0.0
+    (font_accepted (kind_is kind) x h.holds.form.accepted) c.in_err-next.ensures)
 
 pub returns-in_err-union : goal.returns-in_err-union
 returns-in_err-union g c = λ kind x h.
@@ -24,15 +25,20 @@ returns-in_err-union g c = λ kind x h.
     let error = c.in_err-union.field-0.0 in
     passed_on _ _ c.from_residual-in_err-union.result _ c.from_residual-in_err-union.ensures.1
     (refused_next (kind_is kind) (content_in c.args.all) x c.args.y.now h.holds c.in_ok-next.ensures.1 error
-    (subst (λ (f : List ℕ). IsAddRefusal R (content_of_all R x) f error) c.in_ok-next.ensures.0 (c.in_err-union.ensures kind (content_of_all R x) h.kind_is h.holds.spells)))
+    (subst (λ (f : List ℕ). IsAddRefusal R (content_of_all R x) f error) c.in_ok-next.ensures.0
+    (c.in_err-union.ensures kind (content_of_all R x) h.kind_is h.holds.spells)))
 
 pub returns : goal.returns
 returns g c = λ kind x h.
     let R : Format = format_of kind in
     let D : Content = content_in c.in_ok-union.union in
-    let added = subst (λ (f : List ℕ). IsGrown kind f (content_of_all R x) c.in_ok-union.union × (add_fault R (content_of_all R x) f ≡ None)) c.in_ok-next.ensures.0 (c.in_ok-union.ensures kind (content_of_all R x) h.kind_is h.holds.spells) in
+    let added = subst (λ (f : List ℕ). IsGrown kind f (content_of_all R x) c.in_ok-union.union
+    × (add_fault R (content_of_all R x) f ≡ None)) c.in_ok-next.ensures.0
+    (c.in_ok-union.ensures kind (content_of_all R x) h.kind_is h.holds.spells) in
     MatchResult-weaker c.sized.result c.sized.ensures
     (λ u w. subst (λ (v : Held). (z : List ℕ) × IsJoin R x c.args.y.now z × HoldsIn kind v z) (sym w.0)
-    (let j = joined_next (kind_is kind) (content_in c.args.all) x c.args.y.now h.holds c.in_ok-next.ensures.1 D added.1 added.0.spells w.1 in
+    (let j = joined_next (kind_is kind) (content_in c.args.all) x c.args.y.now h.holds c.in_ok-next.ensures.1 D added.1
+    added.0.spells w.1 in
     (j.0, j.1, record { kind_is = added.0.kind_is; holds = j.2 })))
-    (λ e w. too_large_next (kind_is kind) (content_in c.args.all) x c.args.y.now h.holds c.in_ok-next.ensures.1 D added.1 added.0.spells e w)
+    (λ e w. too_large_next (kind_is kind) (content_in c.args.all) x c.args.y.now h.holds c.in_ok-next.ensures.1 D
+    added.1 added.0.spells e w)

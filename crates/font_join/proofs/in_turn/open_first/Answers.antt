@@ -10,13 +10,21 @@ pub returns-in-Ok : goal.returns-in-Ok
 returns-in-Ok g c =
     let bytes = map g.F.AsSlice.items c.args.files.now in
     let some : 0 < length c.args.files.now = search rules in
-    let e : c.as_slice.result.now ≡ file_at bytes 0 = c.as_slice.ensures ∙ ap g.F.AsSlice.items c.index-files-0.is ∙ file_at-map g.F.AsSlice.items c.args.files.now 0 c.index-files-0.result some in
-    record { some = omega (arith, length-map c.args.files.now g.F.AsSlice.items, some); is = c.in-Ok.ensures.0 ∙ e; accepted = search rules }
+    let e : c.as_slice.result.now ≡ file_at bytes 0 = c.as_slice.ensures ∙ ap g.F.AsSlice.items c.index-files-0.is
+    ∙ file_at-map g.F.AsSlice.items c.args.files.now 0 c.index-files-0.result some in
+    record {
+      some = omega (arith, length-map c.args.files.now g.F.AsSlice.items, some);
+      is = c.in-Ok.ensures.0
+          ∙ e;
+      accepted = search rules;
+    }
 
 pub returns-in-Err : goal.returns-in-Err
 returns-in-Err g c = λ R.
     let bytes = map g.F.AsSlice.items c.args.files.now in
     let some : 0 < length c.args.files.now = search rules in
     let x : List ℕ = c.as_slice.result.now in
-    let e : x ≡ file_at bytes 0 = c.as_slice.ensures ∙ ap g.F.AsSlice.items c.index-files-0.is ∙ file_at-map g.F.AsSlice.items c.args.files.now 0 c.index-files-0.result some in
-    refused_at_first R bytes x _ (omega (arith, length-map c.args.files.now g.F.AsSlice.items, some)) e (first_refused R x x c.in-Err.error c.in-Err.ensures)
+    let e : x ≡ file_at bytes 0 = c.as_slice.ensures ∙ ap g.F.AsSlice.items c.index-files-0.is
+    ∙ file_at-map g.F.AsSlice.items c.args.files.now 0 c.index-files-0.result some in
+    refused_at_first R bytes x _ (omega (arith, length-map c.args.files.now g.F.AsSlice.items, some)) e
+    (first_refused R x x c.in-Err.error c.in-Err.ensures)

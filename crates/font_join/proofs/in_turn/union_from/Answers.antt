@@ -11,10 +11,13 @@ use Rattle.font_join.proofs.in_turn.union_from.Goals as goal
 pub returns-in-Err : goal.returns-in-Err
 returns-in-Err g c =
     let bytes = map g.F.AsSlice.items c.args.files.now in
-    subst (λ (n : ℕ). IsRefusedAt (format_of c.args.first.kind) bytes (n - 1) NoMemory) (length-map c.args.files.now g.F.AsSlice.items) (united_memory (kind_is c.args.first.kind) bytes (content_in c.in_ok-all.all) c.in_ok-all.ensures.united)
+    subst (λ (n : ℕ). IsRefusedAt (format_of c.args.first.kind) bytes (n - 1) NoMemory)
+    (length-map c.args.files.now g.F.AsSlice.items) (united_memory (kind_is c.args.first.kind) bytes
+    (content_in c.in_ok-all.all) c.in_ok-all.ensures.united)
 
 pub returns-in-Ok : goal.returns-in-Ok
 returns-in-Ok g c = record {
   kind_is = c.in-Ok.ensures.kind ∙ c.in_ok-all.ensures.kind_is;
-  united = united_same (kind_is c.args.first.kind) (map g.F.AsSlice.items c.args.files.now) (content_in c.in_ok-all.all) (content_in c.in-Ok.all) c.in-Ok.ensures.content c.in_ok-all.ensures.united;
+  united = united_same (kind_is c.args.first.kind) (map g.F.AsSlice.items c.args.files.now) (content_in c.in_ok-all.all)
+      (content_in c.in-Ok.all) c.in-Ok.ensures.content c.in_ok-all.ensures.united;
 }

@@ -9,15 +9,19 @@ use Rattle.font_join.proofs.join_list.join_all_of_kind.Goals as goal
 pub returns-clause-small : goal.returns-clause-small
 returns-clause-small g c =
     let bytes = map (λ v. v.items) c.args.files.now in
-    MatchResult-weaker c.join_in_turn.result c.join_in_turn.ensures (λ z all. small_joined (kind_is c.args.kind) bytes z.items all) (λ e r. tt)
+    MatchResult-weaker c.join_in_turn.result c.join_in_turn.ensures (λ z all. small_joined (kind_is c.args.kind) bytes
+    z.items all) (λ e r. tt)
 
 pub returns-clause-laws : goal.returns-clause-laws
 returns-clause-laws g c =
     let bytes = map (λ v. v.items) c.args.files.now in
-    laws_of_join (kind_is c.args.kind) bytes c.join_in_turn.result (λ z v. v.items ≡ z) (IsForSizeOf (format_of c.args.kind))
-    (MatchResult-weaker c.join_in_turn.result c.join_in_turn.ensures (λ z all. (z.items, all, refl)) (λ e r F A are. cuts_refused_in_turn (kind_is c.args.kind) bytes F A are e r))
+    laws_of_join (kind_is c.args.kind) bytes c.join_in_turn.result (λ z v. v.items ≡ z)
+    (IsForSizeOf (format_of c.args.kind))
+    (MatchResult-weaker c.join_in_turn.result c.join_in_turn.ensures (λ z all. (z.items, all, refl))
+    (λ e r F A are. cuts_refused_in_turn (kind_is c.args.kind) bytes F A are e r))
 
 pub returns-clause-clash : goal.returns-clause-clash
 returns-clause-clash g c =
     let bytes = map (λ v. v.items) c.args.files.now in
-    MatchResult-weaker c.join_in_turn.result c.join_in_turn.ensures (λ z all. tt) (λ e r forms t over few d. clash_differs (kind_is c.args.kind) bytes e r d forms t over few)
+    MatchResult-weaker c.join_in_turn.result c.join_in_turn.ensures (λ z all. tt)
+    (λ e r forms t over few d. clash_differs (kind_is c.args.kind) bytes e r d forms t over few)

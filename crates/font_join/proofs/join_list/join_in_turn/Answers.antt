@@ -5,7 +5,8 @@ use Rattle.font_subset.proofs.CutLemmas.{passed_on}
 use Rattle.font_join.proofs.join_list.join_in_turn.Goals as goal
 
 pub returns-in_err-first : goal.returns-in_err-first
-returns-in_err-first g c = passed_on _ _ c.from_residual.result _ c.from_residual.ensures.1 (c.in_err-first.ensures (format_of c.args.kind))
+returns-in_err-first g c = passed_on _ _ c.from_residual.result _ c.from_residual.ensures.1
+    (c.in_err-first.ensures (format_of c.args.kind))
 
 pub file_of_all-requires : goal.file_of_all-requires
 file_of_all-requires g c = omega (arith, length-map c.args.files.now (λ v. v.items), c.in_ok-all.ensures.united.some)

@@ -12,15 +12,19 @@ use Rattle.font_join.proofs.join_list.union_of_all.Goals as goal
 pub union_from-requires : goal.union_from-requires
 union_from-requires g c =
     let bytes : List (List ℕ) = map g.F.AsSlice.items c.args.files.now in
-    subst (λ (q : Kind). IsFirstUnion (format_of q) (spelled_by q) bytes (content_in c.in-Ok.one)) (sym c.in-Ok.ensures.0)
-    (first_union (kind_is c.args.kind) bytes (content_in c.in-Ok.one) c.args.first.now c.requires.some c.requires.is c.in-Ok.ensures.2 c.in-Ok.ensures.1)
+    subst (λ (q : Kind). IsFirstUnion (format_of q) (spelled_by q) bytes (content_in c.in-Ok.one))
+    (sym c.in-Ok.ensures.0)
+    (first_union (kind_is c.args.kind) bytes (content_in c.in-Ok.one) c.args.first.now c.requires.some c.requires.is
+    c.in-Ok.ensures.2 c.in-Ok.ensures.1)
 
 pub returns-in-Ok : goal.returns-in-Ok
 returns-in-Ok g c =
     let bytes : List (List ℕ) = map g.F.AsSlice.items c.args.files.now in
-    subst (λ (q : Kind). MatchResult c.union_from.result (IsUnitedIn q bytes) (IsAllRefusal (format_of q) bytes)) c.in-Ok.ensures.0 c.union_from.ensures
+    subst (λ (q : Kind). MatchResult c.union_from.result (IsUnitedIn q bytes) (IsAllRefusal (format_of q) bytes))
+    c.in-Ok.ensures.0 c.union_from.ensures
 
 pub returns-in-Err : goal.returns-in-Err
 returns-in-Err g c =
-    refused_at_first (format_of c.args.kind) (map g.F.AsSlice.items c.args.files.now) c.args.first.now c.in-Err.error c.requires.some c.requires.is
+    refused_at_first (format_of c.args.kind) (map g.F.AsSlice.items c.args.files.now) c.args.first.now c.in-Err.error
+    c.requires.some c.requires.is
     (refused_first (kind_is c.args.kind) c.args.first.now c.in-Err.error c.requires.accepted c.in-Err.ensures)

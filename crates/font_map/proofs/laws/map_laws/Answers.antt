@@ -1,4 +1,5 @@
-use Rattle.codes.proofs.MapLemmas.{restricted_map, restricted-restricted, restricted-united, united-map, united-restricted, united-same, united-swapped, united-united}
+use Rattle.codes.proofs.MapLemmas.{restricted_map, restricted-restricted, restricted-united, united-map}
+use Rattle.codes.proofs.MapLemmas.{united-restricted, united-same, united-swapped, united-united}
 use Rattle.font_map.proofs.laws.map_laws.Goals as goal
 
 pub returns : goal.returns

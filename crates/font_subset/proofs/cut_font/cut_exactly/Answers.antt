@@ -1,5 +1,5 @@
 use Rattle.std.proofs.Common.{List, ℕ, subst}
-use Rattle.font_subset.specs.Cut.{IsCutRefusal, IsWritten}
+use Rattle.font_subset.specs.CutOfFont.{IsCutRefusal, IsWritten}
 use Rattle.font_subset.specs.Inside.{of_file_error}
 use Rattle.font_subset.proofs.CutLemmas.{cut_in_is, file_refused, passed_on}
 use Rattle.font_subset.proofs.cut_font.cut_exactly.Goals as goal
@@ -15,4 +15,5 @@ returns-in_err-file_in_memory g c =
 pub returns : goal.returns
 returns g c =
     subst (λ (z : List ℕ). IsWritten z c.in_ok-file_in_memory.field-0.items)
-    (cut_in_is c.args.font.now c.args.wanted.now c.in_ok-source.source c.in_ok-source.ensures) c.in_ok-file_in_memory.ensures
+    (cut_in_is c.args.font.now c.args.wanted.now c.in_ok-source.source c.in_ok-source.ensures)
+    c.in_ok-file_in_memory.ensures

@@ -1,7 +1,7 @@
 use Rattle.std.proofs.Common.{◌≡◌, ◌≤◌, ℕ, List, length, subst}
 use Rattle.sfnt_bytes.specs.declared.directory.TheConstants.{MAX_FILE}
 use Rattle.streams.specs.Outlet.{WentOut}
-use Rattle.font_subset.specs.Cut.{StopsCut}
+use Rattle.font_subset.specs.CutOfFont.{StopsCut}
 use Rattle.font_subset.specs.Inside.{of_send_error}
 use Rattle.font_subset.proofs.CutLemmas.{cut_in_is, passed_on, send_stopped}
 use Rattle.font_subset.proofs.cut_font.cut_into_exactly.Goals as goal

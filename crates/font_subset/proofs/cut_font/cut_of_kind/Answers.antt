@@ -5,4 +5,5 @@ use Rattle.font_subset.proofs.cut_font.cut_of_kind.Goals as goal
 
 pub returns-clause-sound : goal.returns-clause-sound
 returns-clause-sound g c =
-    MatchResult-weaker c.cut_exactly.result c.cut_exactly.ensures (λ v written. is_sound_in c.args.font.now v.items (member c.args.wanted.now) c.kind-kind.ensures.sound written) (λ e h. tt)
+    MatchResult-weaker c.cut_exactly.result c.cut_exactly.ensures (λ v written. is_sound_in c.args.font.now v.items
+    (member c.args.wanted.now) c.kind-kind.ensures.sound written) (λ e h. tt)

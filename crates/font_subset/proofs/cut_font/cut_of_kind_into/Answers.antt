@@ -1,12 +1,13 @@
 use Rattle.std.proofs.Common.{refl}
 use Rattle.std.proofs.lemmas.Result.{on_ok_weaker}
 use Rattle.codes.specs.Wanted.{member}
-use Rattle.font_subset.specs.Kinds.{cut_in}
+use Rattle.font_subset.specs.CutOfKind.{cut_in}
 use Rattle.font_subset.proofs.CutLemmas.{is_sound_in}
 use Rattle.font_subset.proofs.cut_font.cut_of_kind_into.Goals as goal
 
 pub returns-clause-sound : goal.returns-clause-sound
 returns-clause-sound g c =
     on_ok_weaker c.cut_into_exactly.result
-    (λ small. is_sound_in c.args.font.now (cut_in c.args.font.now.0 c.args.font.now.1 (member c.args.wanted.now)) (member c.args.wanted.now) c.kind-kind.ensures.sound (record { is = refl; small = small }))
+    (λ small. is_sound_in c.args.font.now (cut_in c.args.font.now.0 c.args.font.now.1 (member c.args.wanted.now))
+    (member c.args.wanted.now) c.kind-kind.ensures.sound (record { is = refl; small = small }))
     c.cut_into_exactly.ensures.small

@@ -10,14 +10,19 @@ use Rattle.font_subset.proofs.UnderLemmas.{is_cut_for_some, is_under}
 use Rattle.font_subset.proofs.cut_forms.belongs.Goals as goal
 
 abbrev Told : Kind × List ℕ → Bool → List ℕ → Type 0
-Told font b file = IsTrue b ↔ Writes (format_of font.0) (content ((format_of font.0).font font.1) (is_mapped (map_of file))) file
+Told font b file =
+    IsTrue b ↔ Writes (format_of font.0) (content ((format_of font.0).font font.1) (is_mapped (map_of file))) file
 
 pub returns-clause-exact : goal.returns-clause-exact
 returns-clause-exact g c =
     let ok = subst (λ (kind : Kind). fault_of kind c.args.cut.now.1 ≡ None) c.requires c.kind-cut_kind.ensures.sound in
-    MatchResult-weaker c.is_cut_for_own_codes.result c.is_cut_for_own_codes.ensures (λ b e. is_under c.args.font.now.0 b c.args.cut.now.1 c.args.font.now.1 ok c.kind-kind.ensures.sound (subst (λ (f : List ℕ). Told c.args.font.now b f) c.font.ensures.font e)) (λ e h. tt)
+    MatchResult-weaker c.is_cut_for_own_codes.result c.is_cut_for_own_codes.ensures (λ b e. is_under c.args.font.now.0 b
+    c.args.cut.now.1 c.args.font.now.1 ok c.kind-kind.ensures.sound
+    (subst (λ (f : List ℕ). Told c.args.font.now b f) c.font.ensures.font e)) (λ e h. tt)
 
 pub returns-clause-some_codes : goal.returns-clause-some_codes
 returns-clause-some_codes g c =
     let ok = subst (λ (kind : Kind). fault_of kind c.args.cut.now.1 ≡ None) c.requires c.kind-cut_kind.ensures.sound in
-    MatchResult-weaker c.is_cut_for_own_codes.result c.is_cut_for_own_codes.ensures (λ b e. is_cut_for_some c.args.font.now.0 b c.args.cut.now.1 c.args.font.now.1 ok c.kind-kind.ensures.sound (subst (λ (f : List ℕ). Told c.args.font.now b f) c.font.ensures.font e)) (λ e h. tt)
+    MatchResult-weaker c.is_cut_for_own_codes.result c.is_cut_for_own_codes.ensures
+    (λ b e. is_cut_for_some c.args.font.now.0 b c.args.cut.now.1 c.args.font.now.1 ok c.kind-kind.ensures.sound
+    (subst (λ (f : List ℕ). Told c.args.font.now b f) c.font.ensures.font e)) (λ e h. tt)

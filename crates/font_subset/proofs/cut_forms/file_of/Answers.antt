@@ -5,4 +5,5 @@ use Rattle.font_subset.proofs.cut_forms.file_of.Goals as goal
 
 pub returns-clause-small : goal.returns-clause-small
 returns-clause-small c =
-    subst (λ (b : List ℕ). length b ≤ MAX_FILE) (sym (c.file.ensures.file ∙ c.directory.ensures.directory ∙ c.tables.ensures.tables)) (size-accepted c.args.font.now c.recall_accepted.ensures)
+    subst (λ (b : List ℕ). length b ≤ MAX_FILE) (sym (c.file.ensures.file ∙ c.directory.ensures.directory
+    ∙ c.tables.ensures.tables)) (size-accepted c.args.font.now c.recall_accepted.ensures)

@@ -1,5 +1,5 @@
 use Rattle.std.proofs.Common.{ap, ◌∙◌}
-use Rattle.font_subset.specs.Kinds.{form_as}
+use Rattle.font_subset.specs.CutOfKind.{form_as}
 use Rattle.font_subset.proofs.SourceLemmas.{Held}
 use Rattle.font_subset.proofs.cut_forms.listed_form.Goals as goal
 
@@ -10,4 +10,5 @@ pub returns-clause-selection : goal.returns-clause-selection
 returns-clause-selection g c = c.into_selection.ensures ∙ c.in_ok-source.ensures ∙ c.in_ok-selection.ensures
 
 pub returns-clause-form : goal.returns-clause-form
-returns-clause-form g c = c.form-form.ensures ∙ ap (λ (v : Held). form_as v.0 v.1.0) (c.in_ok-source.ensures ∙ c.in_ok-selection.ensures)
+returns-clause-form g c = c.form-form.ensures ∙ ap (λ (v : Held). form_as v.0 v.1.0) (c.in_ok-source.ensures
+    ∙ c.in_ok-selection.ensures)

@@ -6,4 +6,5 @@ use Rattle.font_subset.proofs.layout_font.check_layout.Goals as goal
 pub returns-in-Err : goal.returns-in-Err
 returns-in-Err c =
     layout_refused c.args.font.now c.in-Err.error c.recall_accepted.ensures
-    (subst (λ (f : List ℕ). layout_directory_fault f ≡ Some c.in-Err.error) (c.directory.ensures.directory ∙ c.tables.ensures.tables) c.in-Err.ensures)
+    (subst (λ (f : List ℕ). layout_directory_fault f ≡ Some c.in-Err.error) (c.directory.ensures.directory
+    ∙ c.tables.ensures.tables) c.in-Err.ensures)

@@ -7,5 +7,6 @@ use Rattle.font_subset.proofs.layout_font.table_of.Goals as goal
 pub returns-clause-small : goal.returns-clause-small
 returns-clause-small c =
     looked_up (λ b. b.now) c.layout_table.result (table_of c.args.font.now (slot_tag c.args.slot)) MAX_FILE
-    (c.layout_table.ensures ∙ ap (λ (file : List ℕ). table_of file (slot_tag c.args.slot)) (c.directory.ensures.directory ∙ c.tables.ensures.tables))
+    (c.layout_table.ensures ∙ ap (λ (file : List ℕ). table_of file (slot_tag c.args.slot))
+    (c.directory.ensures.directory ∙ c.tables.ensures.tables))
     (table_small c.args.font.now (slot_tag c.args.slot) c.tables.ensures.sound)

@@ -1,9 +1,10 @@
 use Rattle.std.proofs.Common.{rules, ◌≡◌, ℕ, sym, ap, ◌∙◌}
-use Rattle.font_theory.specs.Lean.{blank}
+use Rattle.font_theory.specs.LeanCut.{blank}
 use Rattle.font_subset.proofs.LeanTableLemmas.{blank-none}
 use Rattle.font_subset.proofs.lean_tables.blank_table.Goals as goal
 
 pub returns-then-pairs-eq0 : goal.returns-then-pairs-eq0
 returns-then-pairs-eq0 g c =
     let same : c.in_ok-whole.whole.items ≡ c.args.table.now = search rules in
-    same ∙ sym (blank-none c.args.count c.args.table.now) ∙ ap (λ (k : ℕ). blank k c.args.count c.args.table.now) (sym c.if-pairs-eq0.true)
+    same ∙ sym (blank-none c.args.count c.args.table.now) ∙ ap (λ (k : ℕ). blank k c.args.count c.args.table.now)
+    (sym c.if-pairs-eq0.true)

@@ -4,5 +4,6 @@ use Rattle.font_subset.proofs.lean_tables.copy_bytes.Goals as goal
 
 pub returns : goal.returns
 returns c =
-    copied_part c.args.from.now c.args.to.now c.copy_from_slice.new.self c.args.at c.args.size (c.args.at + c.args.size - c.args.at) (omega arith) c.requires.room c.requires.same
+    copied_part c.args.from.now c.args.to.now c.copy_from_slice.new.self c.args.at c.args.size (c.args.at + c.args.size
+    - c.args.at) (omega arith) c.requires.room c.requires.same
     c.copy_from_slice.ensures.after

@@ -1,6 +1,6 @@
 use Rattle.std.proofs.Common.{option_copied, ◌≡◌, ◌-◌, length}
 use Rattle.codes.specs.CharacterMap.{restricted}
-use Rattle.font_subset.specs.Content.{codes_wanted}
+use Rattle.font_subset.specs.KeptGlyphs.{codes_wanted}
 use Rattle.font_tables.specs.Fields.{glyph_count_of}
 use Rattle.font_file.specs.Font.{map_of}
 use Rattle.font_subset.specs.Inside.{AreSeedsTo}

@@ -6,7 +6,10 @@ use Rattle.font_theory.proofs.cuts.plain_has_no_links.Goals as goal
 
 pub returns : goal.returns
 returns c = (
-  (λ copied none. (links_in-absent copied none, (λ m low. is_root-alone copied m (links_in-absent copied none) (is_seed-below copied m low)))),
+  (λ copied none. (
+    links_in-absent copied none,
+    (λ m low. is_root-alone copied m (links_in-absent copied none) (is_seed-below copied m low)),
+  )),
   IsPlain-font_of,
   gsub-plain,
 )

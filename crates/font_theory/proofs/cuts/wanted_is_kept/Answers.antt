@@ -2,4 +2,7 @@ use Rattle.font_theory.proofs.ContentLemmas.{IsKept-seeds, IsKept-wanted, read_b
 use Rattle.font_theory.proofs.cuts.wanted_is_kept.Goals as goal
 
 pub returns : goal.returns
-returns c = λ F A ok. ((λ g r. read_back-reached F A ok g (IsKept-seeds F A ok g r)), (λ x h. (wanted-map F A x h, λ g r. read_back-reached F A ok g (IsKept-wanted F A ok x h g r))))
+returns c = λ F A ok. (
+  (λ g r. read_back-reached F A ok g (IsKept-seeds F A ok g r)),
+  (λ x h. (wanted-map F A x h, λ g r. read_back-reached F A ok g (IsKept-wanted F A ok x h g r))),
+)

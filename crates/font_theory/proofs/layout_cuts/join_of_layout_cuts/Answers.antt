@@ -6,4 +6,8 @@ use Rattle.font_theory.proofs.layout_cuts.join_of_layout_cuts.Goals as goal
 
 pub returns : goal.returns
 unfolding layout_format
-returns c = λ file accepted A B sA sB. (CanJoin-cuts layout_format layout_format-is file accepted A B _ _ (inl refl) (inl refl) sA sB, joined-cuts layout_format layout_format-is file accepted A B _ _ (inl refl) (inl refl) sA sB)
+returns c = λ file accepted A B sA sB. (
+  CanJoin-cuts layout_format layout_format-is file accepted A B _ _ (inl refl)
+      (inl refl) sA sB,
+  joined-cuts layout_format layout_format-is file accepted A B _ _ (inl refl) (inl refl) sA sB,
+)

@@ -5,4 +5,10 @@ use Rattle.font_theory.proofs.layout_cuts.layout_least_upper_bound.Goals as goal
 
 pub returns : goal.returns
 unfolding layout_format
-returns c = λ X Y can small. (IsCurrent-joined layout_format layout_format-is X Y can small, Under-joined_left layout_format layout_format-is X Y can small, Under-joined_right layout_format layout_format-is X Y can small, λ F. Under-least layout_format layout_format-is X Y F can small)
+returns c = λ X Y can small. (
+  IsCurrent-joined layout_format layout_format-is X Y can small,
+  Under-joined_left layout_format layout_format-is X Y can small,
+  Under-joined_right layout_format layout_format-is X
+      Y can small,
+  λ F. Under-least layout_format layout_format-is X Y F can small,
+)

@@ -1,5 +1,5 @@
 use Rattle.std.proofs.Common.{refl}
-use Rattle.font_theory.specs.Lean.{lean_format}
+use Rattle.font_theory.specs.LeanCut.{lean_format}
 use Rattle.font_theory.proofs.LeanFormatLemmas.{lean_format-is}
 use Rattle.font_theory.proofs.lean.lean_is_a_format.Goals as goal
 

@@ -3,4 +3,7 @@ use Rattle.font_theory.proofs.LeanCutLemmas.{outline-records, records-same, same
 use Rattle.font_theory.proofs.lean.lean_records_are.Goals as goal
 
 pub returns : goal.returns
-returns c = (λ F wanted ok. (refl, outline-records F ok wanted), λ F G okF okG count g. (records-same F G okF okG count g, same-records F G okF okG count g))
+returns c = (
+  λ F wanted ok. (refl, outline-records F ok wanted),
+  λ F G okF okG count g. (records-same F G okF okG count g, same-records F G okF okG count g),
+)

@@ -1,4 +1,4 @@
-use Rattle.font_theory.specs.Lean.{lean_format}
+use Rattle.font_theory.specs.LeanCut.{lean_format}
 use Rattle.font_theory.proofs.LeanFormatLemmas.{lean_format-is}
 use Rattle.font_theory.proofs.TreeLemmas.{Value-cuts}
 use Rattle.font_theory.proofs.lean.trees_of_lean_cuts.Goals as goal

@@ -24,7 +24,8 @@ loop-i-preserved g c =
       gathered = ap (λ (k : ℕ). take k c.put_group.new.block ++ rest) at
           ∙ ap (λ (b : List ℕ). b ++ rest) c.put_group.ensures
           ∙ append_assoc (take (12 * i) c.loop-i.block) (group_bytes run) rest
-          ∙ ap (λ (b : List ℕ). take (12 * i) c.loop-i.block ++ b) (sym (groups_bytes-next K.map c.loop-i.at run c.recall_map.ensures c.in-Some.ensures))
+          ∙ ap (λ (b : List ℕ). take (12 * i) c.loop-i.block ++ b)
+          (sym (groups_bytes-next K.map c.loop-i.at run c.recall_map.ensures c.in-Some.ensures))
           ∙ c.loop-i.invariant.gathered;
     }
 
@@ -37,4 +38,5 @@ pub returns-clause-gathered : goal.returns-clause-gathered
 returns-clause-gathered g c =
     let K : Content = g.S.Source.content_of c.args.source.now in
     let all : 12 * 85 ≡ 12 * c.loop-i.i = omega arith in
-    ap (λ (k : ℕ). take k c.loop-i.block ++ groups_bytes (groups_from K.map c.loop-i.at)) all ∙ c.loop-i.invariant.gathered
+    ap (λ (k : ℕ). take k c.loop-i.block ++ groups_bytes (groups_from K.map c.loop-i.at)) all
+    ∙ c.loop-i.invariant.gathered

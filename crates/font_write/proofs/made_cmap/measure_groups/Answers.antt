@@ -42,5 +42,6 @@ returns-clause-count g c =
 pub returns-clause-sum : goal.returns-clause-sum
 returns-clause-sum g c =
     let K : Content = g.S.Source.content_of c.args.source.now in
-    let done = ap (λ (runs : List Run). sum (flat_map numbers_of runs)) (groups_done K.map c.loop-run.from c.recall_map.ensures c.in_default.ensures) in
+    let done = ap (λ (runs : List Run). sum (flat_map numbers_of runs))
+    (groups_done K.map c.loop-run.from c.recall_map.ensures c.in_default.ensures) in
     omega (arith, done, c.loop-run.invariant.summed)

@@ -8,8 +8,10 @@ use Rattle.font_write.proofs.made_cmap.measure_groups.Given as goal
 -- what is counted and what is left give the whole, and so does what is summed
 abbrev pub invariant-loop-run : goal.invariant-loop-run
 invariant-loop-run g l = record {
-  counted : l.count + length (groups_from (g.S.Source.content_of l.source).map l.from) ≡ length (groups_of_content (g.S.Source.content_of l.source));
-  summed : (l.sum + sum (flat_map numbers_of (groups_from (g.S.Source.content_of l.source).map l.from))) % 2 ^ 32 ≡ checksum_of (groups_bytes (groups_of_content (g.S.Source.content_of l.source)));
+  counted : l.count + length (groups_from (g.S.Source.content_of l.source).map l.from)
+      ≡ length (groups_of_content (g.S.Source.content_of l.source));
+  summed : (l.sum + sum (flat_map numbers_of (groups_from (g.S.Source.content_of l.source).map l.from))) % 2 ^ 32
+      ≡ checksum_of (groups_bytes (groups_of_content (g.S.Source.content_of l.source)));
 }
 
 abbrev pub decreases-loop-run : goal.decreases-loop-run

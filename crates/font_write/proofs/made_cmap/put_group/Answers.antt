@@ -10,7 +10,8 @@ returns c =
     let to_last : c.args.at + 8 ≡ c.args.at + 4 + 4 = omega arith in
     let to_end : c.args.at + 12 ≡ c.args.at + 8 + 4 = omega arith in
     let two : take (c.args.at + 8) c.put_word-2.new.block ≡ (front ++ first) ++ last =
-    ap (λ (k : ℕ). take k c.put_word-2.new.block) to_last ∙ c.put_word-2.ensures ∙ ap (λ (x : List ℕ). x ++ last) c.put_word.ensures in
+    ap (λ (k : ℕ). take k c.put_word-2.new.block) to_last ∙ c.put_word-2.ensures
+    ∙ ap (λ (x : List ℕ). x ++ last) c.put_word.ensures in
     ap (λ (k : ℕ). take k c.put_word-3.new.block) to_end
     ∙ c.put_word-3.ensures
     ∙ ap (λ (x : List ℕ). x ++ bytes32 c.from.result) two

@@ -16,4 +16,5 @@ pub returns-else-outlines-eq0-clause-exact : goal.returns-else-outlines-eq0-clau
 unfolding writing_of second_writing
 returns-else-outlines-eq0-clause-exact c =
     let some = ne_eqb c.args.outlines 0 c.if-outlines-eq0.false in
-    ap (λ (b : Bool). cond {A = ℕ} b 4 0) (sym some) ∙ ap (λ (profile : Profile). (writing_of profile).zeros c.args.outlines) (sym c.in-Second.is)
+    ap (λ (b : Bool). cond {A = ℕ} b 4 0) (sym some)
+    ∙ ap (λ (profile : Profile). (writing_of profile).zeros c.args.outlines) (sym c.in-Second.is)

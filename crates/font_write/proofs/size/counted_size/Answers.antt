@@ -24,9 +24,19 @@ loop-place-preserved g c =
     let writing : Writing = writing_of c.args.profile in
     let K : Content = g.S.Source.content_of c.args.source.now in
     let n : ℕ = c.loop-place.place in
-    let same = ap (λ (slot : ℕ). option_map_or (λ bytes. 16 + length (padded bytes)) (table_at writing K slot) 0) c.slot_in.ensures.slot in
+    let same = ap (λ (slot : ℕ). option_map_or (λ bytes. 16 + length (padded bytes)) (table_at writing K slot) 0)
+    c.slot_in.ensures.slot in
     record {
-      exact = omega (arith, same, c.loop-place.invariant.exact, c.slot_size-bytes.ensures.exact, with_record-parts (table_at writing K (slot_at n)), count_more writing K n, ap length (bodies_more writing K n), length-append (bodies_to writing K n) (padded (bytes_at writing K (slot_at n))));
+      exact = omega (
+        arith,
+        same,
+        c.loop-place.invariant.exact,
+        c.slot_size-bytes.ensures.exact,
+        with_record-parts (table_at writing K (slot_at n)),
+        count_more writing K n,
+        ap length (bodies_more writing K n),
+        length-append (bodies_to writing K n) (padded (bytes_at writing K (slot_at n))),
+      );
       small = omega (arith, c.loop-place.invariant.small, c.slot_size-bytes.ensures.small);
     }
 
@@ -36,7 +46,8 @@ returns g c =
     let K : Content = g.S.Source.content_of c.args.source.now in
     let all : c.loop-place.place ≡ 21 = omega arith in
     let exact : c.loop-place.bytes ≡ 12 + 16 * count_to writing K 21 + length (bodies_to writing K 21) =
-    subst (λ (n : ℕ). c.loop-place.bytes ≡ 12 + 16 * count_to writing K n + length (bodies_to writing K n)) all c.loop-place.invariant.exact in
+    subst (λ (n : ℕ). c.loop-place.bytes ≡ 12 + 16 * count_to writing K n + length (bodies_to writing K n)) all
+    c.loop-place.invariant.exact in
     let written : c.loop-place.bytes ≡ length (file writing K) = omega (arith, exact, length_file writing K) in
     record {
       counts = c.requires;

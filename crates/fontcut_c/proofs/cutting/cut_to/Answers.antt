@@ -5,4 +5,8 @@ use Rattle.fontcut_c.proofs.cutting.cut_to.Goals as goal
 
 pub returns-in_err-font : goal.returns-in_err-font
 returns-in_err-font c =
-    passed_on _ _ c.from_residual.result _ c.from_residual.ensures.1 (refl, cut_refused c.args.kind c.args.file.now c.args.ranges.now (length c.args.out.now) c.in_err-font.field-0.0 c.in_err-font.ensures)
+    passed_on _ _ c.from_residual.result _ c.from_residual.ensures.1 (
+      refl,
+      cut_refused c.args.kind c.args.file.now c.args.ranges.now (length c.args.out.now) c.in_err-font.field-0.0
+          c.in_err-font.ensures,
+    )

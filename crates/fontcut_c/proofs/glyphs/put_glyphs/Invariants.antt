@@ -6,4 +6,5 @@ use Rattle.fontcut_c.proofs.glyphs.put_glyphs.Given as goal
 abbrev pub invariant-loop-index : goal.invariant-loop-index
 invariant-loop-index l =
     let n = length l.codes in
-    (take l.index l.out ≡ glyphs_of l.font (take l.index l.codes)) × (drop n l.out ≡ drop n l.initial.out) × (length l.out ≡ length l.initial.out)
+    (take l.index l.out ≡ glyphs_of l.font (take l.index l.codes)) × (drop n l.out ≡ drop n l.initial.out)
+    × (length l.out ≡ length l.initial.out)

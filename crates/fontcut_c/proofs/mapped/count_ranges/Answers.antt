@@ -8,5 +8,10 @@ pub loop-range-preserved : goal.loop-range-preserved
 loop-range-preserved c =
     let chart = c.args.chart.now in
     let before = c.loop-range.invariant in
-    let on = c.in-Some.ensures.on in
-    (counted_more _ _ _ c.in-Some.ensures.range c.loop-range.count (length (code_ranges (mapping_of chart.0 chart.1) 0)) before.0, omega (arith, on.0, before.1), omega (arith, on.1))
+    let on = c.in-Some.ensures.on in (
+      counted_more _ _ _ c.in-Some.ensures.range c.loop-range.count
+          (length (code_ranges (mapping_of chart.0 chart.1) 0))
+          before.0,
+      omega (arith, on.0, before.1),
+      omega (arith, on.1),
+    )

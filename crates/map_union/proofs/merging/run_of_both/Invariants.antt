@@ -8,7 +8,8 @@ abbrev pub invariant-loop-ahead : goal.invariant-loop-ahead
 invariant-loop-ahead l = record {
   order : l.run.first ≤ l.run.last;
   small : l.run.last ≤ 0x10FFFF;
-  piece : (from : ℕ) → IsPiece (united (spelled l.a) (spelled l.b)) from l.fn.piece → IsPiece (united (spelled l.a) (spelled l.b)) from l.run;
+  piece : (from : ℕ) → IsPiece (united (spelled l.a) (spelled l.b)) from l.fn.piece
+      → IsPiece (united (spelled l.a) (spelled l.b)) from l.run;
   next : IsNext (united (spelled l.a) (spelled l.b)) (l.run.last + 1) l.ahead;
   past : ArePast l.a l.b (l.run.last + 1) l.at.first l.at.second;
 }

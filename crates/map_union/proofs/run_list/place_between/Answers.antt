@@ -6,4 +6,5 @@ pub loop-low-preserved-then-runs-middle : goal.loop-low-preserved-then-runs-midd
 loop-low-preserved-then-runs-middle c =
     let middle : ℕ = c.loop-low.low + (c.loop-low.high - c.loop-low.low) / 2 in
     let below : middle < c.loop-low.high = omega (arith, c.loop-low-test.true) in
-    middle_past c.args.runs.now c.args.from c.loop-low.low c.loop-low.high middle c.requires.runs c.loop-low.invariant (omega arith) below c.if-runs-middle.true
+    middle_past c.args.runs.now c.args.from c.loop-low.low c.loop-low.high middle c.requires.runs c.loop-low.invariant
+    (omega arith) below c.if-runs-middle.true

@@ -9,7 +9,8 @@ unfolding checksum_of
 loop-rest-init c = ap (λ (x : ℕ). x % 2 ^ 32) (zero-add _)
 
 pub loop-rest-preserved : goal.loop-rest-preserved
-loop-rest-preserved c = word_moves _ _ _ _ _ (omega arith) c.be32-sum.ensures (grind (arith, common_steps)) c.loop-rest.invariant
+loop-rest-preserved c = word_moves _ _ _ _ _ (omega arith) c.be32-sum.ensures (grind (arith, common_steps))
+    c.loop-rest.invariant
 
 pub returns : goal.returns
 returns c = last_moves _ _ _ _ (omega arith) c.last_word.ensures c.loop-rest.invariant

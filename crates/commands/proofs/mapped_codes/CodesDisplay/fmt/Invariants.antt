@@ -9,7 +9,10 @@ use Rattle.commands.proofs.mapped_codes.CodesDisplay.fmt.Given as goal
 abbrev pub invariant-loop-range : goal.invariant-loop-range
 invariant-loop-range g l =
     IsPlainFormatter l.initial.f
-    → (written : List ℕ) × (code_lines (mapping_of l.self.0.0 l.self.0.1) ≡ written ++ flat_map range_line (code_ranges (mapping_of l.self.0.0 l.self.0.1) l.from)) × HasWritten g.W.Write.write_str_gives l.initial.f written l.f
+    → (written : List ℕ)
+    × (code_lines (mapping_of l.self.0.0 l.self.0.1) ≡ written
+    ++ flat_map range_line (code_ranges (mapping_of l.self.0.0 l.self.0.1) l.from))
+    × HasWritten g.W.Write.write_str_gives l.initial.f written l.f
 
 abbrev pub decreases-loop-range : goal.decreases-loop-range
 decreases-loop-range g l = 0x110000 - l.from

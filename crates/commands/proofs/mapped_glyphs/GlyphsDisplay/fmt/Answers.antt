@@ -1,6 +1,6 @@
 use Rattle.std.proofs.Common.{rules, [], ◌++◌}
 use Rattle.std.proofs.Output.{has_written_append, has_written_of_eq}
-use Rattle.commands.specs.Glyphs.{glyph_line}
+use Rattle.commands.specs.MappedGlyphs.{glyph_line}
 use Rattle.commands.proofs.GlyphsLemmas.{code_then_rest, codes_from, fewer_left, text_begins}
 use Rattle.commands.proofs.LineLemmas.{flat_map-moves}
 use Rattle.commands.proofs.mapped_glyphs.GlyphsDisplay.fmt.Goals as goal
@@ -13,7 +13,8 @@ loop-place-init g c =
     )
 
 pub loop-place-smaller : goal.loop-place-smaller
-loop-place-smaller g c = fewer_left _ c.in-Some.here _ _ c.in-Some.is c.loop-place.invariant.0 c.place_after-place.ensures
+loop-place-smaller g c = fewer_left _ c.in-Some.here _ _ c.in-Some.is c.loop-place.invariant.0
+    c.place_after-place.ensures
 
 pub loop-place-preserved : goal.loop-place-preserved
 loop-place-preserved g c =

@@ -9,4 +9,6 @@ use Rattle.commands.proofs.show.KeptDisplay.fmt.Given as goal
 abbrev pub invariant-loop-slot : goal.invariant-loop-slot
 invariant-loop-slot g l =
     IsPlainFormatter l.initial.f
-    → (written : List ℕ) × (kept_text l.self.0.now ≡ written ++ flat_map (kept_line l.self.0.now) (range_with_len l.slot (SLOTS - l.slot))) × HasWritten g.W.Write.write_str_gives l.initial.f written l.f
+    → (written : List ℕ)
+    × (kept_text l.self.0.now ≡ written ++ flat_map (kept_line l.self.0.now)
+    (range_with_len l.slot (SLOTS - l.slot))) × HasWritten g.W.Write.write_str_gives l.initial.f written l.f

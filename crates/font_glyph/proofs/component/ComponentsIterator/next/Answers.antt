@@ -8,7 +8,8 @@ returns-in_err-component-clause-steps c =
     absurd (Chain-starts _ (c.self.invariant c.if-not-self.false) c.in_err-component.ensures.none)
 
 pub invariant_of-self : goal.invariant_of-self
-invariant_of-self c = λ more. HasChain-rest _ _ _ c.in_ok-component.ensures.first c.in_ok-component.ensures.rest (sym c.has_more-self-inside.ensures ∙ more) (c.self.invariant c.if-not-self.false)
+invariant_of-self c = λ more. HasChain-rest _ _ _ c.in_ok-component.ensures.first c.in_ok-component.ensures.rest
+    (sym c.has_more-self-inside.ensures ∙ more) (c.self.invariant c.if-not-self.false)
 
 pub returns-clause-steps : goal.returns-clause-steps
 returns-clause-steps c =
@@ -16,8 +17,13 @@ returns-clause-steps c =
     let next = chain_in c.in_ok-component.rest.now in
     sym c.self.view_is
     ∙ ap (λ (b : Bool). if b then left else []) c.if-not-self.false
-    ∙ chain_in-step _ c.in_ok-component.rest.now c.in_ok-component.component c.in_ok-component.ensures.first c.in_ok-component.ensures.rest (c.self.invariant c.if-not-self.false)
+    ∙ chain_in-step _ c.in_ok-component.rest.now c.in_ok-component.component c.in_ok-component.ensures.first
+    c.in_ok-component.ensures.rest (c.self.invariant c.if-not-self.false)
     ∙ ap (λ (b : Bool). c.in_ok-component.component ∷ (if b then next else [])) (sym c.has_more-self-inside.ensures)
 
 pub returns-clause-goes : goal.returns-clause-goes
-returns-clause-goes c = record { on = λ _. (tt, tt, omega (arith, ap length (returns-clause-steps c))); keeps = tt; rests = λ _. tt }
+returns-clause-goes c = record {
+  on = λ _. (tt, tt, omega (arith, ap length (returns-clause-steps c)));
+  keeps = tt;
+  rests = λ _. tt;
+}

@@ -9,10 +9,16 @@ use Rattle.font_join.proofs.listed.Listed.new.Goals as goal
 
 pub returns-in-Not : goal.returns-in-Not
 returns-in-Not g c =
-    form_no_cut (format_of c.args.font.now.0) c.args.which c.args.font.now.1 ((kind_is c.args.font.now.0).fault_is c.args.font.now.1 ∙ c.kind-kind.ensures.sound)
-    (is_no_cut (format_of c.args.font.now.0) c.in_ok-selection.form c.args.font.now.1 c.in_ok-selection.ensures.form c.in-Not.is)
+    form_no_cut (format_of c.args.font.now.0) c.args.which c.args.font.now.1 ((kind_is c.args.font.now.0).fault_is
+    c.args.font.now.1 ∙ c.kind-kind.ensures.sound)
+    (is_no_cut (format_of c.args.font.now.0) c.in_ok-selection.form c.args.font.now.1 c.in_ok-selection.ensures.form
+    c.in-Not.is)
 
 pub returns : goal.returns
 returns g c =
-    let t : true ≡ is_cut (format_of c.args.font.now.0) c.args.font.now.1 = sym (is_some_cut (format_of c.args.font.now.0) c.in_ok-selection.form c.args.font.now.1 c.in_ok-selection.ensures.form c.in_default.not-Not) in
-    (ap (λ (v : Held). (v.0, v.1.0)) c.in_ok-selection.ensures.selection, is_cut_tells c.args.font.now.0 true c.args.font.now.1 c.kind-kind.ensures.sound t refl)
+    let t : true ≡ is_cut (format_of c.args.font.now.0) c.args.font.now.1 =
+    sym (is_some_cut (format_of c.args.font.now.0) c.in_ok-selection.form c.args.font.now.1
+    c.in_ok-selection.ensures.form c.in_default.not-Not) in (
+      ap (λ (v : Held). (v.0, v.1.0)) c.in_ok-selection.ensures.selection,
+      is_cut_tells c.args.font.now.0 true c.args.font.now.1 c.kind-kind.ensures.sound t refl,
+    )

@@ -6,10 +6,10 @@ use Rattle.codes.specs.CharacterMap.{AreCompatible, united}
 use Rattle.font_tables.specs.Fields.{glyph_count_of}
 use Rattle.font_theory.specs.Content.{Content, content, everything}
 use Rattle.font_theory.specs.Cut.{IsCut, content_of_all}
-use Rattle.font_theory.specs.Join.{Agree}
+use Rattle.font_theory.specs.Agreement.{Agree}
 use Rattle.font_theory.specs.Kinds.{font_as, format_of, tables_as}
 use Rattle.font_theory.specs.declared.kinds.Kind.{Kind}
-use Rattle.font_theory.specs.Lean.{either_bytes}
+use Rattle.font_theory.specs.LeanCut.{either_bytes}
 use Rattle.font_theory.specs.declared.Difference.TheVariants.{AtGlyph}
 use Rattle.font_theory.proofs.CutLemmas.{is_cut-of}
 use Rattle.font_theory.proofs.KindLemmas.{kind_is}
@@ -21,105 +21,221 @@ use Rattle.font_join.specs.declared.join_error.Which.TheVariants.{Second}
 use Rattle.font_join.proofs.JoinLemmas.{form_whole}
 use Rattle.font_join.proofs.AddFaultLemmas.{difference_fault}
 use Rattle.font_join.proofs.LeanGlyphLemmas.{least_none}
-use Rattle.font_join.proofs.MergeLemmas.{agree_of, compatible, form_of, looked_up, none_of, spells_merged, taken_merged, told_of, union_merged}
+use Rattle.font_join.proofs.MergeLemmas.{agree_of, compatible, form_of, looked_up, none_of, spells_merged, taken_merged}
+use Rattle.font_join.proofs.MergeLemmas.{told_of, union_merged}
 use Rattle.font_join.specs.declared.join_error.JoinError.TheVariants.{DifferentGlyph, NoMemory}
 use Rattle.font_subset.proofs.CutLemmas.{passed_on}
 use Rattle.font_join.proofs.union.Union.merged.Goals as goal
 
 pub take-other-requires-clause-form : goal.take-other-requires-clause-form
-take-other-requires-clause-form g c = subst (λ (k : Kind). IsCut (format_of k) c.args.file.1) (sym c.requires.same) c.requires.form
+take-other-requires-clause-form g c = subst (λ (k : Kind). IsCut (format_of k) c.args.file.1) (sym c.requires.same)
+    c.requires.form
 
 pub returns-in-Some : goal.returns-in-Some
-returns-in-Some g c = subst (λ (v : Held). (K : Content) → SpellsIn v.kind (content_in v) K → IsAddRefusal (format_of v.kind) K c.args.file.1 (DifferentGlyph c.in-Some.g)) c.self.view_is (λ K spells.
-    let u : Held = record { kind = c.self.inside.first.0; tables = c.self.inside.first.1; runs = c.self.inside.map; outlines = c.self.inside.outlines; hmtx = option_map (λ v. v.items) c.self.inside.hmtx; vmtx = option_map (λ v. v.items) c.self.inside.vmtx } in
+returns-in-Some g c = subst (λ (v : Held). (K : Content) → SpellsIn v.kind (content_in v) K
+    → IsAddRefusal (format_of v.kind) K c.args.file.1 (DifferentGlyph c.in-Some.g)) c.self.view_is (λ K spells.
+    let u : Held = record {
+      kind = c.self.inside.first.0;
+      tables = c.self.inside.first.1;
+      runs = c.self.inside.map;
+      outlines = c.self.inside.outlines;
+      hmtx = option_map (λ v. v.items) c.self.inside.hmtx;
+      vmtx =
+          option_map (λ v. v.items) c.self.inside.vmtx;
+    } in
     let y : List ℕ = c.args.file.1 in
     let same : c.args.file.0 ≡ u.kind = c.requires.same ∙ sym (ap (λ (v : Held). v.kind) c.self.view_is) in
     let form : IsCut (format_of u.kind) y = form_of u c.args.self c.self.view_is y c.requires.form in
-    let count : c.glyph_count-count.result ≡ glyph_count_of u.tables = c.glyph_count-count.ensures.count ∙ ap glyph_count_of (c.tables.ensures.tables ∙ c.font.ensures.font) in
-    let differs : c.take-other.result ≡ find (is_other (listed_outline u.outlines) (content (font_as u.kind y) everything).outline) (range_with_len 0 c.glyph_count-count.result) =
-    subst (λ (k : Kind). c.take-other.result ≡ find (is_other (listed_outline u.outlines) (content (font_as k y) everything).outline) (range_with_len 0 c.glyph_count-count.result)) same c.take-other.ensures.differs in
-    let measured : c.other_metrics-metrics.result ≡ metrics_told c.args.self.kind (content_in c.args.self) (content (font_as u.kind y) everything) =
-    subst (λ (k : Kind). c.other_metrics-metrics.result ≡ metrics_told c.args.self.kind (content_in c.args.self) (content (font_as k y) everything)) same c.other_metrics-metrics.ensures in
-    difference_fault (format_of u.kind) K y (form_whole (format_of u.kind) Second y form.accepted (is_cut-of (format_of u.kind) (kind_is u.kind).law y form)) (Some (AtGlyph c.in-Some.g))
-    (sym (told_of u c.args.self c.self.view_is y c.requires.form c.requires.early K spells c.glyph_count-count.result count c.take-other.result c.other_metrics-metrics.result differs measured
+    let count : c.glyph_count-count.result ≡ glyph_count_of u.tables = c.glyph_count-count.ensures.count
+    ∙ ap glyph_count_of (c.tables.ensures.tables ∙ c.font.ensures.font) in
+    let differs : c.take-other.result
+    ≡ find (is_other (listed_outline u.outlines) (content (font_as u.kind y) everything).outline)
+    (range_with_len 0 c.glyph_count-count.result) =
+    subst (λ (k : Kind). c.take-other.result
+    ≡ find (is_other (listed_outline u.outlines) (content (font_as k y) everything).outline)
+    (range_with_len 0 c.glyph_count-count.result)) same c.take-other.ensures.differs in
+    let measured : c.other_metrics-metrics.result ≡ metrics_told c.args.self.kind (content_in c.args.self)
+    (content (font_as u.kind y) everything) =
+    subst (λ (k : Kind). c.other_metrics-metrics.result ≡ metrics_told c.args.self.kind (content_in c.args.self)
+    (content (font_as k y) everything)) same c.other_metrics-metrics.ensures in
+    difference_fault (format_of u.kind) K y (form_whole (format_of u.kind) Second y form.accepted
+    (is_cut-of (format_of u.kind) (kind_is u.kind).law y form)) (Some (AtGlyph c.in-Some.g))
+    (sym (told_of u c.args.self c.self.view_is y c.requires.form c.requires.early K spells c.glyph_count-count.result
+    count c.take-other.result c.other_metrics-metrics.result differs measured
     ∙ ap (option_map AtGlyph) (sym c.least.ensures ∙ c.in-Some.is))))
 
 pub with-requires-clause-agree : goal.with-requires-clause-agree
 with-requires-clause-agree g c =
-    let u : Held = record { kind = c.self.inside.first.0; tables = c.self.inside.first.1; runs = c.self.inside.map; outlines = c.self.inside.outlines; hmtx = option_map (λ v. v.items) c.self.inside.hmtx; vmtx = option_map (λ v. v.items) c.self.inside.vmtx } in
+    let u : Held = record {
+      kind = c.self.inside.first.0;
+      tables = c.self.inside.first.1;
+      runs = c.self.inside.map;
+      outlines = c.self.inside.outlines;
+      hmtx = option_map (λ v. v.items) c.self.inside.hmtx;
+      vmtx =
+          option_map (λ v. v.items) c.self.inside.vmtx;
+    } in
     let y : List ℕ = c.args.file.1 in
     let same : c.args.file.0 ≡ u.kind = c.requires.same ∙ sym (ap (λ (v : Held). v.kind) c.self.view_is) in
     let form : IsCut (format_of u.kind) y = form_of u c.args.self c.self.view_is y c.requires.form in
-    let count : c.glyph_count-count.result ≡ glyph_count_of u.tables = c.glyph_count-count.ensures.count ∙ ap glyph_count_of (c.tables.ensures.tables ∙ c.font.ensures.font) in
-    let differs : c.take-other.result ≡ find (is_other (listed_outline u.outlines) (content (font_as u.kind y) everything).outline) (range_with_len 0 c.glyph_count-count.result) =
-    subst (λ (k : Kind). c.take-other.result ≡ find (is_other (listed_outline u.outlines) (content (font_as k y) everything).outline) (range_with_len 0 c.glyph_count-count.result)) same c.take-other.ensures.differs in
-    let measured : c.other_metrics-metrics.result ≡ metrics_told c.args.self.kind (content_in c.args.self) (content (font_as u.kind y) everything) =
-    subst (λ (k : Kind). c.other_metrics-metrics.result ≡ metrics_told c.args.self.kind (content_in c.args.self) (content (font_as k y) everything)) same c.other_metrics-metrics.ensures in
+    let count : c.glyph_count-count.result ≡ glyph_count_of u.tables = c.glyph_count-count.ensures.count
+    ∙ ap glyph_count_of (c.tables.ensures.tables ∙ c.font.ensures.font) in
+    let differs : c.take-other.result
+    ≡ find (is_other (listed_outline u.outlines) (content (font_as u.kind y) everything).outline)
+    (range_with_len 0 c.glyph_count-count.result) =
+    subst (λ (k : Kind). c.take-other.result
+    ≡ find (is_other (listed_outline u.outlines) (content (font_as k y) everything).outline)
+    (range_with_len 0 c.glyph_count-count.result)) same c.take-other.ensures.differs in
+    let measured : c.other_metrics-metrics.result ≡ metrics_told c.args.self.kind (content_in c.args.self)
+    (content (font_as u.kind y) everything) =
+    subst (λ (k : Kind). c.other_metrics-metrics.result ≡ metrics_told c.args.self.kind (content_in c.args.self)
+    (content (font_as k y) everything)) same c.other_metrics-metrics.ensures in
     let K : Content = c.self.invariant.whole in
     let spells : SpellsIn u.kind (content_in u) K = c.self.invariant.spells in
-    let least : least_of c.other_metrics-metrics.result c.take-other.result ≡ None = sym c.least.ensures ∙ c.in_default.is in
+    let least : least_of c.other_metrics-metrics.result c.take-other.result ≡ None = sym c.least.ensures
+    ∙ c.in_default.is in
     let agree : Agree K (content_of_all (format_of u.kind) y) =
-    agree_of u c.args.self c.self.view_is y c.requires.form c.requires.early K spells c.glyph_count-count.result count c.take-other.result c.other_metrics-metrics.result differs measured least in
-    subst (λ (m : ℕ → ℕ). AreCompatible (map_in u.runs) m) (sym c.in_ok-runs.ensures.spelled_map) (compatible u y K spells form agree)
+    agree_of u c.args.self c.self.view_is y c.requires.form c.requires.early K spells c.glyph_count-count.result count
+    c.take-other.result c.other_metrics-metrics.result differs measured least in
+    subst (λ (m : ℕ → ℕ). AreCompatible (map_in u.runs) m) (sym c.in_ok-runs.ensures.spelled_map)
+    (compatible u y K spells form agree)
 
 pub invariant_of-result : goal.invariant_of-result
 invariant_of-result g c =
-    let u : Held = record { kind = c.self.inside.first.0; tables = c.self.inside.first.1; runs = c.self.inside.map; outlines = c.self.inside.outlines; hmtx = option_map (λ v. v.items) c.self.inside.hmtx; vmtx = option_map (λ v. v.items) c.self.inside.vmtx } in
+    let u : Held = record {
+      kind = c.self.inside.first.0;
+      tables = c.self.inside.first.1;
+      runs = c.self.inside.map;
+      outlines = c.self.inside.outlines;
+      hmtx = option_map (λ v. v.items) c.self.inside.hmtx;
+      vmtx =
+          option_map (λ v. v.items) c.self.inside.vmtx;
+    } in
     let y : List ℕ = c.args.file.1 in
     let same : c.args.file.0 ≡ u.kind = c.requires.same ∙ sym (ap (λ (v : Held). v.kind) c.self.view_is) in
     let form : IsCut (format_of u.kind) y = form_of u c.args.self c.self.view_is y c.requires.form in
-    let count : c.glyph_count-count.result ≡ glyph_count_of u.tables = c.glyph_count-count.ensures.count ∙ ap glyph_count_of (c.tables.ensures.tables ∙ c.font.ensures.font) in
-    let differs : c.take-other.result ≡ find (is_other (listed_outline u.outlines) (content (font_as u.kind y) everything).outline) (range_with_len 0 c.glyph_count-count.result) =
-    subst (λ (k : Kind). c.take-other.result ≡ find (is_other (listed_outline u.outlines) (content (font_as k y) everything).outline) (range_with_len 0 c.glyph_count-count.result)) same c.take-other.ensures.differs in
-    let measured : c.other_metrics-metrics.result ≡ metrics_told c.args.self.kind (content_in c.args.self) (content (font_as u.kind y) everything) =
-    subst (λ (k : Kind). c.other_metrics-metrics.result ≡ metrics_told c.args.self.kind (content_in c.args.self) (content (font_as k y) everything)) same c.other_metrics-metrics.ensures in
+    let count : c.glyph_count-count.result ≡ glyph_count_of u.tables = c.glyph_count-count.ensures.count
+    ∙ ap glyph_count_of (c.tables.ensures.tables ∙ c.font.ensures.font) in
+    let differs : c.take-other.result
+    ≡ find (is_other (listed_outline u.outlines) (content (font_as u.kind y) everything).outline)
+    (range_with_len 0 c.glyph_count-count.result) =
+    subst (λ (k : Kind). c.take-other.result
+    ≡ find (is_other (listed_outline u.outlines) (content (font_as k y) everything).outline)
+    (range_with_len 0 c.glyph_count-count.result)) same c.take-other.ensures.differs in
+    let measured : c.other_metrics-metrics.result ≡ metrics_told c.args.self.kind (content_in c.args.self)
+    (content (font_as u.kind y) everything) =
+    subst (λ (k : Kind). c.other_metrics-metrics.result ≡ metrics_told c.args.self.kind (content_in c.args.self)
+    (content (font_as k y) everything)) same c.other_metrics-metrics.ensures in
     let K : Content = c.self.invariant.whole in
     let spells : SpellsIn u.kind (content_in u) K = c.self.invariant.spells in
-    let least : least_of c.other_metrics-metrics.result c.take-other.result ≡ None = sym c.least.ensures ∙ c.in_default.is in
+    let least : least_of c.other_metrics-metrics.result c.take-other.result ≡ None = sym c.least.ensures
+    ∙ c.in_default.is in
     let agree : Agree K (content_of_all (format_of u.kind) y) =
-    agree_of u c.args.self c.self.view_is y c.requires.form c.requires.early K spells c.glyph_count-count.result count c.take-other.result c.other_metrics-metrics.result differs measured least in
+    agree_of u c.args.self c.self.view_is y c.requires.form c.requires.early K spells c.glyph_count-count.result count
+    c.take-other.result c.other_metrics-metrics.result differs measured least in
     let D : Content = content (font_as u.kind y) everything in
     let are : AreTaken u.outlines c.take-other.new.self D.outline c.glyph_count-count.result =
-    subst (λ (k : Kind). AreTaken u.outlines c.take-other.new.self (content (font_as k y) everything).outline c.glyph_count-count.result) same (c.take-other.ensures.taken (least_none c.other_metrics-metrics.result c.take-other.result least)) in
-    let taken = taken_merged u y K spells form agree c.take-other.new.self c.glyph_count-count.result count c.self.invariant.count are in
-    let maps : map_in c.in_ok-map.map ≡ united (map_in u.runs) D.map = c.in_ok-map.ensures ∙ ap (united (map_in u.runs)) c.in_ok-runs.ensures.spelled_map in
-    let across : option_map (λ v. v.items) c.either_table-hmtx.result ≡ option_map (λ t. either_bytes t (unwrap_or (D.copied HMTX) [])) u.hmtx =
-    c.either_table-hmtx.ensures ∙ (λ i. option_map (λ t. either_bytes t (unwrap_or ((looked_up (λ b. b.now) c.copied.result (tables_as c.args.file.0 y HMTX) c.copied.ensures.table ∙ ap (λ (k : Kind). tables_as k y HMTX) same) i) [])) u.hmtx) in
-    let down : option_map (λ v. v.items) c.either_table-vmtx.result ≡ option_map (λ t. either_bytes t (unwrap_or (D.copied VMTX) [])) u.vmtx =
-    c.either_table-vmtx.ensures ∙ (λ i. option_map (λ t. either_bytes t (unwrap_or ((looked_up (λ b. b.now) c.copied-2.result (tables_as c.args.file.0 y VMTX) c.copied-2.ensures.table ∙ ap (λ (k : Kind). tables_as k y VMTX) same) i) [])) u.vmtx) in
-    union_merged u y K spells form agree c.in_ok-map.map c.take-other.new.self (option_map (λ v. v.items) c.either_table-hmtx.result) (option_map (λ v. v.items) c.either_table-vmtx.result) maps taken across down c.self.inside.blanks c.self.invariant are.count
+    subst (λ (k : Kind). AreTaken u.outlines c.take-other.new.self (content (font_as k y) everything).outline
+    c.glyph_count-count.result) same
+    (c.take-other.ensures.taken (least_none c.other_metrics-metrics.result c.take-other.result least)) in
+    let taken = taken_merged u y K spells form agree c.take-other.new.self c.glyph_count-count.result count
+    c.self.invariant.count are in
+    let maps : map_in c.in_ok-map.map ≡ united (map_in u.runs) D.map = c.in_ok-map.ensures
+    ∙ ap (united (map_in u.runs)) c.in_ok-runs.ensures.spelled_map in
+    let across : option_map (λ v. v.items) c.either_table-hmtx.result
+    ≡ option_map (λ t. either_bytes t (unwrap_or (D.copied HMTX) [])) u.hmtx =
+    c.either_table-hmtx.ensures
+    ∙ (λ i. option_map
+    (λ t. either_bytes t
+    (unwrap_or ((looked_up (λ b. b.now) c.copied.result (tables_as c.args.file.0 y HMTX) c.copied.ensures.table
+    ∙ ap (λ (k : Kind). tables_as k y HMTX) same) i) [])) u.hmtx) in
+    let down : option_map (λ v. v.items) c.either_table-vmtx.result
+    ≡ option_map (λ t. either_bytes t (unwrap_or (D.copied VMTX) [])) u.vmtx =
+    c.either_table-vmtx.ensures
+    ∙ (λ i. option_map
+    (λ t. either_bytes t
+    (unwrap_or ((looked_up (λ b. b.now) c.copied-2.result (tables_as c.args.file.0 y VMTX) c.copied-2.ensures.table
+    ∙ ap (λ (k : Kind). tables_as k y VMTX) same) i) [])) u.vmtx) in
+    union_merged u y K spells form agree c.in_ok-map.map c.take-other.new.self
+    (option_map (λ v. v.items) c.either_table-hmtx.result) (option_map (λ v. v.items) c.either_table-vmtx.result)
+    maps taken across down c.self.inside.blanks c.self.invariant are.count
 
 pub returns : goal.returns
-returns g c = subst (λ (v : Held). (K : Content) → SpellsIn v.kind (content_in v) K → IsGrown v.kind c.args.file.1 K (record { kind = c.self.inside.first.0; tables = c.self.inside.first.1; runs = c.in_ok-map.map; outlines = c.take-other.new.self; hmtx = option_map (λ v. v.items) c.either_table-hmtx.result; vmtx = option_map (λ v. v.items) c.either_table-vmtx.result })) c.self.view_is (λ K spells.
-    let u : Held = record { kind = c.self.inside.first.0; tables = c.self.inside.first.1; runs = c.self.inside.map; outlines = c.self.inside.outlines; hmtx = option_map (λ v. v.items) c.self.inside.hmtx; vmtx = option_map (λ v. v.items) c.self.inside.vmtx } in
+returns g c = subst (λ (v : Held). (K : Content) → SpellsIn v.kind (content_in v) K
+    → IsGrown v.kind c.args.file.1 K (record {
+      kind = c.self.inside.first.0;
+      tables = c.self.inside.first.1;
+      runs = c.in_ok-map.map;
+      outlines = c.take-other.new.self;
+      hmtx =
+          option_map (λ v. v.items) c.either_table-hmtx.result;
+      vmtx =
+          option_map (λ v. v.items) c.either_table-vmtx.result;
+    })) c.self.view_is (λ K spells.
+    let u : Held = record {
+      kind = c.self.inside.first.0;
+      tables = c.self.inside.first.1;
+      runs = c.self.inside.map;
+      outlines = c.self.inside.outlines;
+      hmtx = option_map (λ v. v.items) c.self.inside.hmtx;
+      vmtx =
+          option_map (λ v. v.items) c.self.inside.vmtx;
+    } in
     let y : List ℕ = c.args.file.1 in
     let same : c.args.file.0 ≡ u.kind = c.requires.same ∙ sym (ap (λ (v : Held). v.kind) c.self.view_is) in
     let form : IsCut (format_of u.kind) y = form_of u c.args.self c.self.view_is y c.requires.form in
-    let count : c.glyph_count-count.result ≡ glyph_count_of u.tables = c.glyph_count-count.ensures.count ∙ ap glyph_count_of (c.tables.ensures.tables ∙ c.font.ensures.font) in
-    let differs : c.take-other.result ≡ find (is_other (listed_outline u.outlines) (content (font_as u.kind y) everything).outline) (range_with_len 0 c.glyph_count-count.result) =
-    subst (λ (k : Kind). c.take-other.result ≡ find (is_other (listed_outline u.outlines) (content (font_as k y) everything).outline) (range_with_len 0 c.glyph_count-count.result)) same c.take-other.ensures.differs in
-    let measured : c.other_metrics-metrics.result ≡ metrics_told c.args.self.kind (content_in c.args.self) (content (font_as u.kind y) everything) =
-    subst (λ (k : Kind). c.other_metrics-metrics.result ≡ metrics_told c.args.self.kind (content_in c.args.self) (content (font_as k y) everything)) same c.other_metrics-metrics.ensures in
-    let least : least_of c.other_metrics-metrics.result c.take-other.result ≡ None = sym c.least.ensures ∙ c.in_default.is in
+    let count : c.glyph_count-count.result ≡ glyph_count_of u.tables = c.glyph_count-count.ensures.count
+    ∙ ap glyph_count_of (c.tables.ensures.tables ∙ c.font.ensures.font) in
+    let differs : c.take-other.result
+    ≡ find (is_other (listed_outline u.outlines) (content (font_as u.kind y) everything).outline)
+    (range_with_len 0 c.glyph_count-count.result) =
+    subst (λ (k : Kind). c.take-other.result
+    ≡ find (is_other (listed_outline u.outlines) (content (font_as k y) everything).outline)
+    (range_with_len 0 c.glyph_count-count.result)) same c.take-other.ensures.differs in
+    let measured : c.other_metrics-metrics.result ≡ metrics_told c.args.self.kind (content_in c.args.self)
+    (content (font_as u.kind y) everything) =
+    subst (λ (k : Kind). c.other_metrics-metrics.result ≡ metrics_told c.args.self.kind (content_in c.args.self)
+    (content (font_as k y) everything)) same c.other_metrics-metrics.ensures in
+    let least : least_of c.other_metrics-metrics.result c.take-other.result ≡ None = sym c.least.ensures
+    ∙ c.in_default.is in
     let agree : Agree K (content_of_all (format_of u.kind) y) =
-    agree_of u c.args.self c.self.view_is y c.requires.form c.requires.early K spells c.glyph_count-count.result count c.take-other.result c.other_metrics-metrics.result differs measured least in
+    agree_of u c.args.self c.self.view_is y c.requires.form c.requires.early K spells c.glyph_count-count.result count
+    c.take-other.result c.other_metrics-metrics.result differs measured least in
     let D : Content = content (font_as u.kind y) everything in
     let are : AreTaken u.outlines c.take-other.new.self D.outline c.glyph_count-count.result =
-    subst (λ (k : Kind). AreTaken u.outlines c.take-other.new.self (content (font_as k y) everything).outline c.glyph_count-count.result) same (c.take-other.ensures.taken (least_none c.other_metrics-metrics.result c.take-other.result least)) in
-    let taken = taken_merged u y K spells form agree c.take-other.new.self c.glyph_count-count.result count c.self.invariant.count are in
-    let maps : map_in c.in_ok-map.map ≡ united (map_in u.runs) D.map = c.in_ok-map.ensures ∙ ap (united (map_in u.runs)) c.in_ok-runs.ensures.spelled_map in
-    let across : option_map (λ v. v.items) c.either_table-hmtx.result ≡ option_map (λ t. either_bytes t (unwrap_or (D.copied HMTX) [])) u.hmtx =
-    c.either_table-hmtx.ensures ∙ (λ i. option_map (λ t. either_bytes t (unwrap_or ((looked_up (λ b. b.now) c.copied.result (tables_as c.args.file.0 y HMTX) c.copied.ensures.table ∙ ap (λ (k : Kind). tables_as k y HMTX) same) i) [])) u.hmtx) in
-    let down : option_map (λ v. v.items) c.either_table-vmtx.result ≡ option_map (λ t. either_bytes t (unwrap_or (D.copied VMTX) [])) u.vmtx =
-    c.either_table-vmtx.ensures ∙ (λ i. option_map (λ t. either_bytes t (unwrap_or ((looked_up (λ b. b.now) c.copied-2.result (tables_as c.args.file.0 y VMTX) c.copied-2.ensures.table ∙ ap (λ (k : Kind). tables_as k y VMTX) same) i) [])) u.vmtx) in
+    subst (λ (k : Kind). AreTaken u.outlines c.take-other.new.self (content (font_as k y) everything).outline
+    c.glyph_count-count.result) same
+    (c.take-other.ensures.taken (least_none c.other_metrics-metrics.result c.take-other.result least)) in
+    let taken = taken_merged u y K spells form agree c.take-other.new.self c.glyph_count-count.result count
+    c.self.invariant.count are in
+    let maps : map_in c.in_ok-map.map ≡ united (map_in u.runs) D.map = c.in_ok-map.ensures
+    ∙ ap (united (map_in u.runs)) c.in_ok-runs.ensures.spelled_map in
+    let across : option_map (λ v. v.items) c.either_table-hmtx.result
+    ≡ option_map (λ t. either_bytes t (unwrap_or (D.copied HMTX) [])) u.hmtx =
+    c.either_table-hmtx.ensures
+    ∙ (λ i. option_map
+    (λ t. either_bytes t
+    (unwrap_or ((looked_up (λ b. b.now) c.copied.result (tables_as c.args.file.0 y HMTX) c.copied.ensures.table
+    ∙ ap (λ (k : Kind). tables_as k y HMTX) same) i) [])) u.hmtx) in
+    let down : option_map (λ v. v.items) c.either_table-vmtx.result
+    ≡ option_map (λ t. either_bytes t (unwrap_or (D.copied VMTX) [])) u.vmtx =
+    c.either_table-vmtx.ensures
+    ∙ (λ i. option_map
+    (λ t. either_bytes t
+    (unwrap_or ((looked_up (λ b. b.now) c.copied-2.result (tables_as c.args.file.0 y VMTX) c.copied-2.ensures.table
+    ∙ ap (λ (k : Kind). tables_as k y VMTX) same) i) [])) u.vmtx) in
     record {
       kind_is = refl;
-      spells = spells_merged u y K spells form agree c.in_ok-map.map c.take-other.new.self (option_map (λ v. v.items) c.either_table-hmtx.result) (option_map (λ v. v.items) c.either_table-vmtx.result) maps taken across down;
-      none = none_of u c.args.self c.self.view_is y c.requires.form c.requires.early K spells c.glyph_count-count.result count c.take-other.result c.other_metrics-metrics.result differs measured least;
+      spells = spells_merged u y K spells form agree c.in_ok-map.map c.take-other.new.self
+          (option_map (λ v. v.items) c.either_table-hmtx.result) (option_map (λ v. v.items) c.either_table-vmtx.result)
+          maps taken across down;
+      none = none_of u c.args.self c.self.view_is y c.requires.form c.requires.early K spells c.glyph_count-count.result
+          count c.take-other.result c.other_metrics-metrics.result differs measured least;
     })
 
 pub returns-in_err-runs : goal.returns-in_err-runs
 returns-in_err-runs g c = λ K spells. passed_on _ _ c.from_residual.result NoMemory c.from_residual.ensures.1 tt
 
 pub returns-in_err-map : goal.returns-in_err-map
-returns-in_err-map g c = λ K spells. passed_on _ _ c.from_residual-in_err-map.result NoMemory c.from_residual-in_err-map.ensures.1 tt
+returns-in_err-map g c = λ K spells. passed_on _ _ c.from_residual-in_err-map.result NoMemory
+    c.from_residual-in_err-map.ensures.1 tt

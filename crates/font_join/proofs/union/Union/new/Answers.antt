@@ -4,4 +4,7 @@ use Rattle.font_join.proofs.AddLemmas.{both_whole}
 use Rattle.font_join.proofs.union.Union.new.Goals as goal
 
 pub returns : goal.returns
-returns g c = MatchResult-weaker c.of_two.result c.of_two.ensures (λ u h. (h.0 ∙ both_whole c.args.x.now c.args.y.now, h.1)) (λ e r. r)
+returns g c = MatchResult-weaker c.of_two.result c.of_two.ensures (λ u h. (
+  h.0 ∙ both_whole c.args.x.now c.args.y.now,
+  h.1,
+)) (λ e r. r)

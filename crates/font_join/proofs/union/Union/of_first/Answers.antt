@@ -25,10 +25,12 @@ use Rattle.font_join.proofs.union.Union.of_first.Goals as goal
 pub returns-in_err-file : goal.returns-in_err-file
 returns-in_err-file g c =
     passed_on _ _ c.from_residual-in_err-file.result _ c.from_residual-in_err-file.ensures.1
-    (subst (λ (v : Kind × List ℕ). IsFormRefusal (format_of v.0) First v.1 c.in_err-file.field-0.0) c.in_ok-opened.ensures c.in_err-file.ensures)
+    (subst (λ (v : Kind × List ℕ). IsFormRefusal (format_of v.0) First v.1 c.in_err-file.field-0.0)
+    c.in_ok-opened.ensures c.in_err-file.ensures)
 
 pub take-other-requires-clause-form : goal.take-other-requires-clause-form
-take-other-requires-clause-form g c = subst (λ (v : Kind × List ℕ). IsCut (format_of v.0) v.1) (sym c.in_ok-file.ensures.0) c.in_ok-file.ensures.1
+take-other-requires-clause-form g c =
+    subst (λ (v : Kind × List ℕ). IsCut (format_of v.0) v.1) (sym c.in_ok-file.ensures.0) c.in_ok-file.ensures.1
 
 pub invariant_of-result : goal.invariant_of-result
 invariant_of-result g c =
@@ -36,31 +38,58 @@ invariant_of-result g c =
     let x : List ℕ = c.args.font.now in
     let file : c.in_ok-file.file ≡ (k, x) = c.in_ok-file.ensures.0 ∙ c.in_ok-opened.ensures in
     let L : Content = content (font_as k x) everything in
-    let form : IsCut (format_of k) x = subst (λ (v : Kind × List ℕ). IsCut (format_of v.0) v.1) c.in_ok-opened.ensures c.in_ok-file.ensures.1 in
+    let form : IsCut (format_of k) x = subst (λ (v : Kind × List ℕ). IsCut (format_of v.0) v.1) c.in_ok-opened.ensures
+    c.in_ok-file.ensures.1 in
     let runs : TwoLists = c.of_runs.result in
-    let listed : AreRunsOf x c.in_ok-runs.runs.items = subst (λ (v : Kind × List ℕ). AreRunsOf v.1 c.in_ok-runs.runs.items) file c.in_ok-runs.ensures in
+    let listed : AreRunsOf x c.in_ok-runs.runs.items =
+    subst (λ (v : Kind × List ℕ). AreRunsOf v.1 c.in_ok-runs.runs.items) file c.in_ok-runs.ensures in
     let spells : map_in runs ≡ L.map = c.of_runs.ensures ∙ listed.spelled_map in
-    let differs : c.take-other.result ≡ find (is_other (listed_outline c.in_ok-outlines.outlines) L.outline) (range_with_len 0 c.glyph_count-count.result) =
-    subst (λ (v : Kind × List ℕ). c.take-other.result ≡ find (is_other (listed_outline c.in_ok-outlines.outlines) (content (font_as v.0 v.1) everything).outline) (range_with_len 0 c.glyph_count-count.result)) file c.take-other.ensures.differs in
-    let none : c.take-other.result ≡ None = differs ∙ none_other c.in_ok-outlines.outlines L.outline c.glyph_count-count.result c.in_ok-outlines.ensures.none in
+    let differs : c.take-other.result ≡ find (is_other (listed_outline c.in_ok-outlines.outlines) L.outline)
+    (range_with_len 0 c.glyph_count-count.result) =
+    subst (λ (v : Kind × List ℕ). c.take-other.result ≡ find (is_other (listed_outline c.in_ok-outlines.outlines)
+    (content (font_as v.0 v.1) everything).outline) (range_with_len 0 c.glyph_count-count.result)) file
+    c.take-other.ensures.differs in
+    let none : c.take-other.result ≡ None =
+    differs ∙ none_other c.in_ok-outlines.outlines L.outline c.glyph_count-count.result
+    c.in_ok-outlines.ensures.none in
     let are : AreTaken c.in_ok-outlines.outlines c.take-other.new.self L.outline c.glyph_count-count.result =
-    subst (λ (v : Kind × List ℕ). AreTaken c.in_ok-outlines.outlines c.take-other.new.self (content (font_as v.0 v.1) everything).outline c.glyph_count-count.result) file (c.take-other.ensures.taken none) in
-    let glyphs : c.glyph_count-count.result ≡ glyph_count (tables_as k x) = c.glyph_count-count.ensures ∙ ap (λ (v : Kind × List ℕ). glyph_count (tables_as v.0 v.1)) file in
+    subst (λ (v : Kind × List ℕ). AreTaken c.in_ok-outlines.outlines c.take-other.new.self
+    (content (font_as v.0 v.1) everything).outline c.glyph_count-count.result) file
+    (c.take-other.ensures.taken none) in
+    let glyphs : c.glyph_count-count.result ≡ glyph_count (tables_as k x) = c.glyph_count-count.ensures
+    ∙ ap (λ (v : Kind × List ℕ). glyph_count (tables_as v.0 v.1)) file in
     let taken : (h : ℕ) → listed_outline c.take-other.new.self h ≡ L.outline h = λ h.
-    taken_whole c.in_ok-outlines.outlines c.take-other.new.self k x c.glyph_count-count.result form glyphs c.in_ok-outlines.ensures.count are h
+    taken_whole c.in_ok-outlines.outlines c.take-other.new.self k x c.glyph_count-count.result form glyphs
+    c.in_ok-outlines.ensures.count are h
     ∙ union_of_none (listed_outline c.in_ok-outlines.outlines) L.outline h (c.in_ok-outlines.ensures.none h) in
     let hmtx : Option (List ℕ) = option_map (λ v. v.items) c.in_ok-hmtx.hmtx in
     let vmtx : Option (List ℕ) = option_map (λ v. v.items) c.in_ok-vmtx.vmtx in
     let across : hmtx ≡ own_in k (tables_as k x HMTX) =
-    c.in_ok-hmtx.ensures ∙ ap (own_in k) (looked_up (λ b. b.now) c.copied.result _ c.copied.ensures.table ∙ ap (λ (v : Kind × List ℕ). tables_as v.0 v.1 HMTX) file) in
+    c.in_ok-hmtx.ensures ∙ ap (own_in k) (looked_up (λ b. b.now) c.copied.result _ c.copied.ensures.table
+    ∙ ap (λ (v : Kind × List ℕ). tables_as v.0 v.1 HMTX) file) in
     let down : vmtx ≡ own_in k (tables_as k x VMTX) =
-    c.in_ok-vmtx.ensures ∙ ap (own_in k) (looked_up (λ b. b.now) c.copied-2.result _ c.copied-2.ensures.table ∙ ap (λ (v : Kind × List ℕ). tables_as v.0 v.1 VMTX) file) in
-    let count : length c.take-other.new.self ≡ glyph_count_of x = are.count ∙ c.in_ok-outlines.ensures.count ∙ glyphs ∙ sym (count_as k x) in
-    let small : length (unwrap_or hmtx []) ≤ MAX_FILE = small_own k (λ b. b.now) c.copied.result hmtx c.in_ok-hmtx.ensures c.copied.ensures.small in
-    let few : length (unwrap_or vmtx []) ≤ MAX_FILE = small_own k (λ b. b.now) c.copied-2.result vmtx c.in_ok-vmtx.ensures c.copied-2.ensures.small in
-    let blanks : HasBlanks k L.copied c.in_ok-blanks.blanks = subst (λ (v : Kind × List ℕ). HasBlanks k (content (font_as v.0 v.1) everything).copied c.in_ok-blanks.blanks) file c.in_ok-blanks.ensures in
-    subst (λ (v : Kind × List ℕ). IsUnion (record { kind = v.0; tables = v.1; runs = runs; outlines = c.take-other.new.self; hmtx = hmtx; vmtx = vmtx }) c.in_ok-blanks.blanks) (sym c.in_ok-opened.ensures)
-    (union_first k x form runs c.take-other.new.self hmtx vmtx spells taken across down c.in_ok-blanks.blanks blanks count small few)
+    c.in_ok-vmtx.ensures ∙ ap (own_in k) (looked_up (λ b. b.now) c.copied-2.result _ c.copied-2.ensures.table
+    ∙ ap (λ (v : Kind × List ℕ). tables_as v.0 v.1 VMTX) file) in
+    let count : length c.take-other.new.self ≡ glyph_count_of x = are.count ∙ c.in_ok-outlines.ensures.count ∙ glyphs
+    ∙ sym (count_as k x) in
+    let small : length (unwrap_or hmtx []) ≤ MAX_FILE =
+    small_own k (λ b. b.now) c.copied.result hmtx c.in_ok-hmtx.ensures c.copied.ensures.small in
+    let few : length (unwrap_or vmtx []) ≤ MAX_FILE =
+    small_own k (λ b. b.now) c.copied-2.result vmtx c.in_ok-vmtx.ensures c.copied-2.ensures.small in
+    let blanks : HasBlanks k L.copied c.in_ok-blanks.blanks =
+    subst (λ (v : Kind × List ℕ). HasBlanks k (content (font_as v.0 v.1) everything).copied c.in_ok-blanks.blanks)
+    file c.in_ok-blanks.ensures in
+    subst (λ (v : Kind × List ℕ). IsUnion (record {
+      kind = v.0;
+      tables = v.1;
+      runs = runs;
+      outlines = c.take-other.new.self;
+      hmtx = hmtx;
+      vmtx = vmtx;
+    }) c.in_ok-blanks.blanks)
+    (sym c.in_ok-opened.ensures)
+    (union_first k x form runs c.take-other.new.self hmtx vmtx spells taken across down c.in_ok-blanks.blanks blanks
+    count small few)
 
 pub returns : goal.returns
 returns g c =
@@ -68,33 +97,56 @@ returns g c =
     let x : List ℕ = c.args.font.now in
     let file : c.in_ok-file.file ≡ (k, x) = c.in_ok-file.ensures.0 ∙ c.in_ok-opened.ensures in
     let L : Content = content (font_as k x) everything in
-    let form : IsCut (format_of k) x = subst (λ (v : Kind × List ℕ). IsCut (format_of v.0) v.1) c.in_ok-opened.ensures c.in_ok-file.ensures.1 in
+    let form : IsCut (format_of k) x = subst (λ (v : Kind × List ℕ). IsCut (format_of v.0) v.1) c.in_ok-opened.ensures
+    c.in_ok-file.ensures.1 in
     let runs : TwoLists = c.of_runs.result in
-    let listed : AreRunsOf x c.in_ok-runs.runs.items = subst (λ (v : Kind × List ℕ). AreRunsOf v.1 c.in_ok-runs.runs.items) file c.in_ok-runs.ensures in
+    let listed : AreRunsOf x c.in_ok-runs.runs.items =
+    subst (λ (v : Kind × List ℕ). AreRunsOf v.1 c.in_ok-runs.runs.items) file c.in_ok-runs.ensures in
     let spells : map_in runs ≡ L.map = c.of_runs.ensures ∙ listed.spelled_map in
-    let differs : c.take-other.result ≡ find (is_other (listed_outline c.in_ok-outlines.outlines) L.outline) (range_with_len 0 c.glyph_count-count.result) =
-    subst (λ (v : Kind × List ℕ). c.take-other.result ≡ find (is_other (listed_outline c.in_ok-outlines.outlines) (content (font_as v.0 v.1) everything).outline) (range_with_len 0 c.glyph_count-count.result)) file c.take-other.ensures.differs in
-    let none : c.take-other.result ≡ None = differs ∙ none_other c.in_ok-outlines.outlines L.outline c.glyph_count-count.result c.in_ok-outlines.ensures.none in
+    let differs : c.take-other.result ≡ find (is_other (listed_outline c.in_ok-outlines.outlines) L.outline)
+    (range_with_len 0 c.glyph_count-count.result) =
+    subst (λ (v : Kind × List ℕ). c.take-other.result ≡ find (is_other (listed_outline c.in_ok-outlines.outlines)
+    (content (font_as v.0 v.1) everything).outline) (range_with_len 0 c.glyph_count-count.result)) file
+    c.take-other.ensures.differs in
+    let none : c.take-other.result ≡ None =
+    differs ∙ none_other c.in_ok-outlines.outlines L.outline c.glyph_count-count.result
+    c.in_ok-outlines.ensures.none in
     let are : AreTaken c.in_ok-outlines.outlines c.take-other.new.self L.outline c.glyph_count-count.result =
-    subst (λ (v : Kind × List ℕ). AreTaken c.in_ok-outlines.outlines c.take-other.new.self (content (font_as v.0 v.1) everything).outline c.glyph_count-count.result) file (c.take-other.ensures.taken none) in
-    let glyphs : c.glyph_count-count.result ≡ glyph_count (tables_as k x) = c.glyph_count-count.ensures ∙ ap (λ (v : Kind × List ℕ). glyph_count (tables_as v.0 v.1)) file in
+    subst (λ (v : Kind × List ℕ). AreTaken c.in_ok-outlines.outlines c.take-other.new.self
+    (content (font_as v.0 v.1) everything).outline c.glyph_count-count.result) file
+    (c.take-other.ensures.taken none) in
+    let glyphs : c.glyph_count-count.result ≡ glyph_count (tables_as k x) = c.glyph_count-count.ensures
+    ∙ ap (λ (v : Kind × List ℕ). glyph_count (tables_as v.0 v.1)) file in
     let taken : (h : ℕ) → listed_outline c.take-other.new.self h ≡ L.outline h = λ h.
-    taken_whole c.in_ok-outlines.outlines c.take-other.new.self k x c.glyph_count-count.result form glyphs c.in_ok-outlines.ensures.count are h
+    taken_whole c.in_ok-outlines.outlines c.take-other.new.self k x c.glyph_count-count.result form glyphs
+    c.in_ok-outlines.ensures.count are h
     ∙ union_of_none (listed_outline c.in_ok-outlines.outlines) L.outline h (c.in_ok-outlines.ensures.none h) in
     let hmtx : Option (List ℕ) = option_map (λ v. v.items) c.in_ok-hmtx.hmtx in
     let vmtx : Option (List ℕ) = option_map (λ v. v.items) c.in_ok-vmtx.vmtx in
     let across : hmtx ≡ own_in k (tables_as k x HMTX) =
-    c.in_ok-hmtx.ensures ∙ ap (own_in k) (looked_up (λ b. b.now) c.copied.result _ c.copied.ensures.table ∙ ap (λ (v : Kind × List ℕ). tables_as v.0 v.1 HMTX) file) in
+    c.in_ok-hmtx.ensures ∙ ap (own_in k) (looked_up (λ b. b.now) c.copied.result _ c.copied.ensures.table
+    ∙ ap (λ (v : Kind × List ℕ). tables_as v.0 v.1 HMTX) file) in
     let down : vmtx ≡ own_in k (tables_as k x VMTX) =
-    c.in_ok-vmtx.ensures ∙ ap (own_in k) (looked_up (λ b. b.now) c.copied-2.result _ c.copied-2.ensures.table ∙ ap (λ (v : Kind × List ℕ). tables_as v.0 v.1 VMTX) file) in (
+    c.in_ok-vmtx.ensures ∙ ap (own_in k) (looked_up (λ b. b.now) c.copied-2.result _ c.copied-2.ensures.table
+    ∙ ap (λ (v : Kind × List ℕ). tables_as v.0 v.1 VMTX) file) in (
       ap (λ (v : Kind × List ℕ). v.0) c.in_ok-opened.ensures,
-      subst (λ (v : Kind × List ℕ). SpellsIn k (content_in (record { kind = v.0; tables = v.1; runs = runs; outlines = c.take-other.new.self; hmtx = hmtx; vmtx = vmtx })) (content_of_all (format_of k) x)) (sym c.in_ok-opened.ensures)
+      subst (λ (v : Kind × List ℕ). SpellsIn k
+          (content_in (record {
+            kind = v.0;
+            tables = v.1;
+            runs = runs;
+            outlines = c.take-other.new.self;
+            hmtx = hmtx;
+            vmtx = vmtx;
+          })) (content_of_all (format_of k) x)) (sym c.in_ok-opened.ensures)
           (spells_first k x form runs c.take-other.new.self hmtx vmtx spells taken across down),
       form,
     )
 
 pub returns-in_err-blanks : goal.returns-in_err-blanks
-returns-in_err-blanks g c = passed_on _ _ c.from_residual-in_err-blanks.result NoMemory c.from_residual-in_err-blanks.ensures.1 tt
+returns-in_err-blanks g c =
+    passed_on _ _ c.from_residual-in_err-blanks.result NoMemory c.from_residual-in_err-blanks.ensures.1 tt
 
 pub returns-in_err-outlines : goal.returns-in_err-outlines
-returns-in_err-outlines g c = passed_on _ _ c.from_residual-in_err-outlines.result NoMemory c.from_residual-in_err-outlines.ensures.1 tt
+returns-in_err-outlines g c =
+    passed_on _ _ c.from_residual-in_err-outlines.result NoMemory c.from_residual-in_err-outlines.ensures.1 tt

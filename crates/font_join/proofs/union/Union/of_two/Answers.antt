@@ -13,12 +13,17 @@ returns-in_err-one g c =
 
 pub returns : goal.returns
 returns g c =
-    let added = c.in_ok-both.ensures c.args.kind (content_of_all (format_of c.args.kind) c.args.x.now) c.in_ok-one.ensures.0 c.in_ok-one.ensures.1 in
-    (c.in_ok-settle.ensures.content ∙ added.0.spells.is, fault_of_two (kind_is c.args.kind) c.args.x.now c.args.y.now c.in_ok-one.ensures.2 ∙ added.1)
+    let added = c.in_ok-both.ensures c.args.kind (content_of_all (format_of c.args.kind) c.args.x.now)
+    c.in_ok-one.ensures.0 c.in_ok-one.ensures.1 in (
+      c.in_ok-settle.ensures.content ∙ added.0.spells.is,
+      fault_of_two (kind_is c.args.kind) c.args.x.now c.args.y.now
+          c.in_ok-one.ensures.2 ∙ added.1,
+    )
 
 pub returns-in_err-both : goal.returns-in_err-both
 returns-in_err-both g c =
     let K = content_of_all (format_of c.args.kind) c.args.x.now in
     passed_on _ _ c.from_residual-in_err-both.result _ c.from_residual-in_err-both.ensures.1
     (refused_two (kind_is c.args.kind) K c.args.x.now c.args.y.now c.in_err-both.field-0.0
-    (fault_of_two (kind_is c.args.kind) c.args.x.now c.args.y.now c.in_ok-one.ensures.2) (c.in_err-both.ensures c.args.kind K c.in_ok-one.ensures.0 c.in_ok-one.ensures.1))
+    (fault_of_two (kind_is c.args.kind) c.args.x.now c.args.y.now c.in_ok-one.ensures.2)
+    (c.in_err-both.ensures c.args.kind K c.in_ok-one.ensures.0 c.in_ok-one.ensures.1))

@@ -9,6 +9,15 @@ use Rattle.font_join.proofs.union.Union.too_large.Goals as goal
 
 pub size_if_too_large-requires-clause-count : goal.size_if_too_large-requires-clause-count
 size_if_too_large-requires-clause-count g c =
-    let u : Held = record { kind = c.self.inside.first.0; tables = c.self.inside.first.1; runs = c.self.inside.map; outlines = c.self.inside.outlines; hmtx = option_map (λ v. v.items) c.self.inside.hmtx; vmtx = option_map (λ v. v.items) c.self.inside.vmtx } in
+    let u : Held = record {
+      kind = c.self.inside.first.0;
+      tables = c.self.inside.first.1;
+      runs = c.self.inside.map;
+      outlines = c.self.inside.outlines;
+      hmtx = option_map (λ v. v.items) c.self.inside.hmtx;
+      vmtx =
+          option_map (λ v. v.items) c.self.inside.vmtx;
+    } in
     subst (λ (v : Held). length c.self.inside.outlines ≡ glyph_count (content_in v).copied) c.self.view_is
-    (c.self.invariant.count ∙ count_as u.kind u.tables ∙ sym (count_in u.kind (tables_as u.kind u.tables) u.hmtx u.vmtx))
+    (c.self.invariant.count ∙ count_as u.kind u.tables
+    ∙ sym (count_in u.kind (tables_as u.kind u.tables) u.hmtx u.vmtx))

@@ -9,5 +9,6 @@ use Rattle.font_join.proofs.union.UnionSource.glyph_count.Goals as goal
 pub returns : goal.returns
 returns g c =
     let u : Held = c.args.self.now in
-    c.glyph_count.ensures.count ∙ ap glyph_count_of (c.tables.ensures.tables ∙ c.font.ensures.font ∙ ap (λ (v : Held). v.tables) c.self.view_is)
+    c.glyph_count.ensures.count ∙ ap glyph_count_of (c.tables.ensures.tables ∙ c.font.ensures.font
+    ∙ ap (λ (v : Held). v.tables) c.self.view_is)
     ∙ count_as u.kind u.tables ∙ sym (count_in u.kind (tables_as u.kind u.tables) u.hmtx u.vmtx)

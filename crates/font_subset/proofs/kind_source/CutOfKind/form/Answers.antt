@@ -5,4 +5,5 @@ use Rattle.font_subset.proofs.kind_source.CutOfKind.form.Goals as goal
 
 pub returns : goal.returns
 returns g c =
-    form_of_held c.kind.result c.args.self.now c.file.result.now c.form_of_file.result (c.kind.ensures.kind ∙ ap (λ (v : Held). v.0) c.self.view_is) c.requires c.file.ensures.file c.form_of_file.ensures
+    form_of_held c.kind.result c.args.self.now c.file.result.now c.form_of_file.result (c.kind.ensures.kind
+    ∙ ap (λ (v : Held). v.0) c.self.view_is) c.requires c.file.ensures.file c.form_of_file.ensures

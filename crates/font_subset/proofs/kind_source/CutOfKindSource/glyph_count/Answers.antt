@@ -1,5 +1,5 @@
 use Rattle.std.proofs.Common.{◌≡◌, ◌∙◌, sym, subst}
-use Rattle.font_subset.specs.Content.{written_of}
+use Rattle.font_subset.specs.KeptGlyphs.{written_of}
 use Rattle.font_theory.specs.Content.{glyph_count}
 use Rattle.font_subset.proofs.KindSourceLemmas.{in_count}
 use Rattle.font_subset.proofs.SourceLemmas.{Held}

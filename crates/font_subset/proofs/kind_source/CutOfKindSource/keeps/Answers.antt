@@ -1,5 +1,5 @@
 use Rattle.std.proofs.Common.{◌≡◌, ◌∙◌, sym, subst}
-use Rattle.font_subset.specs.Content.{written_of}
+use Rattle.font_subset.specs.KeptGlyphs.{written_of}
 use Rattle.std.specs.Option.{is_some}
 use Rattle.font_subset.proofs.KindSourceLemmas.{in_keeps}
 use Rattle.font_subset.proofs.SourceLemmas.{Held}

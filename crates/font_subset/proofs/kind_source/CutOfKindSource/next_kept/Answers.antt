@@ -1,7 +1,7 @@
 use Rattle.std.proofs.Common.{ℕ, ◌≤◌, subst, sym}
 use Rattle.font_theory.specs.Content.{glyph_count}
 use Rattle.font_write.specs.Parts.{IsNextKept}
-use Rattle.font_subset.specs.Content.{written_of}
+use Rattle.font_subset.specs.KeptGlyphs.{written_of}
 use Rattle.font_subset.proofs.KindSourceLemmas.{in_count, in_next}
 use Rattle.font_subset.proofs.SourceLemmas.{Held}
 use Rattle.font_subset.proofs.kind_source.CutOfKindSource.next_kept.Goals as goal

@@ -7,7 +7,8 @@ use Rattle.font_subset.proofs.selection.Charted.runs.Given as goal
 
 abbrev pub invariant-loop-ahead : goal.invariant-loop-ahead
 invariant-loop-ahead g l = record {
-  done : l.runs.items ++ groups_from (restricted everything (map_of l.self)) l.from ≡ groups_from (restricted everything (map_of l.self)) 0;
+  done : l.runs.items ++ groups_from (restricted everything (map_of l.self)) l.from
+      ≡ groups_from (restricted everything (map_of l.self)) 0;
   next : IsNext (restricted everything (map_of l.self)) l.from l.ahead;
 }
 

@@ -5,4 +5,5 @@ use Rattle.font_subset.proofs.selection.Selection.file.Goals as goal
 
 pub returns-clause-small : goal.returns-clause-small
 returns-clause-small g c =
-    subst (λ (b : List ℕ). length b ≤ MAX_FILE) (sym (c.file.ensures.file ∙ c.directory.ensures.directory ∙ c.tables.ensures.tables)) (size-accepted c.font.result.now c.tables.ensures.sound)
+    subst (λ (b : List ℕ). length b ≤ MAX_FILE) (sym (c.file.ensures.file ∙ c.directory.ensures.directory
+    ∙ c.tables.ensures.tables)) (size-accepted c.font.result.now c.tables.ensures.sound)

@@ -13,6 +13,7 @@ returns-in-Err g c =
       fixed = refl;
       count = c.in-Err.ensures.prefix.counts;
       taken = c.in-Err.ensures.prefix.appends;
-      shown = front_appended (g.W.Write.contents (writer_of c.args.self.now)) (g.W.Write.contents (writer_of c.put.new.self)) sent c.args.bytes.now c.in-Err.ensures.prefix.appends;
+      shown = front_appended (g.W.Write.contents (writer_of c.args.self.now))
+          (g.W.Write.contents (writer_of c.put.new.self)) sent c.args.bytes.now c.in-Err.ensures.prefix.appends;
       stopped = c.in-Err.ensures.broken;
     }

@@ -15,7 +15,8 @@ returns-in_err-entry c = grind (arith, common_steps)
 pub slice_bounds-result-end : goal.slice_bounds-result-end
 slice_bounds-result-end c =
     let file = c.self.inside.file.now in
-    let fault : layout_directory_fault file ≡ None = subst (λ (f : List ℕ). layout_directory_fault f ≡ None) (sym c.self.view_is) c.requires.inside in
+    let fault : layout_directory_fault file ≡ None =
+    subst (λ (f : List ℕ). layout_directory_fault f ≡ None) (sym c.self.view_is) c.requires.inside in
     let inside = layout_not_outside file c.args.slot fault c.requires.from c.requires.to in
     let entry = ap (table_entry file) (sym c.tag_of.ensures) ∙ sym c.find_entry.ensures ∙ c.in_ok-entry.was in
     let within = table_is_within file _ c.in_ok-entry.entry inside entry in

@@ -9,7 +9,8 @@ abbrev pub invariant-loop-finding : goal.invariant-loop-finding
 invariant-loop-finding l = let now = l.self-inside in let old = l.initial.self-inside in
     let after = when (is_wrong_at old.sums old.adjustment) FileSum in
     record {
-      left : findings_left now.sums now.pending now.records after ≡ findings_left old.sums old.pending old.records after;
+      left : findings_left now.sums now.pending now.records after ≡ findings_left old.sums old.pending old.records
+          after;
       file : now.sums ≡ old.sums;
       adjustment : now.adjustment ≡ old.adjustment;
     }

@@ -1,4 +1,5 @@
-use Rattle.std.proofs.Common.{◌≡◌, ℕ, ◌+◌, ◌-◌, ◌≤◌, List, ◌++◌, Option, length, take, drop, arith, rules, sym, ap, subst, ◌∙◌, length-take-le, length-drop, length-take}
+use Rattle.std.proofs.Common.{◌≡◌, ℕ, ◌+◌, ◌-◌, ◌≤◌, List, ◌++◌, Option, length, take, drop, arith, rules, sym, ap}
+use Rattle.std.proofs.Common.{subst, ◌∙◌, length-take-le, length-drop, length-take}
 use Rattle.std.specs.Io.KnownBytes.{Appends}
 use Rattle.std.proofs.KnownBytes.{Appends-trans}
 use lib.Seq.{take-add, take-take}
@@ -22,8 +23,9 @@ loop-at-preserved g c =
       fits,
       c.loop-at.invariant.1,
       omega (arith, c.loop-at.invariant.2),
+      c.loop-at.invariant.3,
       record {
-        appends = next_part _ _ _ xs at n within c.loop-at.invariant.3.appends c.in-Ok.ensures.bytes;
+        appends = next_part _ _ _ xs at n within c.loop-at.invariant.4.appends c.in-Ok.ensures.bytes;
         counts = omega (arith, c.loop-at.invariant.2, length-take-le (at + n) xs fits);
       },
     )

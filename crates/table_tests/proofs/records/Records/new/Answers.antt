@@ -11,9 +11,14 @@ returns-then-is_err-clause-good c = (
   λ e. cc,
   λ h.
       let l : c.loop-g.g < length c.args.records.items = search rules in
-      let n : length (bytes_of c.args.records.items) ≡ c.len-count.result = length-bytes_of c.args.records.items ∙ search rules in
-      let v : c.as_slice.result.now ≡ record_in (bytes_of c.args.records.items) c.loop-g.g = c.as_slice.ensures.value ∙ record_in-read _ _ _ l c.index.ensures in
-      let k : IsOk c.check_record.result = c.check_record.ensures.exact.1 (subst (IsRecord c.len-count.result) (sym v) (subst (λ (m : ℕ). IsRecord m (record_in (bytes_of c.args.records.items) c.loop-g.g)) n (h.1 c.loop-g.g (omega (arith, n, l, length-bytes_of c.args.records.items))))) in
+      let n : length (bytes_of c.args.records.items) ≡ c.len-count.result = length-bytes_of c.args.records.items
+      ∙ search rules in
+      let v : c.as_slice.result.now ≡ record_in (bytes_of c.args.records.items) c.loop-g.g = c.as_slice.ensures.value
+      ∙ record_in-read _ _ _ l c.index.ensures in
+      let k : IsOk c.check_record.result =
+      c.check_record.ensures.exact.1 (subst (IsRecord c.len-count.result) (sym v)
+      (subst (λ (m : ℕ). IsRecord m (record_in (bytes_of c.args.records.items) c.loop-g.g)) n
+      (h.1 c.loop-g.g (omega (arith, n, l, length-bytes_of c.args.records.items))))) in
       let b : is_ok c.check_record.result ≡ false = c.is_err.ensures.negation ∙ ap not c.if-is_err.true in
       sym b ∙ k,
 )
@@ -21,13 +26,19 @@ returns-then-is_err-clause-good c = (
 pub loop-g-preserved : goal.loop-g-preserved
 loop-g-preserved c =
     let l : c.loop-g.g < length c.args.records.items = search rules in
-    let v : c.as_slice.result.now ≡ record_in (bytes_of c.args.records.items) c.loop-g.g = c.as_slice.ensures.value ∙ record_in-read _ _ _ l c.index.ensures in
-    below_more _ _ c.loop-g.invariant (subst (IsRecord c.len-count.result) v (c.check_record.ensures.exact.0 (c.is_err.ensures.negation ∙ ap not c.if-is_err.false)))
+    let v : c.as_slice.result.now ≡ record_in (bytes_of c.args.records.items) c.loop-g.g = c.as_slice.ensures.value
+    ∙ record_in-read _ _ _ l c.index.ensures in
+    below_more _ _ c.loop-g.invariant (subst (IsRecord c.len-count.result) v
+    (c.check_record.ensures.exact.0 (c.is_err.ensures.negation ∙ ap not c.if-is_err.false)))
 
 pub invariant_of-result : goal.invariant_of-result
 invariant_of-result c =
-    let n : length (bytes_of c.args.records.items) ≡ c.len-count.result = length-bytes_of c.args.records.items ∙ search rules in
-    (omega (arith, n), λ g l. subst (λ (m : ℕ). IsRecord m (record_in (bytes_of c.args.records.items) g)) (sym n) (c.loop-g.invariant g (omega (arith, n, l))))
+    let n : length (bytes_of c.args.records.items) ≡ c.len-count.result = length-bytes_of c.args.records.items
+    ∙ search rules in (
+      omega (arith, n),
+      λ g l. subst (λ (m : ℕ). IsRecord m (record_in (bytes_of c.args.records.items) g)) (sym n)
+          (c.loop-g.invariant g (omega (arith, n, l))),
+    )
 
 pub returns-clause-good : goal.returns-clause-good
 returns-clause-good c = (λ e. invariant_of-result c, λ h. refl)

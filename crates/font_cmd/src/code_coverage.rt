@@ -1,0 +1,306 @@
+//! What `--report` says of a font: the wanted codes that it lacks, and the tables that a cut of it drops.
+use crate::choice::Kept;
+use crate::shaped_scripts::shaped_scripts;
+use crate::shown::shown_character;
+use font_cut::{CODES, Chart, CutOfKind, Font, FontOfKind, Kind, OpenError, Source, Tag, Wanted};
+use std::alloc::{AllocError, Global};
+use wanted_characters::{CodeSet, count_of};
+
+// How many ranges of codes are listed.
+const LISTED: usize = 20;
+
+// What lean and layout cuts leave out.
+const LEAN_LINES: &str = "without metrics of glyphs that are not kept\nwithout names of glyphs\n";
+
+// What is said first where a strict line is not done.
+const UNWRITTEN: &str = "fontcut: nothing was written: the font lacks wanted codes\n";
+
+const NONE_MAPPED: &str = "fontcut: nothing was written: the font maps none of the wanted codes\n";
+
+const NONE_WANTED: &str = "fontcut: nothing was written: no codes are wanted\n";
+
+// Room for the last lines, which are written after the cut is.
+const LAST_LINES: &str = "linked 65535\ncut 134217728 bytes\n";
+
+// What is said of scripts that are shaped, after their names.
+const WHAT_KEEPS: &str = "--layout keeps what that needs";
+
+/// What is said of a font and of the codes that are wanted of it.
+#[derive(Drop)]
+pub(crate) struct Coverage {
+    text: String,
+    // How many codes are wanted, and how many of these the font does not map.
+    wanted: u32,
+    lacking: u32,
+    // A line that names the scripts that the font shapes and a cut of the kind does not, where there are such.
+    note: Option<String>,
+}
+
+/// Returns the codes that a font maps.
+///
+/// # Errors
+/// `AllocError` where memory is refused.
+pub(crate) fn mapped_codes(alloc: Global, font: &Font<'_>) -> Result<CodeSet, AllocError> {
+    let mut codes = CodeSet::new(alloc);
+    let Ok(chart) = Chart::of(alloc, font.mapping()) else {
+        return Err(AllocError);
+    };
+    let mut from: u32 = 0;
+    // No map has more runs than there are code points.
+    for _ in 0..CODES {
+        let Some(run) = chart.next_run(from) else {
+            break;
+        };
+        codes.add_range(run.first, run.last)?;
+        from = run.last.saturating_add(1);
+    }
+    Ok(codes)
+}
+
+// Returns the names of the scripts of wanted codes that a font shapes, and a cut of a kind does not. `unmapped` are
+// those that the font does not map.
+fn lost_scripts(
+    alloc: Global,
+    font: &Font<'_>,
+    kind: Kind,
+    wanted: &CodeSet,
+    unmapped: &CodeSet,
+) -> Result<String, AllocError> {
+    if kind == Kind::Layout {
+        return Ok(String::new(alloc));
+    }
+    let ranges = wanted.without(alloc, unmapped)?.ranges(alloc)?;
+    shaped_scripts(alloc, font, &ranges)
+}
+
+// Returns the number of the codes of a set.
+fn code_count(alloc: Global, codes: &CodeSet) -> Result<u32, AllocError> {
+    Ok(count_of(&codes.ranges(alloc)?))
+}
+
+// Returns how many of the codes that are kept besides those that are wanted a font maps.
+fn added_count(
+    alloc: Global,
+    mapped: &CodeSet,
+    wanted: &CodeSet,
+    added: &CodeSet,
+) -> Result<u32, AllocError> {
+    if added.is_empty() {
+        return Ok(0);
+    }
+    let beyond = added.without(alloc, wanted)?;
+    let lacking = beyond.without(alloc, mapped)?;
+    Ok(code_count(alloc, &beyond)?.saturating_sub(code_count(alloc, &lacking)?))
+}
+
+// Returns the lines that say how many codes are wanted, how many of them are mapped, and how many mapped ones are kept
+// besides, if any are.
+fn first_lines(alloc: Global, wanted: u32, lacking: u32, added: u32) -> Result<String, AllocError> {
+    let mapped = wanted.saturating_sub(lacking);
+    let mut text = format!(in alloc; "wanted {wanted}\nmapped {mapped}\n")?;
+    if added != 0 {
+        write!(text, "added {added}\n")?;
+    }
+    Ok(text)
+}
+
+// Adds the characters of the first and the last code of a range, where both can be shown.
+fn add_characters(text: &mut String, first: u32, last: u32) -> Result<(), AllocError> {
+    match (shown_character(first), shown_character(last)) {
+        (Some(character), Some(_)) if first == last => write!(text, " {character}")?,
+        (Some(from), Some(to)) => write!(text, " {from}-{to}")?,
+        _ => {}
+    }
+    Ok(())
+}
+
+// Adds a line for each range of codes, up to some number, and one that says how many more there are.
+fn add_ranges(
+    text: &mut String,
+    ranges: &[(u32, u32)],
+    shows_characters: bool,
+) -> Result<(), AllocError> {
+    for &(first, last) in ranges.iter().take(LISTED) {
+        write!(text, "unmapped U+{first:X}")?;
+        if first != last {
+            write!(text, "-{last:X}")?;
+        }
+        if shows_characters {
+            add_characters(text, first, last)?;
+        }
+        text.push('\n')?;
+    }
+    let more = ranges.len().saturating_sub(LISTED);
+    if more > 0 {
+        write!(text, "unmapped {more} more ranges\n")?;
+    }
+    Ok(())
+}
+
+// Adds how many codes are not mapped where their ranges are many, and their ranges unless all codes are wanted.
+fn add_unmapped(
+    text: &mut String,
+    ranges: &[(u32, u32)],
+    is_of_all: bool,
+    shows_characters: bool,
+) -> Result<(), AllocError> {
+    if LISTED < ranges.len() || is_of_all {
+        let count = count_of(ranges);
+        write!(text, "unmapped {count} codes\n")?;
+    }
+    if is_of_all {
+        return Ok(());
+    }
+    add_ranges(text, ranges, shows_characters)
+}
+
+/// Returns whether a table is one of layout.
+pub(crate) fn is_of_layout(tag: Tag) -> bool {
+    matches!(&tag.0, b"BASE" | b"GDEF" | b"GPOS" | b"GSUB" | b"kern")
+}
+
+// Adds a line for each table that a cut of a kind drops, or keeps beside those of every cut, and one for the bytes
+// of the file.
+fn add_font(text: &mut String, kind: Kind, font: &Font<'_>) -> Result<(), AllocError> {
+    let directory = font.tables().directory();
+    for entry in directory.dropped() {
+        let (tag, length) = (entry.tag, entry.length);
+        if kind == Kind::Layout && is_of_layout(tag) {
+            write!(text, "kept {tag} {length}\n")?;
+        } else {
+            write!(text, "dropped {tag} {length}\n")?;
+        }
+    }
+    let size = directory.file().len();
+    write!(text, "font {size} bytes\n")?;
+    Ok(())
+}
+
+// Adds a line that names scripts that the font shapes and a cut does not, and returns one for messages, where there are
+// such scripts.
+fn add_shaped(
+    alloc: Global,
+    text: &mut String,
+    shaped: &str,
+) -> Result<Option<String>, AllocError> {
+    if shaped.is_empty() {
+        return Ok(None);
+    }
+    write!(text, "shapes {shaped}: {WHAT_KEEPS}\n")?;
+    let note = format!(in alloc; "fontcut: the font shapes {shaped}: {WHAT_KEEPS}\n")?;
+    Ok(Some(note))
+}
+
+// Returns how many glyphs one cut keeps and another does not.
+fn count_more(more: &CutOfKind<'_, '_>, less: &CutOfKind<'_, '_>) -> usize {
+    (0..more.glyph_count())
+        .filter(|&glyph| more.keeps(glyph) && !less.keeps(glyph))
+        .count()
+}
+
+/// Returns how many glyphs a layout cut keeps that the lean cut for the same codes does not: what GSUB puts for those
+/// of wanted codes, and what this is made of. There is no number where the font is refused for layout cuts.
+///
+/// # Errors
+/// `AllocError` where memory is refused.
+pub(crate) fn linked_count(
+    alloc: Global,
+    font: &Font<'_>,
+    wanted: &Wanted,
+) -> Result<Option<usize>, AllocError> {
+    let opened = match FontOfKind::open(alloc, Kind::Layout, font) {
+        Ok(opened) => opened,
+        Err(OpenError::NoMemory) => return Err(AllocError),
+        Err(OpenError::Refused(_)) => return Ok(None),
+    };
+    let lean = FontOfKind::lean(font);
+    let (Ok(more), Ok(less)) = (
+        CutOfKind::new(alloc, &opened, Some(wanted)),
+        CutOfKind::new(alloc, &lean, Some(wanted)),
+    ) else {
+        return Err(AllocError);
+    };
+    Ok(Some(count_more(&more, &less)))
+}
+
+impl Coverage {
+    /// Returns what is said of a font and of the codes that are wanted and added, with the characters of those that
+    /// it lacks of the wanted ones where they are to be shown, and of the tables that a cut of a kind drops. All
+    /// memory that it needs is asked for here.
+    pub(crate) fn of(
+        alloc: Global,
+        font: &Font<'_>,
+        kept: &Kept,
+        kind: Kind,
+        shows_characters: bool,
+    ) -> Result<Coverage, AllocError> {
+        let wanted = &kept.wanted;
+        let mapped = mapped_codes(alloc, font)?;
+        let lacked = wanted.without(alloc, &mapped)?;
+        let shaped = lost_scripts(alloc, font, kind, wanted, &lacked)?;
+        let unmapped = lacked.ranges(alloc)?;
+        let (count, lacking) = (code_count(alloc, wanted)?, count_of(&unmapped));
+        let added = added_count(alloc, &mapped, wanted, &kept.added)?;
+        let mut text = first_lines(alloc, count, lacking, added)?;
+        add_unmapped(&mut text, &unmapped, count == CODES, shows_characters)?;
+        add_font(&mut text, kind, font)?;
+        let note = add_shaped(alloc, &mut text, shaped.as_str())?;
+        text.reserve(LEAN_LINES.len() + LAST_LINES.len())?;
+        Ok(Coverage {
+            text,
+            wanted: count,
+            lacking,
+            note,
+        })
+    }
+
+    /// Returns whether a code is wanted, and the font maps each that is.
+    pub(crate) fn is_whole(&self) -> bool {
+        self.wanted != 0 && self.lacking == 0
+    }
+
+    // Returns the line that says that nothing was written, and why.
+    fn unwritten_line(&self) -> &'static str {
+        if self.wanted == 0 {
+            NONE_WANTED
+        } else if self.wanted == self.lacking {
+            NONE_MAPPED
+        } else {
+            UNWRITTEN
+        }
+    }
+
+    /// Returns a line that says that nothing was written, and the other lines.
+    ///
+    /// # Errors
+    /// `AllocError` where memory is refused.
+    pub(crate) fn unwritten_text(self, alloc: Global) -> Result<String, AllocError> {
+        let mut text = String::from_str(alloc, self.unwritten_line())?;
+        text.push_str(self.text.as_str())?;
+        Ok(text)
+    }
+
+    /// Returns a line that names the scripts that the font shapes and a cut of the kind does not, where there are
+    /// such.
+    pub(crate) fn into_note(self) -> Option<String> {
+        self.note
+    }
+
+    /// Returns the lines, those for what a cut of a kind leaves out, one for the glyphs to which links lead where
+    /// they are counted, and one for the bytes of the cut.
+    pub(crate) fn with_cut(
+        mut self,
+        kind: Kind,
+        linked: Option<usize>,
+        size: u64,
+    ) -> Result<String, AllocError> {
+        if kind != Kind::Full {
+            self.text.push_str(LEAN_LINES)?;
+        }
+        if let Some(count) = linked {
+            write!(self.text, "linked {count}\n")?;
+        }
+        write!(self.text, "cut {size} bytes\n")?;
+        Ok(self.text)
+    }
+}

@@ -1,0 +1,6 @@
+pub mod Gvar
+pub mod Inside
+pub mod Laws
+pub mod MadeGvar
+pub mod Text
+pub mod WorkedGvar

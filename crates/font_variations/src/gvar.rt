@@ -1,0 +1,342 @@
+//! What is refused of a `gvar`, and what it has. OpenType 1.9, gvar: Glyph Variations Table.
+ghost use Rattle.std.specs.Prelude.{◌≡◌, drop, ◌+◌, ◌*◌, ◌<◌, ◌≤◌, ◌↔◌, nat_lt, ◌||◌, IfOk, IsOk, Some, false, length};
+ghost use Rattle.std.specs.Option.{option_copied};
+ghost use Rattle.font_tables.specs.OpenedTables.{falls};
+ghost use Rattle.font_tables.specs.Outlines.{offset_at, offset_size, outline_in};
+ghost use Rattle.font_variations.specs.Gvar.{IsAccepted, data_array_offset, data_of, end_of_offsets, front_of, has_bad_tuples, has_falling_offset, is_bad_variations, leads_past_end, offset_form, shared_tuples_length, shared_tuples_of, shared_tuples_offset};
+ghost use Rattle.font_variations.specs.Inside.{HasData, HasSharedTuples, has_bad_header};
+ghost use Rattle.font_variations.specs.Text.{bad_variations_text};
+ghost use Rattle.font_tables.specs.declared.loca.LocaForm.TheVariants.{Short, Long};
+
+use font_tables::LocaForm;
+use sfnt_bytes::{be16, be32};
+use std::error::Error;
+use std::fmt;
+use std::marker::Model;
+
+/// How many bytes the header has, and where the offsets begin.
+const HEADER: usize = 20;
+
+/// How many bytes of `fvar` are there, or more: up to `axisCount`, and that.
+const FVAR: usize = 10;
+
+/// The version 1.0, as one number.
+const VERSION: u32 = 0x0001_0000;
+
+/// The table is cut off, of an unknown version or flags, for other axes than those of `fvar` or another number of
+/// glyphs, or its offsets do not lead in order to what lies within it.
+#[derive(Clone, Copy, Debug, PartialEq, Eq)]
+pub struct BadVariations;
+
+impl fmt::Display for BadVariations {
+    ghost output = { λ _. Some bad_variations_text };
+
+    fn fmt<W: fmt::Write>(&self, f: &mut fmt::Formatter<W>) -> fmt::Result {
+        f.write_str("bad variations")
+    }
+}
+
+impl Error for BadVariations {}
+
+// Returns whether the header is refused. A missing `fvar` is empty.
+#[tactic(auto, unfolding(crate::specs::Inside::has_bad_header, crate::specs::Gvar::gvar_version, crate::specs::Gvar::axis_count, crate::specs::Gvar::fvar_axis_count, crate::specs::Gvar::glyph_count, crate::specs::Gvar::flags))]
+fn has_bad_header(gvar: &[u8], fvar: &[u8], glyphs: u16) -> bool
+    ensures { result ≡ has_bad_header gvar.now (Some fvar.now) glyphs }
+{
+    gvar.len() < HEADER
+        || be32(gvar, 0) != VERSION
+        || fvar.len() < FVAR
+        || be16(gvar, 4) != be16(fvar, 8)
+        || be16(gvar, 12) != glyphs
+        || be16(gvar, 14) > 1
+}
+
+// Returns the form of the offsets.
+#[tactic(auto, unfolding(crate::specs::Gvar::flags))]
+fn read_form(gvar: &[u8]) -> LocaForm
+    requires { 20 ≤ length gvar.now }
+    ensures { result ≡ offset_form gvar.now }
+{
+    if be16(gvar, 14) == 0 {
+        LocaForm::Short
+    } else {
+        LocaForm::Long
+    }
+}
+
+// Returns how many bytes an offset has.
+fn size_of(form: LocaForm) -> usize
+    ensures size { result ≡ offset_size form }
+    ensures small { result ≤ 4 }
+{
+    match form {
+        LocaForm::Short => 2,
+        LocaForm::Long => 4,
+    }
+}
+
+// Returns offset `j`, in bytes from the start of the data.
+#[tactic(auto, unfolding(font_tables::specs::Outlines::offset_at))]
+fn read_offset(form: LocaForm, offsets: &[u8], j: usize) -> usize
+    requires { offset_size form * (j + 1) ≤ length offsets.now }
+    ensures { result ≡ offset_at form offsets.now j }
+{
+    match form {
+        LocaForm::Short => 2 * be16(offsets, 2 * j) as usize,
+        LocaForm::Long => be32(offsets, 4 * j) as usize,
+    }
+}
+
+// Returns whether a short offset up to the last one is below the one before it. The loop does not end early and knows
+// its form, so that the compiler can read many offsets at once.
+#[tactic(auto, using(font_tables::proofs::OffsetLemmas::offset_is_whole, font_tables::proofs::OffsetLemmas::falls_none, font_tables::proofs::OffsetLemmas::falls_more))]
+fn short_offset_falls(offsets: &[u8], last: usize) -> bool
+    requires { offset_size LocaForm.Short * (last + 1) ≤ length offsets.now }
+    ensures { result ≡ falls LocaForm.Short offsets.now last }
+{
+    let mut found = false;
+    for j in 0..last {
+        found |= read_offset(LocaForm::Short, offsets, j + 1)
+            < read_offset(LocaForm::Short, offsets, j);
+    }
+    found
+}
+
+// Returns the same of long offsets.
+#[tactic(auto, using(font_tables::proofs::OffsetLemmas::offset_is_whole, font_tables::proofs::OffsetLemmas::falls_none, font_tables::proofs::OffsetLemmas::falls_more))]
+fn long_offset_falls(offsets: &[u8], last: usize) -> bool
+    requires { offset_size LocaForm.Long * (last + 1) ≤ length offsets.now }
+    ensures { result ≡ falls LocaForm.Long offsets.now last }
+{
+    let mut found = false;
+    for j in 0..last {
+        found |= read_offset(LocaForm::Long, offsets, j + 1)
+            < read_offset(LocaForm::Long, offsets, j);
+    }
+    found
+}
+
+fn has_fall(form: LocaForm, offsets: &[u8], last: usize) -> bool
+    requires { offset_size form * (last + 1) ≤ length offsets.now }
+    ensures { result ≡ falls form offsets.now last }
+{
+    match form {
+        LocaForm::Short => short_offset_falls(offsets, last),
+        LocaForm::Long => long_offset_falls(offsets, last),
+    }
+}
+
+// Returns how many bytes the shared tuples have.
+#[tactic(auto, unfolding(crate::specs::Gvar::axis_count, crate::specs::Gvar::shared_tuple_count))]
+fn read_shared_length(gvar: &[u8]) -> usize
+    requires { 20 ≤ length gvar.now }
+    ensures { result ≡ shared_tuples_length gvar.now }
+{
+    2 * be16(gvar, 4) as usize * be16(gvar, 6) as usize
+}
+
+// Returns where the shared tuples begin.
+#[tactic(auto, unfolding(crate::specs::Gvar::shared_tuples_offset))]
+fn read_shared_offset(gvar: &[u8]) -> usize
+    requires { 20 ≤ length gvar.now }
+    ensures { result ≡ shared_tuples_offset gvar.now }
+{
+    be32(gvar, 8) as usize
+}
+
+// Returns where the data of glyphs begin.
+#[tactic(auto, unfolding(crate::specs::Gvar::data_array_offset))]
+fn read_data_array_offset(gvar: &[u8]) -> usize
+    requires { 20 ≤ length gvar.now }
+    ensures { result ≡ data_array_offset gvar.now }
+{
+    be32(gvar, 16) as usize
+}
+
+// Returns all bytes from a place on.
+fn rest_from(gvar: &[u8], at: usize) -> &[u8]
+    requires { at ≤ length gvar.now }
+    ensures { result.now ≡ drop at gvar.now }
+{
+    &gvar[at..]
+}
+
+// Returns whether so many bytes from a place on end past so many.
+fn ends_past(all: usize, at: usize, bytes: usize) -> bool
+    ensures { result ≡ nat_lt all (at + bytes) }
+{
+    all < at || all - at < bytes
+}
+
+// Returns whether the shared tuples are refused.
+#[tactic(auto, unfolding(crate::specs::Gvar::has_bad_tuples, crate::specs::Gvar::shared_tuple_count))]
+fn has_bad_tuples(gvar: &[u8], end_of_offsets: usize) -> bool
+    requires header { 20 ≤ length gvar.now }
+    ensures { result ≡ has_bad_tuples gvar.now end_of_offsets }
+{
+    if be16(gvar, 6) == 0 {
+        return false;
+    }
+    let at = read_shared_offset(gvar);
+    at < end_of_offsets || ends_past(gvar.len(), at, read_shared_length(gvar))
+}
+
+// Returns the first 8 bytes.
+#[tactic(auto, unfolding(crate::specs::Gvar::front_of))]
+fn front_within(gvar: &[u8]) -> &[u8]
+    requires { 20 ≤ length gvar.now }
+    ensures front { result.now ≡ front_of gvar.now }
+    ensures size { length result.now ≡ 8 }
+{
+    &gvar[..8]
+}
+
+// Returns the shared tuples.
+#[tactic(auto, unfolding(crate::specs::Gvar::shared_tuples_of))]
+fn shared_tuples_within<'a>(gvar: &'a [u8]) -> &'a [u8]
+    requires header { 20 ≤ length gvar.now }
+    requires whole { HasSharedTuples gvar.now }
+    ensures { result.now ≡ shared_tuples_of gvar.now }
+{
+    let bytes = read_shared_length(gvar);
+    if bytes == 0 {
+        return &[];
+    }
+    let at = read_shared_offset(gvar);
+    &gvar[at..at + bytes]
+}
+
+// Returns the data of a glyph.
+fn data_within<'a>(form: LocaForm, offsets: &[u8], array: &'a [u8], g: usize) -> &'a [u8]
+    requires { HasData form offsets.now array.now g }
+    ensures { result.now ≡ outline_in form offsets.now array.now g }
+{
+    let start = read_offset(form, offsets, g);
+    let end = read_offset(form, offsets, g + 1);
+    &array[start..end]
+}
+
+// Returns whether an offset falls, or the last one leads past the end of the table.
+#[tactic(auto, using(crate::proofs::FallLemmas::falls_is_any))]
+fn has_bad_offsets(gvar: &[u8], form: LocaForm, glyphs: u16) -> bool
+    requires header { 20 ≤ length gvar.now }
+    requires form { form ≡ offset_form gvar.now }
+    requires whole { end_of_offsets gvar.now glyphs ≤ length gvar.now }
+    ensures { result ≡ (has_falling_offset gvar.now glyphs || leads_past_end gvar.now glyphs) }
+{
+    let offsets = rest_from(gvar, HEADER);
+    let last = glyphs as usize;
+    has_fall(form, offsets, last)
+        || ends_past(
+            gvar.len(),
+            read_data_array_offset(gvar),
+            read_offset(form, offsets, last),
+        )
+}
+
+// Returns whether the table is refused. A missing `fvar` is empty.
+#[tactic(auto, unfolding(crate::specs::Gvar::is_bad_variations, crate::specs::Inside::has_bad_header))]
+fn is_bad_table(gvar: &[u8], fvar: &[u8], glyphs: u16) -> bool
+    ensures { result ≡ is_bad_variations gvar.now (Some fvar.now) glyphs }
+{
+    if has_bad_header(gvar, fvar, glyphs) {
+        return true;
+    }
+    let form = read_form(gvar);
+    let end = HEADER + size_of(form) * (glyphs as usize + 1);
+    gvar.len() < end || has_bad_tuples(gvar, end) || has_bad_offsets(gvar, form, glyphs)
+}
+
+/// A `gvar` that is accepted: the variation data of each glyph.
+///
+/// Nothing is read of the data themselves, nor of the shared tuples. The first offset may be another one than 0, and
+/// data may stand over the offsets or the shared tuples.
+#[derive(Drop)]
+pub struct Variations<'a> {
+    gvar: &'a [u8],
+    // What begins with the offsets, and what begins with the data.
+    offsets: &'a [u8],
+    array: &'a [u8],
+    shared: &'a [u8],
+    form: LocaForm,
+    glyphs: u16,
+}
+
+// Its value is the bytes of the table, and the number of glyphs.
+impl<'a> Model for Variations<'a> {
+    ghost use Rattle.std.specs.Prelude.{ℕ, List};
+    ghost use Rattle.font_variations.specs.Inside.{IsOpenedGvar};
+
+    ghost Value = { List ℕ × ℕ };
+
+    ghost view = { λ v. (v.gvar.now, v.glyphs) };
+
+    ghost invariant = { λ v. IsOpenedGvar v.gvar.now v.offsets.now v.array.now v.shared.now v.form v.glyphs };
+}
+
+impl<'a> Variations<'a> {
+    /// Opens a `gvar`, of which `axisCount` is compared with that of `fvar`, and `glyphCount` with a number of glyphs.
+    /// It asks for no memory, and passes once over the offsets.
+    ///
+    /// # Errors
+    ///
+    /// [`BadVariations`] where the table is refused.
+    #[tactic(auto, unfolding(crate::specs::Gvar::is_bad_variations), using(crate::proofs::GvarLemmas::has_header, crate::proofs::GvarLemmas::has_array))]
+    pub fn open(
+        gvar: &'a [u8],
+        fvar: Option<&'a [u8]>,
+        glyphs: u16,
+    ) -> Result<Variations<'a>, BadVariations>
+        ensures exact { IsOk result ↔ is_bad_variations gvar.now (option_copied fvar.entry) glyphs ≡ false }
+        ensures value { IfOk result (λ variations. variations ≡ (gvar.now, glyphs)) }
+    {
+        if is_bad_table(gvar, fvar.unwrap_or(&[]), glyphs) {
+            return Err(BadVariations);
+        }
+        Ok(Variations {
+            gvar,
+            offsets: rest_from(gvar, HEADER),
+            array: rest_from(gvar, read_data_array_offset(gvar)),
+            shared: shared_tuples_within(gvar),
+            form: read_form(gvar),
+            glyphs,
+        })
+    }
+
+    /// Returns the number of glyphs, which is `glyphCount`.
+    pub fn glyph_count(&self) -> u16
+        ensures count { result ≡ self.now.1 }
+
+        // Keeps the fact that `open` proved.
+        ensures sound { IsAccepted self.now.0 self.now.1 }
+    {
+        self.glyphs
+    }
+
+    /// Returns the first 8 bytes of the table: its version, `axisCount` and `sharedTupleCount`.
+    pub fn front(&self) -> &'a [u8]
+        ensures front { result.now ≡ front_of self.now.0 }
+        ensures size { length result.now ≡ 8 }
+        ensures sound { IsAccepted self.now.0 self.now.1 }
+    {
+        front_within(self.gvar)
+    }
+
+    /// Returns the shared tuples: nothing where `sharedTupleCount` is 0.
+    pub fn shared_tuples(&self) -> &'a [u8]
+        ensures tuples { result.now ≡ shared_tuples_of self.now.0 }
+        ensures sound { IsAccepted self.now.0 self.now.1 }
+    {
+        self.shared
+    }
+
+    /// Returns the GlyphVariationData of a glyph, as it stands: nothing where it does not vary.
+    #[tactic(auto, unfolding(crate::specs::Gvar::data_of))]
+    pub fn data(&self, g: u16) -> &'a [u8]
+        requires { g < self.now.1 }
+        ensures data { result.now ≡ data_of self.now.0 g }
+        ensures sound { IsAccepted self.now.0 self.now.1 }
+    {
+        data_within(self.form, self.offsets, self.array, g as usize)
+    }
+}

@@ -1,6 +1,0 @@
-use Rattle.fontcut_c.specs.Glyphs.{AreGlyphsTo}
-use Rattle.fontcut_c.proofs.metrics.first_no_glyph.Given as goal
-
--- each number so far is a glyph
-abbrev pub invariant-loop-index : goal.invariant-loop-index
-invariant-loop-index l = AreGlyphsTo l.font l.glyphs l.index

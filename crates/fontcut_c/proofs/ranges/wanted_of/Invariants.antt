@@ -1,8 +1,0 @@
-use Rattle.std.proofs.Common.{◌≡◌, drop}
-use Rattle.codes.specs.Wanted.{member}
-use Rattle.fontcut_c.specs.Cutting.{wanted_by, with_ranges}
-use Rattle.fontcut_c.proofs.ranges.wanted_of.Given as goal
-
--- what is in the set, and the ranges that are left, give the codes of all
-abbrev pub invariant-loop-range : goal.invariant-loop-range
-invariant-loop-range l = with_ranges (member l.wanted) (drop l.range-index l.ranges) ≡ wanted_by l.ranges

@@ -1,0 +1,13 @@
+//! Sets of wanted characters: what words of lists and texts in UTF-8 name, and what else a text needs. Safety alone is
+//! proved, and that each call returns: tests show the rest.
+#![tactic(auto)]
+
+mod code_set;
+mod listed_word;
+mod text_needs;
+mod utf8;
+
+pub use crate::code_set::{CodeSet, count_of};
+pub use crate::listed_word::{is_range_word, read_listed};
+pub use crate::text_needs::{TextNeeds, add_all_parts, add_texts};
+pub use crate::utf8::{NotUtf8, Utf8};
