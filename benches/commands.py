@@ -6,9 +6,9 @@ import re
 import resource
 import subprocess
 import sys
-from collections import namedtuple
+from typing import Iterator, NamedTuple
 
-from checks import DEJAVU, FONTCUT_WEB, TOP, held, skip
+from checks import DEJAVU, FONTCUT_WEB, TOP, read, skip
 from document_texts import document_lines
 from join_timing import SOURCE
 from measure import DEBIAN_PYTHON, need
@@ -17,11 +17,16 @@ BINDINGS = os.path.join(TOP, "bindings", "python")
 LETTER_FONT = f"{DEJAVU}/DejaVuSans.ttf"
 SLICES, LETTERS, RUNS = 100, 40, 5
 
-# One way to do something: the seconds of the processor, and the bytes of what it made.
-Way = namedtuple("Way", "name seconds size")
+
+class Way(NamedTuple):
+    """One way to do something: the seconds of the processor, and the bytes of what it made."""
+
+    name: str
+    seconds: float
+    size: int
 
 
-def seconds_of(*lines):
+def seconds_of(*lines: list[str]) -> float:
     """The processor's seconds that command lines take one after the other, each of which has to end well."""
     before = resource.getrusage(resource.RUSAGE_CHILDREN)
     for words in lines:
@@ -31,29 +36,29 @@ def seconds_of(*lines):
     return after.ru_utime + after.ru_stime - before.ru_utime - before.ru_stime
 
 
-def sizes_below(folder, ending):
+def sizes_below(folder: str, ending: str) -> int:
     """The bytes of all files of a folder with an ending."""
     return sum(os.path.getsize(os.path.join(folder, name)) for name in os.listdir(folder) if name.endswith(ending))
 
 
-def sliced(folder, count):
+def sliced(folder: str, count: int) -> Iterator[Way]:
     """Slices of the font as WOFF2, in each way."""
     site, other = f"{folder}/site", f"{folder}/other"
     os.mkdir(other)
     words = [DEBIAN_PYTHON, FONTCUT_WEB, "slice", SOURCE, "--out", site, "--slices", f"equal:{count}", "--css"]
     yield Way("`fontcut-web slice`", seconds_of([*words, "--woff2"]), sizes_below(site, ".woff2"))
-    ranges = re.findall(r"unicode-range: (.*);", held(f"{site}/fonts.css").decode())
+    ranges = re.findall(r"unicode-range: (.*);", read(f"{site}/fonts.css").decode())
     lines = [[DEBIAN_PYTHON, "-m", "fontTools.subset", SOURCE, f"--unicodes={one.replace(' ', '')}", "--flavor=woff2",
               f"--output-file={other}/{number}.woff2"] for number, one in enumerate(ranges)]
     yield Way("`pyftsubset`, a call a slice", seconds_of(*lines), sizes_below(other, ".woff2"))
     yield Way("`fontcut-web slice` without `--woff2`", seconds_of(words), sizes_below(site, ".ttf"))
 
 
-def letters(folder, count):
+def letters(folder: str, count: int) -> Iterator[str]:
     """Writes letters of a page each, whose fonts are lean cuts."""
     sys.path.insert(0, BINDINGS)
     pikepdf, fontcut, fontcut_pdf = map(importlib.import_module, ("pikepdf", "fontcut", "fontcut_pdf"))
-    font = held(LETTER_FONT)
+    font = read(LETTER_FONT)
     codes = {code for first, last in fontcut.codes(font) for code in range(first, last + 1)}
     for number, lines in enumerate(document_lines("letters", codes, count)):
         pdf = pikepdf.Pdf.new()
@@ -68,7 +73,7 @@ def letters(folder, count):
         yield path
 
 
-def merged(folder, count):
+def merged(folder: str, count: int) -> Iterator[Way]:
     """A merge of letters, in each way: the least of some runs."""
     paths, out = list(letters(folder, count)), f"{folder}/merged.pdf"
     ways = {"`fontcut-pdf merge`": [DEBIAN_PYTHON, f"{BINDINGS}/fontcut-pdf", "merge", "-o", out, *paths],
@@ -77,11 +82,11 @@ def merged(folder, count):
         yield Way(name, min(seconds_of(words) for _ in range(RUNS)), os.path.getsize(out))
 
 
-def measured(folder, library, is_quick):
+def measured(folder: str, library: str, is_quick: bool) -> dict[str, list[Way]]:
     """What was measured, by the name of its table. Where a package is not there, or in a quick run, that is left
     out."""
     os.environ["FONTCUT_LIBRARY"] = library
-    found = {"slices": [], "letters": []}
+    found: dict[str, list[Way]] = {"slices": [], "letters": []}
     if is_quick or not os.path.exists(SOURCE) or not is_there("import brotli, fontTools"):
         skip("slices of LXGW WenKai", "a quick run, or a package is not installed")
     else:
@@ -95,7 +100,7 @@ def measured(folder, library, is_quick):
     return found
 
 
-def is_there(line, program="true"):
+def is_there(line: str, program: str = "true") -> bool:
     """Whether Debian's Python runs a line, and a program is there."""
     lines = [DEBIAN_PYTHON, "-c", line], [program, "--version"]
     try:

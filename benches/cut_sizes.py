@@ -1,43 +1,54 @@
 """How long cuts are: as they are, by Brotli and as WOFF2, beside what other programs write for the same codes."""
 import os
-import re
 import subprocess
 import sys
-from collections import namedtuple
+from typing import NamedTuple, Sequence
 
-from checks import PROGRAM, run, skip
-from measure import DEBIAN_PYTHON, DROPPED, HB_SUBSET, fonts, need
+from checks import PROGRAM, found_in, run, skip
+from measure import DEBIAN_PYTHON, DROPPED, HB_SUBSET, Font, fonts, need
 
 SETS = "ASCII", "100 characters", "1,000 characters"
 WAYS = "cut", "lean cut", "hb-subset", "pyftsubset"
 
-# The lengths in bytes of a font for a set, by the name of the way that it was made; each a Packed.
-Sizes = namedtuple("Sizes", "font wanted made")
-Packed = namedtuple("Packed", "raw brotli woff2")
+
+class Packed(NamedTuple):
+    """The bytes of a file as it is, by Brotli and as WOFF2."""
+
+    raw: int
+    brotli: int
+    woff2: int
 
 
-def mapped_codes(font):
+class Sizes(NamedTuple):
+    """The lengths of a font for a set, by the name of the way that it was made."""
+
+    font: Font
+    wanted: str
+    made: dict[str, Packed]
+
+
+def mapped_codes(font: Font) -> list[int]:
     """The codes that a font maps, as `fontcut codes` prints them."""
-    codes = []
+    codes: list[int] = []
     for word in run(PROGRAM, "codes", font.path)[1].decode().split():
-        first, last = re.fullmatch(r"U\+([0-9A-F]+)(?:-([0-9A-F]+))?", word).groups()
+        first, last = found_in(word, r"^U\+([0-9A-F]+)(?:-([0-9A-F]+))?$").groups()
         codes += range(int(first, 16), int(last or first, 16) + 1)
     return codes
 
 
-def spread(codes, count):
+def spread(codes: Sequence[int], count: int) -> list[int]:
     """So many of the codes as are asked for, or all, evenly from the first to the last."""
     count = min(count, len(codes))
     return [codes[len(codes) * k // count] for k in range(count)]
 
 
-def wanted_codes(font):
+def wanted_codes(font: Font) -> dict[str, list[int]]:
     """The codes of each set."""
     codes = mapped_codes(font)
     return dict(zip(SETS, [list(range(0x20, 0x7F)), spread(codes, 100), spread(codes, 1000)]))
 
 
-def packed(path):
+def packed(path: str) -> Packed:
     """The length of a file as it is, by Brotli and as WOFF2. It is removed."""
     raw = os.path.getsize(path)
     brotli = len(subprocess.run(["brotli", "-q", "11", "-c", path], capture_output=True, check=True).stdout)
@@ -52,18 +63,18 @@ def packed(path):
 class Sizer:
     """Makes the files in a folder."""
 
-    def __init__(self, folder, wanted_ways):
+    def __init__(self, folder: str, wanted_ways: Sequence[str]) -> None:
         self.wanted_ways = wanted_ways
         self.codes, self.out = os.path.join(folder, "codes"), os.path.join(folder, "sized.ttf")
 
-    def ways(self, font):
+    def ways(self, font: Font) -> dict[str, list[str]]:
         """The words by which each program makes its file."""
         subset = [PROGRAM, "subset", font.path, self.out, "--codes-file", self.codes]
         others = ["--retain-gids", f"--unicodes-file={self.codes}", DROPPED, f"--output-file={self.out}"]
         return dict(zip(WAYS, [subset, [*subset, "--lean"], [HB_SUBSET, *others, font.path],
                                [DEBIAN_PYTHON, "-m", "fontTools.subset", font.path, *others]]))
 
-    def made(self, font, wanted, codes):
+    def made(self, font: Font, wanted: str, codes: Sequence[int]) -> Sizes:
         """What each way makes of a font for the codes of a set."""
         with open(self.codes, "w", encoding="ascii") as out:
             out.writelines(f"U+{code:X}\n" for code in codes)
@@ -71,10 +82,10 @@ class Sizer:
         ways = self.ways(font)
         for way in self.wanted_ways:
             try:
-                ran = subprocess.run(ways[way], stdin=subprocess.DEVNULL, capture_output=True, check=False)
+                is_made = not run(*ways[way], timeout=None)[0]
             except FileNotFoundError:
-                ran = None
-            if ran and ran.returncode == 0:
+                is_made = False
+            if is_made:
                 found[way] = packed(self.out)
             else:
                 skip(f"{font.name}, {wanted}: {way}", "it failed, or is not installed")
@@ -82,9 +93,10 @@ class Sizer:
         return Sizes(font, wanted, found)
 
 
-def measured(folder, is_quick):
+def measured(folder: str, is_quick: bool) -> list[Sizes]:
     """The lengths for each font and set; of a quick run without pyftsubset."""
-    sizer, rows = Sizer(folder, WAYS[:-1] if is_quick else WAYS), []
+    sizer = Sizer(folder, WAYS[:-1] if is_quick else WAYS)
+    rows: list[Sizes] = []
     for font in fonts():
         print(f"{font.name}: lengths of cuts", file=sys.stderr, flush=True)
         rows += [sizer.made(font, wanted, codes) for wanted, codes in wanted_codes(font).items()]

@@ -3,75 +3,103 @@ import math
 import os
 import platform
 import re
+from typing import Callable, Iterable, Iterator, Mapping, Optional, Protocol, Sequence, TypeVar, Union
 
 import cut_sizes
 import merged_sizes
 from checks import TOP, run
-from measure import DEBIAN_PYTHON, HB_SUBSET, SIZED
+from commands import Way
+from cut_sizes import Packed, Sizes
+from join_timing import Joined
+from measure import DEBIAN_PYTHON, HB_SUBSET, SIZED, Calls, Checks, Figures, Font, Programs
+from merged_sizes import Merged
+from timing import Called, Timed
 
 MB = 1_000_000
 SETS = "ASCII", "3,000 ideographs", "all", "none"
 
+Times = Union[Timed, Called]
+# Ratios, or other numbers, of each font by the names of the sets.
+ByFont = dict[Font, dict[str, float]]
+# The cells of a row of a table.
+Cells = Sequence[object]
 
-def mean(ratios):
+
+class Row(Protocol):
+    """A font for a set, the bytes of its cut, and what programs or calls took by their names."""
+
+    @property
+    def font(self) -> Font: ...
+    @property
+    def wanted(self) -> str: ...
+    @property
+    def size(self) -> int: ...
+    @property
+    def took(self) -> Mapping[str, Times]: ...
+
+
+AnyRow = TypeVar("AnyRow", bound=Row)
+
+
+def mean(ratios: Sequence[float]) -> float:
     """The geometric mean."""
     return math.exp(sum(map(math.log, ratios)) / len(ratios))
 
 
-def number(value):
+def number(value: float) -> str:
     """Three digits that count, or all of a whole number's."""
     if value >= 100:
         return f"{value:,.0f}"
     return f"{value:.{max(0, 2 - math.floor(math.log10(value)))}f}" if value > 0 else "0"
 
 
-def ratio(value):
+def ratio(value: Optional[float]) -> str:
     """Two digits behind the point, one more where the first two say little, one less for a large ratio."""
     if value is None:
         return "–"
     return f"{value:.3f}" if value < 0.1 else f"{value:.2f}" if value < 10 else f"{value:.1f}"
 
 
-def table(titles, rows):
+def table(titles: Sequence[str], rows: Iterable[Cells]) -> str:
     """A table in Markdown, its first column to the left."""
-    lines = [titles, ["---"] + ["--:"] * (len(titles) - 1), *rows]
+    lines: list[Cells] = [titles, ["---"] + ["--:"] * (len(titles) - 1), *rows]
     return "\n".join("| " + " | ".join(map(str, line)) + " |" for line in lines)
 
 
-def by_font(rows, value):
+def by_font(rows: Iterable[AnyRow], value: Callable[[AnyRow], float]) -> ByFont:
     """A dictionary of each font's values, by set."""
-    found = {}
+    found: ByFont = {}
     for row in rows:
         found.setdefault(row.font, {})[row.wanted] = value(row)
     return found
 
 
-def ratios_of(rows, one, other, kind="least"):
+def ratios_of(rows: Iterable[AnyRow], one: str, other: str, kind: str = "least") -> ByFont:
     """The ratios of two contenders' times by font and set, where both were measured."""
     both = [row for row in rows if row.took.get(one) and row.took.get(other)]
-    return by_font(both, lambda row: getattr(row.took[one], kind) / getattr(row.took[other], kind))
+    return by_font(both, lambda row: float(getattr(row.took[one], kind) / getattr(row.took[other], kind)))
 
 
-def column(ratios, wanted):
+def column(ratios: ByFont, wanted: Iterable[str]) -> list[tuple[float, str]]:
     """Ratios for the wanted sets over all fonts, with the names of the fonts."""
     return [(values[name], f"{font.name}, {name}") for font, values in ratios.items() for name in wanted
             if name in values]
 
 
-def ratio_table(ratios):
+def ratio_table(ratios: ByFont) -> str:
     """A row a font, a column a set, and the geometric means at the end."""
-    rows = [[font.name, f"{font.size / MB:.2f}", *(ratio(values.get(name)) for name in SETS)]
-            for font, values in ratios.items()]
+    rows: list[Cells] = [[font.name, f"{font.size / MB:.2f}", *(ratio(values.get(name)) for name in SETS)]
+                         for font, values in ratios.items()]
     means = [mean([value for value, _ in column(ratios, [name])]) for name in SETS]
     return table(["font", "MB", *SETS], rows + [["geometric mean", "", *map(ratio, means)]])
 
 
-def held_row(what, limit, found, worst, show=ratio):
+def held_row(what: str, limit: float, found: float, worst: str, show: Callable[[float], str] = ratio) -> Cells:
     """A row of what was set: the figure, the farthest font, and whether the limit is held."""
     return [what, show(limit), show(found), worst, "yes" if found <= limit else "**no**"]
 
 
-def mean_row(what, limit, ratios, wanted):
+def mean_row(what: str, limit: float, ratios: ByFont, wanted: Iterable[str]) -> Cells:
     """A row for a geometric mean."""
     pairs = column(ratios, wanted)
     if not pairs:
@@ -80,7 +108,7 @@ def mean_row(what, limit, ratios, wanted):
     return held_row(what, limit, mean([value for value, _ in pairs]), f"{ratio(most)} ({name})")
 
 
-def most_row(what, limit, ratios, wanted=SETS):
+def most_row(what: str, limit: float, ratios: ByFont, wanted: Iterable[str] = SETS) -> Cells:
     """A row for the largest of all ratios."""
     pairs = column(ratios, wanted)
     if not pairs:
@@ -90,39 +118,39 @@ def most_row(what, limit, ratios, wanted=SETS):
     return held_row(what, limit, most, f"{name}; {above} of {len(pairs)} are above")
 
 
-def beside_font(rows, who):
+def beside_font(rows: Iterable[Programs], who: str) -> tuple[int, str]:
     """The most memory above the font, in bytes, and where that was."""
     return max((row.took[who].peak - row.font.size, f"{row.font.name}, {row.wanted}") for row in rows)
 
 
-def lean_memory(row):
+def lean_memory(row: Calls) -> float:
     """How many bytes of the heap a lean cut holds at most more than a cut, for each glyph of the font."""
     return (row.took["lean"].held - row.took["cut"].held) / row.font.glyphs
 
 
-def lean_memory_row(limit, rows):
+def lean_memory_row(limit: float, rows: Iterable[Calls]) -> Cells:
     """A row for the memory of lean cuts."""
     most, name = max((lean_memory(row), f"{row.font.name}, {row.wanted}") for row in rows)
     return held_row("memory of a lean cut above that of a cut, bytes a glyph", limit, most, name)
 
 
-def lean_memory_table(rows):
+def lean_memory_table(rows: Iterable[Calls]) -> str:
     """A row a font: its glyphs, and for each set the bytes a glyph that a lean cut holds at most above a cut."""
     lines = [[font.name, f"{font.glyphs:,}", *(ratio(values.get(name)) for name in SETS)]
              for font, values in by_font(rows, lean_memory).items()]
     return table(["font", "glyphs", *SETS], lines)
 
 
-def of_others(found, where):
+def of_others(found: Figures, where: str) -> str:
     """The most memory above the font's size of the floor at the same font and set, and what nothing takes."""
-    mine = [row for row in found["programs"] if f"{row.font.name}, {row.wanted}" == where]
+    mine = [row for row in found.programs if f"{row.font.name}, {row.wanted}" == where]
     return (f"the floor {beside_font(mine, 'floor')[0] / MB:.2f}, "
-            f"a program that does nothing {found['nothing'].peak / MB:.2f}")
+            f"a program that does nothing {found.nothing.peak / MB:.2f}")
 
 
-def held(found):
+def held(found: Figures) -> list[Cells]:
     """What was set, and what was measured."""
-    calls, programs = found["calls"], found["programs"]
+    calls, programs = found.calls, found.programs
     hb, copy = ratios_of(calls, "cut", "hb"), ratios_of(calls, "cut", "copy")
     kept = ratios_of(calls, "checked", "kept")
     floor = ratios_of(programs, "fontcut", "floor", "median")
@@ -146,26 +174,26 @@ def held(found):
     ]
 
 
-def times_table(rows, names, ratios):
+def times_table(rows: Sequence[Row], names: Sequence[str], ratios: Sequence[tuple[str, str]]) -> str:
     """A row a font and set: the least and the median of each contender in milliseconds, and ratios of the least."""
-    def cells(row):
+    def cells(row: Row) -> Iterator[str]:
         timed = [row.took.get(name) for name in names]
         yield from (f"{number(one.least)}, {number(one.median)}" if one else "–" for one in timed)
         for one, other in ratios:
-            both = row.took.get(one), row.took.get(other)
-            yield ratio(both[0].least / both[1].least) if all(both) else "–"
+            mine, others = row.took.get(one), row.took.get(other)
+            yield ratio(mine.least / others.least) if mine and others else "–"
     titles = ["font", "wanted", "bytes of the cut", *names, *(f"{one} : {other}" for one, other in ratios)]
     return table(titles, [[row.font.name, row.wanted, f"{row.size:,}", *cells(row)] for row in rows])
 
 
-def slow_table(rows):
+def slow_table(rows: Iterable[Programs]) -> str:
     """How many times as long pyftsubset takes; one run each."""
-    timed = [row for row in rows if row.took.get("pyftsubset")]
-    ratios = by_font(timed, lambda row: row.took["pyftsubset"] / row.took["fontcut"].median)
+    timed = [row for row in rows if row.pyftsubset]
+    ratios = by_font(timed, lambda row: (row.pyftsubset or 0) / row.took["fontcut"].median)
     return ratio_table(ratios) if ratios else "pyftsubset was not there, or was left out."
 
 
-def memory_table(rows, fonts):
+def memory_table(rows: Sequence[Programs], fonts: Iterable[Font]) -> str:
     """The most memory above the font's size over all sets, in MB."""
     names = [name for name in ("fontcut", "floor", "hb-subset") if all(row.took.get(name) for row in rows)]
     lines = []
@@ -176,12 +204,12 @@ def memory_table(rows, fonts):
     return table(["font", "MB", *names], lines)
 
 
-def join_table(joins):
+def join_table(joins: Iterable[Joined]) -> str:
     """A row for each number of cuts."""
     rows = []
     for one in joins:
         ours, floor = one.join, one.floor
-        rows.append([one.count, f"{one.read / 2**20:.1f}", f"{one.written / 2**20:.1f}",
+        rows.append([one.cuts, f"{one.read / 2**20:.1f}", f"{one.written / 2**20:.1f}",
                      f"{ours.processor:.1f}, {ours.processor_median:.1f}",
                      f"{floor.processor:.1f}, {floor.processor_median:.1f}", ratio(ours.processor / floor.processor),
                      f"{ours.processor / (one.read / 2**20):.2f}", f"{(ours.peak - one.read) / 2**20:.1f}"])
@@ -189,7 +217,7 @@ def join_table(joins):
                   "MiB of memory beside the files"], rows)
 
 
-def check_table(rows):
+def check_table(rows: Iterable[Checks]) -> str:
     """`check` beside reading and summing."""
     lines = []
     for row in rows:
@@ -200,23 +228,24 @@ def check_table(rows):
     return table(["font", "MB", "check, ms", "read and sum, ms", "ratio of the least", "of the medians"], lines)
 
 
-def sizes(found):
+def sizes(found: Figures) -> list[tuple[Font, dict[str, float]]]:
     """For fonts of about 1, 4, 16 and 52 MB, the least milliseconds over the MB by what was done."""
     points = []
     for name in SIZED:
-        font = next((one for one in found["fonts"] if one.name == name), None)
+        font = next((one for one in found.fonts if one.name == name), None)
         if not font:
             continue
-        checks = next(row.took for row in found["checks"] if row.font == font)
-        calls = next(row.took for row in found["calls"] if row.font == font and row.wanted == "all")
-        program = next(row.took for row in found["programs"] if row.font == font and row.wanted == "all")
-        least = {"check": checks["check"], "read and sum": checks["read and sum"], "subset, all": program["fontcut"],
-                 "cut, all, in process": calls["cut"], "copy and sum, in process": calls["copy"]}
+        checks = next(row.took for row in found.checks if row.font == font)
+        calls = next(row.took for row in found.calls if row.font == font and row.wanted == "all")
+        program = next(row.took for row in found.programs if row.font == font and row.wanted == "all")
+        least: dict[str, Times] = {
+            "check": checks["check"], "read and sum": checks["read and sum"], "subset, all": program["fontcut"],
+            "cut, all, in process": calls["cut"], "copy and sum, in process": calls["copy"]}
         points.append((font, {what: one.least / (font.size / MB) for what, one in least.items()}))
     return points
 
 
-def size_table(found):
+def size_table(found: Figures) -> str:
     """The time over size."""
     points = sizes(found)
     if not points:
@@ -226,13 +255,13 @@ def size_table(found):
     return table(["font", "MB", *whats], rows)
 
 
-def length_ratios(rows, wanted, one, other, kind):
+def length_ratios(rows: Iterable[Sizes], wanted: str, one: str, other: str, kind: str) -> list[tuple[float, str]]:
     """The ratios of two ways' lengths for a set, with the names of the fonts."""
     both = [row for row in rows if row.wanted == wanted and one in row.made and other in row.made]
     return [(getattr(row.made[one], kind) / getattr(row.made[other], kind), row.font.name) for row in both]
 
 
-def length_rows(rows):
+def length_rows(rows: Sequence[Sizes]) -> Iterator[Cells]:
     """Rows of what was set: lean cuts as WOFF2 beside those of hb-subset, for each set."""
     for wanted in cut_sizes.SETS:
         pairs = length_ratios(rows, wanted, "lean cut", "hb-subset", "woff2")
@@ -244,7 +273,7 @@ def length_rows(rows):
             yield [what, ratio(1.25), "–", "–", "not measured"]
 
 
-def length_means(rows):
+def length_means(rows: Sequence[Sizes]) -> str:
     """For each set the geometric means of the lengths of each way, beside those of lean cuts."""
     lines = []
     for wanted in cut_sizes.SETS:
@@ -255,31 +284,31 @@ def length_means(rows):
     return table(["wanted", "made by", "raw", "Brotli", "WOFF2"], lines)
 
 
-def length_table(rows):
+def length_table(rows: Iterable[Sizes]) -> str:
     """The bytes of each way for each font and set: as they are, and as WOFF2."""
-    def cell(made):
+    def cell(made: Optional[Packed]) -> str:
         return f"{made.raw:,}, {made.woff2:,}" if made else "–"
     return table(["font", "wanted", *cut_sizes.WAYS],
                  [[row.font.name, row.wanted, *(cell(row.made.get(way)) for way in cut_sizes.WAYS)] for row in rows])
 
 
-def merged_table(rows):
+def merged_table(rows: Sequence[Merged]) -> str:
     """The bytes of the fonts of merged documents, and those of the joined cuts beside them."""
-    def cell(sizes, way):
+    def cell(sizes: Mapping[str, int], way: str) -> str:
         if way not in sizes:
             return "–"
         return f"{sizes[way]:,}" + ("" if way == merged_sizes.WAYS[0] else f", {ratio(sizes[way] / least(sizes))}")
 
-    def least(sizes):
+    def least(sizes: Mapping[str, int]) -> int:
         return sizes[merged_sizes.WAYS[0]]
 
     if not rows:
         return "Not measured, for the fonts were not there."
     return table(["font", "documents", *merged_sizes.WAYS],
-                 [[row.font, row.count, *(cell(row.sizes, way) for way in merged_sizes.WAYS)] for row in rows])
+                 [[row.font, row.documents, *(cell(row.sizes, way) for way in merged_sizes.WAYS)] for row in rows])
 
 
-def ways_table(ways):
+def ways_table(ways: Sequence[Way]) -> str:
     """The seconds and the bytes of each way, with their ratios to the first."""
     if not ways:
         return "Not measured, for a package was not there."
@@ -288,7 +317,7 @@ def ways_table(ways):
     return table(["way", "seconds", "ratio", "bytes", "ratio"], rows)
 
 
-def first_line(*words):
+def first_line(*words: str) -> str:
     """What a program says of its version."""
     try:
         return run(*words)[1].decode(errors="replace").splitlines()[0].strip()
@@ -296,7 +325,7 @@ def first_line(*words):
         return "not there"
 
 
-def machine():
+def machine() -> str:
     """The machine and the programs, in a sentence; no name of a host."""
     with open("/proc/cpuinfo", encoding="utf-8") as opened:
         named = re.search(r"^model name\s*:\s*(.*)$", opened.read(), re.M)

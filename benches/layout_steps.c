@@ -83,7 +83,7 @@ static int read_ligatures(size_t glyph, size_t place)
     if (!has_items(place, 2))
         return 0;
     for (size_t item = place + 2, end = item + 2 * number(place); item < end; item += 2)
-        if (!(number(item) ? read_ligature(glyph, place + number(item)) : step()))
+        if (!step() || (number(item) && !read_ligature(glyph, place + number(item))))
             return 0;
     return 1;
 }
@@ -97,9 +97,9 @@ static int read_entry(const subtable *of, size_t glyph, size_t index)
     size_t entry = number(of->entries + 2 * index);
     if (of->form == SUBSTITUTES)
         return link_to(glyph, entry);
-    if (entry == 0)
-        return 1;
-    return (of->form == SEQUENCES ? read_sequence : read_ligatures)(glyph, of->place + entry);
+    if (!step())
+        return 0;
+    return entry == 0 || (of->form == SEQUENCES ? read_sequence : read_ligatures)(glyph, of->place + entry);
 }
 
 static int read_span(const subtable *of, size_t first, size_t last, size_t index)
@@ -115,6 +115,8 @@ static int read_span(const subtable *of, size_t first, size_t last, size_t index
 static int read_coverage(const subtable *of)
 {
     size_t place = of->coverage;
+    if (!step())
+        return 0;
     if (place == of->place)
         return 1;
     if (!is_within(place, 4) || number(place) - 1 > 1 || !has_items(place + 2, number(place) == 1 ? 2 : 6))
@@ -183,7 +185,7 @@ static int read_extension(size_t place)
     if (!is_within(place, 8) || number(place) != 1)
         return 0;
     size_t kind = number(place + 2), offset = number(place + 4) << 16 | number(place + 6);
-    if (kind < 1 || kind > 8 || kind == 7)
+    if (kind < 1 || kind > 8 || kind == 7 || !step())
         return 0;
     return offset == 0 || read_subtable(kind, place + offset);
 }

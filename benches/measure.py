@@ -3,12 +3,13 @@ import os
 import subprocess
 import sys
 import time
-from collections import namedtuple
+from typing import Iterable, NamedTuple, Optional, Sequence
 
-from checks import BABELSTONE, DEJAVU, FREEFONT, HANAZONO, LIBERATION, PROGRAM, check, end, held, run, skip
+from checks import BABELSTONE, DEJAVU, FREEFONT, HANAZONO, LIBERATION, PROGRAM, check, end, read, run, skip
 from font_reading import table, u16
-from join_timing import COUNTS, SOURCE, time_join
-from timing import BENCHES, IDEOGRAPHS, LIB, calls_in_turn, compiled, compiled_calls, in_turn, put_ranges
+from join_timing import COUNTS, SOURCE, Joined, time_join
+from timing import (BENCHES, IDEOGRAPHS, LIB, Called, Timed, calls_in_turn, compiled, compiled_calls, in_turn,
+                    put_ranges)
 
 OXYGEN = "/usr/share/fonts/truetype/oxygen"  # Debian's package fonts-oxygen
 VLGOTHIC = "/usr/share/fonts/truetype/vlgothic"  # Debian's package fonts-vlgothic
@@ -24,33 +25,92 @@ DEBIAN_PYTHON = "/usr/bin/python3"
 DROPPED = "--drop-tables+=GSUB,GPOS,GDEF,kern"
 LONGEST = 60  # seconds that a run of pyftsubset may take
 
-# A set of wanted codes: its ranges, and the words by which fontcut, hb-subset and pyftsubset are asked for it.
-Wanted = namedtuple("Wanted", "name ranges fontcut hb pyft")
 
-# How long is measured: the milliseconds that each program or way is given, the least and the most of its runs.
-Effort = namedtuple("Effort", "run_ms least most call_ms least_calls joins")
+class Wanted(NamedTuple):
+    """A set of wanted codes: its ranges, and the words by which fontcut, hb-subset and pyftsubset are asked for it."""
+
+    name: str
+    ranges: list[tuple[int, int]]
+    fontcut: list[str]
+    hb: str
+    pyft: str
+
+
+class Effort(NamedTuple):
+    """How long is measured: the milliseconds that each program or way is given, the least and the most of its runs."""
+
+    run_ms: int
+    least: int
+    most: int
+    call_ms: int
+    least_calls: int
+    joins: Sequence[int]
+
+
 FULL = Effort(700, 9, 300, 400, 7, COUNTS)
 QUICK = Effort(60, 3, 20, 60, 3, COUNTS[:2])
 
-# A font for a set: the bytes of the cut, and what each program took by its name.
-Row = namedtuple("Row", "font wanted size took")
 
-Font = namedtuple("Font", "name path size glyphs")
+class Font(NamedTuple):
+    """A font: its bytes, and how many glyphs it has."""
+
+    name: str
+    path: str
+    size: int
+    glyphs: int
 
 
-def fonts():
+class Programs(NamedTuple):
+    """A font for a set: the bytes of the cut, what each program took by its name, and the milliseconds of a run of
+    pyftsubset, where there was one."""
+
+    font: Font
+    wanted: str
+    size: int
+    took: dict[str, Timed]
+    pyftsubset: Optional[float]
+
+
+class Calls(NamedTuple):
+    """The same of calls in one process."""
+
+    font: Font
+    wanted: str
+    size: int
+    took: dict[str, Called]
+
+
+class Checks(NamedTuple):
+    """A font, and what `check` of it took, and reading and summing it, by their names."""
+
+    font: Font
+    took: dict[str, Timed]
+
+
+class Figures(NamedTuple):
+    """All that is measured of the ten fonts and of joins, and what a program takes that does nothing."""
+
+    fonts: list[Font]
+    programs: list[Programs]
+    calls: list[Calls]
+    checks: list[Checks]
+    joins: list[Joined]
+    nothing: Timed
+
+
+def fonts() -> list[Font]:
     """The ten fonts, in order of size; one that is not installed is skipped."""
     found = []
     for path in PATHS:
         if os.path.exists(path):
-            glyphs = u16(table(held(path), b"maxp"), 4)
+            glyphs = u16(table(read(path), b"maxp"), 4)
             found.append(Font(os.path.basename(path)[:-4], path, os.path.getsize(path), glyphs))
         else:
             skip(os.path.basename(path), "its package is not installed")
     return found
 
 
-def wanted_sets(folder):
+def wanted_sets(folder: str) -> list[Wanted]:
     """The four sets. The ideographs go to a file, which each program reads."""
     codes = os.path.join(folder, "ideographs")
     with open(codes, "w", encoding="ascii") as out:
@@ -64,7 +124,7 @@ def wanted_sets(folder):
     ]
 
 
-def need(name, holds, *details):
+def need(name: str, holds: object, *details: object) -> None:
     """Ends all where this does not hold."""
     if not holds:
         check(name, False, *details)
@@ -74,7 +134,7 @@ def need(name, holds, *details):
 class Bench:
     """The compiled programs in a folder, and what is measured with them."""
 
-    def __init__(self, folder, library, effort):
+    def __init__(self, folder: str, library: str, effort: Effort) -> None:
         self.folder = folder
         self.effort = effort
         self.out = os.path.join(folder, "out.ttf")
@@ -85,34 +145,33 @@ class Bench:
         self.calls = compiled_calls(folder, library)
         self.wanted = wanted_sets(folder)
 
-    def turns(self, programs, worst=0):
+    def turns(self, programs: Iterable[Sequence[object]], worst: int = 0) -> list[Optional[Timed]]:
         """What each program took, in turn."""
         effort = self.effort
         return in_turn(self.runs, self.out, programs, effort.run_ms, effort.least, effort.most, worst)
 
-    def cut_size(self, font, wanted):
+    def cut_size(self, font: Font, wanted: Wanted) -> int:
         """Makes a cut once, and returns its bytes."""
         ran = run(PROGRAM, "subset", font.path, self.out, *wanted.fontcut)
         need(f"{font.name}, {wanted.name}: the cut is made", ran == (0, b"", b""), ran)
         return os.path.getsize(self.out)
 
-    def programs(self, font, wanted):
+    def programs(self, font: Font, wanted: Wanted) -> Programs:
         """The program beside the floor, hb-subset and, once, pyftsubset."""
         size = self.cut_size(font, wanted)
-        words = {"fontcut": [PROGRAM, "subset", font.path, self.out, *wanted.fontcut],
-                 "floor": [self.floor, font.path, self.out, size]}
+        words: dict[str, list[object]] = {"fontcut": [PROGRAM, "subset", font.path, self.out, *wanted.fontcut],
+                                          "floor": [self.floor, font.path, self.out, size]}
         if os.path.exists(HB_SUBSET):
             to_out = f"--output-file={self.out}"
             words["hb-subset"] = [HB_SUBSET, "--retain-gids", wanted.hb, DROPPED, to_out, font.path]
-        took = dict(zip(words, self.turns(list(words.values()))))
-        need(f"{font.name}, {wanted.name}: each run ends well", took["fontcut"] and took["floor"])
-        if not took.get("hb-subset"):
+        took = {name: timed for name, timed in zip(words, self.turns(list(words.values()))) if timed}
+        need(f"{font.name}, {wanted.name}: each run ends well", took.keys() >= {"fontcut", "floor"})
+        if "hb-subset" not in took:
             skip(f"{font.name}, {wanted.name}: hb-subset", "it failed, or is not installed")
-        if self.effort is not QUICK:
-            took["pyftsubset"] = self.by_fonttools(font, wanted)
-        return Row(font, wanted.name, size, took)
+        slow = None if self.effort is QUICK else self.by_fonttools(font, wanted)
+        return Programs(font, wanted.name, size, took, slow)
 
-    def by_fonttools(self, font, wanted):
+    def by_fonttools(self, font: Font, wanted: Wanted) -> Optional[float]:
         """The milliseconds of one run of pyftsubset, or None where it is not there or takes too long."""
         words = [DEBIAN_PYTHON, "-m", "fontTools.subset", font.path, "--retain-gids", wanted.pyft, DROPPED,
                  f"--output-file={self.out}"]
@@ -123,7 +182,7 @@ class Bench:
             return None
         return 1000 * (time.perf_counter() - begin) if ran.returncode == 0 else None
 
-    def in_process(self, font, wanted):
+    def in_process(self, font: Font, wanted: Wanted) -> Calls:
         """A cut in memory, and one of a font that was accepted before, beside a lean cut, HarfBuzz's call, the same of a
         face that is kept, and a copy with a sum."""
         ranges = os.path.join(self.folder, "ranges")
@@ -132,37 +191,38 @@ class Bench:
         need(f"{font.name}, {wanted.name}: the calls make both cuts", "cut" in took and "lean" in took)
         if "hb" not in took:
             skip(f"{font.name}, {wanted.name}: hb_subset_or_fail", "it failed, or is not installed")
-        return Row(font, wanted.name, took["cut"].size, took)
+        return Calls(font, wanted.name, took["cut"].size, took)
 
-    def checks(self, font):
+    def checks(self, font: Font) -> Checks:
         """`check` beside reading the font and summing its words. Its status is 1 where it prints a finding."""
-        took = self.turns([[PROGRAM, "check", font.path], [self.word_sum, font.path]], worst=1)
-        need(f"{font.name}: it is checked", all(took))
-        return Row(font, None, 0, dict(zip(("check", "read and sum"), took)))
+        turns = self.turns([[PROGRAM, "check", font.path], [self.word_sum, font.path]], worst=1)
+        took = {name: timed for name, timed in zip(("check", "read and sum"), turns) if timed}
+        need(f"{font.name}: it is checked", len(took) == 2)
+        return Checks(font, took)
 
-    def joins(self):
+    def joins(self) -> list[Joined]:
         """Joins of 2 to 400 cuts beside reading, summing and writing."""
         if not os.path.exists(SOURCE):
             skip("joins", "Debian's package fonts-lxgw-wenkai is not installed")
             return []
         return [time_join(self.folder, count, self.sum_and_write, self.runs) for count in self.effort.joins]
 
-    def nothing(self):
+    def nothing(self) -> Timed:
         """What a program takes that does nothing."""
-        return self.turns([["/bin/true"]])[0]
+        took = self.turns([["/bin/true"]])[0]
+        assert took, "/bin/true fails"
+        return took
 
 
-def measured(bench):
+def measured(bench: Bench) -> Figures:
     """Measures all of it, and says how far it is."""
     all_fonts = fonts()
-    found = {"fonts": all_fonts, "programs": [], "calls": [], "checks": []}
+    checks, programs, calls = [], [], []
     for font in all_fonts:
         print(f"{font.name}: {font.size} bytes", file=sys.stderr, flush=True)
-        found["checks"].append(bench.checks(font))
+        checks.append(bench.checks(font))
         for wanted in bench.wanted:
-            found["programs"].append(bench.programs(font, wanted))
-            found["calls"].append(bench.in_process(font, wanted))
+            programs.append(bench.programs(font, wanted))
+            calls.append(bench.in_process(font, wanted))
     print("joins", file=sys.stderr, flush=True)
-    found["joins"] = bench.joins()
-    found["nothing"] = bench.nothing()
-    return found
+    return Figures(all_fonts, programs, calls, checks, bench.joins(), bench.nothing())

@@ -4,10 +4,10 @@ import os
 import subprocess
 import sys
 import zlib
-from collections import namedtuple
 from concurrent.futures import ThreadPoolExecutor
+from typing import Iterator, NamedTuple, Optional, Sequence
 
-from checks import DEJAVU, PROGRAM, held, run, skip
+from checks import DEJAVU, PROGRAM, read, run, skip
 from cut_sizes import mapped_codes
 from document_texts import document_lines
 from join_timing import SOURCE
@@ -19,26 +19,31 @@ PATHS = f"{DEJAVU}/DejaVuSans.ttf", SOURCE
 TRIMMED = f"{DROPPED},name,post,OS/2"
 WAYS = "joined lean cuts", "a lean cut each", "hb-subset each", "pyftsubset each"
 
-# The deflated bytes of the fonts of the first documents, by the name of the way that they were made.
-Merged = namedtuple("Merged", "font count sizes")
+
+class Merged(NamedTuple):
+    """The deflated bytes of the fonts of the first documents, by the name of the way that they were made."""
+
+    font: str
+    documents: int
+    sizes: dict[str, int]
 
 
-def deflated(path):
+def deflated(path: str) -> int:
     """The length of a file, deflated."""
-    return len(zlib.compress(held(path), 9))
+    return len(zlib.compress(read(path), 9))
 
 
 class Maker:
     """Makes the fonts of documents in a folder."""
 
-    def __init__(self, folder, font):
+    def __init__(self, folder: str, font: str) -> None:
         self.folder, self.font = folder, font
         name = os.path.basename(font)[:-4]
         codes = set(mapped_codes(Font(name, font, 0, 0)))
         self.wanted = [sorted({ord(letter) for line in lines for letter in line})
                        for lines in document_lines(name, codes, max(COUNTS))]
 
-    def made(self, job):
+    def made(self, job: tuple[str, int]) -> Optional[int]:
         """The deflated length of the font for a document, made in one way; None where it cannot be made."""
         way, number = job
         out, codes = f"{self.folder}/{way}-{number}.ttf", f"{self.folder}/{way}-{number}.codes"
@@ -54,7 +59,7 @@ class Maker:
             return None
         return deflated(out) if ran.returncode == 0 else None
 
-    def joined(self, count):
+    def joined(self, count: int) -> int:
         """The deflated length of the join of the lean cuts for the first documents."""
         out = f"{self.folder}/joined.ttf"
         cuts = [f"{self.folder}/{WAYS[1]}-{number}.ttf" for number in range(count)]
@@ -62,22 +67,25 @@ class Maker:
         need(f"{self.font}: {count} cuts join", ran == (0, b"", b""), ran)
         return deflated(out)
 
-    def rows(self, ways, threads):
+    def rows(self, ways: Sequence[str], threads: ThreadPoolExecutor) -> Iterator[Merged]:
         """The lengths for each number of documents."""
         name = os.path.basename(self.font)[:-4]
-        each = {way: list(threads.map(self.made, [(way, number) for number in range(max(COUNTS))])) for way in ways}
-        for way in [way for way in ways if None in each[way]]:
+        each: dict[str, list[int]] = {}
+        for way in ways:
+            lengths = list(threads.map(self.made, [(way, number) for number in range(max(COUNTS))]))
+            each[way] = [length for length in lengths if length is not None]
+        for way in [way for way in ways if len(each[way]) < max(COUNTS)]:
             skip(f"{name}: {way}", "it failed, or is not installed")
             del each[way]
         need(f"{name}: the lean cuts are made", WAYS[1] in each)
         for count in COUNTS:
-            sizes = {way: sum(lengths[:count]) for way, lengths in each.items()}
+            sizes = {way: sum(each[way][:count]) for way in each}
             yield Merged(name, count, {WAYS[0]: self.joined(count), **sizes})
 
 
-def measured(folder, is_quick):
+def measured(folder: str, is_quick: bool) -> list[Merged]:
     """The lengths for each font and number of documents; of a quick run without pyftsubset."""
-    rows = []
+    rows: list[Merged] = []
     with ThreadPoolExecutor(os.cpu_count()) as threads:
         for path in filter(os.path.exists, PATHS):
             print(f"{os.path.basename(path)[:-4]}: fonts of documents", file=sys.stderr, flush=True)

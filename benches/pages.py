@@ -4,15 +4,15 @@ import os
 import shutil
 import subprocess
 import sys
-from collections import namedtuple
+from typing import Iterator, NamedTuple, Optional
 
 from checks import DEJAVU, NOTO, PROGRAM, run, skip
 from cut_sizes import mapped_codes
 from fontcut_needed import needed
 from fontcut_web.sets import PRESETS
-from measure import DROPPED, HB_SUBSET, Font, need
+from measure import DROPPED, HB_SUBSET, Bench, Font, need
 from shaping_texts import TEXTS
-from timing import calls_in_turn, compiled_calls, put_ranges
+from timing import Called, Timed, calls_in_turn, compiled_calls, put_ranges
 
 # How the texts of a page begin.
 TEXTS_OF = {"Latin": ("All human", "Official"), "Arabic": ("يولد", "وقد", "بِسْمِ"), "Devanagari": ("सभी", "क्षत्रिय"),
@@ -30,17 +30,33 @@ WITHOUT, WITH, USUAL = "hb-subset without layout", "hb-subset with layout", "hb-
 WAYS = FULL, LEAN, LAYOUT, WITHOUT, WITH, USUAL
 CUTS = WAYS[:3]
 
-# What is wanted of a font: the name of the page, the slice or the script, the font, and the codes.
-Page = namedtuple("Page", "name font path codes")
 
-# The bytes of a file, as it is and as WOFF2, which is None where it was not packed.
-Length = namedtuple("Length", "raw woff2")
+class Page(NamedTuple):
+    """What is wanted of a font: the name of the page, the slice or the script, the font, and the codes."""
 
-# A page, the length of what each way makes, and what programs and calls took, all by their names.
-Measured = namedtuple("Measured", "page made programs calls")
+    name: str
+    font: str
+    path: str
+    codes: list[int]
 
 
-def codes_of(name, path):
+class Length(NamedTuple):
+    """The bytes of a file, as it is and as WOFF2, which is None where it was not packed."""
+
+    raw: int
+    woff2: Optional[int]
+
+
+class Measured(NamedTuple):
+    """A page, the length of what each way makes, and what programs and calls took, all by their names."""
+
+    page: Page
+    made: dict[str, Length]
+    programs: dict[str, Optional[Timed]]
+    calls: dict[str, Called]
+
+
+def codes_of(name: str, path: str) -> list[int]:
     """The codes of a page, those that a shaper needs for its texts among them, of the slice, or of all of a font."""
     if name.endswith(ALL):
         return mapped_codes(Font(name, path, 0, 0))
@@ -52,7 +68,7 @@ def codes_of(name, path):
     return sorted({ord(letter) for text in texts for letter in needed(text)})
 
 
-def pages():
+def pages() -> Iterator[Page]:
     """The pages, the slice and the scripts whose fonts are installed."""
     for name, path in FONTS_OF:
         if os.path.exists(path):
@@ -61,7 +77,7 @@ def pages():
             skip(f"{name}: {path}", f"{PACKAGES[os.path.dirname(path)]} is not installed")
 
 
-def length_of(path):
+def length_of(path: str) -> Length:
     """The length of a file, as it is and as WOFF2. It is removed."""
     raw, woff2 = os.path.getsize(path), None
     if shutil.which("woff2_compress"):
@@ -76,12 +92,12 @@ def length_of(path):
 class Pages:
     """Makes and times the cuts of pages by what a Bench has compiled."""
 
-    def __init__(self, bench, library):
+    def __init__(self, bench: Bench, library: str) -> None:
         self.bench = bench
         self.out, self.codes = os.path.join(bench.folder, "page.ttf"), os.path.join(bench.folder, "page.codes")
         self.calls = compiled_calls(bench.folder, library, "layout_in_process.c")
 
-    def ways(self, page):
+    def ways(self, page: Page) -> dict[str, list[str]]:
         """The words by which each way makes its file."""
         subset = [PROGRAM, "subset", page.path, self.out, "--codes-file", self.codes]
         other = [HB_SUBSET, f"--unicodes-file={self.codes}", f"--output-file={self.out}", page.path]
@@ -89,7 +105,7 @@ class Pages:
                  [*other, "--retain-gids", "--layout-features=*"], other]
         return dict(zip(WAYS, words))
 
-    def made(self, page, ways):
+    def made(self, page: Page, ways: dict[str, list[str]]) -> dict[str, Length]:
         """The length of what each way makes."""
         found = {}
         for way, words in ways.items():
@@ -101,12 +117,12 @@ class Pages:
         need(f"{page.name}, {page.font}: the cuts are made", found.keys() >= set(CUTS))
         return found
 
-    def programs(self, found, ways):
+    def programs(self, found: dict[str, Length], ways: dict[str, list[str]]) -> dict[str, Optional[Timed]]:
         """What the program takes for a layout cut, and hb-subset with layout."""
         timed = [way for way in (LAYOUT, WITH) if way in found]
         return dict(zip(timed, self.bench.turns([ways[way] for way in timed])))
 
-    def timed_calls(self, page):
+    def timed_calls(self, page: Page) -> dict[str, Called]:
         """What calls in one process take."""
         ranges = os.path.join(self.bench.folder, "page.ranges")
         put_ranges(ranges, [(code, code) for code in page.codes])
@@ -117,7 +133,7 @@ class Pages:
             skip(f"{page.name}, {page.font}: hb_subset_or_fail", "Debian's package libharfbuzz-dev is not installed")
         return took
 
-    def measured(self, page):
+    def measured(self, page: Page) -> Measured:
         """Makes and times all of a page."""
         print(f"{page.name}, {page.font}: layout cuts", file=sys.stderr, flush=True)
         with open(self.codes, "w", encoding="ascii") as out:
@@ -127,7 +143,7 @@ class Pages:
         return Measured(page, made, self.programs(made, ways), self.timed_calls(page))
 
 
-def measured(bench, library):
+def measured(bench: Bench, library: str) -> list[Measured]:
     """What is measured of each page."""
     if not shutil.which("woff2_compress"):
         skip("layout cuts as WOFF2", "Debian's package woff2 is not installed")

@@ -1,6 +1,7 @@
 """The pictures of docs/PERFORMANCE.md, drawn by matplotlib: SVG with text as text, the same bytes for the same
 figures."""
 import os
+from typing import Any, Optional, Sequence
 
 import matplotlib
 
@@ -9,7 +10,10 @@ import matplotlib.pyplot as plt
 from matplotlib.ticker import FuncFormatter, NullLocator
 
 import cut_sizes
-from document import MB, SETS, sizes
+from cut_sizes import Sizes
+from document import MB, SETS, Row, sizes
+from join_timing import Joined
+from measure import Figures, Font, Programs
 
 COLOURS = {"fontcut": "#0b5394", "cut": "#0b5394", "lean cut": "#0b5394", "join": "#0b5394",
            "floor": "#8a8a8a", "copy": "#8a8a8a", "hb-subset": "#d9730d", "hb": "#d9730d", "pyftsubset": "#5b8c3e"}
@@ -22,12 +26,12 @@ SIZES = [0.05, 0.5, 5, 50]
 RATES = [0.1, 0.2, 0.5, 1, 2, 5, 10]
 
 
-def plain(value, _=None):
+def plain(value: float, _: object = None) -> str:
     """A number of an axis, with no power of ten."""
     return f"{value:,.0f}" if value >= 1 else f"{value:g}"
 
 
-def log_axes(axes, ticks):
+def log_axes(axes: Any, ticks: Sequence[float]) -> None:
     """Both axes by powers of ten."""
     axes.set_xscale("log")
     axes.set_yscale("log")
@@ -37,24 +41,26 @@ def log_axes(axes, ticks):
         axis.set_minor_locator(NullLocator())
 
 
-def keep(figure, path):
+def keep(figure: Any, path: str) -> None:
     """Writes a picture, with no date in it."""
     figure.savefig(path, format="svg", metadata={"Date": None, "Creator": None})
     plt.close(figure)
 
 
-def milliseconds(timed):
-    """The median of runs, or the time of the only one."""
-    return timed if isinstance(timed, float) else timed.median
+def milliseconds(row: Row, name: str) -> Optional[float]:
+    """The median of a contender's runs, or the time of the only one; None where there is none."""
+    if name == "pyftsubset":
+        return row.pyftsubset if isinstance(row, Programs) else None
+    return row.took[name].median if name in row.took else None
 
 
-def by_size(path, title, rows, names):
+def by_size(path: str, title: str, rows: Sequence[Row], names: Sequence[str]) -> None:
     """A panel for each set: the milliseconds of each contender over the size of the font."""
     figure, panels = plt.subplots(2, 2, figsize=(8.4, 6.4), sharex=True, sharey=True)
     for axes, wanted in zip(panels.flat, SETS):
         for order, name in enumerate(names):
-            points = [(row.font.size / MB, milliseconds(row.took[name])) for row in rows
-                      if row.wanted == wanted and row.took.get(name)]
+            points = [(row.font.size / MB, taken) for row in rows
+                      if row.wanted == wanted and (taken := milliseconds(row, name))]
             if points:
                 axes.plot(*zip(*points), marker="o", markersize=3.5, linewidth=1.5, color=COLOURS[name],
                           label=LABELS.get(name, name), zorder=9 - order)
@@ -71,7 +77,7 @@ def by_size(path, title, rows, names):
     keep(figure, path)
 
 
-def of_lengths(path, rows):
+def of_lengths(path: str, rows: Sequence[Sizes]) -> None:
     """A panel for each set: the bytes of each way's file as WOFF2, over the size of the font."""
     figure, panels = plt.subplots(1, len(cut_sizes.SETS), figsize=(8.4, 3.6), sharex=True, sharey=True)
     for axes, wanted in zip(panels, cut_sizes.SETS):
@@ -92,7 +98,7 @@ def of_lengths(path, rows):
     keep(figure, path)
 
 
-def of_joins(path, joins):
+def of_joins(path: str, joins: Sequence[Joined]) -> None:
     """Joins and the C program, over the bytes that are read."""
     figure, axes = plt.subplots(figsize=(6.4, 3.8))
     read = [one.read / 2**20 for one in joins]
@@ -100,8 +106,8 @@ def of_joins(path, joins):
     axes.plot(read, [one.floor.processor for one in joins], marker="o", color=COLOURS["floor"],
               label="C program: read, sum, write")
     for one in joins:
-        few = one.count <= 20  # their labels lie below the line, for above it is the axis
-        axes.annotate(f"{one.count} cuts", (one.read / 2**20, one.join.processor), textcoords="offset points",
+        few = one.cuts <= 20  # their labels lie below the line, for above it is the axis
+        axes.annotate(f"{one.cuts} cuts", (one.read / 2**20, one.join.processor), textcoords="offset points",
                       xytext=(8, -10) if few else (-4, 7), ha="left" if few else "right", fontsize=9)
     axes.set_xlabel("MiB read")
     axes.set_ylabel("least time of the processor, ms")
@@ -113,7 +119,7 @@ def of_joins(path, joins):
     keep(figure, path)
 
 
-def of_sizes(path, points):
+def of_sizes(path: str, points: Sequence[tuple[Font, dict[str, float]]]) -> None:
     """The time over the size of the font, for each thing that was done."""
     figure, axes = plt.subplots(figsize=(8.4, 3.8))
     colours = {"check": "#0b5394", "read and sum": "#8a8a8a", "subset, all": "#a64d79",
@@ -133,16 +139,16 @@ def of_sizes(path, points):
     keep(figure, path)
 
 
-def draw(folder, found):
+def draw(folder: str, found: Figures, lengths: Sequence[Sizes]) -> None:
     """Writes all pictures to the folder."""
     with matplotlib.rc_context(STYLE):
-        by_size(os.path.join(folder, "speed_program.svg"), "Programs: a cut, from file to file", found["programs"],
+        by_size(os.path.join(folder, "speed_program.svg"), "Programs: a cut, from file to file", found.programs,
                 ("fontcut", "floor", "hb-subset", "pyftsubset"))
         by_size(os.path.join(folder, "speed_in_process.svg"), "In process: a cut, from memory to memory",
-                found["calls"], ("cut", "hb", "copy"))
-        of_lengths(os.path.join(folder, "cut_sizes.svg"), found["lengths"])
-        if found["joins"]:
-            of_joins(os.path.join(folder, "speed_joins.svg"), found["joins"])
+                found.calls, ("cut", "hb", "copy"))
+        of_lengths(os.path.join(folder, "cut_sizes.svg"), lengths)
+        if found.joins:
+            of_joins(os.path.join(folder, "speed_joins.svg"), found.joins)
         points = sizes(found)
         if points:
             of_sizes(os.path.join(folder, "speed_sizes.svg"), points)

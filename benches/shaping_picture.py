@@ -3,14 +3,22 @@ shapes them, and the outlines are those of the cuts."""
 import json
 import os
 import shutil
-from collections import namedtuple
+from typing import Any, Iterable, Iterator, NamedTuple, Optional
 from xml.sax.saxutils import escape
 
 from checks import NOTO, PROGRAM, run, skip
 from measure import need
 
-# What is drawn: the font, its name, and the text. The first text begins the Universal Declaration of Human Rights.
-Line = namedtuple("Line", "path font text")
+
+class Line(NamedTuple):
+    """What is drawn: the font, its name, and the text."""
+
+    path: str
+    font: str
+    text: str
+
+
+# The first text begins the Universal Declaration of Human Rights.
 LINES = [Line(f"{NOTO}/NotoNaskhArabic-Regular.ttf", "Noto Naskh Arabic", "يُولَدُ جَمِيعُ النَّاسِ أَحْرَارًا"),
          Line(f"{NOTO}/NotoSerif-Regular.ttf", "Noto Serif", "Official fjords, AVATAR")]
 
@@ -20,18 +28,23 @@ ABOUT = ("A line of Arabic and a line of Latin, each drawn with the whole font, 
          "cut. The layout cut draws both as the font does; the lean cut has no joined letters in the first, and no "
          "ligature and no kerning in the second.")
 
-# A glyph where it stands, in font units: the path of its outline, and its place.
-Placed = namedtuple("Placed", "path x y")
+
+class Placed(NamedTuple):
+    """A glyph where it stands, in font units: the path of its outline, and its place."""
+
+    path: str
+    x: int
+    y: int
 
 
-def shaped(path, text):
+def shaped(path: str, text: str) -> Any:
     """What HarfBuzz shapes a text to: a dictionary for each glyph, with its number, its offset and its advance."""
     status, out, err = run("hb-shape", "--no-glyph-names", "--no-clusters", "--output-format=json", path, text)
     need(f"{path} is shaped", status == 0, err)
     return json.loads(out)
 
 
-def placed(path, glyphs):
+def placed(path: str, glyphs: Iterable[dict[str, int]]) -> tuple[list[Placed], int, int]:
     """The outlines of glyphs in a row, where they stand, and how wide the row is."""
     from fontTools.pens.svgPathPen import SVGPathPen
     from fontTools.ttLib import TTFont
@@ -46,7 +59,7 @@ def placed(path, glyphs):
     return row, x, font["head"].unitsPerEm
 
 
-def rows_of(line, folder):
+def rows_of(line: Line, folder: str) -> Iterator[tuple[str, str]]:
     """The rows of a line: a label, and the path of the font or the cut."""
     yield "whole font", line.path
     for kind in "lean", "layout":
@@ -59,23 +72,25 @@ def rows_of(line, folder):
 class Picture:
     """The parts of the picture, and where the next one goes."""
 
-    def __init__(self):
-        self.names, self.drawn, self.y, self.width = {}, [], MARGIN, 0
+    def __init__(self) -> None:
+        self.names: dict[str, str] = {}
+        self.drawn: list[str] = []
+        self.y, self.width = MARGIN, 0.0
 
-    def text(self, x, y, words, style):
+    def text(self, x: int, y: int, words: str, style: str) -> None:
         """Puts words at a place."""
         self.drawn.append(f'<text x="{x}" y="{y}" {style}>{escape(words)}</text>')
 
-    def title(self, words):
+    def title(self, words: str) -> None:
         """Puts words above the rows of a line."""
         self.text(MARGIN, self.y + TITLE - 8, words, 'font-weight="bold"')
         self.y += TITLE
 
-    def name_of(self, outline):
+    def name_of(self, outline: str) -> str:
         """The name of an outline, which stands in the file once."""
         return self.names.setdefault(outline, f"o{len(self.names)}")
 
-    def row(self, label, path, glyphs):
+    def row(self, label: str, path: str, glyphs: Iterable[dict[str, int]]) -> None:
         """Draws a row of glyphs."""
         outlines, width, units = placed(path, glyphs)
         scale, baseline = EM / units, self.y + BASELINE
@@ -85,7 +100,7 @@ class Picture:
         self.width = max(self.width, LEFT + width * scale + MARGIN)
         self.y += ROW
 
-    def svg(self):
+    def svg(self) -> str:
         """The file."""
         width, height = round(self.width), self.y + MARGIN
         outlines = "".join(f'<path id="{name}" d="{path}"/>' for path, name in self.names.items())
@@ -95,7 +110,7 @@ class Picture:
                 + "\n".join(self.drawn) + "\n</svg>\n")
 
 
-def draw_line(picture, line, folder):
+def draw_line(picture: Picture, line: Line, folder: str) -> None:
     """Draws a line with the font and with its cuts. The layout cut has to shape it as the font does."""
     picture.title(line.font)
     found = {}
@@ -106,7 +121,7 @@ def draw_line(picture, line, folder):
     need(f"{line.font}: the lean cut does not", found["whole font"] != found["lean cut"])
 
 
-def lacking():
+def lacking() -> Optional[str]:
     """What is not there of that which the picture needs, or None."""
     if not all(os.path.exists(line.path) for line in LINES):
         return "Debian's package fonts-noto-core is not installed"
@@ -119,10 +134,11 @@ def lacking():
     return None
 
 
-def draw(path, folder):
+def draw(path: str, folder: str) -> None:
     """Writes the picture, by cuts in a folder."""
-    if lacking():
-        skip("the picture of shaping", lacking())
+    why = lacking()
+    if why:
+        skip("the picture of shaping", why)
         return
     picture = Picture()
     for line in LINES:

@@ -1,9 +1,11 @@
 """The tables of docs/PERFORMANCE.md on the package for browsers and node."""
 from statistics import median
+from typing import Iterable, Iterator, Mapping, NamedTuple, Optional, Sequence
 
 from document import number, ratio, table
-from web_speed import NATIVE, NODE
-from wire import BROTLI, GZIP, KNOWN, OTHER_WHOLE, SLICES, WHOLE
+from timing import Called
+from web_speed import NATIVE, NODE, Speed
+from wire import BROTLI, GZIP, KNOWN, OTHER_WHOLE, SLICES, WHOLE, Wire
 
 MOST_IN_NODE = 7  # times as long as native calls
 NOTHING = "–"
@@ -11,7 +13,15 @@ CALLS = {"cut": "lean cut of a kept font, ASCII", "join": "join of 20 slices of 
 WAYS = GZIP, BROTLI, KNOWN, WHOLE, OTHER_WHOLE, SLICES
 
 
-def wire_lines(row):
+class Web(NamedTuple):
+    """What was measured of the package: the bytes on the wire, the speed of calls, and the length of the module."""
+
+    wire: list[Wire]
+    speed: list[Speed]
+    module: Optional[int]
+
+
+def wire_lines(row: Wire) -> Iterator[list[str]]:
     """A line for each way to fetch what ten texts need."""
     all_of_slices = sum(row.sizes.get(SLICES, ()))
     for way in WAYS:
@@ -21,25 +31,25 @@ def wire_lines(row):
         yield [f"{row.font}, {row.kind}", way, *cells, beside]
 
 
-def wire_table(rows):
+def wire_table(rows: Iterable[Wire]) -> str:
     """The bytes on the wire: a row for each font, kind and way."""
     titles = ["font and cuts", "what is fetched", "first text", "nine more", "all ten", ": slices"]
     return table(titles, [line for row in rows for line in wire_lines(row)])
 
 
-def added_texts(rows):
+def added_texts(rows: Iterable[Wire]) -> str:
     """How many characters each text adds, in a sentence for each font and kind."""
     return " ".join(f"{row.font}, {row.kind}: {', '.join(map(str, row.added))}." for row in rows)
 
 
-def took(turns, name):
+def took(turns: Sequence[Mapping[str, Called]], name: str) -> tuple[float, float]:
     """The least and the median of all turns in milliseconds."""
     return min(one[name].least for one in turns), median(one[name].median for one in turns)
 
 
-def speed_table(speeds):
+def speed_table(speeds: Iterable[Speed]) -> str:
     """Calls in node beside native ones."""
-    lines = []
+    lines: list[list[object]] = []
     for speed in speeds:
         for name, what in CALLS.items():
             native, node = took(speed.turns[NATIVE], name), took(speed.turns[NODE], name)
@@ -49,10 +59,11 @@ def speed_table(speeds):
     return table(["call", "font", "native, ms", "node, ms", "ratio of the least", "at most", "held"], lines)
 
 
-def tables(found):
+def tables(found: Web) -> dict[str, str]:
     """All tables, by their names in the template."""
-    wires, speeds = found["wire"], found["speed"]
+    wires, speeds, module = found.wire, found.speed, found.module
     return {
+        "web_module": f"{module / 1000:.0f} KB as Brotli" if module else "a length that was not measured",
         "web_wire": wire_table(wires) if wires else "None of the fonts is installed.",
         "web_added": added_texts(wires),
         "web_speed": speed_table(speeds) if speeds else "Not measured, for a package is not installed.",

@@ -2,14 +2,14 @@
 import os
 import shutil
 import sys
-from collections import namedtuple
+from typing import NamedTuple, Optional
 
-from checks import built_package, put, skip
+from checks import built_package, put, read, skip
 from cut_sizes import mapped_codes, spread
 from join_timing import SOURCE
-from measure import Font, need
-from timing import BENCHES, called, compiled_calls, put_ranges
-from wire import LATIN, PACKAGES
+from measure import Bench, Font, need
+from timing import BENCHES, Called, called, compiled_calls, put_ranges
+from wire import LATIN, PACKAGES, by_brotli
 import fontcut
 
 PATHS = LATIN, SOURCE
@@ -18,11 +18,16 @@ TURNS = 3  # how often both are run, one after the other
 NATIVE, NODE = "native", "node"
 ASCII = [(0x20, 0x7E)]
 
-# A font, and what native calls and those in node took: by the side, in each turn, what each call took by its name.
-Speed = namedtuple("Speed", "font turns")
+
+class Speed(NamedTuple):
+    """A font, and what native calls and those in node took: by the side, in each turn, what each call took by its
+    name."""
+
+    font: str
+    turns: dict[str, list[dict[str, Called]]]
 
 
-def slices(font):
+def slices(font: Font) -> list[list[int]]:
     """The codes of each slice: characters that the font maps, spread evenly over them and in their order."""
     codes = spread(mapped_codes(font), SLICES * OF_EACH)
     return [codes[at:at + OF_EACH] for at in range(0, len(codes), OF_EACH)]
@@ -31,13 +36,13 @@ def slices(font):
 class Speeds:
     """Times calls by what is compiled in a folder."""
 
-    def __init__(self, bench, library):
+    def __init__(self, bench: Bench, library: str) -> None:
         self.bench, self.package = bench, built_package()
         self.calls = compiled_calls(bench.folder, library, "web_in_process.c")
         self.ranges = os.path.join(bench.folder, "web.ranges")
         put_ranges(self.ranges, ASCII)
 
-    def measured(self, path):
+    def measured(self, path: str) -> Speed:
         """What both sides took with a font."""
         font = Font(os.path.basename(path)[:-4], path, os.path.getsize(path), 0)
         print(f"{font.name}: calls in node", file=sys.stderr, flush=True)
@@ -47,7 +52,7 @@ class Speeds:
                 put(name, cut)
         words = [path, self.ranges, *files]
         programs = {NATIVE: (self.calls, words), NODE: ("node", [f"{BENCHES}/web_speed.mjs", self.package, *words])}
-        found = {side: [] for side in programs}
+        found: dict[str, list[dict[str, Called]]] = {side: [] for side in programs}
         for _ in range(TURNS):
             for side, (program, given) in programs.items():
                 found[side].append(called(program, given, self.bench.effort.call_ms, self.bench.effort.least_calls))
@@ -56,7 +61,15 @@ class Speeds:
         return Speed(font.name, found)
 
 
-def measured(bench, library, shared):
+def module_size() -> Optional[int]:
+    """The length of the module as Brotli, or None where it cannot be built or packed."""
+    if not (shutil.which("wasm-opt") and shutil.which("brotli")):
+        skip("the length of the module", "Debian's package binaryen or brotli is not installed")
+        return None
+    return by_brotli(read(os.path.join(built_package(), "fontcut.wasm")))
+
+
+def measured(bench: Bench, library: str, shared: str) -> list[Speed]:
     """What is measured of each font."""
     wanted = {"node": "nodejs", "wasm-opt": "binaryen"}
     lacking = [package for program, package in wanted.items() if not shutil.which(program)]

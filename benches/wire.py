@@ -8,7 +8,7 @@ import shutil
 import subprocess
 import sys
 import urllib.parse
-from collections import namedtuple
+from typing import Callable, Iterable, NamedTuple, Optional, Sequence
 
 import fontcut
 from checks import DEJAVU, PROGRAM, TOP, put, run, skip
@@ -34,12 +34,18 @@ KNOWN = "the same, the first one by gzip and then a dictionary"
 WHOLE, OTHER_WHOLE = "a whole cut each time, WOFF2", "`hb-subset`, a whole font each time, WOFF2"
 SLICES = "`hb-subset`, slices that do not join, WOFF2"
 
-# A font, the kind of its cuts, how many characters each text adds, and by its name what each way fetches for each text,
-# in bytes. A way whose program is not there is left out.
-Wire = namedtuple("Wire", "font kind added sizes")
+
+class Wire(NamedTuple):
+    """A font, the kind of its cuts, how many characters each text adds, and by its name what each way fetches for each
+    text, in bytes. A way whose program is not there is left out."""
+
+    font: str
+    kind: str
+    added: list[int]
+    sizes: dict[str, list[int]]
 
 
-def additions(path, kind):
+def additions(path: str, kind: str) -> list[list[int]]:
     """For each text the codes that the texts before it did not need, of those that the font maps."""
     name = os.path.basename(path)[:-4]
     mapped = set(mapped_codes(Font(name, path, 0, 0)))
@@ -48,7 +54,8 @@ def additions(path, kind):
     else:
         texts = [text for begin in BEGINS for text in TEXTS if text.startswith(begin)]
     need(f"{name}: the texts are there", len(texts) == TEXT_COUNT)
-    found, known = [], set()
+    found: list[list[int]] = []
+    known: set[int] = set()
     for text in texts:
         codes = {ord(letter) for letter in (needed(text) if kind == LAYOUT else text)} & mapped
         found.append(sorted(codes - known))
@@ -60,11 +67,12 @@ def additions(path, kind):
 class Browser:
     """Asks the application of examples/server for cuts of a font, and may keep the first one as a dictionary."""
 
-    def __init__(self, application, path, kind, keeps):
+    def __init__(self, application: Callable[..., Iterable[bytes]], path: str, kind: str, keeps: bool) -> None:
         self.application, self.name, self.kind, self.keeps = application, os.path.basename(path), kind, keeps
-        self.known, self.headers = {}, {}
+        self.known: dict[str, str] = {}
+        self.headers: dict[str, str] = {}
 
-    def ask(self, codes):
+    def ask(self, codes: Sequence[int]) -> tuple[bytes, Optional[str]]:
         """The bytes of the answer for these codes, and its coding, if it has one."""
         query = urllib.parse.urlencode({"unicodes": ",".join(f"{code:X}" for code in codes), "kind": self.kind})
         environ = {"REQUEST_METHOD": "GET", "PATH_INFO": f"/{self.name}", "QUERY_STRING": query, **self.known}
@@ -75,18 +83,18 @@ class Browser:
                           "HTTP_DICTIONARY_ID": self.headers["Use-As-Dictionary"].partition("id=")[2]}
         return body, self.headers.get("Content-Encoding")
 
-    def starts(self, status, headers):
+    def starts(self, status: str, headers: Iterable[tuple[str, str]]) -> None:
         """Keeps the headers of an answer."""
         need(f"{self.name}: the server answers", status == "200 OK", status)
         self.headers = dict(headers)
 
 
-def by_brotli(data):
+def by_brotli(data: bytes) -> int:
     """The length of bytes by Brotli at its highest level."""
     return len(subprocess.run(["brotli", "-q", "11", "-c"], input=data, capture_output=True, check=True).stdout)
 
 
-def by_gzip(data):
+def by_gzip(data: bytes) -> int:
     """The length of bytes by gzip at its lowest level, which is that of nginx."""
     return len(gzip.compress(data, 1))
 
@@ -94,16 +102,17 @@ def by_gzip(data):
 class Wires:
     """Makes what each way fetches, in a folder."""
 
-    def __init__(self, folder):
+    def __init__(self, folder: str) -> None:
         import app  # of examples/server, which `measured` puts on the path
+        import dictionaries
         fonts = os.path.join(folder, "fonts")
         os.makedirs(fonts)
         for path in {path for path, _ in FONTS if os.path.exists(path)}:
             os.symlink(path, os.path.join(fonts, os.path.basename(path)))
-        self.application, self.has_dictionaries = app.Application(fonts), app.dictionaries.zstandard is not None
+        self.application, self.has_dictionaries = app.Application(fonts), dictionaries.CAN_PACK
         self.out, self.codes = os.path.join(folder, "wire.ttf"), os.path.join(folder, "wire.codes")
 
-    def cuts(self, path, kind, added):
+    def cuts(self, path: str, kind: str, added: list[list[int]]) -> dict[str, list[int]]:
         """What is fetched of cuts that a page joins."""
         browser = Browser(self.application, path, kind, keeps=False)
         cuts = [browser.ask(codes)[0] for codes in added]
@@ -114,7 +123,7 @@ class Wires:
             found[BROTLI] = list(map(by_brotli, cuts))
         return found
 
-    def packed(self, path, kind, added):
+    def packed(self, path: str, kind: str, added: list[list[int]]) -> dict[str, list[int]]:
         """What is fetched of them by a browser that takes dictionaries. What has no dictionary nginx packs."""
         if not self.has_dictionaries:
             skip(f"{os.path.basename(path)}: dictionaries", "Debian's package python3-zstandard is not installed")
@@ -125,14 +134,16 @@ class Wires:
         need(f"{path}: dictionaries are taken", codings == [None] + ["dcz"] * (TEXT_COUNT - 1), codings)
         return {KNOWN: [len(body) if coding else by_gzip(body) for body, coding in answers]}
 
-    def woff2(self, codes, *words):
+    def woff2(self, codes: Sequence[int], *words: str) -> int:
         """The length as WOFF2 of what a program writes for these codes."""
         put(self.codes, "".join(f"U+{code:X}\n" for code in codes).encode())
         ran = run(*words)
         need(f"{words[0]} ends well", ran[0] == 0, words, ran[2])
-        return length_of(self.out).woff2
+        length = length_of(self.out).woff2
+        assert length, "woff2_compress is there"
+        return length
 
-    def fonts(self, path, kind, added):
+    def fonts(self, path: str, kind: str, added: list[list[int]]) -> dict[str, list[int]]:
         """What is fetched where each text is answered with a whole font, or with a slice that does not join."""
         if not shutil.which("woff2_compress"):
             skip(f"{os.path.basename(path)}: WOFF2", "Debian's package woff2 is not installed")
@@ -150,11 +161,12 @@ class Wires:
         return found
 
 
-def measured(folder, library):
+def measured(folder: str, library: str) -> list[Wire]:
     """What each way fetches, of each font and kind."""
     os.environ["FONTCUT_LIBRARY"] = library
     sys.path.insert(0, os.path.join(TOP, "examples", "server"))
-    maker, rows = Wires(folder), []
+    maker = Wires(folder)
+    rows: list[Wire] = []
     if not shutil.which("brotli"):
         skip("cuts by Brotli", "Debian's package brotli is not installed")
     for path, kind in FONTS:

@@ -1,5 +1,7 @@
 """Chromium without a window, for tests of pages: how it is started, a server of pages on loopback, and a page that is
 told over a pipe what to do, by the DevTools protocol."""
+from __future__ import annotations
+
 import base64
 import contextlib
 import fcntl
@@ -14,6 +16,7 @@ import subprocess
 import tempfile
 import threading
 import time
+from typing import Any, Callable, Iterable, Iterator, Mapping, Optional
 
 from checks import put
 
@@ -43,7 +46,7 @@ class Failed(Exception):
     """What a page or the browser says that it cannot do."""
 
 
-def configured(folder, hidden):
+def configured(folder: str, hidden: Iterable[str]) -> dict[str, str]:
     """Keeps in a folder, which is a browser's home, that it draws without hinting and without the installed fonts of
     some folders: the environment of the browser."""
     place = os.path.join(folder, ".config", "fontconfig")
@@ -58,20 +61,24 @@ class Files(http.server.SimpleHTTPRequestHandler):
 
     extensions_map = {**http.server.SimpleHTTPRequestHandler.extensions_map, **KINDS}
 
-    def __init__(self, asked, *words, **how):
+    def __init__(self, asked: list[str], *words: Any, **how: Any) -> None:
         self.asked = asked
         super().__init__(*words, **how)
 
-    def log_message(self, *_):
+    def log_message(self, *_: object) -> None:
         pass
 
-    def do_GET(self):
+    def do_GET(self) -> None:
         self.asked.append(self.path.lstrip("/"))
         super().do_GET()
 
 
+# What makes the handler of a request.
+Handler = Callable[..., http.server.BaseHTTPRequestHandler]
+
+
 @contextlib.contextmanager
-def serving(handler):
+def serving(handler: Handler) -> Iterator[str]:
     """Runs a server on a free port of loopback, and hands out its address."""
     with http.server.ThreadingHTTPServer(("127.0.0.1", 0), handler) as server:
         threading.Thread(target=server.serve_forever, daemon=True).start()
@@ -81,7 +88,7 @@ def serving(handler):
             server.shutdown()
 
 
-def files_of(folder, asked=None):
+def files_of(folder: str, asked: Optional[list[str]] = None) -> Handler:
     """What answers with the files of a folder."""
     return functools.partial(Files, [] if asked is None else asked, directory=folder)
 
@@ -89,8 +96,9 @@ def files_of(folder, asked=None):
 class Page:
     """A page in a browser of its own, which is told what to do and waited for."""
 
-    def __init__(self, folder, hidden=()):
-        self.session, self.count, self.said = None, 0, b""
+    def __init__(self, folder: str, hidden: Iterable[str] = ()) -> None:
+        self.session: Optional[str] = None
+        self.count, self.said = 0, b""
         self.profile = tempfile.mkdtemp(prefix="profile-", dir=folder)
         self.process = self.started(configured(folder, hidden))
         try:
@@ -100,7 +108,7 @@ class Page:
             self.close()
             raise
 
-    def started(self, env):
+    def started(self, env: Mapping[str, str]) -> subprocess.Popen[bytes]:
         """Starts the browser, which reads what it is told from the file 3, and answers to the file 4."""
         (its_input, self.told), (self.answers, its_output) = os.pipe(), os.pipe()
         # The shell opens 3 and 4 for the browser, so that neither of them may be one of the pipes' own numbers.
@@ -113,13 +121,13 @@ class Page:
             os.close(end)
         return process
 
-    def __enter__(self):
+    def __enter__(self) -> Page:
         return self
 
-    def __exit__(self, *_):
+    def __exit__(self, *_: object) -> None:
         self.close()
 
-    def close(self):
+    def close(self) -> None:
         """Ends the browser."""
         with contextlib.suppress(OSError):
             os.close(self.told)  # it ends where it is told nothing more
@@ -131,7 +139,7 @@ class Page:
         os.close(self.answers)
         shutil.rmtree(self.profile, ignore_errors=True)
 
-    def answer(self, until):
+    def answer(self, until: float) -> dict[str, Any]:
         """The next message of the browser."""
         while b"\0" not in self.said:
             if not select.select([self.answers], [], [], max(0, until - time.monotonic()))[0]:
@@ -141,12 +149,13 @@ class Page:
                 raise Failed("the browser has ended")
             self.said += some
         message, _, self.said = self.said.partition(b"\0")
-        return json.loads(message)
+        told: dict[str, Any] = json.loads(message)
+        return told
 
-    def ask(self, method, **given):
+    def ask(self, method: str, **given: object) -> dict[str, Any]:
         """What the browser answers to a command."""
         self.count += 1
-        sent = {"id": self.count, "method": method, "params": given}
+        sent: dict[str, object] = {"id": self.count, "method": method, "params": given}
         if self.session:
             sent["sessionId"] = self.session
         data, until = json.dumps(sent).encode() + b"\0", time.monotonic() + SECONDS
@@ -157,9 +166,10 @@ class Page:
             answer = self.answer(until)
         if "error" in answer:
             raise Failed(f"{method}: {answer['error']['message']}")
-        return answer["result"]
+        result: dict[str, Any] = answer["result"]
+        return result
 
-    def run(self, code):
+    def run(self, code: str) -> Any:
         """The value of an expression in the page, which is waited for where it is a promise."""
         told = self.ask("Runtime.evaluate", expression=code, awaitPromise=True, returnByValue=True)
         if "exceptionDetails" in told:
@@ -167,11 +177,11 @@ class Page:
             raise Failed(thrown.get("exception", {}).get("description") or thrown["text"])
         return told["result"].get("value")
 
-    def call(self, name, *given):
+    def call(self, name: str, *given: object) -> Any:
         """What a function of the page answers."""
         return self.run(f"{name}({', '.join(map(json.dumps, given))})")
 
-    def open(self, address):
+    def open(self, address: str) -> None:
         """Opens a page, and waits until it is loaded."""
         told = self.ask("Page.navigate", url=address)
         if "errorText" in told:
@@ -179,7 +189,7 @@ class Page:
         self.run("document.readyState === 'complete' || new Promise(done => addEventListener('load', done))"
                  ".then(() => true)")
 
-    def picture(self, selector):
+    def picture(self, selector: str) -> bytes:
         """The bytes of a picture, as PNG, of an element that lies in the window."""
         box = self.run(f"(({{x, y, width, height}}) => ({{x, y, width, height}}))"
                        f"(document.querySelector({json.dumps(selector)}).getBoundingClientRect())")

@@ -1,5 +1,6 @@
 """Texts of documents by chance, for tests and measurements of documents that are merged."""
 import random
+from typing import Container
 
 WORDS = """the of and to in that it was for on are with his they at be this from have or by one had not but what all
     were when we there can an your which their said if do will each about how up out them then she many some so these would
@@ -13,12 +14,12 @@ IDEOGRAPHS = [chr(code) for code in range(0x4E00, 0x4E00 + 3500)]
 WEIGHTS = [(rank + 100) ** -1.7 for rank in range(len(IDEOGRAPHS))]
 
 
-def document_lines(name, mapped, count):
+def document_lines(name: str, mapped: Container[int], count: int) -> list[list[str]]:
     """The lines of some documents in a font of this name, of characters that it maps: of ideographs for a Chinese font,
     and else of words."""
     chance = random.Random(f"documents of {name}")
 
-    def line():
+    def line() -> str:
         if "WenKai" in name:
             return "".join(chance.choices(IDEOGRAPHS, WEIGHTS, k=20))
         return " ".join(chance.choices(WORDS, k=6))

@@ -1,48 +1,50 @@
 """Fonts that are made of a font by small changes, all their sums right."""
 import struct
-
+from typing import Mapping, Optional
 from font_cutting import assembled, cmap_table, cut, groups_of, ranges, whole_map
 from font_reading import offset, table, tables_of, u16
 
 
-def turned(data, place):
+def turned(data: bytes, place: int) -> bytes:
     """The bytes with the one at this place turned, which is then another."""
-    data = bytearray(data)
-    data[place] ^= 0xFF
-    return bytes(data)
+    made = bytearray(data)
+    made[place] ^= 0xFF
+    return bytes(made)
 
 
-def with_tables(file, changed):
+def with_tables(file: bytes, changed: Mapping[bytes, Optional[bytes]]) -> bytes:
     """The font with other bytes for some tables, or without those for which there is None; its sums are right."""
-    tables = {**tables_of(file), **changed}
+    tables: dict[bytes, Optional[bytes]] = {**tables_of(file), **changed}
     return assembled({tag: data for tag, data in tables.items() if data is not None})
 
 
-def with_bytes(file, places):
+def with_bytes(file: bytes, places: Mapping[bytes, int]) -> bytes:
     """The font with a byte of some tables turned."""
     return with_tables(file, {tag: turned(table(file, tag), place) for tag, place in places.items()})
 
 
-def with_codes(file, codes):
+def with_codes(file: bytes, codes: Mapping[int, int]) -> bytes:
     """The font with some codes on other glyphs."""
     return with_tables(file, {b"cmap": cmap_table(groups_of({**whole_map(file), **codes}))})
 
 
-def without_code(file, code):
+def without_code(file: bytes, code: int) -> bytes:
     """The font without a code."""
     glyphs = {other: glyph for other, glyph in whole_map(file).items() if other != code}
     return with_tables(file, {b"cmap": cmap_table(groups_of(glyphs))})
 
 
-def with_outlines(file, *glyphs):
+def with_outlines(file: bytes, *glyphs: int) -> bytes:
     """The font with the last byte of the outline of some simple glyphs turned, which is not looked at."""
     glyf, loca, form = table(file, b"glyf"), table(file, b"loca"), u16(table(file, b"head"), 50)
     for glyph in glyphs:
-        glyf = turned(glyf, offset(loca, form, glyph + 1) - 1)
+        end = offset(loca, form, glyph + 1)
+        assert end, "the glyph has no outline"
+        glyf = turned(glyf, end - 1)
     return with_tables(file, {b"glyf": glyf})
 
 
-def with_family(file, family):
+def with_family(file: bytes, family: str) -> bytes:
     """The font with this family as its only name."""
     name = family.encode("utf-16-be")
     header = struct.pack(">HHH", 0, 1, 18)
@@ -51,12 +53,12 @@ def with_family(file, family):
     return with_tables(file, {b"name": header + record + name})
 
 
-def with_classes(file, weight, width):
+def with_classes(file: bytes, weight: int, width: int) -> bytes:
     """The font with other classes of weight and width."""
     os2 = table(file, b"OS/2")
     return with_tables(file, {b"OS/2": os2[:4] + struct.pack(">HH", weight, width) + os2[8:]})
 
 
-def cut_for(file, words):
+def cut_for(file: bytes, words: str) -> bytes:
     """The cut of a font for the ranges that typed words name."""
     return cut(file, ranges(words))

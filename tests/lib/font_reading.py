@@ -4,55 +4,70 @@ It follows OpenType 1.9, "Organization of an OpenType Font" (the table directory
 checksums), `head`, `maxp`, `hhea`, `hmtx`, `loca`, `cmap` (formats 4 and 12) and `glyf` (composite glyphs).
 """
 import struct
-from collections import namedtuple
+from typing import NamedTuple, Optional, Sequence
 
 MAX_FILE = 134_217_728
 KEPT_TAGS = "OS/2 cmap cvt  fpgm gasp glyf head hhea hmtx loca maxp name post prep vhea vmtx"
 KEPT = [KEPT_TAGS[at:at + 4].encode() for at in range(0, len(KEPT_TAGS), 5)]
 ACCEPTED_VERSIONS = (0x00010000, 0x74727565)  # TrueType outlines, and `true`
 
-Record = namedtuple("Record", "tag checksum offset length")
+# The number and the text of a refusal.
+Refusal = tuple[int, str]
+# Glyphs, units, form of `loca`, pairs of metrics, the mapping's pair and format, its codes, and lengths of tables.
+Shown = tuple[int, int, str, int, tuple[int, int, int], int, list[tuple[str, int]]]
 
 
-def u16(file, at):
-    return struct.unpack_from(">H", file, at)[0]
+class Record(NamedTuple):
+    """A record of the directory."""
+
+    tag: bytes
+    checksum: int
+    offset: int
+    length: int
 
 
-def u32(file, at):
-    return struct.unpack_from(">I", file, at)[0]
+def u16(file: bytes, at: int) -> int:
+    number: int = struct.unpack_from(">H", file, at)[0]
+    return number
 
 
-def records_of(file):
+def u32(file: bytes, at: int) -> int:
+    number: int = struct.unpack_from(">I", file, at)[0]
+    return number
+
+
+def records_of(file: bytes) -> list[Record]:
     """The records of the directory, in its order."""
     return [Record(*struct.unpack_from(">4sIII", file, 12 + 16 * slot)) for slot in range(u16(file, 4))]
 
 
-def tag_text(tag):
+def tag_text(tag: bytes) -> str:
     """The four bytes as ASCII, or `0x` and eight digits where one of them is no printable character."""
     is_text = all(0x20 <= byte <= 0x7E for byte in tag)
     return tag.decode("ascii") if is_text else "0x" + tag.hex()
 
 
-def word_sum(data):
+def word_sum(data: bytes) -> int:
     """The sum of the big-endian u32 words, the last one filled with zeros, modulo 2^32."""
     data = bytes(data) + bytes(-len(data) % 4)
-    return sum(struct.unpack(f">{len(data) // 4}I", data)) % 2**32
+    words: tuple[int, ...] = struct.unpack(f">{len(data) // 4}I", data)
+    return sum(words) % 2**32
 
 
-def is_in_file(file, record):
+def is_in_file(file: bytes, record: Record) -> bool:
     return record.offset + record.length <= len(file)
 
 
-def table_of(file, record):
+def table_of(file: bytes, record: Record) -> bytes:
     return file[record.offset:record.offset + record.length]
 
 
-def tables_of(file):
+def tables_of(file: bytes) -> dict[bytes, bytes]:
     """The tables of a file, by tag."""
     return {record.tag: table_of(file, record) for record in records_of(file)}
 
 
-def search_fields(count):
+def search_fields(count: int) -> Optional[tuple[int, int, int]]:
     """searchRange, entrySelector and rangeShift for this many tables, or None where no fields are right."""
     if not 1 <= count <= 4095:
         return None
@@ -60,7 +75,7 @@ def search_fields(count):
     return 16 * 2**selector, selector, 16 * count - 16 * 2**selector
 
 
-def record_refusal(file, tags):
+def record_refusal(file: bytes, tags: Sequence[bytes]) -> Optional[Refusal]:
     """The number and text of the first refusal of the records of these tags that applies, or None."""
     records = records_of(file)
     for tag in tags:
@@ -72,7 +87,7 @@ def record_refusal(file, tags):
     return None
 
 
-def directory_refusal(file):
+def directory_refusal(file: bytes) -> Optional[Refusal]:
     """The number and text of the first refusal of the directory that applies, or None."""
     if len(file) > MAX_FILE:
         return 1, "file too large"
@@ -91,12 +106,12 @@ def directory_refusal(file):
 REQUIRED = (b"cmap", b"glyf", b"head", b"hhea", b"hmtx", b"loca", b"maxp")
 
 
-def table(file, tag):
+def table(file: bytes, tag: bytes) -> bytes:
     """The bytes of the table of this tag, which is there once."""
     return next(table_of(file, record) for record in records_of(file) if record.tag == tag)
 
 
-def offset(loca, form, index):
+def offset(loca: bytes, form: int, index: int) -> Optional[int]:
     """The offset of this index in `loca`, or None where it is not whole there. The short form has it by halves."""
     size = (2, 4)[form]
     if size * (index + 1) > len(loca):
@@ -104,7 +119,7 @@ def offset(loca, form, index):
     return u32(loca, 4 * index) if form else 2 * u16(loca, 2 * index)
 
 
-def bad_offset(loca, form, glyphs, length):
+def bad_offset(loca: bytes, form: int, glyphs: int, length: int) -> Optional[int]:
     """The first index of `loca` whose offset is not whole, past the end of `glyf`, or below the one before it."""
     before = 0
     for index in range(glyphs + 1):
@@ -115,7 +130,7 @@ def bad_offset(loca, form, glyphs, length):
     return None
 
 
-def table_refusal(file):
+def table_refusal(file: bytes) -> Optional[Refusal]:
     """The number and text of the first refusal of the tables that applies, or None."""
     tags = [record.tag for record in records_of(file)]
     for tag in REQUIRED:
@@ -135,7 +150,7 @@ def table_refusal(file):
     return None if index is None else (12, f"bad loca at {index}")
 
 
-def chosen(cmap):
+def chosen(cmap: bytes) -> Optional[tuple[int, int, int]]:
     """platformID, encodingID and offset of the subtable that is read: the first listed of the first pair with one."""
     count = u16(cmap, 2) if len(cmap) >= 4 else 0
     whole = min(count, (len(cmap) - 4) // 8)
@@ -147,7 +162,14 @@ def chosen(cmap):
     return None
 
 
-def map_refusal(cmap):
+def read_subtable(cmap: bytes) -> tuple[int, int, int]:
+    """The same for the `cmap` of a font that is accepted, which has one."""
+    found = chosen(cmap)
+    assert found is not None, "the font is refused"
+    return found
+
+
+def map_refusal(cmap: bytes) -> Optional[Refusal]:
     """The number and text of the first refusal of `cmap` that applies, or None."""
     found = chosen(cmap)
     if found is None:
@@ -162,9 +184,10 @@ def map_refusal(cmap):
     return (14, "bad cmap") if is_bad else None
 
 
-def segments(subtable):
+def segments(subtable: bytes) -> dict[int, int]:
     """The glyphs of the codes by format 4: the first listed segment that ends at or after a code decides it."""
-    count, decided, glyphs = u16(subtable, 6) // 2, 0, {}
+    count, decided = u16(subtable, 6) // 2, 0
+    glyphs: dict[int, int] = {}
     for index in range(count):
         end, start, delta, offset_at = (14 + 2 * index, 16 + 2 * (count + index), 16 + 2 * (2 * count + index),
                                         16 + 2 * (3 * count + index))
@@ -179,9 +202,9 @@ def segments(subtable):
     return glyphs
 
 
-def groups(subtable):
+def groups(subtable: bytes) -> dict[int, int]:
     """The glyphs of the codes by format 12: the first listed group that holds a code decides it."""
-    glyphs = {}
+    glyphs: dict[int, int] = {}
     for index in range(u32(subtable, 12)):
         start, end, glyph = struct.unpack_from(">III", subtable, 16 + 12 * index)
         for code in range(start, min(end, 0x10FFFF) + 1):
@@ -189,35 +212,35 @@ def groups(subtable):
     return glyphs
 
 
-def mapping(cmap, count):
+def mapping(cmap: bytes, count: int) -> dict[int, int]:
     """The glyph, which is there, of each code that is mapped."""
-    subtable = cmap[chosen(cmap)[2]:]
+    subtable = cmap[read_subtable(cmap)[2]:]
     glyphs = segments(subtable) if u16(subtable, 0) == 4 else groups(subtable)
     return {code: glyph for code, glyph in glyphs.items() if 0 < glyph < count}
 
 
-def metrics(file):
+def metrics(file: bytes) -> list[tuple[int, int]]:
     """The advance width and the left side bearing of each glyph: past the pairs of `hmtx` with the last pair's advance."""
     hmtx, pairs = table(file, b"hmtx"), u16(table(file, b"hhea"), 34)
     count = u16(table(file, b"maxp"), 4)
-    found = [struct.unpack_from(">Hh", hmtx, 4 * glyph) for glyph in range(pairs)]
+    found = [(u16(hmtx, 4 * glyph), struct.unpack_from(">h", hmtx, 4 * glyph + 2)[0]) for glyph in range(pairs)]
     bearings = struct.unpack_from(f">{count - pairs}h", hmtx, 4 * pairs)
     return found + [(found[-1][0], bearing) for bearing in bearings]
 
 
-def info(file):
+def info(file: bytes) -> tuple[int, ...]:
     """numGlyphs, unitsPerEm, xMin, yMin, xMax, yMax, ascender and descender."""
     head = table(file, b"head")
     return (u16(table(file, b"maxp"), 4), u16(head, 18), *struct.unpack_from(">4h", head, 36),
             *struct.unpack_from(">2h", table(file, b"hhea"), 4))
 
 
-def component_size(flags):
+def component_size(flags: int) -> int:
     """The bytes of a component: flags, glyph, two arguments, and the scales of the first flag that has some."""
     return 4 + (4 if flags & 1 else 2) + (2 if flags & 8 else 4 if flags & 0x40 else 8 if flags & 0x80 else 0)
 
 
-def is_bad_record(record, count):
+def is_bad_record(record: bytes, count: int) -> bool:
     """Whether a glyph's record is cut off, or a component of it is no glyph."""
     if not record:
         return False
@@ -235,7 +258,7 @@ def is_bad_record(record, count):
     return False
 
 
-def glyph_refusal(file):
+def glyph_refusal(file: bytes) -> Optional[Refusal]:
     """The number and text of the first refusal of the glyphs' records that applies, or None."""
     glyf, loca, form = table(file, b"glyf"), table(file, b"loca"), u16(table(file, b"head"), 50)
     count = u16(table(file, b"maxp"), 4)
@@ -245,12 +268,12 @@ def glyph_refusal(file):
     return None
 
 
-def font_refusal(file):
+def font_refusal(file: bytes) -> Optional[Refusal]:
     """The number and text of the first refusal that applies to a file whose directory is accepted, or None."""
     return table_refusal(file) or map_refusal(table(file, b"cmap")) or glyph_refusal(file)
 
 
-def checksum_of(file, record):
+def checksum_of(file: bytes, record: Record) -> int:
     """The table's own sum; for a `head` that has it, with checksumAdjustment (its bytes 8 to 11) as 0."""
     table = table_of(file, record)
     if record.tag == b"head" and len(table) >= 12:
@@ -258,14 +281,14 @@ def checksum_of(file, record):
     return word_sum(table)
 
 
-def has_padding(file, record):
+def has_padding(file: bytes, record: Record) -> bool:
     """Whether the zeros that fill the length to a multiple of 4 follow the table, all of them."""
     end = record.offset + record.length
     padding = bytes(-record.length % 4)
     return file[end:end + len(padding)] == padding
 
 
-def adjustment_place(file):
+def adjustment_place(file: bytes) -> Optional[int]:
     """Where checksumAdjustment stands, if there is a `head` of at least 12 bytes."""
     for record in records_of(file):
         if record.tag == b"head" and record.length >= 12 and is_in_file(file, record):
@@ -273,13 +296,13 @@ def adjustment_place(file):
     return None
 
 
-def adjustment_of(file, place):
+def adjustment_of(file: bytes, place: int) -> int:
     """The checksumAdjustment that is right: the whole file is summed with the field as 0."""
     zeroed = file[:place] + bytes(4) + file[place + 4:]
     return (0xB1B0AFBA - word_sum(zeroed)) % 2**32
 
 
-def findings(file):
+def findings(file: bytes) -> list[str]:
     """The lines of the findings, in order."""
     lines = []
     records = records_of(file)
@@ -305,7 +328,7 @@ def findings(file):
     return lines
 
 
-def report(file):
+def report(file: bytes) -> tuple[str, int]:
     """What `fontcut check` has to print for these bytes, and its status."""
     refused = directory_refusal(file)
     lines = []
@@ -317,17 +340,18 @@ def report(file):
     return "".join(line + "\n" for line in lines), 0 if lines == ["findings 0", "accepted"] else 1
 
 
-def shown(file):
+def shown(file: bytes) -> Shown:
     """What `show` prints: glyphs, units, form of `loca`, metrics, the mapping's pair and format, its codes, tables."""
     head, cmap, hhea = table(file, b"head"), table(file, b"cmap"), table(file, b"hhea")
     glyphs, form = u16(table(file, b"maxp"), 4), ("short", "long")[u16(head, 50)]
-    platform, encoding, place = chosen(cmap)
+    platform, encoding, place = read_subtable(cmap)
     codes = len(mapping(cmap, glyphs))
     tables = [(tag_text(record.tag), record.length) for record in records_of(file)]
     return glyphs, u16(head, 18), form, u16(hhea, 34), (platform, encoding, u16(cmap, place)), codes, tables
 
 
-def show_text(glyphs, units, form, metrics, subtable, codes, tables, cut_form):
+def show_text(glyphs: int, units: int, form: str, metrics: int, subtable: tuple[int, int, int], codes: int,
+              tables: Sequence[tuple[str, int]], cut_form: str) -> str:
     """What `fontcut show` has to print of these numbers, of these tables in the order of the file, and of a cut: yes,
     old or no."""
     kept = [tag.decode() for tag in KEPT]

@@ -5,12 +5,10 @@ It follows the definition of layout cuts in crates/font_theory/specs/LayoutCut.a
 """
 from typing import Iterable
 
-from font_cutting import ALL, assembled, kept_glyphs, outlines, wanted_map, whole_map
+from font_cutting import ALL, Ranges, assembled, kept_glyphs, outlines, wanted_map, whole_map
 from font_reading import tables_of
 from layout_reading import LAYOUT, cleaned, roots
 from lean_cutting import lean_tables
-
-Ranges = Iterable[tuple[int, int]]
 
 
 def cleaned_tables(file: bytes) -> dict[bytes, bytes]:

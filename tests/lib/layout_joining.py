@@ -3,7 +3,7 @@ writes none.
 
 Layout cuts are joined as lean cuts are; the tables of layout are among those that have to be the same.
 """
-from typing import Optional
+from typing import Optional, Sequence
 
 import lean_joining
 from font_cutting import outlines, whole_map
@@ -39,7 +39,7 @@ def join(first: bytes, second: bytes) -> bytes:
     return made
 
 
-def join_all(files: list[bytes]) -> tuple[Optional[bytes], Optional[str]]:
+def join_all(files: Sequence[bytes]) -> tuple[Optional[bytes], Optional[str]]:
     """The join of one file or more, and no line; or none, and the line that says why."""
     joined, line = lean_joining.join_all(files, LAYOUT_CUTS)
     return joined, line

@@ -98,6 +98,7 @@ class Reader:
         form, kind, offset = u16(self.table, place), u16(self.table, place + 2), u32(self.table, place + 4)
         if form != 1 or not 1 <= kind <= 8 or kind == 7:
             raise BadLayout
+        self.step()
         if offset:
             self.subtable(kind, place + offset)
 
@@ -137,8 +138,10 @@ class Reader:
     def sets(self, offsets: list[int], place: int, read: Callable[[int, int], None]) -> Callable[[int, int], None]:
         """What reads the entry of a glyph where each index has an offset from the subtable."""
         def entry(glyph: int, index: int) -> None:
-            if index < len(offsets) and offsets[index]:
-                read(glyph, place + offsets[index])
+            if index < len(offsets):
+                self.step()
+                if offsets[index]:
+                    read(glyph, place + offsets[index])
         return entry
 
     def sequence(self, glyph: int, place: int) -> None:
@@ -149,8 +152,8 @@ class Reader:
     def ligatures(self, glyph: int, place: int) -> None:
         """Reads a LigatureSet. Whether the other components can be there does not matter: the first one is enough."""
         for offset in self.numbers(place):
+            self.step()
             if not offset:
-                self.step()
                 continue
             ligature = place + offset
             more_components = max(self.number(ligature + 2) - 1, 0)
@@ -160,6 +163,7 @@ class Reader:
 
     def coverage(self, place: int, offset: int) -> Iterator[Span]:
         """The items of a Coverage at an offset from a place."""
+        self.step()
         if not offset:
             return iter(())
         place += offset

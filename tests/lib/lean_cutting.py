@@ -2,13 +2,15 @@
 without names.
 
 It follows OpenType 1.9, `hmtx`, `vmtx` and `post` ("Version 3.0"), and the definition of lean cuts in
-crates/font_theory/specs/Lean.antt.
+crates/font_theory/specs/LeanCut.antt.
 """
-from font_cutting import ALL, assembled, cut_tables, kept_glyphs, outlines, wanted_map, whole_map
+from typing import Container, Mapping, Optional
+
+from font_cutting import ALL, Ranges, assembled, cut_tables, kept_glyphs, outlines, wanted_map, whole_map
 from font_reading import u16
 
 
-def pairs_in(tables, header, name, glyphs):
+def pairs_in(tables: Mapping[bytes, bytes], header: bytes, name: bytes, glyphs: int) -> int:
     """The number of pairs of a table of metrics, or 0 where its header does not describe it."""
     data = tables.get(header, b"")
     pairs = u16(data, 34) if len(data) >= 36 else 0
@@ -17,7 +19,7 @@ def pairs_in(tables, header, name, glyphs):
     return pairs
 
 
-def entry(pairs, glyph):
+def entry(pairs: int, glyph: int) -> tuple[int, int]:
     """The place and the size of what is of one glyph alone: a pair, or from the last pair on the bearing, for the last
     advance is that of all glyphs from there on."""
     if glyph < pairs - 1:
@@ -27,7 +29,7 @@ def entry(pairs, glyph):
     return 4 * pairs + 2 * (glyph - pairs), 2
 
 
-def cleared(table, pairs, glyphs, kept):
+def cleared(table: bytes, pairs: int, glyphs: int, kept: Container[int]) -> bytes:
     """A table of metrics with zeros for the glyphs that are not kept; one of no pairs stays as it is."""
     made = bytearray(table)
     for glyph in range(glyphs if pairs else 0):
@@ -37,12 +39,12 @@ def cleared(table, pairs, glyphs, kept):
     return bytes(made)
 
 
-def without_names(post):
+def without_names(post: bytes) -> bytes:
     """A `post` in version 3.0, or as it is where it is too short for the fields of every version."""
     return post if len(post) < 32 else bytes.fromhex("00030000") + post[4:32]
 
 
-def lean_tables(file, wanted, kept=None):
+def lean_tables(file: bytes, wanted: Ranges, kept: Optional[Container[int]] = None) -> dict[bytes, bytes]:
     """The tables of the lean cut of a font for wanted ranges of codes, by tag; with the outlines and metrics of other
     kept glyphs where these are given."""
     records = outlines(file)
@@ -58,16 +60,16 @@ def lean_tables(file, wanted, kept=None):
     return tables
 
 
-def lean_cut(file, wanted):
+def lean_cut(file: bytes, wanted: Ranges) -> bytes:
     """The lean cut of a font that is accepted, for wanted ranges of codes."""
     return assembled(lean_tables(file, wanted))
 
 
-def is_lean_cut(file):
+def is_lean_cut(file: bytes) -> bool:
     """Whether a file that is accepted is its own lean cut for all codes."""
     return lean_cut(file, ALL) == file
 
 
-def is_lean_cut_of(made, file):
+def is_lean_cut_of(made: bytes, file: bytes) -> bool:
     """Whether an accepted file is a lean cut of another: the one for the codes that it maps."""
     return lean_cut(file, [(code, code) for code in whole_map(made)]) == made

@@ -5,22 +5,28 @@ It follows docs/FORMAT.md and the definition of lean cuts: of `hmtx` and `vmtx` 
 single glyph, and what belongs to a glyph is compared and united with its outline. Another kind of cut that is joined
 in the same way brings a `Kind` of its own.
 """
-from collections import namedtuple
+from typing import Callable, Iterable, NamedTuple, Optional, Sequence
 
 from font_cutting import assembled, cmap_table, cut_size, glyf_and_loca, groups_of, outlines, whole_map
 from font_joining import copied, different, file_refusal, kept
-from font_reading import KEPT, MAX_FILE, tables_of, tag_text
+from font_reading import KEPT, MAX_FILE, Refusal, tables_of, tag_text
 from lean_cutting import cleared, entry, is_lean_cut, pairs_in, without_names
 
 METRICS = ((b"hhea", b"hmtx"), (b"vhea", b"vmtx"))
 
-# What is particular to a kind of cut: the tags of its tables in order, and three functions of a file: what two cuts of
-# one font have in common of their copied tables, the outlines of the kept glyphs by number, and the refusal of a file,
-# which is called the first or the second, that is no such cut.
-Kind = namedtuple("Kind", "tags shared kept refusal")
+
+class Kind(NamedTuple):
+    """What is particular to a kind of cut: the tags of its tables in order, and three functions of a file. These are what
+    two cuts of one font have in common of their copied tables, the outlines of the kept glyphs by number, and the
+    refusal of a file, which is called the first or the second, that is no such cut."""
+
+    tags: Sequence[bytes]
+    shared: Callable[[bytes], dict[bytes, bytes]]
+    kept: Callable[[bytes], dict[int, bytes]]
+    refusal: Callable[[bytes, str], Optional[Refusal]]
 
 
-def shared(file):
+def shared(file: bytes) -> dict[bytes, bytes]:
     """By tag what two lean cuts of one font have in common of their copied tables."""
     tables, glyphs = copied(file), len(outlines(file))
     for header, name in METRICS:
@@ -31,7 +37,7 @@ def shared(file):
     return tables
 
 
-def lean_refusal(file, name):
+def lean_refusal(file: bytes, name: str) -> Optional[Refusal]:
     """The number and text of the refusal of a file, the first or the second, that is no lean cut, or None."""
     return None if is_lean_cut(file) else (20, f"not a cut: {name}")
 
@@ -39,7 +45,7 @@ def lean_refusal(file, name):
 LEAN = Kind(KEPT, shared, kept, lean_refusal)
 
 
-def kept_with_metrics(file, kind):
+def kept_with_metrics(file: bytes, kind: Kind) -> dict[int, list[bytes]]:
     """By number the outlines of the kept glyphs, each with what the tables of metrics have of that glyph alone."""
     tables, glyphs = tables_of(file), len(outlines(file))
     found = {glyph: [outline] for glyph, outline in kind.kept(file).items()}
@@ -51,13 +57,13 @@ def kept_with_metrics(file, kind):
     return found
 
 
-def different_table(first, second, kind):
+def different_table(first: bytes, second: bytes, kind: Kind) -> Optional[bytes]:
     """The least tag of a table of which two lean cuts do not share what they should, or None."""
-    first, second = kind.shared(first), kind.shared(second)
-    return next((tag for tag in kind.tags if first.get(tag) != second.get(tag)), None)
+    here, there = kind.shared(first), kind.shared(second)
+    return next((tag for tag in kind.tags if here.get(tag) != there.get(tag)), None)
 
 
-def difference_refusal(first, second, kind):
+def difference_refusal(first: bytes, second: bytes, kind: Kind) -> Optional[Refusal]:
     """The number and text of what tells two lean cuts apart first, or None."""
     tag = different_table(first, second, kind)
     if tag is not None:
@@ -69,7 +75,7 @@ def difference_refusal(first, second, kind):
     return None if glyph is None else (23, f"different glyph {glyph}")
 
 
-def with_metrics(table, other, pairs, glyphs):
+def with_metrics(table: bytes, other: bytes, pairs: int, glyphs: Iterable[int]) -> bytes:
     """A table of metrics with what another one has of these glyphs."""
     made = bytearray(table)
     for glyph in glyphs if pairs else ():
@@ -78,7 +84,7 @@ def with_metrics(table, other, pairs, glyphs):
     return bytes(made)
 
 
-def joined_tables(first, second, kind):
+def joined_tables(first: bytes, second: bytes, kind: Kind) -> dict[bytes, bytes]:
     """The tables of the join of two lean cuts that nothing tells apart, by tag."""
     tables, others, glyphs = tables_of(first), tables_of(second), len(outlines(first))
     for header, name in METRICS:
@@ -92,7 +98,7 @@ def joined_tables(first, second, kind):
     return tables
 
 
-def join_refusal(first, second, kind=LEAN):
+def join_refusal(first: bytes, second: bytes, kind: Kind = LEAN) -> Optional[Refusal]:
     """The number and text of the first refusal of a join of two files that applies, or None."""
     refused = (file_refusal(first) or file_refusal(second) or kind.refusal(first, "first")
                or kind.refusal(second, "second") or difference_refusal(first, second, kind))
@@ -102,12 +108,12 @@ def join_refusal(first, second, kind=LEAN):
     return (18, f"too large {size}") if size > MAX_FILE else None
 
 
-def join(first, second, kind=LEAN):
+def join(first: bytes, second: bytes, kind: Kind = LEAN) -> bytes:
     """The join of two lean cuts that is not refused."""
     return assembled(joined_tables(first, second, kind))
 
 
-def join_all(files, kind=LEAN):
+def join_all(files: Sequence[bytes], kind: Kind = LEAN) -> tuple[Optional[bytes], Optional[str]]:
     """The join of one file or more, and no line; or none, and the line that says why. The first file is joined with
     itself, and what comes of it with each next one."""
     joined = files[0]

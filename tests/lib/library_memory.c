@@ -51,10 +51,13 @@ static const char *const NAMES[] = {
     "subset_size", "lean_subset_size", "layout_subset_size", "subset",  "lean_subset",  "layout_subset",
     "cuts",        "lean_cuts",        "layout_cuts",        "belongs", "lean_belongs", "layout_belongs",
     "cut_form",    "lean_cut_form",    "layout_cut_form",    "join",    "lean_join",    "layout_join",
+    "subset_size_checked", "lean_subset_size_checked", "layout_subset_size_checked",
+    "subset_checked",      "lean_subset_checked",      "layout_subset_checked",
     "cut_size",    "cut",              "is_cut",             "codes",   "is_cut_of",    "join_all",
     "check",       "glyphs",           "metrics",            "info",    "refusal_text",
+    "glyphs_checked", "metrics_checked",
 };
-enum { CALLS = sizeof NAMES / sizeof *NAMES, OF_KINDS = 6 * KINDS };
+enum { CALLS = sizeof NAMES / sizeof *NAMES, OF_KINDS = 8 * KINDS };
 
 /* A call of a kind, over a cut of that kind. */
 static fontcut_answer do_call_of_kind(int call)
@@ -74,8 +77,12 @@ static fontcut_answer do_call_of_kind(int call)
         return fontcut_belongs(kind, cut.at, cut.length, font.at, font.length);
     case 4:
         return fontcut_cut_form(kind, cut.at, cut.length);
-    default:
+    case 5:
         return fontcut_join(kind, cuts, 2, room, ROOM);
+    case 6:
+        return fontcut_subset_size_checked(kind, font.at, font.length, RANGES, 3);
+    default:
+        return fontcut_subset_checked(kind, font.at, font.length, RANGES, 3, room, ROOM);
     }
 }
 
@@ -109,8 +116,14 @@ static fontcut_answer do_call(int call)
                                ROOM / sizeof(fontcut_metric));
     case 9:
         return fontcut_info(font.at, font.length, (fontcut_font_info *)(void *)room);
-    default:
+    case 10:
         return fontcut_refusal_text(told, room, ROOM);
+    case 11:
+        return fontcut_glyphs_checked(font.at, font.length, CODES, 3, (uint16_t *)(void *)room,
+                                      ROOM / sizeof(uint16_t));
+    default:
+        return fontcut_metrics_checked(font.at, font.length, GLYPHS, 3, (fontcut_metric *)(void *)room,
+                                       ROOM / sizeof(fontcut_metric));
     }
 }
 

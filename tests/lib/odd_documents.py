@@ -1,29 +1,36 @@
 """PDF files for `tests/documents_pdf` that few programs write: streams with several resources, hidden pages, names of any
 bytes, and small files that ask for much."""
+from __future__ import annotations
+
 import zlib
+from typing import TYPE_CHECKING, Callable, Iterable, Sequence
 
 import pikepdf
 from pikepdf import Array, Dictionary, Name, Object, Pdf, Stream, String
 
+if TYPE_CHECKING:
+    from fontcut_pdf import Embedded
+
+Embed = Callable[[Pdf, bytes, str], "Embedded"]
 BOX = [0, 0, 300, 400]
 
 
-def page_with(pdf, body, resources, **more):
+def page_with(pdf: Pdf, body: bytes, resources: Dictionary, **more: Object) -> Object:
     """A page, which is not in the page tree yet."""
     return pdf.make_indirect(Dictionary(Type=Name.Page, MediaBox=Array(BOX), Resources=resources,
                                         Contents=Stream(pdf, body), **more))
 
 
-def whole(pdf, used, font):
+def whole(pdf: Pdf, used: Embedded, font: bytes) -> None:
     """Puts a font as it is into the place of its cut."""
     used.font.DescendantFonts[0].FontDescriptor.FontFile2 = Stream(pdf, font, Length1=len(font))
 
 
-def form(pdf, body, resources):
+def form(pdf: Pdf, body: bytes, resources: Dictionary) -> Stream:
     return Stream(pdf, body, Type=Name.XObject, Subtype=Name.Form, BBox=Array([0, 0, 300, 40]), Resources=resources)
 
 
-def shared_glyphs(path, fonts, embed):
+def shared_glyphs(path: str, fonts: Sequence[bytes], embed: Embed) -> None:
     """Two Type 3 fonts have one stream for their glyph, which shows text in another font by the resources of each. By the
     same resources two forms show other letters."""
     pdf, drawn, forms, body = Pdf.new(), Dictionary(), Dictionary(), b""
@@ -43,7 +50,7 @@ def shared_glyphs(path, fonts, embed):
     pdf.save(path)
 
 
-def hidden_page(path, font, embed):
+def hidden_page(path: str, font: bytes, embed: Embed) -> None:
     """A page and a template have a dictionary of resources together, and show other letters."""
     pdf = Pdf.new()
     used = embed(pdf, font, "page hidden")
@@ -58,7 +65,7 @@ def hidden_page(path, font, embed):
     pdf.save(path)
 
 
-def with_icon(path, font, embed):
+def with_icon(path: str, font: bytes, embed: Embed) -> None:
     """A page and the icon of a button have a dictionary of resources together, and show other letters."""
     pdf = Pdf.new()
     used = embed(pdf, font, "page icon")
@@ -73,7 +80,7 @@ def with_icon(path, font, embed):
     pdf.save(path)
 
 
-def shown_hidden(path, out):
+def shown_hidden(path: str, out: str) -> None:
     """Shows a hidden page, or the icon of a button, on a page of its own."""
     with pikepdf.open(path) as pdf:
         if "/Names" in pdf.Root:
@@ -86,7 +93,7 @@ def shown_hidden(path, out):
         pdf.save(out)
 
 
-def named_by_state(path, font, embed):
+def named_by_state(path: str, font: bytes, embed: Embed) -> None:
     """A font that a graphics state names too, which nothing uses: of a page without text."""
     pdf = Pdf.new()
     used = embed(pdf, font, "page")
@@ -98,7 +105,7 @@ def named_by_state(path, font, embed):
     pdf.save(path)
 
 
-def odd_bytes(path, font, embed, text):
+def odd_bytes(path: str, font: bytes, embed: Embed, text: str) -> None:
     """The font of a page has a name that is no UTF-8, and its descriptor a key that is none."""
     pdf = Pdf.new()
     used = embed(pdf, font, text)
@@ -110,7 +117,7 @@ def odd_bytes(path, font, embed, text):
     pdf.save(path)
 
 
-def packed(pdf, data, **more):
+def packed(pdf: Pdf, data: Iterable[bytes], **more: Object) -> Stream:
     """A stream of bytes that come piece by piece, of which all are never held together."""
     packing = zlib.compressobj(9)
     stream = Stream(pdf, b"", **more)
@@ -118,7 +125,7 @@ def packed(pdf, data, **more):
     return stream
 
 
-def restated_texts(path, font, embed):
+def restated_texts(path: str, font: bytes, embed: Embed) -> None:
     """ToUnicode that states the texts of all glyphs again and again."""
     pdf = Pdf.new()
     used = embed(pdf, font, "page")
@@ -129,7 +136,7 @@ def restated_texts(path, font, embed):
     pdf.save(path)
 
 
-def many_forms(path, font, embed, count):
+def many_forms(path: str, font: bytes, embed: Embed, count: int) -> None:
     """So many pages that have as many forms together."""
     pdf = Pdf.new()
     used = embed(pdf, font, "page")
@@ -143,7 +150,7 @@ def many_forms(path, font, embed, count):
     pdf.save(path, object_stream_mode=pikepdf.ObjectStreamMode.generate)
 
 
-def many_resources(path, font, embed, count):
+def many_resources(path: str, font: bytes, embed: Embed, count: int) -> None:
     """So many Type 3 fonts that have as many glyphs together, which each draws with other resources."""
     pdf = Pdf.new()
     used = embed(pdf, font, "page")
@@ -158,7 +165,7 @@ def many_resources(path, font, embed, count):
     pdf.save(path, object_stream_mode=pikepdf.ObjectStreamMode.generate)
 
 
-def many_widths(path, font, embed, count):
+def many_widths(path: str, font: bytes, embed: Embed, count: int) -> None:
     """So many fonts, each with the widths of all glyphs."""
     pdf = Pdf.new()
     used = embed(pdf, font, "page")
@@ -174,7 +181,7 @@ def many_widths(path, font, embed, count):
     pdf.save(path, object_stream_mode=pikepdf.ObjectStreamMode.generate)
 
 
-def many_comments(path, font, embed):
+def many_comments(path: str, font: bytes, embed: Embed) -> None:
     """A page whose content has comments by the million."""
     pdf = Pdf.new()
     used = embed(pdf, font, "page")
@@ -185,7 +192,7 @@ def many_comments(path, font, embed):
     pdf.save(path)
 
 
-def many_zeros(path, font, embed, where):
+def many_zeros(path: str, font: bytes, embed: Embed, where: str) -> None:
     """A stream of a gigabyte: as one that nothing uses, as content, as a program or as ToUnicode."""
     pdf = Pdf.new()
     used = embed(pdf, font, "page")
@@ -206,7 +213,7 @@ def many_zeros(path, font, embed, where):
     pdf.save(path)
 
 
-def bookmarks(path, font, embed, letters):
+def bookmarks(path: str, font: bytes, embed: Embed, letters: str) -> None:
     """A file of two pages with bookmarks: to a page, by a name, by a string, to an address, closed, and one below."""
     pdf = Pdf.new()
     used = embed(pdf, font, letters)

@@ -1,6 +1,8 @@
 """Small fonts made at random, all of them accepted: with few glyphs, few pairs of metrics, tables of vertical metrics that
 are described or not, and `post` of any length."""
+import random
 import struct
+from typing import Iterable
 
 from font_cutting import ALL, assembled, cmap_table, groups_of, padded
 from worked_cuts import base6_tables
@@ -8,7 +10,7 @@ from worked_cuts import base6_tables
 CODES = range(0x40, 0x58)
 
 
-def random_record(chance, count):
+def random_record(chance: random.Random, count: int) -> bytes:
     """An empty glyph, a simple one of no contour, or a composite of one or two others."""
     kind = chance.random()
     if kind < 0.2:
@@ -24,7 +26,7 @@ def random_record(chance, count):
     return record
 
 
-def outlines_of(records):
+def outlines_of(records: Iterable[bytes]) -> dict[bytes, bytes]:
     """`glyf` and a long `loca` of these records."""
     glyf, places = b"", [0]
     for record in records:
@@ -33,12 +35,12 @@ def outlines_of(records):
     return {b"glyf": glyf, b"loca": struct.pack(f">{len(places)}I", *places)}
 
 
-def random_metrics(chance, count, pairs):
+def random_metrics(chance: random.Random, count: int, pairs: int) -> bytes:
     """A table of metrics, with bytes after the bearings now and then."""
     return chance.randbytes(4 * pairs + 2 * (count - pairs) + chance.choice((0, 0, 0, 3)))
 
 
-def vertical(chance, count):
+def vertical(chance: random.Random, count: int) -> dict[bytes, bytes]:
     """No `vhea` and `vmtx`, or one of them, or both, `vmtx` described by `vhea` or not."""
     pairs = chance.choice((0, 1, count, count + 1, chance.randint(1, count)))
     tables = {b"vhea": chance.randbytes(34) + struct.pack(">H", pairs),
@@ -54,7 +56,7 @@ def vertical(chance, count):
     return tables
 
 
-def random_font(chance):
+def random_font(chance: random.Random) -> bytes:
     """One font."""
     count = chance.randint(1, 10)
     pairs = chance.choice((1, count, chance.randint(1, count)))
@@ -73,7 +75,7 @@ def random_font(chance):
     return assembled(tables)
 
 
-def random_words(chance):
+def random_words(chance: random.Random) -> tuple[list[str], list[tuple[int, int]]]:
     """Words for some of the codes, for all, or for none."""
     kind = chance.random()
     if kind < 0.15:

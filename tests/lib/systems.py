@@ -1,6 +1,7 @@
 """Systems of Debian's without a toolchain, each in a folder, and what the files of a release do there. `tests/release`
 and `tests/release_arm64` share it."""
-import collections
+from __future__ import annotations
+
 import glob
 import os
 import re
@@ -8,12 +9,20 @@ import shutil
 import signal
 import subprocess
 import time
+from typing import Callable, Mapping, NamedTuple, Optional
 
-from checks import DEJAVU, DONE, PROGRAM, TOP, VERSION, check, files_below, held, put, run, same, same_bytes, skip
+from checks import (DEJAVU, DONE, PROGRAM, TOP, VERSION, Ran, check, files_below, found_in, held, put, read, run, same,
+                    same_bytes, skip)
 from released import C_PROGRAM, DOCUMENTS, FROM_PYTHON
 
-# Debian's name of an architecture, its processor's name, and the name of the folder of its libraries.
-Architecture = collections.namedtuple("Architecture", "debian processor triple")
+
+class Architecture(NamedTuple):
+    """Debian's name of an architecture, its processor's name, and the name of the folder of its libraries."""
+
+    debian: str
+    processor: str
+    triple: str
+
 
 FONT = f"{DEJAVU}/DejaVuSans.ttf"
 # What a system without a toolchain is made of: the least of Debian, xz for the archive, and Python.
@@ -23,7 +32,7 @@ MIRROR = "http://deb.debian.org/debian"
 STARTS_ARM64 = "/usr/lib/binfmt.d/qemu-aarch64.conf"
 
 
-def tool(name, package):
+def tool(name: str, package: str) -> bool:
     """Whether a program is there; where it is not, what needs it is skipped."""
     if shutil.which(name):
         return True
@@ -31,18 +40,18 @@ def tool(name, package):
     return False
 
 
-def text_of(*path):
+def text_of(*path: str) -> str:
     with open(os.path.join(TOP, *path), encoding="utf-8") as opened:
         return opened.read()
 
 
-def architectures():
+def architectures() -> list[Architecture]:
     """The architectures that releases are made for, the first of which is this machine's."""
     lines = text_of("tools", "architectures.txt").splitlines()
     return [Architecture(*line.split()) for line in lines if not line.startswith("#")]
 
 
-def made_here():
+def made_here() -> list[Architecture]:
     """The architectures that ./release makes files for on this machine: its own, and those that there are a compiler
     and a C library for."""
     own, *others = architectures()
@@ -50,20 +59,30 @@ def made_here():
                    and os.path.exists(f"/usr/{arch.triple}/lib/libc.a"))]
 
 
-def files_for(arch):
+def files_for(arch: Architecture) -> list[str]:
     """The names of the files of a release that are for one architecture: the archive, the packages, the wheel."""
     packages = [f"{name}_{VERSION}_{arch.debian}.deb" for name in ("fontcut", "libfontcut-dev", "libfontcut0")]
     return [f"fontcut-{VERSION}-linux-{arch.processor}.tar.xz", *packages,
             f"fontcut-{VERSION}-py3-none-manylinux_2_17_{arch.processor}.whl"]
 
 
+def made_within(making: subprocess.Popen[bytes], seconds: float) -> int:
+    """The status of debootstrap, which is ended after so long."""
+    try:
+        return making.wait(timeout=seconds)
+    except subprocess.TimeoutExpired:
+        os.killpg(making.pid, signal.SIGKILL)
+        return making.wait()
+
+
 class System:
     """A system of this machine's architecture. `debootstrap` works in a namespace of its own, so that no mount is left
     when it has ended."""
 
-    def __init__(self, folder, arch):
+    def __init__(self, folder: str, arch: Architecture) -> None:
         self.root, self.log, self.arch = os.path.join(folder, "system"), os.path.join(folder, "system.log"), arch
-        self.making, self.began = None, time.monotonic()
+        self.making: Optional[subprocess.Popen[bytes]] = None
+        self.began = time.monotonic()
         if os.geteuid() != 0:
             skip("a system without a toolchain", "only root can make it")
         elif tool("debootstrap", "debootstrap"):
@@ -72,16 +91,16 @@ class System:
                 self.making = subprocess.Popen(words, stdin=subprocess.DEVNULL, stdout=log, stderr=log,
                                                start_new_session=True)
 
-    def options(self):
+    def options(self) -> list[str]:
         """The words for debootstrap that the architecture needs."""
         return []
 
-    def is_made(self):
+    def is_made(self) -> bool:
         """Waits for it. Where no package can be had, what needs it is skipped."""
         if not self.making:
             return False
-        if self.made_within(600):
-            why = held(self.log).decode(errors="replace").splitlines()
+        if made_within(self.making, 600):
+            why = read(self.log).decode(errors="replace").splitlines()
             skip("a system without a toolchain", f"debootstrap: {why[-1] if why else 'no word'}")
             return False
         os.makedirs(os.path.dirname(self.path(FONT)))
@@ -89,35 +108,30 @@ class System:
         print(f"the system was made within {time.monotonic() - self.began:.0f} seconds", flush=True)
         return True
 
-    def made_within(self, seconds):
-        """The status of debootstrap, which is ended after so long."""
-        try:
-            return self.making.wait(timeout=seconds)
-        except subprocess.TimeoutExpired:
-            os.killpg(self.making.pid, signal.SIGKILL)
-            return self.making.wait()
-
-    def entering(self):
+    def entering(self) -> list[str]:
         """The words that a command begins with so that the system's programs can run."""
         return []
 
-    def run(self, *words, path="/usr/sbin:/usr/bin:/sbin:/bin", user="root", cwd="/"):
+    def run(self, *words: str, path: str = "/usr/sbin:/usr/bin:/sbin:/bin", user: str = "root", cwd: str = "/") -> Ran:
         """Runs words there, as a user, in a folder."""
         line = ["chroot", f"--userspec={user}", self.root, "/usr/bin/env", "-i", f"--chdir={cwd}", f"PATH={path}",
                 "HOME=/tmp", "LC_ALL=C.UTF-8", "PYTHONDONTWRITEBYTECODE=1", *words]
         return run(*self.entering(), *line)
 
-    def sh(self, name, line, **how):
+    def sh(self, name: str, line: str, **how: str) -> bytes:
         """Runs a line of the shell there, which has to end well."""
         status, told, err = self.run("sh", "-euc", line, **how)
         check(f"{name}: {line}", status == 0, told.decode(), err.decode())
         return told
 
-    def path(self, name):
+    def path(self, name: str) -> str:
         return os.path.join(self.root, name.lstrip("/"))
 
-    def close(self):
+    def close(self) -> None:
         """Ends what runs for it."""
+        if self.making and self.making.poll() is None:
+            os.killpg(self.making.pid, signal.SIGKILL)
+            self.making.wait()
 
 
 class ForeignSystem(System):
@@ -129,10 +143,10 @@ class ForeignSystem(System):
 
     holder = None
 
-    def options(self):
+    def options(self) -> list[str]:
         return ["--foreign", f"--arch={self.arch.debian}"]
 
-    def is_made(self):
+    def is_made(self) -> bool:
         if not super().is_made():
             return False
         for package in glob.glob(self.path("/var/cache/apt/archives/*.deb")):
@@ -143,7 +157,7 @@ class ForeignSystem(System):
             skip("a system without a toolchain", f"programs for {self.arch.debian} cannot be started: {why}")
         return not why
 
-    def unpack(self, package):
+    def unpack(self, package: str) -> None:
         """Unpacks a package, and adds it to those that dpkg takes for installed."""
         unpacks = 'dpkg-deb --fsys-tarfile "$1" | tar -C "$2" --keep-directory-symlink -xf -'
         run("sh", "-c", unpacks, "sh", package, self.root)
@@ -151,14 +165,14 @@ class ForeignSystem(System):
         with open(self.path("/var/lib/dpkg/status"), "ab") as status:
             status.write(fields.rstrip(b"\n") + b"\nStatus: install ok installed\n\n")
 
-    def add_folders(self):
+    def add_folders(self) -> None:
         """Makes the folders that only the configuration of packages would make."""
         os.makedirs(self.path("/usr/local"))
         if os.path.islink(self.path("/proc")):
             os.remove(self.path("/proc"))
         os.makedirs(self.path("/proc"), exist_ok=True)
 
-    def hold(self):
+    def hold(self) -> str:
         """Makes the namespaces, which last as long as the process that holds them. Returns why that fails, or ''."""
         self.holder = subprocess.Popen(["unshare", "--user", "--mount", "cat"], stdin=subprocess.PIPE)
         own = os.readlink("/proc/self/ns/user")
@@ -175,16 +189,18 @@ class ForeignSystem(System):
         status, _, err = run(*self.entering(), "sh", "-ec", "\n".join(lines), "sh", self.path("/proc"))
         return err.decode().strip() if status else ""
 
-    def entering(self):
+    def entering(self) -> list[str]:
+        assert self.holder, "the namespaces are not there"
         return ["nsenter", "--user", "--mount", "--preserve-credentials", "-t", str(self.holder.pid), "--"]
 
-    def close(self):
-        if self.holder:
+    def close(self) -> None:
+        super().close()
+        if self.holder and self.holder.stdin:
             self.holder.stdin.close()
             self.holder.wait()
 
 
-def recipes():
+def recipes() -> list[tuple[str, str]]:
     """The lines of README.md that a shell runs, each with what it prints, but for those of C."""
     rows = []
     for line in text_of("README.md").partition("## Recipes")[2].partition("\n## ")[0].splitlines():
@@ -195,7 +211,7 @@ def recipes():
     return rows
 
 
-def run_recipes(name, folder, runner):
+def run_recipes(name: str, folder: str, runner: Callable[[str], Ran]) -> dict[str, Optional[bytes]]:
     """Runs them in a folder with what they read, and returns all that is there then."""
     shutil.copy(FONT, folder)
     for file, data in DOCUMENTS.items():
@@ -206,7 +222,7 @@ def run_recipes(name, folder, runner):
     return {path: held(os.path.join(folder, path)) for path in files_below(folder)}
 
 
-def wanted_of_recipes(folder):
+def wanted_of_recipes(folder: str) -> dict[str, Optional[bytes]]:
     """What the recipes give with ./fontcut."""
     place, programs = os.path.join(folder, "recipes"), os.path.join(folder, "programs")
     for made in place, programs:
@@ -218,7 +234,7 @@ def wanted_of_recipes(folder):
     return wanted
 
 
-def recipes_there(name, system, wanted, path):
+def recipes_there(name: str, system: System, wanted: Mapping[str, Optional[bytes]], path: str) -> None:
     """The same on the system, by a program that is installed there."""
     place = f"/{name}"
     os.mkdir(system.path(place))
@@ -228,7 +244,7 @@ def recipes_there(name, system, wanted, path):
     same(f"{name}: they are those of ./fontcut", [], odd)
 
 
-def wanted_files(folder):
+def wanted_files(folder: str) -> dict[str, Optional[bytes]]:
     """What ./fontcut makes of the font for the programs in C, Python and Rust: cuts, and the join of two of them."""
     made = {}
     rows = {"latin": ["U+20-7E", "U+A0-FF"], "lean": ["--lean", "U+41-5A"], "other": ["--lean", "U+61-7A"]}
@@ -241,18 +257,18 @@ def wanted_files(folder):
     return {**made, "join": held(out)}
 
 
-def by_package(system):
+def by_package(system: System) -> dict[str, str]:
     """What lets pkg-config find the packages of the system from outside."""
     return {"PKG_CONFIG_LIBDIR": system.path(f"/usr/lib/{system.arch.triple}/pkgconfig"),
             "PKG_CONFIG_SYSROOT_DIR": system.root, "PKG_CONFIG_ALLOW_SYSTEM_CFLAGS": "1",
             "PKG_CONFIG_ALLOW_SYSTEM_LIBS": "1"}
 
 
-def from_c(system, folder, wanted, compiler="gcc"):
+def from_c(system: System, folder: str, wanted: Mapping[str, Optional[bytes]], compiler: str = "gcc") -> None:
     """The program in C of README.md, compiled over the packages' files and run on the system."""
     if not tool("pkg-config", "pkg-config") or not tool("gcc", "gcc"):
         return
-    calls = re.search(r"(?:^    (?:fontcut_|if ).*\n){3}", text_of("README.md"), re.M)[0]
+    calls = found_in(text_of("README.md"), r"(?:^    (?:fontcut_|if ).*\n){3}", re.M)[0]
     source, libraries = os.path.join(folder, "prog.c"), system.path(f"/usr/lib/{system.arch.triple}")
     put(source, C_PROGRAM.replace("CALLS", calls).encode())
     status, told, err = run("pkg-config", "--cflags", "--libs", "fontcut", env={**os.environ, **by_package(system)})
@@ -267,19 +283,19 @@ def from_c(system, folder, wanted, compiler="gcc"):
         same_bytes(f"C, {name}: the cut", wanted["latin"], cut)
 
 
-def install_lines(arch):
+def install_lines(arch: Architecture) -> dict[str, str]:
     """The lines of README.md that install a release, by the program that each begins with."""
     lines = re.findall(r"^    ((?:dpkg|pip|tar) .*?)(?:  .*)?$", named_for(arch), re.M)
     return {line.split()[0]: line for line in lines}
 
 
-def named_for(arch):
+def named_for(arch: Architecture) -> str:
     """README.md, with the names of an architecture in the place of those of this machine, as it says."""
     own = architectures()[0]
     return text_of("README.md").replace(own.debian, arch.debian).replace(own.processor, arch.processor)
 
 
-def from_python(system, wanted):
+def from_python(system: System, wanted: Mapping[str, Optional[bytes]]) -> None:
     """The wheel in a folder of its own, and a program over it."""
     system.sh("Python", "/usr/bin/python3 -m venv /venv")
     pip = install_lines(system.arch)["pip"].replace("pip install", "pip install --no-index --no-cache-dir -q")
@@ -292,7 +308,7 @@ def from_python(system, wanted):
     same("the program of the wheel", run(PROGRAM, "demo"), system.run("/venv/bin/fontcut", "demo"))
 
 
-def by_debians_python(system):
+def by_debians_python(system: System) -> None:
     """The package for Python: the module, and the programs for PDF files and for the web, which say what they lack."""
     os.mkdir(system.path("/by_package"))
     status, told, err = system.run("/usr/bin/python3", "-c", FROM_PYTHON, FONT, "/by_package")
@@ -306,21 +322,21 @@ def by_debians_python(system):
         system.run("fontcut-web", "slice", FONT, "--out", "/site", "--slices", "web"))
 
 
-def by_packages(system, dist, wanted):
+def by_packages(system: System, dist: str, wanted: Mapping[str, Optional[bytes]]) -> None:
     """The packages are installed by the lines of README.md: the program alone, then all."""
     shutil.copytree(dist, system.path("/dist"))
     lines, packages = install_lines(system.arch), [name for name in files_for(system.arch) if name.endswith(".deb")]
     same("README.md: the lines that install", ["dpkg", "pip", "tar"], list(lines))
     system.sh("README.md", lines["dpkg"], cwd="/dist")
     recipes_there("package", system, wanted, "/usr/bin:/bin")
-    named = re.search(r"`dpkg -i (.*?)`", named_for(system.arch))[1].split()
+    named = found_in(named_for(system.arch), r"`dpkg -i (.*?)`")[1].split()
     same("README.md: the packages", sorted([*packages, f"python3-fontcut_{VERSION}_all.deb"]), sorted(
         os.path.basename(path) for name in named for path in glob.glob(os.path.join(dist, name))))
     system.sh("README.md, all packages", f"dpkg -i {' '.join(named)}", cwd="/dist")
     by_debians_python(system)
 
 
-def by_archive(system, wanted):
+def by_archive(system: System, wanted: Mapping[str, Optional[bytes]]) -> None:
     """The archive is unpacked by the line of README.md."""
     system.sh("README.md", install_lines(system.arch)["tar"], cwd="/dist")
     recipes_there("archive", system, wanted, "/usr/local/bin:/usr/bin:/bin")
@@ -332,7 +348,7 @@ def by_archive(system, wanted):
             "/made")[:2]))
 
 
-def removed(system):
+def removed(system: System) -> None:
     """The packages leave nothing when they are removed."""
     left = system.sh("removed", "dpkg --purge fontcut python3-fontcut libfontcut-dev libfontcut0 >&2; "
                      "find /usr -path /usr/local -prune -o -name '*fontcut*' -print")

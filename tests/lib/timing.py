@@ -1,8 +1,7 @@
 """What the measuring scripts share: C programs that are compiled, programs that run in turn, calls in one process."""
 import os
 import subprocess
-from collections import namedtuple
-
+from typing import Iterable, NamedTuple, Optional, Sequence
 from checks import TOP, run
 
 LIB = os.path.join(TOP, "tests", "lib")
@@ -11,16 +10,29 @@ BENCHES = os.path.join(TOP, "benches")
 # 3,000 codes, spread evenly over U+4E00-9FFF.
 IDEOGRAPHS = [0x4E00 + 0x5200 * k // 3000 for k in range(3000)]
 
-# What runs of a program took: the least and the median in milliseconds of wall clock, both of the processor's time, and
-# the most memory in bytes.
-Timed = namedtuple("Timed", "least median processor processor_median peak")
 
-# What calls in one process took: the bytes that a call makes, the least and the median in milliseconds, and the most
-# bytes that a call of the library held of the heap at once.
-Called = namedtuple("Called", "size least median held")
+class Timed(NamedTuple):
+    """What runs of a program took: the least and the median in milliseconds of wall clock, both of the processor's
+    time, and the most memory in bytes."""
+
+    least: float
+    median: float
+    processor: float
+    processor_median: float
+    peak: int
 
 
-def compiled(folder, source, *words):
+class Called(NamedTuple):
+    """What calls in one process took: the bytes that a call makes, the least and the median in milliseconds, and the
+    most bytes that a call of the library held of the heap at once."""
+
+    size: int
+    least: float
+    median: float
+    held: int
+
+
+def compiled(folder: str, source: str, *words: str) -> str:
     """Compiles a C program of these sources into the folder, and returns its path."""
     name = os.path.splitext(os.path.basename(source))[0]
     path = os.path.join(folder, name)
@@ -30,7 +42,8 @@ def compiled(folder, source, *words):
     return path
 
 
-def in_turn(runs, out, programs, milliseconds, least, most, worst=0):
+def in_turn(runs: str, out: str, programs: Iterable[Iterable[object]], milliseconds: int, least: int, most: int,
+            worst: int = 0) -> list[Optional[Timed]]:
     """Runs programs in turn by tests/lib/runs.c, the program at `runs`, each as long as it is told, and `out` removed
     before each run. Returns what each took, or None for one that ended with a status above the worst."""
     words = [word for program in programs for word in (";", *map(str, program))]
@@ -40,13 +53,13 @@ def in_turn(runs, out, programs, milliseconds, least, most, worst=0):
     return [None if line == "failed" else timed(line.split()) for line in lines.decode().splitlines()]
 
 
-def timed(words):
+def timed(words: Iterable[str]) -> Timed:
     """What a line of runs.c says."""
     least, median, processor, processor_median, peak, _ = map(int, words)
     return Timed(least / 1e6, median / 1e6, processor / 1e6, processor_median / 1e6, peak)
 
 
-def harfbuzz():
+def harfbuzz() -> Optional[list[str]]:
     """The words that a C program is compiled with to call HarfBuzz's subsetter, or None where that cannot be had."""
     try:
         ran = subprocess.run(["pkg-config", "--cflags", "--libs", "harfbuzz-subset"], capture_output=True, text=True)
@@ -55,7 +68,7 @@ def harfbuzz():
     return ran.stdout.split() if ran.returncode == 0 else None
 
 
-def compiled_calls(folder, library, name="in_process.c"):
+def compiled_calls(folder: str, library: str, name: str = "in_process.c") -> str:
     """Compiles a program of benches/ that includes in_memory.h over the static library, with HarfBuzz where that can be
     had."""
     words = harfbuzz()
@@ -65,13 +78,13 @@ def compiled_calls(folder, library, name="in_process.c"):
                     "-Wl,--wrap=malloc,--wrap=realloc,--wrap=free", *words)
 
 
-def put_ranges(path, ranges):
+def put_ranges(path: str, ranges: Iterable[tuple[int, int]]) -> None:
     """Writes ranges of codes as benches/in_process.c reads them."""
     with open(path, "w", encoding="ascii") as out:
         out.writelines(f"{first:X}-{last:X}\n" for first, last in ranges)
 
 
-def called(calls, words, milliseconds, least):
+def called(calls: str, words: Sequence[str], milliseconds: int, least: int) -> dict[str, Called]:
     """Runs a program that includes in_memory.h, that at `calls`, over these words. Returns what each way took, by its
     name. A way that fails is left out."""
     status, lines, err = run(calls, *words, str(milliseconds), str(least), timeout=3600)
@@ -82,7 +95,7 @@ def called(calls, words, milliseconds, least):
             for name, size, low, median, _, held in rows}
 
 
-def calls_in_turn(calls, font, ranges, milliseconds, least):
+def calls_in_turn(calls: str, font: str, ranges: str, milliseconds: int, least: int) -> dict[str, Called]:
     """Runs benches/in_process.c or benches/layout_in_process.c, the program at `calls`, over a font and a file of
     ranges."""
     return called(calls, [font, ranges], milliseconds, least)

@@ -3,29 +3,41 @@ import hashlib
 import json
 import os
 import random
+from types import ModuleType
+from typing import Callable, Iterable, Iterator, Sequence, TypedDict
 
 KINDS = ("full", "lean", "layout")
 BROKEN = 130  # files of each of two fonts
 
 
-def digest(data):
+def digest(data: bytes) -> str:
     return hashlib.sha256(data).hexdigest()
 
 
-def spread(ranges, count):
+def spread(ranges: Iterable[tuple[int, int]], count: int) -> list[int]:
     """So many of the codes of the ranges, spread evenly."""
     codes = [code for first, last in ranges for code in range(first, last + 1)]
     return codes[::max(1, len(codes) // count)][:count]
 
 
+class Row(TypedDict):
+    """A call by its name, the names of its files, what else is given, and the value or the refusal that is wanted."""
+
+    call: str
+    files: Sequence[str]
+    given: dict[str, object]
+    wanted: dict[str, object]
+
+
 class Cases:
     """The cases, and the folder of their files."""
 
-    def __init__(self, folder, library):
-        self.folder, self.library, self.rows = folder, library, []
+    def __init__(self, folder: str, library: ModuleType) -> None:
+        self.folder, self.library = folder, library
+        self.rows: list[Row] = []
         self.count = 0
 
-    def put(self, data):
+    def put(self, data: bytes) -> str:
         """Keeps a file, and returns its name."""
         self.count += 1
         name = f"{self.count}.bin"
@@ -33,8 +45,9 @@ class Cases:
             out.write(data)
         return name
 
-    def add(self, call, files, answer, **given):
-        """Adds what the native library answers: a value, or what it refuses."""
+    def add(self, call: str, files: Sequence[str], answer: Callable[[], object], **given: object) -> None:
+        """Adds what the native library answers, which is called here: a value, or what it refuses."""
+        wanted: dict[str, object]
         try:
             wanted = {"value": answer()}
         except self.library.NoGlyph as refused:
@@ -43,12 +56,12 @@ class Cases:
             wanted = {"refused": [refused.number, refused.text, refused.argument, refused.file]}
         self.rows.append({"call": call, "files": files, "given": given, "wanted": wanted})
 
-    def written(self):
+    def written(self) -> None:
         with open(os.path.join(self.folder, "cases.json"), "w", encoding="ascii") as out:
             json.dump(self.rows, out)
 
 
-def numbers_of(cases, name, font):
+def numbers_of(cases: Cases, name: str, font: bytes) -> None:
     """The calls that answer numbers of a font."""
     library, mapped = cases.library, cases.library.codes(font)
     count = library.info(font).glyph_count
@@ -58,36 +71,38 @@ def numbers_of(cases, name, font):
     cases.add("info", [name], lambda: list(library.info(font)))
     cases.add("glyphs", [name], lambda: library.glyphs(font, codes), codes=codes)
     for some in glyphs, [*glyphs, count], [0, -1], [65536, 0], []:
-        cases.add("metrics", [name], lambda some=some: [list(one) for one in library.metrics(font, some)], glyphs=some)
+        cases.add("metrics", [name], lambda: [list(one) for one in library.metrics(font, some)], glyphs=some)
 
 
-def cuts_of(cases, name, font, kind, chance):
+def cuts_of(cases: Cases, name: str, font: bytes, kind: str, chance: random.Random) -> bytes:
     """The cuts of a font for six sets, by one call for each and by one for all, and joins of twenty cuts by chance."""
     library, mapped = cases.library, cases.library.codes(font)
     ascii_codes = (0x20, 0x7E)
-    sets = [[ascii_codes], [ascii_codes, (0xA0, 0xFF)], spread(mapped, 100), spread(mapped, 1000), [(0, 0x10FFFF)], []]
+    sets: list[Sequence[object]] = [[ascii_codes], [ascii_codes, (0xA0, 0xFF)], spread(mapped, 100),
+                                    spread(mapped, 1000), [(0, 0x10FFFF)], []]
     for some in sets:
-        cases.add("subset", [name], lambda some=some: digest(library.cut(font, some, kind=kind)),
+        cases.add("subset", [name], lambda: digest(library.cut(font, some, kind=kind)),
                   unicodes=some, kind=kind)
-        cases.add("subsetSize", [name], lambda some=some: library.cut_size(font, some, kind=kind),
+        cases.add("subsetSize", [name], lambda: library.cut_size(font, some, kind=kind),
                   unicodes=some, kind=kind)
-    for some in sets, []:
-        cases.add("cuts", [name], lambda some=some: list(map(digest, library.slices(font, some, kind=kind))),
-                  sets=[{"unicodes": one} for one in some], kind=kind)
+    some_sets: list[list[Sequence[object]]] = [sets, []]
+    for many in some_sets:
+        cases.add("cuts", [name], lambda: list(map(digest, library.slices(font, many, kind=kind))),
+                  sets=[{"unicodes": one} for one in many], kind=kind)
     pool = spread(mapped, 2000)
-    parts = [library.cut(font, chance.sample(pool, min(len(pool), 60)), kind=kind) for _ in range(20)]
+    parts: list[bytes] = [library.cut(font, chance.sample(pool, min(len(pool), 60)), kind=kind) for _ in range(20)]
     names = [cases.put(part) for part in parts]
-    for some in 1, 2, 20:
-        cases.add("join", names[:some], lambda some=some: digest(library.join(parts[:some], kind=kind)), kind=kind)
+    for count in 1, 2, 20:
+        cases.add("join", names[:count], lambda: digest(library.join(parts[:count], kind=kind)), kind=kind)
     cases.add("join", [names[0], name], lambda: digest(library.join([parts[0], font], kind=kind)), kind=kind)
     cases.add("belongs", [names[0], name], lambda: library.belongs(parts[0], font, kind=kind), kind=kind)
     cases.add("belongs", [name, names[0]], lambda: library.belongs(font, parts[0], kind=kind), kind=kind)
     for file, data in (name, font), (names[0], parts[0]):
-        cases.add("cutForm", [file], lambda data=data: library._form(data, False, kind).name, kind=kind)
+        cases.add("cutForm", [file], lambda: library._form(data, False, kind).name, kind=kind)
     return parts[0]
 
 
-def broken(font, chance):
+def broken(font: bytes, chance: random.Random) -> Iterator[bytes]:
     """Broken files of a font."""
     yield from (b"", font[:11], font[:100], font[:-1], font[:len(font) // 2], b"ttcf" + font[4:], b"OTTO" + font[4:])
     for _ in range(BROKEN):
@@ -98,7 +113,7 @@ def broken(font, chance):
         yield bytes(data)
 
 
-def of_broken(cases, data, good):
+def of_broken(cases: Cases, data: bytes, good: tuple[str, bytes]) -> None:
     """The calls over a broken file, and its join with a good cut."""
     library, name = cases.library, cases.put(data)
     cases.add("check", [name], lambda: library.check(data))
@@ -110,7 +125,7 @@ def of_broken(cases, data, good):
     cases.add("belongs", [name, good[0]], lambda: library.belongs(data, good[1], lean=True), kind="lean")
 
 
-def make(folder, library, fonts, small):
+def make(folder: str, library: ModuleType, fonts: Iterable[str], small: bytes) -> list[Row]:
     """Writes the cases of some fonts, and of broken files of a small font and of a lean cut."""
     cases, chance, leans = Cases(folder, library), random.Random(1), []
     for path in fonts:

@@ -157,31 +157,36 @@ LEAN_CUT_OF_AACUTE = bytes.fromhex("""
 """)
 
 
-def numbers(file):
+# The length of a cut, its sums of cmap, glyf and loca, its checksumAdjustment, and the offsets of its tables.
+Numbers = tuple[int, int, int, int, int, tuple[int, ...]]
+
+
+def numbers(file: bytes) -> Numbers:
     """Size, sums and offsets of a cut, as they are typed in."""
     records = {record.tag: record for record in records_of(file)}
-    sums = [records[tag].checksum for tag in (b"cmap", b"glyf", b"loca")]
-    adjustment = u32(file, adjustment_place(file))
-    return (len(file), *sums, adjustment, tuple(record.offset for record in records.values()))
+    cmap, glyf, loca = (records[tag].checksum for tag in (b"cmap", b"glyf", b"loca"))
+    place = adjustment_place(file)
+    assert place, "there is no head"
+    return len(file), cmap, glyf, loca, u32(file, place), tuple(record.offset for record in records.values())
 
 
-def loca_of(file):
+def loca_of(file: bytes) -> list[int]:
     """The long offsets of a cut."""
     loca = table(file, b"loca")
     return list(struct.unpack(f">{len(loca) // 4}I", loca))
 
 
-def groups_of(file):
+def groups_of(file: bytes) -> list[Group]:
     """The groups of the one subtable of a cut."""
     cmap = table(file, b"cmap")
     return [Group(*struct.unpack_from(">III", cmap, 36 + 12 * index)) for index in range((len(cmap) - 36) // 12)]
 
 
-def base6_tables():
+def base6_tables() -> dict[bytes, bytes]:
     return tables_of(BASE6)
 
 
-def composite_of_composite():
+def composite_of_composite() -> dict[bytes, bytes]:
     """The tables of the font with glyph 5 composed of glyph 3 alone, in 16 bytes."""
     tables = base6_tables()
     tables[b"glyf"] = tables[b"glyf"][:58] + struct.pack(">hhhhhHHbb", -1, 0, 0, 250, 250, 0x0002, 3, 0, 0)
@@ -189,14 +194,14 @@ def composite_of_composite():
     return tables
 
 
-def three_in_a_row():
+def three_in_a_row() -> dict[bytes, bytes]:
     """The tables of the font with U+0061 to U+0063 on the glyphs 1 to 3 as its only codes."""
     segments = struct.pack(">2HH2H2h2H", 0x63, 0xFFFF, 0, 0x61, 0xFFFF, 1 - 0x61, 1, 0, 0)
     subtable = struct.pack(">7H", 4, 14 + len(segments), 0, 4, 4, 1, 0) + segments
     return {**base6_tables(), b"cmap": struct.pack(">HHHHI", 0, 1, 3, 1, 12) + subtable}
 
 
-def reversed_directory():
+def reversed_directory() -> bytes:
     """The font with its records in reversed order, all checksums 0."""
     records = [BASE6[at:at + 4] + bytes(4) + BASE6[at + 8:at + 16] for at in range(108, 11, -16)]
     return BASE6[:12] + b"".join(records) + BASE6[124:]
@@ -206,12 +211,12 @@ def reversed_directory():
 REGION = 14_913_024
 
 
-def optional_tables():
+def optional_tables() -> dict[bytes, bytes]:
     """These tables, of zeros, `vhea` and `vmtx` without their last four bytes."""
     return {tag: bytes(REGION - 4 if tag in (b"vhea", b"vmtx") else REGION) for tag in KEPT if tag not in base6_tables()}
 
 
-def wide_font(path):
+def wide_font(path: str) -> None:
     """Makes the font with all nine optional tables over one region of zeros, `vhea` and `vmtx` without its last four
     bytes, its sums left at 0."""
     count, place, tables, bodies = 16, 12 + 16 * 16, base6_tables(), b""
@@ -219,7 +224,7 @@ def wide_font(path):
     for tag, data in tables.items():
         records[tag] = (place + len(bodies), len(data))
         bodies += padded(data)
-    directory = struct.pack(">IHHHH", 0x00010000, count, *search_fields(count))
+    directory = struct.pack(">IHHHH", 0x00010000, count, *(search_fields(count) or (0, 0, 0)))
     for tag in KEPT:
         length = REGION - 4 if tag in (b"vhea", b"vmtx") else REGION
         directory += struct.pack(">4sIII", tag, 0, *records.get(tag, (place + len(bodies), length)))
@@ -228,17 +233,17 @@ def wide_font(path):
     os.truncate(path, place + len(bodies) + REGION)
 
 
-def with_glyph_2_empty():
+def with_glyph_2_empty() -> bytes:
     glyf = base6_tables()[b"glyf"]
     loca = struct.pack(">7H", 0, 6, 13, 13, 24, 24, 30)
     return with_tables(BASE6, {b"glyf": glyf[:26] + glyf[36:], b"loca": loca})
 
 
-def with_byte(file, place, byte):
+def with_byte(file: bytes, place: int, byte: int) -> bytes:
     return file[:place] + bytes([byte]) + file[place + 1:]
 
 
-def worked_joins():
+def worked_joins() -> list[tuple[str, list[bytes], int, bytes]]:
     """Of each join: what it shows, the files, its size, and its bytes."""
     aacute, both, nothing, three = (cut_for(BASE6, words) for words in ("U+C1", "U+41 U+42", "", "U+41-42 U+C1"))
     row = assembled(three_in_a_row())
@@ -261,7 +266,7 @@ def worked_joins():
     ]
 
 
-def worked_refusals():
+def worked_refusals() -> list[tuple[str, list[bytes], str]]:
     """Of each refusal: what it shows, the files, and the line from the number of the file on."""
     aacute, letter = cut_for(BASE6, "U+C1"), cut_for(BASE6, "U+41")
     empty, full = cut_for(with_glyph_2_empty(), "U+C1"), cut_for(with_codes(BASE6, {0x43: 2}), "U+43")

@@ -134,22 +134,23 @@ def sharing_lookups(lookups: int, subtables: int, nothing: int) -> bytes:
 
 def sharing_sequences(ranges: int, glyphs: int, nothing: int) -> bytes:
     """A lookup of type 2, and some offsets of 0. Many ranges cover glyph 1, and each leads to the same Sequence. Steps
-    are the lookup, its subtable, each range, the offset to the Sequence of its glyph, and each glyph of that."""
+    are the offsets to the lookup, its subtable and its Coverage, each range, its glyph, the offset to the Sequence of
+    that, and each glyph of the Sequence."""
     subtable = numbers(1, 8 + 2 * (glyphs + 1), 1, 8) + sequence(*[9] * glyphs)
     listed = numbers(1 + nothing, 4 + 2 * nothing, *[0] * nothing)
     return numbers(1, 0, 0, 0, 10) + listed + numbers(2, 0, 1, 8) + subtable + coverage_of_ranges(*[(1, 1, 0)] * ranges)
 
 
-# 1,024 lookups of 1,023 subtables are 1,024 * 1,024 steps. Each of 1,000 ranges of a glyph with 1,046 others is 1,048
-# steps, and 576 more are the lookup, its subtable and the offsets of 0.
+# 1,024 lookups of 1,023 subtables are 1,024 * 1,024 steps. Each of 1,000 ranges of a glyph with 1,045 others is 1,048
+# steps, and 576 more are the offsets to the lookup, its subtable and its Coverage, and those of 0.
 AT_THE_LIMIT = {
     "lookups and subtables": (sharing_lookups(1024, 1023, 0), {0, 1}),
-    "ranges and links": (sharing_sequences(1000, 1046, 574), {0, 1, 9}),
+    "ranges and links": (sharing_sequences(1000, 1045, 573), {0, 1, 9}),
 }
 PAST_THE_LIMIT = {
     "lookups and subtables": sharing_lookups(1024, 1023, 1),
-    "ranges and links": sharing_sequences(1000, 1046, 575),
-    "one link more of each range": sharing_sequences(1000, 1047, 574),
+    "ranges and links": sharing_sequences(1000, 1045, 574),
+    "one link more of each range": sharing_sequences(1000, 1046, 573),
     # 30,000 lookups, which are one, of 30,000 subtables, which are one, with 1,000 ligatures.
     "lookups that share all": numbers(1, 0, 0, 0, 10, 30_000, *[60_002] * 30_000)
     + numbers(4, 0, 30_000, *[60_006] * 30_000) + numbers(1, 8, 1, 14) + coverage(1)

@@ -7,7 +7,7 @@ from font_cutting import whole_map
 from font_reading import table
 
 
-def tables_differ(file):
+def tables_differ(file: bytes) -> list[tuple[str, bytes, str]]:
     """What a version has, and the version and the table that is told apart."""
     new_b, other_b = with_outlines(file, whole_map(file)[0x42]), with_codes(file, {0x42: whole_map(file)[0x43]})
     return [
@@ -28,7 +28,7 @@ def tables_differ(file):
     ]
 
 
-def differing(file):
+def differing(file: bytes) -> list[tuple[str, bytes, bytes, int, str]]:
     """What each version has, a cut of the font and one of the version, and the number and text of the refusal."""
     a, b, c = (whole_map(file)[ord(letter)] for letter in "ABC")
     other_b = with_codes(file, {0x42: c})
@@ -42,15 +42,15 @@ def differing(file):
         ("another .notdef", with_outlines(file, 0), 23, "different glyph 0"),
     ]
     rows += [(name, version, 21, f"different table {tag}") for name, version, tag in tables_differ(file)]
-    cuts = [(name, cut_for(file, "U+20-7E"), cut_for(version, "U+20-7E"), *answer) for name, version, *answer in rows]
-    return cuts + [
+    return [(name, cut_for(file, "U+20-7E"), cut_for(version, "U+20-7E"), number, text)
+            for name, version, number, text in rows] + [
         ("another A, which only a component of U+00C1 keeps", cut_for(file, "U+C1"),
          cut_for(with_outlines(file, a), "U+41"), 23, f"different glyph {a}"),
         ("another .notdef, no code", cut_for(file, ""), cut_for(with_outlines(file, 0), ""), 23, "different glyph 0"),
     ]
 
 
-def agreeing(file):
+def agreeing(file: bytes) -> list[tuple[str, bytes, bytes, bytes]]:
     """What each pair of cuts shows, the pair, and its join: what they do not both keep does not tell them apart."""
     b, c = (whole_map(file)[ord(letter)] for letter in "BC")
     new_b, other_b, no_b = with_outlines(file, b), with_codes(file, {0x42: c}), without_code(file, 0x42)
