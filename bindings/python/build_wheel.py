@@ -12,6 +12,7 @@ import subprocess
 import time
 import tomllib
 import zipfile
+from typing import Dict, List, Mapping, NoReturn, Optional, Tuple, TypedDict
 
 HERE = os.path.dirname(os.path.abspath(__file__))
 # A module of one file cannot say that it has types (PEP 561), so it becomes a package in the wheel. The commands of the
@@ -32,12 +33,18 @@ class UnsupportedOperation(Exception):
     """What a backend raises that makes no archive of sources (PEP 517)."""
 
 
-def text_of(name):
+# What pyproject.toml says of the project, as far as it is asked here, and its version.
+Project = TypedDict("Project", {
+    "name": str, "version": str, "description": str, "readme": str, "requires-python": str, "classifiers": List[str],
+    "optional-dependencies": Dict[str, List[str]], "scripts": Dict[str, str]})
+
+
+def text_of(name: str) -> str:
     with open(os.path.join(HERE, name), encoding="utf-8") as opened:
         return opened.read()
 
 
-def library():
+def library() -> str:
     """The path of the shared library."""
     named = os.environ.get("FONTCUT_LIBRARY")
     if named:
@@ -46,7 +53,7 @@ def library():
     return subprocess.run([build], check=True, stdout=subprocess.PIPE, text=True).stdout.splitlines()[1]
 
 
-def program():
+def program() -> str:
     """The path of the program."""
     named = os.environ.get("FONTCUT_PROGRAM")
     if named:
@@ -56,20 +63,20 @@ def program():
     return os.path.join(top, "crates", "fontcut", "out", "bin", "fontcut")
 
 
-def oldest(path):
+def oldest(path: str) -> int:
     """The version of the C library that a library or a program asks for: the greatest one among those that it
     needs."""
     told = subprocess.run(["objdump", "-p", path], check=True, stdout=subprocess.PIPE, text=True,
                           env={**os.environ, "LC_ALL": "C"}).stdout
     needed = set(re.findall(r"^ +NEEDED +(\S+)$", told, re.M))
     versions = re.findall(r"^ +0x[0-9a-f]+ 0x[0-9a-f]+ \d+ (\S+)$", told, re.M)
-    wanted = [re.fullmatch(r"GLIBC_2\.(\d+)(?:\.\d+)?", version) for version in versions]
-    if not needed <= {"libc.so.6"} or not all(wanted):
+    known = [match for version in versions if (match := re.fullmatch(r"GLIBC_2\.(\d+)(?:\.\d+)?", version))]
+    if not needed <= {"libc.so.6"} or len(known) != len(versions):
         raise ValueError(f"{path}: no tag of a platform is known for {sorted(needed)}, {sorted(set(versions))}")
-    return max([OLDEST, *(int(version[1]) for version in wanted)])
+    return max([OLDEST, *(int(match[1]) for match in known)])
 
 
-def processor(path):
+def processor(path: str) -> str:
     """The name of the processor that a library or a program is for, by its header: ELF, 64 bits, little-endian."""
     with open(path, "rb") as opened:
         header = opened.read(20)
@@ -79,7 +86,7 @@ def processor(path):
     return name
 
 
-def platform_of(*paths):
+def platform_of(*paths: str) -> str:
     """The platform that a library and a program ask for: their processor, and a version of the C library."""
     processors = set(map(processor, paths))
     if len(processors) > 1:
@@ -87,13 +94,17 @@ def platform_of(*paths):
     return f"manylinux_2_{max(map(oldest, paths))}_{processors.pop()}"
 
 
-def project():
+def project() -> Project:
     """What pyproject.toml says of the project, and its version."""
-    said = tomllib.loads(text_of("pyproject.toml"))["project"]
-    return {**said, "version": re.search(r'^__version__ = "(.*)"$', text_of("fontcut.py"), re.M)[1]}
+    said: Project = tomllib.loads(text_of("pyproject.toml"))["project"]
+    version = re.search(r'^__version__ = "(.*)"$', text_of("fontcut.py"), re.M)
+    if not version:
+        raise ValueError("fontcut.py says no version")
+    said["version"] = version[1]
+    return said
 
 
-def metadata(said):
+def metadata(said: Project) -> str:
     """The file METADATA of the wheel."""
     lines = ["Metadata-Version: 2.1", f"Name: {said['name']}", f"Version: {said['version']}",
              f"Summary: {said['description']}", f"Requires-Python: {said['requires-python']}"]
@@ -103,7 +114,7 @@ def metadata(said):
     return "\n".join([*lines, "Description-Content-Type: text/markdown", "", text_of(said["readme"])])
 
 
-def packages():
+def packages() -> Dict[str, bytes]:
     """The packages of the wheel: a path and bytes for each file."""
     held = {f"{name}/py.typed": b"" for name in (MODULE, *PACKAGES)}
     held[f"{MODULE}/__init__.py"] = text_of(f"{MODULE}.py").encode()
@@ -116,7 +127,7 @@ def packages():
     return held
 
 
-def files(said, tag, built):
+def files(said: Project, tag: str, built: Mapping[str, str]) -> Tuple[Dict[str, bytes], str]:
     """What the wheel holds but for its list of files, in the order in which it stands, and the path of that list."""
     held, info = packages(), f"{said['name']}-{said['version']}.dist-info"
     scripts = [f"{name} = {call}\n" for name, call in said["scripts"].items()]
@@ -130,7 +141,7 @@ def files(said, tag, built):
     return held, f"{info}/RECORD"
 
 
-def record(held, path):
+def record(held: Mapping[str, bytes], path: str) -> bytes:
     """The list of files, with the sum and the length of each."""
     rows = []
     for name, data in held.items():
@@ -139,7 +150,7 @@ def record(held, path):
     return "".join([*rows, f"{path},,\n"]).encode()
 
 
-def put(archive, name, data):
+def put(archive: zipfile.ZipFile, name: str, data: bytes) -> None:
     """Adds a file, whose time and mode are not those of a file on the disk."""
     epoch = max(FIRST_TIME, int(os.environ.get("SOURCE_DATE_EPOCH", time.time())))
     entry = zipfile.ZipInfo(name, time.gmtime(epoch)[:6])
@@ -149,7 +160,8 @@ def put(archive, name, data):
     archive.writestr(entry, data)
 
 
-def build_wheel(wheel_directory, config_settings=None, metadata_directory=None):
+def build_wheel(wheel_directory: str, config_settings: Optional[Dict[str, object]] = None,
+                metadata_directory: Optional[str] = None) -> str:
     """Makes the wheel in a folder, and returns its name (PEP 517)."""
     built, said = {LIBRARY: library(), PROGRAM: program()}, project()
     tag = f"py3-none-{platform_of(*built.values())}"
@@ -161,6 +173,6 @@ def build_wheel(wheel_directory, config_settings=None, metadata_directory=None):
     return name
 
 
-def build_sdist(sdist_directory, config_settings=None):
+def build_sdist(sdist_directory: str, config_settings: Optional[Dict[str, object]] = None) -> NoReturn:
     """Refuses: the library is built from the checkout, by its own toolchain."""
     raise UnsupportedOperation("the library is built from the checkout of fontcut, not from an archive of this folder")

@@ -1,4 +1,4 @@
-"""Cuts of OpenType fonts with TrueType outlines for wanted characters, and joins of cuts, in memory.
+"""Subsets of OpenType fonts with TrueType outlines that keep glyph ids (cuts), and joins of cuts, in memory.
 
     import fontcut
     cut = fontcut.cut(font, "Hello")            # bytes: the font, for these characters
@@ -14,27 +14,25 @@
     fontcut.advances(font, numbers)             # their advance widths, in font units
     fontcut.info(font).units_per_em             # 2048
 
-A font is anything that has bytes: `bytes`, `bytearray`, a `memoryview`, an `mmap`. The characters are a `str`, or code
+A font is any object with bytes: `bytes`, `bytearray`, a `memoryview`, an `mmap`. The characters are a `str`, or code
 points and ranges of them, both ends included: `[0x20, (0x41, 0x5A)]`, `range(0x41, 0x5B)`, `ranges("U+20, U+41-5A")`.
-A `str` is always taken as characters: one that looks like ranges, as "U+41-5A" does, draws a `FontcutWarning`.
-Glyphs keep their numbers. A font, or a list of cuts, that is refused raises `Refused`, which carries the number, the
-text and what it is about. What is given in a wrong form raises `TypeError` or `ValueError`. Where the library is
-refused memory a call raises `MemoryError`. The first call loads the library, and raises `LibraryMissing` where there is
-none.
+A `str` always means its characters; if it looks like ranges, as "U+41-5A" does, there is a `FontcutWarning`.
+Glyphs keep their numbers. If a font or a list of cuts is refused, the call raises `Refused`, which has the number, the
+text and the argument of the refusal. Arguments of a wrong form raise `TypeError` or `ValueError`. If memory runs out,
+the call raises `MemoryError`. The first call loads the library, and raises `LibraryMissing` if there is none.
 
-A lean cut has zeros for the metrics of glyphs that it does not keep, and no names of glyphs: it is never longer than
-the cut, and it is a cut itself. Lean cuts join with lean cuts: `fontcut.join([lean, other_lean], lean=True)`.
+A lean cut has zero metrics for glyphs that it does not keep, and no glyph names. It is never longer than the full cut,
+and is itself a cut. Lean cuts join with lean cuts: `fontcut.join([lean, other_lean], lean=True)`.
 
-A layout cut is a lean cut with the tables of layout (BASE, GDEF, GPOS, GSUB and kern, without their parts for variable
-fonts), and with each glyph that GSUB may put for those of its characters. Layout cuts join with layout cuts. A call for
-them reads these tables, and refuses a font by 5 or 6 for one of them, and by 27 where GSUB cannot be read.
+A layout cut is a lean cut with the layout tables (BASE, GDEF, GPOS, GSUB and kern, without their parts for variable
+fonts), and with each glyph that GSUB may substitute for those of its characters. Layout cuts join with layout cuts. A
+call for them reads these tables: it refuses a font by 5 or 6 for one of them, and by 27 if GSUB cannot be read.
 
-A call takes the kind of a cut as `kind`: `"full"`, as where none is given, `"lean"` or `"layout"`. `lean=True` is short
-for `kind="lean"`.
+`kind` is the kind of a cut: `"full"` (the default), `"lean"` or `"layout"`. `lean=True` is short for `kind="lean"`.
 
-The library is the file that the variable FONTCUT_LIBRARY names. Where that is not set it is `libfontcut.so.0` beside
-this file, as a wheel has it, two folders above, as `./install` has it, or where the system looks for libraries. All
-calls are safe on all bytes, keep nothing, and let other threads run while they work.
+The library is the file that the variable FONTCUT_LIBRARY names. If that is not set, it is `libfontcut.so.0` beside
+this file, as in a wheel, two folders above, as after `./install`, or where the system looks for libraries. All calls
+are safe on all bytes, keep no state, and let other threads run while they work.
 """
 from __future__ import annotations
 
@@ -46,7 +44,8 @@ import os
 import re
 import warnings
 from enum import Enum
-from typing import Iterable, Iterator, List, NamedTuple, Optional, Sequence, Tuple, Union
+from mmap import mmap
+from typing import TYPE_CHECKING, Callable, Iterable, Iterator, List, NamedTuple, Optional, Sequence, Tuple, Union, cast
 
 from fontcut_needed import needed as needed
 
@@ -55,14 +54,17 @@ __all__ = ["Form", "Range", "Refused", "belongs", "check", "codes", "cut", "cut_
 
 __version__ = "0.11.0"
 
-Bytes = Union[bytes, bytearray, memoryview]
+Bytes = Union[bytes, bytearray, memoryview, mmap]
 Codes = Union[str, Iterable[Union[int, Tuple[int, int]]]]
 
 __all__ += ["Font", "FontcutError", "FontcutWarning", "Info", "LibraryMissing", "NoGlyph", "advances", "glyphs", "info",
             "metrics", "missing", "ranges", "slices"]
 
-_NO_MEMORY, _TOO_LARGE, _NOTHING_TO_JOIN, _SMALL_ROOM, _NO_GLYPH = 16, 18, 24, 100, 102
+# Written by tools/write_refusals from include/refusals.txt:
+_NO_MEMORY, _TOO_LARGE, _NOTHING_TO_JOIN = 16, 18, 24
 _OF_TAGS, _OF_NUMBERS = (5, 6, 7, 21), (12, 15, 17, 22, 23)
+# End of what tools/write_refusals writes.
+_SMALL_ROOM, _NO_GLYPH = 100, 102
 _LAST_CODE, _NO_GLYPH_OF_ANY = 0x10FFFF, 0xFFFF
 _KINDS = {"full": 0, "lean": 1, "layout": 2}
 
@@ -75,7 +77,7 @@ class Range(NamedTuple):
 
 
 class Info(NamedTuple):
-    """The numbers of a whole font, as its `maxp`, `head` and `hhea` have them. All but the first two are in font units.
+    """Numbers of a whole font, from its `maxp`, `head` and `hhea`. All but the first two are in font units.
 
     glyph_count                 how many glyphs there are, 1 at least: their numbers are those below it
     units_per_em                how many font units an em has
@@ -103,11 +105,11 @@ class Form(Enum):
 
 
 class FontcutError(Exception):
-    """What goes wrong in this module: `Refused`, `NoGlyph` or `LibraryMissing`."""
+    """The errors of this module: `Refused`, `NoGlyph` or `LibraryMissing`."""
 
 
 class FontcutWarning(UserWarning):
-    """What was given is taken as it stands, and was probably meant otherwise."""
+    """An argument is taken literally, and was probably meant otherwise."""
 
 
 class LibraryMissing(FontcutError, OSError):
@@ -115,9 +117,9 @@ class LibraryMissing(FontcutError, OSError):
 
 
 class NoGlyph(FontcutError, ValueError):
-    """A number was given for a glyph that is none of the font's.
+    """A glyph number was given that the font does not have.
 
-    index  where it stands among those that were given, from 0
+    index  its position in the list that was given, from 0
     glyph  the number
     """
 
@@ -136,8 +138,8 @@ class Refused(FontcutError):
 
     number    the number of the refusal, as `fontcut` prints it
     text      its text, such as `bad loca at 7`
-    argument  what it is about: a tag as `str`, or an index, glyph, code or size; None where it is about the whole file
-    file      the index of the file that is refused, where several were given
+    argument  what it is about: a tag as `str`, or an index, glyph, code or size; None if it is about the whole file
+    file      the index of the refused file, if several were given
     """
 
     def __init__(self, number: int, text: str, argument: Union[None, int, str], file: Optional[int]):
@@ -153,6 +155,8 @@ class Refused(FontcutError):
 
 
 class _Range(ctypes.Structure):
+    first: int
+    last: int
     _fields_ = [("first", ctypes.c_uint32), ("last", ctypes.c_uint32)]
 
 
@@ -161,17 +165,28 @@ class _Bytes(ctypes.Structure):
 
 
 class _Answer(ctypes.Structure):
+    status: int
+    detail: int
+    size: int
+    step: int
     _fields_ = [("status", ctypes.c_uint32), ("detail", ctypes.c_uint32), ("size", ctypes.c_uint64),
                 ("step", ctypes.c_uint64)]
 
 
 class _Metric(ctypes.Structure):
+    advance: int
+    bearing: int
     _fields_ = [("advance", ctypes.c_uint16), ("bearing", ctypes.c_int16)]
 
 
 class _Info(ctypes.Structure):
     _fields_ = [(name, ctypes.c_int16 if at > 1 else ctypes.c_uint16) for at, name in enumerate(Info._fields)]
 
+
+# Room in memory, and a call that writes to it where it has so many bytes as the call needs.
+if TYPE_CHECKING:
+    _Room = ctypes.Array[ctypes.c_char]  # Python 3.8 cannot evaluate it
+_Writing = Callable[["_Room", int], _Answer]
 
 _FILE = [ctypes.c_void_p, ctypes.c_size_t]
 _RANGES = [ctypes.POINTER(_Range), ctypes.c_size_t]
@@ -190,9 +205,12 @@ _CALLS = {"check": _FILE, "subset_size": _KIND + _FILE + _RANGES, "subset": _KIN
 
 
 def _path() -> str:
+    named = os.environ.get("FONTCUT_LIBRARY")
+    if named:
+        return named
     name, here = "libfontcut.so.0", os.path.dirname(os.path.abspath(__file__))
     beside = [os.path.join(folder, name) for folder in (here, os.path.dirname(os.path.dirname(here)))]
-    return os.environ.get("FONTCUT_LIBRARY") or next((path for path in beside if os.path.exists(path)), name)
+    return next((path for path in beside if os.path.exists(path)), name)
 
 
 def _loaded() -> ctypes.CDLL:
@@ -226,8 +244,9 @@ class _File:
         view = memoryview(data).cast("B")
         self.length = view.nbytes
         if self.length and not view.readonly:
-            self.held: object = (ctypes.c_char * self.length).from_buffer(view)
-            self.at = ctypes.addressof(self.held)  # type: ignore[arg-type]
+            held = (ctypes.c_char * self.length).from_buffer(view)
+            self.held: object = held
+            self.at: Optional[int] = ctypes.addressof(held)
         else:
             # In an array of files the pointer may not be NULL, for no bytes too.
             self.held = ctypes.c_char_p((data if isinstance(data, bytes) else bytes(view)) or b"\0")
@@ -345,21 +364,21 @@ def _code_points(given: object) -> List[int]:
     return numbers
 
 
-def _in_c(ranges: Sequence[Range]) -> ctypes.Array:
+def _in_c(ranges: Sequence[Range]) -> ctypes.Array[_Range]:
     return (_Range * max(1, len(ranges)))(*[_Range(*one) for one in ranges])
 
 
 def check(font: Bytes) -> None:
-    """Returns where the font is accepted, and raises `Refused` where it is not."""
+    """Returns if the font is accepted, and raises `Refused` otherwise."""
     file = _File(font)
     _done(_library().fontcut_check(file.at, file.length))
 
 
 class Font:
-    """A font that is accepted, as `check` says, and tested once: `cut`, `cut_size`, `glyphs`, `metrics` and what stands on
-    these take it in the place of the bytes, and do not test it again. Every other call takes it too.
+    """An accepted font, which is tested once. `cut`, `cut_size`, `glyphs`, `metrics` and the calls that use them take
+    it instead of the bytes, and do not test it again. Every other call takes it too.
 
-    `data` has its bytes: those that were given, or a copy where these could change. Raises `Refused`."""
+    `data` has its bytes: those that were given, or a copy if these could change. Raises `Refused`."""
 
     def __init__(self, data: Bytes):
         if isinstance(data, (str, os.PathLike)):
@@ -368,9 +387,10 @@ class Font:
         check(self.data)
 
 
-def _call(name: str, font: Union[Bytes, Font]):
+def _call(name: str, font: Union[Bytes, Font]) -> Callable[..., _Answer]:
     """A call of the library, or that of its name for a font which was tested before."""
-    return getattr(_library(), f"fontcut_{name}_checked" if isinstance(font, Font) else f"fontcut_{name}")
+    call = getattr(_library(), f"fontcut_{name}_checked" if isinstance(font, Font) else f"fontcut_{name}")
+    return cast(Callable[..., _Answer], call)
 
 
 def _kind(kind: Optional[str], lean: bool) -> int:
@@ -385,35 +405,35 @@ def _kind(kind: Optional[str], lean: bool) -> int:
 
 
 def cut_size(font: Union[Bytes, Font], wanted: Codes, *, lean: bool = False, kind: Optional[str] = None) -> int:
-    """The length in bytes of the cut of a font for the wanted characters, of a kind. None is made."""
+    """The length in bytes of the cut of a font for the wanted characters, of a kind. The cut is not made."""
     file, ranges = _File(font), _ranges(wanted)
     answer = _call("subset_size", font)(_kind(kind, lean), file.at, file.length, _in_c(ranges), len(ranges))
     return _done(answer).size
 
 
 def cut(font: Union[Bytes, Font], wanted: Codes, *, lean: bool = False, kind: Optional[str] = None) -> bytes:
-    """The cut of a font for the wanted characters, of a kind. Those that the font does not map are passed over.
+    """The cut of a font for the wanted characters, of a kind. Characters that the font does not map are ignored.
 
-    Raises `Refused` where the font is refused, or its cut too large for a file; `ValueError` for what is no range."""
+    Raises `Refused` if the font is refused or the cut would be too large; `ValueError` for what is not a range."""
     file, ranges = _File(font), _ranges(wanted)
     given, call, number = _in_c(ranges), _call("subset", font), _kind(kind, lean)
 
-    def made(room, size):
+    def made(room: _Room, size: int) -> _Answer:
         return call(number, file.at, file.length, given, len(ranges), room, size)
 
     return _written(file.length + 4096, made)
 
 
 def join(cuts: Sequence[Bytes], *, lean: bool = False, kind: Optional[str] = None) -> bytes:
-    """The join of cuts of one font, of a kind: that font's cut for the characters of all of them, in whatever order
-    they come.
+    """The join of cuts of one font, of a kind: the cut of that font for the characters of all of them, whatever their
+    order is.
 
-    Raises `Refused`, with the index of the file, where one is no cut or no cut of the font of those before it."""
+    Raises `Refused`, with the index of the file, if one is not a cut, or not a cut of the same font as those before."""
     files, number = [_File(one) for one in cuts], _kind(kind, lean)
     given = (_Bytes * max(1, len(files)))(*[_Bytes(one.at, one.length) for one in files])
 
-    def made(room, size):
-        return _library().fontcut_join(number, given, len(files), room, size)
+    def made(room: _Room, size: int) -> _Answer:
+        return cast(_Answer, _library().fontcut_join(number, given, len(files), room, size))
 
     return _written(sum(one.length for one in files) + 4096, made, several=True)
 
@@ -421,7 +441,7 @@ def join(cuts: Sequence[Bytes], *, lean: bool = False, kind: Optional[str] = Non
 def slices(font: Union[Bytes, Font], sets: Iterable[Codes], *, lean: bool = False,
            kind: Optional[str] = None) -> List[bytes]:
     """The cuts of a font for many sets of wanted characters, of a kind: what `cut` makes for each set, in the order of
-    the sets. The font is looked through once for all of them.
+    the sets. The font is tested once for all of them.
 
     Raises what `cut` raises."""
     if isinstance(sets, str):
@@ -431,9 +451,10 @@ def slices(font: Union[Bytes, Font], sets: Iterable[Codes], *, lean: bool = Fals
     given, room_for_sizes, number = _in_c(ranges), ctypes.c_uint64 * max(1, count), _kind(kind, lean)
     counts, sizes = room_for_sizes(*map(len, wanted)), room_for_sizes()
 
-    def made(room, size):
-        return _library().fontcut_cuts(number, file.at, file.length, given, len(ranges), counts, count, room, size,
-                                       sizes, count)
+    def made(room: _Room, size: int) -> _Answer:
+        answer = _library().fontcut_cuts(number, file.at, file.length, given, len(ranges), counts, count, room, size,
+                                         sizes, count)
+        return cast(_Answer, answer)
 
     # A guess would seldom serve: each cut repeats the tables that it copies, and the font alone says how long they are. So
     # the first call has no room. It measures the cuts, and the second one has room for just all of them.
@@ -442,7 +463,7 @@ def slices(font: Union[Bytes, Font], sets: Iterable[Codes], *, lean: bool = Fals
     return [ctypes.string_at(ctypes.byref(out, end - size), size) for end, size in zip(ends, sizes)]
 
 
-def _filled(room: int, call, several: bool = False) -> Tuple[ctypes.Array, int]:
+def _filled(room: int, call: _Writing, several: bool = False) -> Tuple[_Room, int]:
     """Room for so many bytes, or for as many as a call then says that it needs, and how many bytes the call wrote to it."""
     out = ctypes.create_string_buffer(room)
     answer = call(out, room)
@@ -453,7 +474,7 @@ def _filled(room: int, call, several: bool = False) -> Tuple[ctypes.Array, int]:
     return out, _done(answer, several).size
 
 
-def _written(room: int, call, several: bool = False) -> bytes:
+def _written(room: int, call: _Writing, several: bool = False) -> bytes:
     """What a call writes to such room."""
     return ctypes.string_at(*_filled(room, call, several))
 
@@ -465,9 +486,9 @@ def _form(font: Bytes, lean: bool, kind: Optional[str] = None) -> Form:
 
 
 def form(font: Bytes) -> Form:
-    """Whether a font is a cut, and in which form: `LEAN` for a lean cut, which is a current cut too. A font that is a
-    current cut is looked through twice for that. `is_cut` asks for one of the two alone, and for layout cuts: one with
-    tables of layout is none of the two."""
+    """Whether a font is a cut, and in which form: `LEAN` for a lean cut, which is also a current cut. For this a
+    current cut is read twice. `is_cut` tests for one kind only, and for layout cuts: with layout tables they are
+    neither."""
     found = _form(font, lean=False)
     if found is Form.CURRENT and is_cut(font, lean=True):
         return Form.LEAN
@@ -475,26 +496,26 @@ def form(font: Bytes) -> Form:
 
 
 def is_cut(font: Bytes, *, lean: bool = False, kind: Optional[str] = None) -> bool:
-    """Whether a font is a cut of a kind as it is written today. A lean cut is a full cut too."""
+    """Whether a font is a cut of a kind, in the current form. A lean cut is a full cut too."""
     return _form(font, lean, kind) is Form.CURRENT
 
 
 def belongs(cut: Bytes, font: Union[Bytes, Font], *, lean: bool = False, kind: Optional[str] = None) -> bool:
-    """Whether a file is a cut of a font for some characters, of a kind, and a full cut in either form. Raises `Refused`
-    where one of the two is refused: the file 0 is the cut, and 1 the font."""
+    """Whether a file is a cut of a font for some characters, of a kind; a full cut may be in either form. Raises
+    `Refused` if one of the two is refused: file 0 is the cut, and file 1 the font."""
     first, second = _File(cut), _File(font)
     answer = _library().fontcut_belongs(_kind(kind, lean), first.at, first.length, second.at, second.length)
     return _done(answer, several=True).detail == 1
 
 
 def is_cut_of(cut: Bytes, font: Bytes) -> bool:
-    """`belongs` by its old name, which goes with the next version."""
+    """The old name of `belongs`, which the next version removes."""
     warnings.warn("is_cut_of is deprecated: call belongs", DeprecationWarning, stacklevel=2)
     return belongs(cut, font)
 
 
 def codes(font: Union[Bytes, Font]) -> List[Range]:
-    """The code points that a font maps, as the least number of ranges, in ascending order."""
+    """The code points that a font maps, as the fewest ranges, in ascending order."""
     file, room = _File(font), 1024
     out = (_Range * room)()
     answer = _library().fontcut_codes(file.at, file.length, out, room)
@@ -506,8 +527,8 @@ def codes(font: Union[Bytes, Font]) -> List[Range]:
 
 
 def glyphs(font: Union[Bytes, Font], wanted: Union[str, Iterable[int]]) -> List[int]:
-    """The number of the glyph to which a font maps each character, 0 where it maps one to none: in the order of the
-    text, or of the code points."""
+    """The glyph number to which a font maps each character, or 0 if it does not map it: in the order of the text, or of
+    the code points."""
     file = _File(font)
     numbers = _characters(wanted) if isinstance(wanted, str) else _code_points(wanted)
     count = len(numbers)
@@ -519,7 +540,7 @@ def glyphs(font: Union[Bytes, Font], wanted: Union[str, Iterable[int]]) -> List[
 def metrics(font: Union[Bytes, Font], glyphs: Iterable[int]) -> List[Tuple[int, int]]:
     """The advance width and the left side bearing of each glyph, in font units and in the order of the glyphs.
 
-    Raises `NoGlyph` where a number is no glyph of the font."""
+    Raises `NoGlyph` if the font has no glyph of a number."""
     file, numbers = _File(font), _numbers(glyphs, "glyph")
     count = len(numbers)
     # A font has 65,535 glyphs at most, so that the last of 16 bits stands for all numbers that are none of any font.
@@ -534,19 +555,19 @@ def metrics(font: Union[Bytes, Font], glyphs: Iterable[int]) -> List[Tuple[int, 
 
 
 def advances(font: Union[Bytes, Font], glyphs: Iterable[int]) -> List[int]:
-    """The advance width of each glyph, in font units and in the order of the glyphs: the first of its `metrics`."""
+    """The advance width of each glyph, in font units and in the order of the glyphs: the first of its two `metrics`."""
     return [advance for advance, _ in metrics(font, glyphs)]
 
 
 def info(font: Union[Bytes, Font]) -> Info:
-    """The numbers of a whole font: how many glyphs it has, its units, its box, and how high its lines are."""
+    """Numbers of a whole font: its glyph count, its units, its bounding box, and the height of its lines."""
     file, out = _File(font), _Info()
     _done(_library().fontcut_info(file.at, file.length, ctypes.byref(out)))
     return Info(*(getattr(out, name) for name in Info._fields))
 
 
 def missing(font: Union[Bytes, Font], text: Codes) -> List[int]:
-    """The code points of a text, or of code points and ranges, that the font maps to no glyph: ascending, each once."""
+    """The code points of a text, or of code points and ranges, that the font does not map: ascending, each once."""
     wanted = [code for first, last in _ranges(text) for code in range(first, last + 1)]
     return [code for code, glyph in zip(wanted, glyphs(font, wanted)) if glyph == 0]
 
@@ -588,16 +609,17 @@ def _words(text: str) -> Iterator[str]:
 
 
 def ranges(words: Union[str, Iterable[str]]) -> List[Range]:
-    """The code points that a list of ranges names, as ranges in ascending order of which none touch.
+    """The code points that a list of ranges names, as ascending ranges that do not touch.
 
         fontcut.ranges("U+41-5A, U+3B1, U+4??")
 
     It takes what the program takes from `--codes-file`: `U+41`, `U+41-5A` and `U+4??`, also without the `U+` or with
-    `u+`, and `all` or `*`; parted by blanks, line ends, commas or semicolons, so that a `unicode-range` of CSS can be
-    pasted in. What follows `#` in a line is a comment. Of a line that `fontcut codes --glyphs` prints the code is taken.
-    Raises `ValueError` for any other word."""
-    texts = [words] if isinstance(words, str) else list(_items(words, "range word"))
-    for place, text in enumerate(texts):
+    `u+`, and `all` or `*`, separated by blanks, line ends, commas or semicolons. So a `unicode-range` of CSS can be
+    pasted in. `#` starts a comment. Of a line that `fontcut codes --glyphs` printed, only the code is taken. Raises
+    `ValueError` for any other word."""
+    texts: List[str] = []
+    for place, text in enumerate([words] if isinstance(words, str) else _items(words, "range word")):
         if not isinstance(text, str):
             raise TypeError(f"item {place} is {text!r}, which is no range word")
-    return _ranges([_read_word(word) for text in texts for word in _words(text)])  # type: ignore[arg-type]
+        texts.append(text)
+    return _ranges([_read_word(word) for text in texts for word in _words(text)])

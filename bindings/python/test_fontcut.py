@@ -12,6 +12,7 @@ import tempfile
 import threading
 import unittest
 import warnings
+from typing import Any, Callable, Dict, Iterable, List, Optional, Tuple
 
 sys.dont_write_bytecode = True
 HERE = os.path.dirname(os.path.abspath(__file__))
@@ -45,30 +46,33 @@ GSUB_OF_NOTHING = struct.pack(">8H", 1, 0, 10, 12, 14, 0, 0, 0)
 WITH_GSUB = font_cutting.assembled({**font_reading.tables_of(BASE6), b"GSUB": GSUB_OF_NOTHING})
 
 LETTERS, ACCENTED, ALL = ([(0x41, 0x42)], [(0xC1, 0xC1)], [(0x41, 0x42), (0xC1, 0xC1)])
+SETS: List[List[Tuple[int, int]]] = [LETTERS, ACCENTED, ALL, []]
 
 
 class Cutting(unittest.TestCase):
-    def test_cuts_are_those_of_the_second_reading(self):
-        for wanted in (LETTERS, ACCENTED, ALL, []):
+    def test_cuts_are_those_of_the_second_reading(self) -> None:
+        for wanted in SETS:
             self.assertEqual(fontcut.cut(BASE6, wanted), font_cutting.cut(BASE6, wanted))
             self.assertEqual(fontcut.cut_size(BASE6, wanted), len(font_cutting.cut(BASE6, wanted)))
 
-    def test_lean_cuts_are_those_of_the_second_reading(self):
+    def test_lean_cuts_are_those_of_the_second_reading(self) -> None:
         self.assertEqual(fontcut.cut(BASE6, ACCENTED, lean=True), LEAN_CUT_OF_AACUTE)
-        for wanted in (LETTERS, ACCENTED, ALL, []):
+        for wanted in SETS:
             lean = lean_cutting.lean_cut(BASE6, wanted)
             self.assertEqual(fontcut.cut(BASE6, wanted, lean=True), lean)
             self.assertEqual(fontcut.cut_size(BASE6, wanted, lean=True), len(lean))
 
-    def test_kinds_of_cuts(self):
+    def test_kinds_of_cuts(self) -> None:
         for kind, lean in (("full", False), ("lean", True)):
             self.assertEqual(fontcut.cut(BASE6, ALL, kind=kind), fontcut.cut(BASE6, ALL, lean=lean))
             self.assertEqual(fontcut.cut(BASE6, ALL, kind=kind, lean=lean), fontcut.cut(BASE6, ALL, lean=lean))
-        for given in ({"kind": "thin"}, {"kind": ""}, {"kind": "full", "lean": True}, {"kind": "layout", "lean": True}):
+        rows: List[Dict[str, Any]] = [{"kind": "thin"}, {"kind": ""}, {"kind": "full", "lean": True},
+                                      {"kind": "layout", "lean": True}]
+        for given in rows:
             with self.assertRaises(ValueError):
                 fontcut.cut(BASE6, ALL, **given)
 
-    def test_layout_cuts_keep_tables_of_layout(self):
+    def test_layout_cuts_keep_tables_of_layout(self) -> None:
         """The lean cut has all else of it, as this GSUB puts no glyph for another."""
         cut = fontcut.cut(WITH_GSUB, ACCENTED, kind="layout")
         tables = font_reading.tables_of(cut)
@@ -80,18 +84,19 @@ class Cutting(unittest.TestCase):
         self.assertEqual(fontcut.cut(fontcut.Font(WITH_GSUB), ACCENTED, kind="layout"), cut)
         self.assertEqual(fontcut.cut(BASE6, ACCENTED, kind="layout"), LEAN_CUT_OF_AACUTE)
 
-    def test_slices_are_cuts(self):
+    def test_slices_are_cuts(self) -> None:
+        lists: List[List[fontcut.Codes]] = [[LETTERS, ACCENTED, ALL, [], "A", range(0x41, 0x43), ALL], [[]], [],
+                                            [[(code, code)] for code in range(300)]]
         for lean in (False, True):
-            for sets in ([LETTERS, ACCENTED, ALL, [], "A", range(0x41, 0x43), ALL], [[]], [],
-                         [[(code, code)] for code in range(300)]):
+            for sets in lists:
                 cuts = [fontcut.cut(BASE6, wanted, lean=lean) for wanted in sets]
                 self.assertEqual(fontcut.slices(BASE6, sets, lean=lean), cuts)
                 self.assertEqual(fontcut.slices(BASE6, iter(sets), lean=lean), cuts)
 
-    def test_fonts_that_are_tested_once(self):
+    def test_fonts_that_are_tested_once(self) -> None:
         for data in (BASE6, bytearray(BASE6), memoryview(BASE6)):
             font = fontcut.Font(data)
-            for wanted in (LETTERS, ACCENTED, ALL, []):
+            for wanted in SETS:
                 for lean in (False, True):
                     self.assertEqual(fontcut.cut(font, wanted, lean=lean), fontcut.cut(BASE6, wanted, lean=lean))
                     self.assertEqual(fontcut.cut_size(font, wanted, lean=lean), fontcut.cut_size(BASE6, wanted, lean=lean))
@@ -109,29 +114,36 @@ class Cutting(unittest.TestCase):
         self.assertEqual(fontcut.cut(font, "A"), fontcut.cut(BASE6, "A"))
         with self.assertRaises(fontcut.Refused):
             fontcut.Font(BASE6[:11])
+        wrong: Any = "font.ttf"
         with self.assertRaises(TypeError):
-            fontcut.Font("font.ttf")
+            fontcut.Font(wrong)
 
-    def test_slices_refused(self):
+    def test_slices_refused(self) -> None:
+        lists: List[List[fontcut.Codes]] = [[], [ALL]]
         for font, number in ((b"", 2), (b"ttcf" + bytes(8), 3)):
-            for sets in ([], [ALL]):
+            for sets in lists:
                 with self.assertRaises(fontcut.Refused) as caught:
                     fontcut.slices(font, sets)
                 self.assertEqual((caught.exception.number, caught.exception.file), (number, None))
-        for sets, error in (("AB", TypeError), (b"AB", TypeError), ([65], TypeError), (None, TypeError),
-                            ([["A"]], TypeError), ([ALL, [(2, 1)]], ValueError), ([ALL, [0x110000]], ValueError)):
+        wrong: Any
+        for wrong, error in (("AB", TypeError), (b"AB", TypeError), ([65], TypeError), (None, TypeError),
+                             ([["A"]], TypeError), ([ALL, [(2, 1)]], ValueError), ([ALL, [0x110000]], ValueError)):
             with self.assertRaises(error):
-                fontcut.slices(BASE6, sets)
+                fontcut.slices(BASE6, wrong)
 
-    def test_wanted_characters_in_each_form(self):
+    def test_wanted_characters_in_each_form(self) -> None:
         cut = fontcut.cut(BASE6, LETTERS)
-        for wanted in ("AB", "BAAB", [0x42, 0x41], range(0x41, 0x43), [(0x41, 0x41), 0x42], iter([0x41, 0x42])):
+        forms: List[fontcut.Codes] = ["AB", "BAAB", [0x42, 0x41], range(0x41, 0x43), [(0x41, 0x41), 0x42],
+                                      iter([0x41, 0x42])]
+        for wanted in forms:
             self.assertEqual(fontcut.cut(BASE6, wanted), cut)
 
-    def test_text_that_looks_like_ranges(self):
+    def test_text_that_looks_like_ranges(self) -> None:
         """It is taken as characters, and whoever calls is warned, at the line of the call."""
+        calls: List[Callable[[bytes, str], object]] = [
+            fontcut.cut, fontcut.cut_size, fontcut.missing, lambda font, text: fontcut.slices(font, [text])]
         for text in ("U+41-5A", "u+41", "U+41, U+4??", " U+41-U+5A;\n", "unicode-range: U+41;"):
-            for call in (fontcut.cut, fontcut.cut_size, fontcut.missing, lambda font, text: fontcut.slices(font, [text])):
+            for call in calls:
                 with self.assertWarnsRegex(fontcut.FontcutWarning, r"is taken as characters: .* fontcut\.ranges\(") as told:
                     call(BASE6, text)
                 self.assertEqual(os.path.basename(told.filename), os.path.basename(__file__))
@@ -141,14 +153,16 @@ class Cutting(unittest.TestCase):
                 fontcut.cut(BASE6, text)
             fontcut.cut(BASE6, fontcut.ranges("U+41-5A"))
 
-    def test_bad_ranges(self):
-        for wanted in ([(2, 1)], [-1], [0x110000], [(0, 0x110000)]):
+    def test_bad_ranges(self) -> None:
+        rows: List[fontcut.Codes] = [[(2, 1)], [-1], [0x110000], [(0, 0x110000)]]
+        for wanted in rows:
             for lean in (False, True):
                 with self.assertRaises(ValueError):
                     fontcut.cut(BASE6, wanted, lean=lean)
 
-    def test_what_is_no_set_of_characters(self):
+    def test_what_is_no_set_of_characters(self) -> None:
         """Each is named by its place, with what is wrong about it."""
+        calls: List[Callable[[bytes, Any], object]] = [fontcut.cut, fontcut.cut_size, fontcut.missing]
         for wanted, error, text in (
             ([(65, 66, 90)], ValueError, r"item 0 is \(65, 66, 90\), which is no range"),
             (["A", "B"], TypeError, r"item 0 is 'A', .* characters are given as one str"),
@@ -158,34 +172,36 @@ class Cutting(unittest.TestCase):
             (7, TypeError, "7 is no list"), (b"AB", TypeError, "bytes are no list"), ([(65, "B")], TypeError, "item 0 is 'B'"),
             ([range(65, 70)], TypeError, r"item 0 is range\(65, 70\)"),
         ):
-            for call in fontcut.cut, fontcut.cut_size, fontcut.missing:
+            for call in calls:
                 with self.assertRaisesRegex(error, text):
                     call(BASE6, wanted)
 
-    def test_a_path_is_no_font(self):
+    def test_a_path_is_no_font(self) -> None:
+        wrong: Any = "a.ttf"
         with self.assertRaisesRegex(TypeError, "not as the path 'a.ttf'"):
-            fontcut.check("a.ttf")
+            fontcut.check(wrong)
 
-    def test_bytes_of_each_kind(self):
+    def test_bytes_of_each_kind(self) -> None:
         cut = fontcut.cut(BASE6, ALL)
         with tempfile.TemporaryFile() as file:
             file.write(BASE6)
             file.flush()
             with mmap.mmap(file.fileno(), 0, access=mmap.ACCESS_READ) as mapped:
-                for font in (bytearray(BASE6), memoryview(BASE6), memoryview(bytearray(BASE6)), mapped):
+                fonts: List[fontcut.Bytes] = [bytearray(BASE6), memoryview(BASE6), memoryview(bytearray(BASE6)), mapped]
+                for font in fonts:
                     self.assertEqual(fontcut.cut(font, ALL), cut)
 
 
 class Joining(unittest.TestCase):
-    def setUp(self):
+    def setUp(self) -> None:
         self.letters, self.accented = fontcut.cut(BASE6, LETTERS), fontcut.cut(BASE6, ACCENTED)
 
-    def test_joins_agree_in_each_order(self):
+    def test_joins_agree_in_each_order(self) -> None:
         both = fontcut.cut(BASE6, ALL)
         self.assertEqual(fontcut.join([self.letters, self.accented]), both)
         self.assertEqual(fontcut.join([self.accented, self.letters, both]), both)
 
-    def test_lean_joins_agree_in_each_order(self):
+    def test_lean_joins_agree_in_each_order(self) -> None:
         both = lean_cutting.lean_cut(BASE6, ALL)
         letters, accented = (fontcut.cut(BASE6, wanted, lean=True) for wanted in (LETTERS, ACCENTED))
         for cuts in ([letters, accented], [accented, letters, both], [letters, letters, accented]):
@@ -194,7 +210,7 @@ class Joining(unittest.TestCase):
             fontcut.join([letters, self.accented], lean=True)
         self.assertEqual((caught.exception.number, caught.exception.file), (20, 1))
 
-    def test_layout_joins_agree_in_each_order(self):
+    def test_layout_joins_agree_in_each_order(self) -> None:
         both = fontcut.cut(WITH_GSUB, ALL, kind="layout")
         letters, accented = (fontcut.cut(WITH_GSUB, wanted, kind="layout") for wanted in (LETTERS, ACCENTED))
         for cuts in ([letters, accented], [accented, letters, both]):
@@ -203,24 +219,23 @@ class Joining(unittest.TestCase):
             fontcut.join([letters, fontcut.cut(BASE6, LETTERS, lean=True)], kind="layout")
         self.assertEqual((caught.exception.number, caught.exception.argument, caught.exception.file), (21, "GSUB", 1))
 
-    def test_old_cuts_are_renewed(self):
+    def test_old_cuts_are_renewed(self) -> None:
         old = font_cutting.old_cut(BASE6, LETTERS)
         self.assertIs(fontcut.form(old), fontcut.Form.OLD)
         self.assertFalse(fontcut.is_cut(old))
         self.assertEqual(fontcut.join([old]), self.letters)
 
-    def test_refusals_carry_what_they_are_about(self):
-        for files, number, text, argument, file in (
-            ([], 24, "nothing to join", None, None), ([self.letters, b""], 2, "truncated", None, 1),
-            ([BASE6], 20, "not a cut: first", None, 0), ([self.letters, BASE6], 20, "not a cut: second", None, 1),
-        ):
+    def test_refusals_carry_what_they_are_about(self) -> None:
+        rows: List[Tuple[List[bytes], int, str, Optional[int]]] = [
+            ([], 24, "nothing to join", None), ([self.letters, b""], 2, "truncated", 1),
+            ([BASE6], 20, "not a cut: first", 0), ([self.letters, BASE6], 20, "not a cut: second", 1)]
+        for files, number, text, file in rows:
             with self.assertRaises(fontcut.Refused) as caught:
                 fontcut.join(files)
             refused = caught.exception
-            self.assertEqual((refused.number, refused.text, refused.argument, refused.file),
-                             (number, text, argument, file))
+            self.assertEqual((refused.number, refused.text, refused.argument, refused.file), (number, text, None, file))
 
-    def test_refusals_are_handed_on(self):
+    def test_refusals_are_handed_on(self) -> None:
         """A pool of processes hands an exception on as bytes."""
         refused = fontcut.Refused(36, "different glyph 7", 7, 1)
         again = pickle.loads(pickle.dumps(refused))
@@ -228,7 +243,7 @@ class Joining(unittest.TestCase):
 
 
 class Asking(unittest.TestCase):
-    def test_forms_and_codes(self):
+    def test_forms_and_codes(self) -> None:
         cut = fontcut.cut(BASE6, ALL)
         fontcut.check(BASE6)
         self.assertIs(fontcut.form(BASE6), fontcut.Form.NO_CUT)
@@ -240,7 +255,7 @@ class Asking(unittest.TestCase):
         self.assertFalse(fontcut.belongs(BASE6, cut))
         self.assertEqual(fontcut.codes(cut), [(0x41, 0x42), (0xC1, 0xC1)])
 
-    def test_lean_cuts_are_told(self):
+    def test_lean_cuts_are_told(self) -> None:
         lean = fontcut.cut(BASE6, ACCENTED, lean=True)
         self.assertIs(fontcut.form(lean), fontcut.Form.LEAN)
         self.assertTrue(fontcut.is_cut(lean))
@@ -249,7 +264,7 @@ class Asking(unittest.TestCase):
         self.assertFalse(fontcut.belongs(lean, BASE6))
         self.assertEqual(fontcut.cut(fontcut.cut(BASE6, ACCENTED), ACCENTED, lean=True), lean)
 
-    def test_layout_cuts_are_told(self):
+    def test_layout_cuts_are_told(self) -> None:
         cut = fontcut.cut(WITH_GSUB, ACCENTED, kind="layout")
         self.assertTrue(fontcut.is_cut(cut, kind="layout"))
         self.assertFalse(fontcut.is_cut(WITH_GSUB, kind="layout"))
@@ -257,17 +272,19 @@ class Asking(unittest.TestCase):
         self.assertFalse(fontcut.belongs(cut, WITH_GSUB, lean=True))
         self.assertIs(fontcut.form(cut), fontcut.Form.NO_CUT)
 
-    def test_refused_tables_of_layout(self):
+    def test_refused_tables_of_layout(self) -> None:
         """They are refused for layout cuts alone, and after a font that is none."""
         bad = WITH_GSUB.replace(GSUB_OF_NOTHING, b"\0\2" + GSUB_OF_NOTHING[2:])
         fontcut.check(bad)
         self.assertEqual(fontcut.cut(bad, ALL), fontcut.cut(BASE6, ALL))
-        for call, file in ((lambda: fontcut.cut(bad, ALL, kind="layout"), None),
-                           (lambda: fontcut.is_cut(bad, kind="layout"), None),
-                           (lambda: fontcut.slices(bad, [ALL], kind="layout"), None),
-                           (lambda: fontcut.belongs(bad, WITH_GSUB, kind="layout"), 0),
-                           (lambda: fontcut.belongs(WITH_GSUB, bad, kind="layout"), 1),
-                           (lambda: fontcut.join([fontcut.cut(WITH_GSUB, ALL, kind="layout"), bad], kind="layout"), 1)):
+        calls: List[Tuple[Callable[[], object], Optional[int]]] = [
+            (lambda: fontcut.cut(bad, ALL, kind="layout"), None),
+            (lambda: fontcut.is_cut(bad, kind="layout"), None),
+            (lambda: fontcut.slices(bad, [ALL], kind="layout"), None),
+            (lambda: fontcut.belongs(bad, WITH_GSUB, kind="layout"), 0),
+            (lambda: fontcut.belongs(WITH_GSUB, bad, kind="layout"), 1),
+            (lambda: fontcut.join([fontcut.cut(WITH_GSUB, ALL, kind="layout"), bad], kind="layout"), 1)]
+        for call, file in calls:
             with self.assertRaises(fontcut.Refused) as caught:
                 call()
             refused = caught.exception
@@ -277,12 +294,12 @@ class Asking(unittest.TestCase):
             fontcut.belongs(bad, b"", kind="layout")
         self.assertEqual((caught.exception.number, caught.exception.file), (2, 1))
 
-    def test_old_names(self):
+    def test_old_names(self) -> None:
         cut = fontcut.cut(BASE6, LETTERS)
         with self.assertWarns(DeprecationWarning):
             self.assertTrue(fontcut.is_cut_of(cut, BASE6))
 
-    def test_refused_fonts(self):
+    def test_refused_fonts(self) -> None:
         places = [at for at in range(12, 12 + 16 * 7, 16) if BASE6[at:at + 4] == b"loca"]
         bad = bytearray(BASE6)
         struct.pack_into(">I", bad, places[0] + 8, len(bad))
@@ -299,28 +316,31 @@ class Asking(unittest.TestCase):
                 fontcut.belongs(BASE6, b"", lean=lean)
             self.assertEqual(caught.exception.file, 1)
 
-    def test_glyphs_of_characters(self):
+    def test_glyphs_of_characters(self) -> None:
         self.assertEqual(fontcut.glyphs(BASE6, "AB\u00c1A\U0001f600"), [1, 5, 3, 1, 0])
-        for wanted in ([0x42, 0x41, 0x10FFFF], iter([0x42, 0x41, 0x10FFFF]), (0x42, 0x41, 0x10FFFF)):
+        forms: List[Iterable[int]] = [[0x42, 0x41, 0x10FFFF], iter([0x42, 0x41, 0x10FFFF]), (0x42, 0x41, 0x10FFFF)]
+        for wanted in forms:
             self.assertEqual(fontcut.glyphs(BASE6, wanted), [5, 1, 0])
         self.assertEqual(fontcut.glyphs(BASE6, range(0x3F, 0x43)), [0, 0, 1, 5])
         self.assertEqual(fontcut.glyphs(BASE6, ""), [])
-        for wanted, error in (([-1], ValueError), ([0x110000], ValueError), (["A"], TypeError), ([(65, 66)], TypeError),
-                              ("\udc80", ValueError), (b"A", TypeError), (None, TypeError)):
+        wrong: Any
+        for wrong, error in (([-1], ValueError), ([0x110000], ValueError), (["A"], TypeError), ([(65, 66)], TypeError),
+                             ("\udc80", ValueError), (b"A", TypeError), (None, TypeError)):
             with self.assertRaises(error):
-                fontcut.glyphs(BASE6, wanted)
+                fontcut.glyphs(BASE6, wrong)
 
-    def test_metrics_are_those_of_the_second_reading(self):
+    def test_metrics_are_those_of_the_second_reading(self) -> None:
         metrics = font_reading.metrics(BASE6)
         self.assertEqual(fontcut.metrics(BASE6, range(6)), metrics)
         self.assertEqual(fontcut.metrics(BASE6, [5, 0, 5]), [metrics[5], metrics[0], metrics[5]])
         self.assertEqual(fontcut.advances(BASE6, [5, 0, 5]), [metrics[5][0], metrics[0][0], metrics[5][0]])
         self.assertEqual(fontcut.metrics(BASE6, []), [])
-        for glyphs, error in ((["A"], TypeError), ("A", TypeError), ([True], TypeError), (None, TypeError)):
+        wrong: Any
+        for wrong, error in ((["A"], TypeError), ("A", TypeError), ([True], TypeError), (None, TypeError)):
             with self.assertRaises(error):
-                fontcut.metrics(BASE6, glyphs)
+                fontcut.metrics(BASE6, wrong)
 
-    def test_a_number_that_is_no_glyph(self):
+    def test_a_number_that_is_no_glyph(self) -> None:
         for call in fontcut.metrics, fontcut.advances:
             with self.assertRaises(fontcut.NoGlyph) as caught:
                 call(BASE6, [0, 5, 6, 7])
@@ -334,7 +354,7 @@ class Asking(unittest.TestCase):
         again = pickle.loads(pickle.dumps(caught.exception))
         self.assertEqual((vars(again), str(again)), (vars(caught.exception), str(caught.exception)))
 
-    def test_info_is_that_of_the_second_reading(self):
+    def test_info_is_that_of_the_second_reading(self) -> None:
         self.assertEqual(fontcut.info(BASE6), font_reading.info(BASE6))
         info = fontcut.info(BASE6)
         self.assertEqual((info.glyph_count, info.units_per_em), (6, 1000))
@@ -345,12 +365,12 @@ class Asking(unittest.TestCase):
         struct.pack_into(">2h", bare, hhea + 4, 32767, -32768)
         self.assertEqual(fontcut.info(bare)[2:], (-32768, -1, 32767, 0, 32767, -32768))
 
-    def test_missing_characters(self):
+    def test_missing_characters(self) -> None:
         self.assertEqual(fontcut.missing(BASE6, "BAD Zz"), [0x44, 0x5A, 0x7A])
         self.assertEqual(fontcut.missing(BASE6, [(0x40, 0x43), 0xC1]), [0x40, 0x43])
         self.assertEqual(fontcut.missing(BASE6, "AB"), [])
 
-    def test_range_words(self):
+    def test_range_words(self) -> None:
         """What `--codes-file` takes; tests/library asks the program for the same."""
         for words, wanted in RANGES:
             self.assertEqual(fontcut.ranges(words), wanted, words)
@@ -359,22 +379,25 @@ class Asking(unittest.TestCase):
         for words in NO_RANGES:
             with self.assertRaisesRegex(ValueError, "bad (word|range) ", msg=words):
                 fontcut.ranges(words)
-        for words in ([65], b"all", 7):
+        wrong: Any
+        for wrong in ([65], b"all", 7):
             with self.assertRaises(TypeError):
-                fontcut.ranges(words)
+                fontcut.ranges(wrong)
 
-    def test_refusals_are_those_of_check(self):
+    def test_refusals_are_those_of_check(self) -> None:
+        calls: List[Callable[[bytes], object]] = [
+            fontcut.check, fontcut.info, lambda font: fontcut.glyphs(font, "A"),
+            lambda font: fontcut.metrics(font, [9]), lambda font: fontcut.missing(font, "A")]
         for font in (b"", b"ttcf" + bytes(8), BASE6[:-1], BASE6[:100]):
             refused = []
-            for call in (fontcut.check, fontcut.info, lambda font: fontcut.glyphs(font, "A"),
-                         lambda font: fontcut.metrics(font, [9]), lambda font: fontcut.missing(font, "A")):
+            for call in calls:
                 with self.assertRaises(fontcut.Refused) as caught:
                     call(font)
                 refused.append(vars(caught.exception))
             self.assertEqual(refused, [refused[0]] * 5)
             self.assertIsInstance(caught.exception, fontcut.FontcutError)
 
-    def test_the_library_is_looked_for_at_the_first_call(self):
+    def test_the_library_is_looked_for_at_the_first_call(self) -> None:
         """A program may import the module where no library is, and is told then how it is found."""
         script = ("import fontcut; print(fontcut.__version__, fontcut.ranges('U+41'))\n"
                   "try: fontcut.check(b'')\nexcept fontcut.LibraryMissing as error: print(error)")
@@ -385,8 +408,9 @@ class Asking(unittest.TestCase):
             self.assertIn(text, told)
             self.assertIn("FONTCUT_LIBRARY", told)
 
-    def test_threads(self):
-        cut, found = fontcut.cut(BASE6, ALL), []
+    def test_threads(self) -> None:
+        cut = fontcut.cut(BASE6, ALL)
+        found: List[bytes] = []
         threads = [threading.Thread(target=lambda: found.extend(fontcut.cut(BASE6, ALL) for _ in range(200)))
                    for _ in range(4)]
         for thread in threads:

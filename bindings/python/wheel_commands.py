@@ -2,6 +2,7 @@
 import importlib
 import os
 import sys
+from typing import Callable
 
 _INSTALL = "pip install 'fontcut[{}]'"
 
@@ -19,7 +20,7 @@ def program() -> int:
 def pdf() -> int:
     """The command `fontcut-pdf`."""
     try:
-        main = importlib.import_module("fontcut_pdf").main
+        main: Callable[[], int] = importlib.import_module("fontcut_pdf").main
     except ImportError as error:
         print(f"fontcut-pdf: needs {error.name or 'pikepdf'}: {_INSTALL.format('pdf')}", file=sys.stderr)
         return 3
@@ -28,4 +29,5 @@ def pdf() -> int:
 
 def web() -> int:
     """The command `fontcut-web`, which looks for its packages itself."""
-    return importlib.import_module("fontcut_web").main(install=_INSTALL.format("web"))
+    status: int = importlib.import_module("fontcut_web").main(install=_INSTALL.format("web"))
+    return status

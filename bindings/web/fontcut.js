@@ -14,8 +14,11 @@ const KINDS = ['full', 'lean', 'layout'];
 const FORMS = ['none', 'current', 'old'];
 
 // Statuses of include/fontcut.h, and those whose detail is a tag or a number.
-const DONE = 0, NO_MEMORY = 16, TOO_LARGE = 18, NOTHING_TO_JOIN = 24, SMALL_ROOM = 100, NO_GLYPH = 102;
+const DONE = 0, SMALL_ROOM = 100, NO_GLYPH = 102;
+// Written by tools/write_refusals from include/refusals.txt:
+const NO_MEMORY = 16, TOO_LARGE = 18, NOTHING_TO_JOIN = 24;
 const OF_TAGS = [5, 6, 7, 21], OF_NUMBERS = [12, 15, 17, 22, 23, NO_GLYPH];
+// End of what tools/write_refusals writes.
 
 const BYTES_OF_ANSWER = 24, BYTES_OF_INFO = 16, LONGEST_TEXT = 64;
 

@@ -1,13 +1,12 @@
 #!/usr/bin/env python3
-"""Joins cuts of one font at the workers of a cluster that Dask runs:
+"""Joins cuts of one font on the workers of a Dask cluster:
 
     merge.py [--lean | --layout] [--group N] SCHEDULER OUT CUTS..
 
-A task reads and joins at most N files, or joins what as many tasks gave back, until one join is left. Workers
-find each file by the same path as this machine. OUT is replaced when the join is complete, and keeps its mode; a
-link is followed, and a device or a pipe is written to. Statuses, as of `fontcut join`: 0 done; 1 refused, or
-memory was refused; 2 the command line is at fault; 3 a file cannot be read or written, or the cluster does not
-answer.
+A task reads and joins at most N files, or joins the results of at most N tasks, until one join is left. Workers
+find each file at the same path as this machine. OUT is replaced atomically, and keeps its mode; a link is followed,
+and a device or a pipe is written to directly. Exit status, as of `fontcut join`: 0 done; 1 refused, or out of memory;
+2 usage error; 3 a file cannot be read or written, or the cluster does not answer.
 """
 import argparse
 import functools
@@ -17,7 +16,7 @@ import shutil
 import sys
 import tempfile
 from concurrent.futures import CancelledError
-from typing import Callable, List, NamedTuple, Sequence, Tuple, Union
+from typing import Callable, List, NamedTuple, Sequence, Tuple, TypeVar, Union
 
 import fontcut
 from distributed import Client, Future
@@ -25,6 +24,7 @@ from distributed import Client, Future
 # What a task gives back: a cut, or the status and the text of why there is none. Where several tasks have
 # none, the first in the order of CUTS is passed on; of exceptions it would be whichever came first.
 Part = Union[bytes, Tuple[int, str]]
+Item = TypeVar("Item")
 
 
 class Node(NamedTuple):
@@ -44,9 +44,9 @@ def join_parts(names: Sequence[str], parts: Sequence[Part], kind: str) -> Part:
         if not isinstance(part, bytes):
             return part
     try:
-        return fontcut.join(parts, kind=kind)
+        return fontcut.join([part for part in parts if isinstance(part, bytes)], kind=kind)
     except fontcut.Refused as refused:
-        return 1, f"{names[refused.file]}: refused {refused.number} {refused.text}"
+        return 1, f"{names[refused.file or 0]}: refused {refused.number} {refused.text}"
     except MemoryError:
         return 1, "no memory"
 
@@ -66,7 +66,7 @@ def join_files(paths: Sequence[str], kind: str) -> Part:
     return join_parts(paths, [read(path) for path in paths], kind)
 
 
-def grouped(items: Sequence, size: int) -> List[Sequence]:
+def grouped(items: Sequence[Item], size: int) -> List[Sequence[Item]]:
     return [items[at:at + size] for at in range(0, len(items), size)]
 
 
@@ -131,7 +131,7 @@ def main() -> int:
         with connected(words.scheduler) as client:
             # A file may have changed since the last run, so no task is taken for one of an earlier run.
             submit = functools.partial(client.submit, pure=False)
-            part = merged(submit, paths, words.kind, words.group).result()
+            part: Part = merged(submit, paths, words.kind, words.group).result()
         if isinstance(part, bytes):
             replace(words.out, part)
             return 0

@@ -1,9 +1,11 @@
 #!/usr/bin/env python3
 """Serves the pages of this folder on loopback, with the package for browsers and cuts of fonts by examples/server.
 
-In a checkout the package and the library for C are built where they are not built yet. `--package` names the folder of
-a package that is there, and the variable FONTCUT_LIBRARY a library.
+In a checkout the package and the library for C are built if they are not built yet. `--package` names the folder of
+an existing package, and the variable FONTCUT_LIBRARY an existing library.
 """
+from __future__ import annotations
+
 import argparse
 import mimetypes
 import os
@@ -14,6 +16,10 @@ import sys
 import tempfile
 import wsgiref.simple_server
 import wsgiref.util
+from typing import TYPE_CHECKING, Iterable, List
+
+if TYPE_CHECKING:
+    from wsgiref.types import StartResponse, WSGIApplication, WSGIEnvironment
 
 HERE = os.path.dirname(os.path.realpath(__file__))
 TOP = os.path.dirname(os.path.dirname(HERE))
@@ -30,16 +36,16 @@ class Server(socketserver.ThreadingMixIn, wsgiref.simple_server.WSGIServer):
 class Quiet(wsgiref.simple_server.WSGIRequestHandler):
     """Says nothing of requests."""
 
-    def log_message(self, *_):
+    def log_message(self, *_: object) -> None:
         pass
 
 
-def built(*path):
+def built(*path: str) -> List[str]:
     """The lines that a script prints which builds something where that is not built yet."""
     return subprocess.run([os.path.join(TOP, *path)], stdout=subprocess.PIPE, check=True, text=True).stdout.splitlines()
 
 
-def cuts_of(folder):
+def cuts_of(folder: str) -> WSGIApplication:
     """The application of examples/server over the fonts of the pages."""
     if "FONTCUT_LIBRARY" not in os.environ:
         os.environ["FONTCUT_LIBRARY"] = built("bindings", "c", "build")[1]
@@ -56,11 +62,11 @@ def cuts_of(folder):
 class Site:
     """The WSGI application: cuts below /fonts, the package below /package, and the pages."""
 
-    def __init__(self, cuts, package):
+    def __init__(self, cuts: WSGIApplication, package: str) -> None:
         self.cuts = cuts
         self.folders = {"package": package, "": HERE}
 
-    def __call__(self, environ, start_response):
+    def __call__(self, environ: WSGIEnvironment, start_response: StartResponse) -> Iterable[bytes]:
         folder, _, name = environ["PATH_INFO"].lstrip("/").rpartition("/")
         if folder == "fonts":
             wsgiref.util.shift_path_info(environ)
@@ -75,9 +81,9 @@ class Site:
         return [data]
 
 
-def main():
+def main() -> None:
     parser = argparse.ArgumentParser(description="Serves the pages of this folder on loopback.")
-    parser.add_argument("--port", type=int, default=8000, help="8000 where none is given, and 0 for one that is free")
+    parser.add_argument("--port", type=int, default=8000, help="8000 by default; 0 takes any free one")
     parser.add_argument("--package", help="the folder of the package for browsers")
     words = parser.parse_args()
     mimetypes.add_type("text/javascript", ".js")

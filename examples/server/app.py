@@ -1,20 +1,20 @@
-"""Serves cuts of the fonts of a folder: a WSGI application over the module `fontcut` and the standard library.
+"""Serves cuts of the fonts of a folder: a WSGI application with the module `fontcut` and the standard library.
 
     GET /NAME.ttf?unicodes=U+20-7E,U+4??        the cut of the font NAME.ttf for these code points
     GET /NAME.ttf?text=Hello                    for these characters
     GET /NAME.ttf?unicodes=U+20-7E&kind=lean    the lean cut, and with kind=layout the layout cut
 
-The variable FONTS names the folder. Each worker maps its fonts when it starts, and tests each once. What is asked for
-names a font among those; no path from outside is opened. An answer is decided by the font's bytes, the kind and the
-set, so its ETag is made of these. Caches may keep it for ever: a font that changes gets another name. A browser that
-has a cut of the font is sent another one packed with it, where `dictionaries` can do that.
+The variable FONTS names the folder. Each worker maps its fonts when it starts, and tests each once. A request names one
+of these fonts; no path from outside is opened. The bytes of the font, the kind and the set determine the answer, so its
+ETag is made from these. Caches may keep it forever: a font that changes gets another name. If a browser has a cut of
+the font, another one is sent to it compressed with that, if `dictionaries` can do so.
 """
 import hashlib
 import mmap
 import os
 import re
 import urllib.parse
-from typing import Dict, List, NamedTuple, Optional, Tuple
+from typing import Callable, Dict, List, NamedTuple, Optional, Tuple
 
 import dictionaries
 import fontcut
@@ -110,7 +110,7 @@ class Application:
     def __init__(self, folder: str):
         self.fonts = fonts_of(folder)
 
-    def __call__(self, environ, start_response):
+    def __call__(self, environ: dictionaries.Environ, start_response: Callable[..., object]) -> List[bytes]:
         head = environ["REQUEST_METHOD"] == "HEAD"
         try:
             status, headers, body = self.answer(environ)
@@ -122,7 +122,7 @@ class Application:
         start_response(status, headers)
         return [] if head or body is None else [body]
 
-    def answer(self, environ):
+    def answer(self, environ: dictionaries.Environ) -> Tuple[str, List[Tuple[str, str]], Optional[bytes]]:
         """The status, headers and body of an answer; of a cut that the client has, no body."""
         if environ["REQUEST_METHOD"] not in ("GET", "HEAD"):
             raise Answer("405 Method Not Allowed", "GET and HEAD are answered")

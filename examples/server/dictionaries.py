@@ -7,26 +7,29 @@ import base64
 import hashlib
 import re
 import urllib.parse
-from typing import List, Optional, Tuple
+from typing import Any, Dict, List, Optional, Tuple
 
 import fontcut
 
 try:
     import zstandard
+    CAN_PACK = True
 except ImportError:
-    zstandard = None  # type: ignore[assignment]
+    CAN_PACK = False
+
+Environ = Dict[str, Any]  # of WSGI: texts, and some objects of the server
 
 # What is longer is no dictionary, and is not packed with one: that would take a worker too long.
 LONGEST = 2 << 20
 LONGEST_ID = 1024  # characters, by RFC 9842
 LEVEL = 7  # of zstd; higher ones take many times as long for a hundredth of the bytes
 DCZ_BEGIN = bytes.fromhex("5e2a4d1820000000")  # of an answer in the coding `dcz`; the digest of the dictionary follows
-VARY = [("Vary", "Accept-Encoding, Available-Dictionary")] if zstandard else []
+VARY = [("Vary", "Accept-Encoding, Available-Dictionary")] if CAN_PACK else []
 
 
 def can_serve(cut: bytes) -> bool:
     """Whether a cut may be packed, or be a dictionary."""
-    return zstandard is not None and len(cut) <= LONGEST
+    return CAN_PACK and len(cut) <= LONGEST
 
 
 def offer(cut: bytes, name: str, wanted: List[Tuple[int, int]], kind: str) -> List[Tuple[str, str]]:
@@ -40,7 +43,7 @@ def offer(cut: bytes, name: str, wanted: List[Tuple[int, int]], kind: str) -> Li
     return [("Use-As-Dictionary", f'match="{urllib.parse.quote(name)}*", id="{known}"')]
 
 
-def known_to(environ, font) -> Optional[bytes]:
+def known_to(environ: Environ, font: fontcut.Bytes) -> Optional[bytes]:
     """The cut of a font that the browser has as a dictionary, or None where it has none that is made again as it is
     there."""
     known = re.fullmatch(r'"(full|lean|layout) ([0-9A-F,-]*)"', environ.get("HTTP_DICTIONARY_ID", ""))
@@ -58,4 +61,4 @@ def packed(cut: bytes, known: bytes) -> bytes:
     """A cut in the coding `dcz`: packed by zstd with a dictionary."""
     raw = zstandard.ZstdCompressionDict(known, dict_type=zstandard.DICT_TYPE_RAWCONTENT)
     packer = zstandard.ZstdCompressor(level=LEVEL, dict_data=raw, write_dict_id=False)
-    return DCZ_BEGIN + hashlib.sha256(known).digest() + packer.compress(cut)
+    return b"".join([DCZ_BEGIN, hashlib.sha256(known).digest(), packer.compress(cut)])

@@ -25,43 +25,43 @@ from .streams import MOST_OF_CONTENT, MOST_OF_OTHER, MOST_OF_PROGRAM, MOST_OF_TE
 from .survey import fonts
 
 _LIMITS = f"""\
-Limits: of the content of a page, of a form or of a glyph {MOST_OF_CONTENT >> 20} MiB are read when it is unpacked,
-or {MOST_OF_OTHER >> 20} MiB where it has comments or pictures; of a font {MOST_OF_PROGRAM >> 20} MiB, and of its ToUnicode {MOST_OF_TEXTS >> 20} MiB.
-Where there is more, the fonts in question stay as they are. A file is refused whose fonts have more than
-{MOST_WORK // 1_000_000} million widths and texts, or whose page tree is more than {DEEPEST} nodes deep.
-Of fonts of one name that do not join with each other, the first {MOST_CLASSES} are compared with each of the others.
+Limits: unpacked, at most {MOST_OF_CONTENT >> 20} MiB of the content of a page, of a form or of a glyph are read, or
+{MOST_OF_OTHER >> 20} MiB if it has comments or pictures; of a font {MOST_OF_PROGRAM >> 20} MiB, and of its ToUnicode {MOST_OF_TEXTS >> 20} MiB.
+If there is more, the fonts in question stay as they are. A file is refused if its fonts have more than
+{MOST_WORK // 1_000_000} million widths and texts, or if its page tree is more than {DEEPEST} nodes deep.
+Of fonts of one name that do not join with each other, only the first {MOST_CLASSES} are compared with the others.
 
 Exit status: 0 done; 1 a file is refused, and nothing was written; 2 usage error; 3 a file cannot be read or
 written.
 """
 
 _NOT_KEPT = """\
-page labels, names of places that links within a file lead to, fields of forms and their
-signatures, tags, attachments, output intents and metadata. A file with layers that may be hidden is refused.
+page labels, named destinations of links, form fields and their signatures, tags,
+attachments, output intents and metadata. A file with layers that may be hidden is refused.
 """
 
 _WHAT = """\
-PDF files whose fonts are lean cuts of fontcut: whole fonts are shrunk to what the pages show, and the fonts of
-several files join when the files are merged. Pages look the same, and have the same text. OUT is replaced when
-it is complete.
+Works on PDF files whose fonts are lean cuts of fontcut: shrinks whole fonts to what the pages show, and joins the
+fonts of several files when the files are merged. Pages look the same, and have the same text. OUT is replaced
+atomically.
 
   fontcut-pdf shrink in.pdf out.pdf
   fontcut-pdf merge -o all.pdf one.pdf two.pdf
 """
 
 _SHRINK = """\
-Fonts by glyph numbers (Type 0, Identity-H) that are whole become lean cuts for what the pages show; the pages stay
-the same. A font stays as it is where that is not sure to be so, and is then named. If OUT would not be smaller, it
-is a copy of IN, and the fonts are said to be kept. A signed file is refused.
+Whole fonts that are used by glyph numbers (Type 0, Identity-H) become lean cuts for what the pages show; the pages
+stay the same. If that is not certain, a font stays as it is, and is named. If OUT would not be smaller, it is a copy
+of IN, and the fonts are reported as kept. A signed file is refused.
 """
 
 _MERGE = f"""\
-Puts the pages of all FILES into OUT, in order. Fonts that are cuts of one font become one font; other fonts that
-are the same bytes stand there once. Without -o the first of FILES is taken for OUT, and refused if it is a PDF
-file already.
+Writes the pages of all FILES to OUT, in order. Fonts that are cuts of one font become one font; other fonts that
+are byte for byte the same are stored once. Without -o the first of FILES is OUT, and refused if it is a PDF file
+already.
 
-Kept: pages with all that they have, annotations and links to pages of their file among it; and bookmarks
-(outlines), below an entry with the name of each file.
+Kept: pages with everything that belongs to them, including annotations and links to pages of their file; and
+bookmarks (outlines), below an entry with the name of each file.
 Not kept: {_NOT_KEPT}"""
 
 
@@ -160,26 +160,26 @@ def _is_pdf(path: str) -> bool:
 
 
 def _parser() -> argparse.ArgumentParser:
-    raw = {"formatter_class": argparse.RawDescriptionHelpFormatter}
-    parser = argparse.ArgumentParser(prog="fontcut-pdf", description=_WHAT,
-                                     epilog=f"Not kept by merge: {_NOT_KEPT}\n{_LIMITS}", **raw)
+    raw = argparse.RawDescriptionHelpFormatter
+    parser = argparse.ArgumentParser(prog="fontcut-pdf", description=_WHAT, formatter_class=raw,
+                                     epilog=f"Not kept by merge: {_NOT_KEPT}\n{_LIMITS}")
     parser.add_argument("--version", action="version", version=f"fontcut-pdf {fontcut.__version__}")
     commands = parser.add_subparsers(dest="command", required=True, metavar="COMMAND", parser_class=CommandParser)
     command = commands.add_parser("shrink", help="make lean cuts of whole fonts, for what the pages show",
-                                  description=_SHRINK, epilog=_LIMITS, **raw)
+                                  description=_SHRINK, epilog=_LIMITS, formatter_class=raw)
     command.add_argument("source", metavar="IN")
     command.add_argument("out", metavar="OUT")
     command.add_argument("--report", action="store_true", help="say what became of each font")
     command.set_defaults(run=_run_shrink)
     command = commands.add_parser("merge", help="put the pages of files into one, where fonts that join are one font",
                                   usage="fontcut-pdf merge [--report] -o OUT FILES..", description=_MERGE,
-                                  epilog=_LIMITS, **raw)
+                                  epilog=_LIMITS, formatter_class=raw)
     command.add_argument("-o", "--output", metavar="OUT", dest="out",
                          help="the file that is made; what stands there is replaced")
     command.add_argument("files", metavar="FILES", nargs="+")
     command.add_argument("--report", action="store_true", help="say what became of each font")
     command.set_defaults(run=_run_merge)
-    command = commands.add_parser("fonts", help="list the embedded fonts", epilog=_LIMITS, **raw,
+    command = commands.add_parser("fonts", help="list the embedded fonts", epilog=_LIMITS, formatter_class=raw,
                                   description="Lists the embedded fonts, their bytes, and whether each is a lean cut.")
     command.add_argument("file", metavar="FILE")
     command.set_defaults(run=_run_fonts)

@@ -5,7 +5,7 @@ import copy
 import re
 import struct
 from decimal import Decimal
-from typing import Dict, Iterator, List, NamedTuple, Optional, Tuple, Union
+from typing import Dict, Iterator, List, NamedTuple, Optional, SupportsAbs, Tuple, Union
 
 import pikepdf
 from pikepdf import Array, Dictionary, Name, Object, Pdf, Stream, String
@@ -84,7 +84,10 @@ def is_number(thing: object) -> bool:
 def is_written(thing: object) -> bool:
     """Whether it is a number that can be written to a file, where none has an exponent (ISO 32000-1, 7.3.3), as Python
     writes very small and very large ones, and the 0 of 0.0000000 too, for which 0 is written."""
-    return is_number(thing) and abs(thing) < 10 ** 9 and (thing == 0 or "E" not in str(thing).upper())
+    if isinstance(thing, bool) or not isinstance(thing, (int, float, Decimal)):
+        return False
+    number: SupportsAbs[Number] = thing
+    return abs(number) < 10 ** 9 and (thing == 0 or "E" not in str(thing).upper())
 
 
 # How a value names another object, in what qpdf writes.

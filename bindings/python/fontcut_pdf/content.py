@@ -129,5 +129,6 @@ def _chosen(operands: Sequence[object]) -> bytes:
         if isinstance(operands[0], bytes):
             return operands[0]
         if isinstance(operands[0], Name):
-            return operands[0].unparse()
+            name: bytes = operands[0].unparse()
+            return name
     raise Unclear("Tf has operands that it should not have")

@@ -73,14 +73,14 @@ def pages_of(pdf: Pdf) -> List[Object]:
     return found
 
 
-def annotations(page: Object) -> List[Object]:
+def annotations_of(page: Object) -> List[Object]:
     """The annotations of a page. One that is not in the file is null."""
     return [annotation for annotation in page.get("/Annots", ()) if annotation is not None]
 
 
 def _looks(page: Object) -> Iterator[Stream]:
     """The streams that draw the annotations of a page (ISO 32000-1, 12.5.5)."""
-    for annotation in annotations(page):
+    for annotation in annotations_of(page):
         for look in values(annotation, "/AP"):
             states = [look] if isinstance(look, Stream) else [state for _, state in entries(look)]
             yield from (state for state in states if isinstance(state, Stream))
@@ -200,5 +200,5 @@ class Drawing:
     def resolve(self, content: Node) -> Tuple[Dict[bytes, Font], bool]:
         """The fonts by whose names content goes, and whether a graphics state chooses one for it."""
         inner = content.resources.drawn if content.resources else []
-        fonts = next((node.fonts for node in inner if node.kind == "fonts"), {})
+        fonts: Dict[bytes, Font] = next((node.fonts for node in inner if node.kind == "fonts"), {})
         return fonts, any(node.chooses_font for node in inner)

@@ -7,7 +7,7 @@ import struct
 import zlib
 from collections import Counter
 from dataclasses import dataclass
-from typing import Dict, List, Optional, Tuple
+from typing import Dict, List, Mapping, Optional, Tuple
 
 import fontcut
 from pikepdf import Array, Dictionary, Name, Object, Pdf, Stream, String
@@ -65,7 +65,7 @@ def program_stream(pdf: Pdf, data: bytes) -> Stream:
     return stream
 
 
-def _written_widths(widths: Dict[int, Number]) -> Tuple[Array, Number]:
+def _written_widths(widths: Mapping[int, Number]) -> Tuple[Array, Number]:
     """W and DW (ISO 32000-1, 9.7.4.3): DW is the width that most glyphs have, and W has those of the others."""
     usual = Counter(widths.values()).most_common(1)[0][0] if widths else 1000
     rows: List[Tuple[int, List[Number]]] = []
@@ -78,7 +78,7 @@ def _written_widths(widths: Dict[int, Number]) -> Tuple[Array, Number]:
     return Array([part for first, row in rows for part in (first, Array(row))]), usual
 
 
-def to_unicode(pdf: Pdf, texts: Dict[int, Optional[bytes]]) -> Optional[Stream]:
+def to_unicode(pdf: Pdf, texts: Mapping[int, Optional[bytes]]) -> Optional[Stream]:
     """ToUnicode (ISO 32000-1, 9.10.3) for the texts of glyphs in UTF-16, or None where no glyph has one. A block has at
     most a hundred glyphs."""
     rows = [f"<{glyph:04X}> <{text.hex().upper()}>\n" for glyph, text in sorted(texts.items()) if text is not None]
@@ -94,7 +94,7 @@ def to_unicode(pdf: Pdf, texts: Dict[int, Optional[bytes]]) -> Optional[Stream]:
         "endcmap\nCMapName currentdict /CMap defineresource pop\nend\nend\n"]).encode())
 
 
-def descendant_font(pdf: Pdf, name: Name, descriptor: Object, widths: Dict[int, Number]) -> Object:
+def descendant_font(pdf: Pdf, name: Name, descriptor: Object, widths: Mapping[int, Number]) -> Object:
     """A CIDFont by glyph numbers (ISO 32000-1, 9.7.4)."""
     written, usual = _written_widths(widths)
     system = Dictionary(Registry=String("Adobe"), Ordering=String("Identity"), Supplement=0)

@@ -108,7 +108,7 @@ class Font:
     page      the first page that has it, from 1; 0 where no page has it
     shown     sets of strings that are shown in it, each with the first page that does, by what names the set
     unclear   why it has to stay as it is, where that is known from the pages
-    program   the embedded program, where it has one
+    program   the embedded program, from when it is read
     """
 
     pdf: Pdf
@@ -117,14 +117,14 @@ class Font:
     places: List[Tuple[Object, Name]] = field(default_factory=list)
     shown: Dict[int, Tuple[int, Set[bytes]]] = field(default_factory=dict)
     unclear: Optional[str] = None
-    program: Optional[Program] = None
+    program: Program = field(init=False)
     reading: Reading = field(default_factory=Reading)
 
     @property
     def name(self) -> str:
         """The name as it stands in a file: it may have any bytes, and those that are no letters stand as `#0A`."""
         name = self.object.get("/BaseFont")
-        return name.unparse()[1:].decode() if isinstance(name, Name) else "?"
+        return str(name.unparse()[1:].decode()) if isinstance(name, Name) else "?"
 
     @property
     def descendant(self) -> Object:
@@ -134,13 +134,16 @@ class Font:
         return self.object
 
     @property
-    def descriptor(self) -> Optional[Object]:
+    def descriptor(self) -> Object:
+        """Its descriptor. A font that has none is not embedded, and all but `key` is asked of embedded fonts alone."""
         return self.descendant.get("/FontDescriptor")
 
     @property
     def key(self) -> Optional[str]:
         """The key of its descriptor at which the embedded program stands, or None."""
-        descriptor = self.descriptor if isinstance(self.descriptor, Dictionary) else {}
+        descriptor = self.descriptor
+        if not isinstance(descriptor, Dictionary):
+            return None
         return next((key for key in ("/FontFile", "/FontFile2", "/FontFile3") if isinstance(descriptor.get(key), Stream)),
                     None)
 
@@ -250,7 +253,7 @@ def _stated_texts(to_unicode: Object, reading: Reading) -> Dict[int, bytes]:
 
 def _texts_in(operator: str, operands: Sequence[Object]) -> Iterator[Tuple[int, bytes]]:
     """The glyphs and texts that an operator of ToUnicode ends."""
-    size = {"endbfchar": 2, "endbfrange": 3}.get(operator)
+    size = {"endbfchar": 2, "endbfrange": 3}.get(operator, 0)
     if operator == "usecmap" or operator.startswith("endcid") or (size and len(operands) % size):
         raise Unclear("ToUnicode is not a list of texts")
     for at in range(0, len(operands) if size else 0, size or 1):
@@ -266,4 +269,4 @@ def _texts_in(operator: str, operands: Sequence[Object]) -> Iterator[Tuple[int, 
 
 def _code(string: Object) -> int:
     """A glyph number of two bytes."""
-    return struct.unpack(">H", bytes(string))[0]
+    return int(struct.unpack(">H", bytes(string))[0])

@@ -2,7 +2,7 @@
 from __future__ import annotations
 
 from dataclasses import dataclass
-from typing import Callable, Dict, Iterator, List, Optional, Sequence, Tuple
+from typing import Callable, Dict, Iterator, List, Mapping, Optional, Sequence, Tuple, TypeVar
 
 import fontcut
 from pikepdf import Array, Name, Pdf
@@ -15,6 +15,8 @@ from .shrinking import described, put
 from .survey import stays, surveyed
 from .versions import different_item, different_table, kept, shared
 
+_Key = TypeVar("_Key")
+_Value = TypeVar("_Value")
 # With how many classes of fonts that do not agree, or do not join, a font is compared.
 MOST_CLASSES = 16
 
@@ -55,24 +57,25 @@ def _member(font: Font) -> _Member:
     return _Member(font, lean, font.box(), font.widths(shown), font.texts(shown))
 
 
-def _agree(one: Optional[Dict], other: Optional[Dict]) -> bool:
+def _agree(one: Mapping[_Key, _Value], other: Mapping[_Key, _Value]) -> bool:
     """Whether two dictionaries have the same at all keys that both have."""
-    return one is not None and other is not None and all(one.get(key, value) == value for key, value in other.items())
+    return all(one.get(key, value) == value for key, value in other.items())
 
 
-def _classes(members: Sequence[_Member], of: Callable[[_Member], Optional[Dict]]
-             ) -> List[Tuple[Optional[Dict], List[_Member]]]:
+def _classes(members: Sequence[_Member], of: Callable[[_Member], Optional[Dict[_Key, _Value]]]
+             ) -> List[Tuple[Optional[Dict[_Key, _Value]], List[_Member]]]:
     """Fonts in classes, in each of which all agree, with what they have together. A font is compared with the first
     classes alone: one that agrees with none of them has a class of its own."""
-    found: List[Tuple[Optional[Dict], List[_Member]]] = []
+    found: List[Tuple[Optional[Dict[_Key, _Value]], List[_Member]]] = []
     for member in members:
         mine = of(member)
-        place = next((place for place in found[:MOST_CLASSES] if _agree(place[0], mine)), None)
-        if place is None:
-            found.append((None if mine is None else dict(mine), [member]))
+        for known, alike in found[:MOST_CLASSES]:
+            if known is not None and mine is not None and _agree(known, mine):
+                known.update(mine)
+                alike.append(member)
+                break
         else:
-            place[0].update(mine)
-            place[1].append(member)
+            found.append((None if mine is None else dict(mine), [member]))
     return found
 
 
@@ -89,7 +92,7 @@ def _unite(members: Sequence[_Member], joined: bytes) -> Name:
     pdf, name = first.pdf, tagged(first.name, joined)
     descriptor = described(first, name, program_stream(pdf, joined), _box(members))
     for widths, alike in _classes(members, lambda member: member.widths):
-        descendant = descendant_font(pdf, name, descriptor, widths)
+        descendant = descendant_font(pdf, name, descriptor, widths or {})
         for texts, same in _classes(alike, lambda member: member.texts):
             stated = same[0].font.object.ToUnicode if texts is None else to_unicode(pdf, texts)
             made = composite_font(pdf, name, descendant, stated)
@@ -101,7 +104,8 @@ def _unite(members: Sequence[_Member], joined: bytes) -> Name:
 def _joined(members: Sequence[_Member]) -> Tuple[bytes, List[_Member], List[Tuple[_Member, str]]]:
     """The join of the first of some fonts and of those that join with it, these, and the others with the reason.
     After some refusals the first one is left alone."""
-    joining, others = list(members), []
+    joining = list(members)
+    others: List[Tuple[_Member, str]] = []
     while True:
         try:
             return fontcut.join([member.cut for member in joining], lean=True), joining, others

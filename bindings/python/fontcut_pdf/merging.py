@@ -8,7 +8,7 @@ from typing import Iterator, List, Optional, Sequence, Tuple
 from pikepdf import Array, Dictionary, Name, Object, Pdf
 
 from .common import Outcome, Refused, dictionaries, values
-from .drawing import annotations, pages_of
+from .drawing import annotations_of, pages_of
 from .joining import join_fonts
 from .outlines import Source, add_outline
 from .survey import NO_FONT, refusing
@@ -52,7 +52,7 @@ def _actions(first: List[Object]) -> Iterator[Object]:
 
 def _places(page: Object) -> Iterator[Array]:
     """The places to which links of a page lead, as far as these name a page themselves (ISO 32000-1, 12.3.2)."""
-    for annotation in annotations(page):
+    for annotation in annotations_of(page):
         actions = _actions([annotation.get("/A"), *values(annotation, "/AA")])
         for place in (annotation.get("/Dest"), *(action.get("/D") for action in actions)):
             if isinstance(place, Array) and len(place) > 0:

@@ -37,7 +37,8 @@ def _inflated(packed: Iterable[bytes]) -> Iterator[bytes]:
 
 def _filters(stream: Stream) -> List[str]:
     found = stream.get("/Filter")
-    return [str(name) for name in (found if isinstance(found, Array) else [found]) if isinstance(name, Name)]
+    names = list(found) if isinstance(found, Array) else [found]
+    return [str(name) for name in names if isinstance(name, Name)]
 
 
 def _ratio(filters: List[str]) -> int:
@@ -78,7 +79,8 @@ def _afford(size: int) -> None:
 def raw(stream: Stream) -> bytes:
     """The bytes of a stream as they are packed."""
     try:
-        return stream.read_raw_bytes()
+        packed: bytes = stream.read_raw_bytes()
+        return packed
     except MALFORMED:
         _afford(8 * int(stream.get("/Length", 0)))
         raise
@@ -87,7 +89,8 @@ def raw(stream: Stream) -> bytes:
 def unpacked(stream: Stream) -> bytes:
     """The bytes of a stream, of which there are not too many, as `check_length` says."""
     try:
-        return stream.read_bytes()
+        data: bytes = stream.read_bytes()
+        return data
     except MALFORMED:
         packed = raw(stream)
         # Buffers of qpdf double as they grow.

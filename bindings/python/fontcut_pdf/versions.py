@@ -22,13 +22,14 @@ def _tables(cut: bytes) -> Dict[bytes, bytes]:
 
 def _pairs(tables: Mapping[bytes, bytes], header: bytes) -> int:
     """How many pairs of an advance and a bearing a table of metrics has, by the last field of its header."""
-    return struct.unpack_from(">H", tables.get(header, b"").ljust(36, b"\0"), 34)[0]
+    return int(struct.unpack_from(">H", tables.get(header, b"").ljust(36, b"\0"), 34)[0])
 
 
 def shared(cut: bytes) -> Dict[str, bytes]:
     """A digest for each table of a lean cut, of what a join wants to be the same in all files: of `head` all but its
     sum, and of metrics what is of no single glyph."""
-    tables, found = _tables(cut), {}
+    tables = _tables(cut)
+    found: Dict[str, bytes] = {}
     glyphs = struct.unpack_from(">H", tables[b"maxp"], 4)[0]
     for tag, data in tables.items():
         if tag == b"head":
@@ -60,7 +61,8 @@ def _outlines(tables: Mapping[bytes, bytes]) -> Iterator[Tuple[int, bytes]]:
 def kept(cut: bytes) -> Kept:
     """What a lean cut keeps: the glyph of each character, and the metrics and outline of each glyph that has a
     character or an outline."""
-    by_glyph, found = codes_by_glyph(cut), {}
+    by_glyph = codes_by_glyph(cut)
+    found: Kept = {}
     for glyph, codes in by_glyph.items():
         found.update(((CODE, code), glyph) for code in codes)
     for glyph, data in _outlines(_tables(cut)):

@@ -18,14 +18,14 @@ from .common import Missing, Refused, UsageError, need
 from .sets import MOST_EQUAL, PRESETS, WEB, asked, range_words
 
 INSTALL = "pip install 'fontcut[web]'"
+_RAW = argparse.RawDescriptionHelpFormatter
 _DISPLAYS = "auto", "block", "swap", "fallback", "optional"
 _CUT_KINDS = """\
-Cuts are lean, for what is drawn glyph by glyph. With --layout they have the tables of layout too, for kerning,
+Cuts are lean, for text that is drawn glyph by glyph. With --layout they also have the layout tables, for kerning,
 ligatures and scripts that are shaped; with --full the metrics and names of all glyphs."""
 
 _WHAT = """\
-Fonts for the web, cut by fontcut: slices with a style sheet, cuts for the text of pages, and WOFF files that are
-read back.
+Fonts for the web, cut by fontcut: slices with a style sheet, cuts for the text of pages, and unpacked WOFF files.
 
   fontcut-web slice Sans.ttf Sans-Bold.ttf --out site --slices web --woff2 --css
   fontcut-web text index.html about.html Sans.ttf sans.woff2
@@ -33,39 +33,39 @@ read back.
 """
 
 _STATUS = """\
-Exit status: 0 done; 1 a file is refused, or there was no memory; 2 usage error; 3 a file cannot be read or
-written, or a package that is needed is not installed.
+Exit status: 0 done; 1 a file is refused, or out of memory; 2 usage error; 3 a file cannot be read or written, or a
+package that is needed is not installed.
 """
 
 _SLICE = f"""\
 Writes a cut of each FONT for each slice to DIR, as FONT-SLICE.ttf. A browser loads a slice when a page has one
-of its characters. A character is in the first slice that names it, and in no other; a slice of no character
-that the font maps is not written.
+of its characters. A character is only in the first slice that names it; a slice of which the font maps no
+character is not written.
 
-SLICES is a preset, or a file with a name and ranges in each line, as fontcut slice reads it. Given again, it
-adds slices. The presets are
+SLICES is a preset, or a file with a name and ranges in each line, as fontcut slice reads it. The option may be
+repeated, and then adds slices. The presets are
   {', '.join(PRESETS)}
                      the subsets of Google Fonts of these names
   {WEB}                all of them
-  equal:COUNT        COUNT slices of what is left, which have as many characters each; {MOST_EQUAL} at most
+  equal:COUNT        COUNT slices of equal size of what is left; at most {MOST_EQUAL}
 
-To a browser slices are fonts of their own: nothing is kerned or shaped across two of them. Put the characters of a
-script into one slice where that matters.
+To a browser, slices are separate fonts: there is no kerning and no shaping across them. If that matters, put the
+characters of a script into one slice.
 """
 
 _TEXT = """\
-Writes to OUT the cut of FONT for the characters that pages of HTML show: their text without scripts and styles,
-and the attributes alt, placeholder, title and value. OUT is WOFF2 where it ends in .woff2. What a style sheet or
-a script adds is not known (content, numbers of lists, text-transform): give it by --text. With --layout the cut is
-for the characters too that a shaper takes for these, as those of fontcut subset --layout are.
+Writes the cut of FONT for the characters that HTML pages show to OUT: their text without scripts and styles, and
+the attributes alt, placeholder, title and value. If OUT ends in .woff2, it is WOFF2. What a style sheet or a script
+adds is not known (content, list numbers, text-transform): add it with --text. With --layout the cut also has the
+characters that a shaper takes for these, as with fontcut subset --layout.
 """
 
 _DECODE = """\
-Writes to OUT the font in a WOFF or WOFF2 file, which fontcut does not take as it is.
+Writes the font in a WOFF or WOFF2 file to OUT. fontcut itself does not read such files.
 
-A cut that went through WOFF is the same file again. One that went through WOFF2 is no cut as it comes back, for
-WOFF2 lays out its outlines anew. --lean, --layout and --full cut it anew for all its characters: such cuts of one
-kind join with each other, and not with cuts that were never packed.
+A cut that went through WOFF is the same file again. A cut that went through WOFF2 is no longer a cut, because WOFF2
+encodes outlines anew. --lean, --layout and --full cut it anew for all its characters: such cuts of one kind join
+with each other, and not with cuts that were never packed.
 """
 
 
@@ -193,40 +193,43 @@ def _kinds(command: argparse.ArgumentParser, default: Optional[str], **helps: st
     command.set_defaults(kind=default)
 
 
-def _add_slice(commands: argparse._SubParsersAction, **how: object) -> None:
+def _add_slice(commands: argparse._SubParsersAction[CommandParser]) -> None:
     command = commands.add_parser(
-        "slice", help="cut fonts in slices, with a style sheet", description=f"{_SLICE}\n{_CUT_KINDS}\n", **how,
+        "slice", help="cut fonts in slices, with a style sheet", description=f"{_SLICE}\n{_CUT_KINDS}\n",
+        formatter_class=_RAW, epilog=_STATUS,
         usage="fontcut-web slice FONT.. --out DIR --slices SLICES [--lean | --layout | --full] [--woff2] [--css]\n"
               "                         [--display VALUE] [--json]")
     command.add_argument("fonts", metavar="FONT", nargs="+")
     command.add_argument("--out", metavar="DIR", required=True, help="the folder that the files go to")
     command.add_argument("--slices", metavar="SLICES", action="append", required=True, help="a preset or a file")
-    _kinds(command, "lean", lean="write lean cuts, as is done without it", layout="write layout cuts",
+    _kinds(command, "lean", lean="write lean cuts (the default)", layout="write layout cuts",
            full="write full cuts")
     command.add_argument("--woff2", action="store_true", help="write FONT-SLICE.woff2 too, which browsers load")
     command.add_argument("--css", action="store_true", help="write fonts.css, and index.html, a page that shows the "
-                                                            "fonts and asks for the first slice")
+                                                            "fonts and preloads the first slice")
     command.add_argument("--display", metavar="VALUE", choices=_DISPLAYS, default="swap",
                          help=f"font-display in the style sheet: {', '.join(_DISPLAYS)} (swap)")
     command.add_argument("--json", action="store_true", help="print what was written")
     command.set_defaults(run=_run_slice)
 
 
-def _add_text(commands: argparse._SubParsersAction, **how: object) -> None:
+def _add_text(commands: argparse._SubParsersAction[CommandParser]) -> None:
     command = commands.add_parser(
-        "text", help="cut a font for the characters that pages show", description=f"{_TEXT}\n{_CUT_KINDS}\n", **how,
+        "text", help="cut a font for the characters that pages show", description=f"{_TEXT}\n{_CUT_KINDS}\n",
+        formatter_class=_RAW, epilog=_STATUS,
         usage="fontcut-web text PAGE.. FONT OUT [--lean | --layout | --full] [--text TEXT] [--strict] [--json]")
     command.add_argument("files", metavar="PAGE.. FONT OUT", nargs="+", help=argparse.SUPPRESS)
-    _kinds(command, "lean", lean="write a lean cut, as is done without it", layout="write a layout cut",
+    _kinds(command, "lean", lean="write a lean cut (the default)", layout="write a layout cut",
            full="write a full cut")
-    command.add_argument("--text", metavar="TEXT", default="", help="more characters")
-    command.add_argument("--strict", action="store_true", help="write nothing where the font lacks a character")
+    command.add_argument("--text", metavar="TEXT", default="", help="more characters to keep")
+    command.add_argument("--strict", action="store_true", help="write nothing if the font lacks a character")
     command.add_argument("--json", action="store_true", help="print what was written")
     command.set_defaults(run=_run_text)
 
 
-def _add_decode(commands: argparse._SubParsersAction, **how: object) -> None:
-    command = commands.add_parser("decode", help="unpack a WOFF or WOFF2 file", description=_DECODE, **how,
+def _add_decode(commands: argparse._SubParsersAction[CommandParser]) -> None:
+    command = commands.add_parser("decode", help="unpack a WOFF or WOFF2 file", description=_DECODE,
+                                  formatter_class=_RAW, epilog=_STATUS,
                                   usage="fontcut-web decode FILE OUT [--lean | --layout | --full]")
     command.add_argument("file", metavar="FILE")
     command.add_argument("out", metavar="OUT")
@@ -236,12 +239,11 @@ def _add_decode(commands: argparse._SubParsersAction, **how: object) -> None:
 
 
 def _parser() -> argparse.ArgumentParser:
-    raw = {"formatter_class": argparse.RawDescriptionHelpFormatter, "epilog": _STATUS}
-    parser = argparse.ArgumentParser(prog="fontcut-web", description=_WHAT, **raw)
+    parser = argparse.ArgumentParser(prog="fontcut-web", description=_WHAT, formatter_class=_RAW, epilog=_STATUS)
     parser.add_argument("--version", action="version", version=f"fontcut-web {fontcut.__version__}")
     commands = parser.add_subparsers(dest="command", required=True, metavar="COMMAND", parser_class=CommandParser)
     for add in _add_slice, _add_text, _add_decode:
-        add(commands, **raw)
+        add(commands)
     return parser
 
 

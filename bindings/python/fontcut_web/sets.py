@@ -42,7 +42,7 @@ class Listed(NamedTuple):
 class Equal(NamedTuple):
     """As many slices of what is left, which have as many characters each."""
 
-    count: int
+    parts: int
 
 
 class Slice(NamedTuple):
@@ -101,8 +101,8 @@ def _lines(path: str) -> Iterator[Listed]:
 def _names(one: Asked) -> List[str]:
     if isinstance(one, Listed):
         return [one.name]
-    width = len(str(one.count))
-    return [f"{number:0{width}}" for number in range(1, one.count + 1)]
+    width = len(str(one.parts))
+    return [f"{number:0{width}}" for number in range(1, one.parts + 1)]
 
 
 def divided(font: fontcut.Font, wanted: Iterable[Asked]) -> List[Slice]:
@@ -115,7 +115,7 @@ def divided(font: fontcut.Font, wanted: Iterable[Asked]) -> List[Slice]:
             inside, left = _parted(left, one.ranges)
             found.append(Slice(one.name, inside))
         else:
-            ends = [len(left) * part // one.count for part in range(one.count + 1)]
+            ends = [len(left) * part // one.parts for part in range(one.parts + 1)]
             found += [Slice(name, left[first:last]) for name, first, last in zip(_names(one), ends, ends[1:])]
             left = []
     return [one for one in found if one.codes]

@@ -25,7 +25,10 @@ pub(crate) struct Answer {
 }
 
 pub(crate) const DONE: u32 = 0;
+// Written by tools/write_refusals from include/refusals.txt:
 pub(crate) const NO_MEMORY: u32 = 16;
+pub(crate) const NOTHING_TO_JOIN: u32 = 24;
+// End of what tools/write_refusals writes.
 pub(crate) const SMALL_ROOM: u32 = 100;
 pub(crate) const NO_GLYPH: u32 = 102;
 

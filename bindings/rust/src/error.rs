@@ -1,5 +1,5 @@
 //! Refusals.
-use crate::calls::{fontcut_refusal_text, Answer, DONE};
+use crate::calls::{fontcut_refusal_text, Answer, DONE, NOTHING_TO_JOIN, NO_MEMORY};
 use std::fmt;
 
 /// What a refusal is about.
@@ -67,7 +67,7 @@ impl Error {
     }
 
     pub(crate) fn of_several_files(answer: Answer) -> Error {
-        let is_of_file = !matches!(answer.status, 16 | 24);
+        let is_of_file = !matches!(answer.status, NO_MEMORY | NOTHING_TO_JOIN);
         let file = usize::try_from(answer.step).ok().filter(|_| is_of_file);
         Error {
             file,
@@ -78,9 +78,11 @@ impl Error {
 
 fn argument_of(answer: Answer) -> Argument {
     match answer.status {
+        // Written by tools/write_refusals from include/refusals.txt:
         5 | 6 | 7 | 21 => Argument::Table(answer.detail.to_be_bytes()),
         12 | 15 | 17 | 22 | 23 => Argument::Number(answer.detail),
         18 => Argument::Size(answer.size),
+        // End of what tools/write_refusals writes.
         _ => Argument::File,
     }
 }
