@@ -1,19 +1,19 @@
-# Completion of the command line of fontcut for bash. It needs no other file.
+# Completion of the command line of fontcut for bash. It needs no other file. tools/write_completions writes it.
 # shellcheck shell=bash
 
 # Prints the options of a command; those of every command where it has no other.
 _fontcut_options() {
     case $1 in
-    '') echo '--quiet --verbose --version --help' ;;
+    '') echo '--verbose --quiet --version --help' ;;
+    codes) echo '--glyphs --verbose --quiet --help' ;;
+    belongs) echo '--lean --layout --drop --verbose --quiet --help' ;;
     subset)
-        echo '--text --text-file --exactly --codes-file --unicodes --complete --exclude --exclude-file'
-        echo '--report --strict --lean --layout --drop --force --quiet --verbose --help'
+        echo '--text --text-file --exactly --codes-file --unicodes --complete --exclude --exclude-file --report'
+        echo '--strict --lean --layout --drop --force --verbose --quiet --help'
         ;;
-    codes) echo '--glyphs --quiet --verbose --help' ;;
-    slice) echo '--slices --css --strict --lean --layout --drop --force --quiet --verbose --help' ;;
-    belongs) echo '--lean --layout --drop --quiet --verbose --help' ;;
-    join) echo '-o --output --lean --layout --force --quiet --verbose --help' ;;
-    *) echo '--quiet --verbose --help' ;;
+    slice) echo '--slices --css --strict --lean --layout --drop --force --verbose --quiet --help' ;;
+    join) echo '-o --output --lean --layout --force --verbose --quiet --help' ;;
+    *) echo '--verbose --quiet --help' ;;
     esac
 }
 
@@ -29,14 +29,14 @@ _fontcut_files() {
     compopt -o filenames 2>/dev/null
 }
 
-# Completes the operand that has this number behind a command, counted from 1.
+# Completes the operand that has this number after a command, counted from 1.
 _fontcut_operand() {
     local command=$1 number=$2 word=$3
     case $command in
-    join) _fontcut_files "$word" ;;
+    check | show | codes) if [ "$number" = 1 ]; then _fontcut_files "$word"; fi ;;
     belongs | slice) if [ "$number" -le 2 ]; then _fontcut_files "$word"; fi ;;
     subset) if [ "$number" -le 2 ]; then _fontcut_files "$word"; else _fontcut_words all "$word"; fi ;;
-    check | show | codes) if [ "$number" = 1 ]; then _fontcut_files "$word"; fi ;;
+    join) _fontcut_files "$word" ;;
     help) if [ "$number" = 1 ]; then _fontcut_words "$commands" "$word"; fi ;;
     esac
 }
@@ -55,7 +55,7 @@ _fontcut() {
             option=''
         elif ! $ended && [ "$word" = -- ]; then
             ended=true
-        elif ! $ended && [[ $word =~ ^--((text|exclude)(-file)?|codes-file|unicodes|complete|drop|slices|css|output)$ ]]; then
+        elif ! $ended && [[ $word =~ ^--(drop|text|text-file|codes-file|unicodes|complete|exclude|exclude-file|slices|css|output)$ ]]; then
             option=$word
         elif ! $ended && [[ $word == -?* ]]; then
             :
@@ -69,8 +69,8 @@ _fontcut() {
     word=${COMP_WORDS[COMP_CWORD]}
     [ "$word" != = ] || word=''
     case $option in
-    --text | --unicodes | --complete | --exclude | --css) ;;
     --drop) _fontcut_words 'BASE GDEF GPOS GSUB kern' "$word" ;;
+    --text | --unicodes | --complete | --exclude | --css) ;;
     --text-file | --codes-file | --exclude-file | --slices | --output) _fontcut_files "$word" ;;
     *)
         if [[ $word == -* ]] && ! $ended; then

@@ -1,4 +1,4 @@
-# Completion of the command line of fontcut for fish. It needs no other file.
+# Completion of the command line of fontcut for fish. It needs no other file. tools/write_completions writes it.
 
 set -g __fontcut_commands check show codes belongs subset slice join demo help
 
@@ -6,38 +6,38 @@ set -g __fontcut_commands check show codes belongs subset slice join demo help
 function __fontcut_options
     switch "$argv[1]"
         case ''
-            printf '%s\n' --quiet --verbose --version --help
-        case subset
-            printf '%s\n' --text --text-file --exactly --codes-file --unicodes --complete --exclude --exclude-file
-            printf '%s\n' --report --strict --lean --layout --drop --force --quiet --verbose --help
+            printf '%s\n' --verbose --quiet --version --help
         case codes
-            printf '%s\n' --glyphs --quiet --verbose --help
-        case slice
-            printf '%s\n' --slices --css --strict --lean --layout --drop --force --quiet --verbose --help
+            printf '%s\n' --glyphs --verbose --quiet --help
         case belongs
-            printf '%s\n' --lean --layout --drop --quiet --verbose --help
+            printf '%s\n' --lean --layout --drop --verbose --quiet --help
+        case subset
+            printf '%s\n' --text --text-file --exactly --codes-file --unicodes --complete --exclude --exclude-file --report
+            printf '%s\n' --strict --lean --layout --drop --force --verbose --quiet --help
+        case slice
+            printf '%s\n' --slices --css --strict --lean --layout --drop --force --verbose --quiet --help
         case join
-            printf '%s\n' -o --output --lean --layout --force --quiet --verbose --help
+            printf '%s\n' -o --output --lean --layout --force --verbose --quiet --help
         case '*'
-            printf '%s\n' --quiet --verbose --help
+            printf '%s\n' --verbose --quiet --help
     end
 end
 
-# Prints what the operand may be that has this number behind a command, counted from 1.
+# Prints what the operand may be that has this number after a command, counted from 1.
 function __fontcut_operand -a name number word
     switch $name
-        case join
-            __fish_complete_path $word
+        case check show codes
+            test $number = 1; and __fish_complete_path $word
         case belongs slice
             test $number -le 2; and __fish_complete_path $word
         case subset
             if test $number -le 2
                 __fish_complete_path $word
             else
-                echo all
+                printf '%s\n' all
             end
-        case check show codes
-            test $number = 1; and __fish_complete_path $word
+        case join
+            __fish_complete_path $word
         case help
             test $number = 1; and printf '%s\n' $__fontcut_commands
     end
@@ -57,7 +57,7 @@ function __fontcut_complete
             set option ''
         else if test $ended = false -a "$before" = --
             set ended true
-        else if test $ended = false; and string match -q -r -- '^--((text|exclude)(-file)?|codes-file|unicodes|complete|drop|slices|css|output)$' $before
+        else if test $ended = false; and string match -q -r -- '^--(drop|text|text-file|codes-file|unicodes|complete|exclude|exclude-file|slices|css|output)$' $before
             set option $before
         else if test $ended = false; and string match -q -- '-?*' $before
             continue
@@ -67,21 +67,24 @@ function __fontcut_complete
             set number (math $number + 1)
         end
     end
-    if contains -- "$option" --text --unicodes --complete --exclude --css
-        return
-    else if test "$option" = --drop
-        printf '%s\n' BASE GDEF GPOS GSUB kern
-    else if test -n "$option"
-        __fish_complete_path $word
-    else if test $ended = false; and string match -q -r -- '^--((text|codes|exclude)-file|slices|output)=' $word
-        set -l parts (string split -m 1 = -- $word)
-        printf '%s\n' $parts[1]=(__fish_complete_path $parts[2])
-    else if test $ended = false; and string match -q -- '-*' $word
-        __fontcut_options $name
-    else if test -z "$name"
-        printf '%s\n' $__fontcut_commands
-    else
-        __fontcut_operand $name $number $word
+    switch "$option"
+        case --drop
+            printf '%s\n' BASE GDEF GPOS GSUB kern
+        case --text --unicodes --complete --exclude --css
+            return
+        case --text-file --codes-file --exclude-file --slices --output
+            __fish_complete_path $word
+        case '*'
+            if test $ended = false; and string match -q -r -- '^--(text-file|codes-file|exclude-file|slices|output)=' $word
+                set -l parts (string split -m 1 = -- $word)
+                printf '%s\n' $parts[1]=(__fish_complete_path $parts[2])
+            else if test $ended = false; and string match -q -- '-*' $word
+                __fontcut_options $name
+            else if test -z "$name"
+                printf '%s\n' $__fontcut_commands
+            else
+                __fontcut_operand $name $number $word
+            end
     end
 end
 
