@@ -117,12 +117,8 @@ fn fails_at_each_read(alloc: Global, run: Command, piece: usize, kind: ErrorKind
 // Returns whether this number of bytes go out before the write of this number. A report is sent by one call; of
 // a cut it is known where each write takes one byte.
 fn is_count(run: Command, piece: usize, k: u64, written: u64) -> bool {
-    let is_report = !matches!(
-        run,
-        Command::Subset | Command::JoinFirst | Command::JoinSecond
-    );
     let count = (piece as u64).saturating_mul(k.saturating_sub(1));
-    written == count || !(is_report || piece == 1)
+    written == count || run.sends_font() && piece != 1
 }
 
 // Returns whether the run with each write failing in turn is as it should be, up to one that meets no

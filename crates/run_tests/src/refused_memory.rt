@@ -11,16 +11,7 @@ use streams::{Inlet, ReadError};
 // Returns whether a run that was refused its request of this number says so, and has sent nothing. A
 // subset and a join ask for memory once before they read.
 fn is_refused(run: Command, ended: &Outcome, k: u64) -> bool {
-    let asks_first = matches!(
-        run,
-        Command::Subset
-            | Command::LeanSubset
-            | Command::JoinFirst
-            | Command::JoinSecond
-            | Command::LeanJoinFirst
-            | Command::LeanJoinSecond
-    );
-    let may_be_unread = k == 1 && asks_first;
+    let may_be_unread = k == 1 && run.sends_font();
     ended.answer == Err(RunError::Memory)
         && ended.is_fresh
         && ended.writer.held().is_empty()

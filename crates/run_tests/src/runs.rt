@@ -76,6 +76,19 @@ impl Command {
         }
     }
 
+    /// Returns whether the run sends a font, which goes out in many calls. A report is sent by one.
+    pub fn sends_font(self) -> bool {
+        matches!(
+            self,
+            Command::Subset
+                | Command::LeanSubset
+                | Command::JoinFirst
+                | Command::JoinSecond
+                | Command::LeanJoinFirst
+                | Command::LeanJoinSecond
+        )
+    }
+
     /// Returns the kind of what is cut or joined.
     pub fn kind(self) -> Kind {
         match self {
