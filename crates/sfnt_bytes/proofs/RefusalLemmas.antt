@@ -2,16 +2,17 @@
 use Rattle.std.proofs.Common.{◌≡◌, ℕ, ◌+◌, ◌-◌, ◌<◌, ◌≤◌, Bool, true, false, not, ◌&&◌, ltb, List, [], length, get_or}
 use Rattle.std.proofs.Common.{find, Some, None, sym, ap, ◌∙◌, arith, refl}
 use Rattle.std.specs.Option.{option_map_or}
-use Rattle.std.proofs.lemmas.Bool.{le-ltb, not-false, or_parts, ltb-false, leb-true}
+use Rattle.std.proofs.lemmas.Bool.{le-ltb, lt-ltb, not-false, or_parts, ltb-false, leb-true}
 use Rattle.sfnt_bytes.specs.Directory.{HasRecords, table_entry, is_within, kept_tag, slot_tag}
 use Rattle.sfnt_bytes.specs.Refusals.{directory_lines, directory_fault, is_truetype, is_outside, is_duplicate}
-use Rattle.sfnt_bytes.specs.Refusals.{layout_directory_fault, layout_directory_lines}
+use Rattle.sfnt_bytes.specs.Refusals.{layout_directory_fault, tag_lines}
 use Rattle.sfnt_bytes.specs.declared.tag.Tag.{Tag}
-use Rattle.sfnt_bytes.specs.declared.tag.TheConstants.{ALL_SLOTS, KEPT, LAYOUT, SLOTS}
+use Rattle.sfnt_bytes.specs.declared.tag.TheConstants.{FIRST_VARIATION, KEPT, LAYOUT, SLOTS}
 use Rattle.sfnt_bytes.specs.declared.records.Entry.{Entry}
 use Rattle.sfnt_bytes.specs.declared.directory.DirError.TheVariants.{FileTooLarge, Truncated, NotTrueType}
 use Rattle.sfnt_bytes.specs.declared.directory.DirError.TheVariants.{DuplicateTable, TableOutOfFile}
 use Rattle.sfnt_bytes.specs.declared.directory.TheConstants.{MAX_FILE}
+use Rattle.sfnt_bytes.specs.Lines.{first_of_lines}
 use Rattle.sfnt_bytes.proofs.LineLemmas.{find-none_at, first_of_lines-none_at, option_map-none, when-none}
 
 and-false_right : (x y : Bool) → x ≡ true → (x && y) ≡ false → y ≡ false
@@ -50,25 +51,38 @@ unfolding kept_tag
 kept_not_outside file slot no_fault low =
     find-none_at (is_outside file) KEPT slot (record { 0 = [] }) (is_readable file no_fault).inside low
 
--- no table of layout lies outside
+-- none of the tables of some tags lies outside, or stands twice
+pub tags_inside : (tags : List Tag) (file : List ℕ) → first_of_lines (tag_lines tags file) ≡ None
+    → find (is_outside file) tags ≡ None
+tags_inside tags file no_fault =
+    option_map-none TableOutOfFile _ (first_of_lines-none_at (tag_lines tags file) 1 no_fault)
+
+pub tags_single : (tags : List Tag) (file : List ℕ) → first_of_lines (tag_lines tags file) ≡ None
+    → find (is_duplicate file) tags ≡ None
+tags_single tags file no_fault =
+    option_map-none DuplicateTable _ (first_of_lines-none_at (tag_lines tags file) 0 no_fault)
+
+-- so none of layout
 pub layout_inside : (file : List ℕ) → layout_directory_fault file ≡ None → find (is_outside file) LAYOUT ≡ None
 unfolding layout_directory_fault
-layout_inside file no_fault =
-    option_map-none TableOutOfFile _ (first_of_lines-none_at (layout_directory_lines file) 1 no_fault)
+layout_inside file no_fault = tags_inside LAYOUT file no_fault
 
 pub layout_single : (file : List ℕ) → layout_directory_fault file ≡ None → find (is_duplicate file) LAYOUT ≡ None
 unfolding layout_directory_fault
-layout_single file no_fault =
-    option_map-none DuplicateTable _ (first_of_lines-none_at (layout_directory_lines file) 0 no_fault)
+layout_single file no_fault = tags_single LAYOUT file no_fault
 
-pub layout_slot_tag : (slot : ℕ) → SLOTS ≤ slot → get_or LAYOUT (slot - SLOTS) (record { 0 = [] }) ≡ slot_tag slot
+pub layout_slot_tag : (slot : ℕ) → SLOTS ≤ slot → slot < FIRST_VARIATION
+    → get_or LAYOUT (slot - SLOTS) (record { 0 = [] }) ≡ slot_tag slot
 unfolding slot_tag
-layout_slot_tag slot from = let past = le-ltb slot SLOTS from in rw past refl
+layout_slot_tag slot from to =
+    let past = le-ltb slot SLOTS from in
+    let low = lt-ltb slot FIRST_VARIATION to in
+    rw (past, low) refl
 
 pub layout_not_outside : (file : List ℕ) (slot : ℕ) → layout_directory_fault file ≡ None → SLOTS ≤ slot
-    → slot < ALL_SLOTS → is_outside file (slot_tag slot) ≡ false
+    → slot < FIRST_VARIATION → is_outside file (slot_tag slot) ≡ false
 layout_not_outside file slot no_fault from to =
-    ap (is_outside file) (sym (layout_slot_tag slot from))
+    ap (is_outside file) (sym (layout_slot_tag slot from to))
     ∙ find-none_at (is_outside file) LAYOUT (slot - SLOTS) (record { 0 = [] }) (layout_inside file no_fault)
     (omega (arith, from, to))
 

@@ -6,7 +6,7 @@ use Rattle.sfnt_bytes.specs.Number.{u32_at}
 use Rattle.sfnt_bytes.specs.Lines.{when, first_of_lines}
 use Rattle.sfnt_bytes.specs.Directory.{table_count, has_tag, is_within, records_of, table_entry}
 use Rattle.sfnt_bytes.specs.declared.tag.Tag.{Tag}
-use Rattle.sfnt_bytes.specs.declared.tag.TheConstants.{KEPT, LAYOUT}
+use Rattle.sfnt_bytes.specs.declared.tag.TheConstants.{KEPT, LAYOUT, LAYOUT_AND_VARIATIONS}
 use Rattle.sfnt_bytes.specs.declared.directory.DirError.{DirError}
 use Rattle.sfnt_bytes.specs.declared.directory.DirError.TheVariants.{FileTooLarge, Truncated, Collection, NotTrueType}
 use Rattle.sfnt_bytes.specs.declared.directory.DirError.TheVariants.{DuplicateTable, TableOutOfFile}
@@ -44,13 +44,17 @@ directory_lines file =
 unfoldable pub directory_fault : List ℕ → Option DirError
 directory_fault file = first_of_lines (directory_lines file)
 
--- the refusals of the tables of layout, where `find` gives the least tag, as LAYOUT is ascending
-abbrev pub layout_directory_lines : List ℕ → List (Option DirError)
-layout_directory_lines file =
-    option_map DuplicateTable (find (is_duplicate file) LAYOUT)
-    ∷ option_map TableOutOfFile (find (is_outside file) LAYOUT)
+-- the refusals of the tables of some tags, where `find` gives the least tag if these are ascending
+abbrev pub tag_lines : List Tag → List ℕ → List (Option DirError)
+tag_lines tags file =
+    option_map DuplicateTable (find (is_duplicate file) tags)
+    ∷ option_map TableOutOfFile (find (is_outside file) tags)
     ∷ []
 
--- the first refusal of these that applies
+-- the first refusal of the tables of layout that applies
 unfoldable pub layout_directory_fault : List ℕ → Option DirError
-layout_directory_fault file = first_of_lines (layout_directory_lines file)
+layout_directory_fault file = first_of_lines (tag_lines LAYOUT file)
+
+-- the first refusal of the tables of layout and of variations that applies
+unfoldable pub variable_directory_fault : List ℕ → Option DirError
+variable_directory_fault file = first_of_lines (tag_lines LAYOUT_AND_VARIATIONS file)

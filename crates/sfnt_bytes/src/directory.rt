@@ -1,8 +1,11 @@
 //! The table directory. OpenType 1.9, Organization of an OpenType Font, Table Directory.
-ghost use Rattle.std.specs.Prelude.{◌≡◌, ◌<◌, ◌≤◌, ◌^◌, None, Some, MatchResult, find, length, option_copied};
+ghost use Rattle.std.specs.Prelude.{◌≡◌, ◌<◌, ◌≤◌, ◌^◌, false, None, Some, MatchResult, find, length};
+ghost use Rattle.std.specs.Prelude.{option_copied};
 ghost use Rattle.sfnt_bytes.specs.Directory.{HasRecords, dropped_of, kept_tag, records_of, slot_tag, table_of};
 ghost use Rattle.sfnt_bytes.specs.Findings.{findings_of};
 ghost use Rattle.sfnt_bytes.specs.Refusals.{directory_fault, is_duplicate, is_outside, layout_directory_fault};
+ghost use Rattle.sfnt_bytes.specs.Refusals.{tag_lines, variable_directory_fault};
+ghost use Rattle.sfnt_bytes.specs.Lines.{first_of_lines};
 ghost use Rattle.sfnt_bytes.specs.SearchFields.{search_fields_of};
 ghost use Rattle.sfnt_bytes.specs.declared.tag.TheConstants.{ALL_SLOTS, SLOTS};
 
@@ -11,7 +14,7 @@ use crate::number::{be16, be32};
 use crate::records::{
     Dropped, HEADER, RECORD, Records, count_of, dropped_in, find_entry, records_in,
 };
-use crate::tag::{KEPT, LAYOUT, Tag, tag_of};
+use crate::tag::{KEPT, LAYOUT, LAYOUT_AND_VARIATIONS, Tag, tag_of};
 use std::marker::Model;
 
 /// The most bytes that a file may have, to be read or to be written.
@@ -200,6 +203,20 @@ impl<'a> Directory<'a> {
         Some(&self.file[start..start + entry.length as usize])
     }
 
+    // Tells whether each table of some tags stands once at most and lies within the file.
+    fn check_tags(&self, tags: &[Tag]) -> Result<(), DirError>
+        ensures { MatchResult result (λ _. first_of_lines (tag_lines tags.now self.now) ≡ None)
+            (λ error. first_of_lines (tag_lines tags.now self.now) ≡ Some error) }
+    {
+        if let Some(tag) = first_duplicate(self.file, tags) {
+            return Err(DirError::DuplicateTable(tag));
+        }
+        if let Some(tag) = first_outside(self.file, tags) {
+            return Err(DirError::TableOutOfFile(tag));
+        }
+        Ok(())
+    }
+
     /// Tells whether each table of layout stands once at most and lies within the file.
     ///
     /// # Errors
@@ -210,20 +227,26 @@ impl<'a> Directory<'a> {
         ensures { MatchResult result (λ _. layout_directory_fault self.now ≡ None)
             (λ error. layout_directory_fault self.now ≡ Some error) }
     {
-        if let Some(tag) = first_duplicate(self.file, &LAYOUT) {
-            return Err(DirError::DuplicateTable(tag));
-        }
-        if let Some(tag) = first_outside(self.file, &LAYOUT) {
-            return Err(DirError::TableOutOfFile(tag));
-        }
-        Ok(())
+        self.check_tags(&LAYOUT)
     }
 
-    /// Returns the table of a slot of layout, which has the tag `LAYOUT[slot - SLOTS]`, without its padding, where
-    /// there is one. Of several records of the tag the first counts.
-    pub fn layout_table(&self, slot: usize) -> Option<&'a [u8]>
-        requires inside { layout_directory_fault self.now ≡ None }
-        requires from { SLOTS ≤ slot }
+    /// Tells whether each table of layout and of variations stands once at most and lies within the file.
+    ///
+    /// # Errors
+    ///
+    /// `DuplicateTable` or `TableOutOfFile` of a tag of [`LAYOUT_AND_VARIATIONS`], the first that applies.
+    #[tactic(auto, unfolding(crate::specs::Refusals::variable_directory_fault))]
+    pub fn check_variable(&self) -> Result<(), DirError>
+        ensures { MatchResult result (λ _. variable_directory_fault self.now ≡ None)
+            (λ error. variable_directory_fault self.now ≡ Some error) }
+    {
+        self.check_tags(&LAYOUT_AND_VARIATIONS)
+    }
+
+    /// Returns the table of a slot, which has the tag [`tag_of`] gives, without its padding, where there is one. Of
+    /// several records of the tag the first counts, and its table has to lie within the file.
+    pub fn table_in(&self, slot: usize) -> Option<&'a [u8]>
+        requires inside { is_outside self.now (slot_tag slot) ≡ false }
         requires to { slot < ALL_SLOTS }
         ensures { option_copied result ≡ table_of self.now (slot_tag slot) }
     {

@@ -22,6 +22,7 @@ pub use crate::number::{be16, be32};
 pub use crate::records::{Dropped, Entry, Records};
 pub use crate::sums::{adjustment, word_sum};
 pub use crate::tag::{
-    ALL_SLOTS, BASE, CMAP, GDEF, GLYF, GPOS, GSUB, HEAD, HHEA, HMTX, IN_ORDER, KEPT, KERN, LAYOUT,
-    LAYOUT_SLOTS, LOCA, MAXP, POST, SLOTS, Tag, VHEA, VMTX, slot_in, tag_of,
+    ALL_SLOTS, BASE, CMAP, FIRST_VARIATION, FVAR, GDEF, GLYF, GPOS, GSUB, GVAR, HEAD, HHEA, HMTX,
+    IN_ORDER, KEPT, KERN, LAYOUT, LAYOUT_AND_VARIATIONS, LAYOUT_SLOTS, LOCA, MAXP, POST, SLOTS,
+    Tag, VARIATION_SLOTS, VARIATIONS, VHEA, VMTX, slot_in, tag_of,
 };

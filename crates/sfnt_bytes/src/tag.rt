@@ -48,12 +48,49 @@ pub const LAYOUT: [Tag; LAYOUT_SLOTS] = [
     Tag(*b"kern"),
 ];
 
+/// How many tables of variations there are.
+pub const VARIATION_SLOTS: usize = 8;
+
+/// The tables of variations, ascending by tag: variable cuts keep them too. Their slots come after those of
+/// [`LAYOUT`].
+pub const VARIATIONS: [Tag; VARIATION_SLOTS] = [
+    Tag(*b"HVAR"),
+    Tag(*b"MVAR"),
+    Tag(*b"STAT"),
+    Tag(*b"VVAR"),
+    Tag(*b"avar"),
+    Tag(*b"cvar"),
+    Tag(*b"fvar"),
+    Tag(*b"gvar"),
+];
+
+/// The tables of layout and of variations, ascending by tag.
+pub const LAYOUT_AND_VARIATIONS: [Tag; LAYOUT_SLOTS + VARIATION_SLOTS] = [
+    Tag(*b"BASE"),
+    Tag(*b"GDEF"),
+    Tag(*b"GPOS"),
+    Tag(*b"GSUB"),
+    Tag(*b"HVAR"),
+    Tag(*b"MVAR"),
+    Tag(*b"STAT"),
+    Tag(*b"VVAR"),
+    Tag(*b"avar"),
+    Tag(*b"cvar"),
+    Tag(*b"fvar"),
+    Tag(*b"gvar"),
+    Tag(*b"kern"),
+];
+
+/// The slot after the last one of [`LAYOUT`]: the first of [`VARIATIONS`].
+pub const FIRST_VARIATION: usize = 21;
+
 /// How many slots there are for the tables of any cut.
-pub const ALL_SLOTS: usize = 21;
+pub const ALL_SLOTS: usize = 29;
 
 /// All slots, ascending by tag. A *place* is one in this list: the tables of a cut stand in this order.
 pub const IN_ORDER: [usize; ALL_SLOTS] = [
-    16, 17, 18, 19, 0, 1, 2, 3, 4, 5, 6, 7, 8, 20, 9, 10, 11, 12, 13, 14, 15,
+    16, 17, 18, 19, 21, 22, 0, 23, 24, 25, 1, 26, 2, 3, 27, 4, 5, 28, 6, 7, 8, 20, 9, 10, 11, 12,
+    13, 14, 15,
 ];
 
 /// The slot of `BASE`.
@@ -70,6 +107,12 @@ pub const GSUB: usize = 19;
 
 /// The slot of `kern`.
 pub const KERN: usize = 20;
+
+/// The slot of `fvar`.
+pub const FVAR: usize = 27;
+
+/// The slot of `gvar`.
+pub const GVAR: usize = 28;
 
 /// The slot of `cmap`.
 pub const CMAP: usize = 1;
@@ -105,7 +148,6 @@ pub const VMTX: usize = 15;
 pub(crate) const HEAD_TAG: Tag = Tag(*b"head");
 
 /// Returns the slot of the table at a place.
-#[tactic(auto, using(crate::proofs::PlaceLemmas::slot_at_low), unfolding(crate::specs::Directory::slot_at))]
 pub fn slot_in(place: usize) -> usize
     requires { place < SLOT_COUNT }
     ensures slot { result ≡ slot_at place }
@@ -123,7 +165,10 @@ pub fn tag_of(slot: usize) -> Tag
     if slot < SLOTS {
         return KEPT[slot];
     }
-    LAYOUT[slot - SLOTS]
+    if slot < FIRST_VARIATION {
+        return LAYOUT[slot - SLOTS];
+    }
+    VARIATIONS[slot - FIRST_VARIATION]
 }
 
 fn is_among(tags: &[Tag], tag: Tag) -> bool

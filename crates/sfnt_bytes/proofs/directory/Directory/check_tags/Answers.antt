@@ -1,5 +1,5 @@
 use Rattle.sfnt_bytes.proofs.RefusalLemmas.{is_readable}
-use Rattle.sfnt_bytes.proofs.directory.Directory.check_layout.Goals as goal
+use Rattle.sfnt_bytes.proofs.directory.Directory.check_tags.Goals as goal
 
 pub first_duplicate-requires : goal.first_duplicate-requires
 first_duplicate-requires c = (is_readable _ c.self.invariant).records
