@@ -48,7 +48,7 @@ IsFont-read_back F A ok = record {
   hhea = ok.hhea;
   hmtx = ok.hmtx;
   readable = ok.readable;
-  fixed = ok.fixed;
+  variations = ok.variations;
 }
 
 -- a content depends on the tables, on the map on the wanted codes, and on the padded outlines of what is kept

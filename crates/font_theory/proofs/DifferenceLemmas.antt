@@ -142,8 +142,8 @@ glyph_same K L g h = go (K.outline g) (L.outline g) refl refl
     go (Some a) (Some b) x y = ap not ((bytes_eq-Decides a b).1 (h a b x y))
 
 -- the slots that a cut makes anew
-never_past : (slot : ℕ) → 21 ≤ slot → is_never_copied slot ≡ true
-never_past slot past = or_right _ _ (le-leb 21 slot past)
+never_past : (slot : ℕ) → 29 ≤ slot → is_never_copied slot ≡ true
+never_past slot past = or_right _ _ (le-leb 29 slot past)
 
 module _ (K L : Content) (okK : IsClosedContent K) (okL : IsClosedContent L) where
   both_none : (slot : ℕ) → is_never_copied slot ≡ true → K.copied slot ≡ L.copied slot
@@ -157,7 +157,7 @@ module _ (K L : Content) (okK : IsClosedContent K) (okL : IsClosedContent L) whe
       × (find (is_different_glyph K L) (range_with_len 0 (glyph_count K.copied)) ≡ None) = line_of-none _ _ _ h in
       record {
         head = same_head K L (first_slot-none (is_different_table K L) 6 w.0 (omega arith));
-        copied = λ slot. elim (cases_lt slot 21) [
+        copied = λ slot. elim (cases_lt slot 29) [
           | inl low ↦ elim (cases_eq slot 6) [
             | inl e ↦ both_none slot (subst (λ (x : ℕ). is_never_copied x ≡ true) (sym e) refl)
             | inr other ↦ same_table K L slot other (first_slot-none (is_different_table K L) slot w.0 low)

@@ -48,7 +48,7 @@ module _ (writing : Writing) (K : Content) (head : List ℕ) where
       (omega arith) (rest at)
   climb-slot low k n at (Some b) le rest = (le, rest (at + length (padded b)))
 
-  pub climb-slots : (k n low at : ℕ) → k + n ≤ 21 → (0 < n → low ≤ tag_number (place_tag k))
+  pub climb-slots : (k n low at : ℕ) → k + n ≤ 29 → (0 < n → low ≤ tag_number (place_tag k))
       → Climb low (entries_at at (tables_from writing K head k n))
   climb-slots k zero low at few le = tt
   climb-slots k (suc n) low at few le =

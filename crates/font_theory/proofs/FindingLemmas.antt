@@ -104,7 +104,7 @@ module _ (writing : Writing) (K : Content) (ok : IsWritable K) where
       let same = length-with_adjustment (adjustment_in writing K) K.head (omega arith) in
       omega arith
 
-  summed-slot : (place : ℕ) (b : List ℕ) → place < 21 → bytes_in_slot writing K (last_head writing K) (slot_at place)
+  summed-slot : (place : ℕ) (b : List ℕ) → place < 29 → bytes_in_slot writing K (last_head writing K) (slot_at place)
       ≡ Some b → IsSummed (table_with (slot_at place) b)
   unfolding bytes_in_slot
   summed-slot place b low is =
@@ -136,7 +136,7 @@ module _ (writing : Writing) (K : Content) (ok : IsWritable K) where
       ∙ length-entries_at (12 + 16 * length tables) tables in
       subst (λ (b : List ℕ). flat_map (entry_findings b) (records_of b) ≡ []) (sym (file-is writing K))
       (nothing_found (file_of tables) tables (records_of (file_of tables)) same (all_placed tables are)
-      (each_slot writing K (last_head writing K) IsSummed 0 21 (λ place b from to e. summed-slot place b (omega arith)
+      (each_slot writing K (last_head writing K) IsSummed 0 29 (λ place b from to e. summed-slot place b (omega arith)
       e)))
 
   has_file_sum-file : has_file_sum (file writing K) (head_at writing K + 8) ≡ true

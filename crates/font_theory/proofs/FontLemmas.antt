@@ -28,7 +28,8 @@ use Rattle.font_file.specs.declared.font_error.FontError.TheVariants.{Directory,
 use Rattle.font_file.proofs.FontLemmas.{directory_fault-accepted, font_fault_is, is_record-accepted}
 use Rattle.font_theory.specs.Content.{CODES, IsFont, IsPlain, font_of, glyph_count, is_made, is_never_copied}
 use Rattle.font_theory.specs.Content.{metric_count, table_in_slot}
-use Rattle.font_theory.proofs.LinkLemmas.{AreFixed-plain, is_bad_layout_in-none}
+use Rattle.font_theory.proofs.LinkLemmas.{is_bad_layout_in-none, is_bad_variations_in-none, never-in_plain}
+use Rattle.font_theory.proofs.LinkLemmas.{never-layout}
 use Rattle.font_theory.proofs.CutHeadLemmas.{cut_head-cut_head, head-size, is_bad_head-cut_head}
 use Rattle.font_theory.proofs.PaddedLemmas.{IsRecord-nil}
 
@@ -114,10 +115,7 @@ map_of-past file c past =
 
 -- what no cut copies, a plain one does not copy
 pub never-made : (slot : ℕ) → is_never_copied slot ≡ true → is_made slot ≡ true
-never-made slot h = elim (or_cases _ (nat_le 21 slot) h) [
-  | inl one ↦ or_left _ (nat_le 16 slot) one
-  | inr past ↦ let far = leb-true 21 slot past in or_right _ (nat_le 16 slot) (le-leb 16 slot (omega arith))
-]
+never-made slot h = never-in_plain slot (never-layout slot h)
 
 -- and a plain reader gives no table of layout
 pub IsPlain-font_of : (file : List ℕ) → IsPlain (font_of file).copied
@@ -142,7 +140,7 @@ IsFont-accepted file accepted =
       hhea = (λ i. is_bad_hhea (hhea-slot file i) (n i)) ∙ sound.hhea;
       hmtx = (λ i. is_bad_hmtx (hmtx-slot file i) (metric_count-file file i) (n i)) ∙ sound.hmtx;
       readable = is_bad_layout_in-none (font_of file).copied refl;
-      fixed = AreFixed-plain (font_of file).copied (IsPlain-font_of file);
+      variations = is_bad_variations_in-none (font_of file).copied refl;
     }
 
 -- a file that is accepted, or refused for another reason, is not too large

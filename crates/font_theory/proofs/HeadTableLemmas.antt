@@ -123,37 +123,37 @@ head_tag_is = refl
 module _ (writing : Writing) (K : Content) where
   -- the tables before `head`, and those after it
   abbrev pub before_head : List Table
-  before_head = tables_from writing K K.head 0 10
+  before_head = tables_from writing K K.head 0 18
 
   abbrev pub behind_head : List Table
-  behind_head = tables_from writing K K.head 11 10
+  behind_head = tables_from writing K K.head 19 10
 
   same_slot : (head : List ℕ) (slot : ℕ) → slot ≢ 6 → bytes_in_slot writing K head slot ≡ bytes_in_slot writing K K.head
       slot
   unfolding bytes_in_slot
   same_slot head slot other = let f = ne_eqb slot 6 other in rw f refl
 
-  same_lines : (head : List ℕ) (k n : ℕ) → k + n ≤ 21 → (10 < k) ⊎ (k + n ≤ 10)
+  same_lines : (head : List ℕ) (k n : ℕ) → k + n ≤ 29 → (18 < k) ⊎ (k + n ≤ 18)
       → map (table_at_place writing K head) (range_with_len k n) ≡ map (table_at_place writing K K.head)
       (range_with_len k n)
   same_lines head k zero few out = refl
   same_lines head k (suc n) few out =
-      let other : k ≢ 10 = λ e. elim out [ inl h ↦ omega arith | inr h ↦ omega arith ] in
-      let next : (10 < k + 1) ⊎ (k + 1 + n ≤ 10) = elim out [ inl h ↦ inl (omega arith) | inr h ↦ inr (omega arith) ] in
-      let here = same_slot head (slot_at k) (eqb-false _ _ (slot_at-head k (omega arith) ∙ ne_eqb k 10 other)) in
+      let other : k ≢ 18 = λ e. elim out [ inl h ↦ omega arith | inr h ↦ omega arith ] in
+      let next : (18 < k + 1) ⊎ (k + 1 + n ≤ 18) = elim out [ inl h ↦ inl (omega arith) | inr h ↦ inr (omega arith) ] in
+      let here = same_slot head (slot_at k) (eqb-false _ _ (slot_at-head k (omega arith) ∙ ne_eqb k 18 other)) in
       λ i. option_map (table_with (slot_at k)) (here i) ∷ same_lines head (k + 1) n (omega arith) next i
 
-  head_slot : (head : List ℕ) → tables_from writing K head 10 11 ≡ table_with 6 head ∷ tables_from writing K head 11 10
+  head_slot : (head : List ℕ) → tables_from writing K head 18 11 ≡ table_with 6 head ∷ tables_from writing K head 19 10
   unfolding bytes_in_slot slot_at
   head_slot head = refl
 
   -- `head` in their midst
-  pub split_at_head : (head : List ℕ) → tables_from writing K head 0 21 ≡ before_head ++ table_with 6 head ∷ behind_head
+  pub split_at_head : (head : List ℕ) → tables_from writing K head 0 29 ≡ before_head ++ table_with 6 head ∷ behind_head
   split_at_head head =
-      tables_from-split writing K head 0 10 11
-      ∙ ap (λ (l : List Table). tables_from writing K head 0 10 ++ l) (head_slot head)
-      ∙ (λ i. said_lines (same_lines head 0 10 (omega arith) (inr (omega arith)) i) ++ table_with 6 head
-      ∷ said_lines (same_lines head 11 10 (omega arith) (inl (omega arith)) i))
+      tables_from-split writing K head 0 18 11
+      ∙ ap (λ (l : List Table). tables_from writing K head 0 18 ++ l) (head_slot head)
+      ∙ (λ i. said_lines (same_lines head 0 18 (omega arith) (inr (omega arith)) i) ++ table_with 6 head
+      ∷ said_lines (same_lines head 19 10 (omega arith) (inl (omega arith)) i))
 
   -- where `head` stands
   abbrev pub head_at : ℕ
@@ -175,7 +175,7 @@ module _ (writing : Writing) (K : Content) where
 
   head_nowhere : find (is_of 6) before_head ≡ None
   head_nowhere = subst (λ (slot : ℕ). find (is_of slot) before_head ≡ None) (slot_at-place_of 6 (omega arith))
-      (found_nowhere writing K K.head 10 0 10 (omega arith) (omega arith) (inr (omega arith)))
+      (found_nowhere writing K K.head 18 0 18 (omega arith) (omega arith) (inr (omega arith)))
 
   head_same : same_tag (slot_tag 6) (slot_tag 6) ≡ true
   unfolding slot_tag kept_tag
@@ -224,14 +224,14 @@ module _ (writing : Writing) (K : Content) where
         ∙ sym (append_assoc (header ++ records) (bodies_of before_head) rest)
 
     -- either `head` leaves the records
-    pub same_count : length (last_tables writing K) ≡ length (tables_from writing K K.head 0 21)
+    pub same_count : length (last_tables writing K) ≡ length (tables_from writing K K.head 0 29)
     same_count =
         ap (λ (l : List Table). length l) (split_at_head (last_head writing K))
         ∙ length-append before_head (table_with 6 (last_head writing K) ∷ behind_head)
         ∙ sym (length-append before_head (table_with 6 K.head ∷ behind_head))
         ∙ ap (λ (l : List Table). length l) (sym (split_at_head K.head))
 
-    same_records : (at : ℕ) → entries_at at (last_tables writing K) ≡ entries_at at (tables_from writing K K.head 0 21)
+    same_records : (at : ℕ) → entries_at at (last_tables writing K) ≡ entries_at at (tables_from writing K K.head 0 29)
     same_records at =
         let long = ok.head_size in
         let same = length-with_adjustment (adjustment_in writing K) K.head (omega arith) in
@@ -241,15 +241,15 @@ module _ (writing : Writing) (K : Content) where
         ∙ ap (entries_at at) (sym (split_at_head K.head))
 
     pub all_records : entries_at (12 + 16 * length (last_tables writing K)) (last_tables writing K)
-        ≡ entries_at (12 + 16 * length (tables_from writing K K.head 0 21)) (tables_from writing K K.head 0 21)
+        ≡ entries_at (12 + 16 * length (tables_from writing K K.head 0 29)) (tables_from writing K K.head 0 29)
     all_records =
         same_records (12 + 16 * length (last_tables writing K))
-        ∙ ap (λ (n : ℕ). entries_at (12 + 16 * n) (tables_from writing K K.head 0 21)) same_count
+        ∙ ap (λ (n : ℕ). entries_at (12 + 16 * n) (tables_from writing K K.head 0 29)) same_count
 
     other_split : file_with writing K K.head ≡ before_bytes ++ (padded K.head ++ bodies_of behind_head)
     unfolding file_of
     other_split =
-        let tables = tables_from writing K K.head 0 21 in
+        let tables = tables_from writing K K.head 0 29 in
         let header = header_bytes (length tables) in
         let records = flat_map entry_bytes (entries_at (12 + 16 * length tables) tables) in
         let rest = padded K.head ++ bodies_of behind_head in

@@ -91,7 +91,7 @@ IsFont-both K L okK okL agree =
       hhea = okK.font.hhea;
       hmtx = okK.font.hmtx;
       readable = okK.font.readable;
-      fixed = okK.font.fixed;
+      variations = okK.font.variations;
     }
 
 own_code : (x y : ℕ) → cond (nat_lt 0 x) (cond (nat_eq x 0) y x) 0 ≡ x

@@ -1,5 +1,5 @@
 -- The reader and the writer of layout cuts go together.
-use Rattle.std.proofs.Common.{◌≡◌, ◌≢◌, ℕ, ◌<◌, ◌≤◌, true, false, cond, nat_le, nat_lt, inl, inr, List, [], ◌∷◌, Option}
+use Rattle.std.proofs.Common.{◌≡◌, ◌≢◌, Bool, ℕ, ◌<◌, ◌≤◌, true, false, cond, inl, inr, List, [], ◌∷◌, Option}
 use Rattle.std.proofs.Common.{Some, None, find, unwrap_or, length, refl, sym, ◌∙◌, ap, subst, arith, option_map}
 use Rattle.std.specs.Option.{option_or}
 use Rattle.sfnt_bytes.specs.Directory.{is_layout_slot, records_of, slot_tag, table_of}
@@ -15,24 +15,24 @@ use Rattle.font_glyph.specs.Record.{IsRecord}
 use Rattle.font_file.specs.Font.{font_fault}
 use Rattle.font_file.specs.declared.font_error.FontError.{FontError}
 use Rattle.font_file.specs.declared.font_error.FontError.TheVariants.{BadLayout, Directory}
-use Rattle.font_theory.specs.Content.{Content, IsClosedContent, IsFont, font_of, glyph_count, AreFixed}
-use Rattle.font_theory.specs.Content.{is_bad_layout_in, is_never_copied, layout_font_of, metric_count, read_back}
+use Rattle.font_theory.specs.Content.{Content, IsClosedContent, IsFont, content, font_of, glyph_count}
+use Rattle.font_theory.specs.Content.{is_bad_layout_in, layout_font_of, metric_count, read_back}
 use Rattle.font_theory.specs.Content.{table_in_slot}
 use Rattle.font_theory.specs.Cut.{Arises, IsFormat}
 use Rattle.font_theory.specs.Cut.Arises.{of_file, of_two}
 use Rattle.font_theory.specs.File.{IsWriting, Writing, bytes_in_slot, current_writing, current_profile, file}
 use Rattle.font_theory.specs.LayoutCut.{gsub_of, layout_fault, layout_format, layout_lines}
-use Rattle.font_theory.specs.LeanCut.{lean_file, spelled_out, thin}
+use Rattle.font_theory.specs.LeanCut.{lean_file, spelled_copied, spelled_out, thin, thin_copied}
 use Rattle.font_theory.specs.Links.{fixed, is_bad_layout}
 use Rattle.font_theory.proofs.AcceptedLemmas.{climb-file, font_fault-file}
 use Rattle.font_theory.proofs.ArisesLemmas.{IsClosed-arises}
 use Rattle.font_theory.proofs.CmapLemmas.{IsWriting-writing_of}
 use Rattle.font_theory.proofs.DirectoryLemmas.{Climb, nothing_outside, nothing_twice}
 use Rattle.font_theory.proofs.FontLemmas.{IsFont-accepted, size-accepted, size-refused}
+use Rattle.font_theory.proofs.LeanCopiedLemmas.{AreAlike-spelled, AreAlike-thin, IsOfLayout-alike}
 use Rattle.font_theory.proofs.LeanContentLemmas.{IsClosed-spelled, IsLean-both, IsLean-content}
 use Rattle.font_theory.proofs.LeanLemmas.{IsFont-thin, IsLean, thin-spelled}
-use Rattle.font_theory.proofs.LinkLemmas.{fixed-map}
-use Rattle.std.proofs.lemmas.Bool.{and_parts, leb-true, lt-leb, ltb-true, ne_eqb}
+use Rattle.font_theory.proofs.LinkLemmas.{IsOfLayout, fixed-map, is_bad_variations_in-none, layout-copied, never-layout}
 use Rattle.font_theory.proofs.MeaningLemmas.{file-is, last_head, last_tables, layout_font_of-file, table_of-file}
 use Rattle.font_theory.proofs.SlotLemmas.{are_tables}
 use Rattle.font_theory.proofs.TagLemmas.{slot_tag-kept}
@@ -58,25 +58,25 @@ unfolding layout_fault
 gsub_fine file h =
     when-none _ BadLayout (three_none _ _ _ (either_none (font_fault file) (first_of_lines (layout_lines file)) h).1)
 
--- a table of layout is one that a layout cut copies
-pub layout-copied : (slot : ℕ) → is_layout_slot slot ≡ true → is_never_copied slot ≡ false
-layout-copied slot h =
-    let both = and_parts (nat_le 16 slot) (nat_lt slot 21) h in
-    let from = leb-true 16 slot both.0 in
-    let to = ltb-true slot 21 both.1 in
-    let e1 = ne_eqb slot 1 (λ e. omega arith) in let e5 = ne_eqb slot 5 (λ e. omega arith) in let e6 =
-    ne_eqb slot 6 (λ e. omega arith) in let e9 = ne_eqb slot 9 (λ e. omega arith) in
-    let last : nat_le 21 slot ≡ false = lt-leb 21 slot to in
-    rw (e1, e5, e6, e9) last
-
 -- what is read of a table of layout has nothing that varies
-fixed-read : (file : List ℕ) → AreFixed (layout_font_of file).copied
+fixed-read : (file : List ℕ) (slot : ℕ) → is_layout_slot slot ≡ true
+    → option_map (fixed slot) ((layout_font_of file).copied slot) ≡ (layout_font_of file).copied slot
 fixed-read file slot h =
     let none = layout-copied slot h in
     let is : (layout_font_of file).copied slot ≡ option_map (fixed slot) (table_of file (slot_tag slot)) =
     (λ i. cond (none i) None (cond (h i) (option_map (fixed slot) (table_of file (slot_tag slot)))
     (table_of file (slot_tag slot)))) in
     ap (option_map (fixed slot)) is ∙ fixed-map slot (table_of file (slot_tag slot)) ∙ sym is
+
+pub IsOfLayout-read : (file : List ℕ) → IsOfLayout (layout_font_of file).copied
+IsOfLayout-read file = record { absent = λ slot never. rw never refl; fixed = fixed-read file }
+
+-- nor has a content of it
+pub IsOfLayout-content : (file : List ℕ) (wanted : ℕ → Bool)
+    → IsOfLayout (content (thin (layout_font_of file)) wanted).copied
+IsOfLayout-content file wanted =
+    IsOfLayout-alike (layout_font_of file).copied (thin_copied (layout_font_of file).copied)
+    (AreAlike-thin (layout_font_of file).copied) (IsOfLayout-read file)
 
 -- the tables of a plain reader, for a layout reader
 module _ (file : List ℕ) where
@@ -108,14 +108,14 @@ module _ (file : List ℕ) where
         mapped_below = λ c. subst (λ (x : ℕ). (font_of file).map c < x) (sym n) (ok.mapped_below c);
         mapped_codes = ok.mapped_codes;
         records = λ g. subst (λ (x : ℕ). IsRecord x ((font_of file).outline g)) (sym n) (ok.records g);
-        slots = λ slot never. rw never refl;
+        slots = λ slot never. let none = never-layout slot never in rw none refl;
         head_form = ok.head_form;
         head = ok.head;
         maxp = ap is_bad_maxp maxp_same ∙ ok.maxp;
         hhea = (λ i. is_bad_hhea (hhea_same i) (n i)) ∙ ok.hhea;
         hmtx = (λ i. is_bad_hmtx (hmtx_same i) (metric_count-same i) (n i)) ∙ ok.hmtx;
         readable = fine;
-        fixed = λ slot h. fixed-read file slot h;
+        variations = is_bad_variations_in-none (layout_font_of file).copied refl;
       }
 
 pub size-layout : (file : List ℕ) (error : FontError) → layout_fault file ≡ Some error → error ≢ Directory FileTooLarge
@@ -133,7 +133,8 @@ pub layout_count : (file : List ℕ) → glyph_count (layout_font_of file).copie
 layout_count file = glyph_count-same file
 
 -- the file of a closed content is accepted, with its tables of layout
-module _ (writing : Writing) (asked : IsWriting writing) (K : Content) (ok : IsClosedContent K) where
+module _ (writing : Writing) (asked : IsWriting writing) (K : Content) (ok : IsClosedContent K)
+    (layout : IsOfLayout K.copied) where
   written_twice : find (is_duplicate (file writing K)) LAYOUT ≡ None
   written_twice =
       subst (λ (b : List ℕ). find (is_duplicate b) LAYOUT ≡ None) (sym (file-is writing K))
@@ -148,7 +149,7 @@ module _ (writing : Writing) (asked : IsWriting writing) (K : Content) (ok : IsC
   written_gsub : gsub_of (file writing K) ≡ table_in_slot K.copied GSUB
   unfolding gsub_of bytes_in_slot
   written_gsub = ap (λ (o : Option (List ℕ)). unwrap_or o [])
-      (ap (option_map (fixed GSUB)) (table_of-file writing K GSUB (omega arith)) ∙ ok.font.fixed GSUB refl)
+      (ap (option_map (fixed GSUB)) (table_of-file writing K GSUB (omega arith)) ∙ layout.fixed GSUB refl)
 
   written_fine : is_bad_layout (gsub_of (file writing K)) ≡ false
   unfolding is_bad_layout_in
@@ -171,21 +172,30 @@ IsLean-arises_layout K (of_file X A h e) = subst IsLean e (IsLean-content (layou
 IsLean-arises_layout K (of_two L M l m agree e) =
     subst IsLean e (IsLean-both L M agree (IsLean-arises_layout L l) (IsLean-arises_layout M m))
 
+-- and has what a layout reader leaves as it is
+pub IsOfLayout-arises : (K : Content) → Arises layout_format K → IsOfLayout K.copied
+unfolding layout_format
+IsOfLayout-arises K (of_file X A h e) = subst (λ (M : Content). IsOfLayout M.copied) e (IsOfLayout-content X A)
+IsOfLayout-arises K (of_two L M l m agree e) =
+    subst (λ (B : Content). IsOfLayout B.copied) e (IsOfLayout-arises L l)
+
 -- the file of a closed lean content is accepted, and means what is spelled of it
-pub reads-layout_spelled : (K : Content) (X : List ℕ) → IsClosedContent K → IsLean K → lean_file K ≡ X
-    → length X ≤ MAX_FILE → (layout_fault X ≡ None) × (layout_font_of X ≡ read_back (spelled_out K))
-reads-layout_spelled K X ok lean e small =
+pub reads-layout_spelled : (K : Content) (X : List ℕ) → IsClosedContent K → IsLean K → IsOfLayout K.copied
+    → lean_file K ≡ X → length X ≤ MAX_FILE
+    → (layout_fault X ≡ None) × (layout_font_of X ≡ read_back (spelled_out K))
+reads-layout_spelled K X ok lean layout e small =
     let S : Content = spelled_out K in
     let closed = IsClosed-spelled K ok lean in
     let asked = IsWriting-writing_of current_profile in
+    let left = IsOfLayout-alike K.copied (spelled_copied K) (AreAlike-spelled K) layout in
     subst (λ (Y : List ℕ). (layout_fault Y ≡ None) × (layout_font_of Y ≡ read_back S)) e (
-      layout_fault-file current_writing asked S closed (subst (λ (Y : List ℕ). length Y ≤ MAX_FILE) (sym e) small),
-      layout_font_of-file current_writing S (IsWritable-closed S closed) asked,
+      layout_fault-file current_writing asked S closed left (subst (λ (Y : List ℕ). length Y ≤ MAX_FILE) (sym e) small),
+      layout_font_of-file current_writing S (IsWritable-closed S closed) left asked,
     )
 
-reads-layout : (K : Content) (X : List ℕ) → IsClosedContent K → IsLean K → lean_file K ≡ X → length X ≤ MAX_FILE
-    → (layout_fault X ≡ None) × (thin (layout_font_of X) ≡ read_back K)
-reads-layout K X ok lean e small = let read = reads-layout_spelled K X ok lean e small in
+reads-layout : (K : Content) (X : List ℕ) → IsClosedContent K → IsLean K → IsOfLayout K.copied → lean_file K ≡ X
+    → length X ≤ MAX_FILE → (layout_fault X ≡ None) × (thin (layout_font_of X) ≡ read_back K)
+reads-layout K X ok lean layout e small = let read = reads-layout_spelled K X ok lean layout e small in
     (read.0, ap thin read.1 ∙ thin-spelled K lean)
 
 pub layout_format-is : IsFormat layout_format
@@ -197,5 +207,6 @@ layout_format-is = record {
   reads_back = λ K X arises w small. reads-layout K X
       (IsClosed-arises layout_format (λ Y h. IsFont-thin (layout_font_of Y) (IsFont-layout Y h)) K arises)
       (IsLean-arises_layout K arises)
+      (IsOfLayout-arises K arises)
       (elim w [ inl e ↦ e | inr e ↦ e ]) small;
 }

@@ -28,12 +28,12 @@ use Rattle.font_theory.proofs.ContentLemmas.{IsClosed-content}
 use Rattle.font_theory.proofs.FileWantedLemmas.{Reach-file, Reach-font, roots-font}
 use Rattle.font_theory.proofs.FindingLemmas.{findings_of-file}
 use Rattle.font_theory.proofs.FontLemmas.{IsFont-accepted, glyph_count-file, size-accepted}
-use Rattle.font_theory.proofs.LayoutCutLemmas.{layout-copied, IsFont-layout, IsLean-arises_layout, font_fault-layout}
+use Rattle.font_theory.proofs.LayoutCutLemmas.{IsFont-layout, IsLean-arises_layout, IsOfLayout-content, font_fault-layout}
 use Rattle.font_theory.proofs.LayoutCutLemmas.{glyph_count-same, layout_format-is, reads-layout_spelled}
 use Rattle.font_theory.proofs.LeanContentLemmas.{IsClosed-spelled, IsLean-content}
 use Rattle.font_theory.proofs.LeanCopiedLemmas.{AreAlike-spelled, AreAlike-thin}
 use Rattle.font_theory.proofs.LeanLemmas.{IsFont-thin, IsLean}
-use Rattle.font_theory.proofs.LinkLemmas.{layout-made}
+use Rattle.font_theory.proofs.LinkLemmas.{layout-copied, layout-made}
 use Rattle.font_theory.proofs.MeaningLemmas.{last_head, table_of-file}
 use Rattle.font_theory.proofs.RootLemmas.{is_root-below, is_root-decides, roots_marked}
 use Rattle.font_theory.proofs.WantedLemmas.{Reach-along, is_kept-decides, seeds-roots}
@@ -59,7 +59,8 @@ module _ (font : List ℕ) (wanted : ℕ → Bool) (accepted : layout_fault font
   -- a layout cut is accepted, and what is spelled of its content is read of it
   pub layout_font_of-cut : (made : List ℕ) → made ≡ cut layout_format font wanted → length made ≤ MAX_FILE
       → (layout_fault made ≡ None) × (layout_font_of made ≡ read_back (spelled_out layout_content))
-  layout_font_of-cut made is small = reads-layout_spelled layout_content made closed lean (sym (is ∙ cut-layout_file))
+  layout_font_of-cut made is small = reads-layout_spelled layout_content made closed lean
+      (IsOfLayout-content font wanted) (sym (is ∙ cut-layout_file))
       small
 
   -- nothing is found in it
@@ -82,7 +83,7 @@ module _ (font : List ℕ) (wanted : ℕ → Bool) (accepted : layout_fault font
       let copied : bytes_in_slot current_writing S (last_head current_writing S) slot ≡ S.copied slot =
       rw (e1, e5, e6, e9) refl in
       let none = layout-copied slot h in
-      ap (λ (b : List ℕ). table_of b (slot_tag slot)) (is ∙ cut-layout_file) ∙ table_of-file current_writing S slot low
+      ap (λ (b : List ℕ). table_of b (slot_tag slot)) (is ∙ cut-layout_file) ∙ table_of-file current_writing S slot (omega arith)
       ∙ copied
       ∙ (AreAlike-spelled layout_content).made slot (layout-made slot h)
       ∙ (AreAlike-thin (layout_font_of font).copied).made slot (layout-made slot h)
@@ -172,6 +173,6 @@ read-layout X form =
     let K : Content = content (thin (layout_font_of X)) everything in
     let lean = IsLean-content (layout_font_of X) everything font in (
       (reads-layout_spelled K X (IsClosed-content (thin (layout_font_of X)) everything
-          (IsFont-thin (layout_font_of X) font)) lean form.written (size-accepted X (font_fault-layout X accepted))).1,
+          (IsFont-thin (layout_font_of X) font)) lean (IsOfLayout-content X everything) form.written (size-accepted X (font_fault-layout X accepted))).1,
       lean,
     )

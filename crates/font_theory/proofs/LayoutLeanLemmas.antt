@@ -12,7 +12,7 @@ use Rattle.font_theory.specs.Links.{fixed}
 use Rattle.sfnt_bytes.specs.declared.directory.TheConstants.{MAX_FILE}
 use Rattle.font_theory.specs.Bytes.{padded}
 use Rattle.font_theory.specs.Content.{Content, Font, IsFont, content, font_of, glyph_count, is_kept, is_made}
-use Rattle.font_theory.specs.Content.{is_never_copied, is_root, is_seed, layout_font_of, metric_count, read_back}
+use Rattle.font_theory.specs.Content.{is_never_in_layout, is_root, is_seed, layout_font_of, metric_count, read_back}
 use Rattle.font_theory.specs.Cut.{cut}
 use Rattle.font_theory.specs.LayoutCut.{layout_fault, layout_format, without_layout}
 use Rattle.font_theory.specs.LeanCut.{lean_file, lean_format, metrics_at, pairs_in, spelled_out, thin, thin_copied}
@@ -31,7 +31,7 @@ use Rattle.font_theory.proofs.LeanLemmas.{IsFont-thin}
 use Rattle.font_theory.proofs.LeanMetricLemmas.{glyph_count-lean}
 use Rattle.font_theory.proofs.TagLemmas.{slot_tag-kept}
 use Rattle.font_theory.proofs.LeanRecordLemmas.{with_metrics-padded}
-use Rattle.font_theory.proofs.LinkLemmas.{AreFixed-plain, is_bad_layout_in-none, links_in-none}
+use Rattle.font_theory.proofs.LinkLemmas.{is_bad_layout_in-none, is_bad_variations_in-none, links_in-none, never-in_plain}
 use Rattle.font_theory.proofs.WantedLemmas.{IsKept, Reach-along, is_kept-decides}
 
 abbrev Tables : Type 0
@@ -70,7 +70,8 @@ font_of-without file = λ i. record {
     go slot (inl t) = rw t refl
     go slot (inr f) =
         let low : slot < 16 = leb-false 16 slot (or_parts _ (nat_le 16 slot) f).1 in
-        let copied : is_never_copied slot ≡ false = false_from_ne_true _ (λ t. both_ways _ f (never-made slot t)) in
+        let copied : is_never_in_layout slot ≡ false =
+        false_from_ne_true _ (λ t. both_ways _ f (never-in_plain slot t)) in
         rw f (ap (table_of file) (sym (slot_tag-kept slot low))
         ∙ sym (λ i. cond (copied i) None
         (cond (plain_slot slot low i) (option_map (fixed slot) (table_of file (slot_tag slot)))
@@ -90,7 +91,7 @@ IsFont-without F ok = record {
   hhea = ok.hhea;
   hmtx = ok.hmtx;
   readable = is_bad_layout_in-none (plain F.copied) refl;
-  fixed = AreFixed-plain (plain F.copied) (λ slot made. rw made refl);
+  variations = is_bad_variations_in-none (plain F.copied) refl;
 }
 
 -- it has no links

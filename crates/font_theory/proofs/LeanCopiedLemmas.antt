@@ -14,11 +14,12 @@ use Rattle.font_theory.specs.Content.{Content, Font, IsFont, IsPlain, content, g
 use Rattle.font_theory.specs.Content.{metric_count, table_in_slot}
 use Rattle.font_theory.specs.LeanCut.{blank, laid, pairs_in, spelled_copied, thin, thin_copied, thin_post}
 use Rattle.font_theory.proofs.FontLemmas.{never-made}
-use Rattle.font_theory.proofs.LinkLemmas.{is_bad_layout_in-same, layout-made, links_in-same}
+use Rattle.font_theory.proofs.LinkLemmas.{IsOfLayout, is_bad_layout_in-same, is_bad_variations_in-same, layout-made}
+use Rattle.font_theory.proofs.LinkLemmas.{links_in-same, never-in_plain}
 use Rattle.font_theory.specs.Links.{fixed}
 use Rattle.font_theory.proofs.RootLemmas.{is_root-same}
 use Rattle.font_theory.proofs.LeanEntryLemmas.{AreThere, blank-blank, blank-laid, length-blank, length-laid}
-use Rattle.sfnt_bytes.specs.declared.tag.TheConstants.{GSUB, HHEA, HMTX, MAXP, POST, VHEA, VMTX}
+use Rattle.sfnt_bytes.specs.declared.tag.TheConstants.{FVAR, GSUB, GVAR, HHEA, HMTX, MAXP, POST, VHEA, VMTX}
 
 abbrev Tables : Type 0
 Tables = ℕ → Option (List ℕ)
@@ -83,6 +84,13 @@ module _ (c d : Tables) (alike : AreAlike c d) where
   pub IsPlain-alike : IsPlain c → IsPlain d
   IsPlain-alike plain slot made = alike.made slot made ∙ plain slot made
 
+  pub IsOfLayout-alike : IsOfLayout c → IsOfLayout d
+  IsOfLayout-alike ok = record {
+    absent = λ slot never. alike.made slot (never-in_plain slot never) ∙ ok.absent slot never;
+    fixed = λ slot h. let same = alike.made slot (layout-made slot h) in ap (option_map (fixed slot)) same
+        ∙ ok.fixed slot h ∙ sym same;
+  }
+
 -- a font with such tables, and records
 pub IsFont-alike : (F G : Font) → IsFont F → G.head ≡ F.head → G.map ≡ F.map → AreAlike F.copied G.copied
     → ((g : ℕ) → IsRecord (glyph_count F.copied) (G.outline g)) → IsFont G
@@ -101,8 +109,8 @@ IsFont-alike F G ok head map alike records =
       hhea = (λ i. is_bad_hhea (alike.hhea i) (n i)) ∙ ok.hhea;
       hmtx = (λ i. nat_lt (alike.hmtx i) (4 * k i + 2 * (n i - k i))) ∙ ok.hmtx;
       readable = is_bad_layout_in-same F.copied G.copied (gsub-alike F.copied G.copied alike) ∙ ok.readable;
-      fixed = λ slot h. let same = alike.made slot (layout-made slot h) in ap (option_map (fixed slot)) same
-          ∙ ok.fixed slot h ∙ sym same;
+      variations = is_bad_variations_in-same F.copied G.copied (alike.made FVAR refl) (alike.made GVAR refl) n
+          ∙ ok.variations;
     }
 
 -- a table that may be missing

@@ -71,21 +71,21 @@ total-more f g k zero h = omega arith
 total-more f g k (suc n) h = omega (arith, h k, total-more f g (k + 1) n h)
 
 module _ (c d : ℕ → Option (List ℕ)) (each : (slot : ℕ) → IsNoLonger (c slot) (d slot)) where
-  count-all : length (said_lines (map c (range_with_len 0 21))) ≡ length (said_lines (map d (range_with_len 0 21)))
+  count-all : length (said_lines (map c (range_with_len 0 29))) ≡ length (said_lines (map d (range_with_len 0 29)))
   count-all =
-      length-said_lines-total c 0 21
-      ∙ ap (λ f. total f 0 21) (fun_ext (λ slot. count-same (c slot) (d slot) (each slot)))
-      ∙ sym (length-said_lines-total d 0 21)
+      length-said_lines-total c 0 29
+      ∙ ap (λ f. total f 0 29) (fun_ext (λ slot. count-same (c slot) (d slot) (each slot)))
+      ∙ sym (length-said_lines-total d 0 29)
 
-  bytes-all : sum (map (λ slot. padded_length (c slot)) (range_with_len 0 21))
-      ≤ sum (map (λ slot. padded_length (d slot)) (range_with_len 0 21))
+  bytes-all : sum (map (λ slot. padded_length (c slot)) (range_with_len 0 29))
+      ≤ sum (map (λ slot. padded_length (d slot)) (range_with_len 0 29))
   bytes-all =
-      let a = sum-map (λ slot. padded_length (c slot)) 0 21 in
-      let b = sum-map (λ slot. padded_length (d slot)) 0 21 in
-      let more = total-more (λ slot. padded_length (c slot)) (λ slot. padded_length (d slot)) 0 21
+      let a = sum-map (λ slot. padded_length (c slot)) 0 29 in
+      let b = sum-map (λ slot. padded_length (d slot)) 0 29 in
+      let more = total-more (λ slot. padded_length (c slot)) (λ slot. padded_length (d slot)) 0 29
       (λ slot. bytes-more (c slot) (d slot) (each slot)) in
-      subst (λ (x : ℕ). x ≤ sum (map (λ slot. padded_length (d slot)) (range_with_len 0 21))) (sym a)
-      (subst (λ (x : ℕ). total (λ slot. padded_length (c slot)) 0 21 ≤ x) (sym b) more)
+      subst (λ (x : ℕ). x ≤ sum (map (λ slot. padded_length (d slot)) (range_with_len 0 29))) (sym a)
+      (subst (λ (x : ℕ). total (λ slot. padded_length (c slot)) 0 29 ≤ x) (sym b) more)
 
 module _ (F : Font) (ok : IsFont F) (A : ℕ → Bool) where
   abbrev S : Content

@@ -1,11 +1,15 @@
 -- What the theory asks of links: there are none without `GSUB`, and `GSUB` alone says what they are.
-use Rattle.std.proofs.Common.{◌≡◌, ℕ, true, false, nat_le, nat_lt, List, [], refl, sym, ◌∙◌, ap, Option, Some, None}
+use Rattle.std.proofs.Common.{◌≡◌, ℕ, ◌+◌, ◌*◌, ◌<◌, ◌≤◌, true, false, nat_eq, nat_le, nat_lt, ◌||◌, inl, inr, List, [], refl, sym, ◌∙◌}
+use Rattle.std.proofs.Common.{ap, arith, Option, Some, None}
 use Rattle.std.proofs.Common.{option_map, unwrap_or}
-use Rattle.std.proofs.lemmas.Bool.{and_parts, or_right}
+use Rattle.std.proofs.lemmas.Bool.{and_parts, le-leb, leb-true, lt-leb, ltb-true, ne_eqb, or_cases, or_left, or_right}
+use Rattle.std.specs.Option.{option_map_or}
 use Rattle.std.proofs.Math.Path.{fun_ext}
 use Rattle.sfnt_bytes.specs.Directory.{is_layout_slot}
-use Rattle.sfnt_bytes.specs.declared.tag.TheConstants.{GSUB}
-use Rattle.font_theory.specs.Content.{AreFixed, IsPlain, is_bad_layout_in, is_made, links_in, table_in_slot}
+use Rattle.sfnt_bytes.specs.declared.tag.TheConstants.{FVAR, GSUB, GVAR}
+use Rattle.font_variations.specs.Gvar.{is_bad_variations}
+use Rattle.font_theory.specs.Content.{IsPlain, glyph_count, is_bad_layout_in, is_bad_variations_in, is_made}
+use Rattle.font_theory.specs.Content.{is_never_copied, is_never_in_layout, links_in, table_in_slot}
 use Rattle.font_layout.specs.Layout.{kept_in, leads_of, links, links_in as table_links_in}
 use Rattle.font_layout.specs.Steps.{lookup_list, steps_in}
 use Rattle.font_layout.proofs.CleaningLemmas.{fixed-fixed}
@@ -56,7 +60,43 @@ pub is_bad_layout_in-same : (c d : Tables) → table_in_slot d GSUB ≡ table_in
 unfolding is_bad_layout_in
 is_bad_layout_in-same c d same = ap is_bad_layout same
 
--- plain tables have none of layout to be fixed
-pub AreFixed-plain : (c : Tables) → IsPlain c → AreFixed c
-AreFixed-plain c plain slot h = ap (option_map (fixed slot)) (plain slot (layout-made slot h))
-    ∙ sym (plain slot (layout-made slot h))
+-- without `gvar` none is bad, and `gvar`, `fvar` and the number of glyphs alone say whether it is
+pub is_bad_variations_in-none : (c : Tables) → c GVAR ≡ None → is_bad_variations_in c ≡ false
+unfolding is_bad_variations_in
+is_bad_variations_in-none c none =
+    ap (λ o. option_map_or (λ gvar. is_bad_variations gvar (c FVAR) (glyph_count c)) o false) none
+
+pub is_bad_variations_in-same : (c d : Tables) → d FVAR ≡ c FVAR → d GVAR ≡ c GVAR → glyph_count d ≡ glyph_count c
+    → is_bad_variations_in d ≡ is_bad_variations_in c
+unfolding is_bad_variations_in
+is_bad_variations_in-same c d fvar gvar count =
+    λ i. option_map_or (λ table. is_bad_variations table (fvar i) (count i)) (gvar i) false
+
+-- what a layout reader leaves as it is: no table of variations, and none of layout with what varies
+pub record IsOfLayout (c : Tables) : Type 0 where
+  pub absent : (slot : ℕ) → is_never_in_layout slot ≡ true → c slot ≡ None
+  pub fixed : (slot : ℕ) → is_layout_slot slot ≡ true → option_map (fixed slot) (c slot) ≡ c slot
+
+-- a slot of layout is one that a layout cut copies
+pub layout-copied : (slot : ℕ) → is_layout_slot slot ≡ true → is_never_in_layout slot ≡ false
+layout-copied slot h =
+    let both = and_parts (nat_le 16 slot) (nat_lt slot 21) h in
+    let from = leb-true 16 slot both.0 in
+    let to = ltb-true slot 21 both.1 in
+    let e1 = ne_eqb slot 1 (λ e. omega arith) in let e5 = ne_eqb slot 5 (λ e. omega arith) in let e6 =
+    ne_eqb slot 6 (λ e. omega arith) in let e9 = ne_eqb slot 9 (λ e. omega arith) in
+    let last : nat_le 21 slot ≡ false = lt-leb 21 slot to in
+    rw (e1, e5, e6, e9) last
+
+-- what no cut copies, a layout cut does not copy, and what that does not copy a plain one does not
+pub never-layout : (slot : ℕ) → is_never_copied slot ≡ true → is_never_in_layout slot ≡ true
+never-layout slot h = elim (or_cases _ (nat_le 29 slot) h) [
+  | inl one ↦ or_left _ (nat_le 21 slot) one
+  | inr past ↦ let far = leb-true 29 slot past in or_right _ (nat_le 21 slot) (le-leb 21 slot (omega arith))
+]
+
+pub never-in_plain : (slot : ℕ) → is_never_in_layout slot ≡ true → is_made slot ≡ true
+never-in_plain slot h = elim (or_cases _ (nat_le 21 slot) h) [
+  | inl one ↦ or_left _ (nat_le 16 slot) one
+  | inr past ↦ let far = leb-true 21 slot past in or_right _ (nat_le 16 slot) (le-leb 16 slot (omega arith))
+]

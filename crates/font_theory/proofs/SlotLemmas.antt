@@ -7,7 +7,7 @@ use Rattle.sfnt_bytes.specs.Directory.{slot_at, slot_tag}
 use Rattle.sfnt_bytes.specs.Lines.{said_lines}
 use Rattle.sfnt_bytes.specs.Tag.{same_tag}
 use Rattle.sfnt_bytes.proofs.LineLemmas.{length-said_lines}
-use Rattle.font_theory.specs.Content.{Content, IsPlain}
+use Rattle.font_theory.specs.Content.{Content, IsPlain, is_made}
 use Rattle.font_theory.specs.File.{Writing, Table, bytes_in_slot, checksum_in_slot, table_at_place, table_in}
 use Rattle.font_theory.specs.File.{tables_from}
 use Rattle.font_theory.proofs.TagLemmas.{length-place_tag, place_of, place_of-low, same_tag-places, slot_at-place_of}
@@ -40,7 +40,7 @@ module _ (writing : Writing) (K : Content) (head : List ℕ) where
   bytes_at = bytes_in_slot writing K head
 
   -- and nowhere else
-  pub found_nowhere : (place k n : ℕ) → place < 21 → k + n ≤ 21 → (place < k) ⊎ (k + n ≤ place)
+  pub found_nowhere : (place k n : ℕ) → place < 29 → k + n ≤ 29 → (place < k) ⊎ (k + n ≤ place)
       → find (is_of (slot_at place)) (tables_from writing K head k n) ≡ None
   found_nowhere place k zero low few out = refl
   found_nowhere place k (suc n) low few out =
@@ -54,7 +54,7 @@ module _ (writing : Writing) (K : Content) (head : List ℕ) where
       ∙ ne_eqb k place other) ∙ found_nowhere place (k + 1) n low (omega arith) next
 
   -- the table at a place is found under its tag
-  pub found_at_place : (place k n : ℕ) → place < 21 → k + n ≤ 21 → k ≤ place → place < k + n
+  pub found_at_place : (place k n : ℕ) → place < 29 → k + n ≤ 29 → k ≤ place → place < k + n
       → find (is_of (slot_at place)) (tables_from writing K head k n) ≡ table_at_place writing K head place
   found_at_place place k zero low few from to = absurd (omega arith)
   found_at_place place k (suc n) low few from to =
@@ -72,13 +72,13 @@ module _ (writing : Writing) (K : Content) (head : List ℕ) where
       ]
 
   -- and so that in a slot
-  pub found_in_slot : (slot : ℕ) → slot < 21 → find (is_of slot) (tables_from writing K head 0 21)
+  pub found_in_slot : (slot : ℕ) → slot < 29 → find (is_of slot) (tables_from writing K head 0 29)
       ≡ table_in writing K head slot
   found_in_slot slot low =
       let inside = place_of-low slot low in
-      subst (λ (s : ℕ). find (is_of s) (tables_from writing K head 0 21) ≡ table_in writing K head s)
+      subst (λ (s : ℕ). find (is_of s) (tables_from writing K head 0 29) ≡ table_in writing K head s)
       (slot_at-place_of slot low)
-      (found_at_place (place_of slot) 0 21 inside (omega arith) (omega arith) (omega arith))
+      (found_at_place (place_of slot) 0 29 inside (omega arith) (omega arith) (omega arith))
 
   -- what holds of the table of each slot holds of all tables
   pub each_slot : (P : Table → Type 0) (k n : ℕ) → ((place : ℕ) (b : List ℕ) → k ≤ place → place < k + n
@@ -128,29 +128,43 @@ module _ (writing : Writing) (K : Content) (head : List ℕ) where
   tables_from-more n = tables_from-split 0 n 1 ∙ (let e : 0 + n ≡ n = omega arith in
       ap (λ (j : ℕ). tables_from writing K head 0 n ++ said_lines (table_at_place writing K head j ∷ [])) e)
 
-  -- without tables of layout, those that stand at the places are those of the slots, in their order
-  pub tables_from-plain : IsPlain K.copied → tables_from writing K head 0 21
+  -- a place without a table
+  skip : (xs ys : List (Option Table)) → said_lines (xs ++ None ∷ ys) ≡ said_lines (xs ++ ys)
+  skip xs ys = said_lines-append xs (None ∷ ys) ∙ sym (said_lines-append xs ys)
+
+  -- the tables of a plain cut from a slot on
+  abbrev own : ℕ → ℕ → List (Option Table)
+  own slot n = map (table_in writing K head) (range_with_len slot n)
+
+  -- without tables of layout and of variations, those that stand at the places are those of the slots, in their order
+  pub tables_from-plain : IsPlain K.copied → tables_from writing K head 0 29
       ≡ said_lines (map (table_in writing K head) (range_with_len 0 16))
   unfolding slot_at bytes_in_slot
   tables_from-plain plain =
-      let base = plain 16 refl in let gdef = plain 17 refl in let gpos = plain 18 refl in let gsub = plain 19 refl in
-      let kern = plain 20 refl in
-      let first : List (Option Table) = map (table_in writing K head) (range_with_len 0 9) in
-      let last : List (Option Table) = map (table_in writing K head) (range_with_len 9 7) in
-      (λ i. said_lines (option_map (table_with 16) (base i) ∷ option_map (table_with 17) (gdef i)
-      ∷ option_map (table_with 18) (gpos i) ∷ option_map (table_with 19) (gsub i)
-      ∷ (first ++ (option_map (table_with 20) (kern i) ∷ last))))
-      ∙ said_lines-append first (None ∷ last) ∙ sym (said_lines-append first last)
+      let none : (slot : ℕ) → is_made slot ≡ true → option_map (table_with slot) (K.copied slot) ≡ None =
+      λ slot made. ap (option_map (table_with slot)) (plain slot made) in
+      (λ i. said_lines (none 16 refl i ∷ none 17 refl i ∷ none 18 refl i ∷ none 19 refl i ∷ none 21 refl i
+      ∷ none 22 refl i ∷ (own 0 1 ++ (none 23 refl i ∷ none 24 refl i ∷ none 25 refl i ∷ (own 1 1 ++ (none 26 refl i
+      ∷ (own 2 2 ++ (none 27 refl i ∷ (own 4 2 ++ (none 28 refl i ∷ (own 6 3 ++ (none 20 refl i ∷ own 9 7)))))))))))))
+      ∙ skip (own 0 1) (None ∷ None ∷ (own 1 1 ++ (None ∷ (own 2 2 ++ (None ∷ (own 4 2 ++ (None ∷ (own 6 3
+      ++ (None ∷ own 9 7)))))))))
+      ∙ skip (own 0 1) (None ∷ (own 1 1 ++ (None ∷ (own 2 2 ++ (None ∷ (own 4 2 ++ (None ∷ (own 6 3
+      ++ (None ∷ own 9 7)))))))))
+      ∙ skip (own 0 1) (own 1 1 ++ (None ∷ (own 2 2 ++ (None ∷ (own 4 2 ++ (None ∷ (own 6 3 ++ (None ∷ own 9 7))))))))
+      ∙ skip (own 0 2) (own 2 2 ++ (None ∷ (own 4 2 ++ (None ∷ (own 6 3 ++ (None ∷ own 9 7))))))
+      ∙ skip (own 0 4) (own 4 2 ++ (None ∷ (own 6 3 ++ (None ∷ own 9 7))))
+      ∙ skip (own 0 6) (own 6 3 ++ (None ∷ own 9 7))
+      ∙ skip (own 0 9) (own 9 7)
 
-  -- a directory can be written of all twenty-one
-  pub are_tables : AreTables (tables_from writing K head 0 21)
+  -- a directory can be written of them
+  pub are_tables : AreTables (tables_from writing K head 0 29)
   unfolding bytes_in_slot
   are_tables =
-      let few = length-said_lines (map (table_at_place writing K head) (range_with_len 0 21)) in
+      let few = length-said_lines (map (table_at_place writing K head) (range_with_len 0 29)) in
       record {
-        some = not_empty (tables_from writing K head 0 21) (found_in_slot 5 (omega arith));
+        some = not_empty (tables_from writing K head 0 29) (found_in_slot 5 (omega arith));
         few = omega arith;
-        tags = each_slot (λ table. HasFour table.tag) 0 21 (λ place b from to e. length-place_tag place (omega arith));
+        tags = each_slot (λ table. HasFour table.tag) 0 29 (λ place b from to e. length-place_tag place (omega arith));
       }
     where
       not_empty : (tables : List Table) → find (is_of 5) tables ≡ table_in writing K head 5 → 1 ≤ length tables

@@ -1,5 +1,5 @@
 -- The tags of slots: four bytes each, ascending by place, and no two the same.
-use Rattle.std.proofs.Common.{◌≡◌, ℕ, suc, ◌+◌, ◌-◌, ◌*◌, ◌/◌, ◌%◌, ◌<◌, true, cond, codes, eqb, ltb, nat_lt, length}
+use Rattle.std.proofs.Common.{◌≡◌, ℕ, suc, ◌+◌, ◌*◌, ◌/◌, ◌%◌, ◌<◌, true, codes, eqb, ltb, List, [], ◌∷◌, get_or, length}
 use Rattle.std.proofs.Common.{refl, sym, ◌∙◌, arith}
 use Rattle.std.proofs.lemmas.Bool.{agree_below_at, eqb-true, lt-ltb, ltb-true}
 use Rattle.sfnt_bytes.specs.Directory.{kept_tag, slot_at, slot_tag}
@@ -12,55 +12,59 @@ use Rattle.font_tables.specs.Tables.{named}
 abbrev pub place_tag : ℕ → Tag
 place_tag place = slot_tag (slot_at place)
 
-pub length-place_tag : (place : ℕ) → place < 21 → length (place_tag place).0 ≡ 4
+pub length-place_tag : (place : ℕ) → place < 29 → length (place_tag place).0 ≡ 4
 unfolding kept_tag slot_at slot_tag
 length-place_tag place low =
-    eqb-true _ 4 (agree_below_at (λ i. eqb (length (place_tag i).0) 4) (λ _. true) 21 place refl low)
+    eqb-true _ 4 (agree_below_at (λ i. eqb (length (place_tag i).0) 4) (λ _. true) 29 place refl low)
 
-pub place_tag-ascends : (place : ℕ) → suc place < 21 → tag_number (place_tag place) < tag_number (place_tag (suc place))
+pub place_tag-ascends : (place : ℕ) → suc place < 29 → tag_number (place_tag place) < tag_number (place_tag (suc place))
 unfolding kept_tag slot_at slot_tag u32_at
 place_tag-ascends place low =
-    ltb-true _ _ (agree_below_at (λ i. ltb (tag_number (place_tag i)) (tag_number (place_tag (suc i)))) (λ _. true) 20
+    ltb-true _ _ (agree_below_at (λ i. ltb (tag_number (place_tag i)) (tag_number (place_tag (suc i)))) (λ _. true) 28
     place refl (omega arith))
 
-pub same_tag-head : (place : ℕ) → place < 21 → same_tag (place_tag place) (named (codes "head")) ≡ eqb (slot_at place) 6
+pub same_tag-head : (place : ℕ) → place < 29 → same_tag (place_tag place) (named (codes "head")) ≡ eqb (slot_at place) 6
 unfolding kept_tag slot_at slot_tag
 same_tag-head place low = agree_below_at (λ i. same_tag (place_tag i) (named (codes "head"))) (λ i. eqb (slot_at i) 6)
-    21 place refl low
+    29 place refl low
 
 -- two places in one number
-pair_same : (pair : ℕ) → pair < 441 → same_tag (place_tag (pair / 21)) (place_tag (pair % 21))
-    ≡ eqb (pair / 21) (pair % 21)
+pair_same : (pair : ℕ) → pair < 841 → same_tag (place_tag (pair / 29)) (place_tag (pair % 29))
+    ≡ eqb (pair / 29) (pair % 29)
 unfolding kept_tag slot_at slot_tag
-pair_same pair low = agree_below_at (λ i. same_tag (place_tag (i / 21)) (place_tag (i % 21)))
-    (λ i. eqb (i / 21) (i % 21)) 441 pair refl low
+pair_same pair low = agree_below_at (λ i. same_tag (place_tag (i / 29)) (place_tag (i % 29)))
+    (λ i. eqb (i / 29) (i % 29)) 841 pair refl low
 
-pub same_tag-places : (place other : ℕ) → place < 21 → other < 21 → same_tag (place_tag place) (place_tag other)
+pub same_tag-places : (place other : ℕ) → place < 29 → other < 29 → same_tag (place_tag place) (place_tag other)
     ≡ eqb place other
 same_tag-places place other low below =
-    let pair = 21 * place + other in
-    let first : pair / 21 ≡ place = omega arith in
-    let second : pair % 21 ≡ other = omega arith in
+    let pair = 29 * place + other in
+    let first : pair / 29 ≡ place = omega arith in
+    let second : pair % 29 ≡ other = omega arith in
     (λ i. same_tag (place_tag (sym first i)) (place_tag (sym second i))) ∙ pair_same pair (omega arith)
     ∙ (λ i. eqb (first i) (second i))
 
 -- `head` stands at one place
-pub slot_at-head : (place : ℕ) → place < 21 → eqb (slot_at place) 6 ≡ eqb place 10
+pub slot_at-head : (place : ℕ) → place < 29 → eqb (slot_at place) 6 ≡ eqb place 18
 unfolding slot_at
-slot_at-head place low = agree_below_at (λ i. eqb (slot_at i) 6) (λ i. eqb i 10) 21 place refl low
+slot_at-head place low = agree_below_at (λ i. eqb (slot_at i) 6) (λ i. eqb i 18) 29 place refl low
+
+-- the places of the slots
+places : List ℕ
+places = 6 ∷ 10 ∷ 12 ∷ 13 ∷ 15 ∷ 16 ∷ 18 ∷ 19 ∷ 20 ∷ 22 ∷ 23 ∷ 24 ∷ 25 ∷ 26 ∷ 27 ∷ 28
+    ∷ 0 ∷ 1 ∷ 2 ∷ 3 ∷ 21 ∷ 4 ∷ 5 ∷ 7 ∷ 8 ∷ 9 ∷ 11 ∷ 14 ∷ 17 ∷ []
 
 -- the place of a slot
 abbrev pub place_of : ℕ → ℕ
-place_of slot = cond (nat_lt slot 9) (slot + 4)
-    (cond (nat_lt slot 16) (slot + 5) (cond (nat_lt slot 20) (slot - 16) 13))
+place_of slot = get_or places slot 0
 
-pub slot_at-place_of : (slot : ℕ) → slot < 21 → slot_at (place_of slot) ≡ slot
+pub slot_at-place_of : (slot : ℕ) → slot < 29 → slot_at (place_of slot) ≡ slot
 unfolding slot_at
 slot_at-place_of slot low =
-    eqb-true _ _ (agree_below_at (λ i. eqb (slot_at (place_of i)) i) (λ _. true) 21 slot refl low)
+    eqb-true _ _ (agree_below_at (λ i. eqb (slot_at (place_of i)) i) (λ _. true) 29 slot refl low)
 
-pub place_of-low : (slot : ℕ) → slot < 21 → place_of slot < 21
-place_of-low slot low = ltb-true _ _ (agree_below_at (λ i. ltb (place_of i) 21) (λ _. true) 21 slot refl low)
+pub place_of-low : (slot : ℕ) → slot < 29 → place_of slot < 29
+place_of-low slot low = ltb-true _ _ (agree_below_at (λ i. ltb (place_of i) 29) (λ _. true) 29 slot refl low)
 
 -- and the tag of a slot of a plain cut
 pub slot_tag-kept : (slot : ℕ) → slot < 16 → slot_tag slot ≡ kept_tag slot

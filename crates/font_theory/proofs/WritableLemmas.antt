@@ -18,7 +18,6 @@ IsWritable-closed K ok = record {
   mapped_below = ok.font.mapped_below;
   mapped_codes = ok.font.mapped_codes;
   slots = ok.font.slots;
-  fixed = ok.font.fixed;
   head_form = ok.font.head_form;
   head_size = head-size K.head ok.font.head;
   past = outline-past K ok;

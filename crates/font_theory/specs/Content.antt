@@ -1,10 +1,11 @@
 -- What is read of an accepted font, and what a cut is made of, this project's own; tables stand by slot.
 use Rattle.std.specs.Prelude.{◌≡◌, ℕ, ◌<◌, ◌≤◌, ◌&&◌, nat_eq, nat_le, nat_lt, Bool, true, false, ◌||◌, List, [], length}
 use Rattle.std.specs.Prelude.{if◌then◌else◌, Option, None, IsSome, unwrap_or}
-use Rattle.std.specs.Option.{option_map}
+use Rattle.std.specs.Option.{option_map, option_map_or}
 use Rattle.sfnt_bytes.specs.Directory.{is_layout_slot, kept_tag, slot_tag, table_of}
 use Rattle.sfnt_bytes.specs.Lines.{when}
-use Rattle.sfnt_bytes.specs.declared.tag.TheConstants.{ALL_SLOTS, CMAP, GLYF, GSUB, HEAD, HHEA, HMTX, LOCA, MAXP, SLOTS}
+use Rattle.sfnt_bytes.specs.declared.tag.TheConstants.{ALL_SLOTS, CMAP, FIRST_VARIATION, FVAR, GLYF, GSUB}
+use Rattle.sfnt_bytes.specs.declared.tag.TheConstants.{GVAR, HEAD, HHEA, HMTX, LOCA, MAXP, SLOTS}
 use Rattle.font_tables.specs.Fields.{glyph_count_of, num_glyphs, number_of_h_metrics}
 use Rattle.font_tables.specs.Outlines.{outline_of}
 use Rattle.font_tables.specs.Refusals.{is_bad_head, is_bad_hhea, is_bad_hmtx, is_bad_maxp}
@@ -16,6 +17,7 @@ use Rattle.font_glyph.specs.Reach.{any_below, reached}
 use Rattle.font_glyph.specs.Record.{IsRecord}
 use Rattle.font_glyph.specs.declared.linked.TheConstants as numbers
 use Rattle.font_glyph.specs.RecordMap.{HoldsComponents, Records, record_in}
+use Rattle.font_variations.specs.Gvar.{is_bad_variations}
 use Rattle.font_file.specs.Font.{map_of}
 use Rattle.font_theory.specs.Bytes.{cut_head, padded}
 use Rattle.font_theory.specs.Links.{fixed, is_bad_layout, links}
@@ -43,6 +45,11 @@ abbrev pub is_made : ℕ → Bool
 is_made slot =
     nat_eq slot CMAP || nat_eq slot GLYF || nat_eq slot HEAD || nat_eq slot LOCA || nat_le SLOTS slot
 
+-- what no layout cut copies: such a table, and what is no slot of a layout cut
+abbrev pub is_never_in_layout : ℕ → Bool
+is_never_in_layout slot =
+    nat_eq slot CMAP || nat_eq slot GLYF || nat_eq slot HEAD || nat_eq slot LOCA || nat_le FIRST_VARIATION slot
+
 -- what no cut copies: such a table, and what is no slot of any cut
 abbrev pub is_never_copied : ℕ → Bool
 is_never_copied slot =
@@ -68,14 +75,14 @@ links_in copied g = links (table_in_slot copied GSUB) g
 unfoldable pub is_bad_layout_in : (ℕ → Option (List ℕ)) → Bool
 is_bad_layout_in copied = is_bad_layout (table_in_slot copied GSUB)
 
--- no table of layout is copied
+-- there is a `gvar`, which is bad
+unfoldable pub is_bad_variations_in : (ℕ → Option (List ℕ)) → Bool
+is_bad_variations_in copied =
+    option_map_or (λ gvar. is_bad_variations gvar (copied FVAR) (glyph_count copied)) (copied GVAR) false
+
+-- no table of layout or of variations is copied
 abbrev pub IsPlain : (ℕ → Option (List ℕ)) → Type 0
 IsPlain copied = (slot : ℕ) → is_made slot ≡ true → copied slot ≡ None
-
--- no table of layout has what varies
-abbrev pub AreFixed : (ℕ → Option (List ℕ)) → Type 0
-AreFixed copied =
-    (slot : ℕ) → is_layout_slot slot ≡ true → option_map (fixed slot) (copied slot) ≡ copied slot
 
 -- all codes
 abbrev pub everything : ℕ → Bool
@@ -130,7 +137,7 @@ table_read file slot =
 -- what is read of a file with its tables of layout
 abbrev pub layout_font_of : List ℕ → Font
 layout_font_of file = record {
-  copied = λ slot. if is_never_copied slot then None else table_read file slot;
+  copied = λ slot. if is_never_in_layout slot then None else table_read file slot;
   head = cut_head (head_of file);
   map = map_of file;
   outline = λ g. if nat_lt g (glyph_count_of file) then outline_of file g else [];
@@ -148,7 +155,7 @@ pub record IsFont (F : Font) : Type 0 where
   pub hhea : is_bad_hhea (table_in_slot F.copied HHEA) (glyph_count F.copied) ≡ false
   pub hmtx : is_bad_hmtx (table_in_slot F.copied HMTX) (metric_count F.copied) (glyph_count F.copied) ≡ false
   pub readable : is_bad_layout_in F.copied ≡ false
-  pub fixed : AreFixed F.copied
+  pub variations : is_bad_variations_in F.copied ≡ false
 
 -- the content of a file in cut form: a font is read of it, of which it is the content for all codes
 pub record IsClosedContent (K : Content) : Type 0 where
@@ -160,7 +167,6 @@ pub record IsWritable (K : Content) : Type 0 where
   pub mapped_below : (c : ℕ) → K.map c < glyph_count K.copied
   pub mapped_codes : (c : ℕ) → CODES ≤ c → K.map c ≡ 0
   pub slots : (slot : ℕ) → is_never_copied slot ≡ true → K.copied slot ≡ None
-  pub fixed : AreFixed K.copied
   pub head_form : cut_head K.head ≡ K.head
   pub head_size : 54 ≤ length K.head
   pub past : (g : ℕ) → glyph_count K.copied ≤ g → K.outline g ≡ None

@@ -9,4 +9,5 @@ pub mod LayoutCut
 pub mod LeanCut
 pub mod Links
 pub mod Tree
+pub mod VariableCut
 pub mod WorkedFiles
