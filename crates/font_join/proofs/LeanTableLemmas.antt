@@ -11,7 +11,7 @@ use Rattle.sfnt_bytes.specs.Lines.{first_of_lines}
 use Rattle.sfnt_bytes.specs.declared.tag.TheConstants.{HHEA, HMTX, MAXP, POST, VHEA, VMTX}
 use Rattle.font_tables.specs.Fields.{num_glyphs, number_of_h_metrics}
 use Rattle.font_tables.specs.Refusals.{is_bad_hhea, is_bad_hmtx}
-use Rattle.font_theory.specs.Content.{Content, IsClosedContent, IsWritable, KeepsComponents, AreFixed, glyph_count}
+use Rattle.font_theory.specs.Content.{Content, IsClosedContent, IsWritable, KeepsComponents, glyph_count}
 use Rattle.font_theory.specs.Content.{is_never_copied, table_in_slot}
 use Rattle.font_theory.specs.Cut.{Arises, Format, IsFormat}
 use Rattle.font_theory.specs.Difference.{is_different_code, is_different_table}
@@ -20,8 +20,6 @@ use Rattle.font_theory.specs.LeanCut.{entry_at, entry_size, lean_format, metric_
 use Rattle.font_theory.specs.LeanCut.{spelled_copied, spelled_out, thin_copied}
 use Rattle.font_theory.specs.declared.Difference.{Difference}
 use Rattle.font_theory.specs.declared.Difference.TheVariants.{AtTable}
-use Rattle.font_theory.specs.Links.{fixed}
-use Rattle.sfnt_bytes.specs.Directory.{is_layout_slot}
 use Rattle.font_theory.proofs.ArisesLemmas.{IsClosed-arises}
 use Rattle.font_theory.proofs.LayoutCutLemmas.{IsLean-arises_layout, layout_format-is}
 use Rattle.font_theory.proofs.LeanContentLemmas.{IsClosed-spelled}
@@ -80,18 +78,6 @@ module _ (c : Tables) (h v : Option (List ℕ)) where
     ]
   ]
 
-  pub replaced_fixed : AreFixed c → AreFixed (replaced c h v)
-  replaced_fixed fine slot layout = elim (cases_eq slot HMTX) [
-    | inl e ↦ let no : is_layout_slot HMTX ≡ true = ap is_layout_slot (sym e) ∙ layout in let q : false ≡ true = no in
-        cc
-    | inr a ↦ elim (cases_eq slot VMTX) [
-      | inl e ↦ let no : is_layout_slot VMTX ≡ true = ap is_layout_slot (sym e) ∙ layout in let q : false ≡ true = no in
-          cc
-      | inr b ↦ ap (option_map (fixed slot)) (sym (replaced_copied slot a b)) ∙ fine slot layout
-          ∙ replaced_copied slot a b
-    ]
-  ]
-
 -- a content with zeros in its tables of metrics can be written
 pub writable_blanked : (K : Content) → IsWritable K → IsWritable (blanked K)
 writable_blanked K ok =
@@ -100,7 +86,6 @@ writable_blanked K ok =
       mapped_below = λ c. subst (λ (n : ℕ). K.map c < n) (sym count) (ok.mapped_below c);
       mapped_codes = ok.mapped_codes;
       slots = replaced_made K.copied (blank_in K.copied HHEA HMTX) (blank_in K.copied VHEA VMTX) ok.slots;
-      fixed = replaced_fixed K.copied (blank_in K.copied HHEA HMTX) (blank_in K.copied VHEA VMTX) ok.fixed;
       head_form = ok.head_form;
       head_size = ok.head_size;
       past = λ g low. ok.past g (subst (λ (n : ℕ). n ≤ g) count low);

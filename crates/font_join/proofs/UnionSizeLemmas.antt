@@ -38,7 +38,6 @@ module _ (K : Content) where
         mapped_below = λ c. let some = ok.mapped_below c in omega (arith, some);
         mapped_codes = λ c x. refl;
         slots = ok.slots;
-        fixed = ok.fixed;
         head_form = ok.head_form;
         head_size = ok.head_size;
         past = ok.past;

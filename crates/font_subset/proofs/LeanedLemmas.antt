@@ -1,11 +1,9 @@
 -- A content with the metrics of its kept glyphs alone, and without names: what lean and layout cuts are written of.
 use Rattle.std.proofs.Common.{◌≡◌, ◌≢◌, ℕ, true, false, nat_eq, None, is_some, refl, sym, ◌∙◌, ap, option_map}
 use Rattle.std.proofs.lemmas.Bool.{ne_eqb}
-use Rattle.sfnt_bytes.specs.Directory.{is_layout_slot}
 use Rattle.sfnt_bytes.specs.declared.tag.TheConstants.{HHEA, HMTX, POST, VHEA, VMTX}
 use Rattle.font_theory.specs.Content.{Content, IsWritable, KeepsComponents, glyph_count, is_never_copied}
 use Rattle.font_theory.specs.LeanCut.{cleared, leaned, pairs_in, thin_post}
-use Rattle.font_theory.specs.Links.{fixed}
 use Rattle.font_theory.proofs.LeanCopiedLemmas.{by_slot}
 
 pub leaned_head : (K : Content) → (leaned K).head ≡ K.head
@@ -60,10 +58,6 @@ leaned_writable K ok = record {
   mapped_codes = ok.mapped_codes;
   slots = by_slot (λ slot. is_never_copied slot ≡ true → (leaned K).copied slot ≡ None) (λ e. no_slot e)
       (λ e. no_slot e) (λ e. no_slot e) (λ slot x y z never. at_other K slot x y z ∙ ok.slots slot never);
-  fixed = by_slot (λ slot. is_layout_slot slot ≡ true → option_map (fixed slot) ((leaned K).copied slot)
-      ≡ (leaned K).copied slot) (λ e. no_slot e) (λ e. no_slot e) (λ e. no_slot e)
-      (λ slot x y z layout. ap (option_map (fixed slot)) (at_other K slot x y z) ∙ ok.fixed slot layout
-      ∙ sym (at_other K slot x y z));
   head_form = ok.head_form;
   head_size = ok.head_size;
   past = ok.past;

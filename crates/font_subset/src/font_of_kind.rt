@@ -12,7 +12,7 @@ use crate::accepted::{copied, recall_accepted};
 use crate::layout_font::{LayoutFont, OpenError};
 use font_file::Font;
 use font_theory::Kind;
-use sfnt_bytes::{ALL_SLOTS, SLOTS};
+use sfnt_bytes::{FIRST_VARIATION, SLOTS};
 use std::alloc::{Allocator, Global};
 use std::marker::Model;
 
@@ -121,7 +121,7 @@ impl<'f, 'a, A: Allocator> FontOfKind<'f, 'a, A> {
         if slot < SLOTS {
             return copied(self.font(), slot);
         }
-        if slot < ALL_SLOTS {
+        if slot < FIRST_VARIATION {
             return self.layout_table(slot);
         }
         None

@@ -4,7 +4,7 @@ ghost use Rattle.std.specs.Option.{option_map};
 ghost use Rattle.sfnt_bytes.specs.Directory.{is_layout_slot, slot_tag, table_of as table_of_tag};
 ghost use Rattle.sfnt_bytes.specs.Refusals.{layout_directory_fault};
 ghost use Rattle.sfnt_bytes.specs.declared.directory.TheConstants.{MAX_FILE};
-ghost use Rattle.sfnt_bytes.specs.declared.tag.TheConstants.{ALL_SLOTS as SLOTS_OF_ALL, SLOTS as KEPT_SLOTS};
+ghost use Rattle.sfnt_bytes.specs.declared.tag.TheConstants.{FIRST_VARIATION, SLOTS as KEPT_SLOTS};
 ghost use Rattle.font_tables.specs.Fields.{glyph_count_of};
 ghost use Rattle.font_theory.specs.Content.{layout_font_of};
 ghost use Rattle.font_theory.specs.LayoutCut.{layout_fault};
@@ -93,19 +93,19 @@ fn check_layout(font: &Font<'_>) -> Result<(), FontError>
 fn table_of<'a>(font: &Font<'a>, slot: usize) -> Option<&'a [u8]>
     requires inside { layout_directory_fault font.now ≡ None }
     requires from { KEPT_SLOTS ≤ slot }
-    requires to { slot < SLOTS_OF_ALL }
+    requires to { slot < FIRST_VARIATION }
     ensures table { option_copied result ≡ table_of_tag font.now (slot_tag slot) }
     ensures small { MatchOption result Unit (λ b. length b.now ≤ MAX_FILE) }
 {
     recall_accepted(font);
-    font.tables().directory().layout_table(slot)
+    font.tables().directory().table_in(slot)
 }
 
 impl<'a, A: Allocator + Copy> FixedTable<'a, A> {
     fn of(alloc: A, font: &Font<'a>, slot: usize) -> Result<FixedTable<'a, A>, NoMemory>
         requires inside { layout_directory_fault font.now ≡ None }
         requires from { KEPT_SLOTS ≤ slot }
-        requires to { slot < SLOTS_OF_ALL }
+        requires to { slot < FIRST_VARIATION }
         ensures { IfOk result (λ t. t ≡ option_map (fixed slot) (table_of_tag font.now (slot_tag slot))) }
     {
         let Some(table) = table_of(font, slot) else {

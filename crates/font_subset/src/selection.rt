@@ -30,7 +30,7 @@ use font_glyph::{Marks, close};
 use font_map::{Chart, Pieces, Run, Wanted, run_of};
 use font_theory::Kind;
 use font_write::Source;
-use sfnt_bytes::{ALL_SLOTS, NoMemory, SLOTS};
+use sfnt_bytes::{FIRST_VARIATION, NoMemory, SLOTS};
 use std::alloc::{Allocator, Global};
 use std::marker::Model;
 
@@ -396,7 +396,7 @@ impl<'f, 'a, A: Allocator> Source for Selection<'f, 'a, A> {
         if slot < SLOTS {
             return copied(self.charted.font(), slot);
         }
-        if slot < ALL_SLOTS {
+        if slot < FIRST_VARIATION {
             return self.layout_table(slot);
         }
         None

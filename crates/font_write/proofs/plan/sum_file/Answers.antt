@@ -91,7 +91,7 @@ pub returns : goal.returns
 returns g c =
     let writing : Writing = writing_of c.args.profile in
     let K = g.S.Source.content_of c.args.source.now in
-    let all : c.loop-place.place ≡ 21 = omega arith in
+    let all : c.loop-place.place ≡ 29 = omega arith in
     sum_end writing K (checksum_of (header_bytes c.args.count)) c.loop-place.sum c.recall_laws.ensures.writable
     (ap (λ (n : ℕ). checksum_of (header_bytes n)) c.requires.count)
     (subst (λ (n : ℕ). IsSum writing K n (checksum_of (header_bytes c.args.count)) c.loop-place.sum) all

@@ -44,8 +44,8 @@ pub returns : goal.returns
 returns g c =
     let writing : Writing = writing_of c.args.profile in
     let K : Content = g.S.Source.content_of c.args.source.now in
-    let all : c.loop-place.place ≡ 21 = omega arith in
-    let exact : c.loop-place.bytes ≡ 12 + 16 * count_to writing K 21 + length (bodies_to writing K 21) =
+    let all : c.loop-place.place ≡ 29 = omega arith in
+    let exact : c.loop-place.bytes ≡ 12 + 16 * count_to writing K 29 + length (bodies_to writing K 29) =
     subst (λ (n : ℕ). c.loop-place.bytes ≡ 12 + 16 * count_to writing K n + length (bodies_to writing K n)) all
     c.loop-place.invariant.exact in
     let written : c.loop-place.bytes ≡ length (file writing K) = omega (arith, exact, length_file writing K) in
