@@ -50,7 +50,7 @@ unfolding slot_at
 slot_at-head place low = agree_below_at (λ i. eqb (slot_at i) 6) (λ i. eqb i 18) 29 place refl low
 
 -- the places of the slots
-places : List ℕ
+abbrev places : List ℕ
 places = 6 ∷ 10 ∷ 12 ∷ 13 ∷ 15 ∷ 16 ∷ 18 ∷ 19 ∷ 20 ∷ 22 ∷ 23 ∷ 24 ∷ 25 ∷ 26 ∷ 27 ∷ 28
     ∷ 0 ∷ 1 ∷ 2 ∷ 3 ∷ 21 ∷ 4 ∷ 5 ∷ 7 ∷ 8 ∷ 9 ∷ 11 ∷ 14 ∷ 17 ∷ []
 

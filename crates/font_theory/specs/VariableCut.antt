@@ -21,14 +21,14 @@ gvar_with of_glyph n gvar = gvar_bytes (front_of gvar) (shared_tuples_of gvar) o
 
 -- data, filled with zeros to words, and their length after them
 unfoldable pub data_part : List ℕ → List ℕ
-data_part data = padded data ++ (length data ∷ 0 ∷ 0 ∷ 0 ∷ [])
+data_part bytes = padded bytes ++ (length bytes ∷ 0 ∷ 0 ∷ 0 ∷ [])
 
 -- a record: an outline with variation data after it; four zeros stand for an empty outline that has data
 unfoldable pub with_data : List ℕ → List ℕ → List ℕ
-with_data outline data =
-    if nat_lt 0 (length outline) then padded outline ++ data_part data
-    else if nat_eq (length data) 0 then []
-    else replicate 4 0 ++ data_part data
+with_data outline bytes =
+    if nat_lt 0 (length outline) then padded outline ++ data_part bytes
+    else if nat_eq (length bytes) 0 then []
+    else replicate 4 0 ++ data_part bytes
 
 -- how many bytes the data of such a record have
 unfoldable pub data_length : List ℕ → ℕ
