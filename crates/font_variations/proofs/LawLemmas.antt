@@ -193,20 +193,27 @@ length-shared gvar inside =
       | inr none ↦ let zero = nothing_shared (shared_tuple_count gvar) (axis_count gvar) (omega arith) in omega arith
     ]
 
+-- the first 8 bytes and the shared tuples of an accepted table are such as a table is made of
+pub parts_fit : (gvar : List ℕ) (fvar : Option (List ℕ)) (n : ℕ) → is_bad_variations gvar fvar n ≡ false
+    → IsForGvar (front_of gvar) (shared_tuples_of gvar)
+parts_fit gvar fvar n h =
+    let known = is_header gvar fvar n (is_good gvar fvar n h).header in
+    let axes = axes_of_front gvar known.long in
+    let count = count_of_front gvar known.long in
+    let long : shared_tuples_length (front_of gvar) ≡ shared_tuples_length gvar = λ i. 2 * axes i * count i in
+    record {
+      size = front_is gvar known.long;
+      version = version_of_front gvar known.long ∙ known.version;
+      tuples = length-shared gvar (has_shared_tuples gvar fvar n h) ∙ sym long;
+    }
+
 pub parts_accepted : (gvar : List ℕ) (fvar : Option (List ℕ)) (n : ℕ) (of_glyph : ℕ → List ℕ)
     → is_bad_variations gvar fvar n ≡ false
     → is_bad_variations (gvar_bytes (front_of gvar) (shared_tuples_of gvar) of_glyph n) fvar n ≡ false
 parts_accepted gvar fvar n of_glyph h =
     let known = is_header gvar fvar n (is_good gvar fvar n h).header in
     let axes = axes_of_front gvar known.long in
-    let count = count_of_front gvar known.long in
-    let long : shared_tuples_length (front_of gvar) ≡ shared_tuples_length gvar = λ i. 2 * axes i * count i in
-    let fit : IsForGvar (front_of gvar) (shared_tuples_of gvar) = record {
-      size = front_is gvar known.long;
-      version = version_of_front gvar known.long ∙ known.version;
-      tuples = length-shared gvar (has_shared_tuples gvar fvar n h) ∙ sym long;
-    } in
-    made_accepted (front_of gvar) (shared_tuples_of gvar) of_glyph n fit fvar
+    made_accepted (front_of gvar) (shared_tuples_of gvar) of_glyph n (parts_fit gvar fvar n h) fvar
     (record { whole = known.whole; same = axes ∙ known.same })
 
 -- offsets of an accepted table lead into it
