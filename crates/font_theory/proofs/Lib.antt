@@ -56,6 +56,7 @@ pub mod SumLemmas
 pub mod TableLemmas
 pub mod TagLemmas
 pub mod TreeLemmas
+pub mod VariableCopiedLemmas
 pub mod VariableRecordLemmas
 pub mod WantedLemmas
 pub mod WorkedLemmas
