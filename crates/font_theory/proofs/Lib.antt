@@ -57,6 +57,7 @@ pub mod TableLemmas
 pub mod TagLemmas
 pub mod TreeLemmas
 pub mod VariableCopiedLemmas
+pub mod VariableLemmas
 pub mod VariableRecordLemmas
 pub mod WantedLemmas
 pub mod WorkedLemmas
