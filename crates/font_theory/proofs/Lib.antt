@@ -56,6 +56,7 @@ pub mod SumLemmas
 pub mod TableLemmas
 pub mod TagLemmas
 pub mod TreeLemmas
+pub mod VariableContentLemmas
 pub mod VariableCopiedLemmas
 pub mod VariableLemmas
 pub mod VariableRecordLemmas
