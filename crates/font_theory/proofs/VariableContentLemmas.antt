@@ -195,7 +195,22 @@ module _ (F : Font) (A : ℕ → Bool) (ok : IsFont F) where
         (reads-varied g);
   }
 
-  -- what is filled out of it has the data of the kept glyphs
+  -- the data in the records are those of the kept glyphs
+  pub data_in-kept : (g : ℕ) → is_kept F A g ≡ true → data_in (record_in kept g) ≡ its_data g
+  data_in-kept g t =
+      ap data_in (record-kept F ok A g t) ∙ data_in-with_data count (F.outline g) (its_data g) (ok.records g)
+
+  pub data_in-dropped : (g : ℕ) → is_kept F A g ≡ false → data_in (record_in kept g) ≡ []
+  data_in-dropped g f = ap data_in (record-dropped F ok A g f) ∙ data_in-nil
+
+  pub data_in-varied : (g : ℕ) → data_in (record_in kept g) ≡ cond (is_kept F A g) (its_data g) []
+  data_in-varied g =
+      elim (cases_Bool (is_kept F A g)) [
+        | inl t ↦ data_in-kept g t ∙ sym (ap (λ b. cond b (its_data g) []) t)
+        | inr f ↦ data_in-dropped g f ∙ sym (ap (λ b. cond b (its_data g) []) f)
+      ]
+
+  -- and so are those of what is filled out
   data-low : (g : ℕ) → g < count → variation_data (filled_copied (content (varied F) A)) g ≡ data_in (record_in kept g)
   data-low g low =
       variation_data-filled (content (varied F) A) (HasGoodParts-emptied F.copied (good_parts F ok)) g
@@ -203,22 +218,15 @@ module _ (F : Font) (A : ℕ → Bool) (ok : IsFont F) where
 
   pub variation_data-kept : (g : ℕ) → is_kept F A g ≡ true
       → variation_data (filled_copied (content (varied F) A)) g ≡ its_data g
-  variation_data-kept g t =
-      data-low g (kept-low F ok A g t) ∙ ap data_in (record-kept F ok A g t)
-      ∙ data_in-with_data count (F.outline g) (its_data g) (ok.records g)
+  variation_data-kept g t = data-low g (kept-low F ok A g t) ∙ data_in-kept g t
 
-  -- and none of the others
   pub variation_data-dropped : (g : ℕ) → g < count → is_kept F A g ≡ false
       → variation_data (filled_copied (content (varied F) A)) g ≡ []
-  variation_data-dropped g low f = data-low g low ∙ ap data_in (record-dropped F ok A g f) ∙ data_in-nil
+  variation_data-dropped g low f = data-low g low ∙ data_in-dropped g f
 
   pub variation_data-varied : (g : ℕ) → g < count → variation_data (filled_copied (content (varied F) A)) g
       ≡ cond (is_kept F A g) (its_data g) []
-  variation_data-varied g low =
-      elim (cases_Bool (is_kept F A g)) [
-        | inl t ↦ variation_data-kept g t ∙ sym (ap (λ b. cond b (its_data g) []) t)
-        | inr f ↦ variation_data-dropped g low f ∙ sym (ap (λ b. cond b (its_data g) []) f)
-      ]
+  variation_data-varied g low = data-low g low ∙ data_in-varied g
 
 -- what is said of the records of two is said of those of both
 union-record : (first second : Records) (P : List ℕ → Type 0) (g : ℕ) → P (record_in first g) → P (record_in second g)
