@@ -58,6 +58,7 @@ pub mod TagLemmas
 pub mod TreeLemmas
 pub mod VariableContentLemmas
 pub mod VariableCopiedLemmas
+pub mod VariableCutLemmas
 pub mod VariableLeanLemmas
 pub mod VariableLemmas
 pub mod VariableRecordLemmas

@@ -44,7 +44,7 @@ never-elsewhere = by_gvar (λ slot. is_never_copied slot ≡ true → nat_eq slo
     (λ slot f _. f)
 
 module _ (c d : Tables) (same : AreSameElsewhere c d) where
-  table-elsewhere : (slot : ℕ) → nat_eq slot GVAR ≡ false → table_in_slot d slot ≡ table_in_slot c slot
+  pub table-elsewhere : (slot : ℕ) → nat_eq slot GVAR ≡ false → table_in_slot d slot ≡ table_in_slot c slot
   table-elsewhere slot f = ap (λ (o : Option (List ℕ)). unwrap_or o []) (same slot f)
 
   pub glyph_count-elsewhere : glyph_count d ≡ glyph_count c
@@ -124,6 +124,21 @@ pub made-made : (of_glyph before : ℕ → List ℕ) (n m : ℕ) (gvar : Option 
     → option_map (gvar_with of_glyph n) (option_map (gvar_with before m) gvar) ≡ option_map (gvar_with of_glyph n) gvar
 made-made of_glyph before n m None good = refl
 made-made of_glyph before n m (Some table) good = ap Some (with-with of_glyph before n m table (good table refl))
+
+-- without data it is its parts
+pub emptied-parts : (n : ℕ) (table other : List ℕ) → IsForGvar (front_of table) (shared_tuples_of table)
+    → IsForGvar (front_of other) (shared_tuples_of other) → gvar_with (λ _. []) n table ≡ gvar_with (λ _. []) n other
+    → (front_of table ≡ front_of other) × (shared_tuples_of table ≡ shared_tuples_of other)
+emptied-parts n table other fit also same =
+    let made = made_read (front_of table) (shared_tuples_of table) (λ _. []) n fit in
+    let made' = made_read (front_of other) (shared_tuples_of other) (λ _. []) n also in (
+      sym made.front_is ∙ ap front_of same ∙ made'.front_is,
+      sym made.shared_is ∙ ap shared_tuples_of same ∙ made'.shared_is,
+    )
+
+pub parts-emptied : (n : ℕ) (table other : List ℕ) → front_of table ≡ front_of other
+    → shared_tuples_of table ≡ shared_tuples_of other → gvar_with (λ _. []) n table ≡ gvar_with (λ _. []) n other
+parts-emptied n table other fronts shared = λ i. gvar_bytes (fronts i) (shared i) (λ _. []) n
 
 -- it is accepted where that is
 made-accepted : (of_glyph : ℕ → List ℕ) (n : ℕ) (fvar gvar : Option (List ℕ))
