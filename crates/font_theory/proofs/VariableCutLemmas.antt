@@ -1,9 +1,10 @@
 -- What a variable cut has of its font: the outlines, the metrics and the variation data of the kept glyphs.
-use Rattle.std.proofs.Common.{◌≡◌, ◌≢◌, ℕ, ◌<◌, Bool, false, cond, nat_eq, ◌||◌, List, [], ◌++◌, refl, sym, ◌∙◌, ap}
-use Rattle.std.proofs.Common.{subst, Option}
+use Rattle.std.proofs.Common.{◌≡◌, ◌≢◌, ℕ, ◌<◌, Bool, true, false, cond, nat_eq, ◌||◌, List, [], ◌++◌, refl, sym, ◌∙◌, ap}
+use Rattle.std.proofs.Common.{subst, Option, None, is_some}
 use Rattle.std.specs.Option.{option_map}
 use Rattle.std.proofs.Math.Path.{fun_ext}
 use Rattle.std.proofs.lemmas.Bool.{ne_eqb}
+use Rattle.sfnt_bytes.specs.Lines.{when}
 use Rattle.sfnt_bytes.specs.declared.tag.TheConstants.{GVAR, HHEA, HMTX, POST, VHEA, VMTX}
 use Rattle.font_tables.specs.Fields.{number_of_h_metrics}
 use Rattle.font_tables.specs.Refusals.{is_bad_hhea, is_bad_hmtx}
@@ -12,19 +13,22 @@ use Rattle.font_glyph.specs.RecordMap.{Records, record_in}
 use Rattle.font_theory.specs.Bytes.{padded}
 use Rattle.font_theory.specs.Content.{Content, Font, IsFont, content, glyph_count, is_kept}
 use Rattle.font_theory.specs.LeanCut.{metric_bytes, metrics_at, pairs_in, spelled_copied, spelled_out, thin, thin_post}
-use Rattle.font_theory.specs.LeanCut.{with_metrics}
+use Rattle.font_theory.specs.LeanCut.{cleared, leaned, with_metrics}
 use Rattle.font_theory.specs.VariableCut.{data_in, emptied_copied, filled_copied, filled_out, gvar_with, variation_data}
 use Rattle.font_theory.specs.VariableCut.{varied, with_data, without_data}
+use Rattle.font_theory.proofs.ContentLemmas.{content-path}
 use Rattle.font_theory.proofs.LeanContentLemmas.{thin_count}
-use Rattle.font_theory.proofs.LeanCopiedLemmas.{spelled_copied-thin_other, spelled_copied-thin_post, thin_copied-other}
+use Rattle.font_theory.proofs.LeanCopiedLemmas.{by_slot, spelled_copied-thin_other, spelled_copied-thin_post}
+use Rattle.font_theory.proofs.LeanCopiedLemmas.{thin_copied-other}
 use Rattle.font_theory.proofs.LeanCutLemmas.{is_kept-thin, metrics_at-lean, outline-lean, records-same, same-records}
 use Rattle.font_theory.proofs.LeanRecordLemmas.{zeros}
+use Rattle.font_theory.proofs.LeanedLemmas.{leaned-is}
 use Rattle.font_theory.proofs.VariableContentLemmas.{data_in-varied, good_parts, is_kept-varied, outline-filled}
 use Rattle.font_theory.proofs.VariableContentLemmas.{outline-varied}
 use Rattle.font_theory.proofs.VariableCopiedLemmas.{AreSameElsewhere, emptied_copied-gvar, emptied_copied-other}
 use Rattle.font_theory.proofs.VariableCopiedLemmas.{filled_copied-gvar, filled_copied-other, glyph_count-elsewhere}
 use Rattle.font_theory.proofs.VariableCopiedLemmas.{glyph_count-emptied, made-made, table-elsewhere}
-use Rattle.font_theory.proofs.VariableCopiedLemmas.{variation_data-filled}
+use Rattle.font_theory.proofs.VariableCopiedLemmas.{by_gvar, variation_data-filled}
 use Rattle.font_theory.proofs.VariableLeanLemmas.{IsVaried-spelled, count-spelled, gvar-spelled}
 use Rattle.font_theory.proofs.VariableLemmas.{IsFont-varied}
 use Rattle.font_theory.proofs.VariableRecordLemmas.{padded-with_data, same-with_data, with_data-same}
@@ -132,6 +136,77 @@ module _ (F : Font) (A : ℕ → Bool) (ok : IsFont F) where
       variation_data-filled spelled_content v.parts g (subst (λ (k : ℕ). g < k) (sym count-variable) low)
       (λ none. v.without none g)
       ∙ ap (λ (of_glyph : ℕ → List ℕ). of_glyph g) data-spelled
+
+-- what a variable cut is written of is what a lean one is written of, but for `gvar`
+module _ (F : Font) (A : ℕ → Bool) (ok : IsFont F) where
+  abbrev leaned_font : Content
+  leaned_font = leaned (content F A)
+
+  abbrev leaned_varied : Content
+  leaned_varied = leaned (content (varied F) A)
+
+  abbrev keeps : Content → ℕ → Bool
+  keeps K g = is_some (K.outline g)
+
+  keeps-same : keeps (content (varied F) A) ≡ keeps (content F A)
+  keeps-same = fun_ext (λ g. ap (λ b. is_some (when b (padded ((varied F).outline g)))) (is_kept-varied F ok A g)
+      ∙ go (is_kept F A g) (padded ((varied F).outline g)) (padded (F.outline g)))
+    where
+      go : (b : Bool) (x y : List ℕ) → is_some (when b x) ≡ is_some (when b y)
+      go true x y = refl
+      go false x y = refl
+
+  same_slots : AreSameElsewhere F.copied (emptied_copied F.copied)
+  same_slots = emptied_copied-other F.copied
+
+  leaned_hmtx : leaned_varied.copied HMTX ≡ leaned_font.copied HMTX
+  unfolding leaned
+  leaned_hmtx =
+      let pairs = pairs_in-elsewhere F.copied (emptied_copied F.copied) same_slots HHEA HMTX refl refl in
+      let n = glyph_count-emptied F.copied in
+      let table = same_slots HMTX refl in
+      λ i. option_map (cleared (keeps-same i) (pairs i) (n i)) (table i)
+
+  leaned_post : leaned_varied.copied POST ≡ leaned_font.copied POST
+  unfolding leaned
+  leaned_post = ap (option_map thin_post) (same_slots POST refl)
+
+  leaned_vmtx : leaned_varied.copied VMTX ≡ leaned_font.copied VMTX
+  unfolding leaned
+  leaned_vmtx =
+      let pairs = pairs_in-elsewhere F.copied (emptied_copied F.copied) same_slots VHEA VMTX refl refl in
+      let n = glyph_count-emptied F.copied in
+      let table = same_slots VMTX refl in
+      λ i. option_map (cleared (keeps-same i) (pairs i) (n i)) (table i)
+
+  leaned_other : (slot : ℕ) → nat_eq slot HMTX ≡ false → nat_eq slot POST ≡ false → nat_eq slot VMTX ≡ false
+      → nat_eq slot GVAR ≡ false → leaned_varied.copied slot ≡ leaned_font.copied slot
+  unfolding leaned
+  leaned_other slot x y z f = rw (x, y, z) (same_slots slot f)
+
+  leaned-varied : (slot : ℕ) → nat_eq slot GVAR ≡ false → leaned_varied.copied slot ≡ leaned_font.copied slot
+  leaned-varied = by_slot (λ slot. nat_eq slot GVAR ≡ false → leaned_varied.copied slot ≡ leaned_font.copied slot)
+      (λ _. leaned_hmtx) (λ _. leaned_post) (λ _. leaned_vmtx) leaned_other
+
+  pub copied-leaned : (slot : ℕ) → nat_eq slot GVAR ≡ false → (written_content F A ok).copied slot
+      ≡ (leaned (content F A)).copied slot
+  copied-leaned slot f =
+      filled_copied-other (spelled_content F A ok) slot f
+      ∙ ap (λ (C : Content). C.copied slot) (leaned-is (varied F) (okV F A ok) A) ∙ leaned-varied slot f
+
+  -- a font without `gvar` has its lean cut as its variable one
+  gvar-none : F.copied GVAR ≡ None → (written_content F A ok).copied GVAR ≡ spelled_copied (content (thin F) A) GVAR
+  gvar-none none =
+      gvar-variable F A ok
+      ∙ ap (option_map (gvar_with (kept_data F A ok) (glyph_count F.copied))) none ∙ sym none
+      ∙ sym (gvar-spelled (content (thin F) A) ∙ thin_copied-other F.copied GVAR refl refl refl)
+
+  pub written-none : F.copied GVAR ≡ None → written_content F A ok ≡ spelled_out (content (thin F) A)
+  written-none none =
+      content-path (fun_ext (by_gvar
+      (λ slot. (written_content F A ok).copied slot ≡ spelled_copied (content (thin F) A) slot) (gvar-none none)
+      (λ slot f. copied-leaned slot f ∙ sym (ap (λ (C : Content). C.copied slot) (leaned-is F ok A)))))
+      refl refl (outline-variable F A ok ∙ sym (outline-lean F ok A))
 
 -- records of two fonts are equal where the outlines, padded, the variation data and the metrics are
 module _ (F G : Font) (okF : IsFont F) (okG : IsFont G) (count : glyph_count F.copied ≡ glyph_count G.copied) (g : ℕ)
