@@ -57,83 +57,85 @@ module _ (c d : Tables) (same : AreSameElsewhere c d) where
       let vmtx = table-elsewhere c d same VMTX refl in
       λ i. metric_bytes (across i) (hmtx i) g ++ metric_bytes (down i) (vmtx i) g
 
+-- the content of a variable cut, what is spelled of it, and what is written
+abbrev pub variable_content : Font → (ℕ → Bool) → Content
+variable_content F A = content (thin (varied F)) A
+
+abbrev pub spelled_content : Font → (ℕ → Bool) → Content
+spelled_content F A = spelled_out (variable_content F A)
+
+abbrev pub written_content : Font → (ℕ → Bool) → Content
+written_content F A = filled_out (spelled_content F A)
+
+-- the variation data of the kept glyphs, and none of the others
+abbrev pub kept_data : Font → (ℕ → Bool) → ℕ → List ℕ
+kept_data F A g = cond (is_kept F A g) (variation_data F.copied g) []
+
 module _ (F : Font) (A : ℕ → Bool) (ok : IsFont F) where
   okV : IsFont (varied F)
   okV = IsFont-varied F ok
-
-  -- the content of a variable cut, the lean one that is spelled of it, and what is written
-  abbrev pub lean_content : Content
-  lean_content = content (thin (varied F)) A
-
-  abbrev pub spelled_content : Content
-  spelled_content = spelled_out lean_content
-
-  abbrev pub written_content : Content
-  written_content = filled_out spelled_content
 
   -- the same glyphs are kept
   pub is_kept-variable : (g : ℕ) → is_kept (thin (varied F)) A g ≡ is_kept F A g
   is_kept-variable g = is_kept-thin (varied F) okV A g ∙ is_kept-varied F ok A g
 
   -- with the same outlines
-  pub outline-variable : written_content.outline ≡ (content F A).outline
+  pub outline-variable : (written_content F A).outline ≡ (content F A).outline
   outline-variable =
       ap (λ (r : Records). λ (g : ℕ). option_map without_data (r g)) (outline-lean (varied F) okV A)
       ∙ outline-filled F ok A
 
   -- and the same metrics, which are 0 for all other glyphs
   pub metrics_at-variable : (g : ℕ) → g < glyph_count F.copied
-      → metrics_at written_content.copied g ≡ cond (is_kept F A g) (metrics_at F.copied g) zeros
+      → metrics_at (written_content F A).copied g ≡ cond (is_kept F A g) (metrics_at F.copied g) zeros
   metrics_at-variable g low =
-      metrics_at-elsewhere (spelled_copied lean_content) (filled_copied spelled_content)
-      (filled_copied-other spelled_content) g
+      metrics_at-elsewhere (spelled_copied (variable_content F A)) (filled_copied (spelled_content F A))
+      (filled_copied-other (spelled_content F A)) g
       ∙ metrics_at-lean (varied F) okV A g (subst (λ (k : ℕ). g < k) (sym (glyph_count-emptied F.copied)) low)
       ∙ (λ i. cond (is_kept-varied F ok A g i) (metrics_at-elsewhere F.copied (emptied_copied F.copied)
       (emptied_copied-other F.copied) g i) zeros)
 
   -- the other tables are those of the font, and `post` is without names
   pub copied-variable : (slot : ℕ) → slot ≢ GVAR → slot ≢ HMTX → slot ≢ POST → slot ≢ VMTX
-      → written_content.copied slot ≡ F.copied slot
+      → (written_content F A).copied slot ≡ F.copied slot
   copied-variable slot w x y z =
       let f = ne_eqb slot GVAR w in
-      filled_copied-other spelled_content slot f ∙ spelled_copied-thin_other (varied F) A slot x y z
+      filled_copied-other (spelled_content F A) slot f ∙ spelled_copied-thin_other (varied F) A slot x y z
       ∙ emptied_copied-other F.copied slot f
 
-  pub post-variable : written_content.copied POST ≡ option_map thin_post (F.copied POST)
+  pub post-variable : (written_content F A).copied POST ≡ option_map thin_post (F.copied POST)
   post-variable =
-      filled_copied-other spelled_content POST refl ∙ spelled_copied-thin_post (varied F) A
+      filled_copied-other (spelled_content F A) POST refl ∙ spelled_copied-thin_post (varied F) A
       ∙ ap (option_map thin_post) (emptied_copied-other F.copied POST refl)
 
-  -- the variation data of the kept glyphs, and none of the others
-  abbrev pub kept_data : ℕ → List ℕ
-  kept_data g = cond (is_kept F A g) (variation_data F.copied g) []
-
-  data-spelled : (λ g. data_in (record_in spelled_content.outline g)) ≡ kept_data
+  -- the data of the records are those of the kept glyphs
+  data-spelled : (λ g. data_in (record_in (spelled_content F A).outline g)) ≡ kept_data F A
   data-spelled = fun_ext (λ g. ap (λ (r : Records). data_in (record_in r g)) (outline-lean (varied F) okV A)
       ∙ data_in-varied F A ok g)
 
-  count-variable : glyph_count (spelled_copied lean_content) ≡ glyph_count F.copied
-  count-variable = count-spelled lean_content ∙ thin_count (varied F) A okV ∙ glyph_count-emptied F.copied
+  count-variable : glyph_count (spelled_copied (variable_content F A)) ≡ glyph_count F.copied
+  count-variable = count-spelled (variable_content F A) ∙ thin_count (varied F) A okV ∙ glyph_count-emptied F.copied
 
-  gvar-emptied : spelled_copied lean_content GVAR ≡ option_map (gvar_with (λ _. []) (glyph_count F.copied))
+  gvar-emptied : spelled_copied (variable_content F A) GVAR ≡ option_map (gvar_with (λ _. []) (glyph_count F.copied))
       (F.copied GVAR)
   gvar-emptied =
-      gvar-spelled lean_content ∙ thin_copied-other (emptied_copied F.copied) GVAR refl refl refl
+      gvar-spelled (variable_content F A) ∙ thin_copied-other (emptied_copied F.copied) GVAR refl refl refl
       ∙ emptied_copied-gvar F.copied
 
   -- `gvar` is made anew with them
-  pub gvar-variable : written_content.copied GVAR
-      ≡ option_map (gvar_with kept_data (glyph_count F.copied)) (F.copied GVAR)
+  pub gvar-variable : (written_content F A).copied GVAR
+      ≡ option_map (gvar_with (kept_data F A) (glyph_count F.copied)) (F.copied GVAR)
   gvar-variable =
-      filled_copied-gvar spelled_content
+      filled_copied-gvar (spelled_content F A)
       ∙ (λ i. option_map (gvar_with (data-spelled i) (count-variable i)) (gvar-emptied i))
-      ∙ made-made kept_data (λ _. []) (glyph_count F.copied) (glyph_count F.copied) (F.copied GVAR) (good_parts F ok)
+      ∙ made-made (kept_data F A) (λ _. []) (glyph_count F.copied) (glyph_count F.copied) (F.copied GVAR)
+      (good_parts F ok)
 
   pub variation_data-variable : (g : ℕ) → g < glyph_count F.copied
-      → variation_data written_content.copied g ≡ kept_data g
+      → variation_data (written_content F A).copied g ≡ kept_data F A g
   variation_data-variable g low =
       let v = IsVaried-spelled F A ok in
-      variation_data-filled spelled_content v.parts g (subst (λ (k : ℕ). g < k) (sym count-variable) low)
+      variation_data-filled (spelled_content F A) v.parts g (subst (λ (k : ℕ). g < k) (sym count-variable) low)
       (λ none. v.without none g)
       ∙ ap (λ (of_glyph : ℕ → List ℕ). of_glyph g) data-spelled
 
@@ -188,23 +190,23 @@ module _ (F : Font) (A : ℕ → Bool) (ok : IsFont F) where
   leaned-varied = by_slot (λ slot. nat_eq slot GVAR ≡ false → leaned_varied.copied slot ≡ leaned_font.copied slot)
       (λ _. leaned_hmtx) (λ _. leaned_post) (λ _. leaned_vmtx) leaned_other
 
-  pub copied-leaned : (slot : ℕ) → nat_eq slot GVAR ≡ false → (written_content F A ok).copied slot
+  pub copied-leaned : (slot : ℕ) → nat_eq slot GVAR ≡ false → (written_content F A).copied slot
       ≡ (leaned (content F A)).copied slot
   copied-leaned slot f =
-      filled_copied-other (spelled_content F A ok) slot f
+      filled_copied-other (spelled_content F A) slot f
       ∙ ap (λ (C : Content). C.copied slot) (leaned-is (varied F) (okV F A ok) A) ∙ leaned-varied slot f
 
   -- a font without `gvar` has its lean cut as its variable one
-  gvar-none : F.copied GVAR ≡ None → (written_content F A ok).copied GVAR ≡ spelled_copied (content (thin F) A) GVAR
+  gvar-none : F.copied GVAR ≡ None → (written_content F A).copied GVAR ≡ spelled_copied (content (thin F) A) GVAR
   gvar-none none =
       gvar-variable F A ok
-      ∙ ap (option_map (gvar_with (kept_data F A ok) (glyph_count F.copied))) none ∙ sym none
+      ∙ ap (option_map (gvar_with (kept_data F A) (glyph_count F.copied))) none ∙ sym none
       ∙ sym (gvar-spelled (content (thin F) A) ∙ thin_copied-other F.copied GVAR refl refl refl)
 
-  pub written-none : F.copied GVAR ≡ None → written_content F A ok ≡ spelled_out (content (thin F) A)
+  pub written-none : F.copied GVAR ≡ None → written_content F A ≡ spelled_out (content (thin F) A)
   written-none none =
       content-path (fun_ext (by_gvar
-      (λ slot. (written_content F A ok).copied slot ≡ spelled_copied (content (thin F) A) slot) (gvar-none none)
+      (λ slot. (written_content F A).copied slot ≡ spelled_copied (content (thin F) A) slot) (gvar-none none)
       (λ slot f. copied-leaned slot f ∙ sym (ap (λ (C : Content). C.copied slot) (leaned-is F ok A)))))
       refl refl (outline-variable F A ok ∙ sym (outline-lean F ok A))
 
