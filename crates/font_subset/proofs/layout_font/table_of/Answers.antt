@@ -8,7 +8,7 @@ use Rattle.font_subset.proofs.layout_font.table_of.Goals as goal
 
 pub table_in-requires-clause-inside : goal.table_in-requires-clause-inside
 table_in-requires-clause-inside c =
-    let same : c.directory.result ≡ c.args.font.now = c.directory.ensures.directory ∙ c.tables.ensures.tables in
+    let same : c.directory.result.now ≡ c.args.font.now = c.directory.ensures.directory ∙ c.tables.ensures.tables in
     ap (λ (file : List ℕ). is_outside file (slot_tag c.args.slot)) same
     ∙ layout_not_outside c.args.font.now c.args.slot c.requires.inside c.requires.from c.requires.to
 
