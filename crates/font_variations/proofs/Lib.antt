@@ -5,3 +5,4 @@ pub mod DataLemmas
 pub mod MadeLemmas
 pub mod LawLemmas
 pub mod ByteLemmas
+pub mod GivenLemmas

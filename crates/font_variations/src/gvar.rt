@@ -15,7 +15,7 @@ use std::fmt;
 use std::marker::Model;
 
 /// How many bytes the header has, and where the offsets begin.
-const HEADER: usize = 20;
+pub(crate) const HEADER: usize = 20;
 
 /// How many bytes of `fvar` are there, or more: up to `axisCount`, and that.
 const FVAR: usize = 10;

@@ -21,4 +21,6 @@ mod links;
 #[cfg(test)]
 mod refusals_of_memory;
 #[cfg(test)]
+mod variations;
+#[cfg(test)]
 mod wanted_sets;
