@@ -3,8 +3,7 @@ use Rattle.std.proofs.Common.{◌≡◌, ℕ, zero, suc, ◌+◌, ◌-◌, ◌*�
 use Rattle.std.proofs.Common.{length, None, ap, arith, refl, inl, inr}
 use Rattle.std.specs.List.{range_with_len}
 use Rattle.std.proofs.lemmas.Bool.{and_cases, both_ways, cases_order, le-ltb, lt-ltb, ltb-false, or_parts}
-use Rattle.font_tables.specs.OpenedTables.{falls}
-use Rattle.font_tables.specs.Outlines.{offset_at, offset_size}
+use Rattle.font_tables.specs.Outlines.{falls, offset_at, offset_size}
 use Rattle.font_tables.specs.Refusals.{is_bad_offset}
 use Rattle.font_tables.specs.declared.loca.LocaForm.{LocaForm}
 use Rattle.font_tables.specs.declared.loca.LocaForm.TheVariants.{Short, Long}

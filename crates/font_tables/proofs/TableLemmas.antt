@@ -6,7 +6,8 @@ use Rattle.std.proofs.lemmas.Bool.{eqb-false, ltb-false, or_parts}
 use Rattle.std.proofs.lemmas.List.FromFn.{get_or-range_with_len, length-range_with_len}
 use Rattle.sfnt_bytes.proofs.LineLemmas.{find-none_at, first_of_lines-none_at, option_map-none, when-none}
 use Rattle.font_tables.specs.Fields.{glyph_count_of, loca_form_of, metric_count_of}
-use Rattle.font_tables.specs.Inside.{HasMetric, HasOutline}
+use Rattle.font_tables.specs.Inside.{HasMetric}
+use Rattle.font_tables.specs.Outlines.{HasOutline}
 use Rattle.font_tables.specs.Refusals.{is_bad_loca_at, table_fault, table_lines}
 use Rattle.font_tables.specs.Tables.{glyf_of, hmtx_of, loca_of}
 use Rattle.font_tables.specs.declared.loca.LocaForm.{LocaForm}

@@ -1,8 +1,7 @@
--- What an opened font keeps of its file, this project's own, and what its look-ups need.
-use Rattle.std.specs.Prelude.{◌≡◌, ℕ, zero, suc, ◌+◌, nat_lt, Bool, false, ◌||◌, List, None}
+-- What an opened font keeps of its file, this project's own.
+use Rattle.std.specs.Prelude.{◌≡◌, ℕ, List, None}
 use Rattle.sfnt_bytes.specs.Refusals.{directory_fault}
 use Rattle.font_tables.specs.Fields.{glyph_count_of, loca_form_of, metric_count_of, units_per_em_of}
-use Rattle.font_tables.specs.Outlines.{offset_at}
 use Rattle.font_tables.specs.Refusals.{table_fault}
 use Rattle.font_tables.specs.Tables.{glyf_of, hmtx_of, loca_of}
 use Rattle.font_tables.specs.declared.loca.LocaForm.{LocaForm}
@@ -19,8 +18,3 @@ pub record IsOpened (file hmtx loca glyf : List ℕ) (glyph_count units_per_em m
   pub form_is : form ≡ loca_form_of file
   pub readable : directory_fault file ≡ None
   pub sound : table_fault file ≡ None
-
--- one of the offsets 1 to last is below the one before it
-unfoldable pub falls : LocaForm → List ℕ → ℕ → Bool
-falls form loca zero = false
-falls form loca (suc j) = falls form loca j || nat_lt (offset_at form loca (j + 1)) (offset_at form loca j)

@@ -12,5 +12,5 @@ mod text;
 
 pub use crate::hhea::{has_bad_hhea, read_number_of_h_metrics};
 pub use crate::hmtx::has_bad_hmtx;
-pub use crate::loca::LocaForm;
+pub use crate::loca::{LocaForm, has_fall, outline_within, read_offset};
 pub use crate::tables::{TableError, Tables};

@@ -1,9 +1,7 @@
 //! The offsets of glyphs. OpenType 1.9, `loca` and `glyf`.
 ghost use Rattle.std.specs.Prelude.{◌≡◌, ◌+◌, ◌*◌, ◌<◌, ◌≤◌, find, length};
 ghost use Rattle.std.specs.List.{range_with_len};
-ghost use Rattle.font_tables.specs.OpenedTables.{falls};
-ghost use Rattle.font_tables.specs.Inside.{HasOutline};
-ghost use Rattle.font_tables.specs.Outlines.{offset_at, offset_size, outline_in};
+ghost use Rattle.font_tables.specs.Outlines.{HasOutline, falls, offset_at, offset_size, outline_in};
 ghost use Rattle.font_tables.specs.Refusals.{is_bad_offset};
 
 use sfnt_bytes::{be16, be32};
@@ -18,8 +16,8 @@ pub enum LocaForm {
 }
 
 impl LocaForm {
-    // Returns how many bytes an offset has.
-    fn offset_size(self) -> usize
+    /// Returns how many bytes an offset has.
+    pub fn offset_size(self) -> usize
         ensures { result ≡ offset_size self }
     {
         match self {
@@ -29,9 +27,9 @@ impl LocaForm {
     }
 }
 
-// Returns the offset `j`, in bytes from the start of `glyf`.
+/// Returns the offset `j`, in bytes from the start of `glyf`. The offsets of `gvar` have the same forms.
 #[tactic(auto, unfolding(crate::specs::Outlines::offset_at))]
-fn read_offset(form: LocaForm, loca: &[u8], j: usize) -> usize
+pub fn read_offset(form: LocaForm, loca: &[u8], j: usize) -> usize
     requires { offset_size form * (j + 1) ≤ length loca.now }
     ensures { result ≡ offset_at form loca.now j }
 {
@@ -41,8 +39,8 @@ fn read_offset(form: LocaForm, loca: &[u8], j: usize) -> usize
     }
 }
 
-/// Returns the outline of a glyph.
-pub(crate) fn outline_within<'a>(form: LocaForm, loca: &[u8], glyf: &'a [u8], g: usize) -> &'a [u8]
+/// Returns the outline of a glyph: the bytes of `glyf` between its offset and the next one.
+pub fn outline_within<'a>(form: LocaForm, loca: &[u8], glyf: &'a [u8], g: usize) -> &'a [u8]
     requires { HasOutline form loca.now glyf.now g }
     ensures { result.now ≡ outline_in form loca.now glyf.now g }
 {
@@ -90,7 +88,9 @@ fn long_offset_falls(loca: &[u8], last: usize) -> bool
     found
 }
 
-fn has_fall(form: LocaForm, loca: &[u8], last: usize) -> bool
+/// Returns whether one of the offsets up to the last is below the one before it. It reads each offset, whatever it has
+/// found before.
+pub fn has_fall(form: LocaForm, loca: &[u8], last: usize) -> bool
     requires { offset_size form * (last + 1) ≤ length loca.now }
     ensures { result ≡ falls form loca.now last }
 {

@@ -7,7 +7,7 @@ use Rattle.sfnt_bytes.specs.Sums.{without_field}
 use Rattle.font_tables.specs.Fields.{index_to_loc_format, magic_number}
 use Rattle.font_tables.specs.Refusals.{is_bad_head}
 use Rattle.font_theory.specs.Bytes.{bytes16, bytes32, cut_head, with_adjustment}
-use Rattle.font_theory.proofs.NumberLemmas.{u16_at-drop, u32_at-bytes32, u32_at-drop}
+use Rattle.font_variations.proofs.NumberLemmas.{u16_at-drop, u32_at-bytes, u32_at-drop}
 
 module _ (adjustment : ℕ) (head : List ℕ) (long : 12 ≤ length head) where
   front : length (take 8 head) ≡ 8
@@ -34,7 +34,7 @@ module _ (adjustment : ℕ) (head : List ℕ) (long : 12 ≤ length head) where
   pub u32_at-with_adjustment : u32_at (with_adjustment adjustment head) 8 ≡ adjustment
   u32_at-with_adjustment =
       sym (u32_at-drop 8 0 (with_adjustment adjustment head)) ∙ ap (λ (b : List ℕ). u32_at b 0) drop-with_adjustment
-      ∙ u32_at-bytes32 adjustment (drop 12 head)
+      ∙ u32_at-bytes adjustment (drop 12 head)
 
   -- another one takes its place
   pub with_adjustment-twice : (other : ℕ) → with_adjustment other (with_adjustment adjustment head)

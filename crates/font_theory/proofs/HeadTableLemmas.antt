@@ -24,7 +24,7 @@ use Rattle.font_theory.specs.File.{tables_from}
 use Rattle.font_theory.proofs.AdjustmentLemmas.{length-with_adjustment, u32_at-with_adjustment, with_adjustment-zero}
 use Rattle.font_theory.proofs.AdjustmentLemmas.{without_field-head, without_field-with_adjustment}
 use Rattle.font_theory.proofs.MeaningLemmas.{file-is, last_head, last_tables}
-use Rattle.font_theory.proofs.NumberLemmas.{u32_at-drop}
+use Rattle.font_variations.proofs.NumberLemmas.{u32_at-drop}
 use Rattle.font_theory.proofs.PaddingLemmas.{length-padded-is}
 use Rattle.font_theory.proofs.RecordLemmas.{bodies_at, length-front_of, records_of-file_of}
 use Rattle.font_theory.proofs.SlotLemmas.{are_tables, found_nowhere, is_of, table_with, tables_from-split}

@@ -41,7 +41,6 @@ pub mod LeanSizeLemmas
 pub mod LeanTableLemmas
 pub mod LeastLemmas
 pub mod MeaningLemmas
-pub mod NumberLemmas
 pub mod OurFormatLemmas
 pub mod OutlineLemmas
 pub mod PaddedLemmas

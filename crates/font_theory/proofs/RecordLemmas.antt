@@ -11,7 +11,7 @@ use Rattle.sfnt_bytes.specs.declared.records.Entry.{Entry}
 use Rattle.sfnt_bytes.specs.declared.tag.Tag.{Tag}
 use Rattle.font_theory.specs.Bytes.{bytes16, bytes32, padded}
 use Rattle.font_theory.specs.File.{Table, bodies_of, entries_at, entry_bytes, file_of, header_bytes}
-use Rattle.font_theory.proofs.NumberLemmas.{half_is, u32_at-bytes32, u32_at-drop}
+use Rattle.font_variations.proofs.NumberLemmas.{half_is, u32_at-bytes, u32_at-drop}
 
 -- each member has it
 abbrev pub Each : {X : Type 0} → (X → Type 0) → List X → Type 0
@@ -92,7 +92,7 @@ entry_read entry z file k four is =
     let read : (j place : ℕ) → place ≡ at + 4 + j → u32_at file place ≡ u32_at rest j =
     λ j place e. ap (u32_at file) e ∙ sym (u32_at-drop (at + 4) j file) ∙ ap (λ (b : List ℕ). u32_at b j) behind in
     let first = read 0 (at + 4) (omega arith)
-    ∙ u32_at-bytes32 entry.checksum ((bytes32 entry.offset ++ bytes32 entry.length) ++ z) in
+    ∙ u32_at-bytes entry.checksum ((bytes32 entry.offset ++ bytes32 entry.length) ++ z) in
     let second = read 4 (at + 8) (omega arith) ∙ second32 entry.checksum entry.offset entry.length z in
     let third = read 8 (at + 12) (omega arith) ∙ third32 entry.checksum entry.offset entry.length z in
     λ i. record { tag = tag i; checksum = first i; offset = second i; length = third i }
@@ -180,7 +180,7 @@ module _ (tables : List Table) (ok : AreTables tables) where
   header_of = ap (λ (b : List ℕ). b ++ behind_header) (header_is (length tables) ok.some ok.few)
 
   pub version-file_of : u32_at (file_of tables) 0 ≡ 0x00010000
-  version-file_of = ap (λ (b : List ℕ). u32_at b 0) header_of ∙ u32_at-bytes32 0x00010000 _
+  version-file_of = ap (λ (b : List ℕ). u32_at b 0) header_of ∙ u32_at-bytes 0x00010000 _
 
   pub table_count-file_of : table_count (file_of tables) ≡ length tables
   unfolding u16_at

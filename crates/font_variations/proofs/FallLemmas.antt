@@ -2,8 +2,7 @@
 use Rattle.std.proofs.Common.{◌≡◌, ℕ, zero, suc, ◌+◌, Bool, ltb, ◌||◌, List, refl, sym, ap, ◌∙◌, arith}
 use Rattle.std.specs.List.{list_any, range_with_len}
 use Rattle.std.proofs.Math.Bool.{or-false, or_assoc}
-use Rattle.font_tables.specs.OpenedTables.{falls}
-use Rattle.font_tables.specs.Outlines.{offset_at}
+use Rattle.font_tables.specs.Outlines.{falls, offset_at}
 use Rattle.font_tables.specs.declared.loca.LocaForm.{LocaForm}
 
 -- the last number of a range

@@ -5,6 +5,7 @@ use Rattle.std.specs.List.{range_with_len}
 use Rattle.std.proofs.lemmas.Bool.{and_cases, eqb-true, ltb-false, not-false, or_parts}
 use Rattle.std.proofs.lemmas.List.FromFn.{get_or-range_with_len, length-range_with_len}
 use Rattle.sfnt_bytes.proofs.LineLemmas.{find-none_at}
+use Rattle.font_tables.specs.Outlines.{HasOutline}
 use Rattle.font_tables.specs.Refusals.{is_bad_offset}
 use Rattle.font_tables.specs.declared.loca.LocaForm.{LocaForm}
 use Rattle.font_tables.proofs.OffsetLemmas.{IsGoodOffset, is_good_offset, none_is_bad}
@@ -12,7 +13,7 @@ use Rattle.font_variations.specs.Gvar.{data_array_offset, data_offset, end_of_of
 use Rattle.font_variations.specs.Gvar.{from_offsets, has_bad_tuples, has_falling_offset, IsAccepted}
 use Rattle.font_variations.specs.Gvar.{is_bad_variations, offset_form, shared_tuple_count}
 use Rattle.font_variations.proofs.FallLemmas.{falls_is_any}
-use Rattle.font_variations.specs.Inside.{HasData, HasSharedTuples, has_bad_header, IsOpenedGvar}
+use Rattle.font_variations.specs.Inside.{HasSharedTuples, has_bad_header, IsOpenedGvar}
 
 -- the refusals, one by one
 pub record IsGood (gvar : List ℕ) (fvar : Option (List ℕ)) (glyphs : ℕ) : Type 0 where
@@ -80,10 +81,11 @@ good_offset gvar glyphs j sound low =
 
 -- what a look-up of data needs
 pub has_data : (gvar offsets array shared : List ℕ) (form : LocaForm) (glyphs g : ℕ)
-    → IsOpenedGvar gvar offsets array shared form glyphs → g < glyphs → HasData form offsets array g
+    → IsOpenedGvar gvar offsets array shared form glyphs → g < glyphs → HasOutline form offsets array g
 has_data gvar offsets array shared form glyphs g kept low =
     rw (kept.offsets_is, kept.array_is, kept.form_is)
-    (let next = good_offset gvar glyphs (g + 1) kept.sound (omega arith) in
+    (let here = good_offset gvar glyphs g kept.sound (omega arith) in
+    let next = good_offset gvar glyphs (g + 1) kept.sound (omega arith) in
     let back : g + 1 - 1 ≡ g = omega arith in
     let rises = next.rises (omega arith) in
-    record { whole = next.whole; ordered = rw back at rises; inside = next.inside })
+    record { start = here.whole; end = next.whole; ordered = rw back at rises; inside = next.inside })

@@ -6,8 +6,7 @@ use Rattle.std.proofs.lemmas.Bool.{cases_lt, eq-eqb, eqb-true, le-ltb, ltb-false
 use Rattle.std.proofs.lemmas.Bool.{or_from, or_parts}
 use Rattle.std.proofs.lemmas.List.{length-take, take-append-drop}
 use Rattle.sfnt_bytes.specs.Number.{u16_at, u32_at}
-use Rattle.font_tables.specs.OpenedTables.{falls}
-use Rattle.font_tables.specs.Outlines.{offset_at, offset_size}
+use Rattle.font_tables.specs.Outlines.{falls, offset_at, offset_size}
 use Rattle.font_tables.specs.declared.loca.LocaForm.{LocaForm}
 use Rattle.font_tables.specs.declared.loca.LocaForm.TheVariants.{Long}
 use Rattle.font_variations.specs.Gvar.{axis_count, data_array_offset, data_of, data_offset, end_of_offsets}

@@ -1,6 +1,5 @@
 -- Words of private contracts and of proofs: no public clause names them.
-use Rattle.std.specs.Prelude.{◌≡◌, ◌<◌, ◌≤◌, ℕ, ◌+◌, ◌*◌, Bool, ◌||◌, List, length, Option}
-use Rattle.font_tables.specs.Outlines.{offset_at, offset_size}
+use Rattle.std.specs.Prelude.{◌≡◌, ◌<◌, ◌≤◌, ℕ, ◌+◌, Bool, ◌||◌, List, length, Option}
 use Rattle.font_tables.specs.declared.loca.LocaForm.{LocaForm}
 use Rattle.font_variations.specs.Gvar.{from_data, from_offsets, has_other_axes, has_other_glyphs, has_other_version}
 use Rattle.font_variations.specs.Gvar.{has_unknown_flags, IsAccepted, lacks_axes, lacks_header, offset_form}
@@ -16,12 +15,6 @@ has_bad_header gvar fvar glyphs =
 abbrev pub HasSharedTuples : List ℕ → Type 0
 HasSharedTuples gvar =
     0 < shared_tuple_count gvar → shared_tuples_offset gvar + shared_tuples_length gvar ≤ length gvar
-
--- there are the offsets of glyph g and of the next one, and the bytes between them
-pub record HasData (form : LocaForm) (offsets array : List ℕ) (g : ℕ) : Type 0 where
-  pub whole : offset_size form * (g + 1 + 1) ≤ length offsets
-  pub ordered : offset_at form offsets g ≤ offset_at form offsets (g + 1)
-  pub inside : offset_at form offsets (g + 1) ≤ length array
 
 -- what an opened table keeps
 pub record IsOpenedGvar (gvar offsets array shared : List ℕ) (form : LocaForm) (glyphs : ℕ) : Type 0 where

@@ -1,14 +1,11 @@
 //! What is refused of a `gvar`, and what it has. OpenType 1.9, gvar: Glyph Variations Table.
 ghost use Rattle.std.specs.Prelude.{◌≡◌, drop, ◌+◌, ◌*◌, ◌<◌, ◌≤◌, ◌↔◌, nat_lt, ◌||◌, IfOk, IsOk, Some, false, length};
 ghost use Rattle.std.specs.Option.{option_copied};
-ghost use Rattle.font_tables.specs.OpenedTables.{falls};
-ghost use Rattle.font_tables.specs.Outlines.{offset_at, offset_size, outline_in};
 ghost use Rattle.font_variations.specs.Gvar.{IsAccepted, data_array_offset, data_of, end_of_offsets, front_of, has_bad_tuples, has_falling_offset, is_bad_variations, leads_past_end, offset_form, shared_tuples_length, shared_tuples_of, shared_tuples_offset};
-ghost use Rattle.font_variations.specs.Inside.{HasData, HasSharedTuples, has_bad_header};
+ghost use Rattle.font_variations.specs.Inside.{HasSharedTuples, has_bad_header};
 ghost use Rattle.font_variations.specs.Text.{bad_variations_text};
-ghost use Rattle.font_tables.specs.declared.loca.LocaForm.TheVariants.{Short, Long};
 
-use font_tables::LocaForm;
+use font_tables::{LocaForm, has_fall, outline_within, read_offset};
 use sfnt_bytes::{be16, be32};
 use std::error::Error;
 use std::fmt;
@@ -61,68 +58,6 @@ fn read_form(gvar: &[u8]) -> LocaForm
         LocaForm::Short
     } else {
         LocaForm::Long
-    }
-}
-
-// Returns how many bytes an offset has.
-fn size_of(form: LocaForm) -> usize
-    ensures size { result ≡ offset_size form }
-    ensures small { result ≤ 4 }
-{
-    match form {
-        LocaForm::Short => 2,
-        LocaForm::Long => 4,
-    }
-}
-
-// Returns offset `j`, in bytes from the start of the data.
-#[tactic(auto, unfolding(font_tables::specs::Outlines::offset_at))]
-fn read_offset(form: LocaForm, offsets: &[u8], j: usize) -> usize
-    requires { offset_size form * (j + 1) ≤ length offsets.now }
-    ensures { result ≡ offset_at form offsets.now j }
-{
-    match form {
-        LocaForm::Short => 2 * be16(offsets, 2 * j) as usize,
-        LocaForm::Long => be32(offsets, 4 * j) as usize,
-    }
-}
-
-// Returns whether a short offset up to the last one is below the one before it. The loop does not end early and knows
-// its form, so that the compiler can read many offsets at once.
-#[tactic(auto, using(font_tables::proofs::OffsetLemmas::offset_is_whole, font_tables::proofs::OffsetLemmas::falls_none, font_tables::proofs::OffsetLemmas::falls_more))]
-fn short_offset_falls(offsets: &[u8], last: usize) -> bool
-    requires { offset_size LocaForm.Short * (last + 1) ≤ length offsets.now }
-    ensures { result ≡ falls LocaForm.Short offsets.now last }
-{
-    let mut found = false;
-    for j in 0..last {
-        found |= read_offset(LocaForm::Short, offsets, j + 1)
-            < read_offset(LocaForm::Short, offsets, j);
-    }
-    found
-}
-
-// Returns the same of long offsets.
-#[tactic(auto, using(font_tables::proofs::OffsetLemmas::offset_is_whole, font_tables::proofs::OffsetLemmas::falls_none, font_tables::proofs::OffsetLemmas::falls_more))]
-fn long_offset_falls(offsets: &[u8], last: usize) -> bool
-    requires { offset_size LocaForm.Long * (last + 1) ≤ length offsets.now }
-    ensures { result ≡ falls LocaForm.Long offsets.now last }
-{
-    let mut found = false;
-    for j in 0..last {
-        found |= read_offset(LocaForm::Long, offsets, j + 1)
-            < read_offset(LocaForm::Long, offsets, j);
-    }
-    found
-}
-
-fn has_fall(form: LocaForm, offsets: &[u8], last: usize) -> bool
-    requires { offset_size form * (last + 1) ≤ length offsets.now }
-    ensures { result ≡ falls form offsets.now last }
-{
-    match form {
-        LocaForm::Short => short_offset_falls(offsets, last),
-        LocaForm::Long => long_offset_falls(offsets, last),
     }
 }
 
@@ -206,16 +141,6 @@ fn shared_tuples_within<'a>(gvar: &'a [u8]) -> &'a [u8]
     &gvar[at..at + bytes]
 }
 
-// Returns the data of a glyph.
-fn data_within<'a>(form: LocaForm, offsets: &[u8], array: &'a [u8], g: usize) -> &'a [u8]
-    requires { HasData form offsets.now array.now g }
-    ensures { result.now ≡ outline_in form offsets.now array.now g }
-{
-    let start = read_offset(form, offsets, g);
-    let end = read_offset(form, offsets, g + 1);
-    &array[start..end]
-}
-
 // Returns whether an offset falls, or the last one leads past the end of the table.
 #[tactic(auto, using(crate::proofs::FallLemmas::falls_is_any))]
 fn has_bad_offsets(gvar: &[u8], form: LocaForm, glyphs: u16) -> bool
@@ -243,7 +168,7 @@ fn is_bad_table(gvar: &[u8], fvar: &[u8], glyphs: u16) -> bool
         return true;
     }
     let form = read_form(gvar);
-    let end = HEADER + size_of(form) * (glyphs as usize + 1);
+    let end = HEADER + form.offset_size() * (glyphs as usize + 1);
     gvar.len() < end || has_bad_tuples(gvar, end) || has_bad_offsets(gvar, form, glyphs)
 }
 
@@ -337,6 +262,6 @@ impl<'a> Variations<'a> {
         ensures data { result.now ≡ data_of self.now.0 g }
         ensures sound { IsAccepted self.now.0 self.now.1 }
     {
-        data_within(self.form, self.offsets, self.array, g as usize)
+        outline_within(self.form, self.offsets, self.array, g as usize)
     }
 }

@@ -1,5 +1,5 @@
 use Rattle.std.proofs.Common.{◌≡◌}
-use Rattle.font_tables.specs.OpenedTables.{falls}
+use Rattle.font_tables.specs.Outlines.{falls}
 use Rattle.font_tables.specs.declared.loca.LocaForm.TheVariants.{Long}
 use Rattle.font_tables.proofs.loca.long_offset_falls.Given as goal
 

@@ -1,5 +1,5 @@
 use Rattle.std.proofs.Common.{◌≡◌}
-use Rattle.font_tables.specs.OpenedTables.{falls}
+use Rattle.font_tables.specs.Outlines.{falls}
 use Rattle.font_tables.specs.declared.loca.LocaForm.TheVariants.{Short}
 use Rattle.font_tables.proofs.loca.short_offset_falls.Given as goal
 

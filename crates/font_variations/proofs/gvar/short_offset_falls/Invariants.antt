@@ -1,7 +1,0 @@
-use Rattle.std.proofs.Common.{◌≡◌}
-use Rattle.font_tables.specs.OpenedTables.{falls}
-use Rattle.font_tables.specs.declared.loca.LocaForm.TheVariants.{Short}
-use Rattle.font_variations.proofs.gvar.short_offset_falls.Given as goal
-
-abbrev pub invariant-loop-j : goal.invariant-loop-j
-invariant-loop-j l = l.found ≡ falls Short l.offsets l.j
