@@ -1,8 +1,8 @@
-"""Fonts that are made of a font by small changes, all their sums right."""
+"""Fonts that are made of a font by small changes, all their sums right, but where tags or places are changed."""
 import struct
 from typing import Mapping, Optional
 from font_cutting import assembled, cmap_table, cut, groups_of, ranges, whole_map
-from font_reading import offset, table, tables_of, u16
+from font_reading import offset, records_of, table, tables_of, u16
 
 
 def turned(data: bytes, place: int) -> bytes:
@@ -57,6 +57,24 @@ def with_classes(file: bytes, weight: int, width: int) -> bytes:
     """The font with other classes of weight and width."""
     os2 = table(file, b"OS/2")
     return with_tables(file, {b"OS/2": os2[:4] + struct.pack(">HH", weight, width) + os2[8:]})
+
+
+def renamed(file: bytes, *tags: str) -> bytes:
+    """The font with other tags for its last records. Its sums and their order are not right."""
+    made = bytearray(file)
+    places = [12 + 16 * slot for slot in range(len(records_of(file)))][-len(tags):]
+    for place, tag in zip(places, tags):
+        made[place:place + 4] = tag.encode()
+    return bytes(made)
+
+
+def far_off(file: bytes, *tags: str) -> bytes:
+    """The font with a place past its end in the records of these tags. Its sums are not right."""
+    made = bytearray(file)
+    for slot, record in enumerate(records_of(file)):
+        if record.tag.decode() in tags:
+            made[12 + 16 * slot + 8:16 + 16 * slot + 8] = (len(file) - 3).to_bytes(4, "big")
+    return bytes(made)
 
 
 def cut_for(file: bytes, words: str) -> bytes:

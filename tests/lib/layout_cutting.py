@@ -7,7 +7,7 @@ from typing import Iterable
 
 from font_cutting import ALL, Ranges, assembled, kept_glyphs, outlines, wanted_map, whole_map
 from font_reading import tables_of
-from layout_reading import LAYOUT, cleaned, roots
+from layout_reading import LAYOUT, cleaned, gsub_of, roots
 from lean_cutting import lean_tables
 
 
@@ -19,7 +19,7 @@ def cleaned_tables(file: bytes) -> dict[bytes, bytes]:
 def layout_kept(file: bytes, glyphs: Iterable[int]) -> set[int]:
     """The glyphs that a layout cut keeps for these. No links are followed from components, which are never shaped."""
     records: list[bytes] = outlines(file)
-    kept: set[int] = kept_glyphs(records, roots(file, glyphs, len(records)))
+    kept: set[int] = kept_glyphs(records, roots(gsub_of(file), glyphs, len(records)))
     return kept
 
 

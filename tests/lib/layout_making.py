@@ -124,6 +124,11 @@ def letters(layout: Mapping[bytes, bytes]) -> bytes:
     return made
 
 
+def with_last(*tables: bytes) -> bytes:
+    """The font of ten glyphs with these tables after its own, whatever their tags."""
+    return letters({f"~{at:03}".encode(): data for at, data in enumerate(tables)})
+
+
 def kept_in(file: bytes) -> tuple[set[int], set[int]]:
     """The glyphs that have an outline in a cut of the font of ten glyphs, and those that have a bearing."""
     loca, hmtx = table(file, b"loca"), table(file, b"hmtx")

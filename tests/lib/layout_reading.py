@@ -204,9 +204,12 @@ def layout_refusal(file: bytes) -> Optional[tuple[int, str]]:
     return refusal
 
 
-def linked(links: Links, glyphs: Iterable[int]) -> set[int]:
-    """What links lead to from .notdef and these glyphs, in any number of steps. Some of these numbers may be no glyphs
-    of the font."""
+@lru_cache(32)  # of a few cuts of one font, and of their joins
+def linked(gsub: bytes, glyphs: frozenset[int]) -> frozenset[int]:
+    """What links of a GSUB lead to from .notdef and these glyphs, in any number of steps. Some of these numbers may be no
+    glyphs of the font."""
+    links = links_of(gsub)
+    assert links is not None, "the font is refused"
     reached: set[int] = set()
     left = [0, *glyphs]
     while left:
@@ -214,12 +217,10 @@ def linked(links: Links, glyphs: Iterable[int]) -> set[int]:
         if glyph not in reached:
             reached.add(glyph)
             left += links.get(glyph, ())
-    return reached
+    return frozenset(reached)
 
 
-def roots(file: bytes, glyphs: Iterable[int], count: int) -> set[int]:
-    """The glyphs of a font of this many that shaping may give for .notdef and these glyphs, before components are
-    followed."""
-    links = links_of(gsub_of(file))
-    assert links is not None, "the font is refused"
-    return {glyph for glyph in linked(links, glyphs) if glyph < count}
+def roots(gsub: bytes, glyphs: Iterable[int], count: int) -> set[int]:
+    """The glyphs of a font of this many, with this GSUB, that shaping may give for .notdef and these glyphs, before
+    components are followed."""
+    return {glyph for glyph in linked(gsub, frozenset(glyphs)) if glyph < count}

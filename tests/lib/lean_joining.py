@@ -5,7 +5,7 @@ It follows docs/FORMAT.md and the definition of lean cuts: of `hmtx` and `vmtx` 
 single glyph, and what belongs to a glyph is compared and united with its outline. Another kind of cut that is joined
 in the same way brings a `Kind` of its own.
 """
-from typing import Callable, Iterable, NamedTuple, Optional, Sequence
+from typing import Callable, Iterable, Mapping, NamedTuple, Optional, Sequence
 
 from font_cutting import assembled, cmap_table, cut_size, glyf_and_loca, groups_of, outlines, whole_map
 from font_joining import copied, different, file_refusal, kept
@@ -15,15 +15,28 @@ from lean_cutting import cleared, entry, is_lean_cut, pairs_in, without_names
 METRICS = ((b"hhea", b"hmtx"), (b"vhea", b"vmtx"))
 
 
+def no_data(_: bytes) -> dict[int, bytes]:
+    """For a kind of cut whose glyphs have outlines and metrics alone."""
+    return {}
+
+
+def no_tables(_: bytes, __: bytes) -> dict[bytes, bytes]:
+    """For the same."""
+    return {}
+
+
 class Kind(NamedTuple):
-    """What is particular to a kind of cut: the tags of its tables in order, and three functions of a file. These are what
-    two cuts of one font have in common of their copied tables, the outlines of the kept glyphs by number, and the
-    refusal of a file, which is called the first or the second, that is no such cut."""
+    """What is particular to a kind of cut: the tags of its tables in order, and functions of a file. These are what two
+    cuts of one font have in common of their copied tables, the outlines of the kept glyphs by number, and the refusal of
+    a file, which is called the first or the second, that is no such cut. If glyphs have more than outlines and metrics,
+    there is also their data by number, and the tables with it of the join of two files."""
 
     tags: Sequence[bytes]
     shared: Callable[[bytes], dict[bytes, bytes]]
     kept: Callable[[bytes], dict[int, bytes]]
     refusal: Callable[[bytes, str], Optional[Refusal]]
+    data: Callable[[bytes], Mapping[int, bytes]] = no_data
+    data_tables: Callable[[bytes, bytes], dict[bytes, bytes]] = no_tables
 
 
 def shared(file: bytes) -> dict[bytes, bytes]:
@@ -46,9 +59,10 @@ LEAN = Kind(KEPT, shared, kept, lean_refusal)
 
 
 def kept_with_metrics(file: bytes, kind: Kind) -> dict[int, list[bytes]]:
-    """By number the outlines of the kept glyphs, each with what the tables of metrics have of that glyph alone."""
-    tables, glyphs = tables_of(file), len(outlines(file))
-    found = {glyph: [outline] for glyph, outline in kind.kept(file).items()}
+    """By number the outlines of the kept glyphs, each with its data, and with what the tables of metrics have of that
+    glyph alone."""
+    tables, data, glyphs = tables_of(file), kind.data(file), len(outlines(file))
+    found = {glyph: [outline, data.get(glyph, b"")] for glyph, outline in kind.kept(file).items()}
     for header, name in METRICS:
         pairs = pairs_in(tables, header, name, glyphs)
         for glyph in found if pairs else ():
@@ -95,7 +109,7 @@ def joined_tables(first: bytes, second: bytes, kind: Kind) -> dict[bytes, bytes]
     records = {**kind.kept(first), **kind.kept(second)}
     tables[b"glyf"], tables[b"loca"] = glyf_and_loca([records.get(glyph, b"") for glyph in range(glyphs)],
                                                      records.keys())
-    return tables
+    return {**tables, **kind.data_tables(first, second)}
 
 
 def join_refusal(first: bytes, second: bytes, kind: Kind = LEAN) -> Optional[Refusal]:

@@ -1,15 +1,21 @@
 """What is shaped in tests of layout cuts: words of texts, strings that are made by chance of the letters of a script,
 and the characters that a shaper takes for them besides their own."""
+import itertools
 import random
 import re
 import unicodedata
 from functools import lru_cache
 from typing import Iterable, Iterator, NamedTuple
 
+from font_cutting import whole_map
 from font_reading import tables_of, u16
 from shaping_texts import TEXTS
 
 APPLE = (b"mort", b"morx", b"kerx")
+
+BATCHES = 6  # of each font; one at least of each script
+MOST_BATCHES = 40  # of a font of very many scripts
+STRINGS = 40  # of a batch
 
 # The first words of names of scripts that have two or more words.
 FIRST_OF_TWO = frozenset("""OLD NEW TAI OL LINEAR MEETEI SYLOTI KAYAH IMPERIAL INSCRIPTIONAL PSALTER CAUCASIAN BASSA
@@ -89,6 +95,20 @@ def made_strings(chance: random.Random, script: Script) -> Iterator[str]:
         if chance.random() < 0.3:
             syllables.insert(chance.randrange(len(syllables)), " ")
         yield "".join(syllables)
+
+
+def batches(chance: random.Random, file: bytes) -> Iterator[tuple[str, list[str]]]:
+    """Some strings of a script that the font maps at a time, with the script's name: words of texts, if there are any,
+    and strings that are made by chance."""
+    codes = frozenset(whole_map(file))
+    scripts, words = scripts_of(codes), words_of(codes)
+    names = sorted(scripts.keys() | words.keys() - {""})
+    chance.shuffle(names)
+    for name in itertools.islice(itertools.cycle(names), min(max(BATCHES, len(names)), MOST_BATCHES) if names else 0):
+        strings = chance.sample(words.get(name, []), min(STRINGS // 2, len(words.get(name, []))))
+        if name in scripts:
+            strings += itertools.islice(made_strings(chance, scripts[name]), STRINGS - len(strings))
+        yield name, strings
 
 
 @lru_cache(None)
