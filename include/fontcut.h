@@ -125,6 +125,7 @@ typedef enum fontcut_status {
     FONTCUT_DIFFERENT_GLYPH = 23,    /* they have two outlines of a glyph; detail: the least such glyph */
     FONTCUT_NOTHING_TO_JOIN = 24,    /* there is no file */
     FONTCUT_BAD_LAYOUT = 27,         /* GSUB cannot be read, which is asked for layout cuts alone */
+    FONTCUT_BAD_VARIATIONS = 28,     /* gvar cannot be read; reserved, as no call keeps variations yet */
     /* End of what tools/write_refusals writes. */
     FONTCUT_SMALL_ROOM = 100,        /* the room is too small; size: what is needed */
     FONTCUT_UNKNOWN_KIND = 101,      /* the number is no fontcut_kind, which is asked before all else; detail: it */

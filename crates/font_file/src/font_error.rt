@@ -23,10 +23,12 @@ pub enum FontError {
     BadGlyph(u16),
     /// Its `GSUB` cannot be read. Only layout cuts refuse it.
     BadLayout,
+    /// Its `gvar` cannot be read. Only cuts that keep variations refuse it, which no call makes yet.
+    BadVariations,
 }
 
 impl FontError {
-    /// Returns the number of the refusal: that of the error that it holds, or 17 or 27.
+    /// Returns the number of the refusal: that of the error that it holds, or 17, 27 or 28.
     pub fn number(&self) -> u8
         ensures { result ≡ error_number self.now }
     {
@@ -36,6 +38,7 @@ impl FontError {
             FontError::Mapping(error) => error.number(),
             FontError::BadGlyph(_) => numbers::BAD_GLYPH,
             FontError::BadLayout => numbers::BAD_LAYOUT,
+            FontError::BadVariations => numbers::BAD_VARIATIONS,
         }
     }
 }
@@ -50,6 +53,7 @@ impl fmt::Display for FontError {
             FontError::Mapping(error) => write!(f, "{error}"),
             FontError::BadGlyph(glyph) => write!(f, "bad glyph {glyph}"),
             FontError::BadLayout => f.write_str("bad layout"),
+            FontError::BadVariations => f.write_str("bad variations"),
         }
     }
 }

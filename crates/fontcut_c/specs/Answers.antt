@@ -7,7 +7,8 @@ use Rattle.sfnt_bytes.specs.declared.directory.DirError.TheVariants.{DuplicateTa
 use Rattle.font_tables.specs.declared.tables.TableError.TheVariants.{BadLoca, MissingTable}
 use Rattle.font_file.specs.Text.{error_number}
 use Rattle.font_file.specs.declared.font_error.FontError.{FontError}
-use Rattle.font_file.specs.declared.font_error.FontError.TheVariants.{BadGlyph, BadLayout, Directory, Mapping, Tables}
+use Rattle.font_file.specs.declared.font_error.FontError.TheVariants.{BadGlyph, BadLayout, BadVariations, Directory}
+use Rattle.font_file.specs.declared.font_error.FontError.TheVariants.{Mapping, Tables}
 use Rattle.font_subset.specs.declared.forms.CutForm.{CutForm}
 use Rattle.font_subset.specs.declared.forms.CutForm.TheVariants.{Current, Not, Old}
 use Rattle.font_subset.specs.declared.layout_font.OpenError.{OpenError}
@@ -58,6 +59,7 @@ font_argument (Tables _) = 0
 font_argument (Mapping _) = 0
 font_argument (BadGlyph glyph) = glyph
 font_argument BadLayout = 0
+font_argument BadVariations = 0
 
 -- a font is refused
 abbrev pub font_answer : FontError → Answer

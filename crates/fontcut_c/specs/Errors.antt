@@ -13,7 +13,8 @@ use Rattle.codes.specs.declared.wanted.WantedError.TheVariants.{BadRange, NoMemo
 use Rattle.font_map.specs.declared.mapping.MapError.TheVariants.{BadCmap, NoMapping}
 use Rattle.font_file.specs.Text.{error_text}
 use Rattle.font_file.specs.declared.font_error.FontError.{FontError}
-use Rattle.font_file.specs.declared.font_error.FontError.TheVariants.{BadGlyph, BadLayout, Directory, Mapping, Tables}
+use Rattle.font_file.specs.declared.font_error.FontError.TheVariants.{BadGlyph, BadLayout, BadVariations, Directory}
+use Rattle.font_file.specs.declared.font_error.FontError.TheVariants.{Mapping, Tables}
 use Rattle.font_join.specs.JoinText.{join_all_error_text}
 use Rattle.font_join.specs.declared.join_error.JoinAllError.TheVariants.{At, NothingToJoin}
 use Rattle.font_join.specs.declared.join_error.JoinError.{JoinError}
@@ -49,6 +50,7 @@ font_error_lines is detail =
     ∷ when (is 14) (Mapping BadCmap)
     ∷ when (is 17 && nat_lt detail 0x10000) (BadGlyph detail)
     ∷ when (is 27) BadLayout
+    ∷ when (is 28) BadVariations
     ∷ []
 
 -- the one that has it

@@ -55,6 +55,7 @@ fn font_error(number: u8, detail: u32) -> Option<FontError>
         numbers::BAD_CMAP => Some(FontError::Mapping(MapError::BadCmap)),
         numbers::BAD_GLYPH => u16::try_from(detail).ok().map(FontError::BadGlyph),
         numbers::BAD_LAYOUT => Some(FontError::BadLayout),
+        numbers::BAD_VARIATIONS => Some(FontError::BadVariations),
         _ => None,
     }
 }

@@ -107,6 +107,7 @@ fn argument_of(error: FontError) -> u32
         FontError::Mapping(_) => 0,
         FontError::BadGlyph(glyph) => u32::from(glyph),
         FontError::BadLayout => 0,
+        FontError::BadVariations => 0,
     }
 }
 

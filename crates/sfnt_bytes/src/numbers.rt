@@ -80,3 +80,6 @@ pub const BAD_WORD: u8 = 26;
 
 /// `GSUB` cannot be read, which is asked for layout cuts alone.
 pub const BAD_LAYOUT: u8 = 27;
+
+/// `gvar` cannot be read, which is asked for cuts that keep variations alone. No call makes them yet.
+pub const BAD_VARIATIONS: u8 = 28;
