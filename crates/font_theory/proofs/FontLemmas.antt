@@ -1,9 +1,8 @@
 -- What an accepted file means is a font.
-use Rattle.std.proofs.Common.{◌≡◌, ◌≢◌, ℕ, ◌<◌, ◌≤◌, true, false, nat_le, nat_lt, inl, inr, List, [], length, get_or}
+use Rattle.std.proofs.Common.{◌≡◌, ◌≢◌, ℕ, ◌<◌, ◌≤◌, true, false, nat_lt, inl, inr, List, [], length, get_or}
 use Rattle.std.proofs.Common.{refl, sym, ◌∙◌, ap, subst, arith, unwrap_or, Option, Some, None}
 use Rattle.std.specs.Option.{option_map, option_map_or, option_or}
-use Rattle.std.proofs.lemmas.Bool.{cases_Bool, cases_lt, le-leb, le-ltb, leb-true, lt-ltb, ltb-false, or_cases, or_left}
-use Rattle.std.proofs.lemmas.Bool.{or_right}
+use Rattle.std.proofs.lemmas.Bool.{cases_Bool, cases_lt, le-ltb, lt-ltb, ltb-false}
 use Rattle.sfnt_bytes.specs.Directory.{table_of}
 use Rattle.sfnt_bytes.specs.Refusals.{directory_fault}
 use Rattle.sfnt_bytes.specs.declared.directory.DirError.TheVariants.{FileTooLarge}

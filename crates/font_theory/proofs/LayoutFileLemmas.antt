@@ -1,10 +1,7 @@
 -- Layout cuts of files, in the words of the files.
-use Rattle.std.proofs.Common.{◌≡◌, ◌↔◌, ℕ, ◌<◌, ◌≤◌, Bool, true, cond, nat_le, nat_lt, List, [], None, option_map}
-use Rattle.std.proofs.Common.{length, refl, sym, ◌∙◌, ap, subst, arith}
+use Rattle.std.proofs.Common.{◌≡◌, ◌↔◌, ℕ, ◌<◌, ◌≤◌, Bool, true, cond, List, [], Option, None, option_map, length, refl}
+use Rattle.std.proofs.Common.{sym, ◌∙◌, ap}
 use Rattle.std.specs.Bool.{Decides}
-use Rattle.std.proofs.lemmas.Bool.{and_parts, leb-true, ltb-true, ne_eqb}
-use Rattle.std.proofs.lemmas.Bool.Decides.{Decides-like, same_from_decides}
-use Rattle.std.proofs.Math.Path.{fun_ext}
 use Rattle.codes.specs.CharacterMap.{restricted}
 use Rattle.sfnt_bytes.specs.Directory.{is_layout_slot, slot_tag, table_of}
 use Rattle.sfnt_bytes.specs.Findings.{findings_of}
@@ -15,28 +12,26 @@ use Rattle.font_glyph.specs.Linked.{Linked}
 use Rattle.font_glyph.specs.Marks.{has}
 use Rattle.font_glyph.specs.Reach.{Reach}
 use Rattle.font_glyph.specs.declared.linked.TheConstants as numbers
-use Rattle.font_file.specs.Font.{map_of}
+use Rattle.font_file.specs.Font.{font_fault, map_of}
 use Rattle.font_theory.specs.Content.{Content, IsClosedContent, IsFont, NUMBERS, content, everything, font_of}
-use Rattle.font_theory.specs.Content.{glyph_count, is_kept, is_root, is_seed, layout_font_of, links_in, read_back}
+use Rattle.font_theory.specs.Content.{is_kept, is_root, is_seed, layout_font_of, links_in, read_back}
 use Rattle.font_theory.specs.Cut.{Arises, IsCurrent, cut, content_of_all}
-use Rattle.font_theory.specs.File.{bytes_in_slot, current_writing}
+use Rattle.font_theory.specs.File.{current_writing}
 use Rattle.font_theory.specs.LayoutCut.{gsub_of, layout_fault, layout_format}
 use Rattle.font_theory.specs.LeanCut.{lean_file, spelled_out, thin}
 use Rattle.font_theory.specs.Links.{fixed, links}
 use Rattle.font_theory.proofs.ArisesLemmas.{IsClosed-arises}
 use Rattle.font_theory.proofs.ContentLemmas.{IsClosed-content}
-use Rattle.font_theory.proofs.FileWantedLemmas.{Reach-file, Reach-font, roots-font}
 use Rattle.font_theory.proofs.FindingLemmas.{findings_of-file}
-use Rattle.font_theory.proofs.FontLemmas.{IsFont-accepted, glyph_count-file, size-accepted}
-use Rattle.font_theory.proofs.LayoutCutLemmas.{IsFont-layout, IsLean-arises_layout, IsOfLayout-content, font_fault-layout}
-use Rattle.font_theory.proofs.LayoutCutLemmas.{glyph_count-same, layout_format-is, reads-layout_spelled}
+use Rattle.font_theory.proofs.FontLemmas.{size-accepted}
+use Rattle.font_theory.proofs.LayoutCutLemmas.{IsFont-layout, IsLean-arises_layout, IsOfLayout-content, copied-below}
+use Rattle.font_theory.proofs.LayoutCutLemmas.{font_fault-layout, layout_format-is, reads-layout_spelled}
 use Rattle.font_theory.proofs.LeanContentLemmas.{IsClosed-spelled, IsLean-content}
 use Rattle.font_theory.proofs.LeanCopiedLemmas.{AreAlike-spelled, AreAlike-thin}
 use Rattle.font_theory.proofs.LeanLemmas.{IsFont-thin, IsLean}
-use Rattle.font_theory.proofs.LinkLemmas.{layout-copied, layout-made}
-use Rattle.font_theory.proofs.MeaningLemmas.{last_head, table_of-file}
-use Rattle.font_theory.proofs.RootLemmas.{is_root-below, is_root-decides, roots_marked}
-use Rattle.font_theory.proofs.WantedLemmas.{Reach-along, is_kept-decides, seeds-roots}
+use Rattle.font_theory.proofs.LinkLemmas.{layout-copied, layout-made, may-copied}
+use Rattle.font_theory.proofs.MeaningLemmas.{copied_of-file}
+use Rattle.font_theory.proofs.ReaderLemmas.{is_kept-seen, is_root-seen, kept-plain, kept_by_marks}
 use Rattle.font_theory.proofs.WritableLemmas.{IsWritable-closed}
 
 module _ (font : List ℕ) (wanted : ℕ → Bool) (accepted : layout_fault font ≡ None) where
@@ -70,66 +65,40 @@ module _ (font : List ℕ) (wanted : ℕ → Bool) (accepted : layout_fault font
       (IsWritable-closed (spelled_out layout_content) (IsClosed-spelled layout_content closed lean))
 
   -- its tables of layout are those of the font without what varies
-  written_layout : (made : List ℕ) → made ≡ cut layout_format font wanted → (slot : ℕ) → is_layout_slot slot ≡ true
-      → table_of made (slot_tag slot) ≡ option_map (fixed slot) (table_of font (slot_tag slot))
-  unfolding bytes_in_slot
-  written_layout made is slot h =
-      let S : Content = spelled_out layout_content in
-      let both = and_parts (nat_le 16 slot) (nat_lt slot 21) h in
-      let from = leb-true 16 slot both.0 in
-      let low = ltb-true slot 21 both.1 in
-      let e1 = ne_eqb slot 1 (λ e. omega arith) in let e5 = ne_eqb slot 5 (λ e. omega arith) in let e6 =
-      ne_eqb slot 6 (λ e. omega arith) in let e9 = ne_eqb slot 9 (λ e. omega arith) in
-      let copied : bytes_in_slot current_writing S (last_head current_writing S) slot ≡ S.copied slot =
-      rw (e1, e5, e6, e9) refl in
+  pub tables-layout : (made : List ℕ) → made ≡ cut layout_format font wanted → length made ≤ MAX_FILE → (slot : ℕ)
+      → is_layout_slot slot ≡ true → table_of made (slot_tag slot) ≡ option_map (fixed slot)
+      (table_of font (slot_tag slot))
+  tables-layout made is small slot h =
       let none = layout-copied slot h in
-      ap (λ (b : List ℕ). table_of b (slot_tag slot)) (is ∙ cut-layout_file) ∙ table_of-file current_writing S slot (omega arith)
-      ∙ copied
+      ap (λ (b : List ℕ). table_of b (slot_tag slot)) (is ∙ cut-layout_file)
+      ∙ copied_of-file current_writing (spelled_out layout_content) slot (may-copied slot none)
       ∙ (AreAlike-spelled layout_content).made slot (layout-made slot h)
       ∙ (AreAlike-thin (layout_font_of font).copied).made slot (layout-made slot h)
       ∙ (λ i. cond (none i) None (cond (h i) (option_map (fixed slot) (table_of font (slot_tag slot)))
       (table_of font (slot_tag slot))))
-
-  -- its tables of layout are those of the font
-  pub tables-layout : (made : List ℕ) → made ≡ cut layout_format font wanted → length made ≤ MAX_FILE → (slot : ℕ)
-      → is_layout_slot slot ≡ true → table_of made (slot_tag slot) ≡ option_map (fixed slot)
-      (table_of font (slot_tag slot))
-  tables-layout made is small slot h = written_layout made is slot h
 
   -- its links are those of the file
   pub links_in-layout : links_in (layout_font_of font).copied ≡ links (gsub_of font)
   unfolding links_in gsub_of
   links_in-layout = refl
 
-  abbrev roots : ℕ → Bool
-  roots = is_root (layout_font_of font).copied (restricted wanted (map_of font))
+  abbrev tables : ℕ → Option (List ℕ)
+  tables = (layout_font_of font).copied
 
-  same_count : glyph_count (layout_font_of font).copied ≡ glyph_count_of font
-  same_count = glyph_count-same font ∙ glyph_count-file font
+  fault : font_fault font ≡ None
+  fault = font_fault-layout font accepted
 
   -- what may be shaped is what the links of the file lead to
   pub is_root-layout : (m : ℕ → ℕ) (g : ℕ)
-      → Decides (is_root (layout_font_of font).copied m g) ((g < glyph_count_of font)
-      × Linked (links (gsub_of font)) (is_seed m) NUMBERS g)
-  is_root-layout m g =
-      let P : ℕ → (ℕ → List ℕ) → Type 0 = λ n l. (g < n) × Linked l (is_seed m) NUMBERS g in
-      let same : P (glyph_count (layout_font_of font).copied) (links_in (layout_font_of font).copied)
-      ≡ P (glyph_count_of font) (links (gsub_of font)) = λ i. P (same_count i) (links_in-layout i) in
-      Decides-like _ (λ r. subst (λ (X : Type 0). X) same r) (λ r. subst (λ (X : Type 0). X) (sym same) r)
-      (is_root-decides (layout_font_of font).copied m g)
-
-  low_roots : (h : ℕ) → roots h ≡ true → h < glyph_count_of font
-  low_roots h s = subst (λ (n : ℕ). h < n) same_count (is_root-below (layout_font_of font).copied
-      (restricted wanted (map_of font)) h s)
+      → Decides (is_root tables m g) ((g < glyph_count_of font) × Linked (links (gsub_of font)) (is_seed m) NUMBERS g)
+  is_root-layout =
+      is_root-seen font tables (copied-below font) wanted fault ok (links (gsub_of font)) links_in-layout
 
   -- what is kept is what outlines lead to from there
-  pub is_kept-layout : (g : ℕ)
-      → Decides (is_kept (layout_font_of font) wanted g)
-      (Reach (outline_of font) (is_root (layout_font_of font).copied (restricted wanted (map_of font))) g)
-  is_kept-layout g =
-      let fault = font_fault-layout font accepted in
-      Decides-like _ (λ r. (Reach-file font fault roots low_roots g r).0)
-      (λ r. (Reach-font font fault roots low_roots g r).0) (is_kept-decides (layout_font_of font) wanted ok g)
+  pub is_kept-layout : (g : ℕ) → Decides (is_kept (layout_font_of font) wanted g)
+      (Reach (outline_of font) (is_root tables (restricted wanted (map_of font))) g)
+  is_kept-layout =
+      is_kept-seen font tables (copied-below font) wanted fault ok (links (gsub_of font)) links_in-layout
 
   -- marks of the roots that `follow` finds, and of what `close` finds from there, are those of what is kept
   pub kept_by_phases : (seeds found marks : List Bool)
@@ -138,24 +107,12 @@ module _ (font : List ℕ) (wanted : ℕ → Bool) (accepted : layout_fault font
       × Linked (links (gsub_of font)) (has seeds) numbers.NUMBERS g)
       → ((g : ℕ) → has marks g ≡ true ↔ Reach (outline_of font) (has found) g)
       → (g : ℕ) → has marks g ≡ is_kept (layout_font_of font) wanted g
-  kept_by_phases seeds found marks are first second g =
-      let P : ℕ → (ℕ → List ℕ) → ℕ → Type 0 = λ n l h. has found h ≡ true ↔ (h < n)
-      × Linked l (has seeds) numbers.NUMBERS h in
-      let same : has found ≡ roots =
-      fun_ext (roots_marked (layout_font_of font).copied (restricted wanted (map_of font)) seeds found are
-      (λ h. subst (λ (X : Type 0). X) (λ i. P (sym same_count i) (sym links_in-layout i) h) (first h))) in
-      let Q : (ℕ → Bool) → Type 0 = λ s. Reach (outline_of font) s g in
-      same_from_decides {P = Reach (outline_of font) roots g} (has marks g) (is_kept (layout_font_of font) wanted g)
-      ((λ h. subst Q same ((second g).0 h)), (λ r. (second g).1 (subst Q (sym same) r))) (is_kept-layout g)
+  kept_by_phases =
+      kept_by_marks font tables (copied-below font) wanted fault ok (links (gsub_of font)) links_in-layout
 
   -- and no less than a lean cut keeps
   pub kept-lean : (g : ℕ) → is_kept (font_of font) wanted g ≡ true → is_kept (layout_font_of font) wanted g ≡ true
-  kept-lean g h =
-      let fault = font_fault-layout font accepted in
-      let r = (is_kept-decides (font_of font) wanted (IsFont-accepted font fault) g).0 h in
-      (is_kept-decides (layout_font_of font) wanted ok g).1
-      (Reach-along _ _ _ _ (λ x e. seeds-roots (layout_font_of font) wanted ok x (subst (λ (p : ℕ → Bool). p x ≡ true)
-      (roots-font font wanted fault) e)) (λ _ _ _ p. p) g r)
+  kept-lean = kept-plain font tables (copied-below font) wanted fault ok (links (gsub_of font)) links_in-layout
 
 -- what accepted files come to is closed once it is spelled
 pub IsClosed-layout : (K : Content) → Arises layout_format K → IsClosedContent (spelled_out K)
@@ -173,6 +130,7 @@ read-layout X form =
     let K : Content = content (thin (layout_font_of X)) everything in
     let lean = IsLean-content (layout_font_of X) everything font in (
       (reads-layout_spelled K X (IsClosed-content (thin (layout_font_of X)) everything
-          (IsFont-thin (layout_font_of X) font)) lean (IsOfLayout-content X everything) form.written (size-accepted X (font_fault-layout X accepted))).1,
+          (IsFont-thin (layout_font_of X) font)) lean (IsOfLayout-content X everything) form.written
+          (size-accepted X (font_fault-layout X accepted))).1,
       lean,
     )

@@ -1,7 +1,7 @@
 -- Joins of layout cuts, and what layout cuts have of their font.
 use Rattle.std.proofs.Common.{◌≡◌, ◌≢◌, ℕ, ◌<◌, Bool, true, nat_eq, List, [], None, sym, ◌∙◌, ap, subst, unwrap_or}
 use Rattle.std.specs.Option.{option_map}
-use Rattle.std.proofs.lemmas.Bool.{eqb-true, ne_eqb}
+use Rattle.std.proofs.lemmas.Bool.{ne_eqb}
 use Rattle.codes.specs.CharacterMap.{restricted, united}
 use Rattle.font_tables.specs.Fields.{glyph_count_of}
 use Rattle.font_tables.specs.Metrics.{metric_in, metric_of}
@@ -11,7 +11,7 @@ use Rattle.font_glyph.specs.Reach.{Reach}
 use Rattle.font_glyph.specs.RecordMap.{union_of}
 use Rattle.font_file.specs.Font.{map_of}
 use Rattle.font_theory.specs.Bytes.{padded}
-use Rattle.font_theory.specs.Content.{Content, IsFont, NUMBERS, content, glyph_count, is_kept, layout_font_of, links_in}
+use Rattle.font_theory.specs.Content.{Content, IsFont, NUMBERS, content, glyph_count, is_kept, layout_font_of}
 use Rattle.font_theory.specs.Content.{metric_count, read_back, table_in_slot}
 use Rattle.font_theory.specs.Cut.{Arises, IsCurrent, content_of_all}
 use Rattle.font_theory.specs.Agreement.{Agree, both}
@@ -19,17 +19,16 @@ use Rattle.font_theory.specs.LayoutCut.{gsub_of, layout_fault, layout_format}
 use Rattle.font_theory.specs.LeanCut.{AgreeLean, either_bytes, spelled_copied, spelled_out, thin}
 use Rattle.font_theory.specs.Links.{links}
 use Rattle.font_theory.proofs.ArisesLemmas.{IsClosed-arises}
-use Rattle.font_theory.proofs.ContentLemmas.{IsKept-linked, read_back-reached}
-use Rattle.font_theory.proofs.FileWantedLemmas.{Reach-font, outline-file}
-use Rattle.font_theory.proofs.FontLemmas.{glyph_count-file}
-use Rattle.font_theory.proofs.LayoutCutLemmas.{IsFont-layout, IsLean-arises_layout, font_fault-layout, glyph_count-same}
-use Rattle.font_theory.proofs.LayoutCutLemmas.{hmtx_same, layout_format-is, metric_count-same}
+use Rattle.font_theory.proofs.FileWantedLemmas.{outline-file}
+use Rattle.font_theory.proofs.LayoutCutLemmas.{IsFont-layout, IsLean-arises_layout, copied-below, font_fault-layout}
+use Rattle.font_theory.proofs.LayoutCutLemmas.{layout_format-is}
 use Rattle.font_theory.proofs.LayoutFileLemmas.{links_in-layout, read-layout}
 use Rattle.font_theory.proofs.LeanAgreeLemmas.{AgreeLean-from, AgreeLean-to, agree-lean}
 use Rattle.font_theory.proofs.LeanCopiedLemmas.{spelled_copied-other}
 use Rattle.font_theory.proofs.LeanCutLemmas.{outline-lean}
 use Rattle.font_theory.proofs.LeanJoinLemmas.{hmtx-both, outline-both, vmtx-both}
-use Rattle.font_theory.proofs.LeanMetricLemmas.{glyph_count-lean, metric-lean, metric_of-tables}
+use Rattle.font_theory.proofs.LeanMetricLemmas.{glyph_count-lean, metric-lean}
+use Rattle.font_theory.proofs.ReaderLemmas.{count-seen, metric_of-seen, outline-linked}
 use Rattle.sfnt_bytes.specs.declared.tag.TheConstants.{HMTX, VMTX}
 
 -- `hmtx` and `vmtx` of a join of layout cuts: those of both, byte by byte
@@ -103,11 +102,14 @@ module _ (font other : List ℕ) (wanted : ℕ → Bool) (accepted : layout_faul
   ok : IsFont (layout_font_of font)
   ok = IsFont-layout font accepted
 
+  count : (file : List ℕ) → glyph_count (layout_font_of file).copied ≡ glyph_count_of file
+  count file = count-seen file (layout_font_of file).copied (copied-below file)
+
   pub glyph_count_of-layout : glyph_count_of other ≡ glyph_count_of font
   glyph_count_of-layout =
-      sym (glyph_count-same other ∙ glyph_count-file other) ∙ ap (λ F. glyph_count F.copied) same
+      sym (count other) ∙ ap (λ F. glyph_count F.copied) same
       ∙ glyph_count-lean (layout_font_of font) ok wanted
-      ∙ glyph_count-same font ∙ glyph_count-file font
+      ∙ count font
 
   pub map_of-layout : map_of other ≡ restricted wanted (map_of font)
   map_of-layout = ap (λ F. F.map) same
@@ -123,25 +125,15 @@ module _ (font other : List ℕ) (wanted : ℕ → Bool) (accepted : layout_faul
       → Linked (links (gsub_of font)) (nat_eq (map_of font c)) NUMBERS r → Reach (outline_of font) (nat_eq r) g
       → outline_of other g ≡ padded (outline_of font g)
   outline_of-layout c h r g low linked reach =
-      let below : (x : ℕ) → nat_eq r x ≡ true → x < glyph_count_of font =
-      λ x e. subst (λ (y : ℕ). y < glyph_count_of font) (eqb-true r x e) low in
-      let w = Reach-font font (font_fault-layout font accepted) (nat_eq r) below g reach in
-      let here : r < glyph_count (layout_font_of font).copied =
-      subst (λ (n : ℕ). r < n) (sym (glyph_count-same font ∙ glyph_count-file font)) low in
-      let led : Linked (links_in (layout_font_of font).copied) (nat_eq (map_of font c)) NUMBERS r =
-      subst (λ (l : ℕ → List ℕ). Linked l (nat_eq (map_of font c)) NUMBERS r)
-      (sym (links_in-layout font wanted accepted)) linked in
-      sym (outline-file other g (subst (λ (n : ℕ). g < n) (sym glyph_count_of-layout) w.1))
-      ∙ outline-read g
-      ∙ read_back-reached (layout_font_of font) wanted ok g (IsKept-linked (layout_font_of font) wanted ok c h r here
-      led g w.0)
-      ∙ ap padded (outline-file font g w.1)
+      let w = outline-linked font (layout_font_of font).copied (copied-below font) wanted
+      (font_fault-layout font accepted) ok (links (gsub_of font)) (links_in-layout font wanted accepted) c h r g low
+      linked reach in
+      sym (outline-file other g (subst (λ (n : ℕ). g < n) (sym glyph_count_of-layout) w.0)) ∙ outline-read g ∙ w.1
 
   metric_of-read : (file : List ℕ) (g : ℕ)
       → metric_of file g ≡ metric_in (table_in_slot (layout_font_of file).copied HMTX)
       (metric_count (layout_font_of file).copied) g
-  metric_of-read file g = metric_of-tables file g
-      ∙ (λ i. metric_in (sym (hmtx_same file) i) (sym (metric_count-same file) i) g)
+  metric_of-read file g = metric_of-seen file (layout_font_of file).copied (copied-below file) g
 
   pub metric_of-layout : (g : ℕ) → is_kept (layout_font_of font) wanted g ≡ true → metric_of other g ≡ metric_of font g
   metric_of-layout g kept =

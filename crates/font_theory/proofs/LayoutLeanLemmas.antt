@@ -1,18 +1,15 @@
 -- The lean cut of a layout cut is that of the font.
-use Rattle.std.proofs.Common.{◌≡◌, ℕ, ◌<◌, ◌≤◌, ◌&&◌, ◌||◌, Bool, true, false, cond, nat_eq, nat_le, nat_lt, option_map}
-use Rattle.std.proofs.Common.{List, [], Option, None, ◌⊎◌, inl, inr, length, refl, sym, ◌∙◌, ap, subst, arith}
+use Rattle.std.proofs.Common.{◌≡◌, ℕ, ◌<◌, ◌≤◌, ◌&&◌, Bool, true, cond}
+use Rattle.std.proofs.Common.{List, [], Option, None, length, refl, sym, ◌∙◌, ap, subst}
 use Rattle.std.proofs.Common.{unwrap_or}
 use Rattle.std.proofs.Math.Bool.{and_comm}
 use Rattle.std.proofs.Math.Path.{fun_ext}
-use Rattle.std.proofs.lemmas.Bool.{both_ways, cases_Bool, false_from_ne_true, leb-false, lt-leb, or_parts}
 use Rattle.codes.specs.CharacterMap.{restricted}
 use Rattle.codes.proofs.MapLemmas.{restricted-restricted}
-use Rattle.sfnt_bytes.specs.Directory.{is_layout_slot, kept_tag, slot_tag, table_of}
-use Rattle.font_theory.specs.Links.{fixed}
 use Rattle.sfnt_bytes.specs.declared.directory.TheConstants.{MAX_FILE}
 use Rattle.font_theory.specs.Bytes.{padded}
 use Rattle.font_theory.specs.Content.{Content, Font, IsFont, content, font_of, glyph_count, is_kept, is_made}
-use Rattle.font_theory.specs.Content.{is_never_in_layout, is_root, is_seed, layout_font_of, metric_count, read_back}
+use Rattle.font_theory.specs.Content.{is_root, is_seed, layout_font_of, metric_count, read_back}
 use Rattle.font_theory.specs.Cut.{cut}
 use Rattle.font_theory.specs.LayoutCut.{layout_fault, layout_format, without_layout}
 use Rattle.font_theory.specs.LeanCut.{lean_file, lean_format, metrics_at, pairs_in, spelled_out, thin, thin_copied}
@@ -22,6 +19,8 @@ use Rattle.font_theory.proofs.RootLemmas.{is_root-alone}
 use Rattle.font_theory.proofs.WantedLemmas.{seeds-below, seeds-roots}
 use Rattle.font_theory.proofs.FontLemmas.{never-made}
 use Rattle.font_theory.proofs.LayoutCutLemmas.{IsFont-layout}
+pub use Rattle.font_theory.proofs.LayoutCutLemmas.{copied-below}
+use Rattle.font_theory.proofs.ReaderLemmas.{font_of-seen}
 use Rattle.font_theory.proofs.LayoutFileLemmas.{layout_font_of-cut}
 use Rattle.font_theory.proofs.LeanContentLemmas.{IsClosed-spelled, IsLean-content}
 use Rattle.font_theory.proofs.LeanCopiedLemmas.{by_slot, thin_copied-other, thin_copied-spelled}
@@ -29,9 +28,8 @@ use Rattle.font_theory.proofs.LeanCopiedLemmas.{thin_copied-thin_copied}
 use Rattle.font_theory.proofs.LeanCutLemmas.{below, is_kept-thin, metrics_at-kept, outline-lean, outline-thin}
 use Rattle.font_theory.proofs.LeanLemmas.{IsFont-thin}
 use Rattle.font_theory.proofs.LeanMetricLemmas.{glyph_count-lean}
-use Rattle.font_theory.proofs.TagLemmas.{slot_tag-kept}
 use Rattle.font_theory.proofs.LeanRecordLemmas.{with_metrics-padded}
-use Rattle.font_theory.proofs.LinkLemmas.{is_bad_layout_in-none, is_bad_variations_in-none, links_in-none, never-in_plain}
+use Rattle.font_theory.proofs.LinkLemmas.{is_bad_layout_in-none, is_bad_variations_in-none, links_in-none}
 use Rattle.font_theory.proofs.WantedLemmas.{IsKept, Reach-along, is_kept-decides}
 
 abbrev Tables : Type 0
@@ -40,42 +38,9 @@ Tables = ℕ → Option (List ℕ)
 abbrev plain : Tables → Tables
 plain c slot = cond (is_made slot) None (c slot)
 
--- a plain slot is none of layout
-plain_slot : (slot : ℕ) → slot < 16 → is_layout_slot slot ≡ false
-plain_slot slot low = ap (λ b. b && nat_lt slot 21) (lt-leb 16 slot low)
-
--- a table of a plain slot is the same to both readers
-pub copied-below : (file : List ℕ) (slot : ℕ) → slot < 16 → (layout_font_of file).copied slot ≡ (font_of file).copied
-    slot
-copied-below file slot low =
-    let none : nat_le 16 slot ≡ false = lt-leb 16 slot low in
-    let far : nat_le 21 slot ≡ false = lt-leb 21 slot (omega arith) in
-    (λ i. cond (nat_eq slot 1 || nat_eq slot 5 || nat_eq slot 6 || nat_eq slot 9 || far i) None
-    (cond (plain_slot slot low i) (option_map (fixed slot) (table_of file (slot_tag-kept slot low i)))
-    (table_of file (slot_tag-kept slot low i))))
-    ∙ sym (λ i. cond (nat_eq slot 1 || nat_eq slot 5 || nat_eq slot 6 || nat_eq slot 9 || none i) None
-    (table_of file (kept_tag slot)))
-
 -- what a plain reader takes a file for
 pub font_of-without : (file : List ℕ) → font_of file ≡ without_layout (layout_font_of file)
-font_of-without file = λ i. record {
-  copied = λ slot. go slot (cases_Bool (is_made slot)) i;
-  head = (font_of file).head;
-  map = (font_of file).map;
-  outline = (font_of file).outline;
-}
-  where
-    go : (slot : ℕ) → ((is_made slot ≡ true) ⊎ (is_made slot ≡ false))
-        → (font_of file).copied slot ≡ plain (layout_font_of file).copied slot
-    go slot (inl t) = rw t refl
-    go slot (inr f) =
-        let low : slot < 16 = leb-false 16 slot (or_parts _ (nat_le 16 slot) f).1 in
-        let copied : is_never_in_layout slot ≡ false =
-        false_from_ne_true _ (λ t. both_ways _ f (never-in_plain slot t)) in
-        rw f (ap (table_of file) (sym (slot_tag-kept slot low))
-        ∙ sym (λ i. cond (copied i) None
-        (cond (plain_slot slot low i) (option_map (fixed slot) (table_of file (slot_tag slot)))
-        (table_of file (slot_tag slot)))))
+font_of-without file = font_of-seen file (layout_font_of file).copied (copied-below file)
 
 -- such a font is one
 pub IsFont-without : (F : Font) → IsFont F → IsFont (without_layout F)

@@ -45,6 +45,7 @@ pub mod OurFormatLemmas
 pub mod OutlineLemmas
 pub mod PaddedLemmas
 pub mod PaddingLemmas
+pub mod ReaderLemmas
 pub mod RecordLemmas
 pub mod RefusalLemmas
 pub mod SizeLemmas
@@ -58,6 +59,8 @@ pub mod TreeLemmas
 pub mod VariableContentLemmas
 pub mod VariableCopiedLemmas
 pub mod VariableCutLemmas
+pub mod VariableFileLemmas
+pub mod VariableFormatLemmas
 pub mod VariableLeanLemmas
 pub mod VariableLemmas
 pub mod VariableRecordLemmas

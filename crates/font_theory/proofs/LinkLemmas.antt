@@ -1,8 +1,8 @@
 -- What the theory asks of links: there are none without `GSUB`, and `GSUB` alone says what they are.
-use Rattle.std.proofs.Common.{◌≡◌, ℕ, ◌+◌, ◌*◌, ◌<◌, ◌≤◌, true, false, nat_eq, nat_le, nat_lt, ◌||◌, inl, inr, List, [], refl, sym, ◌∙◌}
-use Rattle.std.proofs.Common.{ap, arith, Option, Some, None}
-use Rattle.std.proofs.Common.{option_map, unwrap_or}
-use Rattle.std.proofs.lemmas.Bool.{and_parts, le-leb, leb-true, lt-leb, ltb-true, ne_eqb, or_cases, or_left, or_right}
+use Rattle.std.proofs.Common.{◌≡◌, ℕ, true, false, nat_le, nat_lt, inl, inr}
+use Rattle.std.proofs.Common.{List, [], refl, ◌∙◌, ap, arith, Option, Some, None, option_map, unwrap_or}
+use Rattle.std.proofs.lemmas.Bool.{and_parts, both_ways, false_from_ne_true, le-leb, leb-true, lt-leb, ltb-true, ne_eqb}
+use Rattle.std.proofs.lemmas.Bool.{or_cases, or_left, or_right}
 use Rattle.std.specs.Option.{option_map_or}
 use Rattle.std.proofs.Math.Path.{fun_ext}
 use Rattle.sfnt_bytes.specs.Directory.{is_layout_slot}
@@ -100,3 +100,10 @@ never-in_plain slot h = elim (or_cases _ (nat_le 21 slot) h) [
   | inl one ↦ or_left _ (nat_le 16 slot) one
   | inr past ↦ let far = leb-true 21 slot past in or_right _ (nat_le 16 slot) (le-leb 16 slot (omega arith))
 ]
+
+-- so what a plain cut copies a layout one does, and what that copies some cut
+pub may-layout : (slot : ℕ) → is_made slot ≡ false → is_never_in_layout slot ≡ false
+may-layout slot f = false_from_ne_true _ (λ t. both_ways _ f (never-in_plain slot t))
+
+pub may-copied : (slot : ℕ) → is_never_in_layout slot ≡ false → is_never_copied slot ≡ false
+may-copied slot f = false_from_ne_true _ (λ t. both_ways _ f (never-layout slot t))

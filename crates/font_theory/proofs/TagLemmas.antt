@@ -1,5 +1,6 @@
 -- The tags of slots: four bytes each, ascending by place, and no two the same.
-use Rattle.std.proofs.Common.{◌≡◌, ℕ, suc, ◌+◌, ◌*◌, ◌/◌, ◌%◌, ◌<◌, true, codes, eqb, ltb, List, [], ◌∷◌, get_or, length}
+use Rattle.std.proofs.Common.{◌≡◌, ℕ, suc, ◌+◌, ◌*◌, ◌/◌, ◌%◌, ◌<◌, true, codes, eqb, ltb, List, [], ◌∷◌, get_or}
+use Rattle.std.proofs.Common.{length}
 use Rattle.std.proofs.Common.{refl, sym, ◌∙◌, arith}
 use Rattle.std.proofs.lemmas.Bool.{agree_below_at, eqb-true, lt-ltb, ltb-true}
 use Rattle.sfnt_bytes.specs.Directory.{kept_tag, slot_at, slot_tag}

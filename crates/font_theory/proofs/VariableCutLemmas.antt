@@ -14,8 +14,8 @@ use Rattle.font_theory.specs.Bytes.{padded}
 use Rattle.font_theory.specs.Content.{Content, Font, IsFont, content, glyph_count, is_kept}
 use Rattle.font_theory.specs.LeanCut.{metric_bytes, metrics_at, pairs_in, spelled_copied, spelled_out, thin, thin_post}
 use Rattle.font_theory.specs.LeanCut.{cleared, leaned, with_metrics}
-use Rattle.font_theory.specs.VariableCut.{data_in, emptied_copied, filled_copied, filled_out, gvar_with, variation_data}
-use Rattle.font_theory.specs.VariableCut.{varied, with_data, without_data}
+use Rattle.font_theory.specs.VariableCut.{data_in, emptied_copied, filled_copied, filled_out, gvar_with, kept_data}
+use Rattle.font_theory.specs.VariableCut.{variation_data, varied, with_data, without_data}
 use Rattle.font_theory.proofs.ContentLemmas.{content-path}
 use Rattle.font_theory.proofs.LeanContentLemmas.{thin_count}
 use Rattle.font_theory.proofs.LeanCopiedLemmas.{by_slot, spelled_copied-thin_other, spelled_copied-thin_post}
@@ -66,10 +66,6 @@ spelled_content F A = spelled_out (variable_content F A)
 
 abbrev pub written_content : Font → (ℕ → Bool) → Content
 written_content F A = filled_out (spelled_content F A)
-
--- the variation data of the kept glyphs, and none of the others
-abbrev pub kept_data : Font → (ℕ → Bool) → ℕ → List ℕ
-kept_data F A g = cond (is_kept F A g) (variation_data F.copied g) []
 
 module _ (F : Font) (A : ℕ → Bool) (ok : IsFont F) where
   okV : IsFont (varied F)

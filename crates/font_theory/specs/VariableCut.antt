@@ -1,15 +1,30 @@
 -- Variable cuts, this project's own: layout cuts that keep variations too (OpenType 1.9, gvar; fvar; avar; cvar; HVAR;
 -- MVAR; STAT; VVAR). A variable reader takes as the record of a glyph its outline with its variation data after it.
-use Rattle.std.specs.Prelude.{ℕ, ◌+◌, ◌-◌, nat_eq, nat_le, nat_lt, List, [], ◌∷◌, ◌++◌, drop, length, replicate}
-use Rattle.std.specs.Prelude.{slice_index, take, if◌then◌else◌, Option}
-use Rattle.std.specs.Option.{option_map}
+use Rattle.std.specs.Prelude.{◌≡◌, true, false, ℕ, ◌+◌, ◌-◌, nat_eq, nat_le, nat_lt, Bool, List, [], ◌∷◌, ◌++◌, drop}
+use Rattle.std.specs.Prelude.{length, replicate, slice_index, take, if◌then◌else◌, unwrap_or, Option, None}
+use Rattle.std.specs.Option.{option_map, option_map_or, option_or}
+use Rattle.sfnt_bytes.specs.Directory.{slot_tag, table_of}
 use Rattle.sfnt_bytes.specs.Findings.{padding_of}
-use Rattle.sfnt_bytes.specs.declared.tag.TheConstants.{GVAR}
+use Rattle.sfnt_bytes.specs.Lines.{first_of_lines, when}
+use Rattle.sfnt_bytes.specs.Refusals.{variable_directory_fault}
+use Rattle.sfnt_bytes.specs.declared.directory.TheConstants.{MAX_FILE}
+use Rattle.sfnt_bytes.specs.declared.tag.TheConstants.{FVAR, GSUB, GVAR}
+use Rattle.font_tables.specs.Fields.{glyph_count_of}
+use Rattle.font_tables.specs.Outlines.{outline_of}
+use Rattle.font_tables.specs.Tables.{head_of}
+use Rattle.codes.specs.CharacterMap.{AreCompatible}
 use Rattle.font_glyph.specs.RecordMap.{record_in}
-use Rattle.font_variations.specs.Gvar.{data_of, front_of, shared_tuples_of}
+use Rattle.font_variations.specs.Gvar.{data_of, front_of, is_bad_variations, shared_tuples_of}
 use Rattle.font_variations.specs.MadeGvar.{gvar_bytes}
-use Rattle.font_theory.specs.Bytes.{padded}
-use Rattle.font_theory.specs.Content.{Content, Font, glyph_count, table_in_slot}
+use Rattle.font_file.specs.Font.{font_fault, map_of}
+use Rattle.font_file.specs.declared.font_error.FontError.{FontError}
+use Rattle.font_file.specs.declared.font_error.FontError.TheVariants.{BadLayout, BadVariations, Directory}
+use Rattle.font_theory.specs.Bytes.{cut_head, padded}
+use Rattle.font_theory.specs.Content.{Content, Font, everything, glyph_count, is_kept, is_never_copied, table_in_slot}
+use Rattle.font_theory.specs.Cut.{Format}
+use Rattle.font_theory.specs.File.{current_writing, file}
+use Rattle.font_theory.specs.LeanCut.{metrics_at, spelled_out, thin, thin_copied}
+use Rattle.font_theory.specs.Links.{is_bad_layout}
 
 -- the variation data of a glyph (OpenType 1.9, gvar, GlyphVariationData), none where there is no `gvar`
 unfoldable pub variation_data : (ℕ → Option (List ℕ)) → ℕ → List ℕ
@@ -75,3 +90,77 @@ filled_out K = record {
   map = K.map;
   outline = λ g. option_map without_data (K.outline g);
 }
+
+-- what is read of a file with its tables of layout and of variations, each as it is
+abbrev pub variable_font_of : List ℕ → Font
+variable_font_of file = record {
+  copied = λ slot. if is_never_copied slot then None else table_of file (slot_tag slot);
+  head = cut_head (head_of file);
+  map = map_of file;
+  outline = λ g. if nat_lt g (glyph_count_of file) then outline_of file g else [];
+}
+
+-- the bytes of `GSUB` as they are, none where there is no such table
+unfoldable pub whole_gsub_of : List ℕ → List ℕ
+whole_gsub_of file = unwrap_or (table_of file (slot_tag GSUB)) []
+
+-- there is a `gvar`, which is bad
+unfoldable pub has_bad_gvar : List ℕ → Bool
+has_bad_gvar file =
+    option_map_or (λ gvar. is_bad_variations gvar (table_of file (slot_tag FVAR)) (glyph_count_of file))
+    (table_of file (slot_tag GVAR)) false
+
+-- the refusals of the tables of layout and of variations
+abbrev pub variable_lines : List ℕ → List (Option FontError)
+variable_lines file =
+    option_map Directory (variable_directory_fault file)
+    ∷ when (is_bad_layout (whole_gsub_of file)) BadLayout
+    ∷ when (has_bad_gvar file) BadVariations
+    ∷ []
+
+-- the first refusal that applies: of the font, or else of these tables
+unfoldable pub variable_fault : List ℕ → Option FontError
+variable_fault file = option_or (font_fault file) (first_of_lines (variable_lines file))
+
+-- the full content that a variable one is written as
+abbrev pub written_out : Content → Content
+written_out K = filled_out (spelled_out K)
+
+-- the file of a variable content
+abbrev pub variable_file : Content → List ℕ
+variable_file K = file current_writing (written_out K)
+
+-- the reader and the writer of variable cuts, in whose records metrics stand after variation data
+unfoldable pub variable_format : Format
+variable_format = record {
+  fault = variable_fault;
+  font = λ file. thin (varied (variable_font_of file));
+  file = variable_file;
+  old = variable_file;
+  limit = MAX_FILE;
+}
+
+-- the variation data of a glyph of a file, none where there is no `gvar`
+unfoldable pub variations_of : List ℕ → ℕ → List ℕ
+variations_of file g = data_of (unwrap_or (table_of file (slot_tag GVAR)) []) g
+
+-- the variation data of the kept glyphs, and none of the others
+abbrev pub kept_data : Font → (ℕ → Bool) → ℕ → List ℕ
+kept_data F wanted g = if is_kept F wanted g then variation_data F.copied g else []
+
+-- what two fonts in variable cut form need to be joined: nothing tells them apart in a table without what is of
+-- single glyphs, in a code that both map, and in the outline, the metrics or the variation data of a glyph that
+-- both keep
+pub record AgreeVariable (F G : Font) : Type 0 where
+  pub copied : (slot : ℕ) → thin_copied (emptied_copied F.copied) slot ≡ thin_copied (emptied_copied G.copied) slot
+  pub head : F.head ≡ G.head
+  pub map : AreCompatible F.map G.map
+  pub outline :
+      (g : ℕ) → is_kept F everything g ≡ true → is_kept G everything g ≡ true →
+      padded (F.outline g) ≡ padded (G.outline g)
+  pub variations :
+      (g : ℕ) → is_kept F everything g ≡ true → is_kept G everything g ≡ true →
+      variation_data F.copied g ≡ variation_data G.copied g
+  pub metrics :
+      (g : ℕ) → is_kept F everything g ≡ true → is_kept G everything g ≡ true →
+      metrics_at F.copied g ≡ metrics_at G.copied g

@@ -8,6 +8,7 @@ mod kinds;
 mod layout_cuts;
 mod lean;
 mod trees;
+pub mod variable_cuts;
 
 pub use crate::cuts::{
     closed_is_writable, closed_keeps, content_is_closed, current_is_cut, current_is_decided,

@@ -1,0 +1,202 @@
+-- What holds of each reader that sees more tables than a plain one, and refuses more.
+use Rattle.std.proofs.Common.{◌≡◌, ◌≢◌, ◌↔◌, ℕ, ◌<◌, ◌≤◌, Bool, true, false, cond, nat_eq, List, [], length, refl, sym}
+use Rattle.std.proofs.Common.{◌∙◌, ap, subst, inl, inr, Option, Some, None, unwrap_or, arith}
+use Rattle.std.specs.Bool.{Decides}
+use Rattle.std.specs.Option.{option_or}
+use Rattle.std.proofs.Math.Path.{fun_ext}
+use Rattle.std.proofs.lemmas.Bool.{cases_Bool, eqb-true, leb-false, or_parts}
+use Rattle.std.proofs.lemmas.Bool.Decides.{Decides-like, same_from_decides}
+use Rattle.codes.specs.CharacterMap.{restricted}
+use Rattle.sfnt_bytes.specs.Lines.{first_of_lines}
+use Rattle.sfnt_bytes.specs.declared.directory.DirError.TheVariants.{FileTooLarge}
+use Rattle.sfnt_bytes.specs.declared.directory.TheConstants.{MAX_FILE}
+use Rattle.sfnt_bytes.specs.declared.tag.TheConstants.{HHEA, HMTX, MAXP, SLOTS}
+use Rattle.font_tables.specs.Fields.{glyph_count_of, num_glyphs, number_of_h_metrics}
+use Rattle.font_tables.specs.Metrics.{metric_in, metric_of}
+use Rattle.font_tables.specs.Outlines.{outline_of}
+use Rattle.font_tables.specs.Refusals.{is_bad_hhea, is_bad_hmtx, is_bad_maxp}
+use Rattle.font_glyph.specs.Linked.{Linked}
+use Rattle.font_glyph.specs.Marks.{has}
+use Rattle.font_glyph.specs.Reach.{Reach}
+use Rattle.font_glyph.specs.Record.{IsRecord}
+use Rattle.font_glyph.specs.declared.linked.TheConstants as numbers
+use Rattle.font_file.specs.Font.{font_fault, map_of}
+use Rattle.font_file.specs.declared.font_error.FontError.{FontError}
+use Rattle.font_file.specs.declared.font_error.FontError.TheVariants.{Directory}
+use Rattle.font_theory.specs.Bytes.{padded}
+use Rattle.font_theory.specs.Content.{Font, IsFont, NUMBERS, content, font_of, glyph_count, is_bad_layout_in}
+use Rattle.font_theory.specs.Content.{is_bad_variations_in, is_kept, is_made, is_never_copied, is_root}
+use Rattle.font_theory.specs.Content.{is_seed, links_in}
+use Rattle.font_theory.specs.Content.{metric_count, read_back, table_in_slot}
+use Rattle.font_theory.specs.LayoutCut.{without_layout}
+use Rattle.font_theory.proofs.ContentLemmas.{IsKept-linked, read_back-reached}
+use Rattle.font_theory.proofs.FileWantedLemmas.{Reach-file, Reach-font, outline-file, roots-font}
+use Rattle.font_theory.proofs.FontLemmas.{IsFont-accepted, glyph_count-file, size-accepted, size-refused}
+use Rattle.font_theory.proofs.LeanMetricLemmas.{metric_of-tables}
+use Rattle.font_theory.proofs.RootLemmas.{is_root-below, is_root-decides, roots_marked}
+use Rattle.font_theory.proofs.WantedLemmas.{Reach-along, is_kept-decides, seeds-roots}
+
+abbrev Tables : Type 0
+Tables = ℕ → Option (List ℕ)
+
+-- a file that further lines may refuse
+either_none : {X : Type 0} (o p : Option X) → option_or o p ≡ None → (o ≡ None) × (p ≡ None)
+either_none None p h = (refl, h)
+either_none (Some x) p h = let no : Some x ≡ None = h in cc
+
+module _ (file : List ℕ) (lines : List (Option FontError)) where
+  abbrev fault_with : Option FontError
+  fault_with = option_or (font_fault file) (first_of_lines lines)
+
+  pub fine_font : fault_with ≡ None → font_fault file ≡ None
+  fine_font h = (either_none (font_fault file) (first_of_lines lines) h).0
+
+  pub fine_lines : fault_with ≡ None → first_of_lines lines ≡ None
+  fine_lines h = (either_none (font_fault file) (first_of_lines lines) h).1
+
+  pub refused_first : (error : FontError) → font_fault file ≡ Some error → fault_with ≡ Some error
+  refused_first error h = ap (λ (o : Option FontError). option_or o (first_of_lines lines)) h
+
+  pub size_with : (error : FontError) → fault_with ≡ Some error → error ≢ Directory FileTooLarge
+      → length file ≤ MAX_FILE
+  size_with error refused other = go (font_fault file) refl refused
+    where
+      go : (o : Option FontError) → font_fault file ≡ o → option_or o (first_of_lines lines) ≡ Some error
+          → length file ≤ MAX_FILE
+      go None e r = size-accepted file e
+      go (Some x) e r = size-refused file error (e ∙ r) other
+
+-- a reader that sees these tables in a file
+abbrev pub seen : List ℕ → Tables → Font
+seen file tables = record {
+  copied = tables;
+  head = (font_of file).head;
+  map = (font_of file).map;
+  outline = (font_of file).outline;
+}
+
+module _ (file : List ℕ) (c : Tables) (below : (slot : ℕ) → slot < SLOTS → c slot ≡ (font_of file).copied slot) where
+  table-seen : (slot : ℕ) → slot < SLOTS → table_in_slot c slot ≡ table_in_slot (font_of file).copied slot
+  table-seen slot low = ap (λ (o : Option (List ℕ)). unwrap_or o []) (below slot low)
+
+  hmtx-seen : table_in_slot c HMTX ≡ table_in_slot (font_of file).copied HMTX
+  hmtx-seen = table-seen HMTX (omega arith)
+
+  pub glyph_count-seen : glyph_count c ≡ glyph_count (font_of file).copied
+  unfolding glyph_count
+  glyph_count-seen = ap num_glyphs (table-seen MAXP (omega arith))
+
+  metric_count-seen : metric_count c ≡ metric_count (font_of file).copied
+  unfolding metric_count
+  metric_count-seen = ap number_of_h_metrics (table-seen HHEA (omega arith))
+
+  pub count-seen : glyph_count c ≡ glyph_count_of file
+  count-seen = glyph_count-seen ∙ glyph_count-file file
+
+  -- the metric of a glyph, in the words of these tables
+  pub metric_of-seen : (g : ℕ) → metric_of file g ≡ metric_in (table_in_slot c HMTX) (metric_count c) g
+  metric_of-seen g =
+      metric_of-tables file g ∙ (λ i. metric_in (sym hmtx-seen i) (sym metric_count-seen i) g)
+
+  -- it sees a font in an accepted file
+  pub IsFont-seen : font_fault file ≡ None → ((slot : ℕ) → is_never_copied slot ≡ true → c slot ≡ None)
+      → is_bad_layout_in c ≡ false → is_bad_variations_in c ≡ false → IsFont (seen file c)
+  IsFont-seen accepted slots readable variations =
+      let ok = IsFont-accepted file accepted in
+      let n = glyph_count-seen in
+      record {
+        mapped_below = λ x. subst (λ (k : ℕ). (font_of file).map x < k) (sym n) (ok.mapped_below x);
+        mapped_codes = ok.mapped_codes;
+        records = λ g. subst (λ (k : ℕ). IsRecord k ((font_of file).outline g)) (sym n) (ok.records g);
+        slots = slots;
+        head_form = ok.head_form;
+        head = ok.head;
+        maxp = ap is_bad_maxp (table-seen MAXP (omega arith)) ∙ ok.maxp;
+        hhea = (λ i. is_bad_hhea (table-seen HHEA (omega arith) i) (n i)) ∙ ok.hhea;
+        hmtx = (λ i. is_bad_hmtx (hmtx-seen i) (metric_count-seen i) (n i)) ∙ ok.hmtx;
+        readable = readable;
+        variations = variations;
+      }
+
+  -- of which a plain reader sees all but the tables of layout and of variations
+  pub font_of-seen : font_of file ≡ without_layout (seen file c)
+  font_of-seen = λ i. record {
+    copied = λ slot. go slot i;
+    head = (font_of file).head;
+    map = (font_of file).map;
+    outline = (font_of file).outline;
+  }
+    where
+      go : (slot : ℕ) → (font_of file).copied slot ≡ cond (is_made slot) None (c slot)
+      go slot =
+          elim (cases_Bool (is_made slot)) [
+            | inl t ↦ rw t refl
+            | inr f ↦
+                let low : slot < SLOTS = leb-false SLOTS slot (or_parts _ _ f).1 in
+                sym (ap (λ b. cond b None (c slot)) f ∙ below slot low)
+          ]
+
+  module _ (wanted : ℕ → Bool) (accepted : font_fault file ≡ None) (ok : IsFont (seen file c)) (linked : ℕ → List ℕ)
+      (links_are : links_in c ≡ linked) where
+    abbrev roots : ℕ → Bool
+    roots = is_root c (restricted wanted (map_of file))
+
+    -- what may be shaped is what links lead to
+    pub is_root-seen : (m : ℕ → ℕ) (g : ℕ)
+        → Decides (is_root c m g) ((g < glyph_count_of file) × Linked linked (is_seed m) NUMBERS g)
+    is_root-seen m g =
+        let P : ℕ → (ℕ → List ℕ) → Type 0 = λ n l. (g < n) × Linked l (is_seed m) NUMBERS g in
+        let same : P (glyph_count c) (links_in c) ≡ P (glyph_count_of file) linked =
+        λ i. P (count-seen i) (links_are i) in
+        Decides-like _ (λ r. subst (λ (X : Type 0). X) same r) (λ r. subst (λ (X : Type 0). X) (sym same) r)
+        (is_root-decides c m g)
+
+    low_roots : (h : ℕ) → roots h ≡ true → h < glyph_count_of file
+    low_roots h s = subst (λ (n : ℕ). h < n) count-seen (is_root-below c (restricted wanted (map_of file)) h s)
+
+    -- what is kept is what outlines lead to from there
+    pub is_kept-seen : (g : ℕ) → Decides (is_kept (seen file c) wanted g) (Reach (outline_of file) roots g)
+    is_kept-seen g =
+        Decides-like _ (λ r. (Reach-file file accepted roots low_roots g r).0)
+        (λ r. (Reach-font file accepted roots low_roots g r).0) (is_kept-decides (seen file c) wanted ok g)
+
+    -- marks of the roots that `follow` finds, and of what `close` finds from there, are those of what is kept
+    pub kept_by_marks : (seeds found marks : List Bool)
+        → ((g : ℕ) → has seeds g ≡ is_seed (restricted wanted (map_of file)) g)
+        → ((g : ℕ) → has found g ≡ true ↔ (g < glyph_count_of file) × Linked linked (has seeds) numbers.NUMBERS g)
+        → ((g : ℕ) → has marks g ≡ true ↔ Reach (outline_of file) (has found) g)
+        → (g : ℕ) → has marks g ≡ is_kept (seen file c) wanted g
+    kept_by_marks seeds found marks are first second g =
+        let P : ℕ → (ℕ → List ℕ) → ℕ → Type 0 = λ n l h. has found h ≡ true ↔ (h < n)
+        × Linked l (has seeds) numbers.NUMBERS h in
+        let same : has found ≡ roots =
+        fun_ext (roots_marked c (restricted wanted (map_of file)) seeds found are
+        (λ h. subst (λ (X : Type 0). X) (λ i. P (sym count-seen i) (sym links_are i) h) (first h))) in
+        let Q : (ℕ → Bool) → Type 0 = λ s. Reach (outline_of file) s g in
+        same_from_decides {P = Reach (outline_of file) roots g} (has marks g) (is_kept (seen file c) wanted g)
+        ((λ h. subst Q same ((second g).0 h)), (λ r. (second g).1 (subst Q (sym same) r))) (is_kept-seen g)
+
+    -- and no less than a plain cut keeps
+    pub kept-plain : (g : ℕ) → is_kept (font_of file) wanted g ≡ true → is_kept (seen file c) wanted g ≡ true
+    kept-plain g h =
+        let r = (is_kept-decides (font_of file) wanted (IsFont-accepted file accepted) g).0 h in
+        (is_kept-decides (seen file c) wanted ok g).1
+        (Reach-along _ _ _ _ (λ x e. seeds-roots (seen file c) wanted ok x (subst (λ (p : ℕ → Bool). p x ≡ true)
+        (roots-font file wanted accepted) e)) (λ _ _ _ p. p) g r)
+
+    -- the outline of what components lead to from where links lead from the glyph of a wanted code
+    pub outline-linked : (x : ℕ) → wanted x ≡ true → (r g : ℕ) → r < glyph_count_of file
+        → Linked linked (nat_eq (map_of file x)) NUMBERS r → Reach (outline_of file) (nat_eq r) g
+        → (g < glyph_count_of file)
+        × ((read_back (content (seen file c) wanted)).outline g ≡ padded (outline_of file g))
+    outline-linked x h r g low led reach =
+        let under : (y : ℕ) → nat_eq r y ≡ true → y < glyph_count_of file =
+        λ y e. subst (λ (z : ℕ). z < glyph_count_of file) (eqb-true r y e) low in
+        let w = Reach-font file accepted (nat_eq r) under g reach in
+        let here : r < glyph_count c = subst (λ (n : ℕ). r < n) (sym count-seen) low in
+        let led' : Linked (links_in c) (nat_eq (map_of file x)) NUMBERS r =
+        subst (λ (l : ℕ → List ℕ). Linked l (nat_eq (map_of file x)) NUMBERS r) (sym links_are) led in (
+          w.1,
+          read_back-reached (seen file c) wanted ok g (IsKept-linked (seen file c) wanted ok x h r here led' g w.0)
+              ∙ ap padded (outline-file file g w.1),
+        )
