@@ -11,6 +11,7 @@ use Rattle.font_theory.specs.File.{current_writing, file}
 use Rattle.font_theory.specs.Kinds.{IsKind, fault_of, font_as, format_of, spelled_by}
 use Rattle.font_theory.specs.LayoutCut.{layout_fault, layout_format, layout_lines}
 use Rattle.font_theory.specs.LeanCut.{lean_format, spelled_out, thin}
+use Rattle.font_theory.specs.VariableCut.{variable_fault, variable_font_of, variable_format, written_out}
 use Rattle.font_theory.specs.declared.kinds.Kind.{Kind}
 use Rattle.font_theory.specs.declared.kinds.Kind.TheVariants.{Full, Layout, Lean}
 use Rattle.font_theory.proofs.ContentLemmas.{IsClosed-content}
@@ -23,6 +24,8 @@ use Rattle.font_theory.proofs.LeanFileLemmas.{read-current}
 use Rattle.font_theory.proofs.LeanFormatLemmas.{lean_format-is}
 use Rattle.font_theory.proofs.LeanLemmas.{IsFont-thin}
 use Rattle.font_theory.proofs.OurFormatLemmas.{our_format-is}
+use Rattle.font_theory.proofs.VariableFileLemmas.{means-variable}
+use Rattle.font_theory.proofs.VariableFormatLemmas.{refused-variable, variable_format-is}
 
 our_fault : (X : List ℕ) → our_format.fault X ≡ font_fault X
 unfolding our_format
@@ -46,11 +49,9 @@ full = record {
   means = λ X form. our_means X;
 }
 
--- what is read of a file that is spelled of a thin content is spelled of it
-closed_thin : (F G : Font) → IsClosedContent (spelled_out (content (thin F) everything))
-    → G ≡ read_back (spelled_out (content (thin F) everything))
-    → content G everything ≡ spelled_out (content (thin F) everything)
-closed_thin F G closed is = ap (λ (H : Font). content H everything) is ∙ closed.closed
+-- what is read of a file that is written of a closed content is that content
+closed_read : (G : Font) (S : Content) → IsClosedContent S → G ≡ read_back S → content G everything ≡ S
+closed_read G S closed is = ap (λ (H : Font). content H everything) is ∙ closed.closed
 
 lean_current : (X : List ℕ) → IsCut lean_format X → IsCurrent lean_format X
 unfolding lean_format
@@ -62,7 +63,8 @@ unfolding lean_format
 lean_means X form =
     let read = read-current X (lean_current X form) in
     let ok = IsClosed-content (lean_format.font X) everything (lean_format-is.is_font X form.accepted) in
-    closed_thin (font_of X) (font_of X) (IsClosed-spelled (content_of_all lean_format X) ok read.1) read.0
+    closed_read (font_of X) (spelled_out (content_of_all lean_format X))
+    (IsClosed-spelled (content_of_all lean_format X) ok read.1) read.0
 
 lean : IsKind lean_format font_fault font_of spelled_out
 unfolding lean_format
@@ -87,8 +89,8 @@ layout_means X form =
     let read = read-layout X (layout_current X form) in
     let ok = IsClosed-content (thin (layout_font_of X)) everything
     (IsFont-thin (layout_font_of X) (IsFont-layout X accepted)) in
-    closed_thin (layout_font_of X) (layout_font_of X) (IsClosed-spelled (content_of_all layout_format X) ok read.1)
-    read.0
+    closed_read (layout_font_of X) (spelled_out (content_of_all layout_format X))
+    (IsClosed-spelled (content_of_all layout_format X) ok read.1) read.0
 
 layout_refused : (X : List ℕ) (error : FontError) → font_fault X ≡ Some error → layout_fault X ≡ Some error
 unfolding layout_fault
@@ -103,6 +105,18 @@ layout = record {
   limit = refl;
   writes = λ K. refl;
   means = layout_means;
+}
+
+-- variable cuts are such a kind, of which there is no name yet
+pub variable : IsKind variable_format variable_fault variable_font_of written_out
+unfolding variable_format
+variable = record {
+  law = variable_format-is;
+  fault_is = λ X. refl;
+  refused = refused-variable;
+  limit = refl;
+  writes = λ K. refl;
+  means = means-variable;
 }
 
 pub kind_is : (kind : Kind) → IsKind (format_of kind) (fault_of kind) (font_as kind) (spelled_by kind)

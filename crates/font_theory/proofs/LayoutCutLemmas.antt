@@ -1,8 +1,7 @@
 -- The reader and the writer of layout cuts go together.
 use Rattle.std.proofs.Common.{◌≡◌, ◌≢◌, Bool, ℕ, ◌<◌, ◌≤◌, ◌&&◌, ◌||◌, true, false, cond, nat_eq, nat_le, nat_lt, inl}
-use Rattle.std.proofs.Common.{inr, List, [], ◌∷◌, Option, Some, None, unwrap_or, length, refl, sym, ◌∙◌, ap}
-use Rattle.std.proofs.Common.{subst, arith}
-use Rattle.std.proofs.Common.{option_map}
+use Rattle.std.proofs.Common.{inr, List, [], ◌∷◌, Option, Some, None, unwrap_or, length, refl, sym, ◌∙◌, ap, subst}
+use Rattle.std.proofs.Common.{arith, option_map}
 use Rattle.std.specs.Option.{option_or}
 use Rattle.std.proofs.lemmas.Bool.{lt-leb}
 use Rattle.sfnt_bytes.specs.Directory.{is_layout_slot, kept_tag, slot_tag, table_of}
@@ -18,18 +17,19 @@ use Rattle.font_theory.specs.Content.{Content, IsClosedContent, IsFont, content,
 use Rattle.font_theory.specs.Content.{is_bad_layout_in, layout_font_of, read_back, table_in_slot}
 use Rattle.font_theory.specs.Cut.{Arises, IsFormat}
 use Rattle.font_theory.specs.Cut.Arises.{of_file, of_two}
-use Rattle.font_theory.specs.File.{IsWriting, Writing, bytes_in_slot, current_writing, current_profile, file}
-use Rattle.font_theory.specs.LayoutCut.{gsub_of, layout_fault, layout_format, layout_lines}
+use Rattle.font_theory.specs.File.{IsWriting, Writing, bytes_in_slot, current_profile, current_writing, file}
 use Rattle.font_theory.specs.LeanCut.{lean_file, spelled_copied, spelled_out, thin, thin_copied}
+use Rattle.font_theory.specs.LayoutCut.{gsub_of, layout_fault, layout_format, layout_lines}
 use Rattle.font_theory.specs.Links.{fixed, is_bad_layout}
 use Rattle.font_theory.proofs.AcceptedLemmas.{font_fault-file, none_outside, none_twice}
 use Rattle.font_theory.proofs.ArisesLemmas.{IsClosed-arises}
 use Rattle.font_theory.proofs.CmapLemmas.{IsWriting-writing_of}
 use Rattle.font_theory.proofs.FontLemmas.{size-accepted}
-use Rattle.font_theory.proofs.LeanCopiedLemmas.{AreAlike-spelled, AreAlike-thin, IsOfLayout-alike}
 use Rattle.font_theory.proofs.LeanContentLemmas.{IsClosed-spelled, IsLean-both, IsLean-content}
+use Rattle.font_theory.proofs.LeanCopiedLemmas.{AreAlike-spelled, AreAlike-thin, IsOfLayout-alike}
 use Rattle.font_theory.proofs.LeanLemmas.{IsFont-thin, IsLean, thin-spelled}
-use Rattle.font_theory.proofs.LinkLemmas.{IsOfLayout, fixed-map, is_bad_variations_in-none, layout-copied, never-layout}
+use Rattle.font_theory.proofs.LinkLemmas.{IsOfLayout, fixed-map, is_bad_variations_in-none, layout-copied}
+use Rattle.font_theory.proofs.LinkLemmas.{never-layout}
 use Rattle.font_theory.proofs.MeaningLemmas.{layout_font_of-file, table_of-file}
 use Rattle.font_theory.proofs.ReaderLemmas.{IsFont-seen, fine_font, fine_lines, glyph_count-seen, size_with}
 use Rattle.font_theory.proofs.TagLemmas.{slot_tag-kept}

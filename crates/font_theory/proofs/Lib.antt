@@ -61,8 +61,10 @@ pub mod VariableCopiedLemmas
 pub mod VariableCutLemmas
 pub mod VariableFileLemmas
 pub mod VariableFormatLemmas
+pub mod VariableJoinLemmas
 pub mod VariableLeanLemmas
 pub mod VariableLemmas
+pub mod VariablePlainLemmas
 pub mod VariableRecordLemmas
 pub mod WantedLemmas
 pub mod WorkedLemmas

@@ -1,12 +1,12 @@
 -- What the theory asks of links: there are none without `GSUB`, and `GSUB` alone says what they are.
-use Rattle.std.proofs.Common.{◌≡◌, ℕ, true, false, nat_le, nat_lt, inl, inr}
+use Rattle.std.proofs.Common.{◌≡◌, ℕ, ◌<◌, ◌≤◌, true, false, nat_le, nat_lt, inl, inr}
 use Rattle.std.proofs.Common.{List, [], refl, ◌∙◌, ap, arith, Option, Some, None, option_map, unwrap_or}
 use Rattle.std.proofs.lemmas.Bool.{and_parts, both_ways, false_from_ne_true, le-leb, leb-true, lt-leb, ltb-true, ne_eqb}
-use Rattle.std.proofs.lemmas.Bool.{or_cases, or_left, or_right}
+use Rattle.std.proofs.lemmas.Bool.{leb-false, or_cases, or_left, or_parts, or_right}
 use Rattle.std.specs.Option.{option_map_or}
 use Rattle.std.proofs.Math.Path.{fun_ext}
 use Rattle.sfnt_bytes.specs.Directory.{is_layout_slot}
-use Rattle.sfnt_bytes.specs.declared.tag.TheConstants.{FVAR, GSUB, GVAR}
+use Rattle.sfnt_bytes.specs.declared.tag.TheConstants.{ALL_SLOTS, FIRST_VARIATION, FVAR, GSUB, GVAR}
 use Rattle.font_variations.specs.Gvar.{is_bad_variations}
 use Rattle.font_theory.specs.Content.{IsPlain, glyph_count, is_bad_layout_in, is_bad_variations_in, is_made}
 use Rattle.font_theory.specs.Content.{is_never_copied, is_never_in_layout, links_in, table_in_slot}
@@ -107,3 +107,13 @@ may-layout slot f = false_from_ne_true _ (λ t. both_ways _ f (never-in_plain sl
 
 pub may-copied : (slot : ℕ) → is_never_in_layout slot ≡ false → is_never_copied slot ≡ false
 may-copied slot f = false_from_ne_true _ (λ t. both_ways _ f (never-layout slot t))
+
+-- what some cut copies and no layout cut is a table of variations
+pub slot-varies : (slot : ℕ) → is_never_in_layout slot ≡ true → is_never_copied slot ≡ false
+    → (FIRST_VARIATION ≤ slot) × (slot < ALL_SLOTS)
+slot-varies slot never copied =
+    let parts = or_parts _ (nat_le ALL_SLOTS slot) copied in
+    elim (or_cases _ (nat_le FIRST_VARIATION slot) never) [
+      | inl one ↦ absurd (both_ways _ parts.0 one)
+      | inr past ↦ (leb-true FIRST_VARIATION slot past, leb-false ALL_SLOTS slot parts.1)
+    ]

@@ -6,7 +6,6 @@ use Rattle.std.specs.Option.{option_or}
 use Rattle.std.proofs.Math.Path.{fun_ext}
 use Rattle.std.proofs.lemmas.Bool.{cases_Bool, eqb-true, leb-false, or_parts}
 use Rattle.std.proofs.lemmas.Bool.Decides.{Decides-like, same_from_decides}
-use Rattle.codes.specs.CharacterMap.{restricted}
 use Rattle.sfnt_bytes.specs.Lines.{first_of_lines}
 use Rattle.sfnt_bytes.specs.declared.directory.DirError.TheVariants.{FileTooLarge}
 use Rattle.sfnt_bytes.specs.declared.directory.TheConstants.{MAX_FILE}
@@ -15,6 +14,7 @@ use Rattle.font_tables.specs.Fields.{glyph_count_of, num_glyphs, number_of_h_met
 use Rattle.font_tables.specs.Metrics.{metric_in, metric_of}
 use Rattle.font_tables.specs.Outlines.{outline_of}
 use Rattle.font_tables.specs.Refusals.{is_bad_hhea, is_bad_hmtx, is_bad_maxp}
+use Rattle.codes.specs.CharacterMap.{restricted}
 use Rattle.font_glyph.specs.Linked.{Linked}
 use Rattle.font_glyph.specs.Marks.{has}
 use Rattle.font_glyph.specs.Reach.{Reach}
@@ -25,9 +25,8 @@ use Rattle.font_file.specs.declared.font_error.FontError.{FontError}
 use Rattle.font_file.specs.declared.font_error.FontError.TheVariants.{Directory}
 use Rattle.font_theory.specs.Bytes.{padded}
 use Rattle.font_theory.specs.Content.{Font, IsFont, NUMBERS, content, font_of, glyph_count, is_bad_layout_in}
-use Rattle.font_theory.specs.Content.{is_bad_variations_in, is_kept, is_made, is_never_copied, is_root}
-use Rattle.font_theory.specs.Content.{is_seed, links_in}
-use Rattle.font_theory.specs.Content.{metric_count, read_back, table_in_slot}
+use Rattle.font_theory.specs.Content.{is_bad_variations_in, is_kept, is_made, is_never_copied, is_root, is_seed}
+use Rattle.font_theory.specs.Content.{links_in, metric_count, read_back, table_in_slot}
 use Rattle.font_theory.specs.LayoutCut.{without_layout}
 use Rattle.font_theory.proofs.ContentLemmas.{IsKept-linked, read_back-reached}
 use Rattle.font_theory.proofs.FileWantedLemmas.{Reach-file, Reach-font, outline-file, roots-font}

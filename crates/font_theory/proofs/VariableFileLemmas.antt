@@ -1,31 +1,31 @@
 -- Variable cuts of files, in the words of the files.
 use Rattle.std.proofs.Common.{◌≡◌, ℕ, ◌<◌, ◌≤◌, Bool, true, false, cond, nat_eq, nat_le, List, [], None, Option}
-use Rattle.std.proofs.Common.{length, refl, sym, ◌∙◌, ap, subst, arith, unwrap_or, option_map}
+use Rattle.std.proofs.Common.{length, refl, sym, ◌∙◌, ap, subst, arith, unwrap_or, option_map, Some, inl, inr}
 use Rattle.std.specs.Bool.{Decides}
 use Rattle.std.proofs.lemmas.Bool.{lt-leb, ne_eqb}
-use Rattle.codes.specs.CharacterMap.{restricted}
 use Rattle.sfnt_bytes.specs.Directory.{slot_tag, table_of}
 use Rattle.sfnt_bytes.specs.Findings.{findings_of}
 use Rattle.sfnt_bytes.specs.declared.directory.TheConstants.{MAX_FILE}
-use Rattle.sfnt_bytes.specs.declared.tag.TheConstants.{ALL_SLOTS, GVAR, HMTX, SLOTS}
+use Rattle.sfnt_bytes.specs.declared.tag.TheConstants.{ALL_SLOTS, CMAP, GLYF, GVAR, HEAD, HMTX, LOCA, SLOTS}
 use Rattle.font_tables.specs.Fields.{glyph_count_of}
 use Rattle.font_tables.specs.Metrics.{metric_in, metric_of}
 use Rattle.font_tables.specs.Outlines.{outline_of}
+use Rattle.codes.specs.CharacterMap.{restricted}
 use Rattle.font_glyph.specs.Linked.{Linked}
 use Rattle.font_glyph.specs.Reach.{Reach}
+use Rattle.font_variations.specs.Gvar.{front_of, shared_tuples_of}
 use Rattle.font_file.specs.Font.{font_fault, map_of}
 use Rattle.font_theory.specs.Bytes.{padded}
 use Rattle.font_theory.specs.Content.{Content, Font, IsClosedContent, IsFont, NUMBERS, content, everything, font_of}
 use Rattle.font_theory.specs.Content.{glyph_count, is_kept, is_never_copied, is_root, is_seed, metric_count, read_back}
 use Rattle.font_theory.specs.Content.{table_in_slot}
-use Rattle.font_theory.specs.Cut.{Arises, IsCurrent, cut, content_of_all}
+use Rattle.font_theory.specs.Cut.{Arises, IsCurrent, IsCut, content_of_all, cut}
 use Rattle.font_theory.specs.File.{current_writing}
 use Rattle.font_theory.specs.LeanCut.{spelled_out, thin}
 use Rattle.font_theory.specs.Links.{links}
 use Rattle.font_theory.specs.VariableCut.{emptied_copied, gvar_with, kept_data, variable_fault, variable_file}
-use Rattle.font_theory.specs.VariableCut.{variable_font_of, variable_format, variation_data, variations_of}
-use Rattle.font_theory.specs.VariableCut.{varied, whole_gsub_of}
-use Rattle.font_theory.specs.VariableCut.{written_out}
+use Rattle.font_theory.specs.VariableCut.{variable_font_of, variable_format, variation_data, variations_of, varied}
+use Rattle.font_theory.specs.VariableCut.{whole_gsub_of, written_out}
 use Rattle.font_theory.proofs.ArisesLemmas.{IsClosed-arises}
 use Rattle.font_theory.proofs.ContentLemmas.{IsClosed-content}
 use Rattle.font_theory.proofs.FileWantedLemmas.{outline-file}
@@ -36,10 +36,10 @@ use Rattle.font_theory.proofs.LeanLemmas.{IsFont-thin, IsLean}
 use Rattle.font_theory.proofs.LeanMetricLemmas.{glyph_count-lean, metric-lean}
 use Rattle.font_theory.proofs.MeaningLemmas.{copied_of-file}
 use Rattle.font_theory.proofs.ReaderLemmas.{is_kept-seen, is_root-seen, kept-plain, metric_of-seen, outline-linked}
-use Rattle.font_theory.proofs.VariableContentLemmas.{is_kept-varied}
-use Rattle.font_theory.proofs.VariableCopiedLemmas.{AreSameElsewhere, emptied_copied-other, filled_copied-other}
-use Rattle.font_theory.proofs.VariableCopiedLemmas.{glyph_count-elsewhere}
-use Rattle.font_theory.proofs.VariableCopiedLemmas.{metric_count-elsewhere, table-elsewhere}
+use Rattle.font_theory.proofs.VariableContentLemmas.{good_parts, is_kept-varied}
+use Rattle.font_theory.proofs.VariableCopiedLemmas.{AreSameElsewhere, emptied-parts, emptied_copied-other}
+use Rattle.font_theory.proofs.VariableCopiedLemmas.{filled_copied-other, glyph_count-elsewhere, metric_count-elsewhere}
+use Rattle.font_theory.proofs.VariableCopiedLemmas.{parts-emptied, table-elsewhere}
 use Rattle.font_theory.proofs.VariableCutLemmas.{copied-variable, gvar-variable, outline-variable, spelled_content}
 use Rattle.font_theory.proofs.VariableCutLemmas.{variable_content, variation_data-variable, written_content}
 use Rattle.font_theory.proofs.VariableFormatLemmas.{IsFont-variable, IsLean-variable, IsVaried-variable}
@@ -63,10 +63,24 @@ variations-read file g = refl
 -- tables of layout and of variations are copied
 later-copied : (slot : ℕ) → SLOTS ≤ slot → slot < ALL_SLOTS → is_never_copied slot ≡ false
 later-copied slot from to =
-    let e1 = ne_eqb slot 1 (λ e. omega arith) in let e5 = ne_eqb slot 5 (λ e. omega arith) in let e6 =
-    ne_eqb slot 6 (λ e. omega arith) in let e9 = ne_eqb slot 9 (λ e. omega arith) in
-    let last : nat_le 29 slot ≡ false = lt-leb 29 slot to in
-    rw (e1, e5, e6, e9) last
+    let cmap = ne_eqb slot CMAP (λ e. omega arith) in
+    let glyf = ne_eqb slot GLYF (λ e. omega arith) in
+    let head = ne_eqb slot HEAD (λ e. omega arith) in
+    let loca = ne_eqb slot LOCA (λ e. omega arith) in
+    let last : nat_le ALL_SLOTS slot ≡ false = lt-leb ALL_SLOTS slot to in
+    rw (cmap, glyf, head, loca) last
+
+-- without data of glyphs, two `gvar` are the same where their first 8 bytes and their shared tuples are
+pub gvar-without_data : (X Y gvar other : List ℕ) (n : ℕ) → variable_fault X ≡ None → variable_fault Y ≡ None
+    → table_of X (slot_tag GVAR) ≡ Some gvar → table_of Y (slot_tag GVAR) ≡ Some other
+    → (gvar_with (λ _. []) n gvar ≡ gvar_with (λ _. []) n other → (front_of gvar ≡ front_of other)
+    × (shared_tuples_of gvar ≡ shared_tuples_of other)) × ((front_of gvar ≡ front_of other)
+    × (shared_tuples_of gvar ≡ shared_tuples_of other)
+    → gvar_with (λ _. []) n gvar ≡ gvar_with (λ _. []) n other)
+gvar-without_data X Y gvar other n x y first second =
+    let fit = good_parts (variable_font_of X) (IsFont-variable X x) gvar first in
+    let also = good_parts (variable_font_of Y) (IsFont-variable Y y) other second in
+    ((λ same. emptied-parts n gvar other fit also same), (λ same. parts-emptied n gvar other same.0 same.1))
 
 -- what is written of a variable content has as many glyphs, and the metrics of the kept ones
 module _ (F : Font) (A : ℕ → Bool) (ok : IsFont F) where
@@ -191,6 +205,26 @@ read-variable X form =
       lean,
       v,
     )
+
+-- and its content for all codes is that
+pub IsCurrent-variable : (X : List ℕ) → IsCut variable_format X → IsCurrent variable_format X
+unfolding variable_format
+IsCurrent-variable X form =
+    record { accepted = form.accepted; written = elim form.written [ inl e ↦ e | inr e ↦ e ] }
+
+pub means-variable : (X : List ℕ) → IsCut variable_format X
+    → content (variable_font_of X) everything ≡ written_out (content_of_all variable_format X)
+means-variable X form =
+    let read = read-variable X (IsCurrent-variable X form) in
+    let closed = IsClosed-filled_spelled (content_of_all variable_format X)
+    (IsClosed-content (variable_format.font X) everything (variable_format-is.is_font X form.accepted)) read.1
+    read.2 in
+    ap (λ (F : Font). content F everything) read.0 ∙ closed.closed
+
+pub whole-variable : (X : List ℕ) → IsCut variable_format X
+    → variable_font_of X ≡ read_back (content (variable_font_of X) everything)
+whole-variable X form =
+    (read-variable X (IsCurrent-variable X form)).0 ∙ ap read_back (sym (means-variable X form))
 
 -- a file of which what is written of a variable content of an accepted one is read back
 module _ (font other : List ℕ) (wanted : ℕ → Bool) (accepted : variable_fault font ≡ None) (same : variable_font_of

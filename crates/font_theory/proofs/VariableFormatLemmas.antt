@@ -1,6 +1,6 @@
 -- The reader and the writer of variable cuts go together.
-use Rattle.std.proofs.Common.{◌≡◌, ◌≢◌, ℕ, ◌<◌, ◌≤◌, ◌||◌, false, cond, nat_eq, nat_le, inl, inr, List, []}
-use Rattle.std.proofs.Common.{◌∷◌, Option, Some, None, unwrap_or, length, refl, sym, ◌∙◌, ap, subst, arith, option_map}
+use Rattle.std.proofs.Common.{◌≡◌, ◌≢◌, ℕ, ◌<◌, ◌≤◌, ◌||◌, false, cond, nat_eq, nat_le, inl, inr, List, [], ◌∷◌}
+use Rattle.std.proofs.Common.{Option, Some, None, unwrap_or, length, refl, sym, ◌∙◌, ap, subst, arith, option_map}
 use Rattle.std.specs.Option.{option_map_or, option_or}
 use Rattle.std.proofs.lemmas.Bool.{lt-leb}
 use Rattle.sfnt_bytes.specs.Directory.{kept_tag, slot_tag, table_of}
@@ -8,7 +8,8 @@ use Rattle.sfnt_bytes.specs.Lines.{first_of_lines, when}
 use Rattle.sfnt_bytes.specs.Refusals.{variable_directory_fault}
 use Rattle.sfnt_bytes.specs.declared.directory.DirError.TheVariants.{DuplicateTable, FileTooLarge, TableOutOfFile}
 use Rattle.sfnt_bytes.specs.declared.directory.TheConstants.{MAX_FILE}
-use Rattle.sfnt_bytes.specs.declared.tag.TheConstants.{FVAR, GSUB, GVAR, LAYOUT_AND_VARIATIONS}
+use Rattle.sfnt_bytes.specs.declared.tag.TheConstants.{ALL_SLOTS, CMAP, FVAR, GLYF, GSUB, GVAR, HEAD}
+use Rattle.sfnt_bytes.specs.declared.tag.TheConstants.{LAYOUT_AND_VARIATIONS, LOCA, SLOTS}
 use Rattle.sfnt_bytes.proofs.LineLemmas.{first_of_lines-none_at, when-none}
 use Rattle.font_tables.specs.Fields.{glyph_count_of}
 use Rattle.font_variations.specs.Gvar.{is_bad_variations}
@@ -18,12 +19,11 @@ use Rattle.font_file.specs.declared.font_error.FontError.TheVariants.{BadLayout,
 use Rattle.font_theory.specs.Content.{Content, IsClosedContent, IsFont, font_of, glyph_count, is_bad_layout_in}
 use Rattle.font_theory.specs.Content.{is_bad_variations_in, links_in, read_back}
 use Rattle.font_theory.specs.Cut.{Arises, IsFormat}
-use Rattle.font_theory.specs.File.{IsWriting, Writing, current_writing, current_profile, file}
+use Rattle.font_theory.specs.File.{IsWriting, Writing, current_profile, current_writing, file}
 use Rattle.font_theory.specs.LeanCut.{spelled_out, thin}
 use Rattle.font_theory.specs.Links.{is_bad_layout, links}
-use Rattle.font_theory.specs.VariableCut.{has_bad_gvar, variable_fault, variable_file}
-use Rattle.font_theory.specs.VariableCut.{variable_font_of, variable_format}
-use Rattle.font_theory.specs.VariableCut.{variable_lines, varied, whole_gsub_of, written_out}
+use Rattle.font_theory.specs.VariableCut.{has_bad_gvar, variable_fault, variable_file, variable_font_of}
+use Rattle.font_theory.specs.VariableCut.{variable_format, variable_lines, varied, whole_gsub_of, written_out}
 use Rattle.font_theory.proofs.AcceptedLemmas.{font_fault-file, none_outside, none_twice}
 use Rattle.font_theory.proofs.ArisesLemmas.{IsClosed-arises}
 use Rattle.font_theory.proofs.CmapLemmas.{IsWriting-writing_of}
@@ -38,14 +38,14 @@ use Rattle.font_theory.proofs.VariableLemmas.{IsFont-varied, IsVaried}
 use Rattle.font_theory.proofs.WritableLemmas.{IsWritable-closed}
 
 -- a table of a plain slot is the same to both readers
-pub variable-below : (file : List ℕ) (slot : ℕ) → slot < 16
+pub variable-below : (file : List ℕ) (slot : ℕ) → slot < SLOTS
     → (variable_font_of file).copied slot ≡ (font_of file).copied slot
 variable-below file slot low =
-    let none : nat_le 16 slot ≡ false = lt-leb 16 slot low in
-    let far : nat_le 29 slot ≡ false = lt-leb 29 slot (omega arith) in
-    (λ i. cond (nat_eq slot 1 || nat_eq slot 5 || nat_eq slot 6 || nat_eq slot 9 || far i) None
+    let none : nat_le SLOTS slot ≡ false = lt-leb SLOTS slot low in
+    let far : nat_le ALL_SLOTS slot ≡ false = lt-leb ALL_SLOTS slot (omega arith) in
+    (λ i. cond (nat_eq slot CMAP || nat_eq slot GLYF || nat_eq slot HEAD || nat_eq slot LOCA || far i) None
     (table_of file (slot_tag-kept slot low i)))
-    ∙ sym (λ i. cond (nat_eq slot 1 || nat_eq slot 5 || nat_eq slot 6 || nat_eq slot 9 || none i) None
+    ∙ sym (λ i. cond (nat_eq slot CMAP || nat_eq slot GLYF || nat_eq slot HEAD || nat_eq slot LOCA || none i) None
     (table_of file (kept_tag slot)))
 
 pub variable_count : (file : List ℕ) → glyph_count (variable_font_of file).copied ≡ glyph_count_of file

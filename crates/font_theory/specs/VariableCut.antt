@@ -1,19 +1,20 @@
 -- Variable cuts, this project's own: layout cuts that keep variations too (OpenType 1.9, gvar; fvar; avar; cvar; HVAR;
 -- MVAR; STAT; VVAR). A variable reader takes as the record of a glyph its outline with its variation data after it.
-use Rattle.std.specs.Prelude.{◌≡◌, true, false, ℕ, ◌+◌, ◌-◌, nat_eq, nat_le, nat_lt, Bool, List, [], ◌∷◌, ◌++◌, drop}
-use Rattle.std.specs.Prelude.{length, replicate, slice_index, take, if◌then◌else◌, unwrap_or, Option, None}
+use Rattle.std.specs.Prelude.{◌≡◌, ◌≢◌, true, false, ℕ, ◌+◌, ◌-◌, ◌<◌, ◌≤◌, nat_eq, nat_le, nat_lt, Bool, List, []}
+use Rattle.std.specs.Prelude.{◌∷◌, ◌++◌, drop, length, replicate, slice_index, take, if◌then◌else◌, is_some, unwrap_or}
+use Rattle.std.specs.Prelude.{Option, None}
 use Rattle.std.specs.Option.{option_map, option_map_or, option_or}
-use Rattle.sfnt_bytes.specs.Directory.{slot_tag, table_of}
+use Rattle.sfnt_bytes.specs.Directory.{is_layout_slot, slot_tag, table_of}
 use Rattle.sfnt_bytes.specs.Findings.{padding_of}
 use Rattle.sfnt_bytes.specs.Lines.{first_of_lines, when}
 use Rattle.sfnt_bytes.specs.Refusals.{variable_directory_fault}
 use Rattle.sfnt_bytes.specs.declared.directory.TheConstants.{MAX_FILE}
-use Rattle.sfnt_bytes.specs.declared.tag.TheConstants.{FVAR, GSUB, GVAR}
+use Rattle.sfnt_bytes.specs.declared.tag.TheConstants.{ALL_SLOTS, FIRST_VARIATION, FVAR, GSUB, GVAR, HMTX, VMTX}
 use Rattle.font_tables.specs.Fields.{glyph_count_of}
 use Rattle.font_tables.specs.Outlines.{outline_of}
 use Rattle.font_tables.specs.Tables.{head_of}
-use Rattle.codes.specs.CharacterMap.{AreCompatible}
-use Rattle.font_glyph.specs.RecordMap.{record_in}
+use Rattle.codes.specs.CharacterMap.{AreCompatible, united}
+use Rattle.font_glyph.specs.RecordMap.{record_in, union_of}
 use Rattle.font_variations.specs.Gvar.{data_of, front_of, is_bad_variations, shared_tuples_of}
 use Rattle.font_variations.specs.MadeGvar.{gvar_bytes}
 use Rattle.font_file.specs.Font.{font_fault, map_of}
@@ -23,8 +24,8 @@ use Rattle.font_theory.specs.Bytes.{cut_head, padded}
 use Rattle.font_theory.specs.Content.{Content, Font, everything, glyph_count, is_kept, is_never_copied, table_in_slot}
 use Rattle.font_theory.specs.Cut.{Format}
 use Rattle.font_theory.specs.File.{current_writing, file}
-use Rattle.font_theory.specs.LeanCut.{metrics_at, spelled_out, thin, thin_copied}
-use Rattle.font_theory.specs.Links.{is_bad_layout}
+use Rattle.font_theory.specs.LeanCut.{either_bytes, metrics_at, spelled_out, thin, thin_copied}
+use Rattle.font_theory.specs.Links.{fixed, is_bad_layout}
 
 -- the variation data of a glyph (OpenType 1.9, gvar, GlyphVariationData), none where there is no `gvar`
 unfoldable pub variation_data : (ℕ → Option (List ℕ)) → ℕ → List ℕ
@@ -164,3 +165,27 @@ pub record AgreeVariable (F G : Font) : Type 0 where
   pub metrics :
       (g : ℕ) → is_kept F everything g ≡ true → is_kept G everything g ≡ true →
       metrics_at F.copied g ≡ metrics_at G.copied g
+
+-- a content is the union of two that variable contents are written as: it has the head and the tables of the first,
+-- the codes and the outlines of both, `hmtx` and `vmtx` of both byte by byte, where one has 0 the other's, and a
+-- `gvar` with the data of both
+pub record IsWrittenUnion (K L U : Content) : Type 0 where
+  pub head : U.head ≡ K.head
+  pub map : U.map ≡ united K.map L.map
+  pub outline : U.outline ≡ union_of K.outline L.outline
+  pub others : (slot : ℕ) → slot ≢ GVAR → slot ≢ HMTX → slot ≢ VMTX → U.copied slot ≡ K.copied slot
+  pub hmtx : U.copied HMTX ≡ option_map (λ t. either_bytes t (table_in_slot L.copied HMTX)) (K.copied HMTX)
+  pub vmtx : U.copied VMTX ≡ option_map (λ t. either_bytes t (table_in_slot L.copied VMTX)) (K.copied VMTX)
+  pub gvar :
+      U.copied GVAR ≡ option_map
+      (gvar_with
+      (λ g. if is_some (K.outline g) then variation_data K.copied g else variation_data L.copied g)
+      (glyph_count K.copied))
+      (K.copied GVAR)
+
+-- a file has no table of variations, and nothing in its tables of layout that varies
+pub record HasNothingVarying (file : List ℕ) : Type 0 where
+  pub absent : (slot : ℕ) → FIRST_VARIATION ≤ slot → slot < ALL_SLOTS → table_of file (slot_tag slot) ≡ None
+  pub fixed :
+      (slot : ℕ) → is_layout_slot slot ≡ true →
+      option_map (fixed slot) (table_of file (slot_tag slot)) ≡ table_of file (slot_tag slot)

@@ -31,7 +31,7 @@ and_nothing true y h = h
 and_nothing false y h = refl
 
 -- data that agree glyph by glyph
-listed_same : (f g : ℕ → List ℕ) (k n : ℕ) → ((j : ℕ) → j < k + n → f j ≡ g j)
+pub listed_same : (f g : ℕ → List ℕ) (k n : ℕ) → ((j : ℕ) → j < k + n → f j ≡ g j)
     → map f (range_with_len k n) ≡ map g (range_with_len k n)
 listed_same f g k zero same = refl
 listed_same f g k (suc n) same =
