@@ -19,21 +19,24 @@ ghost use Rattle.font_file.specs.declared.font_error.FontError.{FontError};
 ghost use Rattle.font_file.specs.declared.font_error.FontError.TheVariants.{Directory};
 ghost use Rattle.font_theory.specs.Agreement.{Agree, both};
 ghost use Rattle.font_theory.specs.Bytes.{padded};
-ghost use Rattle.font_theory.specs.Content.{Content, IsClosedContent, IsFont, NUMBERS, content, everything, font_of, is_kept, is_root, is_seed, read_back};
+ghost use Rattle.font_theory.specs.Content.{Content, Font, IsClosedContent, IsFont, NUMBERS, content, everything, font_of, glyph_count, is_kept, is_root, is_seed, read_back};
 ghost use Rattle.font_theory.specs.Cut.{Arises, CanJoin, IsCurrent, IsCut, IsFormat, Under, cut, either, is_cut, joined, content_of_all};
 ghost use Rattle.font_theory.specs.Difference.{difference};
 ghost use Rattle.font_theory.specs.Kinds.{IsKind};
 ghost use Rattle.font_theory.specs.LayoutCut.{layout_fault, layout_format, without_layout};
-ghost use Rattle.font_theory.specs.LeanCut.{lean_format, thin};
+ghost use Rattle.font_theory.specs.LeanCut.{lean_format, leaned, thin};
 ghost use Rattle.font_theory.specs.Links.{is_bad_layout, links};
 ghost use Rattle.font_theory.specs.Tree.{IsSmall, JoinTree, Value, cuts, union_in};
 ghost use Rattle.font_theory.specs.VariableCut.{AgreeVariable, HasNothingVarying, IsWrittenUnion, gvar_with, has_bad_gvar, kept_data, variable_fault, variable_file, variable_font_of, variable_format, variations_of, varied, whole_gsub_of, written_out};
 
 /// The slots of the tables of variations are those of their tags.
 pub fn variable_slots_are()
-    ensures { (slot_tag FIRST_VARIATION ≡ named (codes "HVAR")) × (slot_tag (FIRST_VARIATION + 1) ≡ named (codes "MVAR"))
-        × (slot_tag (FIRST_VARIATION + 2) ≡ named (codes "STAT")) × (slot_tag (FIRST_VARIATION + 3) ≡ named (codes "VVAR"))
-        × (slot_tag (FIRST_VARIATION + 4) ≡ named (codes "avar")) × (slot_tag (FIRST_VARIATION + 5) ≡ named (codes "cvar"))
+    ensures { (slot_tag FIRST_VARIATION ≡ named (codes "HVAR"))
+        × (slot_tag (FIRST_VARIATION + 1) ≡ named (codes "MVAR"))
+        × (slot_tag (FIRST_VARIATION + 2) ≡ named (codes "STAT"))
+        × (slot_tag (FIRST_VARIATION + 3) ≡ named (codes "VVAR"))
+        × (slot_tag (FIRST_VARIATION + 4) ≡ named (codes "avar"))
+        × (slot_tag (FIRST_VARIATION + 5) ≡ named (codes "cvar"))
         × (slot_tag FVAR ≡ named (codes "fvar")) × (slot_tag GVAR ≡ named (codes "gvar")) }
 {}
 
@@ -64,7 +67,20 @@ pub fn variable_cut_is_accepted()
         ≡ read_back (written_out (content (thin (varied (variable_font_of file))) wanted))) }
 {}
 
-/// It has the tables of layout and of variations of the font, byte for byte, but for `gvar`, which is made of the
+/// What the content of a variable cut is written as is what a lean cut of the same tables is written of, but for
+/// `gvar`, which is made anew with the data of the kept glyphs.
+pub fn variable_content_is()
+    ensures { (F : Font) (wanted : ℕ → Bool) → IsFont F
+        → ((written_out (content (thin (varied F)) wanted)).head ≡ F.head)
+        × ((written_out (content (thin (varied F)) wanted)).map ≡ restricted wanted F.map)
+        × ((written_out (content (thin (varied F)) wanted)).outline ≡ (content F wanted).outline)
+        × ((slot : ℕ) → slot ≢ GVAR → (written_out (content (thin (varied F)) wanted)).copied slot
+        ≡ (leaned (content F wanted)).copied slot)
+        × ((written_out (content (thin (varied F)) wanted)).copied GVAR
+        ≡ option_map (gvar_with (kept_data F wanted) (glyph_count F.copied)) (F.copied GVAR)) }
+{}
+
+/// A variable cut has the tables of layout and of variations of the font, byte for byte, but for `gvar`, which is made of the
 /// first 8 bytes and the shared tuples of that of the font, and of the data of the kept glyphs, byte for byte.
 pub fn variable_tables_are_kept()
     ensures { (file : List ℕ) (wanted : ℕ → Bool) → variable_fault file ≡ None
