@@ -1,5 +1,5 @@
 -- Layout cuts of files, in the words of the files.
-use Rattle.std.proofs.Common.{◌≡◌, ◌↔◌, ℕ, ◌<◌, ◌≤◌, Bool, true, cond, List, [], Option, None, option_map, length, refl}
+use Rattle.std.proofs.Common.{◌≡◌, ℕ, ◌<◌, ◌≤◌, Bool, true, cond, List, [], Option, None, option_map, length, refl}
 use Rattle.std.proofs.Common.{sym, ◌∙◌, ap}
 use Rattle.std.specs.Bool.{Decides}
 use Rattle.codes.specs.CharacterMap.{restricted}
@@ -9,9 +9,7 @@ use Rattle.sfnt_bytes.specs.declared.directory.TheConstants.{MAX_FILE}
 use Rattle.font_tables.specs.Fields.{glyph_count_of}
 use Rattle.font_tables.specs.Outlines.{outline_of}
 use Rattle.font_glyph.specs.Linked.{Linked}
-use Rattle.font_glyph.specs.Marks.{has}
 use Rattle.font_glyph.specs.Reach.{Reach}
-use Rattle.font_glyph.specs.declared.linked.TheConstants as numbers
 use Rattle.font_file.specs.Font.{font_fault, map_of}
 use Rattle.font_theory.specs.Content.{Content, IsClosedContent, IsFont, NUMBERS, content, everything, font_of}
 use Rattle.font_theory.specs.Content.{is_kept, is_root, is_seed, layout_font_of, links_in, read_back}
@@ -31,7 +29,7 @@ use Rattle.font_theory.proofs.LeanCopiedLemmas.{AreAlike-spelled, AreAlike-thin}
 use Rattle.font_theory.proofs.LeanLemmas.{IsFont-thin, IsLean}
 use Rattle.font_theory.proofs.LinkLemmas.{layout-copied, layout-made, may-copied}
 use Rattle.font_theory.proofs.MeaningLemmas.{copied_of-file}
-use Rattle.font_theory.proofs.ReaderLemmas.{is_kept-seen, is_root-seen, kept-plain, kept_by_marks}
+use Rattle.font_theory.proofs.ReaderLemmas.{is_kept-seen, is_root-seen, kept-plain}
 use Rattle.font_theory.proofs.WritableLemmas.{IsWritable-closed}
 
 module _ (font : List ℕ) (wanted : ℕ → Bool) (accepted : layout_fault font ≡ None) where
@@ -99,16 +97,6 @@ module _ (font : List ℕ) (wanted : ℕ → Bool) (accepted : layout_fault font
       (Reach (outline_of font) (is_root tables (restricted wanted (map_of font))) g)
   is_kept-layout =
       is_kept-seen font tables (copied-below font) wanted fault ok (links (gsub_of font)) links_in-layout
-
-  -- marks of the roots that `follow` finds, and of what `close` finds from there, are those of what is kept
-  pub kept_by_phases : (seeds found marks : List Bool)
-      → ((g : ℕ) → has seeds g ≡ is_seed (restricted wanted (map_of font)) g)
-      → ((g : ℕ) → has found g ≡ true ↔ (g < glyph_count_of font)
-      × Linked (links (gsub_of font)) (has seeds) numbers.NUMBERS g)
-      → ((g : ℕ) → has marks g ≡ true ↔ Reach (outline_of font) (has found) g)
-      → (g : ℕ) → has marks g ≡ is_kept (layout_font_of font) wanted g
-  kept_by_phases =
-      kept_by_marks font tables (copied-below font) wanted fault ok (links (gsub_of font)) links_in-layout
 
   -- and no less than a lean cut keeps
   pub kept-lean : (g : ℕ) → is_kept (font_of font) wanted g ≡ true → is_kept (layout_font_of font) wanted g ≡ true

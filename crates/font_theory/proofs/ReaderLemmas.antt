@@ -1,11 +1,10 @@
 -- What holds of each reader that sees more tables than a plain one, and refuses more.
-use Rattle.std.proofs.Common.{◌≡◌, ◌≢◌, ◌↔◌, ℕ, ◌<◌, ◌≤◌, Bool, true, false, cond, nat_eq, List, [], length, refl, sym}
+use Rattle.std.proofs.Common.{◌≡◌, ◌≢◌, ℕ, ◌<◌, ◌≤◌, Bool, true, false, cond, nat_eq, List, [], length, refl, sym}
 use Rattle.std.proofs.Common.{◌∙◌, ap, subst, inl, inr, Option, Some, None, unwrap_or, arith}
 use Rattle.std.specs.Bool.{Decides}
 use Rattle.std.specs.Option.{option_or}
-use Rattle.std.proofs.Math.Path.{fun_ext}
 use Rattle.std.proofs.lemmas.Bool.{cases_Bool, eqb-true, leb-false, or_parts}
-use Rattle.std.proofs.lemmas.Bool.Decides.{Decides-like, same_from_decides}
+use Rattle.std.proofs.lemmas.Bool.Decides.{Decides-like}
 use Rattle.sfnt_bytes.specs.Lines.{first_of_lines}
 use Rattle.sfnt_bytes.specs.declared.directory.DirError.TheVariants.{FileTooLarge}
 use Rattle.sfnt_bytes.specs.declared.directory.TheConstants.{MAX_FILE}
@@ -16,10 +15,8 @@ use Rattle.font_tables.specs.Outlines.{outline_of}
 use Rattle.font_tables.specs.Refusals.{is_bad_hhea, is_bad_hmtx, is_bad_maxp}
 use Rattle.codes.specs.CharacterMap.{restricted}
 use Rattle.font_glyph.specs.Linked.{Linked}
-use Rattle.font_glyph.specs.Marks.{has}
 use Rattle.font_glyph.specs.Reach.{Reach}
 use Rattle.font_glyph.specs.Record.{IsRecord}
-use Rattle.font_glyph.specs.declared.linked.TheConstants as numbers
 use Rattle.font_file.specs.Font.{font_fault, map_of}
 use Rattle.font_file.specs.declared.font_error.FontError.{FontError}
 use Rattle.font_file.specs.declared.font_error.FontError.TheVariants.{Directory}
@@ -32,7 +29,7 @@ use Rattle.font_theory.proofs.ContentLemmas.{IsKept-linked, read_back-reached}
 use Rattle.font_theory.proofs.FileWantedLemmas.{Reach-file, Reach-font, outline-file, roots-font}
 use Rattle.font_theory.proofs.FontLemmas.{IsFont-accepted, glyph_count-file, size-accepted, size-refused}
 use Rattle.font_theory.proofs.LeanMetricLemmas.{metric_of-tables}
-use Rattle.font_theory.proofs.RootLemmas.{is_root-below, is_root-decides, roots_marked}
+use Rattle.font_theory.proofs.RootLemmas.{is_root-below, is_root-decides}
 use Rattle.font_theory.proofs.WantedLemmas.{Reach-along, is_kept-decides, seeds-roots}
 
 abbrev Tables : Type 0
@@ -158,22 +155,6 @@ module _ (file : List ℕ) (c : Tables) (below : (slot : ℕ) → slot < SLOTS �
     is_kept-seen g =
         Decides-like _ (λ r. (Reach-file file accepted roots low_roots g r).0)
         (λ r. (Reach-font file accepted roots low_roots g r).0) (is_kept-decides (seen file c) wanted ok g)
-
-    -- marks of the roots that `follow` finds, and of what `close` finds from there, are those of what is kept
-    pub kept_by_marks : (seeds found marks : List Bool)
-        → ((g : ℕ) → has seeds g ≡ is_seed (restricted wanted (map_of file)) g)
-        → ((g : ℕ) → has found g ≡ true ↔ (g < glyph_count_of file) × Linked linked (has seeds) numbers.NUMBERS g)
-        → ((g : ℕ) → has marks g ≡ true ↔ Reach (outline_of file) (has found) g)
-        → (g : ℕ) → has marks g ≡ is_kept (seen file c) wanted g
-    kept_by_marks seeds found marks are first second g =
-        let P : ℕ → (ℕ → List ℕ) → ℕ → Type 0 = λ n l h. has found h ≡ true ↔ (h < n)
-        × Linked l (has seeds) numbers.NUMBERS h in
-        let same : has found ≡ roots =
-        fun_ext (roots_marked c (restricted wanted (map_of file)) seeds found are
-        (λ h. subst (λ (X : Type 0). X) (λ i. P (sym count-seen i) (sym links_are i) h) (first h))) in
-        let Q : (ℕ → Bool) → Type 0 = λ s. Reach (outline_of file) s g in
-        same_from_decides {P = Reach (outline_of file) roots g} (has marks g) (is_kept (seen file c) wanted g)
-        ((λ h. subst Q same ((second g).0 h)), (λ r. (second g).1 (subst Q (sym same) r))) (is_kept-seen g)
 
     -- and no less than a plain cut keeps
     pub kept-plain : (g : ℕ) → is_kept (font_of file) wanted g ≡ true → is_kept (seen file c) wanted g ≡ true

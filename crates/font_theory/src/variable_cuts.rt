@@ -80,8 +80,8 @@ pub fn variable_content_is()
         ≡ option_map (gvar_with (kept_data F wanted) (glyph_count F.copied)) (F.copied GVAR)) }
 {}
 
-/// A variable cut has the tables of layout and of variations of the font, byte for byte, but for `gvar`, which is made of the
-/// first 8 bytes and the shared tuples of that of the font, and of the data of the kept glyphs, byte for byte.
+/// A variable cut has the tables of layout and of variations of the font, byte for byte, but for `gvar`, which is made
+/// of the first 8 bytes and the shared tuples of that of the font, and of the data of the kept glyphs, byte for byte.
 pub fn variable_tables_are_kept()
     ensures { (file : List ℕ) (wanted : ℕ → Bool) → variable_fault file ≡ None
         → ((slot : ℕ) → SLOTS ≤ slot → slot < GVAR →
