@@ -15,7 +15,7 @@ VARIATIONS = [b"HVAR", b"MVAR", b"STAT", b"VVAR", b"avar", b"cvar", b"fvar", b"g
 # What a variable cut has besides the tables of a lean cut.
 ADDED = sorted(LAYOUT + VARIATIONS)
 
-# include/refusals.txt does not have it, because the program makes no variable cuts yet.
+# The program makes no variable cuts yet, and no call gives this refusal.
 BAD_VARIATIONS = 28, "bad variations"
 
 
