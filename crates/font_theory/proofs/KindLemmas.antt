@@ -13,7 +13,7 @@ use Rattle.font_theory.specs.LayoutCut.{layout_fault, layout_format, layout_line
 use Rattle.font_theory.specs.LeanCut.{lean_format, spelled_out, thin}
 use Rattle.font_theory.specs.VariableCut.{variable_fault, variable_font_of, variable_format, written_out}
 use Rattle.font_theory.specs.declared.kinds.Kind.{Kind}
-use Rattle.font_theory.specs.declared.kinds.Kind.TheVariants.{Full, Layout, Lean}
+use Rattle.font_theory.specs.declared.kinds.Kind.TheVariants.{Full, Layout, Lean, Variable}
 use Rattle.font_theory.proofs.ContentLemmas.{IsClosed-content}
 use Rattle.font_theory.proofs.CutLemmas.{font-whole}
 use Rattle.font_theory.proofs.FormatLemmas.{our_format-limit}
@@ -24,8 +24,8 @@ use Rattle.font_theory.proofs.LeanFileLemmas.{read-current}
 use Rattle.font_theory.proofs.LeanFormatLemmas.{lean_format-is}
 use Rattle.font_theory.proofs.LeanLemmas.{IsFont-thin}
 use Rattle.font_theory.proofs.OurFormatLemmas.{our_format-is}
-use Rattle.font_theory.proofs.VariableFileLemmas.{means-variable}
-use Rattle.font_theory.proofs.VariableFormatLemmas.{refused-variable, variable_format-is}
+use Rattle.font_theory.proofs.VariableFileLemmas.{means-variable, whole-variable}
+use Rattle.font_theory.proofs.VariableFormatLemmas.{font_fault-variable, refused-variable, variable_format-is}
 
 our_fault : (X : List ℕ) → our_format.fault X ≡ font_fault X
 unfolding our_format
@@ -107,8 +107,7 @@ layout = record {
   means = layout_means;
 }
 
--- variable cuts are such a kind, of which there is no name yet
-pub variable : IsKind variable_format variable_fault variable_font_of written_out
+variable : IsKind variable_format variable_fault variable_font_of written_out
 unfolding variable_format
 variable = record {
   law = variable_format-is;
@@ -123,12 +122,14 @@ pub kind_is : (kind : Kind) → IsKind (format_of kind) (fault_of kind) (font_as
 kind_is Full = full
 kind_is Lean = lean
 kind_is Layout = layout
+kind_is Variable = variable
 
 -- a file that is accepted for cuts of a kind is a font
 pub opened : (kind : Kind) (X : List ℕ) → fault_of kind X ≡ None → font_fault X ≡ None
 opened Full X accepted = accepted
 opened Lean X accepted = accepted
 opened Layout X accepted = font_fault-layout X accepted
+opened Variable X accepted = font_fault-variable X accepted
 
 -- a file in cut form is read as what is read back of its content
 whole_full : (X : List ℕ) → IsCut our_format X → font_of X ≡ read_back (content (font_of X) everything)
@@ -147,3 +148,4 @@ pub read_whole : (kind : Kind) (X : List ℕ) → IsCut (format_of kind) X
 read_whole Full = whole_full
 read_whole Lean = whole_lean
 read_whole Layout = whole_layout
+read_whole Variable = whole-variable

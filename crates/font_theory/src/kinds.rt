@@ -10,6 +10,8 @@ pub enum Kind {
     Lean,
     /// Layout cuts: lean cuts with the tables of layout, and with the glyphs that `GSUB` may put for others.
     Layout,
+    /// Variable cuts: layout cuts with the tables of variations, and with the variation data of the kept glyphs.
+    Variable,
 }
 
 /// The files of each kind are read and written as those of this program are: so all laws of cuts, joins,

@@ -1,4 +1,4 @@
-//! The laws of variable cuts: the contract of each function is the law. No call of this program makes them yet.
+//! The laws of variable cuts: the contract of each function is the law.
 ghost use Rattle.std.specs.Prelude.{◌≡◌, ◌≢◌, ℕ, ◌+◌, ◌<◌, ◌≤◌, ◌↔◌, ◌&&◌, Bool, true, false, List, [], codes, length, nat_eq, None, Some};
 ghost use Rattle.std.specs.Option.{option_map};
 ghost use Rattle.sfnt_bytes.specs.Directory.{slot_tag, table_of};
@@ -22,7 +22,6 @@ ghost use Rattle.font_theory.specs.Bytes.{padded};
 ghost use Rattle.font_theory.specs.Content.{Content, Font, IsClosedContent, IsFont, NUMBERS, content, everything, font_of, glyph_count, is_kept, is_root, is_seed, read_back};
 ghost use Rattle.font_theory.specs.Cut.{Arises, CanJoin, IsCurrent, IsCut, IsFormat, Under, cut, either, is_cut, joined, content_of_all};
 ghost use Rattle.font_theory.specs.Difference.{difference};
-ghost use Rattle.font_theory.specs.Kinds.{IsKind};
 ghost use Rattle.font_theory.specs.LayoutCut.{layout_fault, layout_format, without_layout};
 ghost use Rattle.font_theory.specs.LeanCut.{lean_format, leaned, thin};
 ghost use Rattle.font_theory.specs.Links.{is_bad_layout, links};
@@ -212,14 +211,6 @@ pub fn variable_refusals_are_true()
         × ((X Y F : List ℕ) → variable_fault X ≡ None → variable_fault Y ≡ None →
         difference (content_of_all variable_format X) (content_of_all variable_format Y) ≢ None →
         Under variable_format X F → ¬ Under variable_format Y F) }
-{}
-
-/// Variable cuts are a kind of cuts as the kinds of this program are, and what is read of a file in variable cut
-/// form is what is read back of its own content.
-pub fn variable_is_a_kind()
-    ensures { IsKind variable_format variable_fault variable_font_of written_out
-        × ((X : List ℕ) → IsCut variable_format X →
-        variable_font_of X ≡ read_back (content (variable_font_of X) everything)) }
 {}
 
 /// A plain reader sees all of a file but its tables of layout and of variations.
