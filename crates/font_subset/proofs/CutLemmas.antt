@@ -19,12 +19,13 @@ use Rattle.font_theory.proofs.WritableLemmas.{IsWritable-closed}
 use Rattle.codes.specs.Wanted.{member}
 use Rattle.codes.specs.declared.code_range.CodeRange.{CodeRange}
 use Rattle.font_theory.specs.declared.kinds.Kind.{Kind}
-use Rattle.font_theory.specs.declared.kinds.Kind.TheVariants.{Full, Layout, Lean}
+use Rattle.font_theory.specs.declared.kinds.Kind.TheVariants.{Full, Layout, Lean, Variable}
 use Rattle.font_theory.specs.Kinds.{fault_of}
 use Rattle.font_theory.proofs.KindLemmas.{kind_is}
 use Rattle.font_subset.specs.KeptGlyphs.{written_of}
 use Rattle.font_subset.specs.CutOfKind.{IsSoundIn, cut_in}
 use Rattle.font_subset.proofs.LayoutCutLemmas.{layout_sound}
+use Rattle.font_subset.proofs.VariableCutLemmas.{variable_sound}
 use Rattle.font_subset.proofs.SourceLemmas.{Held}
 use Rattle.font_subset.proofs.LeanCutLemmas.{lean_sound}
 use Rattle.font_subset.specs.CutOfFont.{IsCutRefusal, IsSound, IsWritten, StopsCut, cut_of}
@@ -112,3 +113,4 @@ is_sound_in font made wanted = by_kind font.0 font.1
     by_kind Full file = is_sound file made wanted
     by_kind Lean file = lean_sound file made wanted
     by_kind Layout file = layout_sound file made wanted
+    by_kind Variable file = variable_sound file made wanted

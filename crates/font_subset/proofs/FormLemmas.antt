@@ -7,9 +7,10 @@ use Rattle.font_theory.specs.File.{current_writing, file, writing_of}
 use Rattle.font_theory.specs.Kinds.{format_of, spelled_by}
 use Rattle.font_theory.specs.LayoutCut.{layout_format}
 use Rattle.font_theory.specs.LeanCut.{lean_format}
+use Rattle.font_theory.specs.VariableCut.{variable_format}
 use Rattle.font_theory.specs.declared.Profile.TheVariants.{First}
 use Rattle.font_theory.specs.declared.kinds.Kind.{Kind}
-use Rattle.font_theory.specs.declared.kinds.Kind.TheVariants.{Full, Layout, Lean}
+use Rattle.font_theory.specs.declared.kinds.Kind.TheVariants.{Full, Layout, Lean, Variable}
 use Rattle.font_theory.proofs.KindLemmas.{kind_is}
 use Rattle.font_subset.specs.KeptGlyphs.{codes_wanted, written_of}
 use Rattle.font_subset.specs.Inside.{IsFileIn}
@@ -26,12 +27,14 @@ unfolding our_format
 old_full Full C K X full spells = ap (λ L. file (writing_of First) L) (sym spells)
 old_full Lean C K X full spells = absurd (let n : Lean ≡ Full = full in cc)
 old_full Layout C K X full spells = absurd (let n : Layout ≡ Full = full in cc)
+old_full Variable C K X full spells = absurd (let n : Variable ≡ Full = full in cc)
 
 old_other : (kind : Kind) (K : Content) → kind ≢ Full → (format_of kind).file K ≡ (format_of kind).old K
-unfolding lean_format layout_format
+unfolding lean_format layout_format variable_format
 old_other Full K other = absurd (other refl)
 old_other Lean K other = refl
 old_other Layout K other = refl
+old_other Variable K other = refl
 
 module _ (kind : Kind) (C K : Content) (X : List ℕ) (spells : C ≡ spelled_by kind K) where
   pub now_is : X ≡ file current_writing C → (format_of kind).file K ≡ X
@@ -55,6 +58,9 @@ lean_other kind is full = let n : Lean ≡ Full = sym is ∙ full in cc
 
 pub layout_other : (kind : Kind) → kind ≡ Layout → kind ≢ Full
 layout_other kind is full = let n : Layout ≡ Full = sym is ∙ full in cc
+
+pub variable_other : (kind : Kind) → kind ≡ Variable → kind ≢ Full
+variable_other kind is full = let n : Variable ≡ Full = sym is ∙ full in cc
 
 -- the form of a font's file, of what is held for all codes
 pub form_of_held : (kind : Kind) (held : Held) (X : List ℕ) (form : CutForm) → kind ≡ held.0 → held.1.1 ≡ None

@@ -4,21 +4,23 @@ use Rattle.std.proofs.Common.{Some, sym, ◌∙◌, ap, subst, arith, MatchOptio
 use Rattle.std.specs.Option.{IsSome, is_some, option_map, option_or, unwrap_or}
 use Rattle.std.proofs.Math.Path.{fun_ext}
 use Rattle.std.proofs.lemmas.Bool.{lt-ltb}
-use Rattle.sfnt_bytes.specs.declared.directory.TheConstants.{MAX_FILE}
-use Rattle.sfnt_bytes.specs.declared.tag.TheConstants.{HHEA, HMTX, POST, VHEA, VMTX}
+use Rattle.font_write.specs.declared.source.TheConstants.{MAX_TABLE}
+use Rattle.sfnt_bytes.specs.declared.tag.TheConstants.{GVAR, HHEA, HMTX, POST, VHEA, VMTX}
 use Rattle.font_tables.specs.Fields.{number_of_h_metrics}
 use Rattle.font_tables.specs.Refusals.{is_bad_hhea, is_bad_hmtx}
 use Rattle.font_theory.specs.Content.{Content, IsWritable, KeepsComponents, content, font_of, glyph_count}
 use Rattle.font_theory.specs.Content.{layout_font_of}
 use Rattle.font_theory.specs.Cut.{our_format}
-use Rattle.font_theory.specs.Kinds.{fault_of, font_as, format_of, spelled_by}
+use Rattle.font_theory.specs.Kinds.{fault_of, font_as, format_of, spelled_by, tables_as}
 use Rattle.font_theory.specs.LayoutCut.{layout_format}
 use Rattle.font_theory.specs.LeanCut.{blank, cleared, lean_format, leaned, pairs_in, thin_post}
+use Rattle.font_theory.specs.VariableCut.{gvar_with, variable_font_of, variable_format}
 use Rattle.font_theory.specs.declared.kinds.Kind.{Kind}
-use Rattle.font_theory.specs.declared.kinds.Kind.TheVariants.{Full, Layout, Lean}
+use Rattle.font_theory.specs.declared.kinds.Kind.TheVariants.{Full, Layout, Lean, Variable}
 use Rattle.font_theory.proofs.FontLemmas.{IsFont-accepted}
 use Rattle.font_theory.proofs.LayoutCutLemmas.{IsFont-layout}
 use Rattle.font_theory.proofs.LeanedLemmas.{leaned-is}
+use Rattle.font_theory.proofs.VariableFormatLemmas.{IsFont-variable}
 use Rattle.font_write.specs.Parts.{IsNextKept}
 use Rattle.font_subset.specs.KeptGlyphs.{codes_wanted, selected, written_of}
 use Rattle.font_subset.specs.Inside.{IsMadeTable}
@@ -26,19 +28,23 @@ use Rattle.font_subset.proofs.LeanTableLemmas.{cleared-none}
 use Rattle.font_subset.proofs.LeanedLemmas.{leaned_components, leaned_count, leaned_head, leaned_hmtx, leaned_map}
 use Rattle.font_subset.proofs.LeanedLemmas.{leaned_other, leaned_outline, leaned_post, leaned_vmtx, leaned_writable}
 use Rattle.font_subset.proofs.SourceLemmas.{Held, is_writable, keeps_components}
+use Rattle.font_subset.proofs.VariedLemmas.{data_held, held_components, held_count, held_is, held_slot, held_writable}
+use Rattle.font_subset.proofs.VariedLemmas.{with_data_held}
 
--- what is written of a content of a kind, where that is of the font itself and not of a lean reading
+-- what is written of a content of a kind, where that is of the font itself and not of what the kind reads of it
 abbrev kept_by : Kind → Content → Content
 kept_by Full K = K
 kept_by Lean K = leaned K
 kept_by Layout K = leaned K
+kept_by Variable K = with_data_held K
 
 by_kind : (kind : Kind) (font : List ℕ) (wanted : ℕ → Bool) → fault_of kind font ≡ None
     → spelled_by kind (content ((format_of kind).font font) wanted) ≡ kept_by kind (content (font_as kind font) wanted)
-unfolding our_format lean_format layout_format
+unfolding our_format lean_format layout_format variable_format
 by_kind Full font wanted ok = refl
 by_kind Lean font wanted ok = leaned-is (font_of font) (IsFont-accepted font ok) wanted
 by_kind Layout font wanted ok = leaned-is (layout_font_of font) (IsFont-layout font ok) wanted
+by_kind Variable font wanted ok = held_is (variable_font_of font) wanted (IsFont-variable font ok)
 
 pub written_spelled : (cut : Held)
     → written_of cut ≡ spelled_by cut.0 (content ((format_of cut.0).font cut.1.0) (codes_wanted cut.1.1))
@@ -53,45 +59,70 @@ kept_head : (kind : Kind) (K : Content) → (kept_by kind K).head ≡ K.head
 kept_head Full K = refl
 kept_head Lean K = leaned_head K
 kept_head Layout K = leaned_head K
+kept_head Variable K = refl
 
 kept_map : (kind : Kind) (K : Content) → (kept_by kind K).map ≡ K.map
 kept_map Full K = refl
 kept_map Lean K = leaned_map K
 kept_map Layout K = leaned_map K
+kept_map Variable K = refl
 
 kept_outline : (kind : Kind) (K : Content) → (kept_by kind K).outline ≡ K.outline
 kept_outline Full K = refl
 kept_outline Lean K = leaned_outline K
 kept_outline Layout K = leaned_outline K
+kept_outline Variable K = refl
 
 kept_count : (kind : Kind) (K : Content) → glyph_count (kept_by kind K).copied ≡ glyph_count K.copied
 kept_count Full K = refl
 kept_count Lean K = leaned_count K
 kept_count Layout K = leaned_count K
+kept_count Variable K = held_count K
 
-kept_other : (kind : Kind) (K : Content) (slot : ℕ) → slot ≢ HMTX → slot ≢ POST → slot ≢ VMTX
+kept_other : (kind : Kind) (K : Content) (slot : ℕ) → slot ≢ HMTX → slot ≢ POST → slot ≢ VMTX → slot ≢ GVAR
     → (kept_by kind K).copied slot ≡ K.copied slot
-kept_other Full K slot a b c = refl
-kept_other Lean K slot a b c = leaned_other K slot a b c
-kept_other Layout K slot a b c = leaned_other K slot a b c
+kept_other Full K slot a b c d = refl
+kept_other Lean K slot a b c d = leaned_other K slot a b c
+kept_other Layout K slot a b c d = leaned_other K slot a b c
+kept_other Variable K slot a b c d = held_slot K slot d ∙ leaned_other K slot a b c
 
 kept_writable : (kind : Kind) (K : Content) → IsWritable K → IsWritable (kept_by kind K)
 kept_writable Full K ok = ok
 kept_writable Lean K ok = leaned_writable K ok
 kept_writable Layout K ok = leaned_writable K ok
+kept_writable Variable K ok = held_writable K ok
 
 kept_components : (kind : Kind) (K : Content) → KeepsComponents K → KeepsComponents (kept_by kind K)
 kept_components Full K ok = ok
 kept_components Lean K ok = leaned_components K ok
 kept_components Layout K ok = leaned_components K ok
+kept_components Variable K ok = held_components K ok
 
 kept_full : (kind : Kind) (K : Content) → kind ≡ Full → kept_by kind K ≡ K
 kept_full kind K full = ap (λ (k : Kind). kept_by k K) full
 
-kept_leaned : (kind : Kind) (K : Content) → kind ≢ Full → kept_by kind K ≡ leaned K
-kept_leaned Full K n = absurd (n refl)
-kept_leaned Lean K n = refl
-kept_leaned Layout K n = refl
+kept_leaned : (kind : Kind) (K : Content) (slot : ℕ) → kind ≢ Full → slot ≢ GVAR
+    → (kept_by kind K).copied slot ≡ (leaned K).copied slot
+kept_leaned Full K slot n other = absurd (n refl)
+kept_leaned Lean K slot n other = refl
+kept_leaned Layout K slot n other = refl
+kept_leaned Variable K slot n other = held_slot K slot other
+
+-- `gvar`, which only a variable cut has
+kept_no_gvar : (kind : Kind) (K : Content) → kind ≢ Full → K.copied GVAR ≡ None → (kept_by kind K).copied GVAR ≡ None
+kept_no_gvar Full K n none = absurd (n refl)
+kept_no_gvar Lean K n none = leaned_other K GVAR (λ e. omega (arith, e)) (λ e. omega (arith, e)) (λ e. omega (arith, e)) ∙ none
+kept_no_gvar Layout K n none = leaned_other K GVAR (λ e. omega (arith, e)) (λ e. omega (arith, e)) (λ e. omega (arith, e)) ∙ none
+kept_no_gvar Variable K n none = ap (option_map (gvar_with (data_held K) (glyph_count K.copied))) none
+
+kept_gvar : (kind : Kind) (file : List ℕ) (wanted : ℕ → Bool) (gvar : List ℕ) → tables_as kind file GVAR ≡ Some gvar
+    → (kept_by kind (content (font_as kind file) wanted)).copied GVAR
+    ≡ Some (gvar_with (data_held (content (font_as kind file) wanted)) (glyph_count (tables_as kind file)) gvar)
+kept_gvar Full file wanted gvar some = cc
+kept_gvar Lean file wanted gvar some = cc
+kept_gvar Layout file wanted gvar some = cc
+kept_gvar Variable file wanted gvar some = ap (option_map (gvar_with (data_held (content (variable_font_of file) wanted))
+    (glyph_count (variable_font_of file).copied))) some
 
 module _ (cut : Held) (ok : fault_of cut.0 cut.1.0 ≡ None) where
   pub in_writable : IsWritable (written_of cut)
@@ -129,10 +160,10 @@ module _ (cut : Held) (ok : fault_of cut.0 cut.1.0 ≡ None) where
         (next.kept (subst (λ (n : ℕ). suc g ≤ n) in_count low));
   }
 
-  pub other_slot : (slot : ℕ) → slot ≢ HMTX → slot ≢ POST → slot ≢ VMTX
+  pub other_slot : (slot : ℕ) → slot ≢ HMTX → slot ≢ POST → slot ≢ VMTX → slot ≢ GVAR
       → (written_of cut).copied slot ≡ (selected cut).copied slot
-  other_slot slot a b c = ap (λ (K : Content). K.copied slot) (written_is cut ok)
-      ∙ kept_other cut.0 (selected cut) slot a b c
+  other_slot slot a b c d = ap (λ (K : Content). K.copied slot) (written_is cut ok)
+      ∙ kept_other cut.0 (selected cut) slot a b c d
 
   -- a full cut has no table anew
   pub made_none : (slot : ℕ) → cut.0 ≡ Full → IsMadeTable cut slot None
@@ -144,8 +175,9 @@ module _ (cut : Held) (ok : fault_of cut.0 cut.1.0 ≡ None) where
 
   -- the tables that others have anew
   module _ (other : cut.0 ≢ Full) where
-    written_leaned : written_of cut ≡ leaned (selected cut)
-    written_leaned = written_is cut ok ∙ kept_leaned cut.0 (selected cut) other
+    written_leaned : (slot : ℕ) → slot ≢ GVAR → (written_of cut).copied slot ≡ (leaned (selected cut)).copied slot
+    written_leaned slot d = ap (λ (L : Content). L.copied slot) (written_is cut ok)
+        ∙ kept_leaned cut.0 (selected cut) slot other d
 
     abbrev K : Content
     K = selected cut
@@ -153,21 +185,38 @@ module _ (cut : Held) (ok : fault_of cut.0 cut.1.0 ≡ None) where
     pub made_hmtx : (table : Option (List ℕ)) → option_or table (K.copied HMTX)
         ≡ option_map (cleared (λ g. is_some (K.outline g)) (pairs_in K.copied HHEA HMTX) (glyph_count K.copied))
         (K.copied HMTX)
-        → length (unwrap_or table []) ≤ MAX_FILE → IsMadeTable cut HMTX table
+        → length (unwrap_or table []) ≤ MAX_TABLE → IsMadeTable cut HMTX table
     made_hmtx table is small =
-        record { is = is ∙ sym (ap (λ (L : Content). L.copied HMTX) written_leaned ∙ leaned_hmtx K); small = small }
+        record { is = is ∙ sym (written_leaned HMTX (λ e. omega (arith, e)) ∙ leaned_hmtx K); small = small }
 
     pub made_vmtx : (table : Option (List ℕ)) → option_or table (K.copied VMTX)
         ≡ option_map (cleared (λ g. is_some (K.outline g)) (pairs_in K.copied VHEA VMTX) (glyph_count K.copied))
         (K.copied VMTX)
-        → length (unwrap_or table []) ≤ MAX_FILE → IsMadeTable cut VMTX table
+        → length (unwrap_or table []) ≤ MAX_TABLE → IsMadeTable cut VMTX table
     made_vmtx table is small =
-        record { is = is ∙ sym (ap (λ (L : Content). L.copied VMTX) written_leaned ∙ leaned_vmtx K); small = small }
+        record { is = is ∙ sym (written_leaned VMTX (λ e. omega (arith, e)) ∙ leaned_vmtx K); small = small }
 
     pub made_post : (table : Option (List ℕ)) → option_or table (K.copied POST) ≡ option_map thin_post (K.copied POST)
-        → length (unwrap_or table []) ≤ MAX_FILE → IsMadeTable cut POST table
+        → length (unwrap_or table []) ≤ MAX_TABLE → IsMadeTable cut POST table
     made_post table is small =
-        record { is = is ∙ sym (ap (λ (L : Content). L.copied POST) written_leaned ∙ leaned_post K); small = small }
+        record { is = is ∙ sym (written_leaned POST (λ e. omega (arith, e)) ∙ leaned_post K); small = small }
+
+    -- a font of which no `gvar` is read, and one whose `gvar` is made of the data of the kept glyphs
+    pub made_no_gvar : tables_as cut.0 cut.1.0 GVAR ≡ None → IsMadeTable cut GVAR None
+    made_no_gvar none = record {
+      is = none
+          ∙ sym (ap (λ (L : Content). L.copied GVAR) (written_is cut ok) ∙ kept_no_gvar cut.0 K other none);
+      small = omega arith;
+    }
+
+    pub made_gvar : (gvar table : List ℕ) → tables_as cut.0 cut.1.0 GVAR ≡ Some gvar
+        → table ≡ gvar_with (data_held K) (glyph_count K.copied) gvar → length table ≤ MAX_TABLE
+        → IsMadeTable cut GVAR (Some table)
+    made_gvar gvar table some is small = record {
+      is = ap Some is ∙ sym (ap (λ (L : Content). L.copied GVAR) (written_is cut ok)
+          ∙ kept_gvar cut.0 cut.1.0 (codes_wanted cut.1.1) gvar some);
+      small = small;
+    }
 
 -- what is returned of a table that was made anew, or of none
 pub given_by : {X : Type 0} (bytes : X → List ℕ) (o : Option X) (made table lean : Option (List ℕ))
@@ -177,10 +226,10 @@ given_by bytes None made table lean none is = sym is ∙ ap (λ o. option_or o t
 given_by bytes (Some x) made table lean some is = sym is ∙ ap (λ o. option_or o table) some
 
 pub small_by : {X : Type 0} (bytes : X → List ℕ) (o : Option X) (made : Option (List ℕ))
-    → MatchOption o (made ≡ None) (λ x. made ≡ Some (bytes x)) → length (unwrap_or made []) ≤ MAX_FILE
-    → MatchOption o (Unit {0}) (λ x. length (bytes x) ≤ MAX_FILE)
+    → MatchOption o (made ≡ None) (λ x. made ≡ Some (bytes x)) → length (unwrap_or made []) ≤ MAX_TABLE
+    → MatchOption o (Unit {0}) (λ x. length (bytes x) ≤ MAX_TABLE)
 small_by bytes None made none small = tt
-small_by bytes (Some x) made some small = subst (λ (o : Option (List ℕ)). length (unwrap_or o []) ≤ MAX_FILE) some small
+small_by bytes (Some x) made some small = subst (λ (o : Option (List ℕ)). length (unwrap_or o []) ≤ MAX_TABLE) some small
 
 -- what a cut has at a slot at which it may have a table anew
 pub made_at : {X : Type 0} (bytes : X → List ℕ) (o : Option X) (held now : Held) (at slot : ℕ) (made : Option (List ℕ))

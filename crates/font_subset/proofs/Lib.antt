@@ -2,6 +2,8 @@ pub mod ContentOfAllLemmas
 pub mod CutLemmas
 pub mod FontLemmas
 pub mod FormLemmas
+pub mod KeptDataLemmas
+pub mod KeptGvarLemmas
 pub mod KindSourceLemmas
 pub mod LayoutCutLemmas
 pub mod LayoutFontLemmas
@@ -11,3 +13,6 @@ pub mod LeanedLemmas
 pub mod SeedLemmas
 pub mod SourceLemmas
 pub mod UnderLemmas
+pub mod VariableCutLemmas
+pub mod VariableFontLemmas
+pub mod VariedLemmas

@@ -10,11 +10,12 @@ use Rattle.codes.specs.Runs.{IsRun, NoRun}
 use Rattle.codes.specs.declared.runs.Run.{Run}
 use Rattle.font_glyph.specs.Reach.{Reach}
 use Rattle.font_theory.specs.Content.{CODES, everything, font_of, glyph_count, is_kept, is_root, is_seed}
-use Rattle.font_theory.specs.Content.{layout_font_of, links_in}
+use Rattle.font_theory.specs.Content.{links_in}
 use Rattle.font_theory.specs.Kinds.{fault_of, font_as, tables_as}
 use Rattle.font_theory.specs.declared.kinds.Kind.{Kind}
-use Rattle.font_theory.specs.declared.kinds.Kind.TheVariants.{Full, Layout, Lean}
+use Rattle.font_theory.specs.declared.kinds.Kind.TheVariants.{Full, Layout, Lean, Variable}
 use Rattle.font_theory.proofs.LayoutFileLemmas.{is_kept-layout}
+use Rattle.font_theory.proofs.VariableFileLemmas.{is_kept-variable_file}
 use Rattle.font_theory.proofs.RootLemmas.{roots_marked}
 use Rattle.font_glyph.specs.Linked.{Linked}
 use Rattle.font_glyph.specs.declared.linked.TheConstants as numbers
@@ -27,7 +28,7 @@ use Rattle.font_theory.proofs.FileWantedLemmas.{is_kept-file, roots-font}
 use Rattle.font_theory.proofs.FontLemmas.{IsFont-accepted, glyph_count-file}
 use Rattle.font_theory.proofs.SpellingLemmas.{codes_are}
 use Rattle.font_theory.proofs.WantedLemmas.{restricted-cases}
-use Rattle.font_subset.specs.KeptGlyphs.{IsKeptSet, IsRootSet, layout_read}
+use Rattle.font_subset.specs.KeptGlyphs.{IsKeptSet, IsRootSet, layout_read, variations_read}
 use Rattle.font_subset.proofs.SourceLemmas.{count_as}
 use Rattle.font_subset.specs.Inside.{AreMarked, AreSeedsTo, IsSeedSet}
 
@@ -133,48 +134,66 @@ run_within file wanted from run accepted is =
 
 -- where no table of layout is read the roots are the seeds
 pub seeds_alone : (kind : Kind) (file : List ℕ) (wanted : ℕ → Bool) (marks : List Bool) → fault_of kind file ≡ None
-    → None ≡ layout_read kind file → IsSeedSet file wanted marks → IsRootSet kind file wanted marks
-seeds_alone Full file wanted marks accepted none is = record {
+    → None ≡ layout_read kind file → None ≡ variations_read kind file → IsSeedSet file wanted marks
+    → IsRootSet kind file wanted marks
+seeds_alone Full file wanted marks accepted none other is = record {
   count = is.count;
   roots = λ g. is.seeds g
       ∙ sym (ap (λ s. s g) (roots-font file wanted accepted));
 }
-seeds_alone Lean file wanted marks accepted none is = record {
+seeds_alone Lean file wanted marks accepted none other is = record {
   count = is.count;
   roots = λ g. is.seeds g
       ∙ sym (ap (λ s. s g) (roots-font file wanted accepted));
 }
-seeds_alone Layout file wanted marks accepted none is = cc
+seeds_alone Layout file wanted marks accepted none other is = cc
+seeds_alone Variable file wanted marks accepted none other is = cc
 
 -- and else what links lead to from the seeds
-pub roots_found : (file : List ℕ) (wanted : ℕ → Bool) (l : ℕ → List ℕ) (seeds marks : List Bool) (n : ℕ)
-    → l ≡ links_in (layout_font_of file).copied → n ≡ glyph_count_of file → IsSeedSet file wanted seeds
+pub roots_found : (kind : Kind) (file : List ℕ) (wanted : ℕ → Bool) (l : ℕ → List ℕ) (seeds marks : List Bool) (n : ℕ)
+    → l ≡ links_in (tables_as kind file) → n ≡ glyph_count_of file → IsSeedSet file wanted seeds
     → length marks ≡ n
     → ((g : ℕ) → has marks g ≡ true ↔ (g < n) × Linked l (has seeds) numbers.NUMBERS g)
-    → IsRootSet Layout file wanted marks
-roots_found file wanted l seeds marks n same size is count found =
-    let whole : n ≡ glyph_count (layout_font_of file).copied = size ∙ count_as Layout file in
+    → IsRootSet kind file wanted marks
+roots_found kind file wanted l seeds marks n same size is count found =
+    let whole : n ≡ glyph_count (tables_as kind file) = size ∙ count_as kind file in
     let P : ℕ → (ℕ → List ℕ) → ℕ → Type 0 = λ k m g. has marks g ≡ true ↔ (g < k)
     × Linked m (has seeds) numbers.NUMBERS g in
     record {
       count = count ∙ size;
-      roots = roots_marked (layout_font_of file).copied (restricted wanted (map_of file)) seeds marks is.seeds
+      roots = roots_marked (tables_as kind file) (restricted wanted (map_of file)) seeds marks is.seeds
           (λ g. subst (λ (X : Type 0). X) (λ i. P (whole i) (same i) g) (found g));
     }
 
+-- of a font with its tables of layout, or with those of variations too
 pub roots_of_layout : (kind : Kind) (file held : List ℕ) (wanted : ℕ → Bool) (marks : List Bool)
     → Some held ≡ layout_read kind file → IsRootSet Layout held wanted marks → IsRootSet kind file wanted marks
 roots_of_layout Full file held wanted marks some is = cc
 roots_of_layout Lean file held wanted marks some is = cc
 roots_of_layout Layout file held wanted marks some is =
     subst (λ (o : Option (List ℕ)). IsRootSet Layout (unwrap_or o []) wanted marks) some is
+roots_of_layout Variable file held wanted marks some is = cc
 
-pub seeds_of_layout : (kind : Kind) (file held : List ℕ) (wanted : ℕ → Bool) (marks : List Bool)
-    → Some held ≡ layout_read kind file → IsSeedSet file wanted marks → IsSeedSet held wanted marks
-seeds_of_layout Full file held wanted marks some is = cc
-seeds_of_layout Lean file held wanted marks some is = cc
-seeds_of_layout Layout file held wanted marks some is =
-    subst (λ (o : Option (List ℕ)). IsSeedSet (unwrap_or o []) wanted marks) (sym some) is
+pub roots_of_variable : (kind : Kind) (file held : List ℕ) (wanted : ℕ → Bool) (marks : List Bool)
+    → Some held ≡ variations_read kind file → IsRootSet Variable held wanted marks → IsRootSet kind file wanted marks
+roots_of_variable Full file held wanted marks some is = cc
+roots_of_variable Lean file held wanted marks some is = cc
+roots_of_variable Layout file held wanted marks some is = cc
+roots_of_variable Variable file held wanted marks some is =
+    subst (λ (o : Option (List ℕ)). IsRootSet Variable (unwrap_or o []) wanted marks) some is
+
+-- the file that is read is that of the font
+pub read_layout : (kind : Kind) (file held : List ℕ) → Some held ≡ layout_read kind file → held ≡ file
+read_layout Full file held some = cc
+read_layout Lean file held some = cc
+read_layout Layout file held some = ap (λ (o : Option (List ℕ)). unwrap_or o []) some
+read_layout Variable file held some = cc
+
+pub read_variable : (kind : Kind) (file held : List ℕ) → Some held ≡ variations_read kind file → held ≡ file
+read_variable Full file held some = cc
+read_variable Lean file held some = cc
+read_variable Layout file held some = cc
+read_variable Variable file held some = ap (λ (o : Option (List ℕ)). unwrap_or o []) some
 
 -- what is reached from the roots is what a cut keeps
 is_kept_as : (kind : Kind) (file : List ℕ) (wanted : ℕ → Bool) → fault_of kind file ≡ None → (g : ℕ)
@@ -187,6 +206,7 @@ is_kept_as Lean file wanted accepted g =
     subst (λ s. Decides (is_kept (font_of file) wanted g) (Reach (outline_of file) s g))
     (sym (roots-font file wanted accepted)) (is_kept-file file wanted accepted g)
 is_kept_as Layout file wanted accepted g = is_kept-layout file wanted accepted g
+is_kept_as Variable file wanted accepted g = is_kept-variable_file file wanted accepted g
 
 pub kept_marked : (kind : Kind) (file : List ℕ) (wanted : ℕ → Bool) (roots marks : List Bool)
     → fault_of kind file ≡ None → IsRootSet kind file wanted roots → length marks ≡ glyph_count_of file

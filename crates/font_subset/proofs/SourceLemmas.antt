@@ -23,9 +23,10 @@ use Rattle.font_theory.specs.Content.{Content, IsFont, IsWritable, KeepsComponen
 use Rattle.font_theory.specs.Content.{is_kept}
 use Rattle.font_theory.specs.Kinds.{fault_of, font_as, tables_as}
 use Rattle.font_theory.specs.declared.kinds.Kind.{Kind}
-use Rattle.font_theory.specs.declared.kinds.Kind.TheVariants.{Full, Layout, Lean}
+use Rattle.font_theory.specs.declared.kinds.Kind.TheVariants.{Full, Layout, Lean, Variable}
 use Rattle.font_theory.proofs.LayoutCutLemmas.{IsFont-layout, layout_count}
 use Rattle.font_theory.proofs.LayoutLeanLemmas.{copied-below}
+use Rattle.font_theory.proofs.VariableFormatLemmas.{IsFont-variable, variable-below, variable_count}
 use Rattle.codes.specs.declared.code_range.CodeRange.{CodeRange}
 use Rattle.font_theory.proofs.ContentLemmas.{IsClosed-content}
 use Rattle.font_theory.proofs.FileWantedLemmas.{outline-file}
@@ -84,12 +85,14 @@ pub is_font : (kind : Kind) (file : List ℕ) → fault_of kind file ≡ None �
 is_font Full file accepted = IsFont-accepted file accepted
 is_font Lean file accepted = IsFont-accepted file accepted
 is_font Layout file accepted = IsFont-layout file accepted
+is_font Variable file accepted = IsFont-variable file accepted
 
 -- the count of glyphs is read of a table that is copied
 pub count_as : (kind : Kind) (file : List ℕ) → glyph_count_of file ≡ glyph_count (tables_as kind file)
 count_as Full file = sym (glyph_count-file file)
 count_as Lean file = sym (glyph_count-file file)
 count_as Layout file = sym (layout_count file ∙ glyph_count-file file)
+count_as Variable file = sym (variable_count file)
 
 -- a file of the content can be written, and it keeps what its own outlines are made of
 pub is_writable : (cut : Held) → fault_of cut.0 cut.1.0 ≡ None → IsWritable (selected cut)
@@ -108,6 +111,7 @@ pub copied_low : (kind : Kind) (file : List ℕ) (slot : ℕ) → slot < SLOTS
 copied_low Full file slot low = refl
 copied_low Lean file slot low = refl
 copied_low Layout file slot low = sym (copied-below file slot low)
+copied_low Variable file slot low = sym (variable-below file slot low)
 
 -- no mark stands past the marks
 has-past : (marks : List Bool) (g : ℕ) → has marks g ≡ true → g < length marks
@@ -120,7 +124,7 @@ when-some : (b : Bool) (x : List ℕ) → IsSome (when b x) → b ≡ true
 when-some true x h = refl
 when-some false x h = cc
 
-is_some-when : (b : Bool) (x : List ℕ) → is_some (when b x) ≡ b
+pub is_some-when : (b : Bool) (x : List ℕ) → is_some (when b x) ≡ b
 is_some-when true x = refl
 is_some-when false x = refl
 

@@ -14,8 +14,9 @@ use Rattle.font_theory.specs.Cut.{Format, IsFormat, Under, Writes, codes_of, our
 use Rattle.font_theory.specs.Kinds.{fault_of, format_of}
 use Rattle.font_theory.specs.LayoutCut.{layout_format}
 use Rattle.font_theory.specs.LeanCut.{lean_format}
+use Rattle.font_theory.specs.VariableCut.{variable_format}
 use Rattle.font_theory.specs.declared.kinds.Kind.{Kind}
-use Rattle.font_theory.specs.declared.kinds.Kind.TheVariants.{Full, Layout, Lean}
+use Rattle.font_theory.specs.declared.kinds.Kind.TheVariants.{Full, Layout, Lean, Variable}
 use Rattle.font_theory.proofs.ContentLemmas.{content-mapped}
 use Rattle.font_theory.proofs.CutLemmas.{codes_of-accepted, font-cut}
 use Rattle.font_theory.proofs.KindLemmas.{kind_is}
@@ -86,19 +87,21 @@ module _ (R : Format) (law : IsFormat R) where
 -- in words
 codes_of_kind : (kind : Kind) (file : List ℕ) → fault_of kind file ≡ None → codes_of (format_of kind) file
     ≡ is_mapped (map_of file)
-unfolding our_format lean_format layout_format
+unfolding our_format lean_format layout_format variable_format
 codes_of_kind Full file accepted = codes_of-accepted our_format (kind_is Full).law file accepted
 codes_of_kind Lean file accepted = codes_of-accepted lean_format (kind_is Lean).law file accepted
 codes_of_kind Layout file accepted = codes_of-accepted layout_format (kind_is Layout).law file accepted
+codes_of_kind Variable file accepted = codes_of-accepted variable_format (kind_is Variable).law file accepted
 
--- lean and layout cuts have one form
+-- all but full cuts have one form
 for_some : (kind : Kind) (made font : List ℕ)
     → ((wanted : ℕ → Bool) × Writes (format_of kind) (content ((format_of kind).font font) wanted) made)
     ↔ IsCutIn kind font made
-unfolding lean_format layout_format
+unfolding lean_format layout_format variable_format
 for_some Full made font = (λ w. w, λ w. w)
 for_some Lean made font = (λ w. (w.0, elim w.1 [ inl e ↦ sym e | inr e ↦ sym e ]), λ w. (w.0, inl (sym w.1)))
 for_some Layout made font = (λ w. (w.0, elim w.1 [ inl e ↦ sym e | inr e ↦ sym e ]), λ w. (w.0, inl (sym w.1)))
+for_some Variable made font = (λ w. (w.0, elim w.1 [ inl e ↦ sym e | inr e ↦ sym e ]), λ w. (w.0, inl (sym w.1)))
 
 module _ (kind : Kind) (b : Bool) (made font : List ℕ) (ok : fault_of kind made ≡ None) (accepted : fault_of kind font
     ≡ None)

@@ -1,5 +1,7 @@
 -- The glyphs that a cut keeps, as marks (OpenType 1.9, GSUB; glyf, Composite Glyph Description).
 use Rattle.std.specs.Prelude.{◌≡◌, ℕ, Bool, List, length, Option, None, Some}
+use Rattle.std.specs.Option.{option_map}
+use Rattle.sfnt_bytes.specs.declared.tag.TheConstants.{GVAR}
 use Rattle.codes.specs.CharacterMap.{restricted}
 use Rattle.codes.specs.Wanted.{member}
 use Rattle.codes.specs.declared.code_range.CodeRange.{CodeRange}
@@ -9,7 +11,7 @@ use Rattle.font_file.specs.Font.{map_of}
 use Rattle.font_theory.specs.Content.{Content, content, everything, is_kept, is_root}
 use Rattle.font_theory.specs.Kinds.{font_as, format_of, spelled_by, tables_as}
 use Rattle.font_theory.specs.declared.kinds.Kind.{Kind}
-use Rattle.font_theory.specs.declared.kinds.Kind.TheVariants.{Full, Layout, Lean}
+use Rattle.font_theory.specs.declared.kinds.Kind.TheVariants.{Full, Layout, Lean, Variable}
 
 -- the wanted codes: those in some ranges, or all
 abbrev pub codes_wanted : Option (List CodeRange) → ℕ → Bool
@@ -30,11 +32,24 @@ pub record IsKeptSet (kind : Kind) (file : List ℕ) (wanted : ℕ → Bool) (ma
   pub count : length marks ≡ glyph_count_of file
   pub kept : (g : ℕ) → has marks g ≡ is_kept (font_as kind file) wanted g
 
--- the file whose tables of layout are read, for layout cuts alone
+-- the file whose tables of layout are read, without what varies: for layout cuts alone
 abbrev pub layout_read : Kind → List ℕ → Option (List ℕ)
 layout_read Full file = None
 layout_read Lean file = None
 layout_read Layout file = Some file
+layout_read Variable file = None
+
+-- the file whose tables of layout and of variations are read, each as it is: for variable cuts alone
+abbrev pub variations_read : Kind → List ℕ → Option (List ℕ)
+variations_read Full file = None
+variations_read Lean file = None
+variations_read Layout file = None
+variations_read Variable file = Some file
+
+-- the `gvar` that cuts of a kind read of a file, and the number of its glyphs, or none
+abbrev pub AreVariationsIn : Kind → List ℕ → Option (List ℕ × ℕ) → Type 0
+AreVariationsIn kind file variations =
+    variations ≡ option_map (λ gvar. (gvar, glyph_count_of file)) (tables_as kind file GVAR)
 
 -- what is selected of a file for some codes, as cuts of a kind read it
 abbrev pub selected : Kind × (List ℕ × Option (List CodeRange)) → Content

@@ -7,3 +7,4 @@ pub mod LeanCutOfFont
 pub mod ListedRuns
 pub mod OpenedFont
 pub mod Text
+pub mod VariableCutOfFont

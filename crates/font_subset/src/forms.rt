@@ -41,6 +41,6 @@ pub fn form_of_file<S: Source>(kind: Kind, source: &S, bytes: &[u8]) -> CutForm
             CutForm::Not
         }
         // They were first written in the current profile.
-        Kind::Lean | Kind::Layout => CutForm::Not,
+        Kind::Lean | Kind::Layout | Kind::Variable => CutForm::Not,
     }
 }

@@ -1,5 +1,6 @@
-//! What a cut of a kind is made of: what is selected of a font, and the tables that cuts of the kind have anew. Lean
-//! and layout cuts have no metrics of glyphs that are not kept and no names of glyphs. OpenType 1.9, hmtx; vmtx; post.
+//! What a cut of a kind is made of: what is selected of a font, and the tables that cuts of the kind have anew. All but
+//! full cuts have no metrics of glyphs that are not kept and no names of glyphs, and variable cuts have no variation data
+//! of such glyphs. OpenType 1.9, hmtx; vmtx; post; gvar.
 ghost use Rattle.std.specs.Prelude.{◌≡◌, ◌≢◌, ◌+◌, ◌*◌, ◌<◌, ◌≤◌, ◌||◌, [], is_some, length, None, Some, IfOk, MatchOption, option_copied, unwrap_or, if◌then◌else◌};
 ghost use Rattle.std.specs.Option.{option_map, option_or};
 ghost use Rattle.sfnt_bytes.specs.declared.directory.TheConstants.{MAX_FILE};
@@ -12,16 +13,18 @@ ghost use Rattle.font_theory.specs.LeanCut.{blank, cleared, pairs_in, thin_post}
 ghost use Rattle.sfnt_bytes.specs.declared.tag.TheConstants.{POST};
 ghost use Rattle.font_subset.specs.KeptGlyphs.{selected, written_of};
 ghost use Rattle.font_subset.specs.CutOfKind.{form_as};
+ghost use Rattle.font_write.specs.declared.source.TheConstants.{MAX_TABLE};
 
 use crate::font_of_kind::FontOfKind;
 use crate::forms::{CutForm, form_of_file};
+use crate::kept_variations::kept_variations;
 use crate::lean_tables::{POST_LENGTH, blank_table, cleared_table, unnamed};
 use crate::selection::Selection;
 use font_map::{Run, Wanted};
 use font_tables::{has_bad_hhea, has_bad_hmtx, read_number_of_h_metrics};
 use font_theory::Kind;
 use font_write::Source;
-use sfnt_bytes::{HHEA, HMTX, NoMemory, POST, VHEA, VMTX};
+use sfnt_bytes::{GVAR, HHEA, HMTX, NoMemory, POST, VHEA, VMTX};
 use std::alloc::{Allocator, Global};
 use std::marker::Model;
 
@@ -57,7 +60,7 @@ fn metrics_table<S: Source, A: Allocator>(
         (pairs_in (S.content_of source.now).copied header slot)
         (glyph_count (S.content_of source.now).copied))
         ((S.content_of source.now).copied slot)) }
-    ensures small { IfOk result (λ o. length (unwrap_or (option_map (λ v. v.items) o) []) ≤ MAX_FILE) }
+    ensures small { IfOk result (λ o. length (unwrap_or (option_map (λ v. v.items) o) []) ≤ MAX_TABLE) }
 {
     let count = source.glyph_count();
     match source.copied(slot) {
@@ -88,7 +91,7 @@ pub fn blank_of<S: Source, A: Allocator>(
     ensures table { IfOk result (λ o. option_map (λ v. v.items) o
         ≡ option_map (blank (pairs_in (S.content_of source.now).copied header slot)
         (glyph_count (S.content_of source.now).copied)) ((S.content_of source.now).copied slot)) }
-    ensures small { IfOk result (λ o. length (unwrap_or (option_map (λ v. v.items) o) []) ≤ MAX_FILE) }
+    ensures small { IfOk result (λ o. length (unwrap_or (option_map (λ v. v.items) o) []) ≤ MAX_TABLE) }
 {
     let count = source.glyph_count();
     match source.copied(slot) {
@@ -107,7 +110,7 @@ fn post_table<S: Source, A: Allocator>(alloc: A, source: &S) -> Result<Option<Ve
     ensures table { IfOk result (λ o.
         option_or (option_map (λ v. v.items) o) ((S.content_of source.now).copied POST)
         ≡ option_map thin_post ((S.content_of source.now).copied POST)) }
-    ensures small { IfOk result (λ o. length (unwrap_or (option_map (λ v. v.items) o) []) ≤ MAX_FILE) }
+    ensures small { IfOk result (λ o. length (unwrap_or (option_map (λ v. v.items) o) []) ≤ MAX_TABLE) }
 {
     match source.copied(POST) {
         None => Ok(None),
@@ -141,6 +144,7 @@ pub struct CutOfKind<'f, 'a, A: Allocator = Global> {
     hmtx: Option<Vec<u8, A>>,
     post: Option<Vec<u8, A>>,
     vmtx: Option<Vec<u8, A>>,
+    gvar: Option<Vec<u8, A>>,
 }
 
 // Its value is that of the selection: the kind, the file of the font, and the ranges of the wanted codes.
@@ -148,7 +152,7 @@ impl<'f, 'a, A: Allocator> Model for CutOfKind<'f, 'a, A> {
     ghost use Rattle.std.specs.Prelude.{ℕ, List, Option};
     ghost use Rattle.std.specs.Option.{option_map};
     ghost use Rattle.codes.specs.declared.code_range.CodeRange.{CodeRange};
-    ghost use Rattle.sfnt_bytes.specs.declared.tag.TheConstants.{HMTX, POST, VMTX};
+    ghost use Rattle.sfnt_bytes.specs.declared.tag.TheConstants.{GVAR, HMTX, POST, VMTX};
     ghost use Rattle.font_theory.specs.declared.kinds.Kind.{Kind};
     ghost use Rattle.font_subset.specs.Inside.{IsMadeTable};
 
@@ -158,7 +162,8 @@ impl<'f, 'a, A: Allocator> Model for CutOfKind<'f, 'a, A> {
 
     ghost invariant = { λ c. IsMadeTable c.selection HMTX (option_map (λ v. v.items) c.hmtx)
         × IsMadeTable c.selection POST (option_map (λ v. v.items) c.post)
-        × IsMadeTable c.selection VMTX (option_map (λ v. v.items) c.vmtx) };
+        × IsMadeTable c.selection VMTX (option_map (λ v. v.items) c.vmtx)
+        × IsMadeTable c.selection GVAR (option_map (λ v. v.items) c.gvar) };
 }
 
 impl<'f, 'a, A: Allocator + Copy> CutOfKind<'f, 'a, A> {
@@ -177,13 +182,14 @@ impl<'f, 'a, A: Allocator + Copy> CutOfKind<'f, 'a, A> {
                 hmtx: None,
                 post: None,
                 vmtx: None,
+                gvar: None,
             }),
-            Kind::Lean | Kind::Layout => CutOfKind::leaned(alloc, selection),
+            Kind::Lean | Kind::Layout | Kind::Variable => CutOfKind::leaned(alloc, selection),
         }
     }
 
-    // Returns the content of the cut of what is selected, which has no metrics of glyphs that are not kept, and
-    // no names of glyphs.
+    // Returns the content of the cut of what is selected, which has no metrics and no variation data of glyphs that are
+    // not kept, and no names of glyphs.
     fn leaned(alloc: A, selection: Selection<'f, 'a, A>) -> Result<CutOfKind<'f, 'a, A>, NoMemory>
         requires { selection.0 ≢ Full }
         ensures { IfOk result (λ source. source ≡ selection.entry) }
@@ -192,11 +198,13 @@ impl<'f, 'a, A: Allocator + Copy> CutOfKind<'f, 'a, A> {
         let hmtx = metrics_table(alloc, &selection, HHEA, HMTX)?;
         let post = post_table(alloc, &selection)?;
         let vmtx = metrics_table(alloc, &selection, VHEA, VMTX)?;
+        let gvar = kept_variations(alloc, &selection)?;
         Ok(CutOfKind {
             selection,
             hmtx,
             post,
             vmtx,
+            gvar,
         })
     }
 
@@ -251,7 +259,7 @@ impl<'f, 'a, A: Allocator> CutOfKind<'f, 'a, A> {
         ensures table { MatchOption result
             ((written_of self.now).copied slot ≡ (selected self.now).copied slot)
             (λ b. (written_of self.now).copied slot ≡ Some b.now) }
-        ensures small { MatchOption result Unit (λ b. length b.now ≤ MAX_FILE) }
+        ensures small { MatchOption result Unit (λ b. length b.now ≤ MAX_TABLE) }
     {
         if slot == HMTX {
             return bytes_of(&self.hmtx);
@@ -261,6 +269,9 @@ impl<'f, 'a, A: Allocator> CutOfKind<'f, 'a, A> {
         }
         if slot == VMTX {
             return bytes_of(&self.vmtx);
+        }
+        if slot == GVAR {
+            return bytes_of(&self.gvar);
         }
         let _kind = self.selection.kind();
         None

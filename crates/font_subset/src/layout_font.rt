@@ -25,13 +25,13 @@ use std::alloc::{Allocator, Global};
 use std::marker::Model;
 use thiserror::Error;
 
-/// Why a font is not opened for cuts of a kind, which comes of layout cuts alone.
+/// Why a font is not opened for cuts of a kind, which comes of layout and variable cuts alone.
 #[derive(Clone, Copy, Debug, PartialEq, Eq, Error)]
 pub enum OpenError {
     /// Memory was refused.
     #[error("no memory")]
     NoMemory,
-    /// Its tables of layout are refused.
+    /// Its tables of layout, or of variations, are refused.
     #[error("{0}")]
     Refused(FontError),
 }
@@ -143,9 +143,16 @@ impl<'a, A: Allocator> FixedTable<'a, A> {
     }
 }
 
-// Lists the links of a `GSUB`, or returns none where it cannot be read.
+/// Lists the links of a `GSUB`, or returns none where it cannot be read.
+///
+/// # Errors
+///
+/// `NoMemory` where memory is refused.
 #[tactic(auto, unfolding(font_theory::specs::Links::is_bad_layout))]
-fn read_links<A: Allocator + Copy>(alloc: A, gsub: &[u8]) -> Result<Option<Links<A>>, NoMemory>
+pub(crate) fn read_links<A: Allocator + Copy>(
+    alloc: A,
+    gsub: &[u8],
+) -> Result<Option<Links<A>>, NoMemory>
     ensures { IfOk result (λ o. MatchOption o (is_bad_layout gsub.now ≡ true)
         (λ listed. (is_bad_layout gsub.now ≡ false) × AreLinksOf gsub.now listed)) }
 {

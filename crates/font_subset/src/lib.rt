@@ -7,11 +7,13 @@ mod cut_forms;
 mod cut_source;
 mod font_of_kind;
 mod forms;
+mod kept_variations;
 mod kind_source;
 mod layout_font;
 mod lean_tables;
 mod listed_runs;
 mod selection;
+mod variable_font;
 
 pub use crate::accepted::{copied, head, recall_accepted};
 pub use crate::cut_font::{CutError, CutIntoError, cut, cut_into, cut_of_kind, cut_of_kind_into};

@@ -3,9 +3,9 @@
 //! these glyphs alone, and from there chains of components lead to all that is kept. OpenType 1.9, cmap; glyf,
 //! Composite Glyph Description; GSUB.
 ghost use Rattle.std.specs.Prelude.{◌≡◌, ◌+◌, ◌-◌, ◌<◌, ◌≤◌, ℕ, Bool, [], length, None, Some, option_copied, unwrap_or, IfOk, MatchOption, true};
-ghost use Rattle.sfnt_bytes.specs.Directory.{is_layout_slot, kept_tag, table_of};
+ghost use Rattle.sfnt_bytes.specs.Directory.{kept_tag, table_of};
 ghost use Rattle.sfnt_bytes.specs.declared.directory.TheConstants.{MAX_FILE};
-ghost use Rattle.sfnt_bytes.specs.declared.tag.TheConstants.{HEAD};
+ghost use Rattle.sfnt_bytes.specs.declared.tag.TheConstants.{HEAD, SLOTS as KEPT_SLOTS};
 ghost use Rattle.font_tables.specs.Fields.{glyph_count_of};
 ghost use Rattle.font_tables.specs.Outlines.{outline_of};
 ghost use Rattle.font_tables.specs.Tables.{head_of};
@@ -15,22 +15,23 @@ ghost use Rattle.font_file.specs.Font.{font_fault};
 ghost use Rattle.font_theory.specs.Content.{content, everything, font_of};
 ghost use Rattle.font_theory.specs.Cut.{IsCut};
 ghost use Rattle.font_theory.specs.Kinds.{fault_of, font_as, format_of, tables_as};
+ghost use Rattle.font_theory.specs.VariableCut.{variation_data};
 ghost use Rattle.font_theory.specs.declared.kinds.Kind.{Kind};
 ghost use Rattle.font_theory.specs.declared.kinds.Kind.TheVariants.{Full};
-ghost use Rattle.font_subset.specs.KeptGlyphs.{IsKeptSet, IsRootSet, codes_wanted, layout_read, wanted_map};
-ghost use Rattle.font_subset.specs.Inside.{AreMarked, IsSeedSet};
+ghost use Rattle.font_subset.specs.KeptGlyphs.{AreVariationsIn, IsKeptSet, IsRootSet, codes_wanted, wanted_map};
+ghost use Rattle.font_subset.specs.Inside.{AreMarked, IsOpenedFor, IsSeedSet};
 ghost use Rattle.font_subset.specs.ListedRuns.{AreRunsOf};
 
 use crate::accepted::{copied, head, outline, recall_accepted};
 use crate::font_of_kind::FontOfKind;
-use crate::layout_font::LayoutFont;
 use crate::listed_runs::ListedRuns;
 use font_file::Font;
 use font_glyph::{Marks, close};
 use font_map::{Chart, Pieces, Run, Wanted, run_of};
 use font_theory::Kind;
+use font_variations::Variations;
 use font_write::Source;
-use sfnt_bytes::{FIRST_VARIATION, NoMemory, SLOTS};
+use sfnt_bytes::{NoMemory, SLOTS};
 use std::alloc::{Allocator, Global};
 use std::marker::Model;
 
@@ -206,20 +207,17 @@ fn mark_roots<A: Allocator + Copy>(
     alloc: A,
     kind: Kind,
     font: &Charted<'_, '_, A>,
-    layout: Option<&LayoutFont<'_, '_, A>>,
+    opened: Option<&FontOfKind<'_, '_, A>>,
     wanted: Option<&Wanted<A>>,
 ) -> Result<Marks<A>, NoMemory>
     requires accepted { fault_of kind font.now ≡ None }
-    requires layout { option_copied layout ≡ layout_read kind font.now }
+    requires opened { IsOpenedFor kind font.now (option_copied opened) }
     ensures { IfOk result (IsRootSet kind font.now (codes_wanted (option_copied wanted.entry))) }
 {
     let seeds = mark_seeds(alloc, font, wanted)?;
-    match layout {
+    match opened {
+        Some(opened) => opened.mark_roots(alloc, seeds),
         None => Ok(seeds),
-        Some(layout) => {
-            let roots = layout.mark_roots(alloc, &seeds)?;
-            Ok(roots)
-        }
     }
 }
 
@@ -242,14 +240,14 @@ fn mark_kept<A: Allocator + Copy>(
     alloc: A,
     kind: Kind,
     font: &Charted<'_, '_, A>,
-    layout: Option<&LayoutFont<'_, '_, A>>,
+    opened: Option<&FontOfKind<'_, '_, A>>,
     wanted: Option<&Wanted<A>>,
 ) -> Result<Marks<A>, NoMemory>
     requires accepted { fault_of kind font.now ≡ None }
-    requires layout { option_copied layout ≡ layout_read kind font.now }
+    requires opened { IsOpenedFor kind font.now (option_copied opened) }
     ensures { IfOk result (IsKeptSet kind font.now (codes_wanted (option_copied wanted.entry))) }
 {
-    let roots = mark_roots(alloc, kind, font, layout, wanted)?;
+    let roots = mark_roots(alloc, kind, font, opened, wanted)?;
     let kept = mark_reached(alloc, font, &roots)?;
     Ok(kept)
 }
@@ -260,8 +258,8 @@ fn mark_kept<A: Allocator + Copy>(
 pub struct Selection<'f, 'a, A: Allocator = Global> {
     kind: Kind,
     charted: Charted<'f, 'a, A>,
-    // The tables of layout, where the kind has them.
-    layout: Option<&'f LayoutFont<'f, 'a, A>>,
+    // The font as it was opened for the kind, which a full cut needs not.
+    opened: Option<&'f FontOfKind<'f, 'a, A>>,
     // All codes are wanted where no set stands here.
     wanted: Option<&'f Wanted<A>>,
     kept: Marks<A>,
@@ -279,7 +277,7 @@ impl<'f, 'a, A: Allocator> Model for Selection<'f, 'a, A> {
 
     ghost view = { λ s. (s.kind, (s.charted, option_copied s.wanted)) };
 
-    ghost invariant = { λ s. IsSelected s.kind s.charted (option_copied s.layout)
+    ghost invariant = { λ s. IsSelected s.kind s.charted (option_copied s.opened)
         (codes_wanted (option_copied s.wanted)) s.kept };
 }
 
@@ -299,11 +297,11 @@ impl<'f, 'a, A: Allocator + Copy> Selection<'f, 'a, A> {
             selection ≡ (font.entry.now.0, (font.entry.now.1, option_copied wanted.entry))) }
     {
         let charted = Charted::of(alloc, font.font())?;
-        let kept = mark_kept(alloc, font.kind(), &charted, font.layout(), wanted)?;
+        let kept = mark_kept(alloc, font.kind(), &charted, Some(font), wanted)?;
         Ok(Selection {
             kind: font.kind(),
             charted,
-            layout: font.layout(),
+            opened: Some(font),
             wanted,
             kept,
         })
@@ -321,11 +319,11 @@ impl<'f, 'a, A: Allocator + Copy> Selection<'f, 'a, A> {
         ensures { IfOk result (λ selection. selection ≡ (font.entry.now.0, (font.entry.now.1, None))) }
     {
         let charted = Charted::with_runs(alloc, font.font())?;
-        let kept = mark_kept(alloc, font.kind(), &charted, font.layout(), None)?;
+        let kept = mark_kept(alloc, font.kind(), &charted, Some(font), None)?;
         Ok(Selection {
             kind: font.kind(),
             charted,
-            layout: font.layout(),
+            opened: Some(font),
             wanted: None,
             kept,
         })
@@ -350,7 +348,7 @@ impl<'f, 'a, A: Allocator + Copy> Selection<'f, 'a, A> {
         Ok(Selection {
             kind: Kind::Full,
             charted,
-            layout: None,
+            opened: None,
             wanted,
             kept,
         })
@@ -369,16 +367,38 @@ impl<'f, 'a, A: Allocator + Copy> Selection<'f, 'a, A> {
 }
 
 impl<'f, 'a, A: Allocator> Selection<'f, 'a, A> {
-    // Returns the table of a slot of layout, where the kind has such tables.
-    fn layout_table(&self, slot: usize) -> Option<&[u8]>
-        requires { is_layout_slot slot ≡ true }
+    // Returns the table of a slot after those of the tables that every cut keeps, where a cut of the kind copies it.
+    fn further(&self, slot: usize) -> Option<&[u8]>
+        requires { KEPT_SLOTS ≤ slot }
         ensures table { MatchOption result (tables_as self.now.0 self.now.1.0 slot ≡ None)
             (λ b. tables_as self.now.0 self.now.1.0 slot ≡ Some b.now) }
         ensures small { MatchOption result Unit (λ b. length b.now ≤ MAX_FILE) }
     {
-        match self.layout {
-            Some(layout) => layout.table(slot),
+        match self.opened {
+            Some(opened) => opened.further(slot),
             None => None,
+        }
+    }
+
+    /// Returns `gvar`, where a cut of the kind keeps variations and the font has one.
+    pub fn variations(&self) -> Option<&Variations<'a>>
+        ensures { AreVariationsIn self.now.0 self.now.1.0 (option_copied result) }
+    {
+        match self.opened {
+            Some(opened) => opened.variations(),
+            None => None,
+        }
+    }
+
+    /// Returns the variation data of a glyph, which are empty where a cut of the kind keeps no variations or the font has
+    /// no `gvar`. OpenType 1.9, gvar, GlyphVariationData.
+    pub fn variation_data(&self, g: u16) -> &'a [u8]
+        requires { g < glyph_count_of self.now.1.0 }
+        ensures { result.now ≡ variation_data (tables_as self.now.0 self.now.1.0) g }
+    {
+        match self.opened {
+            Some(opened) => opened.variation_data(g),
+            None => &[],
         }
     }
 }
@@ -396,10 +416,7 @@ impl<'f, 'a, A: Allocator> Source for Selection<'f, 'a, A> {
         if slot < SLOTS {
             return copied(self.charted.font(), slot);
         }
-        if slot < FIRST_VARIATION {
-            return self.layout_table(slot);
-        }
-        None
+        self.further(slot)
     }
 
     fn head(&self) -> &[u8] {

@@ -6,8 +6,13 @@ ghost use Rattle.codes.specs.Runs.{IsRun, NoRun};
 ghost use Rattle.font_theory.specs.Bytes.{cut_head, padded};
 ghost use Rattle.font_theory.specs.Content.{Content, IsWritable, KeepsComponents, glyph_count};
 ghost use Rattle.font_write.specs.Parts.{IsNextKept};
+ghost use Rattle.font_write.specs.declared.source.TheConstants.{MAX_TABLE};
 
 use font_map::Run;
+
+/// The most bytes that a table of a source has. A file has fewer: a table may be made before it is known that the file
+/// is too large.
+pub const MAX_TABLE: usize = 0x4000_0000;
 
 /// Tables, a mapping and kept outlines: the content of a file.
 pub trait Source {
@@ -26,7 +31,7 @@ pub trait Source {
     fn copied(&self, slot: usize) -> Option<&[u8]>
         ensures table { MatchOption result ((content_of self.now).copied slot ≡ None)
             (λ b. (content_of self.now).copied slot ≡ Some b.now) }
-        ensures small { MatchOption result Unit (λ b. length b.now ≤ MAX_FILE) };
+        ensures small { MatchOption result Unit (λ b. length b.now ≤ MAX_TABLE) };
 
     /// Returns `head`, which may differ from that of the file in `checksumAdjustment` and
     /// `indexToLocFormat`.

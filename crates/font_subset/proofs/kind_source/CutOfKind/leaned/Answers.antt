@@ -7,4 +7,5 @@ invariant_of-result g c =
       made_hmtx c.args.selection accepted c.requires _ c.in_ok-hmtx.ensures.table c.in_ok-hmtx.ensures.small,
       made_post c.args.selection accepted c.requires _ c.in_ok-post.ensures.table c.in_ok-post.ensures.small,
       made_vmtx c.args.selection accepted c.requires _ c.in_ok-vmtx.ensures.table c.in_ok-vmtx.ensures.small,
+      c.in_ok-gvar.ensures,
     )

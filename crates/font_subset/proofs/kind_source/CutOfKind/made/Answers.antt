@@ -33,8 +33,18 @@ returns-then-slot-eq-VMTX-clause-small g c =
     small_by (λ b. b.now) c.bytes_of-then-slot-eq-VMTX.result _ c.bytes_of-then-slot-eq-VMTX.ensures
     c.self.invariant.2.small
 
+pub returns-then-slot-eq-GVAR-clause-table : goal.returns-then-slot-eq-GVAR-clause-table
+returns-then-slot-eq-GVAR-clause-table g c =
+    made_at (λ b. b.now) c.bytes_of-then-slot-eq-GVAR.result _ c.args.self.now _ c.args.slot _ c.self.view_is
+    c.if-slot-eq-GVAR.true c.self.invariant.3 c.bytes_of-then-slot-eq-GVAR.ensures
+
+pub returns-then-slot-eq-GVAR-clause-small : goal.returns-then-slot-eq-GVAR-clause-small
+returns-then-slot-eq-GVAR-clause-small g c =
+    small_by (λ b. b.now) c.bytes_of-then-slot-eq-GVAR.result _ c.bytes_of-then-slot-eq-GVAR.ensures
+    c.self.invariant.3.small
+
 pub returns-clause-table : goal.returns-clause-table
 returns-clause-table g c =
     subst (λ (v : Held). (written_of v).copied c.args.slot ≡ (selected v).copied c.args.slot) c.self.view_is
     (other_slot c.self.inside.selection c.kind-kind.ensures.sound c.args.slot c.if-slot-eq-HMTX.false
-    c.if-slot-eq-POST.false c.if-slot-eq-VMTX.false)
+    c.if-slot-eq-POST.false c.if-slot-eq-VMTX.false c.if-slot-eq-GVAR.false)

@@ -1,5 +1,5 @@
 use Rattle.std.proofs.Common.{◌∙◌, sym}
-use Rattle.sfnt_bytes.specs.declared.tag.TheConstants.{HMTX, POST, VMTX}
+use Rattle.sfnt_bytes.specs.declared.tag.TheConstants.{GVAR, HMTX, POST, VMTX}
 use Rattle.font_subset.proofs.KindSourceLemmas.{made_none}
 use Rattle.font_subset.proofs.kind_source.CutOfKind.of.Goals as goal
 
@@ -10,4 +10,5 @@ invariant_of-result g c =
       made_none c.args.selection c.kind.ensures.sound POST
           full,
       made_none c.args.selection c.kind.ensures.sound VMTX full,
+      made_none c.args.selection c.kind.ensures.sound GVAR full,
     )
