@@ -14,7 +14,6 @@ use std::alloc::Allocator;
 use std::marker::Model;
 
 /// The tables of metrics of a content, with zeros for each glyph.
-#[derive(Drop)]
 pub(crate) struct Blanks<A: Allocator> {
     hmtx: Option<Vec<u8, A>>,
     vmtx: Option<Vec<u8, A>>,
@@ -32,6 +31,16 @@ impl<A: Allocator> Model for Blanks<A> {
 
     ghost invariant = { λ b. (length (unwrap_or (option_map (λ v. v.items) b.hmtx) []) ≤ MAX_FILE)
         × (length (unwrap_or (option_map (λ v. v.items) b.vmtx) []) ≤ MAX_FILE) };
+}
+
+// Written out: a derived drop is proved anew wherever a value is let go, with all that is known of the value.
+impl<A: Allocator> Drop for Blanks<A> {
+    fn drop(self) {
+        let Blanks {
+            hmtx: _hmtx,
+            vmtx: _vmtx,
+        } = self;
+    }
 }
 
 impl<A: Allocator + Copy> Blanks<A> {

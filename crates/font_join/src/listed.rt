@@ -17,7 +17,6 @@ use std::alloc::Allocator;
 use std::marker::Model;
 
 /// A font of a kind, the glyphs that its codes keep, and its runs.
-#[derive(Drop)]
 pub(crate) struct Listed<'f, 'a, A: Allocator> {
     font: Selection<'f, 'a, A>,
 }
@@ -32,6 +31,13 @@ impl<'f, 'a, A: Allocator> Model for Listed<'f, 'a, A> {
     ghost view = { λ l. (l.font.0, l.font.1.0) };
 
     ghost invariant = { λ l. l.font.1.1 ≡ None };
+}
+
+// Written out: a derived drop is proved anew wherever a value is let go, with all that is known of the value.
+impl<'f, 'a, A: Allocator> Drop for Listed<'f, 'a, A> {
+    fn drop(self) {
+        let Listed { font: _font } = self;
+    }
 }
 
 impl<'f, 'a, A: Allocator + Copy> Listed<'f, 'a, A> {
@@ -106,7 +112,8 @@ impl<'f, 'a, A: Allocator + Copy> Listed<'f, 'a, A> {
     pub(crate) fn into_runs(self, alloc: A) -> Result<Vec<Run, A>, NoMemory>
         ensures { IfOk result (λ runs. AreRunsOf self.entry.1 runs.items) }
     {
-        self.font.into_runs(alloc)
+        let Listed { font } = self;
+        font.into_runs(alloc)
     }
 }
 

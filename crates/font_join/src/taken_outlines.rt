@@ -17,7 +17,6 @@ use std::alloc::Allocator;
 use std::marker::Model;
 
 /// For each glyph its outline in some file, or none; and the length of all of them together.
-#[derive(Drop)]
 pub(crate) struct Outlines<'a, A: Allocator> {
     outlines: Vec<Option<&'a [u8]>, A>,
     bytes: u64,
@@ -33,6 +32,16 @@ impl<'a, A: Allocator> Model for Outlines<'a, A> {
     ghost view = { λ o. map (λ x. option_copied x) o.outlines.items };
 
     ghost invariant = { λ o. HaveLength (map (λ x. option_copied x) o.outlines.items) o.bytes };
+}
+
+// Written out: a derived drop is proved anew wherever a value is let go, with all that is known of the value.
+impl<'a, A: Allocator> Drop for Outlines<'a, A> {
+    fn drop(self) {
+        let Outlines {
+            outlines: _outlines,
+            bytes: _,
+        } = self;
+    }
 }
 
 impl<'a, A: Allocator + Copy> Outlines<'a, A> {

@@ -48,7 +48,6 @@ fn least(first: Option<u16>, second: Option<u16>) -> Option<u16>
 /// The union of cuts of one kind: the tables of the first of them, the maps of all in one, and for each glyph
 /// the slice of the first file that keeps it. A union of lean or of layout cuts has `hmtx` and `vmtx` of its own,
 /// which are those of all byte by byte.
-#[derive(Drop)]
 pub struct Union<'f, 'a, A: Allocator> {
     first: FontOfKind<'f, 'a, A>,
     map: UnionMap<A>,
@@ -84,6 +83,20 @@ impl<'f, 'a, A: Allocator> Model for Union<'f, 'a, A> {
       hmtx = option_map (λ v. v.items) u.hmtx;
       vmtx = option_map (λ v. v.items) u.vmtx;
     }) u.blanks };
+}
+
+// Written out: a derived drop is proved anew wherever a value is let go, with all that is known of the value.
+impl<'f, 'a, A: Allocator> Drop for Union<'f, 'a, A> {
+    fn drop(self) {
+        let Union {
+            first: _first,
+            map: _map,
+            outlines: _outlines,
+            hmtx: _hmtx,
+            vmtx: _vmtx,
+            blanks: _blanks,
+        } = self;
+    }
 }
 
 impl<'f, 'a, A: Allocator> Source for Union<'f, 'a, A> {
@@ -207,22 +220,29 @@ impl<'f, 'a, A: Allocator + Copy> Union<'f, 'a, A> {
     {
         let metrics = self.other_metrics(&file);
         let count = self.first.font().tables().glyph_count();
-        let mut outlines = self.outlines;
+        let Union {
+            first,
+            map,
+            mut outlines,
+            hmtx,
+            vmtx,
+            blanks,
+        } = self;
         let other = outlines.take(&file, count);
         if let Some(g) = least(metrics, other) {
             return Err(JoinError::DifferentGlyph(g));
         }
-        let hmtx = either_table(self.hmtx, file.copied(HMTX));
-        let vmtx = either_table(self.vmtx, file.copied(VMTX));
+        let hmtx = either_table(hmtx, file.copied(HMTX));
+        let vmtx = either_table(vmtx, file.copied(VMTX));
         let runs = file.into_runs(alloc)?;
-        let map = self.map.with(alloc, runs)?;
+        let map = map.with(alloc, runs)?;
         Ok(Union {
-            first: self.first,
+            first,
             map,
             outlines,
             hmtx,
             vmtx,
-            blanks: self.blanks,
+            blanks,
         })
     }
 
@@ -289,13 +309,21 @@ impl<'f, 'a, A: Allocator + Copy> Union<'f, 'a, A> {
         ensures kind { IfOk result (λ union. union.kind ≡ self.entry.kind) }
         ensures content { IfOk result (λ union. content_in union ≡ content_in self.entry) }
     {
+        let Union {
+            first,
+            map,
+            outlines,
+            hmtx,
+            vmtx,
+            blanks,
+        } = self;
         Ok(Union {
-            first: self.first,
-            map: self.map.settle(alloc)?,
-            outlines: self.outlines,
-            hmtx: self.hmtx,
-            vmtx: self.vmtx,
-            blanks: self.blanks,
+            first,
+            map: map.settle(alloc)?,
+            outlines,
+            hmtx,
+            vmtx,
+            blanks,
         })
     }
 

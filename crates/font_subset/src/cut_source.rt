@@ -12,7 +12,6 @@ use std::marker::Model;
 
 /// What a cut is made of: the tables of a font, the wanted codes that it maps, and the outlines that
 /// these keep.
-#[derive(Drop)]
 pub struct CutOf<'f, 'a, A: Allocator = Global> {
     selection: Selection<'f, 'a, A>,
 }
@@ -28,6 +27,15 @@ impl<'f, 'a, A: Allocator> Model for CutOf<'f, 'a, A> {
     ghost view = { λ c. c.selection.1 };
 
     ghost invariant = { λ c. c.selection.0 ≡ Full };
+}
+
+// Written out: a derived drop is proved anew wherever a value is let go, with all that is known of the value.
+impl<'f, 'a, A: Allocator> Drop for CutOf<'f, 'a, A> {
+    fn drop(self) {
+        let CutOf {
+            selection: _selection,
+        } = self;
+    }
 }
 
 impl<'f, 'a, A: Allocator + Copy> CutOf<'f, 'a, A> {

@@ -24,7 +24,6 @@ use std::marker::Model;
 
 /// A font that was opened for cuts of a kind. For layout cuts its tables of layout have been read, and for variable cuts
 /// those of variations too, which may serve many cuts.
-#[derive(Drop)]
 pub struct FontOfKind<'f, 'a, A: Allocator = Global> {
     kind: Kind,
     font: &'f Font<'a>,
@@ -48,6 +47,18 @@ impl<'f, 'a, A: Allocator> Model for FontOfKind<'f, 'a, A> {
     ghost invariant = { λ f. (fault_of f.kind f.font.now ≡ None)
         × (f.layout ≡ layout_read f.kind f.font.now)
         × (f.variable ≡ variations_read f.kind f.font.now) };
+}
+
+// Written out: a derived drop is proved anew wherever a value is let go, with all that is known of the value.
+impl<'f, 'a, A: Allocator> Drop for FontOfKind<'f, 'a, A> {
+    fn drop(self) {
+        let FontOfKind {
+            kind: _,
+            font: _,
+            layout: _layout,
+            variable: _variable,
+        } = self;
+    }
 }
 
 impl<'f, 'a, A: Allocator> FontOfKind<'f, 'a, A> {

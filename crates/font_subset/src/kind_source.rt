@@ -137,7 +137,6 @@ pub fn bytes_of<A: Allocator>(table: &Option<Vec<u8, A>>) -> Option<&[u8]>
 
 /// What a cut of a kind is made of: what is selected of a font, and the tables that are made anew. A full cut has
 /// none of these.
-#[derive(Drop)]
 pub struct CutOfKind<'f, 'a, A: Allocator = Global> {
     selection: Selection<'f, 'a, A>,
     // Where one of these is missing, the table of the font serves.
@@ -164,6 +163,19 @@ impl<'f, 'a, A: Allocator> Model for CutOfKind<'f, 'a, A> {
         × IsMadeTable c.selection POST (option_map (λ v. v.items) c.post)
         × IsMadeTable c.selection VMTX (option_map (λ v. v.items) c.vmtx)
         × IsMadeTable c.selection GVAR (option_map (λ v. v.items) c.gvar) };
+}
+
+// Written out: a derived drop is proved anew wherever a value is let go, with all that is known of the value.
+impl<'f, 'a, A: Allocator> Drop for CutOfKind<'f, 'a, A> {
+    fn drop(self) {
+        let CutOfKind {
+            selection: _selection,
+            hmtx: _hmtx,
+            post: _post,
+            vmtx: _vmtx,
+            gvar: _gvar,
+        } = self;
+    }
 }
 
 impl<'f, 'a, A: Allocator + Copy> CutOfKind<'f, 'a, A> {
@@ -243,7 +255,14 @@ impl<'f, 'a, A: Allocator> CutOfKind<'f, 'a, A> {
     pub fn into_selection(self) -> Selection<'f, 'a, A>
         ensures { result ≡ self.entry }
     {
-        self.selection
+        let CutOfKind {
+            selection,
+            hmtx: _hmtx,
+            post: _post,
+            vmtx: _vmtx,
+            gvar: _gvar,
+        } = self;
+        selection
     }
 
     /// Returns the form in which the font's file is the file of this content, which is that for all codes.

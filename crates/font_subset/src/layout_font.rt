@@ -57,7 +57,6 @@ impl From<NoMemory> for OpenError {
 }
 
 // The table of a slot of layout without what varies: that of the font where there is nothing of it.
-#[derive(Drop)]
 struct FixedTable<'a, A: Allocator> {
     table: Option<&'a [u8]>,
     fixed: Option<Vec<u8, A>>,
@@ -74,6 +73,16 @@ impl<'a, A: Allocator> Model for FixedTable<'a, A> {
 
     ghost invariant = { λ t. length (unwrap_or (option_or (option_map (λ v. v.items) t.fixed)
         (option_copied t.table)) []) ≤ MAX_FILE };
+}
+
+// Written out: a derived drop is proved anew wherever a value is let go, with all that is known of the value.
+impl<'a, A: Allocator> Drop for FixedTable<'a, A> {
+    fn drop(self) {
+        let FixedTable {
+            table: _,
+            fixed: _fixed,
+        } = self;
+    }
 }
 
 // Tells whether the tables of layout of a font stand once at most and lie within the file.
@@ -169,7 +178,6 @@ pub(crate) fn read_links<A: Allocator + Copy>(
 }
 
 /// A font that is accepted with its tables of layout, and the links of its `GSUB`.
-#[derive(Drop)]
 pub struct LayoutFont<'f, 'a, A: Allocator = Global> {
     font: &'f Font<'a>,
     base: FixedTable<'a, A>,
@@ -190,6 +198,21 @@ impl<'f, 'a, A: Allocator> Model for LayoutFont<'f, 'a, A> {
     ghost view = { λ l. l.font.now };
 
     ghost invariant = { λ l. IsOpenedLayout l.font.now l.base l.gdef l.gpos l.gsub l.kern l.links };
+}
+
+// Written out: a derived drop is proved anew wherever a value is let go, with all that is known of the value.
+impl<'f, 'a, A: Allocator> Drop for LayoutFont<'f, 'a, A> {
+    fn drop(self) {
+        let LayoutFont {
+            font: _,
+            base: _base,
+            gdef: _gdef,
+            gpos: _gpos,
+            gsub: _gsub,
+            kern: _kern,
+            links: _links,
+        } = self;
+    }
 }
 
 impl<'f, 'a, A: Allocator + Copy> LayoutFont<'f, 'a, A> {

@@ -254,7 +254,6 @@ fn mark_kept<A: Allocator + Copy>(
 
 /// What is selected of a font for a cut of a kind: its tables, the wanted codes that it maps, and the outlines
 /// that these keep.
-#[derive(Drop)]
 pub struct Selection<'f, 'a, A: Allocator = Global> {
     kind: Kind,
     charted: Charted<'f, 'a, A>,
@@ -279,6 +278,19 @@ impl<'f, 'a, A: Allocator> Model for Selection<'f, 'a, A> {
 
     ghost invariant = { λ s. IsSelected s.kind s.charted (option_copied s.opened)
         (codes_wanted (option_copied s.wanted)) s.kept };
+}
+
+// Written out: a derived drop is proved anew wherever a value is let go, with all that is known of the value.
+impl<'f, 'a, A: Allocator> Drop for Selection<'f, 'a, A> {
+    fn drop(self) {
+        let Selection {
+            kind: _,
+            charted: _charted,
+            opened: _,
+            wanted: _,
+            kept: _kept,
+        } = self;
+    }
 }
 
 impl<'f, 'a, A: Allocator + Copy> Selection<'f, 'a, A> {
@@ -362,7 +374,14 @@ impl<'f, 'a, A: Allocator + Copy> Selection<'f, 'a, A> {
     pub fn into_runs(self, alloc: A) -> Result<Vec<Run, A>, NoMemory>
         ensures { IfOk result (λ runs. AreRunsOf self.entry.1.0 runs.items) }
     {
-        self.charted.into_runs(alloc)
+        let Selection {
+            kind: _,
+            charted,
+            opened: _,
+            wanted: _,
+            kept: _kept,
+        } = self;
+        charted.into_runs(alloc)
     }
 }
 

@@ -80,7 +80,6 @@ fn read_variations<'a>(font: &Font<'a>) -> Result<Option<Variations<'a>>, BadVar
 }
 
 /// A font that is accepted with its tables of layout and of variations, the links of its `GSUB`, and its `gvar`.
-#[derive(Drop)]
 pub struct VariableFont<'f, 'a, A: Allocator = Global> {
     font: &'f Font<'a>,
     links: Links<A>,
@@ -97,6 +96,17 @@ impl<'f, 'a, A: Allocator> Model for VariableFont<'f, 'a, A> {
     ghost view = { λ v. v.font.now };
 
     ghost invariant = { λ v. IsOpenedVariable v.font.now v.links v.variations };
+}
+
+// Written out: a derived drop is proved anew wherever a value is let go, with all that is known of the value.
+impl<'f, 'a, A: Allocator> Drop for VariableFont<'f, 'a, A> {
+    fn drop(self) {
+        let VariableFont {
+            font: _,
+            links: _links,
+            variations: _,
+        } = self;
+    }
 }
 
 impl<'f, 'a, A: Allocator + Copy> VariableFont<'f, 'a, A> {
