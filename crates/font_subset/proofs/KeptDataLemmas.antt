@@ -1,10 +1,10 @@
 -- How many bytes the variation data of some glyphs have together.
 use Rattle.std.proofs.Common.{◌≡◌, ◌≢◌, ℕ, zero, suc, ◌+◌, ◌-◌, ◌<◌, ◌≤◌, inl, inr, Bool, true, false, cond, List, []}
 use Rattle.std.proofs.Common.{get_or, replicate, slice_set}
-use Rattle.std.proofs.Common.{◌∷◌, ◌++◌, length, map, drop, slice_range, Option, refl, sym, ◌∙◌, ap, subst, arith, length-append}
+use Rattle.std.proofs.Common.{◌∷◌, length, map, drop, Option, refl, sym, ◌∙◌, ap, subst, arith, length-append}
 use Rattle.std.specs.List.{concat, range_with_len}
 use Rattle.std.proofs.lemmas.List.{length-drop, length-take}
-use Rattle.font_variations.specs.Gvar.{data_array_offset, data_of, data_offset, from_data, is_bad_variations, shared_tuples_of}
+use Rattle.font_variations.specs.Gvar.{data_of, data_offset, from_data, is_bad_variations, shared_tuples_of}
 use Rattle.font_variations.specs.Gvar.{shared_tuples_length, shared_tuples_offset}
 use Rattle.font_variations.specs.MadeGvar.{listed_data}
 use Rattle.font_variations.proofs.LawLemmas.{lead_in_order}

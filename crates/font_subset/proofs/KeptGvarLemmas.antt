@@ -1,7 +1,7 @@
 -- The `gvar` that is made of the data of the kept glyphs is that of the cut.
-use Rattle.std.proofs.Common.{◌≡◌, ◌≢◌, ℕ, ◌+◌, ◌<◌, ◌≤◌, ◌^◌, Bool, false, cond, List, [], length, map, Option, None, Some}
-use Rattle.std.proofs.Common.{ap, arith, get_or, refl, slice_index_or, subst, sym, unwrap_or, ◌∙◌}
-use Rattle.std.specs.List.{concat, range_with_len}
+use Rattle.std.proofs.Common.{◌≡◌, ◌≢◌, ℕ, ◌<◌, ◌≤◌, ◌^◌, Bool, cond, List, [], length, Option, None, Some}
+use Rattle.std.proofs.Common.{ap, arith, refl, slice_index_or, subst, sym, unwrap_or, ◌∙◌}
+use Rattle.std.specs.List.{concat}
 use Rattle.std.specs.Option.{is_some, option_map}
 use Rattle.std.proofs.Math.Path.{fun_ext}
 use Rattle.std.proofs.lemmas.List.{ext_get_or}
@@ -16,7 +16,7 @@ use Rattle.font_variations.proofs.GivenLemmas.{made_of_listed}
 use Rattle.font_variations.proofs.MadeLemmas.{length-made}
 use Rattle.font_theory.specs.Content.{Content, glyph_count}
 use Rattle.font_theory.specs.Kinds.{fault_of, tables_as}
-use Rattle.font_theory.specs.VariableCut.{gvar_with, variable_font_of, variation_data}
+use Rattle.font_theory.specs.VariableCut.{gvar_with, variation_data}
 use Rattle.font_theory.specs.declared.kinds.Kind.{Kind}
 use Rattle.font_theory.specs.declared.kinds.Kind.TheVariants.{Full, Layout, Lean, Variable}
 use Rattle.font_theory.proofs.KindLemmas.{opened}

@@ -1,5 +1,5 @@
 -- A content with the metrics of its kept glyphs alone, and without names: what lean and layout cuts are written of.
-use Rattle.std.proofs.Common.{◌≡◌, ◌≢◌, ℕ, true, false, nat_eq, None, is_some, refl, sym, ◌∙◌, ap, option_map}
+use Rattle.std.proofs.Common.{◌≡◌, ◌≢◌, ℕ, true, false, nat_eq, None, is_some, refl, ◌∙◌, option_map}
 use Rattle.std.proofs.lemmas.Bool.{ne_eqb}
 use Rattle.sfnt_bytes.specs.declared.tag.TheConstants.{HHEA, HMTX, POST, VHEA, VMTX}
 use Rattle.font_theory.specs.Content.{Content, IsWritable, KeepsComponents, glyph_count, is_never_copied}

@@ -1,7 +1,7 @@
 -- What a variable cut holds of its font.
-use Rattle.std.proofs.Common.{◌≡◌, ℕ, ◌<◌, ◌≤◌, Bool, true, inl, refl, List, length, None, sym, ◌∙◌, ap, cond, subst}
+use Rattle.std.proofs.Common.{◌≡◌, ℕ, ◌≤◌, Bool, true, inl, refl, List, length, None, sym, ◌∙◌, ap, cond}
 use Rattle.sfnt_bytes.specs.declared.directory.TheConstants.{MAX_FILE}
-use Rattle.font_theory.specs.Content.{Font, content, glyph_count, is_kept}
+use Rattle.font_theory.specs.Content.{Font, content, is_kept}
 use Rattle.font_theory.specs.Cut.Arises.{of_file}
 use Rattle.font_theory.specs.LeanCut.{metrics_at, thin, thin_copied}
 use Rattle.font_theory.specs.VariableCut.{emptied_copied, variable_fault, variable_font_of, variable_format, varied}

@@ -7,14 +7,12 @@ use Rattle.sfnt_bytes.specs.Directory.{slot_tag, table_of}
 use Rattle.sfnt_bytes.specs.Lines.{first_of_lines, when}
 use Rattle.sfnt_bytes.specs.Refusals.{is_outside, variable_directory_fault}
 use Rattle.sfnt_bytes.specs.declared.directory.DirError.{DirError}
-use Rattle.sfnt_bytes.specs.declared.tag.Tag.{Tag}
 use Rattle.sfnt_bytes.specs.declared.tag.TheConstants.{ALL_SLOTS, FVAR, GSUB, GVAR, LAYOUT_AND_VARIATIONS, SLOTS}
 use Rattle.sfnt_bytes.proofs.LineLemmas.{find-none_at, first_of_lines-none_at, option_map-none}
 use Rattle.sfnt_bytes.proofs.RefusalLemmas.{tags_inside}
 use Rattle.font_tables.specs.Fields.{glyph_count_of}
 use Rattle.font_variations.specs.Gvar.{data_of, is_bad_variations}
 use Rattle.font_file.specs.Font.{font_fault}
-use Rattle.font_file.specs.declared.font_error.FontError.{FontError}
 use Rattle.font_file.specs.declared.font_error.FontError.TheVariants.{BadLayout, BadVariations, Directory}
 use Rattle.font_theory.specs.Content.{links_in as font_links}
 use Rattle.font_theory.specs.Links.{is_bad_layout}

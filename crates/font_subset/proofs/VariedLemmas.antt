@@ -1,11 +1,10 @@
 -- A content with the metrics and the variation data of its kept glyphs alone, and without names: what variable cuts are
 -- written of.
-use Rattle.std.proofs.Common.{◌≡◌, ◌≢◌, ℕ, cond, Bool, true, false, nat_eq, List, [], Option, None, Some, is_some, refl}
+use Rattle.std.proofs.Common.{◌≡◌, ◌≢◌, ℕ, cond, Bool, true, false, nat_eq, List, [], Option, None, is_some, refl}
 use Rattle.std.proofs.Common.{sym, ◌∙◌, ap, option_map, if◌then◌else◌}
 use Rattle.std.proofs.Math.Path.{fun_ext}
 use Rattle.std.proofs.lemmas.Bool.{ne_eqb}
 use Rattle.sfnt_bytes.specs.declared.tag.TheConstants.{GVAR}
-use Rattle.font_glyph.specs.RecordMap.{Records}
 use Rattle.font_theory.specs.Bytes.{padded}
 use Rattle.font_theory.specs.Content.{Content, Font, IsFont, IsWritable, KeepsComponents, content, glyph_count, is_kept}
 use Rattle.font_theory.specs.Content.{is_never_copied}
@@ -14,7 +13,6 @@ use Rattle.font_theory.specs.VariableCut.{gvar_with, kept_data, variation_data}
 use Rattle.font_theory.proofs.ContentLemmas.{content-path}
 use Rattle.font_theory.proofs.VariableCopiedLemmas.{by_gvar}
 use Rattle.font_theory.proofs.VariableCutLemmas.{copied-leaned, gvar-variable, outline-variable, written_content}
-use Rattle.font_subset.proofs.LeanedLemmas.{leaned_components, leaned_count, leaned_head, leaned_map, leaned_outline}
 use Rattle.font_subset.proofs.LeanedLemmas.{leaned_writable}
 use Rattle.font_subset.proofs.SourceLemmas.{is_some-when}
 

@@ -1,4 +1,4 @@
-use Rattle.std.proofs.Common.{◌≡◌, ◌<◌, ◌∙◌, arith, length, map}
+use Rattle.std.proofs.Common.{◌<◌, ◌∙◌, arith, length, map}
 use Rattle.std.proofs.lemmas.List.{map-set}
 use Rattle.font_subset.proofs.KeptDataLemmas.{data_start, data_step}
 use Rattle.font_subset.proofs.SourceLemmas.{count_as}

@@ -1,4 +1,4 @@
-use Rattle.std.proofs.Common.{◌-◌, List, ℕ, map}
+use Rattle.std.proofs.Common.{◌-◌, map}
 use Rattle.font_subset.proofs.KeptDataLemmas.{AreDataTo}
 use Rattle.font_subset.proofs.kept_variations.kept_data.Given as goal
 

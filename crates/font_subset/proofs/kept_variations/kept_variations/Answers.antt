@@ -1,4 +1,4 @@
-use Rattle.std.proofs.Common.{◌≡◌, ◌<◌, ◌^◌, ℕ, ap, arith, map, slice_index_or, subst, sym, ◌∙◌, []}
+use Rattle.std.proofs.Common.{◌<◌, ◌^◌, ℕ, ap, arith, map, slice_index_or, subst, sym, ◌∙◌, []}
 use Rattle.std.proofs.lemmas.List.{length-map}
 use Rattle.font_variations.specs.MadeGvar.{data_at, gvar_bytes}
 use Rattle.font_subset.specs.Inside.{AreKeptData}

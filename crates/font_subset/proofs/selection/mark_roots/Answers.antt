@@ -1,4 +1,4 @@
-use Rattle.std.proofs.Common.{◌≡◌, ◌∙◌, ℕ, List, Option, ap, option_copied, subst, sym}
+use Rattle.std.proofs.Common.{◌∙◌, ℕ, List, ap, option_copied, subst, sym}
 use Rattle.std.proofs.lemmas.Result.{IfOk-weaker}
 use Rattle.font_tables.specs.Fields.{glyph_count_of}
 use Rattle.font_theory.specs.declared.kinds.Kind.{Kind}

@@ -1,4 +1,4 @@
-use Rattle.std.proofs.Common.{◌≡◌, ◌∙◌, ap, false, true, List, ℕ, Option, refl, sym}
+use Rattle.std.proofs.Common.{◌≡◌, ◌∙◌, ap, false, true, refl, sym}
 use Rattle.std.proofs.lemmas.Bool.{true_from_ne_false}
 use Rattle.font_tables.specs.Fields.{glyph_count_of}
 use Rattle.font_subset.proofs.VariableFontLemmas.{bad_gvar_of, no_bad_gvar, read_gvar, read_no_gvar}

@@ -1,4 +1,4 @@
-use Rattle.std.proofs.Common.{◌≡◌, [], List, ℕ, option_copied, subst}
+use Rattle.std.proofs.Common.{◌≡◌, [], option_copied, subst}
 use Rattle.font_theory.specs.Kinds.{tables_as}
 use Rattle.font_theory.specs.VariableCut.{variation_data}
 use Rattle.font_subset.specs.Inside.{IsOpenedFor}

@@ -1,6 +1,5 @@
 use Rattle.std.proofs.Common.{◌≡◌, MatchOption, ap, false, subst, sym, true, ◌∙◌, List, ℕ, Option}
 use Rattle.font_theory.specs.Links.{is_bad_layout}
-use Rattle.font_theory.specs.VariableCut.{whole_gsub_of}
 use Rattle.font_subset.specs.Inside.{AreLinksOf}
 use Rattle.font_subset.proofs.VariableFontLemmas.{variable_bad_layout}
 use Rattle.font_subset.proofs.variable_font.VariableFont.open.Goals as goal
