@@ -209,33 +209,35 @@ glyphs_told is_thin C D K L h k early found metrics n size outlines others =
     ∙ ap (option_map AtGlyph) (find_either (has_other_metrics C D) (is_other C.outline D.outline) 0 n
     ∙ (λ i. least_of (sym others i) (sym outlines i)))
 
--- the first glyph with other metrics, sought among those that the second content keeps
-module _ (C D : Content) where
+-- two contents have the same metrics of a glyph
+abbrev pub same_metrics : Content → Content → ℕ → Bool
+same_metrics C D g = bytes_eq (metrics_at C.copied g) (metrics_at D.copied g)
+
+-- the first glyph that both keep and that does not pass a test, sought among those that the second content keeps
+module _ (C D : Content) (same : ℕ → Bool) where
   abbrev p : ℕ → Bool
-  p = has_other_metrics C D
+  p g = is_some (C.outline g) && (is_some (D.outline g) && not (same g))
 
   absent-first : (g : ℕ) → C.outline g ≡ None → p g ≡ false
   absent-first g none =
-      ap (λ (o : Option (List ℕ)). is_some o
-      && (is_some (D.outline g) && not (bytes_eq (metrics_at C.copied g) (metrics_at D.copied g)))) none
+      ap (λ (o : Option (List ℕ)). is_some o && (is_some (D.outline g) && not (same g))) none
 
   absent-second : (g : ℕ) → D.outline g ≡ None → p g ≡ false
   absent-second g none =
-      ap (λ (o : Option (List ℕ)). is_some (C.outline g)
-      && (is_some o && not (bytes_eq (metrics_at C.copied g) (metrics_at D.copied g)))) none
+      ap (λ (o : Option (List ℕ)). is_some (C.outline g) && (is_some o && not (same g))) none
       ∙ and_false (is_some (C.outline g))
     where
       and_false : (b : Bool) → (b && false) ≡ false
       and_false true = refl
       and_false false = refl
 
-  pub others-skip : (from g : ℕ) → IsNextKept D from g → ((h : ℕ) → h < from → p h ≡ false) → (h : ℕ) → h < g
+  pub others_skip : (from g : ℕ) → IsNextKept D from g → ((h : ℕ) → h < from → p h ≡ false) → (h : ℕ) → h < g
       → p h ≡ false
-  others-skip from g next below = fails_skip p from g below (λ h a b. absent-second h (next.passed h a b))
+  others_skip from g next below = fails_skip p from g below (λ h a b. absent-second h (next.passed h a b))
 
-  pub others-found : (g : ℕ) → ((h : ℕ) → glyph_count C.copied ≤ h → C.outline h ≡ None)
+  pub others_found : (g : ℕ) → ((h : ℕ) → glyph_count C.copied ≤ h → C.outline h ≡ None)
       → ((h : ℕ) → h < g → p h ≡ false) → p g ≡ true → Some g ≡ find p (range_with_len 0 (glyph_count C.copied))
-  others-found g past below here = elim (cases_lt g (glyph_count C.copied)) [
+  others_found g past below here = elim (cases_lt g (glyph_count C.copied)) [
     | inl low ↦ sym (first_of p g (glyph_count C.copied) low below here)
     | inr high ↦ absurd (true-false (sym here ∙ absent-first g (past g high)))
   ]
@@ -243,10 +245,10 @@ module _ (C D : Content) where
       true-false : true ≡ false → ⊥
       true-false e = cc
 
-  pub others-none : (g : ℕ) → ((h : ℕ) → glyph_count D.copied ≤ h → D.outline h ≡ None)
+  pub others_none : (g : ℕ) → ((h : ℕ) → glyph_count D.copied ≤ h → D.outline h ≡ None)
       → ((h : ℕ) → h < g → p h ≡ false) → glyph_count D.copied ≤ g
       → None ≡ find p (range_with_len 0 (glyph_count C.copied))
-  others-none g past below end = sym (first_absent p (glyph_count C.copied) (λ h a. elim (cases_lt h g) [
+  others_none g past below end = sym (first_absent p (glyph_count C.copied) (λ h a. elim (cases_lt h g) [
     | inl low ↦ below h low
     | inr high ↦ absent-second h (past h (omega (arith, high, end)))
   ]))

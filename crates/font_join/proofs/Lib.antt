@@ -12,3 +12,6 @@ pub mod TurnLemmas
 pub mod LeanGlyphLemmas
 pub mod LeanTableLemmas
 pub mod MergeLemmas
+pub mod OwnTableLemmas
+pub mod GlyphDataLemmas
+pub mod VariableUnionLemmas

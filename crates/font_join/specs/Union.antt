@@ -3,45 +3,66 @@ use Rattle.std.specs.Prelude.{◌≡◌, ℕ, ◌+◌, ◌<◌, ◌≤◌, nat_e
 use Rattle.std.specs.Prelude.{None, IfSome}
 use Rattle.std.specs.Option.{unwrap_or}
 use Rattle.sfnt_bytes.specs.declared.directory.TheConstants.{MAX_FILE}
-use Rattle.sfnt_bytes.specs.declared.tag.TheConstants.{HMTX, VMTX}
+use Rattle.sfnt_bytes.specs.declared.tag.TheConstants.{GVAR, HMTX, VMTX}
 use Rattle.font_glyph.specs.RecordMap.{Records}
 use Rattle.font_theory.specs.Content.{Content, font_of}
 use Rattle.font_theory.specs.Difference.{are_different}
 use Rattle.font_theory.specs.Kinds.{tables_as}
 use Rattle.font_theory.specs.declared.kinds.Kind.{Kind}
-use Rattle.font_theory.specs.declared.kinds.Kind.TheVariants.{Full, Layout, Lean}
+use Rattle.font_theory.specs.declared.kinds.Kind.TheVariants.{Full, Layout, Lean, Variable}
+use Rattle.font_write.specs.declared.source.TheConstants.{MAX_TABLE}
 use Rattle.map_union.specs.RunLists.{TwoLists, map_in}
 
 -- the outline of a glyph in a list
 abbrev pub listed_outline : List (Option (List ℕ)) → ℕ → Option (List ℕ)
 listed_outline outlines g = get_or outlines g None
 
--- tables, with others for `hmtx` and `vmtx`
-unfoldable pub replaced : (ℕ → Option (List ℕ)) → Option (List ℕ) → Option (List ℕ) → ℕ → Option (List ℕ)
-replaced copied hmtx vmtx slot =
-    if nat_eq slot HMTX then hmtx else if nat_eq slot VMTX then vmtx else copied slot
+-- the tables that have something of each glyph
+pub record ThreeTables : Type 0 where
+  pub hmtx : Option (List ℕ)
+  pub vmtx : Option (List ℕ)
+  pub gvar : Option (List ℕ)
+
+-- none of them
+abbrev pub no_tables : ThreeTables
+no_tables = record { hmtx = None; vmtx = None; gvar = None }
+
+-- those of a content
+abbrev pub three_of : (ℕ → Option (List ℕ)) → ThreeTables
+three_of copied = record { hmtx = copied HMTX; vmtx = copied VMTX; gvar = copied GVAR }
+
+-- tables, with others for these three
+unfoldable pub replaced : (ℕ → Option (List ℕ)) → ThreeTables → ℕ → Option (List ℕ)
+replaced copied three slot =
+    if nat_eq slot HMTX then three.hmtx else if nat_eq slot VMTX then three.vmtx
+    else if nat_eq slot GVAR then three.gvar else copied slot
+
+-- none of them is too long
+pub record AreShort (three : ThreeTables) : Type 0 where
+  pub short_hmtx : length (unwrap_or three.hmtx []) ≤ MAX_TABLE
+  pub short_vmtx : length (unwrap_or three.vmtx []) ≤ MAX_TABLE
+  pub short_gvar : length (unwrap_or three.gvar []) ≤ MAX_TABLE
 
 -- what is held of a union: the kind of its cuts, the file whose tables it has, its runs and its outlines, and
--- tables of metrics of its own, which a union of full cuts has not
+-- tables of its own, which a union of full cuts has not
 pub record Held : Type 0 where
   pub kind : Kind
   pub tables : List ℕ
   pub runs : TwoLists
   pub outlines : List (Option (List ℕ))
-  pub hmtx : Option (List ℕ)
-  pub vmtx : Option (List ℕ)
+  pub own : ThreeTables
 
 -- the tables of a union of a kind
-abbrev pub tables_in : Kind → (ℕ → Option (List ℕ)) → Option (List ℕ) → Option (List ℕ) → ℕ →
-    Option (List ℕ)
-tables_in Full copied hmtx vmtx = copied
-tables_in Lean copied hmtx vmtx = replaced copied hmtx vmtx
-tables_in Layout copied hmtx vmtx = replaced copied hmtx vmtx
+abbrev pub tables_in : Kind → (ℕ → Option (List ℕ)) → ThreeTables → ℕ → Option (List ℕ)
+tables_in Full copied own = copied
+tables_in Lean copied own = replaced copied own
+tables_in Layout copied own = replaced copied own
+tables_in Variable copied own = replaced copied own
 
 -- its content, as it is written
 abbrev pub content_in : Held → Content
 content_in u = record {
-  copied = tables_in u.kind (tables_as u.kind u.tables) u.hmtx u.vmtx;
+  copied = tables_in u.kind (tables_as u.kind u.tables) u.own;
   head = (font_of u.tables).head;
   map = map_in u.runs;
   outline = listed_outline u.outlines;

@@ -1,6 +1,8 @@
 //! Cuts of one kind that are joined one after the other. This is this project's own, and in no standard.
 ghost use Rattle.std.specs.Prelude.{◌≡◌, ◌<◌, ◌≤◌, ℕ, List, IfErr, IfOk, OnOk, false, length, map, true, MatchResult};
 ghost use Rattle.sfnt_bytes.specs.declared.directory.TheConstants.{MAX_FILE};
+ghost use Rattle.sfnt_bytes.specs.declared.tag.TheConstants.{GVAR};
+ghost use Rattle.font_theory.specs.Content.{table_in_slot};
 ghost use Rattle.font_theory.specs.Cut.{Format};
 ghost use Rattle.font_theory.specs.File.{current_writing, file};
 ghost use Rattle.streams.specs.Outlet.{broken_of, fresh_of};
@@ -60,6 +62,7 @@ fn joined_with<'f, 'a, A: Allocator + Copy>(
     all: Union<'f, 'a, A>,
     y: &'a [u8],
 ) -> Result<Union<'f, 'a, A>, JoinError>
+    requires { length (table_in_slot (content_in all).copied GVAR) ≤ MAX_FILE }
     ensures { (kind : Kind) (x : List ℕ) → HoldsIn kind all.entry x → MatchResult result
         (λ union. (z : List ℕ) × IsJoin (format_of kind) x y.now z × HoldsIn kind union z)
         (IsJoinRefusal (format_of kind) x y.now) }

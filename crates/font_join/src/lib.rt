@@ -3,6 +3,8 @@
 
 mod blanked;
 mod difference;
+mod glyph_data;
+mod glyph_tables;
 mod in_turn;
 mod join_error;
 mod join_input;

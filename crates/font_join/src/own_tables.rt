@@ -2,9 +2,7 @@
 ghost use Rattle.std.specs.Prelude.{◌≡◌, [], option_copied, unwrap_or, IfOk};
 ghost use Rattle.std.specs.Option.{option_map};
 ghost use Rattle.font_theory.specs.LeanCut.{either_bytes};
-ghost use Rattle.font_join.specs.KindInside.{own_in};
 
-use font_theory::Kind;
 use sfnt_bytes::NoMemory;
 use std::alloc::Allocator;
 
@@ -38,27 +36,15 @@ pub(crate) fn either_table<A: Allocator>(
     }
 }
 
-/// Returns the table that a union of a kind has of its first file: for lean and layout cuts a copy of it,
-/// where it is there.
+/// Returns a copy of a table that may be missing.
 ///
 /// # Errors
 ///
 /// `NoMemory` where memory is refused.
-pub(crate) fn own_table<A: Allocator>(
+pub(crate) fn copy_of<A: Allocator>(
     alloc: A,
-    kind: Kind,
     table: Option<&[u8]>,
 ) -> Result<Option<Vec<u8, A>>, NoMemory>
-    ensures { IfOk result (λ o. option_map (λ v. v.items) o ≡ own_in kind (option_copied table.entry)) }
-{
-    match kind {
-        Kind::Full => Ok(None),
-        Kind::Lean | Kind::Layout => owned(alloc, table),
-    }
-}
-
-// Returns a copy of a table that may be missing.
-fn owned<A: Allocator>(alloc: A, table: Option<&[u8]>) -> Result<Option<Vec<u8, A>>, NoMemory>
     ensures { IfOk result (λ o. option_map (λ v. v.items) o ≡ option_copied table.entry) }
 {
     match table {

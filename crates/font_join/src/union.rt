@@ -1,10 +1,11 @@
 //! The union of many cuts of one kind, added one after the other: the bytes of each are read once. This is
-//! this project's own, but for the groups of the mapping and the tables of metrics. OpenType 1.9, cmap, Format
-//! 12: Segmented coverage; hmtx; vmtx.
+//! this project's own, but for the groups of the mapping, `gvar` and the tables of metrics. OpenType 1.9, cmap, Format
+//! 12: Segmented coverage; gvar; hmtx; vmtx.
 ghost use Rattle.std.specs.Prelude.{◌≡◌, ◌≤◌, length, None, Some, IfOk, MatchOption, MatchResult};
 ghost use Rattle.sfnt_bytes.specs.declared.directory.TheConstants.{MAX_FILE};
+ghost use Rattle.sfnt_bytes.specs.declared.tag.TheConstants.{GVAR};
 ghost use Rattle.font_theory.specs.Bytes.{padded};
-ghost use Rattle.font_theory.specs.Content.{Content, content, everything};
+ghost use Rattle.font_theory.specs.Content.{Content, content, everything, table_in_slot};
 ghost use Rattle.font_theory.specs.Cut.{IsCut, content_of_all};
 ghost use Rattle.font_theory.specs.File.{current_writing, file};
 ghost use Rattle.font_theory.specs.Kinds.{font_as, format_of};
@@ -12,25 +13,26 @@ ghost use Rattle.font_theory.specs.declared.kinds.Kind.{Kind};
 ghost use Rattle.font_write.specs.WholeFile.{IsTooLarge};
 ghost use Rattle.font_join.specs.Union.{content_in};
 ghost use Rattle.font_join.specs.Inside.{IsAddRefusal, IsFormRefusal, add_fault, early_difference};
-ghost use Rattle.font_join.specs.KindInside.{IsGrown, SpellsIn, least_of, metrics_told};
+ghost use Rattle.font_join.specs.KindInside.{IsGrown, SpellsIn, least_of, values_told};
 ghost use Rattle.font_join.specs.declared.join_error.Which.TheVariants.{First};
 
-use crate::blanked::{Blanked, Blanks};
+use crate::blanked::Blanked;
 use crate::difference::{early_difference, refusal_of};
+use crate::glyph_data::{different_data, gvar_of_both};
+use crate::glyph_tables::GlyphTables;
 use crate::join_error::{JoinError, Which};
 use crate::join_input::open_for_kind;
 use crate::listed::Listed;
 use crate::metrics::different_metrics;
-use crate::own_tables::{either_table, own_table};
 use crate::taken_outlines::Outlines;
 use crate::without_codes::size_if_too_large;
 use font_file::Font;
 use font_map::Run;
-use font_subset::{FontOfKind, bytes_of, head};
+use font_subset::{FontOfKind, head};
 use font_theory::{Difference, Kind};
 use font_write::Source;
 use map_union::UnionMap;
-use sfnt_bytes::{HMTX, NoMemory, VMTX};
+use sfnt_bytes::NoMemory;
 use std::alloc::Allocator;
 use std::marker::Model;
 
@@ -46,21 +48,19 @@ fn least(first: Option<u16>, second: Option<u16>) -> Option<u16>
 }
 
 /// The union of cuts of one kind: the tables of the first of them, the maps of all in one, and for each glyph
-/// the slice of the first file that keeps it. A union of lean or of layout cuts has `hmtx` and `vmtx` of its own,
-/// which are those of all byte by byte.
+/// the slice of the first file that keeps it. Except for full cuts, a union has `hmtx` and `vmtx` of its own, which
+/// are those of all byte by byte, and a `gvar` of its own with the variation data of all.
 pub struct Union<'f, 'a, A: Allocator> {
     first: FontOfKind<'f, 'a, A>,
     map: UnionMap<A>,
     outlines: Outlines<'a, A>,
-    hmtx: Option<Vec<u8, A>>,
-    vmtx: Option<Vec<u8, A>>,
+    own: GlyphTables<A>,
     // All files have these in common, so that they are made once.
-    blanks: Blanks<A>,
+    blanks: GlyphTables<A>,
 }
 
 // Its value is what is held.
 impl<'f, 'a, A: Allocator> Model for Union<'f, 'a, A> {
-    ghost use Rattle.std.specs.Option.{option_map};
     ghost use Rattle.font_join.specs.KindInside.{IsUnion};
     ghost use Rattle.font_join.specs.Union.{Held};
 
@@ -71,8 +71,7 @@ impl<'f, 'a, A: Allocator> Model for Union<'f, 'a, A> {
       tables = u.first.1;
       runs = u.map;
       outlines = u.outlines;
-      hmtx = option_map (λ v. v.items) u.hmtx;
-      vmtx = option_map (λ v. v.items) u.vmtx;
+      own = u.own;
     } };
 
     ghost invariant = { λ u. IsUnion (record {
@@ -80,8 +79,7 @@ impl<'f, 'a, A: Allocator> Model for Union<'f, 'a, A> {
       tables = u.first.1;
       runs = u.map;
       outlines = u.outlines;
-      hmtx = option_map (λ v. v.items) u.hmtx;
-      vmtx = option_map (λ v. v.items) u.vmtx;
+      own = u.own;
     }) u.blanks };
 }
 
@@ -92,8 +90,7 @@ impl<'f, 'a, A: Allocator> Drop for Union<'f, 'a, A> {
             first: _first,
             map: _map,
             outlines: _outlines,
-            hmtx: _hmtx,
-            vmtx: _vmtx,
+            own: _own,
             blanks: _blanks,
         } = self;
     }
@@ -111,14 +108,8 @@ impl<'f, 'a, A: Allocator> Source for Union<'f, 'a, A> {
     fn copied(&self, slot: usize) -> Option<&[u8]> {
         match self.first.kind() {
             Kind::Full => self.first.copied(slot),
-            Kind::Lean | Kind::Layout => {
-                if slot == HMTX {
-                    return bytes_of(&self.hmtx);
-                }
-                if slot == VMTX {
-                    return bytes_of(&self.vmtx);
-                }
-                self.first.copied(slot)
+            Kind::Lean | Kind::Layout | Kind::Variable => {
+                self.own.or_copied(slot, self.first.copied(slot))
             }
         }
     }
@@ -172,8 +163,8 @@ impl<'f, 'a, A: Allocator + Copy> Union<'f, 'a, A> {
     {
         match self.first.kind() {
             Kind::Full => Ok(early_difference(self, &self.map, file)),
-            Kind::Lean | Kind::Layout => {
-                let blanks = Blanks::of(alloc, file)?;
+            Kind::Lean | Kind::Layout | Kind::Variable => {
+                let blanks = GlyphTables::blank(alloc, file)?;
                 let first = Blanked::new(self, &self.blanks);
                 let second = Blanked::new(file, &blanks);
                 Ok(early_difference(&first, &self.map, &second))
@@ -196,14 +187,21 @@ impl<'f, 'a, A: Allocator + Copy> Union<'f, 'a, A> {
         }
     }
 
-    // Returns the first glyph that a cut keeps with other metrics than the union, where these are compared.
-    fn other_metrics(&self, file: &Listed<'_, 'a, A>) -> Option<u16>
-        ensures { result ≡ metrics_told self.now.kind (content_in self.now)
+    // Returns the first glyph that a cut keeps with other metrics or variation data than the union, where these are
+    // compared.
+    fn other_values(&self, file: &Listed<'_, 'a, A>) -> Option<u16>
+        requires same { file.now.0 ≡ self.now.kind }
+        requires form { IsCut (format_of self.now.kind) file.now.1 }
+        requires early { (K : Content) → SpellsIn self.now.kind (content_in self.now) K →
+            early_difference K (content_of_all (format_of self.now.kind) file.now.1) ≡ None }
+        requires small { length (table_in_slot (content_in self.now).copied GVAR) ≤ MAX_FILE }
+        ensures { result ≡ values_told self.now.kind (content_in self.now)
             (content (font_as file.now.0 file.now.1) everything) }
     {
         match self.first.kind() {
             Kind::Full => None,
             Kind::Lean | Kind::Layout => different_metrics(self, file),
+            Kind::Variable => least(different_metrics(self, file), different_data(self, file)),
         }
     }
 
@@ -214,34 +212,33 @@ impl<'f, 'a, A: Allocator + Copy> Union<'f, 'a, A> {
         requires form { IsCut (format_of self.kind) file.1 }
         requires early { (K : Content) → SpellsIn self.kind (content_in self) K →
             early_difference K (content_of_all (format_of self.kind) file.1) ≡ None }
+        requires small { length (table_in_slot (content_in self).copied GVAR) ≤ MAX_FILE }
         ensures { (K : Content) → SpellsIn self.entry.kind (content_in self.entry) K → MatchResult result
             (IsGrown self.entry.kind file.entry.1 K)
             (IsAddRefusal (format_of self.entry.kind) K file.entry.1) }
     {
-        let metrics = self.other_metrics(&file);
+        let values = self.other_values(&file);
+        let gvar = gvar_of_both(alloc, &self, &file)?;
         let count = self.first.font().tables().glyph_count();
         let Union {
             first,
             map,
             mut outlines,
-            hmtx,
-            vmtx,
+            own,
             blanks,
         } = self;
         let other = outlines.take(&file, count);
-        if let Some(g) = least(metrics, other) {
+        if let Some(g) = least(values, other) {
             return Err(JoinError::DifferentGlyph(g));
         }
-        let hmtx = either_table(hmtx, file.copied(HMTX));
-        let vmtx = either_table(vmtx, file.copied(VMTX));
+        let own = own.laid_over(&file, gvar);
         let runs = file.into_runs(alloc)?;
         let map = map.with(alloc, runs)?;
         Ok(Union {
             first,
             map,
             outlines,
-            hmtx,
-            vmtx,
+            own,
             blanks,
         })
     }
@@ -263,9 +260,8 @@ impl<'f, 'a, A: Allocator + Copy> Union<'f, 'a, A> {
     {
         let opened = open_for_kind(alloc, kind, font, Which::First)?;
         let file = Listed::new(alloc, &opened, Which::First)?;
-        let hmtx = own_table(alloc, kind, file.copied(HMTX))?;
-        let vmtx = own_table(alloc, kind, file.copied(VMTX))?;
-        let blanks = Blanks::for_kind(alloc, kind, &file)?;
+        let own = GlyphTables::own(alloc, kind, &file)?;
+        let blanks = GlyphTables::blank_for_kind(alloc, kind, &file)?;
         let count = file.glyph_count();
         let mut outlines = Outlines::new(alloc, count)?;
         // There is nothing yet that its outlines could differ from.
@@ -275,8 +271,7 @@ impl<'f, 'a, A: Allocator + Copy> Union<'f, 'a, A> {
             first: opened,
             map: UnionMap::of_runs(alloc, runs),
             outlines,
-            hmtx,
-            vmtx,
+            own,
             blanks,
         })
     }
@@ -288,6 +283,7 @@ impl<'f, 'a, A: Allocator + Copy> Union<'f, 'a, A> {
     /// `Font` of the second where its tables of layout are refused, `NotACut` of the second, the first difference,
     /// or `NoMemory`.
     pub(crate) fn add(self, alloc: A, font: &Font<'a>) -> Result<Union<'f, 'a, A>, JoinError>
+        requires { length (table_in_slot (content_in self).copied GVAR) ≤ MAX_FILE }
         ensures { (kind : Kind) (K : Content) → self.entry.kind ≡ kind
             → SpellsIn kind (content_in self.entry) K →
             MatchResult result
@@ -313,16 +309,14 @@ impl<'f, 'a, A: Allocator + Copy> Union<'f, 'a, A> {
             first,
             map,
             outlines,
-            hmtx,
-            vmtx,
+            own,
             blanks,
         } = self;
         Ok(Union {
             first,
             map: map.settle(alloc)?,
             outlines,
-            hmtx,
-            vmtx,
+            own,
             blanks,
         })
     }

@@ -7,6 +7,7 @@ use Rattle.font_theory.proofs.KindLemmas.{kind_is}
 use Rattle.font_join.specs.JoinList.{Stands}
 use Rattle.font_join.specs.KindInside.{HoldsIn}
 use Rattle.font_join.specs.Union.{Held, content_in}
+use Rattle.font_join.proofs.MergeLemmas.{short_held}
 use Rattle.font_join.proofs.TurnLemmas.{joined_first, refused_at_first, refused_at_next, stands_first, stands_next}
 use Rattle.font_join.proofs.TurnLemmas.{too_large_first, united_end}
 use Rattle.font_join.proofs.JoinListLemmas.{file_at-map}
@@ -41,6 +42,11 @@ returns-in-Err-joined_with g c =
     refused_at_next (kind_is c.args.first.kind) bytes k y c.in-Err-joined_with.error
     (omega (arith, length-map c.args.files.now g.F.AsSlice.items, c.loop-step-test.true)) e s.0 s.1
     (c.in-Err-joined_with.ensures c.args.first.kind s.0 s.2)
+
+pub joined_with-requires : goal.joined_with-requires
+joined_with-requires g c =
+    let s = c.loop-step.invariant in
+    short_held c.loop-step.all c.args.first.kind s.0 s.2
 
 pub loop-step-preserved : goal.loop-step-preserved
 loop-step-preserved g c =

@@ -2,14 +2,15 @@ use Rattle.std.proofs.Common.{◌≤◌, ◌+◌, ◌∙◌, sym, arith}
 use Rattle.font_theory.specs.Content.{Content, glyph_count}
 use Rattle.font_join.specs.KindInside.{has_other_metrics}
 use Rattle.font_join.proofs.FirstLemmas.{fails_next}
-use Rattle.font_join.proofs.LeanGlyphLemmas.{others-found, others-none, others-skip}
+use Rattle.font_join.proofs.LeanGlyphLemmas.{others_found, others_none, others_skip, same_metrics}
 use Rattle.font_join.proofs.metrics.different_metrics.Goals as goal
 
 pub loop-g-init : goal.loop-g-init
 loop-g-init g c =
     let C : Content = g.K.Source.content_of c.args.k.now in
     let D : Content = g.L.Source.content_of c.args.l.now in (
-      others-skip C D 0 c.next_kept-g.result c.next_kept-g.ensures (λ h low. absurd (omega (arith, low))),
+      others_skip C D (same_metrics C D) 0 c.next_kept-g.result c.next_kept-g.ensures
+          (λ h low. absurd (omega (arith, low))),
       c.next_kept-g.ensures.within,
     )
 
@@ -19,18 +20,21 @@ loop-g-preserved g c =
     let D : Content = g.L.Source.content_of c.args.l.now in
     let below = fails_next (has_other_metrics C D) c.loop-g.g c.loop-g.invariant.0 (sym c.has_others.ensures
     ∙ c.if-has_others.false) in (
-      others-skip C D (c.loop-g.g + 1) c.next_kept-g-in-loop-g.result c.next_kept-g-in-loop-g.ensures below,
+      others_skip C D (same_metrics C D) (c.loop-g.g + 1) c.next_kept-g-in-loop-g.result
+          c.next_kept-g-in-loop-g.ensures below,
       c.next_kept-g-in-loop-g.ensures.within,
     )
 
 pub returns-then-has_others : goal.returns-then-has_others
 returns-then-has_others g c =
-    others-found (g.K.Source.content_of c.args.k.now) (g.L.Source.content_of c.args.l.now) c.loop-g.g
+    others_found (g.K.Source.content_of c.args.k.now) (g.L.Source.content_of c.args.l.now)
+    (same_metrics (g.K.Source.content_of c.args.k.now) (g.L.Source.content_of c.args.l.now)) c.loop-g.g
     c.recall_laws.ensures.writable.past c.loop-g.invariant.0 (sym c.has_others.ensures ∙ c.if-has_others.true)
 
 pub returns : goal.returns
 returns g c =
     let D : Content = g.L.Source.content_of c.args.l.now in
     let past : glyph_count D.copied ≤ c.loop-g.g = omega (arith, c.loop-g-test.false, c.glyph_count-count.ensures) in
-    others-none (g.K.Source.content_of c.args.k.now) D c.loop-g.g c.recall_laws-2.ensures.writable.past
+    others_none (g.K.Source.content_of c.args.k.now) D (same_metrics (g.K.Source.content_of c.args.k.now) D)
+    c.loop-g.g c.recall_laws-2.ensures.writable.past
     c.loop-g.invariant.0 past

@@ -1,6 +1,6 @@
 use Rattle.std.proofs.Common.{◌≤◌, ◌⊎◌, length, inl, inr, arith}
 use Rattle.std.proofs.lemmas.Bool.{cases_lt}
-use Rattle.font_join.proofs.MergeLemmas.{either_all, either_none}
+use Rattle.font_join.proofs.OwnTableLemmas.{either_all, either_none}
 use Rattle.font_join.proofs.own_tables.lay_over.Goals as goal
 
 pub loop-j-init : goal.loop-j-init

@@ -1,4 +1,4 @@
-use Rattle.font_join.proofs.MergeLemmas.{AreEither}
+use Rattle.font_join.proofs.OwnTableLemmas.{AreEither}
 use Rattle.font_join.proofs.own_tables.lay_over.Given as goal
 
 abbrev pub invariant-loop-j : goal.invariant-loop-j

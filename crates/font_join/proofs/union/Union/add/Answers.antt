@@ -1,12 +1,11 @@
 use Rattle.std.proofs.Common.{◌≡◌, MatchResult, List, ℕ, None, sym, ap, ◌∙◌, subst}
 use Rattle.std.proofs.lemmas.Result.{MatchResult-weaker}
-use Rattle.font_theory.specs.Content.{Content}
-use Rattle.font_theory.specs.Cut.{Format, IsCut, content_of_all}
+use Rattle.font_theory.specs.Cut.{Format, IsCut}
 use Rattle.font_theory.specs.Kinds.{format_of}
 use Rattle.font_theory.specs.declared.kinds.Kind.{Kind}
 use Rattle.font_theory.proofs.CutLemmas.{is_cut-of}
 use Rattle.font_theory.proofs.KindLemmas.{kind_is}
-use Rattle.font_join.specs.Inside.{IsAddRefusal, IsFormRefusal, add_fault, early_difference}
+use Rattle.font_join.specs.Inside.{IsAddRefusal, IsFormRefusal, add_fault}
 use Rattle.font_join.specs.KindInside.{IsGrown, SpellsIn}
 use Rattle.font_join.specs.Union.{Held, content_in}
 use Rattle.font_join.specs.declared.join_error.Which.TheVariants.{Second}

@@ -1,28 +1,28 @@
 use Rattle.std.specs.List.{range_with_len}
-use Rattle.std.proofs.Common.{◌≡◌, ℕ, List, [], find, None, Some, unwrap_or, sym, ap, ◌∙◌, refl, subst}
+use Rattle.std.proofs.Common.{◌≡◌, ◌≤◌, ℕ, List, find, length, None, Some, sym, ap, ◌∙◌, refl, subst}
 use Rattle.std.specs.Option.{option_map}
-use Rattle.sfnt_bytes.specs.declared.tag.TheConstants.{HMTX, VMTX}
+use Rattle.sfnt_bytes.specs.declared.directory.TheConstants.{MAX_FILE}
+use Rattle.sfnt_bytes.specs.declared.tag.TheConstants.{GVAR}
 use Rattle.codes.specs.CharacterMap.{AreCompatible, united}
 use Rattle.font_tables.specs.Fields.{glyph_count_of}
-use Rattle.font_theory.specs.Content.{Content, content, everything}
+use Rattle.font_theory.specs.Content.{Content, content, everything, glyph_count, table_in_slot}
 use Rattle.font_theory.specs.Cut.{IsCut, content_of_all}
 use Rattle.font_theory.specs.Agreement.{Agree}
 use Rattle.font_theory.specs.Kinds.{font_as, format_of, tables_as}
 use Rattle.font_theory.specs.declared.kinds.Kind.{Kind}
-use Rattle.font_theory.specs.LeanCut.{either_bytes}
 use Rattle.font_theory.specs.declared.Difference.TheVariants.{AtGlyph}
 use Rattle.font_theory.proofs.CutLemmas.{is_cut-of}
 use Rattle.font_theory.proofs.KindLemmas.{kind_is}
 use Rattle.map_union.specs.RunLists.{map_in}
 use Rattle.font_join.specs.Inside.{AreTaken, IsAddRefusal}
-use Rattle.font_join.specs.KindInside.{IsGrown, SpellsIn, least_of, metrics_told}
+use Rattle.font_join.specs.KindInside.{HasFineGvar, IsGrown, SpellsIn, laid_over, least_of, united_gvar, values_told}
 use Rattle.font_join.specs.Union.{Held, content_in, is_other, listed_outline}
 use Rattle.font_join.specs.declared.join_error.Which.TheVariants.{Second}
 use Rattle.font_join.proofs.JoinLemmas.{form_whole}
 use Rattle.font_join.proofs.AddFaultLemmas.{difference_fault}
 use Rattle.font_join.proofs.LeanGlyphLemmas.{least_none}
-use Rattle.font_join.proofs.MergeLemmas.{agree_of, compatible, form_of, looked_up, none_of, spells_merged, taken_merged}
-use Rattle.font_join.proofs.MergeLemmas.{told_of, union_merged}
+use Rattle.font_join.proofs.MergeLemmas.{agree_of, compatible, count_early, fine_file, fine_union, form_of, none_of}
+use Rattle.font_join.proofs.MergeLemmas.{spells_file, spells_merged, taken_merged, told_of, union_merged}
 use Rattle.font_join.specs.declared.join_error.JoinError.TheVariants.{DifferentGlyph, NoMemory}
 use Rattle.font_subset.proofs.CutLemmas.{passed_on}
 use Rattle.font_join.proofs.union.Union.merged.Goals as goal
@@ -30,6 +30,30 @@ use Rattle.font_join.proofs.union.Union.merged.Goals as goal
 pub take-other-requires-clause-form : goal.take-other-requires-clause-form
 take-other-requires-clause-form g c = subst (λ (k : Kind). IsCut (format_of k) c.args.file.1) (sym c.requires.same)
     c.requires.form
+
+pub gvar_of_both-requires-clause-first : goal.gvar_of_both-requires-clause-first
+gvar_of_both-requires-clause-first g c =
+    subst (λ (v : Held). length (table_in_slot (content_in v).copied GVAR) ≤ MAX_FILE
+    → HasFineGvar (content_in v).copied) c.self.view_is
+    (fine_union c.self.inside.first.0 _ c.self.invariant.whole c.self.invariant.spells) c.requires.small
+
+pub gvar_of_both-requires-clause-second : goal.gvar_of_both-requires-clause-second
+gvar_of_both-requires-clause-second g c = fine_file c.args.file.0 c.args.file.1
+    (subst (λ (k : Kind). IsCut (format_of k) c.args.file.1) (sym c.requires.same) c.requires.form)
+
+pub gvar_of_both-requires-clause-count : goal.gvar_of_both-requires-clause-count
+gvar_of_both-requires-clause-count g c =
+    let v : Held = c.args.self in
+    let y : List ℕ = c.args.file.1 in
+    let K : Content = c.self.invariant.whole in
+    let spells : SpellsIn v.kind (content_in v) K =
+    subst (λ (w : Held). SpellsIn w.kind (content_in w) K) c.self.view_is c.self.invariant.spells in
+    count_early v.kind (content_in v) (content (font_as v.kind y) everything) K (content_of_all (format_of v.kind) y)
+    spells (spells_file v.kind y c.requires.form) (c.requires.early K spells)
+    ∙ ap (λ (k : Kind). glyph_count (tables_as k y)) (sym c.requires.same)
+
+pub returns-in_err-gvar : goal.returns-in_err-gvar
+returns-in_err-gvar g c = λ K spells. passed_on _ _ c.from_residual.result NoMemory c.from_residual.ensures.1 tt
 
 pub returns-in-Some : goal.returns-in-Some
 returns-in-Some g c = subst (λ (v : Held). (K : Content) → SpellsIn v.kind (content_in v) K
@@ -39,9 +63,7 @@ returns-in-Some g c = subst (λ (v : Held). (K : Content) → SpellsIn v.kind (c
       tables = c.self.inside.first.1;
       runs = c.self.inside.map;
       outlines = c.self.inside.outlines;
-      hmtx = option_map (λ v. v.items) c.self.inside.hmtx;
-      vmtx =
-          option_map (λ v. v.items) c.self.inside.vmtx;
+      own = c.self.inside.own;
     } in
     let y : List ℕ = c.args.file.1 in
     let same : c.args.file.0 ≡ u.kind = c.requires.same ∙ sym (ap (λ (v : Held). v.kind) c.self.view_is) in
@@ -54,14 +76,14 @@ returns-in-Some g c = subst (λ (v : Held). (K : Content) → SpellsIn v.kind (c
     subst (λ (k : Kind). c.take-other.result
     ≡ find (is_other (listed_outline u.outlines) (content (font_as k y) everything).outline)
     (range_with_len 0 c.glyph_count-count.result)) same c.take-other.ensures.differs in
-    let measured : c.other_metrics-metrics.result ≡ metrics_told c.args.self.kind (content_in c.args.self)
+    let measured : c.other_values-values.result ≡ values_told c.args.self.kind (content_in c.args.self)
     (content (font_as u.kind y) everything) =
-    subst (λ (k : Kind). c.other_metrics-metrics.result ≡ metrics_told c.args.self.kind (content_in c.args.self)
-    (content (font_as k y) everything)) same c.other_metrics-metrics.ensures in
+    subst (λ (k : Kind). c.other_values-values.result ≡ values_told c.args.self.kind (content_in c.args.self)
+    (content (font_as k y) everything)) same c.other_values-values.ensures in
     difference_fault (format_of u.kind) K y (form_whole (format_of u.kind) Second y form.accepted
     (is_cut-of (format_of u.kind) (kind_is u.kind).law y form)) (Some (AtGlyph c.in-Some.g))
     (sym (told_of u c.args.self c.self.view_is y c.requires.form c.requires.early K spells c.glyph_count-count.result
-    count c.take-other.result c.other_metrics-metrics.result differs measured
+    count c.take-other.result c.other_values-values.result differs measured
     ∙ ap (option_map AtGlyph) (sym c.least.ensures ∙ c.in-Some.is))))
 
 pub with-requires-clause-agree : goal.with-requires-clause-agree
@@ -71,9 +93,7 @@ with-requires-clause-agree g c =
       tables = c.self.inside.first.1;
       runs = c.self.inside.map;
       outlines = c.self.inside.outlines;
-      hmtx = option_map (λ v. v.items) c.self.inside.hmtx;
-      vmtx =
-          option_map (λ v. v.items) c.self.inside.vmtx;
+      own = c.self.inside.own;
     } in
     let y : List ℕ = c.args.file.1 in
     let same : c.args.file.0 ≡ u.kind = c.requires.same ∙ sym (ap (λ (v : Held). v.kind) c.self.view_is) in
@@ -86,17 +106,17 @@ with-requires-clause-agree g c =
     subst (λ (k : Kind). c.take-other.result
     ≡ find (is_other (listed_outline u.outlines) (content (font_as k y) everything).outline)
     (range_with_len 0 c.glyph_count-count.result)) same c.take-other.ensures.differs in
-    let measured : c.other_metrics-metrics.result ≡ metrics_told c.args.self.kind (content_in c.args.self)
+    let measured : c.other_values-values.result ≡ values_told c.args.self.kind (content_in c.args.self)
     (content (font_as u.kind y) everything) =
-    subst (λ (k : Kind). c.other_metrics-metrics.result ≡ metrics_told c.args.self.kind (content_in c.args.self)
-    (content (font_as k y) everything)) same c.other_metrics-metrics.ensures in
+    subst (λ (k : Kind). c.other_values-values.result ≡ values_told c.args.self.kind (content_in c.args.self)
+    (content (font_as k y) everything)) same c.other_values-values.ensures in
     let K : Content = c.self.invariant.whole in
     let spells : SpellsIn u.kind (content_in u) K = c.self.invariant.spells in
-    let least : least_of c.other_metrics-metrics.result c.take-other.result ≡ None = sym c.least.ensures
+    let least : least_of c.other_values-values.result c.take-other.result ≡ None = sym c.least.ensures
     ∙ c.in_default.is in
     let agree : Agree K (content_of_all (format_of u.kind) y) =
     agree_of u c.args.self c.self.view_is y c.requires.form c.requires.early K spells c.glyph_count-count.result count
-    c.take-other.result c.other_metrics-metrics.result differs measured least in
+    c.take-other.result c.other_values-values.result differs measured least in
     subst (λ (m : ℕ → ℕ). AreCompatible (map_in u.runs) m) (sym c.in_ok-runs.ensures.spelled_map)
     (compatible u y K spells form agree)
 
@@ -107,9 +127,7 @@ invariant_of-result g c =
       tables = c.self.inside.first.1;
       runs = c.self.inside.map;
       outlines = c.self.inside.outlines;
-      hmtx = option_map (λ v. v.items) c.self.inside.hmtx;
-      vmtx =
-          option_map (λ v. v.items) c.self.inside.vmtx;
+      own = c.self.inside.own;
     } in
     let y : List ℕ = c.args.file.1 in
     let same : c.args.file.0 ≡ u.kind = c.requires.same ∙ sym (ap (λ (v : Held). v.kind) c.self.view_is) in
@@ -122,43 +140,33 @@ invariant_of-result g c =
     subst (λ (k : Kind). c.take-other.result
     ≡ find (is_other (listed_outline u.outlines) (content (font_as k y) everything).outline)
     (range_with_len 0 c.glyph_count-count.result)) same c.take-other.ensures.differs in
-    let measured : c.other_metrics-metrics.result ≡ metrics_told c.args.self.kind (content_in c.args.self)
+    let measured : c.other_values-values.result ≡ values_told c.args.self.kind (content_in c.args.self)
     (content (font_as u.kind y) everything) =
-    subst (λ (k : Kind). c.other_metrics-metrics.result ≡ metrics_told c.args.self.kind (content_in c.args.self)
-    (content (font_as k y) everything)) same c.other_metrics-metrics.ensures in
+    subst (λ (k : Kind). c.other_values-values.result ≡ values_told c.args.self.kind (content_in c.args.self)
+    (content (font_as k y) everything)) same c.other_values-values.ensures in
     let K : Content = c.self.invariant.whole in
     let spells : SpellsIn u.kind (content_in u) K = c.self.invariant.spells in
-    let least : least_of c.other_metrics-metrics.result c.take-other.result ≡ None = sym c.least.ensures
+    let least : least_of c.other_values-values.result c.take-other.result ≡ None = sym c.least.ensures
     ∙ c.in_default.is in
     let agree : Agree K (content_of_all (format_of u.kind) y) =
     agree_of u c.args.self c.self.view_is y c.requires.form c.requires.early K spells c.glyph_count-count.result count
-    c.take-other.result c.other_metrics-metrics.result differs measured least in
+    c.take-other.result c.other_values-values.result differs measured least in
     let D : Content = content (font_as u.kind y) everything in
     let are : AreTaken u.outlines c.take-other.new.self D.outline c.glyph_count-count.result =
     subst (λ (k : Kind). AreTaken u.outlines c.take-other.new.self (content (font_as k y) everything).outline
     c.glyph_count-count.result) same
-    (c.take-other.ensures.taken (least_none c.other_metrics-metrics.result c.take-other.result least)) in
+    (c.take-other.ensures.taken (least_none c.other_values-values.result c.take-other.result least)) in
     let taken = taken_merged u y K spells form agree c.take-other.new.self c.glyph_count-count.result count
     c.self.invariant.count are in
     let maps : map_in c.in_ok-map.map ≡ united (map_in u.runs) D.map = c.in_ok-map.ensures
     ∙ ap (united (map_in u.runs)) c.in_ok-runs.ensures.spelled_map in
-    let across : option_map (λ v. v.items) c.either_table-hmtx.result
-    ≡ option_map (λ t. either_bytes t (unwrap_or (D.copied HMTX) [])) u.hmtx =
-    c.either_table-hmtx.ensures
-    ∙ (λ i. option_map
-    (λ t. either_bytes t
-    (unwrap_or ((looked_up (λ b. b.now) c.copied.result (tables_as c.args.file.0 y HMTX) c.copied.ensures.table
-    ∙ ap (λ (k : Kind). tables_as k y HMTX) same) i) [])) u.hmtx) in
-    let down : option_map (λ v. v.items) c.either_table-vmtx.result
-    ≡ option_map (λ t. either_bytes t (unwrap_or (D.copied VMTX) [])) u.vmtx =
-    c.either_table-vmtx.ensures
-    ∙ (λ i. option_map
-    (λ t. either_bytes t
-    (unwrap_or ((looked_up (λ b. b.now) c.copied-2.result (tables_as c.args.file.0 y VMTX) c.copied-2.ensures.table
-    ∙ ap (λ (k : Kind). tables_as k y VMTX) same) i) [])) u.vmtx) in
-    union_merged u y K spells form agree c.in_ok-map.map c.take-other.new.self
-    (option_map (λ v. v.items) c.either_table-hmtx.result) (option_map (λ v. v.items) c.either_table-vmtx.result)
-    maps taken across down c.self.inside.blanks c.self.invariant are.count
+    let gvar : option_map (λ v. v.items) c.in_ok-gvar.gvar ≡ united_gvar (content_in u) D =
+    c.in_ok-gvar.ensures.table ∙ (λ i. united_gvar (content_in (sym c.self.view_is i))
+    (content (font_as (same i) y) everything)) in
+    let over : c.laid_over-own.result ≡ laid_over D.copied u.own (united_gvar (content_in u) D) =
+    c.laid_over-own.ensures ∙ (λ i. laid_over (tables_as (same i) y) u.own (gvar i)) in
+    union_merged u y K spells form agree c.in_ok-map.map c.take-other.new.self c.laid_over-own.result maps taken over
+    c.self.inside.blanks c.self.invariant are.count
 
 pub returns : goal.returns
 returns g c = subst (λ (v : Held). (K : Content) → SpellsIn v.kind (content_in v) K
@@ -167,19 +175,14 @@ returns g c = subst (λ (v : Held). (K : Content) → SpellsIn v.kind (content_i
       tables = c.self.inside.first.1;
       runs = c.in_ok-map.map;
       outlines = c.take-other.new.self;
-      hmtx =
-          option_map (λ v. v.items) c.either_table-hmtx.result;
-      vmtx =
-          option_map (λ v. v.items) c.either_table-vmtx.result;
+      own = c.laid_over-own.result;
     })) c.self.view_is (λ K spells.
     let u : Held = record {
       kind = c.self.inside.first.0;
       tables = c.self.inside.first.1;
       runs = c.self.inside.map;
       outlines = c.self.inside.outlines;
-      hmtx = option_map (λ v. v.items) c.self.inside.hmtx;
-      vmtx =
-          option_map (λ v. v.items) c.self.inside.vmtx;
+      own = c.self.inside.own;
     } in
     let y : List ℕ = c.args.file.1 in
     let same : c.args.file.0 ≡ u.kind = c.requires.same ∙ sym (ap (λ (v : Held). v.kind) c.self.view_is) in
@@ -192,49 +195,40 @@ returns g c = subst (λ (v : Held). (K : Content) → SpellsIn v.kind (content_i
     subst (λ (k : Kind). c.take-other.result
     ≡ find (is_other (listed_outline u.outlines) (content (font_as k y) everything).outline)
     (range_with_len 0 c.glyph_count-count.result)) same c.take-other.ensures.differs in
-    let measured : c.other_metrics-metrics.result ≡ metrics_told c.args.self.kind (content_in c.args.self)
+    let measured : c.other_values-values.result ≡ values_told c.args.self.kind (content_in c.args.self)
     (content (font_as u.kind y) everything) =
-    subst (λ (k : Kind). c.other_metrics-metrics.result ≡ metrics_told c.args.self.kind (content_in c.args.self)
-    (content (font_as k y) everything)) same c.other_metrics-metrics.ensures in
-    let least : least_of c.other_metrics-metrics.result c.take-other.result ≡ None = sym c.least.ensures
+    subst (λ (k : Kind). c.other_values-values.result ≡ values_told c.args.self.kind (content_in c.args.self)
+    (content (font_as k y) everything)) same c.other_values-values.ensures in
+    let least : least_of c.other_values-values.result c.take-other.result ≡ None = sym c.least.ensures
     ∙ c.in_default.is in
     let agree : Agree K (content_of_all (format_of u.kind) y) =
     agree_of u c.args.self c.self.view_is y c.requires.form c.requires.early K spells c.glyph_count-count.result count
-    c.take-other.result c.other_metrics-metrics.result differs measured least in
+    c.take-other.result c.other_values-values.result differs measured least in
     let D : Content = content (font_as u.kind y) everything in
     let are : AreTaken u.outlines c.take-other.new.self D.outline c.glyph_count-count.result =
     subst (λ (k : Kind). AreTaken u.outlines c.take-other.new.self (content (font_as k y) everything).outline
     c.glyph_count-count.result) same
-    (c.take-other.ensures.taken (least_none c.other_metrics-metrics.result c.take-other.result least)) in
+    (c.take-other.ensures.taken (least_none c.other_values-values.result c.take-other.result least)) in
     let taken = taken_merged u y K spells form agree c.take-other.new.self c.glyph_count-count.result count
     c.self.invariant.count are in
     let maps : map_in c.in_ok-map.map ≡ united (map_in u.runs) D.map = c.in_ok-map.ensures
     ∙ ap (united (map_in u.runs)) c.in_ok-runs.ensures.spelled_map in
-    let across : option_map (λ v. v.items) c.either_table-hmtx.result
-    ≡ option_map (λ t. either_bytes t (unwrap_or (D.copied HMTX) [])) u.hmtx =
-    c.either_table-hmtx.ensures
-    ∙ (λ i. option_map
-    (λ t. either_bytes t
-    (unwrap_or ((looked_up (λ b. b.now) c.copied.result (tables_as c.args.file.0 y HMTX) c.copied.ensures.table
-    ∙ ap (λ (k : Kind). tables_as k y HMTX) same) i) [])) u.hmtx) in
-    let down : option_map (λ v. v.items) c.either_table-vmtx.result
-    ≡ option_map (λ t. either_bytes t (unwrap_or (D.copied VMTX) [])) u.vmtx =
-    c.either_table-vmtx.ensures
-    ∙ (λ i. option_map
-    (λ t. either_bytes t
-    (unwrap_or ((looked_up (λ b. b.now) c.copied-2.result (tables_as c.args.file.0 y VMTX) c.copied-2.ensures.table
-    ∙ ap (λ (k : Kind). tables_as k y VMTX) same) i) [])) u.vmtx) in
+    let gvar : option_map (λ v. v.items) c.in_ok-gvar.gvar ≡ united_gvar (content_in u) D =
+    c.in_ok-gvar.ensures.table ∙ (λ i. united_gvar (content_in (sym c.self.view_is i))
+    (content (font_as (same i) y) everything)) in
+    let over : c.laid_over-own.result ≡ laid_over D.copied u.own (united_gvar (content_in u) D) =
+    c.laid_over-own.ensures ∙ (λ i. laid_over (tables_as (same i) y) u.own (gvar i)) in
     record {
       kind_is = refl;
-      spells = spells_merged u y K spells form agree c.in_ok-map.map c.take-other.new.self
-          (option_map (λ v. v.items) c.either_table-hmtx.result) (option_map (λ v. v.items) c.either_table-vmtx.result)
-          maps taken across down;
+      spells = spells_merged u y K spells form agree c.in_ok-map.map c.take-other.new.self c.laid_over-own.result maps
+          taken over;
       none = none_of u c.args.self c.self.view_is y c.requires.form c.requires.early K spells c.glyph_count-count.result
-          count c.take-other.result c.other_metrics-metrics.result differs measured least;
+          count c.take-other.result c.other_values-values.result differs measured least;
     })
 
 pub returns-in_err-runs : goal.returns-in_err-runs
-returns-in_err-runs g c = λ K spells. passed_on _ _ c.from_residual.result NoMemory c.from_residual.ensures.1 tt
+returns-in_err-runs g c = λ K spells. passed_on _ _ c.from_residual-in_err-runs.result NoMemory
+    c.from_residual-in_err-runs.ensures.1 tt
 
 pub returns-in_err-map : goal.returns-in_err-map
 returns-in_err-map g c = λ K spells. passed_on _ _ c.from_residual-in_err-map.result NoMemory

@@ -1,8 +1,5 @@
-use Rattle.std.proofs.Common.{◌≡◌, ◌≤◌, ℕ, List, [], find, Option, None, length, unwrap_or, refl, sym, ap, subst, ◌∙◌}
+use Rattle.std.proofs.Common.{◌≡◌, ℕ, List, find, None, length, sym, ap, subst, ◌∙◌}
 use Rattle.std.specs.List.{range_with_len}
-use Rattle.std.specs.Option.{option_map}
-use Rattle.sfnt_bytes.specs.declared.directory.TheConstants.{MAX_FILE}
-use Rattle.sfnt_bytes.specs.declared.tag.TheConstants.{HMTX, VMTX}
 use Rattle.font_tables.specs.Fields.{glyph_count_of}
 use Rattle.font_theory.specs.Content.{Content, content, everything, glyph_count}
 use Rattle.font_theory.specs.Cut.{IsCut, content_of_all}
@@ -10,13 +7,13 @@ use Rattle.font_theory.specs.Kinds.{font_as, format_of, tables_as}
 use Rattle.font_theory.specs.declared.kinds.Kind.{Kind}
 use Rattle.font_subset.specs.ListedRuns.{AreRunsOf}
 use Rattle.font_join.specs.Inside.{AreTaken, IsFormRefusal}
-use Rattle.font_join.specs.KindInside.{HasBlanks, IsUnion, SpellsIn, own_in}
+use Rattle.font_join.specs.KindInside.{HasBlanks, HasFineGvar, IsUnion, SpellsIn, own_in}
 use Rattle.font_join.specs.Union.{content_in, is_other, listed_outline}
 use Rattle.font_join.specs.declared.join_error.JoinError.TheVariants.{NoMemory}
 use Rattle.font_join.specs.declared.join_error.Which.TheVariants.{First}
 use Rattle.map_union.specs.RunLists.{TwoLists, map_in}
 use Rattle.font_join.proofs.AddLemmas.{none_other}
-use Rattle.font_join.proofs.MergeLemmas.{looked_up, small_own, spells_first, union_first}
+use Rattle.font_join.proofs.MergeLemmas.{fine_file, spells_first, union_first}
 use Rattle.font_join.proofs.OutlineListLemmas.{taken_whole, union_of_none}
 use Rattle.font_subset.proofs.CutLemmas.{passed_on}
 use Rattle.font_subset.proofs.SourceLemmas.{count_as}
@@ -27,6 +24,12 @@ returns-in_err-file g c =
     passed_on _ _ c.from_residual-in_err-file.result _ c.from_residual-in_err-file.ensures.1
     (subst (λ (v : Kind × List ℕ). IsFormRefusal (format_of v.0) First v.1 c.in_err-file.field-0.0)
     c.in_ok-opened.ensures c.in_err-file.ensures)
+
+pub blank_for_kind-requires : goal.blank_for_kind-requires
+blank_for_kind-requires g c =
+    subst (λ (v : Kind × List ℕ). HasFineGvar (content (font_as v.0 v.1) everything).copied)
+    (sym c.in_ok-file.ensures.0)
+    (fine_file c.in_ok-opened.opened.0 c.in_ok-opened.opened.1 c.in_ok-file.ensures.1)
 
 pub take-other-requires-clause-form : goal.take-other-requires-clause-form
 take-other-requires-clause-form g c =
@@ -62,20 +65,10 @@ invariant_of-result g c =
     taken_whole c.in_ok-outlines.outlines c.take-other.new.self k x c.glyph_count-count.result form glyphs
     c.in_ok-outlines.ensures.count are h
     ∙ union_of_none (listed_outline c.in_ok-outlines.outlines) L.outline h (c.in_ok-outlines.ensures.none h) in
-    let hmtx : Option (List ℕ) = option_map (λ v. v.items) c.in_ok-hmtx.hmtx in
-    let vmtx : Option (List ℕ) = option_map (λ v. v.items) c.in_ok-vmtx.vmtx in
-    let across : hmtx ≡ own_in k (tables_as k x HMTX) =
-    c.in_ok-hmtx.ensures ∙ ap (own_in k) (looked_up (λ b. b.now) c.copied.result _ c.copied.ensures.table
-    ∙ ap (λ (v : Kind × List ℕ). tables_as v.0 v.1 HMTX) file) in
-    let down : vmtx ≡ own_in k (tables_as k x VMTX) =
-    c.in_ok-vmtx.ensures ∙ ap (own_in k) (looked_up (λ b. b.now) c.copied-2.result _ c.copied-2.ensures.table
-    ∙ ap (λ (v : Kind × List ℕ). tables_as v.0 v.1 VMTX) file) in
+    let copies : c.in_ok-own.own ≡ own_in k (tables_as k x) =
+    c.in_ok-own.ensures ∙ ap (λ (v : Kind × List ℕ). own_in k (tables_as v.0 v.1)) file in
     let count : length c.take-other.new.self ≡ glyph_count_of x = are.count ∙ c.in_ok-outlines.ensures.count ∙ glyphs
     ∙ sym (count_as k x) in
-    let small : length (unwrap_or hmtx []) ≤ MAX_FILE =
-    small_own k (λ b. b.now) c.copied.result hmtx c.in_ok-hmtx.ensures c.copied.ensures.small in
-    let few : length (unwrap_or vmtx []) ≤ MAX_FILE =
-    small_own k (λ b. b.now) c.copied-2.result vmtx c.in_ok-vmtx.ensures c.copied-2.ensures.small in
     let blanks : HasBlanks k L.copied c.in_ok-blanks.blanks =
     subst (λ (v : Kind × List ℕ). HasBlanks k (content (font_as v.0 v.1) everything).copied c.in_ok-blanks.blanks)
     file c.in_ok-blanks.ensures in
@@ -84,12 +77,11 @@ invariant_of-result g c =
       tables = v.1;
       runs = runs;
       outlines = c.take-other.new.self;
-      hmtx = hmtx;
-      vmtx = vmtx;
+      own = c.in_ok-own.own;
     }) c.in_ok-blanks.blanks)
     (sym c.in_ok-opened.ensures)
-    (union_first k x form runs c.take-other.new.self hmtx vmtx spells taken across down c.in_ok-blanks.blanks blanks
-    count small few)
+    (union_first k x form runs c.take-other.new.self c.in_ok-own.own spells taken copies c.in_ok-blanks.blanks blanks
+    count)
 
 pub returns : goal.returns
 returns g c =
@@ -121,14 +113,8 @@ returns g c =
     taken_whole c.in_ok-outlines.outlines c.take-other.new.self k x c.glyph_count-count.result form glyphs
     c.in_ok-outlines.ensures.count are h
     ∙ union_of_none (listed_outline c.in_ok-outlines.outlines) L.outline h (c.in_ok-outlines.ensures.none h) in
-    let hmtx : Option (List ℕ) = option_map (λ v. v.items) c.in_ok-hmtx.hmtx in
-    let vmtx : Option (List ℕ) = option_map (λ v. v.items) c.in_ok-vmtx.vmtx in
-    let across : hmtx ≡ own_in k (tables_as k x HMTX) =
-    c.in_ok-hmtx.ensures ∙ ap (own_in k) (looked_up (λ b. b.now) c.copied.result _ c.copied.ensures.table
-    ∙ ap (λ (v : Kind × List ℕ). tables_as v.0 v.1 HMTX) file) in
-    let down : vmtx ≡ own_in k (tables_as k x VMTX) =
-    c.in_ok-vmtx.ensures ∙ ap (own_in k) (looked_up (λ b. b.now) c.copied-2.result _ c.copied-2.ensures.table
-    ∙ ap (λ (v : Kind × List ℕ). tables_as v.0 v.1 VMTX) file) in (
+    let copies : c.in_ok-own.own ≡ own_in k (tables_as k x) =
+    c.in_ok-own.ensures ∙ ap (λ (v : Kind × List ℕ). own_in k (tables_as v.0 v.1)) file in (
       ap (λ (v : Kind × List ℕ). v.0) c.in_ok-opened.ensures,
       subst (λ (v : Kind × List ℕ). SpellsIn k
           (content_in (record {
@@ -136,10 +122,9 @@ returns g c =
             tables = v.1;
             runs = runs;
             outlines = c.take-other.new.self;
-            hmtx = hmtx;
-            vmtx = vmtx;
+            own = c.in_ok-own.own;
           })) (content_of_all (format_of k) x)) (sym c.in_ok-opened.ensures)
-          (spells_first k x form runs c.take-other.new.self hmtx vmtx spells taken across down),
+          (spells_first k x form runs c.take-other.new.self c.in_ok-own.own spells taken copies),
       form,
     )
 

@@ -3,6 +3,8 @@ use Rattle.font_theory.specs.Cut.{content_of_all}
 use Rattle.font_theory.specs.Kinds.{format_of}
 use Rattle.font_theory.proofs.KindLemmas.{kind_is}
 use Rattle.font_subset.proofs.CutLemmas.{passed_on}
+use Rattle.font_join.specs.Union.{content_in}
+use Rattle.font_join.proofs.MergeLemmas.{short_spelled}
 use Rattle.font_join.proofs.TurnLemmas.{fault_of_two, refused_one, refused_two}
 use Rattle.font_join.proofs.union.Union.of_two.Goals as goal
 
@@ -10,6 +12,10 @@ pub returns-in_err-one : goal.returns-in_err-one
 returns-in_err-one g c =
     passed_on _ _ c.from_residual.result _ c.from_residual.ensures.1
     (refused_one (kind_is c.args.kind) c.args.x.now c.args.y.now c.in_err-one.field-0.0 c.in_err-one.ensures)
+
+pub add-requires : goal.add-requires
+add-requires g c =
+    short_spelled c.args.kind (content_in c.in_ok-one.one) c.args.x.now c.in_ok-one.ensures.1 c.in_ok-one.ensures.2
 
 pub returns : goal.returns
 returns g c =

@@ -1,4 +1,3 @@
-use Rattle.std.specs.Option.{option_map}
 use Rattle.font_theory.proofs.HeldLemmas.{some-padded}
 use Rattle.font_join.specs.Union.{Held, content_in, listed_outline}
 use Rattle.font_join.proofs.MergeLemmas.{closed_in}
@@ -12,9 +11,7 @@ returns-then-g-glyph_count-clause-filled g c =
       tables = c.self.inside.first.1;
       runs = c.self.inside.map;
       outlines = c.self.inside.outlines;
-      hmtx = option_map (λ v. v.items) c.self.inside.hmtx;
-      vmtx =
-          option_map (λ v. v.items) c.self.inside.vmtx;
+      own = c.self.inside.own;
     } in
     filled_by (λ b. b.now) c.at.result (listed_outline c.self.inside.outlines c.args.g) c.at.ensures.outline
     (λ b e. some-padded (content_in u) (closed_in u.kind (content_in u) c.self.invariant.whole c.self.invariant.spells)

@@ -1,5 +1,4 @@
 use Rattle.std.proofs.Common.{◌≡◌, length, subst, sym, ◌∙◌}
-use Rattle.std.specs.Option.{option_map}
 use Rattle.font_theory.specs.Content.{glyph_count}
 use Rattle.font_theory.specs.Kinds.{tables_as}
 use Rattle.font_subset.proofs.SourceLemmas.{count_as}
@@ -14,10 +13,8 @@ size_if_too_large-requires-clause-count g c =
       tables = c.self.inside.first.1;
       runs = c.self.inside.map;
       outlines = c.self.inside.outlines;
-      hmtx = option_map (λ v. v.items) c.self.inside.hmtx;
-      vmtx =
-          option_map (λ v. v.items) c.self.inside.vmtx;
+      own = c.self.inside.own;
     } in
     subst (λ (v : Held). length c.self.inside.outlines ≡ glyph_count (content_in v).copied) c.self.view_is
     (c.self.invariant.count ∙ count_as u.kind u.tables
-    ∙ sym (count_in u.kind (tables_as u.kind u.tables) u.hmtx u.vmtx))
+    ∙ sym (count_in u.kind (tables_as u.kind u.tables) u.own))

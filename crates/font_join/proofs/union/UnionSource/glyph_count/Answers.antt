@@ -11,4 +11,4 @@ returns g c =
     let u : Held = c.args.self.now in
     c.glyph_count.ensures.count ∙ ap glyph_count_of (c.tables.ensures.tables ∙ c.font.ensures.font
     ∙ ap (λ (v : Held). v.tables) c.self.view_is)
-    ∙ count_as u.kind u.tables ∙ sym (count_in u.kind (tables_as u.kind u.tables) u.hmtx u.vmtx)
+    ∙ count_as u.kind u.tables ∙ sym (count_in u.kind (tables_as u.kind u.tables) u.own)
