@@ -46,12 +46,16 @@ extern "C" {
 /* The kinds of cuts. A call takes a kind as a number of 32 bits, for how long an enum is and what it may hold is
  * another thing in each language; a number that is no kind's is answered by FONTCUT_UNKNOWN_KIND. */
 typedef enum fontcut_kind {
-    FONTCUT_FULL = 0,  /* cuts with the metrics and the names of all glyphs */
-    FONTCUT_LEAN = 1,  /* lean cuts: zeros for the metrics of glyphs that are not kept, and no names of glyphs */
-    FONTCUT_LAYOUT = 2 /* layout cuts: lean cuts with the tables of layout (BASE, GDEF, GPOS, GSUB and kern, without
-                        * their parts for variable fonts), and with each glyph that GSUB may put for those of the
-                        * wanted characters; a font that fontcut_check accepts may be refused for them, by 5 or 6 for
-                        * one of these tables, or by 27 */
+    FONTCUT_FULL = 0,    /* cuts with the metrics and the names of all glyphs */
+    FONTCUT_LEAN = 1,    /* lean cuts: zeros for the metrics of glyphs that are not kept, and no names of glyphs */
+    FONTCUT_LAYOUT = 2,  /* layout cuts: lean cuts with the tables of layout (BASE, GDEF, GPOS, GSUB and kern, without
+                          * their parts for variable fonts), and with each glyph that GSUB may put for those of the
+                          * wanted characters; a font that fontcut_check accepts may be refused for them, by 5 or 6
+                          * for one of these tables, or by 27 */
+    FONTCUT_VARIABLE = 3 /* variable cuts: layout cuts that keep variations, with the tables of layout whole, with fvar,
+                          * avar, cvar, HVAR, MVAR, STAT and VVAR, and with gvar for the glyphs that are kept; a font
+                          * that fontcut_check accepts may be refused for them, by 5 or 6 for one of these tables, by
+                          * 27, or by 28 */
 } fontcut_kind;
 
 /* The codes from `first` to `last`, both of them included. A range is bad where `first` lies above `last`, or
@@ -96,8 +100,8 @@ typedef struct fontcut_answer {
 
 /* The numbers of the refusals are those that the program `fontcut` prints. A file is refused by the first that
  * applies, in the order of their numbers, but for FONTCUT_BAD_GLYPH, which comes after FONTCUT_BAD_CMAP. Tables of
- * layout are refused for layout cuts alone, and after all else of the font. A tag is the number of its four bytes, the
- * first one highest: 0x676C7966 is `glyf`. */
+ * layout are refused for layout and variable cuts alone, tables of variations for variable cuts alone, and both after
+ * all else of the font. A tag is the number of its four bytes, the first one highest: 0x676C7966 is `glyf`. */
 typedef enum fontcut_status {
     FONTCUT_DONE = 0,
     /* Written by tools/write_refusals from include/refusals.txt: */
@@ -124,8 +128,8 @@ typedef enum fontcut_status {
     FONTCUT_DIFFERENT_MAPPING = 22,  /* they map a code to two glyphs; detail: the least such code */
     FONTCUT_DIFFERENT_GLYPH = 23,    /* they have two outlines of a glyph; detail: the least such glyph */
     FONTCUT_NOTHING_TO_JOIN = 24,    /* there is no file */
-    FONTCUT_BAD_LAYOUT = 27,         /* GSUB cannot be read, which is asked for layout cuts alone */
-    FONTCUT_BAD_VARIATIONS = 28,     /* gvar cannot be read; reserved, as no call keeps variations yet */
+    FONTCUT_BAD_LAYOUT = 27,         /* GSUB cannot be read, which is asked for layout and variable cuts alone */
+    FONTCUT_BAD_VARIATIONS = 28,     /* gvar cannot be read, which is asked for variable cuts alone */
     /* End of what tools/write_refusals writes. */
     FONTCUT_SMALL_ROOM = 100,        /* the room is too small; size: what is needed */
     FONTCUT_UNKNOWN_KIND = 101,      /* the number is no fontcut_kind, which is asked before all else; detail: it */
@@ -134,7 +138,7 @@ typedef enum fontcut_status {
                                       * more places for sizes than sets, or fewer */
 } fontcut_status;
 
-/* What `detail` of fontcut_cut_form says. Lean and layout cuts are never old. */
+/* What `detail` of fontcut_cut_form says. Lean, layout and variable cuts are never old. */
 typedef enum fontcut_form {
     FONTCUT_NO_CUT = 0,
     FONTCUT_CURRENT_CUT = 1, /* as it is written today */
@@ -148,7 +152,8 @@ uint32_t fontcut_version(void);
 fontcut_answer fontcut_check(const uint8_t *font, size_t font_length);
 
 /* Gives the size in bytes of the cut of a font for the codes of the ranges, of a fontcut_kind. No cut is made.
- * Statuses: 101; those of fontcut_check, then 15, for FONTCUT_LAYOUT 5, 6 and 27, then 16 and 18. */
+ * Statuses: 101; those of fontcut_check, then 15, for FONTCUT_LAYOUT 5, 6 and 27, for FONTCUT_VARIABLE 5, 6, 27 and
+ * 28, then 16 and 18. */
 fontcut_answer fontcut_subset_size(uint32_t kind, const uint8_t *font, size_t font_length,
                                    const fontcut_range *ranges, size_t range_count);
 
@@ -163,11 +168,11 @@ fontcut_answer fontcut_subset(uint32_t kind, const uint8_t *font, size_t font_le
  * of the sets, and the length of each in bytes to `sizes`; size: the bytes of all. `ranges` has the ranges of all
  * sets, those of the first set first, and counts[i] says how many of them are of the set i. `sizes` has just one
  * place for each set. The font is looked through once. All cuts are measured before the first is written, and what
- * they are made of is kept until then: a byte for each glyph and set, and for lean and layout cuts tables of metrics.
- * How long they are is hard to guess, since each repeats the tables that it copies: a call with a room of 0 says it,
- * and writes nothing. Statuses: 101, 103; those of fontcut_check, then 15, whose detail is an index in all ranges, for
- * FONTCUT_LAYOUT 5, 6 and 27, then 16, 18, with the size of the first cut that is too large, and 100, with the bytes
- * that all cuts need. */
+ * they are made of is kept until then: a byte for each glyph and set, for all but full cuts tables of metrics, and for
+ * variable cuts gvar. How long they are is hard to guess, since each repeats the tables that it copies: a call with a
+ * room of 0 says it, and writes nothing. Statuses: 101, 103; those of fontcut_check, then 15, whose detail is an index
+ * in all ranges, for FONTCUT_LAYOUT 5, 6 and 27, for FONTCUT_VARIABLE 5, 6, 27 and 28, then 16, 18, with the size of
+ * the first cut that is too large, and 100, with the bytes that all cuts need. */
 fontcut_answer fontcut_cuts(uint32_t kind, const uint8_t *font, size_t font_length, const fontcut_range *ranges,
                             size_t range_count, const uint64_t *counts, size_t set_count, uint8_t *out, size_t room,
                             uint64_t *sizes, size_t sizes_length);
@@ -188,12 +193,14 @@ fontcut_answer fontcut_metrics_checked(const uint8_t *font, size_t font_length, 
                                        size_t glyph_count, fontcut_metric *out, size_t room);
 
 /* Says whether a font is a cut of a fontcut_kind, and in which form; detail: a fontcut_form. A font that is a lean
- * cut is a full cut too. Statuses: 101; those of fontcut_check, then for FONTCUT_LAYOUT 5, 6 and 27; 16. */
+ * cut is a full cut too. Statuses: 101; those of fontcut_check, then for FONTCUT_LAYOUT 5, 6 and 27, and for
+ * FONTCUT_VARIABLE 5, 6, 27 and 28; 16. */
 fontcut_answer fontcut_cut_form(uint32_t kind, const uint8_t *font, size_t font_length);
 
 /* Says whether the first file is a cut of the second one for some codes, of a fontcut_kind, a full cut in either
  * form; detail: 1 or 0. Statuses: 101; those of fontcut_check, of the first file with step 0, and then of the
- * second one with step 1; for FONTCUT_LAYOUT 5, 6 and 27, of the first file and then of the second one; 16. */
+ * second one with step 1; for FONTCUT_LAYOUT 5, 6 and 27, for FONTCUT_VARIABLE 5, 6, 27 and 28, of the first file and
+ * then of the second one; 16. */
 fontcut_answer fontcut_belongs(uint32_t kind, const uint8_t *cut, size_t cut_length, const uint8_t *font,
                                size_t font_length);
 
@@ -214,10 +221,10 @@ fontcut_answer fontcut_is_cut_of(const uint8_t *cut, size_t cut_length, const ui
 
 /* Writes the join of all files, cuts of one font and of a fontcut_kind, to the front of `out`: that font's cut for all
  * their codes; size: its bytes. Full cuts may come in either form and any order, and what is written is of today; lean
- * cuts join with lean cuts, and layout cuts with layout cuts. Statuses: 101; 24; of the first file that is refused,
- * with its index as step, those of fontcut_check, for FONTCUT_LAYOUT 5, 6 and 27, then 20, 21 to 23 where it differs
- * from the join of the files before it, and 18 where the join with it is too large; 16, with the index of the file that
- * was being joined as step; 100. */
+ * cuts join with lean cuts, layout cuts with layout cuts, and variable cuts with variable cuts. Statuses: 101; 24; of
+ * the first file that is refused, with its index as step, those of fontcut_check, for FONTCUT_LAYOUT 5, 6 and 27, for
+ * FONTCUT_VARIABLE 5, 6, 27 and 28, then 20, 21 to 23 where it differs from the join of the files before it, and 18
+ * where the join with it is too large; 16, with the index of the file that was being joined as step; 100. */
 fontcut_answer fontcut_join(uint32_t kind, const fontcut_bytes *files, size_t file_count, uint8_t *out, size_t room);
 
 FONTCUT_DEPRECATED("call fontcut_join")

@@ -8,6 +8,7 @@
     fontcut.belongs(both, font)                 # True
     lean = fontcut.cut(font, "Hello", lean=True)
     shaped = fontcut.cut(font, "Hello", kind="layout")
+    varying = fontcut.cut(font, "Hello", kind="variable")
     latin = fontcut.cut(font, fontcut.ranges("U+20-7E, U+4??"))
 
     numbers = fontcut.glyphs(font, "Hello")     # [43, 72, 79, 79, 82] in DejaVu Sans: a glyph for each character
@@ -28,7 +29,12 @@ A layout cut is a lean cut with the layout tables (BASE, GDEF, GPOS, GSUB and ke
 fonts), and with each glyph that GSUB may substitute for those of its characters. Layout cuts join with layout cuts. A
 call for them reads these tables: it refuses a font by 5 or 6 for one of them, and by 27 if GSUB cannot be read.
 
-`kind` is the kind of a cut: `"full"` (the default), `"lean"` or `"layout"`. `lean=True` is short for `kind="lean"`.
+A variable cut is a layout cut that keeps variations: the layout tables are whole, and it has fvar, avar, cvar, HVAR,
+MVAR, STAT and VVAR, and gvar for its glyphs. Variable cuts join with variable cuts. A call for them also refuses a font
+by 5 or 6 for one of these tables, and by 28 if gvar cannot be read.
+
+`kind` is the kind of a cut: `"full"` (the default), `"lean"`, `"layout"` or `"variable"`. `lean=True` is short for
+`kind="lean"`.
 
 The library is the file that the variable FONTCUT_LIBRARY names. If that is not set, it is `libfontcut.so.0` beside
 this file, as in a wheel, two folders above, as after `./install`, or where the system looks for libraries. All calls
@@ -66,7 +72,7 @@ _OF_TAGS, _OF_NUMBERS = (5, 6, 7, 21), (12, 15, 17, 22, 23)
 # End of what tools/write_refusals writes.
 _SMALL_ROOM, _NO_GLYPH = 100, 102
 _LAST_CODE, _NO_GLYPH_OF_ANY = 0x10FFFF, 0xFFFF
-_KINDS = {"full": 0, "lean": 1, "layout": 2}
+_KINDS = {"full": 0, "lean": 1, "layout": 2, "variable": 3}
 
 
 class Range(NamedTuple):
@@ -400,7 +406,7 @@ def _kind(kind: Optional[str], lean: bool) -> int:
     if kind is None:
         kind = "lean" if lean else "full"
     if kind not in _KINDS:
-        raise ValueError(f"{kind!r} is no kind of cuts: it is full, lean or layout")
+        raise ValueError(f"{kind!r} is no kind of cuts: it is full, lean, layout or variable")
     return _KINDS[kind]
 
 
@@ -487,8 +493,8 @@ def _form(font: Bytes, lean: bool, kind: Optional[str] = None) -> Form:
 
 def form(font: Bytes) -> Form:
     """Whether a font is a cut, and in which form: `LEAN` for a lean cut, which is also a current cut. For this a
-    current cut is read twice. `is_cut` tests for one kind only, and for layout cuts: with layout tables they are
-    neither."""
+    current cut is read twice. `is_cut` tests for one kind only, and for layout and variable cuts: with tables of layout
+    or of variations they are neither."""
     found = _form(font, lean=False)
     if found is Form.CURRENT and is_cut(font, lean=True):
         return Form.LEAN

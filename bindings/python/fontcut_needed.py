@@ -1,11 +1,11 @@
 r"""The characters that a text needs: its own, and those that a shaper takes for them or puts in beside them. A layout
-cut for these shapes the text as the whole font does.
+or variable cut for these shapes the text as the whole font does.
 
     >>> ascii(needed("e\u0301"))
     "' e\\xe9\\u0301\\u25cc'"
 
-docs/FORMAT.md has the table, and the program `fontcut subset --layout` keeps the same characters. Most properties are
-those of Python's own `unicodedata`, which may be of an earlier version of Unicode than the program's.
+docs/FORMAT.md has the table, and the program keeps the same characters with `--layout` and `--variable`. Most
+properties are those of Python's own `unicodedata`, which may be of an earlier version of Unicode than the program's.
 """
 from __future__ import annotations
 

@@ -20,6 +20,8 @@ sys.path[:0] = [HERE, os.path.join(HERE, "..", "..", "tests", "lib")]
 import font_cutting
 import font_reading
 import lean_cutting
+import variable_cutting
+import variable_making
 from worked_cuts import BASE6, LEAN_CUT_OF_AACUTE
 import fontcut
 
@@ -45,6 +47,11 @@ NO_RANGES = ["ALL", "U+", "U+41-", "-41", "U+0000041", "0000041", "U+42-41", "U+
 GSUB_OF_NOTHING = struct.pack(">8H", 1, 0, 10, 12, 14, 0, 0, 0)
 WITH_GSUB = font_cutting.assembled({**font_reading.tables_of(BASE6), b"GSUB": GSUB_OF_NOTHING})
 
+# An fvar of one axis, a gvar with data of the glyphs 0, 1, 3 and 5, and a font that has them and this GSUB.
+FVAR = variable_making.fvar(variable_making.WEIGHT)
+GVAR = variable_making.gvar([b"\1", b"\2\3", b"", b"\4\5\6", b"", b"\7"], [b"\x40\0"])
+WITH_GVAR = font_cutting.assembled({**font_reading.tables_of(WITH_GSUB), b"fvar": FVAR, b"gvar": GVAR})
+
 LETTERS, ACCENTED, ALL = ([(0x41, 0x42)], [(0xC1, 0xC1)], [(0x41, 0x42), (0xC1, 0xC1)])
 SETS: List[List[Tuple[int, int]]] = [LETTERS, ACCENTED, ALL, []]
 
@@ -67,7 +74,7 @@ class Cutting(unittest.TestCase):
             self.assertEqual(fontcut.cut(BASE6, ALL, kind=kind), fontcut.cut(BASE6, ALL, lean=lean))
             self.assertEqual(fontcut.cut(BASE6, ALL, kind=kind, lean=lean), fontcut.cut(BASE6, ALL, lean=lean))
         rows: List[Dict[str, Any]] = [{"kind": "thin"}, {"kind": ""}, {"kind": "full", "lean": True},
-                                      {"kind": "layout", "lean": True}]
+                                      {"kind": "layout", "lean": True}, {"kind": "variable", "lean": True}]
         for given in rows:
             with self.assertRaises(ValueError):
                 fontcut.cut(BASE6, ALL, **given)
@@ -83,6 +90,16 @@ class Cutting(unittest.TestCase):
         self.assertEqual(fontcut.slices(WITH_GSUB, [ACCENTED], kind="layout"), [cut])
         self.assertEqual(fontcut.cut(fontcut.Font(WITH_GSUB), ACCENTED, kind="layout"), cut)
         self.assertEqual(fontcut.cut(BASE6, ACCENTED, kind="layout"), LEAN_CUT_OF_AACUTE)
+
+    def test_variable_cuts_are_those_of_the_second_reading(self) -> None:
+        for wanted in SETS:
+            cut = variable_cutting.variable_cut(WITH_GVAR, wanted)
+            self.assertEqual(fontcut.cut(WITH_GVAR, wanted, kind="variable"), cut)
+            self.assertEqual(fontcut.cut_size(WITH_GVAR, wanted, kind="variable"), len(cut))
+            self.assertEqual(fontcut.slices(WITH_GVAR, [wanted], kind="variable"), [cut])
+            self.assertEqual(fontcut.cut(fontcut.Font(WITH_GVAR), wanted, kind="variable"), cut)
+            self.assertEqual(font_reading.tables_of(cut)[b"fvar"], FVAR)
+        self.assertEqual(fontcut.cut(WITH_GSUB, ALL, kind="variable"), fontcut.cut(WITH_GSUB, ALL, kind="layout"))
 
     def test_slices_are_cuts(self) -> None:
         lists: List[List[fontcut.Codes]] = [[LETTERS, ACCENTED, ALL, [], "A", range(0x41, 0x43), ALL], [[]], [],
@@ -219,6 +236,15 @@ class Joining(unittest.TestCase):
             fontcut.join([letters, fontcut.cut(BASE6, LETTERS, lean=True)], kind="layout")
         self.assertEqual((caught.exception.number, caught.exception.argument, caught.exception.file), (21, "GSUB", 1))
 
+    def test_variable_joins_agree_in_each_order(self) -> None:
+        both = fontcut.cut(WITH_GVAR, ALL, kind="variable")
+        letters, accented = (fontcut.cut(WITH_GVAR, wanted, kind="variable") for wanted in (LETTERS, ACCENTED))
+        for cuts in ([letters, accented], [accented, letters, both]):
+            self.assertEqual(fontcut.join(cuts, kind="variable"), both)
+        with self.assertRaises(fontcut.Refused) as caught:
+            fontcut.join([letters, fontcut.cut(WITH_GVAR, LETTERS, kind="layout")], kind="variable")
+        self.assertEqual((caught.exception.number, caught.exception.argument, caught.exception.file), (21, "fvar", 1))
+
     def test_old_cuts_are_renewed(self) -> None:
         old = font_cutting.old_cut(BASE6, LETTERS)
         self.assertIs(fontcut.form(old), fontcut.Form.OLD)
@@ -272,27 +298,49 @@ class Asking(unittest.TestCase):
         self.assertFalse(fontcut.belongs(cut, WITH_GSUB, lean=True))
         self.assertIs(fontcut.form(cut), fontcut.Form.NO_CUT)
 
-    def test_refused_tables_of_layout(self) -> None:
-        """They are refused for layout cuts alone, and after a font that is none."""
-        bad = WITH_GSUB.replace(GSUB_OF_NOTHING, b"\0\2" + GSUB_OF_NOTHING[2:])
-        fontcut.check(bad)
-        self.assertEqual(fontcut.cut(bad, ALL), fontcut.cut(BASE6, ALL))
+    def test_variable_cuts_are_told(self) -> None:
+        cut = fontcut.cut(WITH_GVAR, ACCENTED, kind="variable")
+        self.assertTrue(fontcut.is_cut(cut, kind="variable"))
+        self.assertFalse(fontcut.is_cut(cut, kind="layout"))
+        self.assertFalse(fontcut.is_cut(WITH_GVAR, kind="variable"))
+        self.assertTrue(fontcut.belongs(cut, WITH_GVAR, kind="variable"))
+        self.assertFalse(fontcut.belongs(cut, WITH_GVAR, kind="layout"))
+        self.assertIs(fontcut.form(cut), fontcut.Form.NO_CUT)
+
+    def assert_refused(self, good: bytes, bad: bytes, kind: str, number: int, text: str) -> None:
+        """Each call for cuts of a kind refuses a file, after a font that is none."""
         calls: List[Tuple[Callable[[], object], Optional[int]]] = [
-            (lambda: fontcut.cut(bad, ALL, kind="layout"), None),
-            (lambda: fontcut.is_cut(bad, kind="layout"), None),
-            (lambda: fontcut.slices(bad, [ALL], kind="layout"), None),
-            (lambda: fontcut.belongs(bad, WITH_GSUB, kind="layout"), 0),
-            (lambda: fontcut.belongs(WITH_GSUB, bad, kind="layout"), 1),
-            (lambda: fontcut.join([fontcut.cut(WITH_GSUB, ALL, kind="layout"), bad], kind="layout"), 1)]
+            (lambda: fontcut.cut(bad, ALL, kind=kind), None),
+            (lambda: fontcut.is_cut(bad, kind=kind), None),
+            (lambda: fontcut.slices(bad, [ALL], kind=kind), None),
+            (lambda: fontcut.belongs(bad, good, kind=kind), 0),
+            (lambda: fontcut.belongs(good, bad, kind=kind), 1),
+            (lambda: fontcut.join([fontcut.cut(good, ALL, kind=kind), bad], kind=kind), 1)]
         for call, file in calls:
             with self.assertRaises(fontcut.Refused) as caught:
                 call()
             refused = caught.exception
             self.assertEqual((refused.number, refused.text, refused.argument, refused.file),
-                             (27, "bad layout", None, file))
+                             (number, text, None, file))
         with self.assertRaises(fontcut.Refused) as caught:
-            fontcut.belongs(bad, b"", kind="layout")
+            fontcut.belongs(bad, b"", kind=kind)
         self.assertEqual((caught.exception.number, caught.exception.file), (2, 1))
+
+    def test_refused_tables_of_layout(self) -> None:
+        """They are refused for layout and variable cuts alone."""
+        bad = WITH_GSUB.replace(GSUB_OF_NOTHING, b"\0\2" + GSUB_OF_NOTHING[2:])
+        fontcut.check(bad)
+        self.assertEqual(fontcut.cut(bad, ALL), fontcut.cut(BASE6, ALL))
+        for kind in ("layout", "variable"):
+            self.assert_refused(WITH_GSUB, bad, kind, 27, "bad layout")
+
+    def test_refused_tables_of_variations(self) -> None:
+        """They are refused for variable cuts alone."""
+        bad = WITH_GVAR.replace(GVAR, b"\0\2" + GVAR[2:])
+        fontcut.check(bad)
+        for kind in ("full", "lean", "layout"):
+            self.assertEqual(fontcut.cut(bad, ALL, kind=kind), fontcut.cut(WITH_GVAR, ALL, kind=kind))
+        self.assert_refused(WITH_GVAR, bad, "variable", 28, "bad variations")
 
     def test_old_names(self) -> None:
         cut = fontcut.cut(BASE6, LETTERS)

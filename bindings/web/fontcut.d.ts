@@ -6,9 +6,10 @@ export type Code = number | readonly [first: number, last: number];
 
 /**
  * The kind of a cut: a full one has the metrics and names of all glyphs, a lean one the metrics of the kept glyphs and
- * no names, and a layout one is a lean one with the tables of layout and the glyphs that GSUB may put for its own.
+ * no names. A layout one is a lean one with the tables of layout and the glyphs that GSUB may put for its own, and a
+ * variable one is a layout one that keeps variations.
  */
-export type Kind = 'full' | 'lean' | 'layout';
+export type Kind = 'full' | 'lean' | 'layout' | 'variable';
 
 /** The options of a call; a kind that is not given is 'full'. */
 export interface OfKind {

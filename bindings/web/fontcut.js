@@ -10,7 +10,7 @@
 
 const LAST_CODE = 0x10FFFF;
 const NO_GLYPH_OF_ANY = 0xFFFF; // a font has 65,535 glyphs at most
-const KINDS = ['full', 'lean', 'layout'];
+const KINDS = ['full', 'lean', 'layout', 'variable'];
 const FORMS = ['none', 'current', 'old'];
 
 // Statuses of include/fontcut.h, and those whose detail is a tag or a number.
@@ -286,7 +286,7 @@ function rangesOf(wanted) {
 function kindOf({ kind = 'full' } = {}) {
     const number = KINDS.indexOf(kind);
     if (number < 0) {
-        throw new RangeError(`fontcut: no kind of cut: ${kind}: it is full, lean or layout`);
+        throw new RangeError(`fontcut: no kind of cut: ${kind}: it is full, lean, layout or variable`);
     }
     return number;
 }

@@ -1,9 +1,9 @@
 import type { Kind } from './fontcut.js';
 
 export interface GrowingOptions {
-    /** 'lean' where it is not given. A font of the kind 'layout' grows by all characters that a text needs. */
+    /** 'lean' where it is not given. One of the kind 'layout' or 'variable' grows by all that a text needs. */
     kind?: Kind;
-    /** Those of FontFace: weight, style and the like. */
+    /** Those of FontFace: weight, style and the like. A variable font has ranges in them: `{ weight: '100 900' }`. */
     descriptors?: FontFaceDescriptors;
 }
 

@@ -6,12 +6,17 @@
 //     await font.add('漢字');                  // fetches a cut for what is missing, and joins it to what is there
 //
 // The server answers `?unicodes=6F22,5B57&lean=1` with the lean cut for these code points, as examples/server does, and
-// `&kind=layout` in the place of `&lean=1` with the layout cut. That grows by all characters that a text needs.
+// `&kind=layout` or `&kind=variable` in the place of `&lean=1` with the layout cut or the variable cut. These two grow
+// by all characters that a text needs.
 import { init, join } from './fontcut.js';
 import { needed } from './needed.js';
 
 // By its name what a query says of each kind of cut.
-const QUERIES = new Map([['full', ''], ['lean', '&lean=1'], ['layout', '&kind=layout']]);
+const QUERIES = new Map([
+    ['full', ''], ['lean', '&lean=1'], ['layout', '&kind=layout'], ['variable', '&kind=variable'],
+]);
+// The kinds of fonts that are shaped.
+const SHAPED = ['layout', 'variable'];
 const MOST_RANGES = 500; // of one request, so that its query stays below 8,000 characters
 
 const isSurrogate = (code) => code >= 0xD800 && code <= 0xDFFF;
@@ -43,7 +48,7 @@ export class GrowingFont {
     /** `url` is where cuts of the font are fetched; `descriptors` are those of FontFace. */
     constructor(family, url, { kind = 'lean', descriptors = {} } = {}) {
         if (!QUERIES.has(kind)) {
-            throw new RangeError(`fontcut: no kind of cut: ${kind}: it is full, lean or layout`);
+            throw new RangeError(`fontcut: no kind of cut: ${kind}: it is full, lean, layout or variable`);
         }
         this.#family = family;
         this.#url = String(url);
@@ -67,7 +72,7 @@ export class GrowingFont {
     }
 
     async #grow(text) {
-        const characters = new Set(this.#kind === 'layout' ? needed(text) : text);
+        const characters = new Set(SHAPED.includes(this.#kind) ? needed(text) : text);
         const codes = Array.from(characters, (character) => character.codePointAt(0));
         const missing = codes.filter((code) => !this.#known.has(code) && !isSurrogate(code)).sort((a, b) => a - b);
         if (!missing.length) {

@@ -1,11 +1,12 @@
 // The characters that a text needs: its own, and those that a shaper takes for them or puts in beside them. A layout
-// cut for these shapes the text as the whole font does.
+// or variable cut for these shapes the text as the whole font does.
 //
 //     import { needed } from 'fontcut/needed';
 //     const cut = subset(font, { text: needed('e\u0301'), kind: 'layout' });      // with U+00E9 and U+25CC too
 //
-// docs/FORMAT.md has the table; `fontcut subset --layout` and `needed` of the module for Python keep the same ones.
-// Normalization and marks are those of the engine's own Unicode, and the tables below those of Unicode 15.
+// docs/FORMAT.md has the table; the program keeps the same ones with `--layout` and `--variable`, and so does `needed` of
+// the module for Python. Normalization and marks are those of the engine's own Unicode, and the tables below those of
+// Unicode 15.
 
 const SPACE = ' ', DOTTED_CIRCLE = '\u25CC', JOINERS = '\u200C\u200D';
 

@@ -1,16 +1,17 @@
 //! Cuts a font for two halves of ASCII, and joins the cuts, which need not be full ones:
 //!
-//!     cut_and_join FONT full|lean|layout OUT
+//!     cut_and_join FONT full|lean|layout|variable OUT
 use fontcut::{join, Font, Kind, Ranges};
 use std::error::Error;
 
 fn main() -> Result<(), Box<dyn Error>> {
     let words: Vec<String> = std::env::args().skip(1).collect();
-    let [font, kind, out] =
-        <[String; 3]>::try_from(words).map_err(|_| "cut_and_join FONT full|lean|layout OUT")?;
+    let [font, kind, out] = <[String; 3]>::try_from(words)
+        .map_err(|_| "cut_and_join FONT full|lean|layout|variable OUT")?;
     let kind = match kind.as_str() {
         "lean" => Kind::Lean,
         "layout" => Kind::Layout,
+        "variable" => Kind::Variable,
         _ => Kind::Full,
     };
     let file = std::fs::read(font)?;

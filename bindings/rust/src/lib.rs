@@ -49,6 +49,12 @@ pub enum Kind {
     /// A call for them reads these tables, and refuses a font that is accepted as such: by 5 or 6 for one of them, and
     /// by 27 where `GSUB` cannot be read.
     Layout = 2,
+    /// Variable cuts: layout cuts that keep variations, with the tables of layout whole, with `fvar`, `avar`, `cvar`,
+    /// `HVAR`, `MVAR`, `STAT` and `VVAR`, and with `gvar` for the glyphs that are kept.
+    ///
+    /// A call for them reads these tables too, and refuses a font that is accepted as such: by 5 or 6 for one of them,
+    /// by 27 where `GSUB` cannot be read, and by 28 where `gvar` cannot be.
+    Variable = 3,
 }
 
 /// In which form a font is a cut.
@@ -89,7 +95,7 @@ impl<'a> Font<'a> {
     /// # Errors
     ///
     /// 16 where memory is refused, and 18 where the cut would be too large for a file. Of [`Kind::Layout`] also 5, 6
-    /// and 27.
+    /// and 27, and of [`Kind::Variable`] 5, 6, 27 and 28.
     pub fn cut(&self, kind: Kind, wanted: &Ranges) -> Result<Cut, Error> {
         let (font, ranges) = (self.bytes, wanted.as_slice());
         // A cut is seldom longer than its font; where it is, the call says how long.
@@ -218,7 +224,7 @@ impl<'a> Font<'a> {
     ///
     /// # Errors
     ///
-    /// 16 where memory is refused. Of [`Kind::Layout`] also 5, 6 and 27.
+    /// 16 where memory is refused. Of [`Kind::Layout`] also 5, 6 and 27, and of [`Kind::Variable`] 5, 6, 27 and 28.
     pub fn form(&self, kind: Kind) -> Result<Option<Form>, Error> {
         // SAFETY: the place and the length are those of a slice, which the call reads.
         let answer =
@@ -234,8 +240,8 @@ impl<'a> Font<'a> {
     ///
     /// # Errors
     ///
-    /// 16 where memory is refused. Of [`Kind::Layout`] also 5, 6 and 27, with 0 as the file for this font, and 1 for
-    /// the other one.
+    /// 16 where memory is refused. Of [`Kind::Layout`] also 5, 6 and 27, and of [`Kind::Variable`] 5, 6, 27 and 28,
+    /// with 0 as the file for this font, and 1 for the other one.
     pub fn is_cut_of(&self, kind: Kind, font: &Font<'_>) -> Result<bool, Error> {
         // SAFETY: the places and lengths are those of slices, which the call reads.
         let answer = unsafe {
@@ -383,9 +389,9 @@ pub fn version() -> (u8, u8, u8) {
 /// # Errors
 ///
 /// The first refusal that applies, with the index of the file: 1 to 14 and 17 where it is no font that is accepted, 5, 6
-/// and 27 for its tables of layout, of [`Kind::Layout`] alone, 20 where it is no cut of the kind, 21 to 23 where it is
-/// no cut of the font of those before it, 18 where the join would be too large for a file, 24 where there is no file, 16
-/// where memory is refused.
+/// and 27 for its tables of layout, of [`Kind::Layout`] and [`Kind::Variable`] alone, 28 for its `gvar`, of the latter
+/// alone, 20 where it is no cut of the kind, 21 to 23 where it is no cut of the font of those before it, 18 where the
+/// join would be too large for a file, 24 where there is no file, 16 where memory is refused.
 pub fn join<I>(kind: Kind, cuts: I) -> Result<Cut, Error>
 where
     I: IntoIterator,

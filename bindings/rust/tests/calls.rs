@@ -23,7 +23,7 @@ fn cuts_and_joins() -> Result<(), Error> {
         None => return Ok(()),
     };
     let font = Font::new(&file)?;
-    for kind in [Kind::Full, Kind::Lean, Kind::Layout] {
+    for kind in [Kind::Full, Kind::Lean, Kind::Layout, Kind::Variable] {
         let (one, two) = (
             font.cut(kind, &letters("Hello"))?,
             font.cut(kind, &letters("world"))?,
@@ -65,7 +65,7 @@ fn cuts_for_many_sets() -> Result<(), Error> {
         Ranges::all(),
         letters("Hello"),
     ];
-    for kind in [Kind::Full, Kind::Lean, Kind::Layout] {
+    for kind in [Kind::Full, Kind::Lean, Kind::Layout, Kind::Variable] {
         let cuts = font.cuts(kind, &sets)?;
         for (set, cut) in sets.iter().zip(&cuts) {
             assert_eq!(*cut, font.cut(kind, set)?);
@@ -115,6 +115,11 @@ fn layout_cuts_have_the_tables_of_layout() -> Result<(), Error> {
     assert_eq!(cut.font().form(Kind::Layout)?, Some(Form::Current));
     let refused = join(Kind::Layout, [&cut, &font.cut(Kind::Lean, &letters("a"))?]).unwrap_err();
     assert_eq!((refused.number(), refused.file()), (21, Some(1)));
+    // Nothing varies in this font.
+    assert_eq!(
+        font.cut(Kind::Variable, &letters("fi"))?.into_bytes(),
+        cut.into_bytes()
+    );
     Ok(())
 }
 
