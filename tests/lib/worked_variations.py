@@ -4,8 +4,9 @@ They are those of LETTERS in layout_making.py, which has ten glyphs.
 """
 from typing import NamedTuple, Optional
 
-from layout_making import coverage, gsub, lookup, single
+from layout_making import coverage, gsub, lookup, numbers, single
 from variable_making import fvar, gvar, some_axes, with_fields
+from variable_reading import VARIATIONS
 
 # What LETTERS has of each glyph where nothing else is said, with long offsets and with short ones.
 DATA = [bytes.fromhex(word) for word in (
@@ -184,3 +185,32 @@ CUT_OF_NOTHING = bytes.fromhex(
     "00000000" "00000002" "00000002" "00000002" "00000002" "00000002"  # glyphs 0 to 5
     "00000002" "00000002" "00000002" "00000002" "00000002"  # glyphs 6 to 9, and the end
     "A0A1")  # glyph 0
+
+# A GSUB of which a lookup of type 5 lies over the offset to variations.
+BAD_ONCE_CLEARED = numbers(1, 1, 0, 1, 6, 0, 5, 0, 0)
+
+# Tables of which GSUB and gvar are bad.
+BAD_TABLES = {b"GSUB": numbers(2, 0, 0, 0, 0), b"gvar": b"", b"fvar": ONE_AXIS}
+
+# Tables of LETTERS: all those of layout, with offsets to variations, which stay, and all those of variations.
+VARIED = {
+    b"BASE": bytes.fromhex("00010001 00080009 00000044"), b"GSUB": LINKED, b"kern": b"kern",
+    b"GDEF": bytes.fromhex("00010003 0000000000000000 0000 00010002"),
+    b"GPOS": bytes.fromhex("00010001 000000000000 00000001"),
+    **{tag: tag + b"\1\2\3" for tag in VARIATIONS}, b"fvar": ONE_AXIS, b"gvar": LONG,
+}
+
+# What the cut of LETTERS with VARIED for U+0041 has of each glyph, and tables with this that no cut has; the first one has
+# data of another glyph too.
+KEPT_DATA = [DATA[0], DATA[1], *[b""] * 7, DATA[9]]
+NO_CUTS = {
+    "data of a glyph that is not kept": gvar([*KEPT_DATA[:2], b"\1", *KEPT_DATA[3:]], TUPLES),
+    "short offsets": gvar([part + bytes(len(part) % 2) for part in KEPT_DATA], TUPLES, flags=0),
+    "tuples after the data": with_fields(gvar(KEPT_DATA, gaps=(b"", b"", b"".join(TUPLES))), sharedTupleCount=2,
+                                         sharedTuplesOffset=END[1] + len(b"".join(KEPT_DATA))),
+    "a byte before the data": gvar([b"\0", *KEPT_DATA], TUPLES, offsets=[1, 3, *[8] * 8, 11]),
+    "a byte after the data": CUT_OF_A + b"\0",
+    "a gap after the offsets": gvar(KEPT_DATA, TUPLES, gaps=(b"\0", b"", b"")),
+    "a gap after the tuples": gvar(KEPT_DATA, TUPLES, gaps=(b"", b"\0", b"")),
+    "no tuples, offset 0": with_fields(gvar(KEPT_DATA), sharedTuplesOffset=0),
+}
