@@ -1,7 +1,7 @@
 #!/usr/bin/env python3
 """Joins cuts of one font on the workers of a Dask cluster:
 
-    merge.py [--lean | --layout] [--group N] SCHEDULER OUT CUTS..
+    merge.py [--lean | --layout | --variable] [--group N] SCHEDULER OUT CUTS..
 
 A task reads and joins at most N files, or joins the results of at most N tasks, until one join is left. Workers
 find each file at the same path as this machine. OUT is replaced atomically, and keeps its mode; a link is followed,
@@ -111,7 +111,7 @@ def connected(scheduler: str) -> Client:
 def parsed() -> argparse.Namespace:
     parser = argparse.ArgumentParser(prog="merge.py", fromfile_prefix_chars="@")
     kinds = parser.add_mutually_exclusive_group()
-    for kind in "lean", "layout":
+    for kind in "lean", "layout", "variable":
         kinds.add_argument(f"--{kind}", dest="kind", action="store_const", const=kind, help=f"CUTS are {kind} cuts")
     parser.set_defaults(kind="full")
     parser.add_argument("--group", type=int, default=50, help="how many cuts a task joins at most: 2 or more")

@@ -2,7 +2,7 @@
 
     GET /NAME.ttf?unicodes=U+20-7E,U+4??        the cut of the font NAME.ttf for these code points
     GET /NAME.ttf?text=Hello                    for these characters
-    GET /NAME.ttf?unicodes=U+20-7E&kind=lean    the lean cut, and with kind=layout the layout cut
+    GET /NAME.ttf?unicodes=U+20-7E&kind=lean    the lean cut, with kind=layout or kind=variable the cut of that kind
 
 The variable FONTS names the folder. Each worker maps its fonts when it starts, and tests each once. A request names one
 of these fonts; no path from outside is opened. The bytes of the font, the kind and the set determine the answer, so its
@@ -22,7 +22,8 @@ import fontcut
 # Less than the longest line that gunicorn may be told to take, so that a query which is too long is answered here.
 LONGEST_QUERY = 8000
 FOREVER = ("Cache-Control", "public, max-age=31536000, immutable")
-KINDS = ("full", "lean", "layout")
+KINDS = ("full", "lean", "layout", "variable")
+SHAPED = ("layout", "variable")
 Range = Tuple[int, int]
 
 
@@ -66,7 +67,7 @@ def kind_of(asked: Dict[str, List[str]]) -> str:
     lean = asked.get("lean", ["0"])[-1] == "1"
     kind = asked.get("kind", ["lean" if lean else "full"])[-1]
     if kind not in KINDS or (lean and kind != "lean"):
-        raise Answer("400 Bad Request", "kind is full, lean or layout, and with lean=1 it is lean")
+        raise Answer("400 Bad Request", "kind is full, lean, layout or variable, and with lean=1 it is lean")
     return kind
 
 
@@ -85,8 +86,8 @@ def wanted_by(query: str) -> Tuple[List[Range], str]:
     kind = kind_of(asked)
     lists = [re.sub(r"(?<![^\s,;:-])([Uu]) (?=[0-9A-Fa-f?])", r"\1+", value) for value in asked.get("unicodes", ())]
     texts = asked.get("text", ())
-    # A layout cut is there to be shaped, and a shaper takes more characters than those of the text.
-    letters = set("".join(map(fontcut.needed, texts) if kind == "layout" else texts))
+    # Cuts of some kinds are there to be shaped, and a shaper takes more characters than those of the text.
+    letters = set("".join(map(fontcut.needed, texts) if kind in SHAPED else texts))
     try:
         ranges = fontcut.ranges([*lists, *(f"U+{ord(letter):X}" for letter in letters)])
     except ValueError as error:

@@ -46,7 +46,7 @@ def offer(cut: bytes, name: str, wanted: List[Tuple[int, int]], kind: str) -> Li
 def known_to(environ: Environ, font: fontcut.Bytes) -> Optional[bytes]:
     """The cut of a font that the browser has as a dictionary, or None where it has none that is made again as it is
     there."""
-    known = re.fullmatch(r'"(full|lean|layout) ([0-9A-F,-]*)"', environ.get("HTTP_DICTIONARY_ID", ""))
+    known = re.fullmatch(r'"(full|lean|layout|variable) ([0-9A-F,-]*)"', environ.get("HTTP_DICTIONARY_ID", ""))
     if not known or not re.search(r"(^|,)\s*dcz\s*(,|$)", environ.get("HTTP_ACCEPT_ENCODING", "")):
         return None
     try:

@@ -1,5 +1,5 @@
-/* Calls of the library that go wrong for layout cuts, each in a way that laws.c has to see. It is linked with --wrap
- * for each of these calls, and the variable BROKEN says what goes wrong. */
+/* Calls of the library that go wrong for cuts of one kind, each in a way that laws.c has to see. It is linked with
+ * --wrap for each of these calls, and the variables BROKEN_KIND and BROKEN say for which kind, and what goes wrong. */
 #include "fontcut.h"
 
 #include <stdlib.h>
@@ -17,8 +17,8 @@ fontcut_answer __real_fontcut_join(uint32_t kind, const fontcut_bytes *files, si
 
 static int broken(uint32_t kind)
 {
-    const char *word = getenv("BROKEN");
-    return word && kind == FONTCUT_LAYOUT ? atoi(word) : NOTHING;
+    const char *word = getenv("BROKEN"), *of = getenv("BROKEN_KIND");
+    return word && of && kind == (uint32_t)atoi(of) ? atoi(word) : NOTHING;
 }
 
 static uint32_t made_kind(uint32_t kind)

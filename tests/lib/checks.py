@@ -34,6 +34,8 @@ BABELSTONE = "/usr/share/fonts/truetype/babelstone"  # Debian's package fonts-ba
 HANAZONO = "/usr/share/fonts/truetype/hanazono"  # Debian's package fonts-hanazono
 FREEFONT = "/usr/share/fonts/truetype/freefont"  # Debian's package fonts-freefont-ttf
 NOTO = "/usr/share/fonts/truetype/noto"  # Debian's package fonts-noto-core
+KARLA = "/usr/share/fonts/truetype/karla-variable"  # Debian's package fonts-karla
+INTER = "/usr/share/fonts/truetype/inter-vf"  # Debian's package fonts-inter-variable
 
 MANUAL = os.path.join(TOP, "docs", "fontcut.1")
 COMPLETION = os.path.join(TOP, "completion", "fontcut.bash")

@@ -1,6 +1,6 @@
 /* Fonts in memory that are changed at random, with knowledge of their tables: a table's bytes, a field, an offset, a
- * record, the mapping, metrics, what GSUB is read by, the directory, or the end of the file. What is chosen is decided
- * by `state`, which a program sets for each case. */
+ * record, the mapping, metrics, what GSUB and gvar are read by, the directory, or the end of the file. What is chosen
+ * is decided by `state`, which a program sets for each case. */
 #ifndef FONT_CHANGES_H
 #define FONT_CHANGES_H
 
@@ -9,8 +9,10 @@
 #include <stdlib.h>
 #include <string.h>
 
-enum { CHANGES = 13, TAG = 4, LAYOUT_TABLES = 5 };
-static const char layout_tags[LAYOUT_TABLES][TAG + 1] = {"BASE", "GDEF", "GPOS", "GSUB", "kern"};
+enum { CHANGES = 15, TAG = 4, LAYOUT_TABLES = 5, ADDED_TABLES = 13 };
+/* The tables of layout, and then those of variations. */
+static const char added_tags[ADDED_TABLES][TAG + 1] = {"BASE", "GDEF", "GPOS", "GSUB", "kern", "HVAR", "MVAR",
+                                                       "STAT", "VVAR", "avar", "cvar", "fvar", "gvar"};
 
 typedef struct bytes {
     uint8_t *at;
@@ -102,21 +104,22 @@ static size_t tables_of(bytes file, const char *tag)
     return found;
 }
 
-static int is_layout(bytes file, size_t record)
+/* Whether a record is that of one of the first of these tables. */
+static int is_added(bytes file, size_t record, size_t tables)
 {
-    for (size_t i = 0; i < LAYOUT_TABLES; i++)
-        if (has_tag(file, record, layout_tags[i]))
+    for (size_t i = 0; i < tables; i++)
+        if (has_tag(file, record, added_tags[i]))
             return 1;
     return 0;
 }
 
-/* A copy of a file without the table of a tag, or without all tables of layout where there is no tag: their records get
- * tags that no cut has. */
-static bytes without_table(bytes file, const char *tag)
+/* A copy of a file without the table of a tag, or without the first of the tables of layout and of variations where
+ * there is no tag: their records get tags that no cut has. */
+static bytes without_table(bytes file, const char *tag, size_t tables)
 {
     bytes made = copied(file);
     for (size_t i = 0; i < table_count(made); i++)
-        if (tag ? has_tag(made, record_of(i), tag) : is_layout(made, record_of(i)))
+        if (tag ? has_tag(made, record_of(i), tag) : is_added(made, record_of(i), tables))
             made.at[record_of(i)] ^= 0x80;
     return made;
 }
@@ -139,6 +142,20 @@ static size_t outline_at(bytes file, uint32_t glyph, size_t *length)
     size_t first = number_at(file, loca + width * (size_t)glyph, width) * (size_t)unit;
     *length = number_at(file, loca + width * ((size_t)glyph + 1), width) * (size_t)unit - first;
     return table_at(file, "glyf", &glyf_length) + first;
+}
+
+/* The place and length of the variation data of a glyph in a font whose `gvar` is read, or of no bytes where there is
+ * no such table. */
+static size_t data_at(bytes file, uint32_t glyph, size_t *length)
+{
+    size_t gvar_length, gvar = table_at(file, "gvar", &gvar_length);
+    *length = 0;
+    if (gvar_length == 0)
+        return 0;
+    unsigned width = number_at(file, gvar + 14, 2) ? 4 : 2, unit = width == 2 ? 2 : 1;
+    size_t first = number_at(file, gvar + 20 + width * (size_t)glyph, width) * (size_t)unit;
+    *length = number_at(file, gvar + 20 + width * ((size_t)glyph + 1), width) * (size_t)unit - first;
+    return gvar + number_at(file, gvar + 16, 4) + first;
 }
 
 /* --- Changes ---------------------------------------------------------------------------------------------------- */
@@ -253,20 +270,41 @@ static void change_links(bytes file)
  * offset. */
 static void change_header(bytes file)
 {
-    size_t length, at = table_at(file, layout_tags[chance(LAYOUT_TABLES)], &length);
+    size_t length, at = table_at(file, added_tags[chance(LAYOUT_TABLES)], &length);
     size_t numbers = length / 2 < 10 ? length / 2 : 10;
     if (numbers)
         put_number(file, at + 2 * chance(numbers), 2, (uint32_t)chance(chance(2) ? 4 : 0x10000));
 }
 
-/* Gives a table of layout the tag of another one, which may then stand twice. */
+/* Changes a number by which `gvar` is read: a field of its header, an offset, or the number of axes in `fvar`. */
+static void change_variations(bytes file)
+{
+    static const struct {
+        unsigned at, width;
+    } fields[] = {{0, 2}, {2, 2}, {4, 2}, {6, 2}, {8, 4}, {12, 2}, {14, 2}, {16, 4}};
+    size_t length, axes, gvar = table_at(file, "gvar", &length), fvar = table_at(file, "fvar", &axes);
+    size_t which = chance(sizeof fields / sizeof *fields + 4);
+    if (which == 0 && axes >= 10) {
+        put_number(file, fvar + 8, 2, near(number_at(file, fvar + 8, 2)));
+    } else if (length >= 20 && which < sizeof fields / sizeof *fields) {
+        size_t at = gvar + fields[which].at;
+        put_number(file, at, fields[which].width, near(number_at(file, at, fields[which].width)));
+    } else if (length >= 24) {
+        unsigned width = number_at(file, gvar + 14, 2) ? 4 : 2;
+        size_t at = gvar + 20 + width * chance(number_at(file, gvar + 12, 2) + 1);
+        if (at + width <= gvar + length)
+            put_number(file, at, width, number_at(file, at, width) + (uint32_t)chance(9) - 4);
+    }
+}
+
+/* Gives a table of layout or of variations the tag of another one, which may then stand twice. */
 static void change_tag(bytes file)
 {
     size_t count = table_count(file), first = chance(count);
     for (size_t i = 0; i < count; i++) {
         size_t record = record_of((first + i) % count);
-        if (is_layout(file, record)) {
-            memcpy(file.at + record, layout_tags[chance(LAYOUT_TABLES)], TAG);
+        if (is_added(file, record, ADDED_TABLES)) {
+            memcpy(file.at + record, added_tags[chance(ADDED_TABLES)], TAG);
             return;
         }
     }
@@ -283,8 +321,9 @@ static void change_record_of_table(bytes file)
 static bytes changed(bytes file)
 {
     static void (*const changes[CHANGES])(bytes) = {
-        NULL,           NULL,         change_bytes, change_field,  change_offset, change_record, change_mapping,
-        change_metrics, change_links, change_links, change_header, change_tag,    change_record_of_table};
+        NULL,           NULL,         change_bytes, change_field,      change_offset,     change_record, change_mapping,
+        change_metrics, change_links, change_links, change_variations, change_variations, change_header, change_tag,
+        change_record_of_table};
     bytes made = copied(file);
     uint64_t which = chance(CHANGES + 1);
     if (which == CHANGES)

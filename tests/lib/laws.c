@@ -7,17 +7,19 @@
  * of the cut; a room that is too small stays as it was; a cut is a cut, in today's form, and of its font; joins of
  * cuts are the cut for the union of their sets, in any order and grouping and with any of them twice; the cut of a cut
  * is the cut of the font; a join of files that nobody cut is refused with the first reason that there is, or has both
- * as its cuts and lies in each font that has both. Between kinds: a lean cut is that of each other cut of the font, and
- * without tables of layout a layout cut is the lean one. A case that breaks a law is printed, with the law and the
- * font. The last lines count the cases, the laws that held of each kind, and those that did not. */
+ * as its cuts and lies in each font that has both. Between kinds: a lean cut is that of each other cut of the font;
+ * without tables of layout a layout cut is the lean one, and without those of variations too a variable cut is; where
+ * nothing is cleared in the tables of layout, a layout cut is that of the variable cut. A case that breaks a law is
+ * printed, with the law and the font. The last lines count the cases, the laws that held of each kind, and those that
+ * did not. */
 #include "fontcut.h"
 #include "files.h"
 #include "font_changes.h"
 
 #include <inttypes.h>
 
-enum { GUARD = 64, FILL = 0xA5, SETS = 3, RANGES = 8, KINDS = 3 };
-static const char *const kind_names[KINDS] = {"full", "lean", "layout"};
+enum { GUARD = 64, FILL = 0xA5, SETS = 3, RANGES = 8, KINDS = 4 };
+static const char *const kind_names[KINDS] = {"full", "lean", "layout", "variable"};
 static const fontcut_range every_code = {0, 0x10FFFF};
 static const fontcut_answer done = {FONTCUT_DONE, 0, 0, 0};
 
@@ -34,7 +36,7 @@ typedef struct font {
 } font;
 
 typedef struct counts {
-    uint64_t held[KINDS], broken, accepted, refused, without_layout, linked, joined, differing;
+    uint64_t held[KINDS], broken, accepted, refused, refused_of[KINDS], linked, varied, joined, differing;
 } counts;
 
 static counts seen;
@@ -174,11 +176,12 @@ static int form_of(fontcut_kind kind, bytes file)
     return answer.status == FONTCUT_DONE ? (int)answer.detail : FONTCUT_NO_CUT;
 }
 
-/* What a file is refused with for cuts of a kind: as a font, or else, for layout cuts, for its tables of layout. */
+/* What a file is refused with for cuts of a kind: as a font, or else, for layout and variable cuts, for its tables of
+ * layout and of variations. */
 static fontcut_answer refusal_of(fontcut_kind kind, bytes file)
 {
     fontcut_answer font = fontcut_check(file.at, file.length);
-    if (kind != FONTCUT_LAYOUT || font.status != FONTCUT_DONE)
+    if (kind < FONTCUT_LAYOUT || font.status != FONTCUT_DONE)
         return font;
     fontcut_answer form = fontcut_cut_form(kind, file.at, file.length);
     return form.status == FONTCUT_DONE ? done : form;
@@ -251,6 +254,13 @@ static int tables_differ(bytes x, bytes y, const char *tag)
         || memcmp(x.at + in_x, y.at + in_y, lengths[0]) != 0;
 }
 
+/* Whether two variable cuts have other variation data of a glyph. */
+static int data_differ(bytes x, bytes y, uint16_t glyph)
+{
+    size_t lengths[2], in_x = data_at(x, glyph, lengths), in_y = data_at(y, glyph, lengths + 1);
+    return lengths[0] != lengths[1] || memcmp(x.at + in_x, y.at + in_y, lengths[0]) != 0;
+}
+
 /* Whether two fonts, which are accepted, have another outline of a glyph, or other metrics. */
 static int glyphs_differ(bytes x, bytes y, uint16_t glyph)
 {
@@ -264,7 +274,7 @@ static int glyphs_differ(bytes x, bytes y, uint16_t glyph)
 
 /* Whether two fonts, which are accepted, differ in what a refusal of their join names. What of the metrics belongs to
  * single glyphs, and is not compared with their table, goes by how many glyphs there are, which `maxp` says. */
-static int do_differ(bytes x, bytes y, fontcut_answer refusal)
+static int do_differ(fontcut_kind kind, bytes x, bytes y, fontcut_answer refusal)
 {
     uint32_t named = refusal.detail;
     if (refusal.status == FONTCUT_DIFFERENT_TABLE) {
@@ -272,7 +282,8 @@ static int do_differ(bytes x, bytes y, fontcut_answer refusal)
         return tables_differ(x, y, tag) || (memcmp(tag + 1, "mtx", 3) == 0 && tables_differ(x, y, "maxp"));
     }
     if (refusal.status == FONTCUT_DIFFERENT_GLYPH)
-        return glyphs_differ(x, y, (uint16_t)named);
+        return glyphs_differ(x, y, (uint16_t)named)
+            || (kind == FONTCUT_VARIABLE && data_differ(x, y, (uint16_t)named));
     uint16_t glyphs[2] = {0, 0};
     fontcut_glyphs(x.at, x.length, &named, 1, glyphs, 1);
     fontcut_glyphs(y.at, y.length, &named, 1, glyphs + 1, 1);
@@ -305,7 +316,7 @@ static void ask_pair(fontcut_kind kind, bytes x, bytes y, bytes above)
     } else {
         holds(is_difference(there) && same_answer(there, back), kind,
               "cuts that differ are refused with the same difference in both orders");
-        holds(do_differ(x, y, there), kind, "and do differ in what is named");
+        holds(do_differ(kind, x, y, there), kind, "and do differ in what is named");
     }
     let_go(z.at);
     let_go(w.at);
@@ -355,8 +366,8 @@ static void ask_all(fontcut_kind kind, bytes of, bytes version, const set *sets)
         of_version = cut_of(kind, version, sets[1]);
     if (cuts[0].at && of_version.at)
         ask_pair(kind, cuts[0], of_version, of);
-    /* In a layout cut there is more to change. */
-    for (int left = kind == FONTCUT_LAYOUT ? 2 : 1; cuts[0].at && left; left--) {
+    /* In layout and variable cuts there is more to change. */
+    for (int left = kind >= FONTCUT_LAYOUT ? 2 : 1; cuts[0].at && left; left--) {
         bytes hostile = changed(cuts[0]);
         ask_hostile(kind, hostile, of_version.at ? of_version : cuts[0], of);
         free(hostile.at);
@@ -368,7 +379,7 @@ static void ask_all(fontcut_kind kind, bytes of, bytes version, const set *sets)
 
 /* --- Laws between kinds ----------------------------------------------------------------------------------------- */
 
-/* The laws of a full or layout cut beside the lean cut for the same set. */
+/* The laws of a cut of another kind beside the lean cut for the same set. */
 static void ask_beside_lean(fontcut_kind kind, bytes cut, bytes lean)
 {
     bytes again = cut_of(FONTCUT_LEAN, cut, (set){{every_code}, 1});
@@ -379,67 +390,118 @@ static void ask_beside_lean(fontcut_kind kind, bytes cut, bytes lean)
     let_go(again.at);
 }
 
-/* The law of a font without tables of layout, which may be refused where another table lies over the directory. */
-static void ask_bare(bytes bare, set wanted)
+/* The law of a font without the tables that cuts of a kind keep and lean cuts do not: without the first of those of
+ * layout and of variations. It may be refused where another table lies over the directory. */
+static void ask_bare(fontcut_kind kind, bytes of, set wanted, size_t tables)
 {
-    bytes lean = cut_of(FONTCUT_LEAN, bare, wanted), layout = cut_of(FONTCUT_LAYOUT, bare, wanted);
-    holds(lean.at ? same_bytes(lean, layout) : !layout.at, FONTCUT_LAYOUT,
-          "without tables of layout the layout cut of a font is its lean cut");
+    bytes bare = without_table(of, NULL, tables);
+    bytes lean = cut_of(FONTCUT_LEAN, bare, wanted), made = cut_of(kind, bare, wanted);
+    holds(lean.at ? same_bytes(lean, made) : !made.at, kind,
+          "without the tables that it keeps beside those of a lean cut a cut is the lean one");
     let_go(lean.at);
-    let_go(layout.at);
-}
-
-/* The laws of a layout cut beside the lean cut for the same set, and of the font without its tables of layout. */
-static void ask_layout(bytes of, set wanted, bytes lean)
-{
-    bytes layout = cut_of(FONTCUT_LAYOUT, of, wanted), bare = without_table(of, NULL);
-    ask_bare(bare, wanted);
-    if (layout.at) {
-        size_t kept, linked;
-        table_at(layout, "glyf", &linked);
-        table_at(lean, "glyf", &kept);
-        seen.linked += linked > kept;
-        ask_beside_lean(FONTCUT_LAYOUT, layout, lean);
-        holds((form_of(FONTCUT_FULL, layout) == FONTCUT_CURRENT_CUT) == same_bytes(layout, lean), FONTCUT_LAYOUT,
-              "a layout cut is a full one where it is a lean one alone");
-        ask_pair(FONTCUT_LAYOUT, layout, lean, of);
-        ask_pair(FONTCUT_LEAN, lean, layout, of);
-    }
-    let_go(layout.at);
+    let_go(made.at);
     free(bare.at);
 }
 
-/* The laws between all kinds of cuts of an accepted font, which may be refused for layout cuts. */
+/* The laws of a layout or variable cut beside the lean cut for the same set, where there is one. */
+static void ask_shaped(fontcut_kind kind, bytes made, bytes lean, bytes of)
+{
+    size_t kept, linked;
+    if (!made.at)
+        return;
+    table_at(made, "glyf", &linked);
+    table_at(lean, "glyf", &kept);
+    seen.linked += linked > kept;
+    ask_beside_lean(kind, made, lean);
+    holds((form_of(FONTCUT_FULL, made) == FONTCUT_CURRENT_CUT) == same_bytes(made, lean), kind,
+          "it is a full cut where it is a lean one alone");
+    ask_pair(kind, made, lean, of);
+    ask_pair(FONTCUT_LEAN, lean, made, of);
+}
+
+/* How many of the first tables of layout and of variations a layout cut does not have as its font has them: tables of
+ * layout where what varies is cleared in them, and tables of variations. */
+static size_t changed_tables(bytes layout, bytes of, size_t tables)
+{
+    size_t found = 0;
+    for (size_t i = 0; i < tables; i++)
+        found += tables_differ(layout, of, added_tags[i]);
+    return found;
+}
+
+/* The laws of a variable cut beside the layout cut for the same set. */
+static void ask_variable(bytes variable, bytes layout, bytes of)
+{
+    size_t length;
+    if (!variable.at || !layout.at)
+        return;
+    table_at(variable, "gvar", &length);
+    seen.varied += length > 0;
+    ask_pair(FONTCUT_VARIABLE, variable, layout, of);
+    if (!tables_differ(layout, of, "GSUB")) {
+        bytes again = cut_of(FONTCUT_LAYOUT, variable, (set){{every_code}, 1});
+        holds(same_bytes(again, layout), FONTCUT_VARIABLE,
+              "where no links are cleared the layout cut of a variable cut is that of the font");
+        let_go(again.at);
+    }
+    if (changed_tables(layout, of, ADDED_TABLES) == 0)
+        holds(same_bytes(variable, layout), FONTCUT_VARIABLE,
+              "without variations and with nothing to clear a variable cut is the layout cut");
+}
+
+/* The laws of the layout and the variable cut of a font. */
+static void ask_both_shaped(bytes of, set wanted, bytes lean)
+{
+    bytes layout = cut_of(FONTCUT_LAYOUT, of, wanted), variable = cut_of(FONTCUT_VARIABLE, of, wanted);
+    ask_bare(FONTCUT_LAYOUT, of, wanted, LAYOUT_TABLES);
+    ask_bare(FONTCUT_VARIABLE, of, wanted, ADDED_TABLES);
+    ask_shaped(FONTCUT_LAYOUT, layout, lean, of);
+    ask_shaped(FONTCUT_VARIABLE, variable, lean, of);
+    ask_variable(variable, layout, of);
+    let_go(layout.at);
+    let_go(variable.at);
+}
+
+/* The laws between all kinds of cuts of an accepted font, which may be refused for layout and variable cuts. */
 static void ask_kinds(bytes of, set wanted)
 {
     bytes full = cut_of(FONTCUT_FULL, of, wanted), lean = cut_of(FONTCUT_LEAN, of, wanted);
     if (full.at && lean.at) {
         ask_beside_lean(FONTCUT_FULL, full, lean);
         holds(form_of(FONTCUT_FULL, lean) == FONTCUT_CURRENT_CUT, FONTCUT_FULL, "a lean cut is in the form of a cut");
-        ask_layout(of, wanted, lean);
+        ask_both_shaped(of, wanted, lean);
     }
     let_go(full.at);
     let_go(lean.at);
 }
 
-/* The laws of a refusal of the tables of layout of a font that is accepted: it is one of theirs, and where its table is
- * taken away it is gone. */
-static void ask_refused_layout(bytes file, fontcut_answer refusal)
+/* The tag of the table that a refusal of tables of layout or of variations is about, as a number. */
+static uint32_t named_table(fontcut_answer refusal)
 {
-    uint32_t named = refusal.status == FONTCUT_BAD_LAYOUT ? 0x47535542 : refusal.detail; /* GSUB */
+    return refusal.status == FONTCUT_BAD_LAYOUT       ? 0x47535542 /* GSUB */
+           : refusal.status == FONTCUT_BAD_VARIATIONS ? 0x67766172 /* gvar */
+                                                      : refusal.detail;
+}
+
+/* The laws of a refusal of the tables of layout or of variations of a font that is accepted: it is one of theirs, and
+ * where its table is taken away it is gone. */
+static void ask_refused_table(fontcut_kind kind, bytes file, fontcut_answer refusal)
+{
+    uint32_t named = named_table(refusal);
     char tag[TAG + 1] = {(char)(named >> 24), (char)(named >> 16), (char)(named >> 8), (char)named, 0};
     size_t length;
     table_at(file, tag, &length);
     int is_so = refusal.status == FONTCUT_DUPLICATE_TABLE ? tables_of(file, tag) > 1
               : refusal.status == FONTCUT_TABLE_OUT_OF_FILE ? tables_of(file, tag) == 1 && length == 0
-              : refusal.status == FONTCUT_BAD_LAYOUT && length > 0;
-    holds(is_so, FONTCUT_LAYOUT, "the table that a font is refused for is as it is said to be");
-    bytes without = without_table(file, tag);
-    fontcut_answer again = refusal_of(FONTCUT_LAYOUT, without);
-    holds(again.status != refusal.status || again.detail != refusal.detail, FONTCUT_LAYOUT,
+              : refusal.status == FONTCUT_BAD_LAYOUT ? length > 0
+              : kind == FONTCUT_VARIABLE && refusal.status == FONTCUT_BAD_VARIATIONS && tables_of(file, tag) == 1;
+    holds(is_so, kind, "the table that a font is refused for is as it is said to be");
+    bytes without = without_table(file, tag, 0);
+    fontcut_answer again = refusal_of(kind, without);
+    holds(again.status != refusal.status || again.detail != refusal.detail, kind,
           "without the table that a font is refused for it is not refused so");
     free(without.at);
-    seen.without_layout++;
+    seen.refused_of[kind]++;
 }
 
 static void ask_case(const font *of)
@@ -459,7 +521,7 @@ static void ask_case(const font *of)
         else
             ask_refused(kind, file, sets[0], refusal);
         if (is_accepted && refusal.status != FONTCUT_DONE)
-            ask_refused_layout(file, refusal);
+            ask_refused_table(kind, file, refusal);
     }
     if (is_accepted)
         ask_kinds(file, sets[0]);
@@ -497,10 +559,12 @@ int main(int count, char **words)
         trial_font = of->path;
         ask_case(of);
     }
-    printf("%" PRIu64 " accepted, %" PRIu64 " of them refused for layout cuts, %" PRIu64 " refused, %" PRIu64
-           " with glyphs that links lead to, %" PRIu64 " other joins, %" PRIu64 " with a difference\n",
-           seen.accepted, seen.without_layout, seen.refused, seen.linked, seen.joined, seen.differing);
-    printf("%" PRIu64 " of full cuts, %" PRIu64 " of lean cuts, %" PRIu64 " of layout cuts held, %" PRIu64 " broken\n",
-           seen.held[FONTCUT_FULL], seen.held[FONTCUT_LEAN], seen.held[FONTCUT_LAYOUT], seen.broken);
+    printf("%" PRIu64 " accepted, %" PRIu64 " of them refused for layout cuts, %" PRIu64 " for variable cuts, %" PRIu64
+           " refused, %" PRIu64 " with glyphs that links lead to, %" PRIu64 " with variation data, %" PRIu64
+           " other joins, %" PRIu64 " with a difference\n", seen.accepted, seen.refused_of[FONTCUT_LAYOUT],
+           seen.refused_of[FONTCUT_VARIABLE], seen.refused, seen.linked, seen.varied, seen.joined, seen.differing);
+    printf("%" PRIu64 " of full cuts, %" PRIu64 " of lean cuts, %" PRIu64 " of layout cuts, %" PRIu64
+           " of variable cuts held, %" PRIu64 " broken\n", seen.held[FONTCUT_FULL], seen.held[FONTCUT_LEAN],
+           seen.held[FONTCUT_LAYOUT], seen.held[FONTCUT_VARIABLE], seen.broken);
     return seen.broken != 0;
 }

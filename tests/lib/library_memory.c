@@ -9,7 +9,7 @@
 #include <stdlib.h>
 #include <string.h>
 
-enum { ROOM = 4 * 1024 * 1024, SETS = 3, KINDS = 3, FILL = 0xA5, MOST = 1000 };
+enum { ROOM = 4 * 1024 * 1024, SETS = 3, KINDS = 4, FILL = 0xA5, MOST = 1000 };
 
 void *__real_malloc(size_t size);
 void *__real_realloc(void *at, size_t size);
@@ -47,12 +47,10 @@ static const uint32_t CODES[] = {0x41, 0x62, 0x10FFFF};
 static const uint16_t GLYPHS[] = {2, 0, 1};
 
 /* The calls that take a kind, of which each is made for all kinds, and then those that take none. */
+#define OF_KINDS_OF(name) name, "lean_" name, "layout_" name, "variable_" name
 static const char *const NAMES[] = {
-    "subset_size", "lean_subset_size", "layout_subset_size", "subset",  "lean_subset",  "layout_subset",
-    "cuts",        "lean_cuts",        "layout_cuts",        "belongs", "lean_belongs", "layout_belongs",
-    "cut_form",    "lean_cut_form",    "layout_cut_form",    "join",    "lean_join",    "layout_join",
-    "subset_size_checked", "lean_subset_size_checked", "layout_subset_size_checked",
-    "subset_checked",      "lean_subset_checked",      "layout_subset_checked",
+    OF_KINDS_OF("subset_size"), OF_KINDS_OF("subset"), OF_KINDS_OF("cuts"), OF_KINDS_OF("belongs"),
+    OF_KINDS_OF("cut_form"), OF_KINDS_OF("join"), OF_KINDS_OF("subset_size_checked"), OF_KINDS_OF("subset_checked"),
     "cut_size",    "cut",              "is_cut",             "codes",   "is_cut_of",    "join_all",
     "check",       "glyphs",           "metrics",            "info",    "refusal_text",
     "glyphs_checked", "metrics_checked",

@@ -1,4 +1,4 @@
-"""Joins cuts as examples/cluster/merge.py does, each task twice: SCHEDULER OUT full|lean|layout GROUP CUTS..
+"""Joins cuts as examples/cluster/merge.py does, each task twice: SCHEDULER OUT KIND GROUP CUTS..
 
 Two workers run each task, a third task compares what they give back, and an error ends the script where the
 two differ. It needs Debian's package python3-distributed, and the folder of merge.py among those of modules,

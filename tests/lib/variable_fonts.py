@@ -6,7 +6,7 @@ import struct
 from functools import cache
 from typing import Sequence
 
-from checks import DEJAVU, LIBERATION, NOTO, files_below, put, read, real_fonts, room, skip
+from checks import DEJAVU, INTER, KARLA, LIBERATION, NOTO, files_below, put, read, real_fonts, room, skip
 from font_changing import with_tables
 from font_cutting import Ranges, ranges_of
 from font_joining import file_refusal
@@ -14,9 +14,8 @@ from font_reading import table, u16
 from variable_making import made_variable
 
 FONTS = "/usr/share/fonts"
-INTER = os.path.join(FONTS, "truetype", "inter-vf", "Inter.var.ttf")
 # Debian's packages with variable fonts, and the folder of each.
-PACKAGES = {"fonts-inter-variable": "inter-vf", "fonts-karla": "karla-variable"}
+PACKAGES = {"fonts-inter-variable": INTER, "fonts-karla": KARLA}
 # Fonts of several scripts that are made variable.
 STATIC = {
     DEJAVU: ("fonts-dejavu-core", "DejaVuSans-Bold"), LIBERATION: ("fonts-liberation2", "LiberationSerif-Italic"),
@@ -38,8 +37,8 @@ def has_gvar(path: str) -> bool:
 def variable_fonts() -> list[str]:
     """The paths of the installed variable fonts that are accepted without their variations."""
     for package, folder in PACKAGES.items():
-        if not os.path.isdir(os.path.join(FONTS, "truetype", folder)):
-            skip(f"the fonts of {folder}", f"Debian's package {package} is not installed")
+        if not os.path.isdir(folder):
+            skip(f"the fonts of {os.path.basename(folder)}", f"Debian's package {package} is not installed")
     paths = [os.path.join(FONTS, name) for name in files_below(FONTS) if name.lower().endswith(".ttf")]
     return [path for path in paths if has_gvar(path) and not file_refusal(read(path))]
 

@@ -6,7 +6,7 @@ import random
 from types import ModuleType
 from typing import Callable, Iterable, Iterator, Sequence, TypedDict
 
-KINDS = ("full", "lean", "layout")
+KINDS = ("full", "lean", "layout", "variable")
 BROKEN = 130  # files of each of two fonts
 
 

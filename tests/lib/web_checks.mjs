@@ -201,14 +201,15 @@ class Page {
 
 const growing = {
     'the font is the cut for all text so far, of each kind': async () => {
-        for (const [kind, query] of [['lean', '&lean=1'], ['full', ''], ['layout', '&kind=layout']]) {
+        const kinds = [['lean', '&lean=1'], ['full', ''], ['layout', '&kind=layout'], ['variable', '&kind=variable']];
+        for (const [kind, query] of kinds) {
             const page = new Page(), font = new GrowingFont('Grown', '/font.ttf?version=1', { kind });
             for (const text of ['Hello', 'Hello, world', 'ABC']) {
                 await font.add(text);
             }
             page.shows(cutFor('Hello, worldABC', kind));
             assert.deepEqual(font.bytes, page.shown[0].data);
-            const first = kind === 'layout' ? '20,48,65,6C,6F' : '48,65,6C,6F';
+            const first = ['layout', 'variable'].includes(kind) ? '20,48,65,6C,6F' : '48,65,6C,6F';
             assert.equal(page.asked[0], `/font.ttf?version=1&unicodes=${first}${query}`);
             await font.add('dlrow');
             assert.equal(page.asked.length, 3);
@@ -283,18 +284,20 @@ const growing = {
         assert.ok(page.asked.every((url) => url.length < 8000));
     },
 
-    'a font of layout cuts grows by all that a text needs': async () => {
-        const page = new Page(), font = new GrowingFont('Grown', '/font.ttf', { kind: 'layout' });
-        for (const text of ['e\u0301', '\u0434\u2011', 'Ae']) {
-            await font.add(text);
+    'a font of layout or variable cuts grows by all that a text needs': async () => {
+        for (const kind of ['layout', 'variable']) {
+            const page = new Page(), font = new GrowingFont('Grown', '/font.ttf', { kind });
+            for (const text of ['e\u0301', '\u0434\u2011', 'Ae']) {
+                await font.add(text);
+            }
+            page.shows(cutFor('Ae\u0301\u00E9\u25CC \u0434\u2011\u2010-', kind));
+            assert.ok(page.asked.every((url) => url.endsWith(`&kind=${kind}`)));
+            assert.equal(page.asked.length, 3);
         }
-        page.shows(cutFor('Ae\u0301\u00E9\u25CC \u0434\u2011\u2010-', 'layout'));
-        assert.ok(page.asked.every((url) => url.endsWith('&kind=layout')));
-        assert.equal(page.asked.length, 3);
     },
 
     'lone surrogates are passed over': async () => {
-        for (const kind of ['lean', 'layout']) {
+        for (const kind of ['lean', 'layout', 'variable']) {
             const page = new Page(), font = new GrowingFont('Grown', '/font.ttf', { kind });
             await font.add('\uD800 \uDC00a');
             page.shows(cutFor(' a', kind));
@@ -303,7 +306,7 @@ const growing = {
     },
 
     'a kind that is none is refused': () => {
-        for (const kind of ['thin', 'Layout', '', null]) {
+        for (const kind of ['thin', 'Layout', 'Variable', '', null]) {
             assert.throws(() => new GrowingFont('Grown', '/font.ttf', { kind }), RangeError);
         }
     },
