@@ -5,9 +5,9 @@
 _fontcut_web_options() {
     case $1 in
     '') echo '--version --help' ;;
-    slice) echo '--out --slices --lean --layout --full --woff2 --css --display --json --help' ;;
-    text) echo '--lean --layout --full --text --strict --json --help' ;;
-    *) echo '--lean --layout --full --help' ;;
+    slice) echo '--out --slices --lean --layout --variable --full --woff2 --css --display --json --help' ;;
+    text) echo '--lean --layout --variable --full --text --strict --json --help' ;;
+    *) echo '--lean --layout --variable --full --help' ;;
     esac
 }
 

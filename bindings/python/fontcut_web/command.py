@@ -19,10 +19,12 @@ from .sets import MOST_EQUAL, PRESETS, WEB, asked, range_words
 
 INSTALL = "pip install 'fontcut[web]'"
 _RAW = argparse.RawDescriptionHelpFormatter
+_SHAPED = "layout", "variable"
 _DISPLAYS = "auto", "block", "swap", "fallback", "optional"
 _CUT_KINDS = """\
 Cuts are lean, for text that is drawn glyph by glyph. With --layout they also have the layout tables, for kerning,
-ligatures and scripts that are shaped; with --full the metrics and names of all glyphs."""
+ligatures and scripts that are shaped. With --variable they are layout cuts that keep the variations of a font; other
+cuts have its default instance. With --full they have the metrics and names of all glyphs."""
 
 _WHAT = """\
 Fonts for the web, cut by fontcut: slices with a style sheet, cuts for the text of pages, and unpacked WOFF files.
@@ -56,16 +58,16 @@ characters of a script into one slice.
 _TEXT = """\
 Writes the cut of FONT for the characters that HTML pages show to OUT: their text without scripts and styles, and
 the attributes alt, placeholder, title and value. If OUT ends in .woff2, it is WOFF2. What a style sheet or a script
-adds is not known (content, list numbers, text-transform): add it with --text. With --layout the cut also has the
-characters that a shaper takes for these, as with fontcut subset --layout.
+adds is not known (content, list numbers, text-transform): add it with --text. With --layout or --variable the cut
+also has the characters that a shaper takes for these, as with fontcut subset --layout.
 """
 
 _DECODE = """\
 Writes the font in a WOFF or WOFF2 file to OUT. fontcut itself does not read such files.
 
 A cut that went through WOFF is the same file again. A cut that went through WOFF2 is no longer a cut, because WOFF2
-encodes outlines anew. --lean, --layout and --full cut it anew for all its characters: such cuts of one kind join
-with each other, and not with cuts that were never packed.
+encodes outlines anew. --lean, --layout, --variable and --full cut it anew for all its characters: such cuts of one
+kind join with each other, and not with cuts that were never packed.
 """
 
 
@@ -144,7 +146,7 @@ def _run_text(given: argparse.Namespace) -> None:
             raise Refused(said)
         if not given.json:
             print(f"fontcut-web: {said}", file=sys.stderr)
-    if given.kind == "layout":
+    if given.kind in _SHAPED:
         letters |= pages.shown("".join(map(fontcut.needed, [*texts, given.text])))
     kept = _mapped(font, letters)
     data = _cut(source, font, kept, given.kind)
@@ -173,15 +175,22 @@ def _name_of(font: bytes) -> Optional[str]:
     form = fontcut.form(font)
     names = {fontcut.Form.LEAN: "a lean cut", fontcut.Form.CURRENT: "a cut", fontcut.Form.OLD: "an old cut"}
     if form is fontcut.Form.NO_CUT:
-        with contextlib.suppress(fontcut.Refused):  # for its tables of layout
-            return "a layout cut" if fontcut.is_cut(font, kind="layout") else None
+        return next((f"a {kind} cut" for kind in _SHAPED if _is_cut(font, kind)), None)
     return names.get(form)
+
+
+def _is_cut(font: bytes, kind: str) -> bool:
+    """Whether a font is a cut of a kind, for which its tables of layout or of variations may be refused."""
+    with contextlib.suppress(fontcut.Refused):
+        return fontcut.is_cut(font, kind=kind)
+    return False
 
 
 def _joins(name: Optional[str], is_woff2: bool) -> str:
     """What is said of a file that was unpacked, and is called so."""
     if name is None:
-        return "no cut; with --lean, --layout or --full it is cut anew, and joins with what was unpacked so too"
+        kinds = "--lean, --layout, --variable or --full"
+        return f"no cut; with {kinds} it is cut anew, and joins with what was unpacked so too"
     return f"{name}, which joins with what was unpacked so too" if is_woff2 else name
 
 
@@ -197,13 +206,13 @@ def _add_slice(commands: argparse._SubParsersAction[CommandParser]) -> None:
     command = commands.add_parser(
         "slice", help="cut fonts in slices, with a style sheet", description=f"{_SLICE}\n{_CUT_KINDS}\n",
         formatter_class=_RAW, epilog=_STATUS,
-        usage="fontcut-web slice FONT.. --out DIR --slices SLICES [--lean | --layout | --full] [--woff2] [--css]\n"
-              "                         [--display VALUE] [--json]")
+        usage="fontcut-web slice FONT.. --out DIR --slices SLICES [--lean | --layout | --variable | --full]\n"
+              "                         [--woff2] [--css] [--display VALUE] [--json]")
     command.add_argument("fonts", metavar="FONT", nargs="+")
     command.add_argument("--out", metavar="DIR", required=True, help="the folder that the files go to")
     command.add_argument("--slices", metavar="SLICES", action="append", required=True, help="a preset or a file")
     _kinds(command, "lean", lean="write lean cuts (the default)", layout="write layout cuts",
-           full="write full cuts")
+           variable="write variable cuts, whose rules have ranges", full="write full cuts")
     command.add_argument("--woff2", action="store_true", help="write FONT-SLICE.woff2 too, which browsers load")
     command.add_argument("--css", action="store_true", help="write fonts.css, and index.html, a page that shows the "
                                                             "fonts and preloads the first slice")
@@ -217,10 +226,11 @@ def _add_text(commands: argparse._SubParsersAction[CommandParser]) -> None:
     command = commands.add_parser(
         "text", help="cut a font for the characters that pages show", description=f"{_TEXT}\n{_CUT_KINDS}\n",
         formatter_class=_RAW, epilog=_STATUS,
-        usage="fontcut-web text PAGE.. FONT OUT [--lean | --layout | --full] [--text TEXT] [--strict] [--json]")
+        usage="fontcut-web text PAGE.. FONT OUT [--lean | --layout | --variable | --full] [--text TEXT]\n"
+              "                        [--strict] [--json]")
     command.add_argument("files", metavar="PAGE.. FONT OUT", nargs="+", help=argparse.SUPPRESS)
     _kinds(command, "lean", lean="write a lean cut (the default)", layout="write a layout cut",
-           full="write a full cut")
+           variable="write a variable cut", full="write a full cut")
     command.add_argument("--text", metavar="TEXT", default="", help="more characters to keep")
     command.add_argument("--strict", action="store_true", help="write nothing if the font lacks a character")
     command.add_argument("--json", action="store_true", help="print what was written")
@@ -230,11 +240,12 @@ def _add_text(commands: argparse._SubParsersAction[CommandParser]) -> None:
 def _add_decode(commands: argparse._SubParsersAction[CommandParser]) -> None:
     command = commands.add_parser("decode", help="unpack a WOFF or WOFF2 file", description=_DECODE,
                                   formatter_class=_RAW, epilog=_STATUS,
-                                  usage="fontcut-web decode FILE OUT [--lean | --layout | --full]")
+                                  usage="fontcut-web decode FILE OUT [--lean | --layout | --variable | --full]")
     command.add_argument("file", metavar="FILE")
     command.add_argument("out", metavar="OUT")
     _kinds(command, None, lean="write the lean cut for all its characters",
-           layout="write the layout cut for all its characters", full="write the full cut for all its characters")
+           layout="write the layout cut for all its characters",
+           variable="write the variable cut for all its characters", full="write the full cut for all its characters")
     command.set_defaults(run=_run_decode)
 
 

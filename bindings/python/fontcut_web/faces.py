@@ -1,10 +1,10 @@
-"""What a style sheet says of a font, which is what the tables `name`, `OS/2` and `head` of the font say (OpenType
-1.9)."""
+"""What a style sheet says of a font, which is what the tables `name`, `OS/2`, `head` and `fvar` of the font say
+(OpenType 1.9)."""
 from __future__ import annotations
 
 import io
 import struct
-from typing import NamedTuple
+from typing import Dict, NamedTuple, Tuple, Union
 
 from fontTools.misc.textTools import Tag
 from fontTools.ttLib import TTFont, TTLibError
@@ -18,11 +18,12 @@ _ITALIC, _OBLIQUE = 0x001, 0x200
 
 
 class Face(NamedTuple):
-    """A font as a style sheet names it: the values of font-family, font-style, font-weight and font-stretch."""
+    """A font as a style sheet names it: the values of font-family, font-style, font-weight and font-stretch. Of a
+    variable font a rule has ranges of these."""
 
     family: str
     style: str
-    weight: int
+    weight: Union[int, str]
     stretch: str
 
     def __str__(self) -> str:
@@ -33,6 +34,37 @@ def face_of(data: bytes, name: str) -> Face:
     """The face of a font. One without a name of its own has this one."""
     font = TTFont(io.BytesIO(data), lazy=True)
     return Face(_family(font) or name, _style(font), _weight(font), _stretch(font))
+
+
+def varying(data: bytes, face: Face) -> Face:
+    """The face of a font that stays variable, whose default instance has this face: with the range of weights of the
+    axis `wght`, of widths of `wdth`, and of slants of `slnt`, which counts the degrees the other way round (CSS Fonts
+    4, `font-style`). No value of CSS is a range of `ital`."""
+    axes = _axes(TTFont(io.BytesIO(data), lazy=True))
+    if "wght" in axes:
+        least, most = axes["wght"]
+        face = face._replace(weight=_range(max(least, 1), min(most, 1000), ""))
+    if "wdth" in axes:
+        face = face._replace(stretch=_range(*axes["wdth"], "%"))
+    if "slnt" in axes:
+        least, most = axes["slnt"]
+        face = face._replace(style=f"oblique {_range(-most, -least, 'deg')}")
+    return face
+
+
+def _axes(font: TTFont) -> Dict[str, Tuple[float, float]]:
+    """The least and the greatest value of each axis."""
+    try:
+        axes = font["fvar"].axes if "fvar" in font else []
+    except _MALFORMED:
+        axes = []
+    return {str(axis.axisTag): (axis.minValue, axis.maxValue) for axis in axes}
+
+
+def _range(least: float, most: float, unit: str) -> str:
+    """A range of CSS, which is one value where it has one alone."""
+    ends = [f"{end + 0.0:g}{unit}" for end in (least, most)]  # no zero is below zero
+    return ends[0] if ends[0] == ends[1] else " ".join(ends)
 
 
 def _family(font: TTFont) -> str:

@@ -28,9 +28,11 @@ class Placed(NamedTuple):
 
 
 class Styled(NamedTuple):
-    """A font as the style sheet has it: its face, and its slices."""
+    """A font as the style sheet has it: its face, the face of its default instance, which the page shows, and its
+    slices."""
 
     face: Face
+    shown: Face
     placed: List[Placed]
 
 
@@ -87,7 +89,7 @@ def _shown(number: int, font: Styled) -> Iterator[str]:
 
 def page(fonts: Sequence[Styled], sheet: str) -> str:
     """A page that shows letters of the slices of each font."""
-    classes = [_block(f".font-{number}", _declarations(font.face)) for number, font in enumerate(fonts, 1)]
+    classes = [_block(f".font-{number}", _declarations(font.shown)) for number, font in enumerate(fonts, 1)]
     return "".join([
         '<!DOCTYPE html>\n<html lang="en">\n<head>\n<meta charset="utf-8">\n<title>Fonts in slices</title>\n',
         *(f"{line}\n" for line in preloads(fonts)),

@@ -9,7 +9,7 @@ import fontcut
 from fontcut_output import Progress, read, write
 
 from .common import Refused
-from .faces import Face, face_of
+from .faces import Face, face_of, varying
 from .sets import Asked, Slice, divided, range_words
 from .sheet import Placed, Styled, page, preloads, style_sheet
 from .woff import WOFF, WOFF2, packed
@@ -20,11 +20,13 @@ _AT_ONCE = 16
 
 
 class Font(NamedTuple):
-    """A font that is accepted, with the slices that are wanted of it. `base` begins the names of their files."""
+    """A font that is accepted, with the slices that are wanted of it. `face` is what the style sheet says of it,
+    `shown` the face of its default instance, and `base` begins the names of the files."""
 
     path: str
     font: fontcut.Font
     face: Face
+    shown: Face
     slices: List[Slice]
     base: str
 
@@ -63,7 +65,8 @@ def accepted(path: str, kind: str) -> fontcut.Font:
         if data[:4] in (WOFF, WOFF2):
             raise Refused("it is a WOFF file: fontcut-web decode unpacks it")
         font = fontcut.Font(data)
-        # Tables of layout are refused for layout cuts alone: here, and not when other fonts are written already.
+        # Tables of layout and of variations are refused for some kinds alone: here, and not when other fonts are
+        # written already.
         fontcut.cut_size(font, [], kind=kind)
     return font
 
@@ -88,14 +91,15 @@ def opened(paths: Sequence[str], asked: Sequence[Asked], how: How) -> List[Font]
     seen: Dict[Face, str] = {}
     for path in paths:
         font = accepted(path, how.kind)
-        face = face_of(font.data, os.path.splitext(os.path.basename(path))[0])
+        shown = face_of(font.data, os.path.splitext(os.path.basename(path))[0])
+        face = varying(font.data, shown) if how.kind == "variable" else shown
         slices = divided(font, asked)
         if not slices:
             raise Refused(f"{path}: it maps no character of these slices")
         if how.css and face in seen:
             raise Refused(f"{path}: it has the family, style, weight and width of {seen[face]}: {face}")
         seen[face] = path
-        found.append(Font(path, font, face, slices, _base(path, slices, taken)))
+        found.append(Font(path, font, face, shown, slices, _base(path, slices, taken)))
     return found
 
 
@@ -134,7 +138,7 @@ def write_slices(fonts: Sequence[Font], folder: str, how: How, progress: Progres
     written = list(_slices(fonts, folder, how, progress))
     told: Dict[str, object] = {"fonts": [_told(font, made) for font, made in zip(fonts, written)]}
     if how.css:
-        styled = [Styled(font.face, [Placed(one.slice, (one.woff2 or one.cut)[0]) for one in made])
+        styled = [Styled(font.face, font.shown, [Placed(one.slice, (one.woff2 or one.cut)[0]) for one in made])
                   for font, made in zip(fonts, written)]
         # The style sheet names files that are all there, and the page names the style sheet.
         _put(folder, SHEET, style_sheet(styled, how.display).encode())
