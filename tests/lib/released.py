@@ -67,7 +67,7 @@ import fontcut
 for path in sys.argv[1:]:
     with open(path, "rb") as opened:
         font = opened.read()
-    for kind in "full", "lean", "layout":
+    for kind in "full", "lean", "layout", "variable":
         cuts = fontcut.slices(font, [[(0x20, 0x7E)], [(0xA0, 0x17F)]], kind=kind)
         for data in *cuts, fontcut.join(cuts, kind=kind):
             print(hashlib.sha256(data).hexdigest())
