@@ -7,13 +7,16 @@ Row = dict[str, str]
 FONT, PAGE, NOTHING = "LXGWWenKai-Regular", "Arabic", "–"
 MODULE_SIZE = r"(?<![\d.])\d+ KB as Brotli"
 
-# The kinds of cut: the option, what to take it for, and what it keeps; and the way of hb-subset that it stands beside.
+# The kinds of cut: the option, what to take it for, and what it keeps; and the way of hb-subset that it stands beside, or
+# none for a kind that is not measured.
 KINDS = [
     ("lean", "`--lean`", "slices, labels, documents: text that is drawn letter by letter, or was shaped before",
      "outlines, hints and metrics of the kept glyphs", "hb-subset without layout"),
     ("layout", "`--layout`", "body text, and every script whose letters join or change places",
      "the same, and kerning, ligatures and shaping", "hb-subset with layout"),
-    ("full", "neither: a full cut", "programs that read metrics or names of glyphs that are not kept",
+    ("variable", "`--variable`", "variable fonts of which a page uses more than one weight, width or slant",
+     "what a layout cut keeps, and the axes and variations", None),
+    ("full", "none: a full cut", "programs that read metrics or names of glyphs that are not kept",
      "outlines and hints of the kept glyphs, metrics and names of all", "hb-subset without layout"),
 ]
 
@@ -89,8 +92,9 @@ def kinds_table(text: str) -> str:
     """What each kind of cut is for, and how long it is beside hb-subset: the least and the largest ratio of all pages."""
     rows = []
     for kind, option, purpose, kept, other in KINDS:
-        ratios = [value(last(row[kind])) / value(last(row[other])) for row in rows_of(text, "wanted | font | characters")]
-        rows.append([option, purpose, kept, f"{min(ratios):.2f} to {max(ratios):.2f}"])
+        ratios = [value(last(row[kind])) / value(last(row[other])) for row in rows_of(text, "wanted | font | characters")
+                  if other]
+        rows.append([option, purpose, kept, f"{min(ratios):.2f} to {max(ratios):.2f}" if ratios else NOTHING])
     return table(["option", "take it for", "what it keeps", "WOFF2 bytes : `hb-subset --retain-gids`"], rows)
 
 
