@@ -41,7 +41,8 @@ data_between : (gvar : List ℕ) (g : ℕ) → data_offset gvar g ≤ data_offse
     → length (data_of gvar g) + data_offset gvar g ≤ data_offset gvar (g + 1)
 unfolding data_of
 data_between gvar g rises =
-    let size = length-take (data_offset gvar (g + 1) - data_offset gvar g) (drop (data_offset gvar g) (from_data gvar)) in
+    let size = length-take (data_offset gvar (g + 1) - data_offset gvar g)
+    (drop (data_offset gvar g) (from_data gvar)) in
     omega (arith, size, rises)
 
 -- so those of some glyphs are no longer than the table
@@ -93,7 +94,8 @@ nothing_at (suc n) (suc g) = nothing_at n g
 pub data_start : (cut : Held) (gvar : List ℕ) (listed : List (List ℕ)) (n next : ℕ) → listed ≡ replicate n []
     → n ≡ glyph_count_of cut.1.0 → IsNextKept (selected cut) 0 next → AreDataTo cut gvar listed next
 data_start cut gvar listed n next is count kept =
-    let nothing : (g : ℕ) → get_or listed g [] ≡ [] = λ g. ap (λ (l : List (List ℕ)). get_or l g []) is ∙ nothing_at n g in
+    let nothing : (g : ℕ) → get_or listed g [] ≡ [] =
+    λ g. ap (λ (l : List (List ℕ)). get_or l g []) is ∙ nothing_at n g in
     let long : length listed ≡ glyph_count_of cut.1.0 = ap length is ∙ length-replicate n no_bytes ∙ count in
     record {
       count = long;

@@ -108,7 +108,8 @@ module _ (cut : Held) (ok : fault_of cut.0 cut.1.0 ≡ None) (read : List ℕ ×
 
   held_same : from_table ≡ data_held K
   unfolding variation_data
-  held_same = fun_ext (λ g. ap (λ (o : Option (List ℕ)). cond (keeps g) (data_of (unwrap_or o []) g) []) (sym its_table))
+  held_same =
+      fun_ext (λ g. ap (λ (o : Option (List ℕ)). cond (keeps g) (data_of (unwrap_or o []) g) []) (sym its_table))
 
   pub gvar_made : (front shared items : List ℕ) → cut.0 ≢ Full → front ≡ front_of read.0
       → shared ≡ shared_tuples_of read.0 → length front ≡ 8 → read.1 < 65536

@@ -109,10 +109,14 @@ kept_leaned Layout K slot n other = refl
 kept_leaned Variable K slot n other = held_slot K slot other
 
 -- `gvar`, which only a variable cut has
+leaned_no_gvar : (K : Content) → K.copied GVAR ≡ None → (leaned K).copied GVAR ≡ None
+leaned_no_gvar K none =
+    leaned_other K GVAR (λ e. omega (arith, e)) (λ e. omega (arith, e)) (λ e. omega (arith, e)) ∙ none
+
 kept_no_gvar : (kind : Kind) (K : Content) → kind ≢ Full → K.copied GVAR ≡ None → (kept_by kind K).copied GVAR ≡ None
 kept_no_gvar Full K n none = absurd (n refl)
-kept_no_gvar Lean K n none = leaned_other K GVAR (λ e. omega (arith, e)) (λ e. omega (arith, e)) (λ e. omega (arith, e)) ∙ none
-kept_no_gvar Layout K n none = leaned_other K GVAR (λ e. omega (arith, e)) (λ e. omega (arith, e)) (λ e. omega (arith, e)) ∙ none
+kept_no_gvar Lean K n none = leaned_no_gvar K none
+kept_no_gvar Layout K n none = leaned_no_gvar K none
 kept_no_gvar Variable K n none = ap (option_map (gvar_with (data_held K) (glyph_count K.copied))) none
 
 kept_gvar : (kind : Kind) (file : List ℕ) (wanted : ℕ → Bool) (gvar : List ℕ) → tables_as kind file GVAR ≡ Some gvar
@@ -121,7 +125,8 @@ kept_gvar : (kind : Kind) (file : List ℕ) (wanted : ℕ → Bool) (gvar : List
 kept_gvar Full file wanted gvar some = cc
 kept_gvar Lean file wanted gvar some = cc
 kept_gvar Layout file wanted gvar some = cc
-kept_gvar Variable file wanted gvar some = ap (option_map (gvar_with (data_held (content (variable_font_of file) wanted))
+kept_gvar Variable file wanted gvar some =
+    ap (option_map (gvar_with (data_held (content (variable_font_of file) wanted))
     (glyph_count (variable_font_of file).copied))) some
 
 module _ (cut : Held) (ok : fault_of cut.0 cut.1.0 ≡ None) where
@@ -229,7 +234,8 @@ pub small_by : {X : Type 0} (bytes : X → List ℕ) (o : Option X) (made : Opti
     → MatchOption o (made ≡ None) (λ x. made ≡ Some (bytes x)) → length (unwrap_or made []) ≤ MAX_TABLE
     → MatchOption o (Unit {0}) (λ x. length (bytes x) ≤ MAX_TABLE)
 small_by bytes None made none small = tt
-small_by bytes (Some x) made some small = subst (λ (o : Option (List ℕ)). length (unwrap_or o []) ≤ MAX_TABLE) some small
+small_by bytes (Some x) made some small =
+    subst (λ (o : Option (List ℕ)). length (unwrap_or o []) ≤ MAX_TABLE) some small
 
 -- what a cut has at a slot at which it may have a table anew
 pub made_at : {X : Type 0} (bytes : X → List ℕ) (o : Option X) (held now : Held) (at slot : ℕ) (made : Option (List ℕ))

@@ -135,6 +135,17 @@ module _ (file : List ℕ) (inside : variable_directory_fault file ≡ None) whe
       find-none_at (is_outside file) LAYOUT_AND_VARIATIONS place (record { 0 = [] })
       (tags_inside LAYOUT_AND_VARIATIONS file inside) low
 
+  later_place : (k : ℕ) → k < 7 → is_outside file (slot_tag (k + 22)) ≡ false
+  unfolding slot_tag
+  later_place zero low = no_tag_outside 5 (omega arith)
+  later_place (suc zero) low = no_tag_outside 6 (omega arith)
+  later_place (suc (suc zero)) low = no_tag_outside 7 (omega arith)
+  later_place (suc (suc (suc zero))) low = no_tag_outside 8 (omega arith)
+  later_place (suc (suc (suc (suc zero)))) low = no_tag_outside 9 (omega arith)
+  later_place (suc (suc (suc (suc (suc zero))))) low = no_tag_outside 10 (omega arith)
+  later_place (suc (suc (suc (suc (suc (suc zero)))))) low = no_tag_outside 11 (omega arith)
+  later_place (suc (suc (suc (suc (suc (suc (suc k))))))) low = absurd (omega (arith, low))
+
   by_place : (k : ℕ) → k < 13 → is_outside file (slot_tag (k + 16)) ≡ false
   unfolding slot_tag
   by_place zero low = no_tag_outside 0 (omega arith)
@@ -143,14 +154,9 @@ module _ (file : List ℕ) (inside : variable_directory_fault file ≡ None) whe
   by_place (suc (suc (suc zero))) low = no_tag_outside 3 (omega arith)
   by_place (suc (suc (suc (suc zero)))) low = no_tag_outside 12 (omega arith)
   by_place (suc (suc (suc (suc (suc zero))))) low = no_tag_outside 4 (omega arith)
-  by_place (suc (suc (suc (suc (suc (suc zero)))))) low = no_tag_outside 5 (omega arith)
-  by_place (suc (suc (suc (suc (suc (suc (suc zero))))))) low = no_tag_outside 6 (omega arith)
-  by_place (suc (suc (suc (suc (suc (suc (suc (suc zero)))))))) low = no_tag_outside 7 (omega arith)
-  by_place (suc (suc (suc (suc (suc (suc (suc (suc (suc zero))))))))) low = no_tag_outside 8 (omega arith)
-  by_place (suc (suc (suc (suc (suc (suc (suc (suc (suc (suc zero)))))))))) low = no_tag_outside 9 (omega arith)
-  by_place (suc (suc (suc (suc (suc (suc (suc (suc (suc (suc (suc zero))))))))))) low = no_tag_outside 10 (omega arith)
-  by_place (suc (suc (suc (suc (suc (suc (suc (suc (suc (suc (suc (suc zero)))))))))))) low = no_tag_outside 11 (omega arith)
-  by_place (suc (suc (suc (suc (suc (suc (suc (suc (suc (suc (suc (suc (suc k))))))))))))) low = absurd (omega (arith, low))
+  by_place (suc (suc (suc (suc (suc (suc k)))))) low =
+      let e : suc (suc (suc (suc (suc (suc k))))) + 16 ≡ k + 22 = omega arith in
+      ap (λ (s : ℕ). is_outside file (slot_tag s)) e ∙ later_place k (omega (arith, low))
 
   pub variable_not_outside : (slot : ℕ) → SLOTS ≤ slot → slot < ALL_SLOTS → is_outside file (slot_tag slot) ≡ false
   variable_not_outside slot from to =

@@ -32,9 +32,6 @@ held_gvar : (F : Font) (A : ℕ → Bool) → kept_data F A ≡ data_held (conte
 held_gvar F A = fun_ext (λ g. ap (λ b. cond b (variation_data F.copied g) [])
     (sym (is_some-when (is_kept F A g) (padded (F.outline g)))))
 
-at_gvar : (K : Content) → data_tables K GVAR ≡ option_map (gvar_with (data_held K) (glyph_count K.copied)) (K.copied GVAR)
-at_gvar K = refl
-
 pub held_other : (K : Content) (slot : ℕ) → nat_eq slot GVAR ≡ false → data_tables K slot ≡ (leaned K).copied slot
 held_other K slot f = rw f refl
 

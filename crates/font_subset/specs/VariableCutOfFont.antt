@@ -50,7 +50,8 @@ pub record IsVariableSound (file : List ℕ) (wanted : ℕ → Bool) (made : Lis
   pub metrics : (g : ℕ) → is_kept (variable_font_of file) wanted g ≡ true → metric_of made g ≡ metric_of file g
   pub vertical : (g : ℕ) → is_kept (variable_font_of file) wanted g ≡ true →
       metrics_at (variable_font_of made).copied g ≡ metrics_at (variable_font_of file).copied g
-  pub variations : (g : ℕ) → is_kept (variable_font_of file) wanted g ≡ true → variations_of made g ≡ variations_of file g
+  pub variations : (g : ℕ) → is_kept (variable_font_of file) wanted g ≡ true →
+      variations_of made g ≡ variations_of file g
   pub unvaried : (g : ℕ) → g < glyph_count_of file → is_kept (variable_font_of file) wanted g ≡ false →
       variations_of made g ≡ []
   pub copied :
