@@ -11,20 +11,15 @@ use Rattle.sfnt_bytes.specs.declared.tag.TheConstants.{ALL_SLOTS, FVAR, GSUB, GV
 use Rattle.sfnt_bytes.proofs.LineLemmas.{find-none_at, first_of_lines-none_at, option_map-none}
 use Rattle.sfnt_bytes.proofs.RefusalLemmas.{tags_inside}
 use Rattle.font_tables.specs.Fields.{glyph_count_of}
-use Rattle.font_variations.specs.Gvar.{data_of, is_bad_variations}
+use Rattle.font_variations.specs.Gvar.{is_bad_variations}
 use Rattle.font_file.specs.Font.{font_fault}
 use Rattle.font_file.specs.declared.font_error.FontError.TheVariants.{BadLayout, BadVariations, Directory}
 use Rattle.font_theory.specs.Content.{links_in as font_links}
 use Rattle.font_theory.specs.Links.{is_bad_layout}
-use Rattle.font_theory.specs.Kinds.{tables_as}
 use Rattle.font_theory.specs.VariableCut.{has_bad_gvar, variable_fault, variable_font_of, variable_lines}
-use Rattle.font_theory.specs.VariableCut.{variation_data, whole_gsub_of}
-use Rattle.font_theory.specs.declared.kinds.Kind.{Kind}
-use Rattle.font_theory.specs.declared.kinds.Kind.TheVariants.{Full}
+use Rattle.font_theory.specs.VariableCut.{whole_gsub_of}
 use Rattle.font_theory.proofs.ReaderLemmas.{fine_lines}
-use Rattle.font_theory.proofs.VariableCopiedLemmas.{data_of-nothing}
 use Rattle.font_theory.proofs.VariableFormatLemmas.{links_in-variable}
-use Rattle.font_subset.specs.KeptGlyphs.{AreVariationsIn}
 use Rattle.font_subset.specs.Inside.{AreLinksOf, AreVariationsOf}
 
 -- a refusal by the directory is that of the font
@@ -90,34 +85,6 @@ read_gvar file gvar n opened there count is =
 
 pub read_no_gvar : (file : List ℕ) → table_of file (slot_tag GVAR) ≡ None → AreVariationsOf file None
 read_no_gvar file none = sym (ap (option_map (λ (t : List ℕ). (t, glyph_count_of file))) none)
-
--- the data of a glyph in it
-some_data : (n : ℕ) (o : Option (List ℕ)) (table : List ℕ × ℕ) (g : ℕ)
-    → Some table ≡ option_map (λ gvar. (gvar, n)) o → data_of table.0 g ≡ data_of (unwrap_or o []) g
-some_data n None table g is = cc
-some_data n (Some t) table g is = ap (λ (x : Option (List ℕ × ℕ)). data_of (unwrap_or x ([], 0)).0 g) is
-
-abbrev beside : ℕ → List ℕ → List ℕ × ℕ
-beside n gvar = (gvar, n)
-
-no_data : (n : ℕ) (o : Option (List ℕ)) (g : ℕ) → None ≡ option_map (beside n) o
-    → [] ≡ data_of (unwrap_or o []) g
-no_data n None g is = sym (data_of-nothing g)
-no_data n (Some t) g is = cc
-
-pub data_read : (kind : Kind) (file : List ℕ) (table : List ℕ × ℕ) (g : ℕ) → AreVariationsIn kind file (Some table)
-    → data_of table.0 g ≡ variation_data (tables_as kind file) g
-unfolding variation_data
-data_read kind file table g is = some_data (glyph_count_of file) (tables_as kind file GVAR) table g is
-
-pub no_data_read : (kind : Kind) (file : List ℕ) (g : ℕ) → AreVariationsIn kind file None
-    → [] ≡ variation_data (tables_as kind file) g
-unfolding variation_data
-no_data_read kind file g is = no_data (glyph_count_of file) (tables_as kind file GVAR) g is
-
-pub full_no_data : (kind : Kind) (file : List ℕ) (g : ℕ) → kind ≡ Full → [] ≡ variation_data (tables_as kind file) g
-full_no_data kind file g full = subst (λ (k : Kind). [] ≡ variation_data (tables_as k file) g) (sym full)
-    (no_data_read Full file g refl)
 
 -- what is known of the directory of a font that is accepted
 pub variable_directory : (file : List ℕ) → variable_fault file ≡ None → variable_directory_fault file ≡ None

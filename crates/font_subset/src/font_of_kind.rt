@@ -4,7 +4,6 @@ ghost use Rattle.sfnt_bytes.specs.declared.directory.TheConstants.{MAX_FILE};
 ghost use Rattle.sfnt_bytes.specs.declared.tag.TheConstants.{SLOTS as KEPT_SLOTS};
 ghost use Rattle.font_tables.specs.Fields.{glyph_count_of};
 ghost use Rattle.font_theory.specs.Kinds.{fault_of, tables_as};
-ghost use Rattle.font_theory.specs.VariableCut.{variation_data};
 ghost use Rattle.font_theory.specs.declared.kinds.Kind.TheVariants.{Full, Lean};
 ghost use Rattle.font_file.specs.Font.{font_fault};
 ghost use Rattle.font_subset.specs.Inside.{IsSeedSet};
@@ -130,24 +129,12 @@ impl<'f, 'a, A: Allocator> FontOfKind<'f, 'a, A> {
     }
 
     /// Returns `gvar`, where a cut of the kind keeps variations and the font has one.
-    pub fn variations(&self) -> Option<&Variations<'a>>
+    pub(crate) fn variations(&self) -> Option<&Variations<'a>>
         ensures { AreVariationsIn self.now.0 self.now.1 (option_copied result) }
     {
         match self.variable() {
             Some(variable) => variable.variations(),
             None => None,
-        }
-    }
-
-    /// Returns the variation data of a glyph, which are empty where a cut of the kind keeps no variations or the font has
-    /// no `gvar`. OpenType 1.9, gvar, GlyphVariationData.
-    pub fn variation_data(&self, g: u16) -> &'a [u8]
-        requires { g < glyph_count_of self.now.1 }
-        ensures { result.now ≡ variation_data (tables_as self.now.0 self.now.1) g }
-    {
-        match self.variations() {
-            Some(variations) => variations.data(g),
-            None => &[],
         }
     }
 

@@ -15,7 +15,6 @@ ghost use Rattle.font_file.specs.Font.{font_fault};
 ghost use Rattle.font_theory.specs.Content.{content, everything, font_of};
 ghost use Rattle.font_theory.specs.Cut.{IsCut};
 ghost use Rattle.font_theory.specs.Kinds.{fault_of, font_as, format_of, tables_as};
-ghost use Rattle.font_theory.specs.VariableCut.{variation_data};
 ghost use Rattle.font_theory.specs.declared.kinds.Kind.{Kind};
 ghost use Rattle.font_theory.specs.declared.kinds.Kind.TheVariants.{Full};
 ghost use Rattle.font_subset.specs.KeptGlyphs.{AreVariationsIn, IsKeptSet, IsRootSet, codes_wanted, wanted_map};
@@ -400,24 +399,12 @@ impl<'f, 'a, A: Allocator> Selection<'f, 'a, A> {
     }
 
     /// Returns `gvar`, where a cut of the kind keeps variations and the font has one.
-    pub fn variations(&self) -> Option<&Variations<'a>>
+    pub(crate) fn variations(&self) -> Option<&Variations<'a>>
         ensures { AreVariationsIn self.now.0 self.now.1.0 (option_copied result) }
     {
         match self.opened {
             Some(opened) => opened.variations(),
             None => None,
-        }
-    }
-
-    /// Returns the variation data of a glyph, which are empty where a cut of the kind keeps no variations or the font has
-    /// no `gvar`. OpenType 1.9, gvar, GlyphVariationData.
-    pub fn variation_data(&self, g: u16) -> &'a [u8]
-        requires { g < glyph_count_of self.now.1.0 }
-        ensures { result.now ≡ variation_data (tables_as self.now.0 self.now.1.0) g }
-    {
-        match self.opened {
-            Some(opened) => opened.variation_data(g),
-            None => &[],
         }
     }
 }
