@@ -1,5 +1,5 @@
 -- Why two files are not compared.
-use Rattle.std.proofs.Common.{◌≡◌, ℕ, ◌⊎◌, List, None, Some, inl, inr, refl, sym, subst}
+use Rattle.std.proofs.Common.{◌≡◌, ℕ, List, None, Some, inl, inr, refl, sym, subst}
 use Rattle.font_cut.specs.Fonts.{FontError, Kind, fault_of, font_fault}
 use Rattle.font_theory.proofs.KindLemmas.{kind_is}
 use Rattle.font_subset.specs.OpenedFont.{IsOpenRefusal}

@@ -1,5 +1,5 @@
 -- How the records of a file are written one by one, without some of their tags.
-use Rattle.std.proofs.Common.{◌≡◌, ℕ, ◌+◌, ◌*◌, ◌-◌, ◌<◌, ◌≤◌, List, [], ◌++◌, length, slice_range, sym, ap, ◌∙◌, arith}
+use Rattle.std.proofs.Common.{◌≡◌, ℕ, ◌+◌, ◌-◌, ◌<◌, ◌≤◌, List, ◌++◌, slice_range, sym, ap, ◌∙◌, arith}
 use Rattle.std.proofs.Common.{append-nil}
 use Rattle.std.specs.List.{flat_map, range_with_len}
 use Rattle.sfnt_bytes.proofs.RangeLemmas.{range_with_len-end, range_with_len-step}

@@ -2,12 +2,12 @@
 use Rattle.std.proofs.Common.{Bool, rules, arith, ◌≡◌, ◌≤◌, ◌+◌, ℕ, List, [], Option, None, Some, Result, Ok, Err}
 use Rattle.std.proofs.Common.{false, true, length, refl, subst, sym, take, take_all}
 use Rattle.std.specs.Option.{IfSome}
-use Rattle.std.specs.Result.{IsErrAnd}
+use Rattle.std.specs.Result.{IfOk, IsErrAnd}
 use Rattle.std.proofs.lemmas.Option.{IfSome_then}
 use Rattle.font_subset.specs.CutOfFont.{IsTooLarge, StopsCut}
 use Rattle.font_subset.specs.declared.cut_font.CutIntoError.{CutIntoError}
 use Rattle.font_subset.specs.declared.cut_font.CutIntoError.TheVariants as cut_errors
-use Rattle.font_cut.specs.Fonts.{FontError, Kind, MAX_FILE, fault_of}
+use Rattle.font_cut.specs.Fonts.{Kind, MAX_FILE, fault_of}
 use Rattle.font_subset.specs.CutOfKind.{cut_in}
 use Rattle.font_subset.specs.OpenedFont.{IsOpenRefusal}
 use Rattle.font_subset.specs.declared.layout_font.OpenError.{OpenError}
@@ -15,13 +15,14 @@ use Rattle.font_subset.specs.declared.layout_font.OpenError.TheVariants as open_
 use Rattle.streams.specs.Outlet as outlets
 use Rattle.streams.specs.declared.outlet.Outlet.{Outlet}
 use Rattle.streams.specs.Inlet.{StopsAs, inlet_broken_of, inlet_fresh_of, reader_of}
+use Rattle.commands.specs.Inside.{CutStops, SendsCut}
 use Rattle.commands.specs.Run.{HasCutIn, RefusesCutIn, RunStops, SendsText, got, of_cut_error, of_open_error}
 use Rattle.commands.specs.Run.{of_read_error}
 use Rattle.streams.specs.declared.inlet.Inlet.{Inlet}
 use Rattle.streams.specs.declared.inlet.ReadError.{ReadError}
 use Rattle.streams.specs.declared.inlet.ReadError.TheVariants.{NoMemory, ReadFault}
 use Rattle.commands.specs.declared.run_error.RunError.{RunError}
-use Rattle.commands.specs.declared.run_error.RunError.TheVariants.{Font, Write}
+use Rattle.commands.specs.declared.run_error.RunError.TheVariants.{Font, Join, Memory, OneOf, Read, TooLarge, Write}
 
 -- the file is what came of the inlet's reader, where the reader's bytes are known
 abbrev pub Came : {R : Type 0} → (R → Option (List ℕ)) → Inlet R → List ℕ → Type 0
@@ -69,70 +70,105 @@ module _ (kind : Kind) (wanted : ℕ → Bool) where
   abbrev Has : List ℕ → Type 0
   Has = HasCutIn kind wanted
 
-  -- a file that is refused for cuts of the kind: nothing was sent
-  pub font_stops : {R W : Type 0} (remaining : R → Option (List ℕ)) (contents : W → Option (List ℕ)) (i j : Inlet R)
-      (o : Outlet W) (file : List ℕ) → inlet_broken_of j ≡ false → Came remaining i file
-      → (error : FontError) → fault_of kind file ≡ Some error
-      → RunStops remaining contents Has made (RefusesCutIn kind remaining i wanted) i j o o (Font error)
-  font_stops remaining contents i j o file whole came error refused =
-      (whole, refl, got_of remaining i (λ (f : List ℕ). fault_of kind f ≡ Some error) file came refused)
-
-  -- or for which memory is refused
-  pub open_stops : {R W : Type 0} (remaining : R → Option (List ℕ)) (contents : W → Option (List ℕ)) (i j : Inlet R)
-      (o : Outlet W) (file : List ℕ) → inlet_broken_of j ≡ false → Came remaining i file
-      → (error : OpenError) → IsOpenRefusal kind file error
-      → RunStops remaining contents Has made (RefusesCutIn kind remaining i wanted) i j o o (of_open_error error)
-  open_stops remaining contents i j o file whole came open_errors.NoMemory refused = (whole, refl)
-  open_stops remaining contents i j o file whole came (open_errors.Refused error) refused =
-      font_stops remaining contents i j o file whole came error refused
-
-  -- a cut was not sent, or not all of it
-  pub made_stops : {R W : Type 0} (remaining : R → Option (List ℕ)) (contents : W → Option (List ℕ)) (i j : Inlet R)
-      (o p : Outlet W) (file : List ℕ) → inlet_broken_of j ≡ false → Came remaining i file → fault_of kind file ≡ None
-      → (error : CutIntoError) → StopsCut contents o p (made file) error
-      → RunStops remaining contents Has made (RefusesCutIn kind remaining i wanted) i j o p (of_cut_error error)
-  made_stops remaining contents i j o p file whole came accepted cut_errors.NoMemory stops = (whole, stops)
-  made_stops remaining contents i j o p file whole came accepted (cut_errors.TooLarge size) stops = (
+  -- why a run is not done that has read its file is why the cut of that file is not sent
+  pub file_stops : {R W : Type 0} (remaining : R → Option (List ℕ)) (contents : W → Option (List ℕ)) (i j : Inlet R)
+      (o p : Outlet W) (file : List ℕ) → inlet_broken_of j ≡ false → Came remaining i file
+      → (error : RunError) → CutStops contents kind wanted file o p error
+      → RunStops remaining contents Has made (RefusesCutIn kind remaining i wanted) i j o p error
+  file_stops remaining contents i j o p file whole came Memory stops = (whole, stops)
+  file_stops remaining contents i j o p file whole came (Font error) stops = (
     whole,
     stops.0,
-    got_of remaining i (λ (f : List ℕ). (fault_of kind f ≡ None) × IsTooLarge (made f) size) file
-        came (accepted, stops.1),
+    got_of remaining i (λ (f : List ℕ). fault_of kind f ≡ Some error) file came stops.1,
   )
-  made_stops remaining contents i j o p file whole came accepted (cut_errors.WriteFault count) stops = (
+  file_stops remaining contents i j o p file whole came (TooLarge size) stops = (
     whole,
-    stops.1,
-    sym stops.2,
-    got_of remaining i (λ (f : List ℕ). Has f
-        × outlets.WentOut contents o p (take count (made f))) file came ((accepted, stops.0), stops.3),
+    stops.0,
+    got_of remaining i (λ (f : List ℕ). (fault_of kind f ≡ None) × IsTooLarge (made f) size) file came (stops.1, stops.2),
   )
+  file_stops remaining contents i j o p file whole came (Write count) stops = (
+    whole,
+    stops.0,
+    stops.1,
+    got_of remaining i (λ (f : List ℕ). Has f
+        × outlets.WentOut contents o p (take count (made f))) file came (stops.2, stops.3),
+  )
+  file_stops remaining contents i j o p file whole came (Read count) stops = absurd stops
+  file_stops remaining contents i j o p file whole came (OneOf which error) stops = absurd stops
+  file_stops remaining contents i j o p file whole came (Join error) stops = absurd stops
+
+  -- the cut of a file that came, which was sent
+  pub file_sent : {R W : Type 0} (remaining : R → Option (List ℕ)) (contents : W → Option (List ℕ)) (i j : Inlet R)
+      (o p : Outlet W) (file : List ℕ) → inlet_fresh_of j ≡ false → inlet_broken_of j ≡ false → Came remaining i file
+      → (result : Result ℕ RunError) → SendsCut contents kind wanted file o p result
+      → SendsText remaining contents Has made (RefusesCutIn kind remaining i wanted) i j o p result
+  file_sent remaining contents i j o p file spent whole came (Ok size) sends =
+      record {
+        spent = spent;
+        sent = got_of remaining i (λ (f : List ℕ). Has f × outlets.WentOut contents o p (made f)) file came (
+          sends.has,
+          sends.sent,
+        );
+        unbroken = (whole, sends.unbroken);
+        error = tt;
+      }
+  file_sent remaining contents i j o p file spent whole came (Err error) sends =
+      record {
+        spent = spent;
+        sent = tt;
+        unbroken = tt;
+        error = file_stops remaining contents i j o p file whole came error sends.error;
+      }
+
+  -- its size
+  pub file_size : {R W : Type 0} (remaining : R → Option (List ℕ)) (contents : W → Option (List ℕ)) (i : Inlet R)
+      (o p : Outlet W) (file : List ℕ) → Came remaining i file
+      → (result : Result ℕ RunError) → SendsCut contents kind wanted file o p result
+      → IfOk result (λ size. (size ≤ MAX_FILE) × got remaining i (λ f. size ≡ length (made f)))
+  file_size remaining contents i o p file came (Ok size) sends = (
+    subst (λ (n : ℕ). n ≤ MAX_FILE) (sym sends.size) sends.has.1,
+    got_of remaining i (λ (f : List ℕ). size ≡ length (made f)) file came sends.size,
+  )
+  file_size remaining contents i o p file came (Err error) sends = tt
+
+  -- a call that ends with an error: what is said of the call follows from what is said of the error
+  pub cut_err : {W : Type 0} (contents : W → Option (List ℕ)) (file : List ℕ) (o p : Outlet W)
+      (result : Result ℕ RunError) (error : RunError) → IsErrAnd result (λ e. e ≡ error)
+      → CutStops contents kind wanted file o p error → SendsCut contents kind wanted file o p result
+  cut_err contents file o p (Ok size) error is stops = absurd is
+  cut_err contents file o p (Err e) error is stops =
+      record {
+        has = tt;
+        sent = tt;
+        unbroken = tt;
+        flushed = tt;
+        size = tt;
+        error = subst (CutStops contents kind wanted file o p) (sym is) stops;
+      }
+
+  -- a file that is refused for cuts of the kind, or for which memory is refused
+  pub open_stops : {W : Type 0} (contents : W → Option (List ℕ)) (file : List ℕ) (o : Outlet W)
+      (error : OpenError) → IsOpenRefusal kind file error
+      → CutStops contents kind wanted file o o (of_open_error error)
+  open_stops contents file o open_errors.NoMemory refused = refl
+  open_stops contents file o (open_errors.Refused error) refused = (refl, refused)
+
+  -- a cut was not sent, or not all of it
+  pub made_stops : {W : Type 0} (contents : W → Option (List ℕ)) (file : List ℕ) (o p : Outlet W)
+      → fault_of kind file ≡ None → (error : CutIntoError) → StopsCut contents o p (made file) error
+      → CutStops contents kind wanted file o p (of_cut_error error)
+  made_stops contents file o p accepted cut_errors.NoMemory stops = stops
+  made_stops contents file o p accepted (cut_errors.TooLarge size) stops = (stops.0, accepted, stops.1)
+  made_stops contents file o p accepted (cut_errors.WriteFault count) stops =
+      (stops.1, sym stops.2, (accepted, stops.0), stops.3)
 
   -- all of it was sent, and was not flushed
-  pub flush_stops : {R W : Type 0} (remaining : R → Option (List ℕ)) (contents : W → Option (List ℕ)) (i j : Inlet R)
-      (o m p : Outlet W) (file : List ℕ) → inlet_broken_of j ≡ false → Came remaining i file → Has file
+  pub flush_stops : {W : Type 0} (contents : W → Option (List ℕ)) (file : List ℕ) (o m p : Outlet W) → Has file
       → outlets.fresh_of o ≡ true → outlets.WentOut contents o m (made file) → outlets.WentOut contents m p []
       → (count : ℕ) → count ≡ outlets.written_of p → outlets.broken_of p ≡ true
-      → RunStops remaining contents Has made (RefusesCutIn kind remaining i wanted) i j o p (Write count)
-  flush_stops remaining contents i j o m p file whole came has fresh sent flushed count is broken = (
-    whole,
-    broken,
-    sym is,
-    got_of remaining i (λ (f : List ℕ). Has f
-        × outlets.WentOut contents o p (take count (made f))) file came (
-          has,
-          sends_all contents o m p (made file) fresh sent flushed count is,
-        ),
-  )
-
-  -- all of it was sent and flushed
-  pub made_sent : {R W : Type 0} (remaining : R → Option (List ℕ)) (contents : W → Option (List ℕ)) (i : Inlet R)
-      (o m p : Outlet W) (file : List ℕ) → Came remaining i file → Has file
-      → outlets.WentOut contents o m (made file) → outlets.WentOut contents m p []
-      → got remaining i (λ f. Has f × outlets.WentOut contents o p (made f))
-  made_sent remaining contents i o m p file came has sent flushed =
-      got_of remaining i (λ (f : List ℕ). Has f × outlets.WentOut contents o p (made f)) file came (
-        has,
-        sends_end contents o m p (made file) sent flushed,
-      )
+      → CutStops contents kind wanted file o p (Write count)
+  flush_stops contents file o m p has fresh sent flushed count is broken =
+      (broken, sym is, has, sends_all contents o m p (made file) fresh sent flushed count is)
 
 -- a run that ends with an error: what is said of the run follows from what is said of the error
 pub ends_err : {R W T : Type 0} (remaining : R → Option (List ℕ)) (contents : W → Option (List ℕ)) (serves : List ℕ

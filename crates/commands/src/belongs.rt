@@ -49,6 +49,47 @@ fn opened_for<'f, 'a, A: Allocator + Copy>(
     }
 }
 
+// Returns whether a font, which was opened for cuts of a kind, is a cut of another one, of that kind. One opened font is
+// owned here, and the other one below: of what a function owns it is proved at each `?` that it can be let go.
+fn is_cut_of_font<A: Allocator + Copy>(
+    alloc: A,
+    cut: &FontOfKind<'_, '_, A>,
+    font: &Font<'_>,
+) -> Result<bool, RunError>
+    ensures { MatchResult result (Answers cut.now.0 cut.now.1 font.now)
+        (IsUnanswered cut.now.0 cut.now.1 font.now) }
+{
+    let opened = opened_for(alloc, cut.kind(), Which::Second, font)?;
+    Ok(belongs(alloc, cut, &opened)?)
+}
+
+// The same of the file of a font.
+fn is_cut_of_file<A: Allocator + Copy>(
+    alloc: A,
+    cut: &FontOfKind<'_, '_, A>,
+    font: &[u8],
+) -> Result<bool, RunError>
+    ensures { MatchResult result (Answers cut.now.0 cut.now.1 font.now)
+        (IsUnanswered cut.now.0 cut.now.1 font.now) }
+{
+    let _kind = cut.kind();
+    let second = opened_as(Which::Second, font)?;
+    is_cut_of_font(alloc, cut, &second)
+}
+
+// Returns whether a font is a cut of a file, of a kind.
+fn is_font_cut_of<A: Allocator + Copy>(
+    alloc: A,
+    kind: Kind,
+    cut: &Font<'_>,
+    font: &[u8],
+) -> Result<bool, RunError>
+    ensures { MatchResult result (Answers kind cut.now font.now) (IsUnanswered kind cut.now font.now) }
+{
+    let opened = opened_for(alloc, kind, Which::First, cut)?;
+    is_cut_of_file(alloc, &opened, font)
+}
+
 // Returns whether a file is a cut of another, of a kind. The first one is opened first.
 fn is_cut_in<A: Allocator + Copy>(
     alloc: A,
@@ -59,10 +100,7 @@ fn is_cut_in<A: Allocator + Copy>(
     ensures { MatchResult result (Answers kind cut.now font.now) (IsUnanswered kind cut.now font.now) }
 {
     let first = opened_as(Which::First, cut)?;
-    let cut_opened = opened_for(alloc, kind, Which::First, &first)?;
-    let second = opened_as(Which::Second, font)?;
-    let font_opened = opened_for(alloc, kind, Which::Second, &second)?;
-    Ok(belongs(alloc, &cut_opened, &font_opened)?)
+    is_font_cut_of(alloc, kind, &first, font)
 }
 
 // Returns what is printed of an answer.

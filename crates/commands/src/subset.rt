@@ -5,6 +5,7 @@ ghost use Rattle.font_subset.specs.CutOfKind.{cut_in};
 ghost use Rattle.font_cut.specs.Fonts.{MAX_FILE, member};
 ghost use Rattle.streams.specs.Outlet.{flushed_of, fresh_of};
 ghost use Rattle.streams.specs.Inlet.{inlet_fresh_of};
+ghost use Rattle.commands.specs.Inside.{SendsCut};
 ghost use Rattle.commands.specs.Run.{HasCut, HasCutIn, RefusesCut, RefusesCutIn, SendsText, got};
 
 use crate::run_error::RunError;
@@ -12,6 +13,53 @@ use font_cut::{Font, FontOfKind, Kind, Outlet, Wanted, cut_of_kind_into};
 use std::alloc::Allocator;
 use std::io::{Read, Write};
 use streams::Inlet;
+
+// Sends the cut of a font that was opened for cuts of a kind, flushes, and returns its size. It owns nothing, nor do the
+// two below own more than they open: of what a function owns it is proved at each `?` that it can be let go.
+fn send_of_opened<W: Write, A: Allocator + Copy>(
+    alloc: A,
+    font: &FontOfKind<'_, '_, A>,
+    wanted: &Wanted<A>,
+    outlet: &mut Outlet<W>,
+) -> Result<u64, RunError>
+    requires { fresh_of outlet.old ≡ true }
+    ensures { SendsCut W.contents font.now.0 (member wanted.now) font.now.1 outlet.old outlet.new result }
+{
+    let _kind = font.kind();
+    let size = cut_of_kind_into(alloc, font, wanted, outlet)?;
+    outlet.finish()?;
+    Ok(size)
+}
+
+// The same of an accepted font, which is opened for the kind first.
+fn send_of_font<W: Write, A: Allocator + Copy>(
+    alloc: A,
+    kind: Kind,
+    font: &Font<'_>,
+    wanted: &Wanted<A>,
+    outlet: &mut Outlet<W>,
+) -> Result<u64, RunError>
+    requires { fresh_of outlet.old ≡ true }
+    ensures { SendsCut W.contents kind (member wanted.now) font.now outlet.old outlet.new result }
+{
+    let opened = FontOfKind::open(alloc, kind, font)?;
+    send_of_opened(alloc, &opened, wanted, outlet)
+}
+
+// The same of a file, which is opened as a font first.
+fn send_of_file<W: Write, A: Allocator + Copy>(
+    alloc: A,
+    kind: Kind,
+    file: &[u8],
+    wanted: &Wanted<A>,
+    outlet: &mut Outlet<W>,
+) -> Result<u64, RunError>
+    requires { fresh_of outlet.old ≡ true }
+    ensures { SendsCut W.contents kind (member wanted.now) file.now outlet.old outlet.new result }
+{
+    let font = Font::open(file)?;
+    send_of_font(alloc, kind, &font, wanted, outlet)
+}
 
 /// Reads a font to its end, sends its cut of a kind for the codes that are wanted, and returns the size of the cut
 /// in bytes.
@@ -39,11 +87,7 @@ pub fn run_subset_of_kind<R: Read, W: Write, A: Allocator + Copy>(
         (λ file. size ≡ length (cut_in kind file (member wanted.now)))) }
 {
     let file = inlet.read_all(alloc)?;
-    let font = Font::open(&file)?;
-    let opened = FontOfKind::open(alloc, kind, &font)?;
-    let size = cut_of_kind_into(alloc, &opened, wanted, outlet)?;
-    outlet.finish()?;
-    Ok(size)
+    send_of_file(alloc, kind, &file, wanted, outlet)
 }
 
 /// Reads a font to its end, sends its cut for the codes that are wanted, and returns the size of the cut
