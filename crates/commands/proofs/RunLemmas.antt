@@ -84,7 +84,8 @@ module _ (kind : Kind) (wanted : ℕ → Bool) where
   file_stops remaining contents i j o p file whole came (TooLarge size) stops = (
     whole,
     stops.0,
-    got_of remaining i (λ (f : List ℕ). (fault_of kind f ≡ None) × IsTooLarge (made f) size) file came (stops.1, stops.2),
+    got_of remaining i (λ (f : List ℕ). (fault_of kind f ≡ None)
+        × IsTooLarge (made f) size) file came (stops.1, stops.2),
   )
   file_stops remaining contents i j o p file whole came (Write count) stops = (
     whole,

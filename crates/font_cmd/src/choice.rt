@@ -54,23 +54,29 @@ fn add_completed<'a>(alloc: Global, kept: &mut Kept, lists: &[&'a str]) -> Resul
     Ok(kept.wanted.add_all(alloc, &codes)?)
 }
 
+// Returns the codes that the arguments of a line keep.
+fn kept_by<'a>(alloc: Global, line: &Subset<'a>) -> Result<Kept, Fault<'a>> {
+    let mut kept = Kept {
+        wanted: codes_of(alloc, &line.texts, &line.words)?,
+        added: CodeSet::new(alloc),
+    };
+    add_lists(alloc, &mut kept.wanted, &line.lists)?;
+    add_completed(alloc, &mut kept, &line.completed)?;
+    if keeps_needed(line) {
+        add_texts(alloc, &mut kept.added, &line.texts)?;
+    }
+    Ok(kept)
+}
+
 impl Choice {
     /// Returns the codes of the arguments of a line, which are looked at before any file.
     ///
     /// # Errors
     /// The first fault.
     pub(crate) fn of<'a>(alloc: Global, line: &Subset<'a>) -> Result<Choice, Fault<'a>> {
-        let mut kept = Kept {
-            wanted: codes_of(alloc, &line.texts, &line.words)?,
-            added: CodeSet::new(alloc),
-        };
+        let kept = kept_by(alloc, line)?;
         let mut gone = CodeSet::new(alloc);
-        add_lists(alloc, &mut kept.wanted, &line.lists)?;
-        add_completed(alloc, &mut kept, &line.completed)?;
         add_lists(alloc, &mut gone, &line.excluded)?;
-        if keeps_needed(line) {
-            add_texts(alloc, &mut kept.added, &line.texts)?;
-        }
         Ok(Choice { kept, gone })
     }
 
@@ -103,6 +109,29 @@ fn add_texts_of_files<'a, R: Read + Drop>(
     add_files(alloc, files, paths, FileKind::Characters, wanted)
 }
 
+// The files that a line names, none of which is read yet.
+#[derive(Drop)]
+struct Opened<R> {
+    texts: Vec<R>,
+    words: Vec<R>,
+    excluded: Vec<R>,
+}
+
+// Adds the codes of files that are open.
+fn add_opened<'a, R: Read + Drop>(
+    alloc: Global,
+    line: &Subset<'a>,
+    files: Opened<R>,
+    choice: &mut Choice,
+) -> Result<(), Fault<'a>> {
+    let Choice { kept, gone } = choice;
+    add_texts_of_files(alloc, line, files.texts, kept)?;
+    let (words, wanted) = (&line.code_files, &mut kept.wanted);
+    add_files(alloc, files.words, words, FileKind::Words, wanted)?;
+    let paths = &line.excluded_files;
+    add_files(alloc, files.excluded, paths, FileKind::Words, gone)
+}
+
 /// Adds the codes of the files that a line names, which are all opened before one is read.
 ///
 /// # Errors
@@ -112,20 +141,12 @@ pub(crate) fn add_all_files<'a, F: HeldFiles, I: Read + Copy + Drop, O>(
     line: &Subset<'a>,
     choice: &mut Choice,
 ) -> Result<(), Fault<'a>> {
-    let alloc = system.alloc;
-    let texts = sources(system, &line.text_files)?;
-    let words = sources(system, &line.code_files)?;
-    let excluded = sources(system, &line.excluded_files)?;
-    add_texts_of_files(alloc, line, texts, &mut choice.kept)?;
-    let wanted = &mut choice.kept.wanted;
-    add_files(alloc, words, &line.code_files, FileKind::Words, wanted)?;
-    add_files(
-        alloc,
-        excluded,
-        &line.excluded_files,
-        FileKind::Words,
-        &mut choice.gone,
-    )
+    let files = Opened {
+        texts: sources(system, &line.text_files)?,
+        words: sources(system, &line.code_files)?,
+        excluded: sources(system, &line.excluded_files)?,
+    };
+    add_opened(system.alloc, line, files, choice)
 }
 
 /// Returns whether a line names a set of characters, be it empty.

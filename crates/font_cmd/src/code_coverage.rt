@@ -2,7 +2,9 @@
 use crate::choice::Kept;
 use crate::shaped_scripts::shaped_scripts;
 use crate::shown::shown_character;
-use font_cut::{CODES, Chart, CutOfKind, Font, FontOfKind, Kind, OpenError, Source, Tag, Wanted};
+use font_cut::{
+    CODES, Chart, CutOfKind, Font, FontOfKind, Kind, NoMemory, OpenError, Source, Tag, Wanted,
+};
 use std::alloc::{AllocError, Global};
 use wanted_characters::{CodeSet, count_of};
 
@@ -191,11 +193,52 @@ fn add_shaped(
     Ok(Some(note))
 }
 
+// Adds the lines on the tables of a font and on the scripts that it shapes and a cut does not, with room for the lines
+// that are written after the cut is. Returns a line for messages, where there are such scripts.
+fn add_tables(
+    alloc: Global,
+    text: &mut String,
+    kind: Kind,
+    font: &Font<'_>,
+    shaped: &str,
+) -> Result<Option<String>, AllocError> {
+    add_font(text, kind, font)?;
+    let note = add_shaped(alloc, text, shaped)?;
+    text.reserve(LEAN_LINES.len() + LAST_LINES.len())?;
+    Ok(note)
+}
+
 // Returns how many glyphs one cut keeps and another does not.
 fn count_more(more: &CutOfKind<'_, '_>, less: &CutOfKind<'_, '_>) -> usize {
     (0..more.glyph_count())
         .filter(|&glyph| more.keeps(glyph) && !less.keeps(glyph))
         .count()
+}
+
+// Returns how many glyphs the cut of an opened font keeps that another cut does not.
+fn count_beyond(
+    alloc: Global,
+    opened: &FontOfKind<'_, '_>,
+    wanted: &Wanted,
+    less: &CutOfKind<'_, '_>,
+) -> Result<usize, AllocError> {
+    match CutOfKind::new(alloc, opened, Some(wanted)) {
+        Ok(more) => Ok(count_more(&more, less)),
+        Err(NoMemory) => Err(AllocError),
+    }
+}
+
+// Returns how many glyphs the cut of an opened font keeps that the lean cut for the same codes does not.
+fn count_linked(
+    alloc: Global,
+    opened: &FontOfKind<'_, '_>,
+    wanted: &Wanted,
+) -> Result<usize, AllocError> {
+    let lean = FontOfKind::lean(opened.font());
+    match CutOfKind::new(alloc, &lean, Some(wanted)) {
+        Ok(less) => count_beyond(alloc, opened, wanted, &less),
+        Err(NoMemory) => Err(AllocError),
+    }
 }
 
 /// Returns how many glyphs a layout cut keeps that the lean cut for the same codes does not: what GSUB puts for those
@@ -208,19 +251,69 @@ pub(crate) fn linked_count(
     font: &Font<'_>,
     wanted: &Wanted,
 ) -> Result<Option<usize>, AllocError> {
-    let opened = match FontOfKind::open(alloc, Kind::Layout, font) {
-        Ok(opened) => opened,
-        Err(OpenError::NoMemory) => return Err(AllocError),
-        Err(OpenError::Refused(_)) => return Ok(None),
-    };
-    let lean = FontOfKind::lean(font);
-    let (Ok(more), Ok(less)) = (
-        CutOfKind::new(alloc, &opened, Some(wanted)),
-        CutOfKind::new(alloc, &lean, Some(wanted)),
-    ) else {
-        return Err(AllocError);
-    };
-    Ok(Some(count_more(&more, &less)))
+    match FontOfKind::open(alloc, Kind::Layout, font) {
+        Ok(opened) => count_linked(alloc, &opened, wanted).map(Some),
+        Err(OpenError::NoMemory) => Err(AllocError),
+        Err(OpenError::Refused(_)) => Ok(None),
+    }
+}
+
+// The wanted codes of a font, and how many of them it maps.
+#[derive(Drop)]
+struct Counted {
+    wanted: u32,
+    // Those that the font does not map: how many they are, and their ranges.
+    lacking: u32,
+    unmapped: Vec<(u32, u32)>,
+    // How many of the codes that are kept besides it maps.
+    added: u32,
+    // The names of the scripts that it shapes and a cut does not.
+    shaped: String,
+}
+
+impl Counted {
+    // Returns what is counted of the codes that are wanted and added, `lacked` being those of the wanted ones that the
+    // font does not map.
+    fn of(
+        alloc: Global,
+        font: &Font<'_>,
+        kept: &Kept,
+        kind: Kind,
+        lacked: &CodeSet,
+        added: u32,
+    ) -> Result<Counted, AllocError> {
+        let wanted = code_count(alloc, &kept.wanted)?;
+        let shaped = lost_scripts(alloc, font, kind, &kept.wanted, lacked)?;
+        let unmapped = lacked.ranges(alloc)?;
+        Ok(Counted {
+            wanted,
+            lacking: count_of(&unmapped),
+            unmapped,
+            added,
+            shaped,
+        })
+    }
+
+    // Returns the lines on the codes.
+    fn text(&self, alloc: Global, shows_characters: bool) -> Result<String, AllocError> {
+        let mut text = first_lines(alloc, self.wanted, self.lacking, self.added)?;
+        let is_of_all = self.wanted == CODES;
+        add_unmapped(&mut text, &self.unmapped, is_of_all, shows_characters)?;
+        Ok(text)
+    }
+}
+
+// Counts the codes that are wanted of a font and added.
+fn count_codes(
+    alloc: Global,
+    font: &Font<'_>,
+    kept: &Kept,
+    kind: Kind,
+) -> Result<Counted, AllocError> {
+    let mapped = mapped_codes(alloc, font)?;
+    let added = added_count(alloc, &mapped, &kept.wanted, &kept.added)?;
+    let lacked = kept.wanted.without(alloc, &mapped)?;
+    Counted::of(alloc, font, kept, kind, &lacked, added)
 }
 
 impl Coverage {
@@ -234,22 +327,13 @@ impl Coverage {
         kind: Kind,
         shows_characters: bool,
     ) -> Result<Coverage, AllocError> {
-        let wanted = &kept.wanted;
-        let mapped = mapped_codes(alloc, font)?;
-        let lacked = wanted.without(alloc, &mapped)?;
-        let shaped = lost_scripts(alloc, font, kind, wanted, &lacked)?;
-        let unmapped = lacked.ranges(alloc)?;
-        let (count, lacking) = (code_count(alloc, wanted)?, count_of(&unmapped));
-        let added = added_count(alloc, &mapped, wanted, &kept.added)?;
-        let mut text = first_lines(alloc, count, lacking, added)?;
-        add_unmapped(&mut text, &unmapped, count == CODES, shows_characters)?;
-        add_font(&mut text, kind, font)?;
-        let note = add_shaped(alloc, &mut text, shaped.as_str())?;
-        text.reserve(LEAN_LINES.len() + LAST_LINES.len())?;
+        let counted = count_codes(alloc, font, kept, kind)?;
+        let mut text = counted.text(alloc, shows_characters)?;
+        let note = add_tables(alloc, &mut text, kind, font, counted.shaped.as_str())?;
         Ok(Coverage {
             text,
-            wanted: count,
-            lacking,
+            wanted: counted.wanted,
+            lacking: counted.lacking,
             note,
         })
     }

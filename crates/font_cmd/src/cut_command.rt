@@ -14,6 +14,7 @@ use crate::system::System;
 use command_line::Subset;
 use commands::{RunError, run_subset_of_kind};
 use font_cut::{Font, Kind, Wanted};
+use std::alloc::{AllocError, Global};
 use std::io::{Read, Write};
 use streams::Inlet;
 use wanted_characters::is_range_word;
@@ -59,7 +60,53 @@ fn with_report<'a>(
     }
 }
 
-// Cuts a font, whose file this is, for the codes that are wanted, and reports on them.
+// Returns the number of glyphs that a cut keeps by links, where a line reports it.
+fn reported_links(
+    alloc: Global,
+    kind: Kind,
+    line: &Subset<'_>,
+    font: &Font<'_>,
+    wanted: &Wanted,
+) -> Result<Option<usize>, AllocError> {
+    if line.reports && kind == Kind::Layout {
+        return linked_count(alloc, font, wanted);
+    }
+    Ok(None)
+}
+
+// Cuts a font for the codes that are wanted, and reports on the cut.
+fn cut_of_font<'a, F: HeldFiles, I, O: Write + Copy + Drop>(
+    system: &System<'a, F, I, O>,
+    kind: Kind,
+    line: &Subset<'a>,
+    font: &Font<'_>,
+    wanted: &Wanted,
+    coverage: Coverage,
+) -> Result<Outcome, Fault<'a>> {
+    let linked = reported_links(system.alloc, kind, line, font, wanted)?;
+    let mut inlet = Inlet::new(font.tables().directory().file());
+    let size = send_cut(system, kind, line, &mut inlet, wanted)?;
+    with_report(kind, line, coverage, linked, size)
+}
+
+// Cuts a font for the codes that are kept, and reports on them.
+fn cut_for_codes<'a, F: HeldFiles, I, O: Write + Copy + Drop>(
+    system: &System<'a, F, I, O>,
+    kind: Kind,
+    line: &Subset<'a>,
+    font: &Font<'_>,
+    kept: Kept,
+) -> Result<Outcome, Fault<'a>> {
+    let coverage = Coverage::of(system.alloc, font, &kept, kind, line.is_verbose)?;
+    if line.is_strict && !coverage.is_whole() {
+        let text = coverage.unwritten_text(system.alloc)?;
+        return Ok(Outcome::saying(false, text));
+    }
+    let wanted = kept.into_wanted(system.alloc)?;
+    cut_of_font(system, kind, line, font, &wanted, coverage)
+}
+
+// Cuts a font, whose file this is, for the codes that are kept, and reports on them.
 fn cut_of_file<'a, F: HeldFiles, I, O: Write + Copy + Drop>(
     system: &System<'a, F, I, O>,
     kind: Kind,
@@ -67,21 +114,22 @@ fn cut_of_file<'a, F: HeldFiles, I, O: Write + Copy + Drop>(
     file: &[u8],
     kept: Kept,
 ) -> Result<Outcome, Fault<'a>> {
-    let alloc = system.alloc;
     let font = opened(line, file)?;
-    let coverage = Coverage::of(alloc, &font, &kept, kind, line.is_verbose)?;
-    if line.is_strict && !coverage.is_whole() {
-        let text = coverage.unwritten_text(alloc)?;
-        return Ok(Outcome::saying(false, text));
+    cut_for_codes(system, kind, line, &font, kept)
+}
+
+// Reads a font into memory, without the tables that a line drops.
+fn held_file<'a, F: HeldFiles, I, O, R: Read>(
+    system: &System<'a, F, I, O>,
+    line: &Subset<'a>,
+    inlet: &mut Inlet<R>,
+) -> Result<Vec<u8>, Fault<'a>>
+    requires { inlet_fresh_of inlet.old ≡ true }
+{
+    match inlet.read_all(system.alloc) {
+        Ok(whole) => without_named(system.alloc, line.font, whole, &line.dropped),
+        Err(error) => Err(Fault::of_run(line.font, line.out, RunError::from(error))),
     }
-    let wanted = kept.into_wanted(alloc)?;
-    let linked = if line.reports && kind == Kind::Layout {
-        linked_count(alloc, &font, &wanted)?
-    } else {
-        None
-    };
-    let size = send_cut(system, kind, line, &mut Inlet::new(file), &wanted)?;
-    with_report(kind, line, coverage, linked, size)
 }
 
 // Cuts a font, which is held in memory, without the tables that a line drops, and reports on the cut.
@@ -94,13 +142,26 @@ fn cut_held<'a, F: HeldFiles, I, O: Write + Copy + Drop, R: Read>(
 ) -> Result<Outcome, Fault<'a>>
     requires { inlet_fresh_of inlet.old ≡ true }
 {
-    let whole = inlet.read_all(system.alloc).map_err(|error| Fault::of_run(
-        line.font,
-        line.out,
-        RunError::from(error),
-    ))?;
-    let file = without_named(system.alloc, line.font, whole, &line.dropped)?;
+    let file = held_file(system, line, inlet)?;
     cut_of_file(system, kind, line, &file, kept)
+}
+
+// Cuts the font of an inlet for the codes that are kept, as a line asks for it.
+fn cut_inlet<'a, F: HeldFiles, I, O: Write + Copy + Drop, R: Read>(
+    system: &System<'a, F, I, O>,
+    kind: Kind,
+    line: &Subset<'a>,
+    inlet: &mut Inlet<R>,
+    kept: Kept,
+) -> Result<Outcome, Fault<'a>>
+    requires { inlet_fresh_of inlet.old ≡ true }
+{
+    if line.reports || line.is_strict || line.is_verbose || !line.dropped.is_empty() {
+        return cut_held(system, kind, line, inlet, kept);
+    }
+    let wanted = kept.into_wanted(system.alloc)?;
+    send_cut(system, kind, line, inlet, &wanted)?;
+    Ok(Outcome::of(true))
 }
 
 // Looks at the OUT of a line, and at whether it names a set of characters.
@@ -116,6 +177,28 @@ fn check_line<'a>(line: &Subset<'a>) -> Result<(), Fault<'a>> {
     }
 }
 
+// Returns the codes that a line keeps, with those of its files.
+fn all_kept<'a, F: HeldFiles, I: Read + Copy + Drop, O>(
+    system: &System<'a, F, I, O>,
+    line: &Subset<'a>,
+    mut choice: Choice,
+) -> Result<Kept, Fault<'a>> {
+    add_all_files(system, line, &mut choice)?;
+    Ok(choice.left(system.alloc)?)
+}
+
+// Writes the cut of a font for the codes of the arguments of a line and of its files.
+fn subset_for<'a, F: HeldFiles, I: Read + Copy + Drop, O: Write + Copy + Drop>(
+    system: &System<'a, F, I, O>,
+    kind: Kind,
+    line: &Subset<'a>,
+    choice: Choice,
+) -> Result<Outcome, Fault<'a>> {
+    let mut inlet = inlet_at(system, line.font)?;
+    let kept = all_kept(system, line, choice)?;
+    cut_inlet(system, kind, line, &mut inlet, kept)
+}
+
 /// Writes the cut of a font for the wanted codes. The words are looked at before the font is opened, and the
 /// font is opened before files of wanted codes.
 ///
@@ -127,14 +210,6 @@ pub(crate) fn subset<'a, F: HeldFiles, I: Read + Copy + Drop, O: Write + Copy + 
     line: &Subset<'a>,
 ) -> Result<Outcome, Fault<'a>> {
     check_line(line)?;
-    let mut choice = Choice::of(system.alloc, line)?;
-    let mut inlet = inlet_at(system, line.font)?;
-    add_all_files(system, line, &mut choice)?;
-    let kept = choice.left(system.alloc)?;
-    if line.reports || line.is_strict || line.is_verbose || !line.dropped.is_empty() {
-        return cut_held(system, kind, line, &mut inlet, kept);
-    }
-    let wanted = kept.into_wanted(system.alloc)?;
-    send_cut(system, kind, line, &mut inlet, &wanted)?;
-    Ok(Outcome::of(true))
+    let choice = Choice::of(system.alloc, line)?;
+    subset_for(system, kind, line, choice)
 }

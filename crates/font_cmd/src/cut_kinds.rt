@@ -7,10 +7,12 @@ use std::alloc::Global;
 /// # Errors
 /// `NoMemory` where memory is refused, `Refused` where the font is refused for cuts of the kind.
 pub(crate) fn is_cut_of(alloc: Global, kind: Kind, font: &Font<'_>) -> Result<bool, OpenError> {
-    let opened = FontOfKind::open(alloc, kind, font)?;
-    match form_of_kind(alloc, &opened) {
-        Ok(form) => Ok(!matches!(form, CutForm::Not)),
-        Err(NoMemory) => Err(OpenError::NoMemory),
+    match FontOfKind::open(alloc, kind, font) {
+        Ok(opened) => match form_of_kind(alloc, &opened) {
+            Ok(form) => Ok(!matches!(form, CutForm::Not)),
+            Err(NoMemory) => Err(OpenError::NoMemory),
+        },
+        Err(error) => Err(error),
     }
 }
 

@@ -1,7 +1,7 @@
 //! `demo`: what is found in the font that the program carries, and what its cuts come to.
 use crate::wanted_words::codes_of;
 use commands::{RunError, run_join, run_subset};
-use font_cut::{BASE6, Directory, Font, Outlet};
+use font_cut::{BASE6, Directory, Font, Outlet, Wanted};
 use std::alloc::{AllocError, Global};
 use streams::Inlet;
 
@@ -30,15 +30,20 @@ fn in_memory(error: RunError) -> RunError {
     }
 }
 
-// Adds the line of the cut for the codes of some words, and answers the cut.
-fn add_cut(alloc: Global, text: &mut String, words: &[&str]) -> Result<Vec<u8>, RunError> {
-    // The words name ranges, so only memory can be wanting.
+// Returns the codes of some words. They name ranges, so only memory can be wanting.
+fn wanted_by(alloc: Global, words: &[&str]) -> Result<Wanted, RunError> {
     let Ok(codes) = codes_of(alloc, &[], words) else {
         return Err(RunError::Memory);
     };
-    let Ok(wanted) = codes.into_wanted(alloc) else {
-        return Err(RunError::Memory);
-    };
+    match codes.into_wanted(alloc) {
+        Ok(wanted) => Ok(wanted),
+        Err(_) => Err(RunError::Memory),
+    }
+}
+
+// Adds the line of the cut for the codes of some words, and answers the cut.
+fn add_cut(alloc: Global, text: &mut String, words: &[&str]) -> Result<Vec<u8>, RunError> {
+    let wanted = wanted_by(alloc, words)?;
     let mut outlet = Outlet::new(Vec::new(alloc));
     let mut inlet = Inlet::new(BASE6.as_slice());
     let size = run_subset(alloc, &mut inlet, &wanted, &mut outlet).map_err(in_memory)?;
@@ -56,14 +61,19 @@ fn add_join(alloc: Global, text: &mut String, x: &[u8], y: &[u8]) -> Result<(), 
     Ok(())
 }
 
+// Adds the lines of some cuts, and of the join of the first and the last one.
+fn add_cuts(alloc: Global, text: &mut String) -> Result<(), RunError> {
+    let x = add_cut(alloc, text, &["U+C1"])?;
+    add_cut(alloc, text, &[])?;
+    add_cut(alloc, text, &["U+20"])?;
+    let y = add_cut(alloc, text, &["U+41-42"])?;
+    add_join(alloc, text, &x, &y)
+}
+
 /// Returns what `demo` prints.
 pub(crate) fn demo_text(alloc: Global) -> Result<String, RunError> {
     let font = Font::open(&BASE6)?;
     let mut text = described(alloc, font.tables().directory())?;
-    let x = add_cut(alloc, &mut text, &["U+C1"])?;
-    add_cut(alloc, &mut text, &[])?;
-    add_cut(alloc, &mut text, &["U+20"])?;
-    let y = add_cut(alloc, &mut text, &["U+41-42"])?;
-    add_join(alloc, &mut text, &x, &y)?;
+    add_cuts(alloc, &mut text)?;
     Ok(text)
 }

@@ -69,6 +69,15 @@ fn belonged<'a>(
     }
 }
 
+// Reads the font of a line, and leaves out the tables that the line drops.
+fn font_without<'a, F: HeldFiles, I: Read + Copy + Drop, O>(
+    system: &System<'a, F, I, O>,
+    line: &Belongs<'a>,
+) -> Result<Vec<u8>, Fault<'a>> {
+    let whole = read_whole(system, line.font)?;
+    without_named(system.alloc, line.font, whole, &line.dropped)
+}
+
 // Does what `belongs` asks for of a font without some of its tables. Both files are held in memory.
 fn belongs_without<'a, F: HeldFiles, I: Read + Copy + Drop, O, W: Write>(
     system: &System<'a, F, I, O>,
@@ -79,8 +88,7 @@ fn belongs_without<'a, F: HeldFiles, I: Read + Copy + Drop, O, W: Write>(
     requires { fresh_of out.old ≡ true }
 {
     let cut = read_whole(system, line.cut)?;
-    let whole = read_whole(system, line.font)?;
-    let font = without_named(system.alloc, line.font, whole, &line.dropped)?;
+    let font = font_without(system, line)?;
     let (mut cut_inlet, mut font_inlet) = (Inlet::new(&cut[..]), Inlet::new(&font[..]));
     let is_cut = run_belongs(system.alloc, kind, &mut cut_inlet, &mut font_inlet, out);
     belonged(line, line.cut, is_cut)

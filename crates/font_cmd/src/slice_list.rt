@@ -163,6 +163,50 @@ pub(crate) fn read_lines<'a, R: Read>(
     Ok(lines.bytes)
 }
 
+// Returns the text of the file at a path.
+fn text_of<'t, 'a>(path: &'a str, bytes: &'t [u8]) -> Result<&'t str, Fault<'a>> {
+    match str::from_utf8(bytes) {
+        Ok(text) => Ok(text),
+        Err(fault) => {
+            let line = line_of(bytes, fault.valid_up_to());
+            Err(Fault::BadLine {
+                path,
+                line,
+                word: None,
+            })
+        }
+    }
+}
+
+// The slices of a file so far, and their names.
+#[derive(Drop)]
+struct Slices<'t> {
+    slices: Vec<Slice<'t>>,
+    names: BTreeSet<&'t str>,
+}
+
+impl<'t> Slices<'t> {
+    // Adds the slice of a line of the file at a path, if the line has one.
+    fn add_line<'a>(
+        &mut self,
+        alloc: Global,
+        path: &'a str,
+        number: u64,
+        line: &'t str,
+    ) -> Result<(), Fault<'a>> {
+        let Some(slice) = slice_of(alloc, path, number, line)? else {
+            return Ok(());
+        };
+        if !self.names.insert(slice.name).map_err(|_| no_memory())? {
+            return Err(name_twice(alloc, path, number, slice.name));
+        }
+        match self.slices.push(slice) {
+            Ok(()) => Ok(()),
+            Err(_) => Err(no_memory()),
+        }
+    }
+}
+
 /// Returns the slices of a file, whose path and bytes these are.
 ///
 /// # Errors
@@ -173,30 +217,15 @@ pub(crate) fn slices_of<'t, 'a>(
     path: &'a str,
     bytes: &'t [u8],
 ) -> Result<Vec<Slice<'t>>, Fault<'a>> {
-    let text = match str::from_utf8(bytes) {
-        Ok(text) => text,
-        Err(fault) => {
-            let line = line_of(bytes, fault.valid_up_to());
-            return Err(Fault::BadLine {
-                path,
-                line,
-                word: None,
-            });
-        }
+    let text = text_of(path, bytes)?;
+    let mut slices = Slices {
+        slices: Vec::new(alloc),
+        names: BTreeSet::new(alloc),
     };
-    let (mut slices, mut names) = (Vec::new(alloc), BTreeSet::new(alloc));
     let mut number: u64 = 0;
     for line in text.strip_prefix(MARK).unwrap_or(text).lines() {
         number = number.saturating_add(1);
-        let Some(slice) = slice_of(alloc, path, number, line)? else {
-            continue;
-        };
-        if !names.insert(slice.name).map_err(|_| no_memory())? {
-            return Err(name_twice(alloc, path, number, slice.name));
-        }
-        if slices.push(slice).is_err() {
-            return Err(no_memory());
-        }
+        slices.add_line(alloc, path, number, line)?;
     }
-    Ok(slices)
+    Ok(slices.slices)
 }

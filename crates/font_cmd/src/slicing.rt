@@ -172,6 +172,54 @@ fn write_slices<'a, F: HeldFiles, I, O: Write + Copy + Drop>(
     Ok(())
 }
 
+// Writes the files of slices of an accepted font, once it is opened for cuts of a kind.
+fn write_cuts<'a, F: HeldFiles, I, O: Write + Copy + Drop>(
+    system: &System<'a, F, I, O>,
+    kind: Kind,
+    line: &Slices<'a>,
+    font: &Font<'_>,
+    slices: Vec<Slice<'_>>,
+) -> Result<(), Fault<'a>> {
+    match FontOfKind::open(system.alloc, kind, font) {
+        Ok(opened) => write_slices(system, line, &opened, slices),
+        Err(error) => Err(Fault::of_run(line.font, line.folder, RunError::from(error))),
+    }
+}
+
+// Prints the rules for slices that are written, and returns what else is said of them.
+fn told<W: Write>(
+    said: Said,
+    is_quiet: bool,
+    out: &mut Outlet<W>,
+) -> Result<Outcome, Fault<'static>>
+    requires { fresh_of out.old ≡ true }
+{
+    let printed = print(out, said.rules.as_str())?;
+    if is_quiet {
+        return Ok(printed);
+    }
+    Ok(Outcome::noting(said.unmapped))
+}
+
+// Writes the files of slices of an accepted font, and prints the rules for them.
+fn slice_font<'a, F: HeldFiles, I, O: Write + Copy + Drop, W: Write>(
+    system: &System<'a, F, I, O>,
+    kind: Kind,
+    line: &Slices<'a>,
+    font: &Font<'_>,
+    slices: Vec<Slice<'_>>,
+    out: &mut Outlet<W>,
+) -> Result<Outcome, Fault<'a>>
+    requires { fresh_of out.old ≡ true }
+{
+    let said = Said::of(system.alloc, font, line.family, &slices)?;
+    if line.is_strict && !said.unmapped.is_empty() {
+        return Ok(said.unwritten(system.alloc, line.is_quiet)?);
+    }
+    write_cuts(system, kind, line, font, slices)?;
+    told(said, line.is_quiet, out)
+}
+
 // Writes the files of slices of a font, whose file this is, and prints the rules for them.
 fn slice_file<'a, F: HeldFiles, I, O: Write + Copy + Drop, W: Write>(
     system: &System<'a, F, I, O>,
@@ -183,26 +231,28 @@ fn slice_file<'a, F: HeldFiles, I, O: Write + Copy + Drop, W: Write>(
 ) -> Result<Outcome, Fault<'a>>
     requires { fresh_of out.old ≡ true }
 {
-    let font = Font::open(file).map_err(|error| Fault::of_run(
-        line.font,
-        line.folder,
-        RunError::from(error),
-    ))?;
-    let said = Said::of(system.alloc, &font, line.family, &slices)?;
-    if line.is_strict && !said.unmapped.is_empty() {
-        return Ok(said.unwritten(system.alloc, line.is_quiet)?);
+    match Font::open(file) {
+        Ok(font) => slice_font(system, kind, line, &font, slices, out),
+        Err(error) => Err(Fault::of_run(line.font, line.folder, RunError::from(error))),
     }
-    let opened = FontOfKind::open(system.alloc, kind, &font).map_err(|error| Fault::of_run(
-        line.font,
-        line.folder,
-        RunError::from(error),
-    ))?;
-    write_slices(system, line, &opened, slices)?;
-    let printed = print(out, said.rules.as_str())?;
-    if line.is_quiet {
-        return Ok(printed);
-    }
-    Ok(Outcome::noting(said.unmapped))
+}
+
+// Reads the file of slices of a line.
+fn list_of<'a, F: HeldFiles, I: Read + Copy + Drop, O>(
+    system: &System<'a, F, I, O>,
+    line: &Slices<'a>,
+) -> Result<Vec<u8>, Fault<'a>> {
+    let mut lines = source(system, line.slices)?;
+    read_lines(system.alloc, line.slices, &mut lines)
+}
+
+// Reads the font of a line, and leaves out the tables that the line drops.
+fn file_of<'a, F: HeldFiles, I: Read + Copy + Drop, O>(
+    system: &System<'a, F, I, O>,
+    line: &Slices<'a>,
+) -> Result<Vec<u8>, Fault<'a>> {
+    let whole = read_whole(system, line.font)?;
+    without_named(system.alloc, line.font, whole, &line.dropped)
 }
 
 /// Writes the cut of a font for each slice of a file, and prints the rules of a style sheet for them where these are
@@ -221,10 +271,8 @@ pub(crate) fn slice<'a, F: HeldFiles, I: Read + Copy + Drop, O: Write + Copy + D
     if before_packed(line.folder).is_some() && !line.is_forced {
         return Err(Fault::PackedFolder);
     }
-    let mut lines = source(system, line.slices)?;
-    let list = read_lines(system.alloc, line.slices, &mut lines)?;
+    let list = list_of(system, line)?;
     let slices = slices_of(system.alloc, line.slices, &list)?;
-    let whole = read_whole(system, line.font)?;
-    let file = without_named(system.alloc, line.font, whole, &line.dropped)?;
+    let file = file_of(system, line)?;
     slice_file(system, kind, line, &file, slices, out)
 }

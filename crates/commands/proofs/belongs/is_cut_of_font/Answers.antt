@@ -11,7 +11,8 @@ pub returns-in_err-opened : goal.returns-in_err-opened
 returns-in_err-opened g c =
     let cut = c.args.cut.now in
     let error = c.in_err-opened.field-0.0 in
-    let told = subst (λ (k : Kind). IsUnopened k Second c.args.font.now error) c.kind.ensures.kind c.in_err-opened.ensures in
+    let told = subst (λ (k : Kind). IsUnopened k Second c.args.font.now error) c.kind.ensures.kind
+    c.in_err-opened.ensures in
     passed_on _ _ c.from_residual.result _ c.from_residual.ensures.1 (second_unopened cut.0 cut.1 c.args.font.now
     error c.kind.ensures.sound told)
 
