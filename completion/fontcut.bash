@@ -6,13 +6,13 @@ _fontcut_options() {
     case $1 in
     '') echo '--verbose --quiet --version --help' ;;
     codes) echo '--glyphs --verbose --quiet --help' ;;
-    belongs) echo '--lean --layout --drop --verbose --quiet --help' ;;
+    belongs) echo '--lean --layout --variable --drop --verbose --quiet --help' ;;
     subset)
         echo '--text --text-file --exactly --codes-file --unicodes --complete --exclude --exclude-file --report'
-        echo '--strict --lean --layout --drop --force --verbose --quiet --help'
+        echo '--strict --lean --layout --variable --drop --force --verbose --quiet --help'
         ;;
-    slice) echo '--slices --css --strict --lean --layout --drop --force --verbose --quiet --help' ;;
-    join) echo '-o --output --lean --layout --force --verbose --quiet --help' ;;
+    slice) echo '--slices --css --strict --lean --layout --variable --drop --force --verbose --quiet --help' ;;
+    join) echo '-o --output --lean --layout --variable --force --verbose --quiet --help' ;;
     *) echo '--verbose --quiet --help' ;;
     esac
 }

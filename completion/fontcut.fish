@@ -10,14 +10,14 @@ function __fontcut_options
         case codes
             printf '%s\n' --glyphs --verbose --quiet --help
         case belongs
-            printf '%s\n' --lean --layout --drop --verbose --quiet --help
+            printf '%s\n' --lean --layout --variable --drop --verbose --quiet --help
         case subset
             printf '%s\n' --text --text-file --exactly --codes-file --unicodes --complete --exclude --exclude-file --report
-            printf '%s\n' --strict --lean --layout --drop --force --verbose --quiet --help
+            printf '%s\n' --strict --lean --layout --variable --drop --force --verbose --quiet --help
         case slice
-            printf '%s\n' --slices --css --strict --lean --layout --drop --force --verbose --quiet --help
+            printf '%s\n' --slices --css --strict --lean --layout --variable --drop --force --verbose --quiet --help
         case join
-            printf '%s\n' -o --output --lean --layout --force --verbose --quiet --help
+            printf '%s\n' -o --output --lean --layout --variable --force --verbose --quiet --help
         case '*'
             printf '%s\n' --verbose --quiet --help
     end

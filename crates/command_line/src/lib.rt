@@ -30,6 +30,9 @@ const ALIKE: usize = 3;
 // The tables of layout, which a layout cut can do without.
 const LAYOUT_TABLES: &[&str] = &["BASE", "GDEF", "GPOS", "GSUB", "kern"];
 
+// The options that keep the tables of layout, of which a line has one at most.
+const KEEPS_LAYOUT: &str = "keeps-layout";
+
 // The names of the subcommands, in the order in which help lists them.
 const SUBCOMMANDS: [&str; 8] = [
     "check", "show", "codes", "belongs", "subset", "slice", "join", "demo",
@@ -86,6 +89,8 @@ pub enum CutKind {
     Lean,
     /// Layout cuts, by `--layout`.
     Layout,
+    /// Variable cuts, by `--variable`.
+    Variable,
 }
 
 /// What `belongs` asks for.
@@ -128,7 +133,7 @@ pub struct Subset<'a> {
     pub reports: bool,
     /// Whether nothing is written where a wanted code is not mapped.
     pub is_strict: bool,
-    /// Whether a text stands for its own characters alone in a layout cut, too.
+    /// Whether a text stands for its own characters alone in a layout or a variable cut, too.
     pub is_exact: bool,
     /// The kind of cut that is written.
     pub kind: CutKind,
@@ -136,8 +141,8 @@ pub struct Subset<'a> {
     pub dropped: Vec<&'a str>,
     /// Whether OUT may have the ending of a packed font.
     pub is_forced: bool,
-    /// Whether more is said: characters beside the codes of a report, and scripts that the font shapes and a cut
-    /// without its tables of layout does not.
+    /// Whether more is said: characters beside the codes of a report, scripts that the font shapes and a cut
+    /// without its tables of layout does not, and variations that the cut does not keep.
     pub is_verbose: bool,
 }
 
@@ -223,16 +228,26 @@ fn flag<'a>(alloc: Global, long: &'a str, help: &'a str) -> Arg<'a> {
 
 // Returns the option for layout cuts, which are no lean ones.
 fn layout_flag<'a>(alloc: Global, help: &'a str) -> Result<Arg<'a>, AllocError> {
-    flag(alloc, "layout", help).conflicts_with("lean")
+    flag(alloc, "layout", help)
+        .group(KEEPS_LAYOUT)?
+        .conflicts_with("lean")
 }
 
-// Returns the option for tables of layout that are left out of layout cuts. What an option requires is not asked for
-// where it conflicts with another one of the line, so the option itself conflicts with lean cuts.
+// Returns the option for variable cuts, which are no lean ones. A group has one option of a line at most, so a line for
+// layout cuts has it not.
+fn variable_flag<'a>(alloc: Global, help: &'a str) -> Result<Arg<'a>, AllocError> {
+    flag(alloc, "variable", help)
+        .group(KEEPS_LAYOUT)?
+        .conflicts_with("lean")
+}
+
+// Returns the option for tables of layout that are left out of layout and variable cuts. What an option requires is not
+// asked for where it conflicts with another one of the line, so the option itself conflicts with lean cuts.
 fn drop_option<'a>(alloc: Global) -> Result<Arg<'a>, AllocError> {
     repeated(alloc, "drop", "TABLES", texts::DROP)
         .value_delimiter(',')
         .value_parser(LAYOUT_TABLES)
-        .requires_arg("layout")?
+        .requires_arg(KEEPS_LAYOUT)?
         .conflicts_with("lean")
 }
 
@@ -247,81 +262,136 @@ fn belongs_command<'a>(alloc: Global) -> Result<Command<'a>, AllocError> {
         .arg(Arg::new(alloc, "FONT").required(true).help(texts::FONT))?
         .arg(flag(alloc, "lean", texts::LEAN_CUT))?
         .arg(layout_flag(alloc, texts::LAYOUT_CUT)?)?
+        .arg(variable_flag(alloc, texts::VARIABLE_CUT)?)?
         .arg(drop_option(alloc)?)
 }
 
-// Returns the subcommand `subset` with the options that say what is kept.
-fn with_sets<'a>(alloc: Global, command: Command<'a>) -> Result<Command<'a>, AllocError> {
-    // A text may begin with a hyphen.
-    let text = repeated(alloc, "text", "TEXT", texts::TEXT).allow_hyphen_values(true);
+// Returns the option for texts, which may begin with a hyphen.
+fn text_option<'a>(alloc: Global) -> Arg<'a> {
+    repeated(alloc, "text", "TEXT", texts::TEXT).allow_hyphen_values(true)
+}
+
+// Returns the subcommand `subset` with the options for texts.
+fn with_texts<'a>(alloc: Global, command: Command<'a>) -> Result<Command<'a>, AllocError> {
     command
-        .arg(text)?
+        .arg(text_option(alloc))?
         .arg(repeated(alloc, "text-file", "FILE", texts::TEXT_FILE))?
-        .arg(flag(alloc, "exactly", texts::EXACTLY))?
+        .arg(flag(alloc, "exactly", texts::EXACTLY))
+}
+
+// Returns it with the options for lists of codes that are kept.
+fn with_lists<'a>(alloc: Global, command: Command<'a>) -> Result<Command<'a>, AllocError> {
+    command
         .arg(repeated(alloc, "codes-file", "FILE", texts::CODES_FILE))?
         .arg(repeated(alloc, "unicodes", "LIST", texts::UNICODES))?
-        .arg(repeated(alloc, "complete", "LIST", texts::COMPLETE))?
+        .arg(repeated(alloc, "complete", "LIST", texts::COMPLETE))
+}
+
+// Returns it with the options for what is left out, and for reports.
+fn with_reports<'a>(alloc: Global, command: Command<'a>) -> Result<Command<'a>, AllocError> {
+    command
         .arg(repeated(alloc, "exclude", "LIST", texts::EXCLUDE))?
-        .arg(repeated(alloc, "exclude-file", "FILE", texts::EXCLUDE_FILE))
+        .arg(repeated(alloc, "exclude-file", "FILE", texts::EXCLUDE_FILE))?
+        .arg(flag(alloc, "report", texts::REPORT))?
+        .arg(flag(alloc, "strict", texts::STRICT))
+}
+
+// Returns it with the options for kinds of cuts.
+fn with_kinds<'a>(alloc: Global, command: Command<'a>) -> Result<Command<'a>, AllocError> {
+    command
+        .arg(flag(alloc, "lean", texts::LEAN))?
+        .arg(layout_flag(alloc, texts::LAYOUT)?)?
+        .arg(variable_flag(alloc, texts::VARIABLE)?)?
+        .arg(drop_option(alloc)?)
+}
+
+// Returns the words of `subset`.
+fn words_argument<'a>(alloc: Global) -> Arg<'a> {
+    Arg::new(alloc, "WORDS")
+        .num_args(0..)
+        .action(ArgAction::Append)
+        .help(texts::WORDS)
 }
 
 fn subset_command<'a>(alloc: Global) -> Result<Command<'a>, AllocError> {
-    let words = Arg::new(alloc, "WORDS")
-        .num_args(0..)
-        .action(ArgAction::Append)
-        .help(texts::WORDS);
-    let out = required(alloc, "OUT").help(texts::OUT);
-    let command = over_font(alloc, "subset", texts::SUBSET)?.arg(out)?;
-    with_sets(alloc, command)?
-        .arg(flag(alloc, "report", texts::REPORT))?
-        .arg(flag(alloc, "strict", texts::STRICT))?
-        .arg(flag(alloc, "lean", texts::LEAN))?
-        .arg(layout_flag(alloc, texts::LAYOUT)?)?
-        .arg(drop_option(alloc)?)?
+    let bare = over_font(alloc, "subset", texts::SUBSET)?;
+    let named = bare.arg(required(alloc, "OUT").help(texts::OUT))?;
+    let reading = with_texts(alloc, named)?;
+    let listing = with_lists(alloc, reading)?;
+    let reporting = with_reports(alloc, listing)?;
+    with_kinds(alloc, reporting)?
         .arg(flag(alloc, "force", texts::FORCE))?
-        .arg(words)
+        .arg(words_argument(alloc))
 }
 
-fn slice_command<'a>(alloc: Global) -> Result<Command<'a>, AllocError> {
-    let slices = Arg::new(alloc, "slices")
+// Returns the option for the file of slices.
+fn slices_option<'a>(alloc: Global) -> Arg<'a> {
+    Arg::new(alloc, "slices")
         .long("slices")
         .value_name("FILE")
         .required(true)
-        .help(texts::SLICES);
-    let css = Arg::new(alloc, "css")
+        .help(texts::SLICES)
+}
+
+// Returns the option for the rules of a style sheet.
+fn css_option<'a>(alloc: Global) -> Arg<'a> {
+    Arg::new(alloc, "css")
         .long("css")
         .value_name("FAMILY")
-        .help(texts::CSS);
+        .help(texts::CSS)
+}
+
+// Returns the subcommand `slice` without the options for kinds of cuts.
+fn bare_slice_command<'a>(alloc: Global) -> Result<Command<'a>, AllocError> {
     over_font(alloc, "slice", texts::SLICE)?
         .arg(required(alloc, "FOLDER").help(texts::FOLDER))?
-        .arg(slices)?
-        .arg(css)?
-        .arg(flag(alloc, "strict", texts::STRICT_SLICES))?
+        .arg(slices_option(alloc))?
+        .arg(css_option(alloc))?
+        .arg(flag(alloc, "strict", texts::STRICT_SLICES))
+}
+
+fn slice_command<'a>(alloc: Global) -> Result<Command<'a>, AllocError> {
+    bare_slice_command(alloc)?
         .arg(flag(alloc, "lean", texts::LEAN_SLICES))?
         .arg(layout_flag(alloc, texts::LAYOUT_SLICES)?)?
+        .arg(variable_flag(alloc, texts::VARIABLE_SLICES)?)?
         .arg(drop_option(alloc)?)?
         .arg(flag(alloc, "force", texts::FORCE))
 }
 
-fn join_command<'a>(alloc: Global) -> Result<Command<'a>, AllocError> {
-    let files = Arg::new(alloc, "FILES")
+// Returns the files of `join`.
+fn files_argument<'a>(alloc: Global) -> Arg<'a> {
+    Arg::new(alloc, "FILES")
         .num_args(1..)
         .action(ArgAction::Append)
         .required(true)
-        .help(texts::FILES);
-    let out = Arg::new(alloc, "output")
+        .help(texts::FILES)
+}
+
+// Returns the option for the output of `join`.
+fn output_option<'a>(alloc: Global) -> Arg<'a> {
+    Arg::new(alloc, "output")
         .short('o')
         .long("output")
         .value_name("OUT")
-        .help(texts::OUT);
+        .help(texts::OUT)
+}
+
+// Returns the subcommand `join` with its output alone.
+fn bare_join_command<'a>(alloc: Global) -> Result<Command<'a>, AllocError> {
     Command::new(alloc, "join")
         .about(texts::JOIN)
         .override_usage(texts::JOIN_USAGE)
-        .arg(out)?
+        .arg(output_option(alloc))
+}
+
+fn join_command<'a>(alloc: Global) -> Result<Command<'a>, AllocError> {
+    bare_join_command(alloc)?
         .arg(flag(alloc, "lean", texts::LEAN_JOIN))?
         .arg(layout_flag(alloc, texts::LAYOUT_JOIN)?)?
+        .arg(variable_flag(alloc, texts::VARIABLE_JOIN)?)?
         .arg(flag(alloc, "force", texts::FORCE))?
-        .arg(files)
+        .arg(files_argument(alloc))
 }
 
 // Returns the error of a line of `join` that names no output, and one file at most.
@@ -441,7 +511,9 @@ fn values_of<'a>(
 
 // Returns the kind of cuts that a line asks for.
 fn cut_kind(matches: &ArgMatches<'_>) -> CutKind {
-    if matches.get_flag("layout") {
+    if matches.get_flag("variable") {
+        CutKind::Variable
+    } else if matches.get_flag("layout") {
         CutKind::Layout
     } else if matches.get_flag("lean") {
         CutKind::Lean

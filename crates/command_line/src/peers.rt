@@ -19,7 +19,7 @@ const LAYOUT: &str = "--layout keeps the layout tables whole, and the glyphs tha
 const NO_CLOSURE: &str = "--layout --drop GSUB keeps no glyph that GSUB puts";
 
 const INSTANCE: &str =
-    "nothing: a variable font becomes its default; fontTools makes other instances";
+    "nothing: a cut has the default, with --variable all; fontTools makes others";
 
 const NUMBERS: &str = "not needed: each glyph keeps its number";
 

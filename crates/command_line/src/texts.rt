@@ -11,7 +11,7 @@ Exit status: 0 done; 1 a font is refused, check finds something, belongs says no
 2 usage error; 3 a file cannot be read or written";
 
 pub(crate) const VERBOSE: &str =
-    "Says more: what to do if something fails, characters next to codes, and what shaping a cut loses";
+    "Says more: what to do if something fails, characters next to codes, and what a cut loses";
 
 pub(crate) const QUIET: &str = "If something fails, prints only the first line of the message";
 
@@ -29,7 +29,8 @@ pub(crate) const SHOW: &str =
     "Shows the counts of FONT, which of its tables a cut keeps or drops, and whether it is a cut";
 
 pub(crate) const AFTER_SHOW: &str = "\
-With --verbose it also shows the layout tables, and whether FONT is a lean or a layout cut.
+With --verbose it also shows the layout tables, the axes and named instances of a variable font, and
+whether FONT is a lean, a layout or a variable cut.
 
 Examples:
   fontcut show font.ttf
@@ -72,13 +73,13 @@ pub(crate) const SUBSET: &str =
     "Writes the cut of FONT for the wanted characters to OUT, which is replaced";
 
 pub(crate) const TEXT: &str =
-    "Keeps the characters of TEXT, with --layout also those that it needs; may be repeated";
+    "Keeps the characters of TEXT, with --layout or --variable also those that it needs; may be repeated";
 
 pub(crate) const TEXT_FILE: &str =
     "The same for a UTF-8 file, without its control characters; may be repeated";
 
 pub(crate) const EXACTLY: &str =
-    "With --layout, texts keep their own characters alone; without it this changes nothing";
+    "With --layout or --variable, texts keep their own characters alone; else this changes nothing";
 
 pub(crate) const CODES_FILE: &str =
     "Keeps the codes of a file of lists in the form of --unicodes; # starts a comment";
@@ -95,6 +96,9 @@ pub(crate) const LEAN: &str =
 pub(crate) const LAYOUT: &str =
     "Writes the layout cut: a lean one with GSUB, GPOS, GDEF, BASE, kern and the substitutes of GSUB";
 
+pub(crate) const VARIABLE: &str =
+    "Writes the variable cut: a layout one with the variations (fvar, gvar ..), so it stays variable";
+
 pub(crate) const DROP: &str =
     "Cuts FONT as if it lacked these layout tables; only GSUB adds glyphs; may be repeated";
 
@@ -103,6 +107,8 @@ pub(crate) const FORCE: &str = "Writes a TrueType file even to a name that ends 
 pub(crate) const LEAN_CUT: &str = "Asks for a lean cut, as subset --lean writes it";
 
 pub(crate) const LAYOUT_CUT: &str = "Asks for a layout cut, as subset --layout writes it";
+
+pub(crate) const VARIABLE_CUT: &str = "Asks for a variable cut, as subset --variable writes it";
 
 pub(crate) const FONT: &str =
     "The path of a font file with TrueType outlines, or - for standard input";
@@ -124,10 +130,12 @@ pub(crate) const EXCLUDE_FILE: &str = "Leaves out the codes of a file of lists; 
 pub(crate) const WORDS: &str = "Ranges of codes to keep: all, U+41, U+41-5A";
 
 pub(crate) const AFTER_SUBSET: &str = "\
-A cut keeps the glyph numbers. It drops variations (fvar, gvar ..), colours, bitmaps and signatures;
-fontcut show lists the tables. Full and lean cuts also drop the layout tables (GSUB, GPOS, GDEF, BASE,
-kern), which scripts such as Arabic and Devanagari need: --layout keeps them. The lean cut of a cut is
-that of its font: --lean with the word all makes a cut lean.
+A cut keeps the glyph numbers. It drops colours, bitmaps and signatures; fontcut show lists the tables.
+Full and lean cuts also drop the layout tables (GSUB, GPOS, GDEF, BASE, kern), which scripts such as
+Arabic and Devanagari need: --layout keeps them. A variable cut is a layout cut that also keeps the
+variations (fvar, avar, gvar, HVAR, MVAR, STAT, VVAR, cvar), so the font stays variable; other cuts have
+its default instance only. The lean cut of a cut is that of its font: --lean with the word all makes a
+cut lean.
 
 Examples:
   fontcut subset font.ttf cut.ttf all
@@ -135,6 +143,7 @@ Examples:
   fontcut subset font.ttf lean.ttf U+20-7E --lean
   fontcut subset font.ttf arabic.ttf U+20-7E U+600-6FF --layout
   fontcut subset font.ttf kerned.ttf U+20-7E --layout --drop GSUB
+  fontcut subset font.ttf variable.ttf U+20-7E --variable
   fontcut subset font.ttf cut.ttf U+20-7E --text-file page.txt --report
   fontcut subset font.ttf cut.ttf --unicodes 'U+4??, U+20AC' --exclude 450-45F
 
@@ -157,6 +166,8 @@ pub(crate) const STRICT_SLICES: &str =
 pub(crate) const LEAN_SLICES: &str = "Writes lean cuts, as subset --lean does";
 
 pub(crate) const LAYOUT_SLICES: &str = "Writes layout cuts, as subset --layout does";
+
+pub(crate) const VARIABLE_SLICES: &str = "Writes variable cuts, as subset --variable does";
 
 pub(crate) const AFTER_SLICE: &str = "\
 A line of the file of slices: latin U+20-7E,U+A0-FF. The font is tested once for all slices. A rule lists
@@ -185,10 +196,13 @@ pub(crate) const LEAN_JOIN: &str =
 pub(crate) const LAYOUT_JOIN: &str =
     "Joins layout cuts, as subset --layout writes them, into the layout cut";
 
+pub(crate) const VARIABLE_JOIN: &str =
+    "Joins variable cuts, as subset --variable writes them, into the variable cut";
+
 pub(crate) const AFTER_JOIN: &str = "\
 A join keeps what its cuts kept, and drops nothing. It is the cut of the font for all their characters.
 With --lean only lean cuts join; subset --lean with the word all makes a cut lean.
-With --layout only layout cuts join.
+With --layout only layout cuts join, and with --variable only variable cuts.
 
 Examples:
   fontcut join -o all.ttf latin.ttf greek.ttf

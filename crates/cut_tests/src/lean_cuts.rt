@@ -6,6 +6,7 @@ use font_cut::{
 };
 use sample_fonts::known_cuts::{AACUTE, LEAN_AACUTE};
 use sfnt_bytes::BASE6;
+use std::alloc::Global;
 use std::test::Fail;
 
 #[test]
@@ -41,13 +42,20 @@ fn lean_cut_form_of_files(rt: HostRuntime) -> Result<(), Fail> {
     Ok(())
 }
 
-// The font has no table of layout, so its layout cut is its lean one.
-#[test]
-fn layout_cut_of_aacute(rt: HostRuntime) -> Result<(), Fail> {
+// Returns whether the cut of a kind of Base6 for U+C1 is its lean cut.
+fn is_lean_aacute(alloc: Global, kind: Kind) -> Result<bool, Fail> {
     let font = Font::open(&BASE6)?;
-    let opened = FontOfKind::open(rt.alloc(), Kind::Layout, &font)?;
-    let wanted = wanted_of(rt.alloc(), &[(0xC1, 0xC1)])?;
-    let made = cut_of_kind(rt.alloc(), &opened, &wanted)?;
-    assert_eq!(rt; made.as_slice(), LEAN_AACUTE.as_slice());
+    let opened = FontOfKind::open(alloc, kind, &font)?;
+    let made = cut_of_kind(alloc, &opened, &wanted_of(alloc, &[(0xC1, 0xC1)])?)?;
+    Ok(made.as_slice() == LEAN_AACUTE.as_slice())
+}
+
+// The font has no table of layout and none of variations, so its layout and variable cuts are its lean one.
+#[test]
+fn layout_and_variable_cuts_of_aacute(rt: HostRuntime) -> Result<(), Fail> {
+    for kind in [Kind::Layout, Kind::Variable] {
+        let is_lean = is_lean_aacute(rt.alloc(), kind)?;
+        assert!(rt; is_lean, "{kind:?}");
+    }
     Ok(())
 }

@@ -43,7 +43,7 @@ pub(crate) struct Choice {
 
 // Returns whether what the texts of a line need is kept with them.
 fn keeps_needed(line: &Subset<'_>) -> bool {
-    line.kind == CutKind::Layout && !line.is_exact
+    matches!(line.kind, CutKind::Layout | CutKind::Variable) && !line.is_exact
 }
 
 // Adds the codes of lists and the parts of their characters.

@@ -1,5 +1,6 @@
 //! What `--report` says of a font: the wanted codes that it lacks, and the tables that a cut of it drops.
 use crate::choice::Kept;
+use crate::cut_kinds::keeps_layout;
 use crate::shaped_scripts::shaped_scripts;
 use crate::shown::shown_character;
 use font_cut::{
@@ -11,7 +12,7 @@ use wanted_characters::{CodeSet, count_of};
 // How many ranges of codes are listed.
 const LISTED: usize = 20;
 
-// What lean and layout cuts leave out.
+// What cuts leave out that are not full.
 const LEAN_LINES: &str = "without metrics of glyphs that are not kept\nwithout names of glyphs\n";
 
 // What is said first where a strict line is not done.
@@ -27,6 +28,9 @@ const LAST_LINES: &str = "linked 65535\ncut 134217728 bytes\n";
 // What is said of scripts that are shaped, after their names.
 const WHAT_KEEPS: &str = "--layout keeps what that needs";
 
+// What is said of a font that varies.
+const WHAT_VARIES: &str = "the cut has the default instance only; --variable keeps the others";
+
 /// What is said of a font and of the codes that are wanted of it.
 #[derive(Drop)]
 pub(crate) struct Coverage {
@@ -34,8 +38,9 @@ pub(crate) struct Coverage {
     // How many codes are wanted, and how many of these the font does not map.
     wanted: u32,
     lacking: u32,
-    // A line that names the scripts that the font shapes and a cut of the kind does not, where there are such.
-    note: Option<String>,
+    // A line that names the scripts that the font shapes and a cut of the kind does not, where there are such, and one
+    // where the font varies and the cut does not.
+    notes: String,
 }
 
 /// Returns the codes that a font maps.
@@ -68,7 +73,7 @@ fn lost_scripts(
     wanted: &CodeSet,
     unmapped: &CodeSet,
 ) -> Result<String, AllocError> {
-    if kind == Kind::Layout {
+    if keeps_layout(kind) {
         return Ok(String::new(alloc));
     }
     let ranges = wanted.without(alloc, unmapped)?.ranges(alloc)?;
@@ -161,13 +166,27 @@ pub(crate) fn is_of_layout(tag: Tag) -> bool {
     matches!(&tag.0, b"BASE" | b"GDEF" | b"GPOS" | b"GSUB" | b"kern")
 }
 
+/// Returns whether a table is one of variations.
+pub(crate) fn is_of_variations(tag: Tag) -> bool {
+    matches!(
+        &tag.0,
+        b"HVAR" | b"MVAR" | b"STAT" | b"VVAR" | b"avar" | b"cvar" | b"fvar" | b"gvar"
+    )
+}
+
+// Returns whether cuts of a kind keep a table that full cuts drop.
+fn keeps_table(kind: Kind, tag: Tag) -> bool {
+    let varies = kind == Kind::Variable && is_of_variations(tag);
+    varies || keeps_layout(kind) && is_of_layout(tag)
+}
+
 // Adds a line for each table that a cut of a kind drops, or keeps beside those of every cut, and one for the bytes
 // of the file.
 fn add_font(text: &mut String, kind: Kind, font: &Font<'_>) -> Result<(), AllocError> {
     let directory = font.tables().directory();
     for entry in directory.dropped() {
         let (tag, length) = (entry.tag, entry.length);
-        if kind == Kind::Layout && is_of_layout(tag) {
+        if keeps_table(kind, tag) {
             write!(text, "kept {tag} {length}\n")?;
         } else {
             write!(text, "dropped {tag} {length}\n")?;
@@ -178,34 +197,54 @@ fn add_font(text: &mut String, kind: Kind, font: &Font<'_>) -> Result<(), AllocE
     Ok(())
 }
 
-// Adds a line that names scripts that the font shapes and a cut does not, and returns one for messages, where there are
+// Adds a line that names scripts that the font shapes and a cut does not, and one to those for messages, where there are
 // such scripts.
-fn add_shaped(
-    alloc: Global,
-    text: &mut String,
-    shaped: &str,
-) -> Result<Option<String>, AllocError> {
+fn add_shaped(text: &mut String, notes: &mut String, shaped: &str) -> Result<(), AllocError> {
     if shaped.is_empty() {
-        return Ok(None);
+        return Ok(());
     }
     write!(text, "shapes {shaped}: {WHAT_KEEPS}\n")?;
-    let note = format!(in alloc; "fontcut: the font shapes {shaped}: {WHAT_KEEPS}\n")?;
-    Ok(Some(note))
+    write!(notes, "fontcut: the font shapes {shaped}: {WHAT_KEEPS}\n")?;
+    Ok(())
 }
 
-// Adds the lines on the tables of a font and on the scripts that it shapes and a cut does not, with room for the lines
-// that are written after the cut is. Returns a line for messages, where there are such scripts.
+// Returns whether a font varies.
+fn varies(font: &Font<'_>) -> bool {
+    let mut dropped = font.tables().directory().dropped();
+    dropped.any(|entry| entry.tag == Tag(*b"fvar"))
+}
+
+// Adds a line that says that a cut has one instance of a font, and one to those for messages, where the font varies and
+// the cut does not.
+fn add_instance(
+    text: &mut String,
+    notes: &mut String,
+    kind: Kind,
+    font: &Font<'_>,
+) -> Result<(), AllocError> {
+    if kind == Kind::Variable || !varies(font) {
+        return Ok(());
+    }
+    write!(text, "varies: {WHAT_VARIES}\n")?;
+    write!(notes, "fontcut: the font varies: {WHAT_VARIES}\n")?;
+    Ok(())
+}
+
+// Adds the lines on the tables of a font and on what it has and a cut does not, with room for the lines that are written
+// after the cut is. Returns lines for messages.
 fn add_tables(
     alloc: Global,
     text: &mut String,
     kind: Kind,
     font: &Font<'_>,
     shaped: &str,
-) -> Result<Option<String>, AllocError> {
+) -> Result<String, AllocError> {
+    let mut notes = String::new(alloc);
     add_font(text, kind, font)?;
-    let note = add_shaped(alloc, text, shaped)?;
+    add_shaped(text, &mut notes, shaped)?;
+    add_instance(text, &mut notes, kind, font)?;
     text.reserve(LEAN_LINES.len() + LAST_LINES.len())?;
-    Ok(note)
+    Ok(notes)
 }
 
 // Returns how many glyphs one cut keeps and another does not.
@@ -241,17 +280,18 @@ fn count_linked(
     }
 }
 
-/// Returns how many glyphs a layout cut keeps that the lean cut for the same codes does not: what GSUB puts for those
-/// of wanted codes, and what this is made of. There is no number where the font is refused for layout cuts.
+/// Returns how many glyphs a cut of a kind keeps that the lean cut for the same codes does not: what GSUB puts for those
+/// of wanted codes, and what this is made of. There is no number where the font is refused for cuts of the kind.
 ///
 /// # Errors
 /// `AllocError` where memory is refused.
 pub(crate) fn linked_count(
     alloc: Global,
+    kind: Kind,
     font: &Font<'_>,
     wanted: &Wanted,
 ) -> Result<Option<usize>, AllocError> {
-    match FontOfKind::open(alloc, Kind::Layout, font) {
+    match FontOfKind::open(alloc, kind, font) {
         Ok(opened) => count_linked(alloc, &opened, wanted).map(Some),
         Err(OpenError::NoMemory) => Err(AllocError),
         Err(OpenError::Refused(_)) => Ok(None),
@@ -329,12 +369,12 @@ impl Coverage {
     ) -> Result<Coverage, AllocError> {
         let counted = count_codes(alloc, font, kept, kind)?;
         let mut text = counted.text(alloc, shows_characters)?;
-        let note = add_tables(alloc, &mut text, kind, font, counted.shaped.as_str())?;
+        let notes = add_tables(alloc, &mut text, kind, font, counted.shaped.as_str())?;
         Ok(Coverage {
             text,
             wanted: counted.wanted,
             lacking: counted.lacking,
-            note,
+            notes,
         })
     }
 
@@ -365,9 +405,12 @@ impl Coverage {
     }
 
     /// Returns a line that names the scripts that the font shapes and a cut of the kind does not, where there are
-    /// such.
-    pub(crate) fn into_note(self) -> Option<String> {
-        self.note
+    /// such, and one where the font varies and the cut does not.
+    pub(crate) fn into_notes(self) -> Option<String> {
+        if self.notes.is_empty() {
+            return None;
+        }
+        Some(self.notes)
     }
 
     /// Returns the lines, those for what a cut of a kind leaves out, one for the glyphs to which links lead where

@@ -4,6 +4,7 @@ ghost use Rattle.streams.specs.Inlet.{inlet_fresh_of};
 
 use crate::choice::{Choice, Kept, add_all_files, names_set};
 use crate::code_coverage::{Coverage, linked_count};
+use crate::cut_kinds::keeps_layout;
 use crate::dropped_tables::without_named;
 use crate::held_files::HeldFiles;
 use crate::inputs::inlet_at;
@@ -54,8 +55,8 @@ fn with_report<'a>(
         let text = coverage.with_cut(kind, linked, size)?;
         return Ok(Outcome::saying(true, text));
     }
-    match coverage.into_note() {
-        Some(note) if line.is_verbose => Ok(Outcome::noting(note)),
+    match coverage.into_notes() {
+        Some(notes) if line.is_verbose => Ok(Outcome::noting(notes)),
         _ => Ok(Outcome::of(true)),
     }
 }
@@ -68,8 +69,8 @@ fn reported_links(
     font: &Font<'_>,
     wanted: &Wanted,
 ) -> Result<Option<usize>, AllocError> {
-    if line.reports && kind == Kind::Layout {
-        return linked_count(alloc, font, wanted);
+    if line.reports && keeps_layout(kind) {
+        return linked_count(alloc, kind, font, wanted);
     }
     Ok(None)
 }

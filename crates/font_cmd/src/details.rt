@@ -46,6 +46,13 @@ const LEAN_JOIN: &str = "fontcut: lean cuts are joined by join --lean\n";
 const MADE_LAYOUT: &str =
     "fontcut: other cuts have no tables of layout: cut the font anew by subset --layout\n";
 
+// The same where the other one is a variable cut.
+const VARIABLE_JOIN: &str = "fontcut: variable cuts are joined by join --variable\n";
+
+// How a variable cut is made in place of another one.
+const MADE_VARIABLE: &str =
+    "fontcut: other cuts have no variations: cut the font anew by subset --variable\n";
+
 // What separates the system's reason from its number.
 const NUMBER: &str = " (os error";
 
@@ -108,6 +115,26 @@ fn cut_name(kind: Kind) -> &'static str {
         Kind::Full => "a full cut",
         Kind::Lean => "a lean cut",
         Kind::Layout => "a layout cut",
+        Kind::Variable => "a variable cut",
+    }
+}
+
+// Returns what a cut of a kind is called where it is told from others.
+fn kind_name(kind: Kind) -> &'static str {
+    match kind {
+        Kind::Full => "full",
+        Kind::Lean => "lean",
+        Kind::Layout => "layout",
+        Kind::Variable => "variable",
+    }
+}
+
+// Returns how a layout or a variable cut is made in place of one of another kind.
+fn made_in_place(joined: Kind, seen: Kind) -> &'static str {
+    match (joined, seen) {
+        (Kind::Variable, _) => MADE_VARIABLE,
+        (_, Kind::Variable) => VARIABLE_JOIN,
+        _ => MADE_LAYOUT,
     }
 }
 
@@ -191,28 +218,33 @@ fn add_not_joined(
     let has_lean = first_kind == Kind::Lean || kind == Kind::Lean;
     match joined {
         Kind::Full if has_lean => add_kinds(text, (first, first_kind), (path, kind)),
-        Kind::Layout if first_kind != kind => {
+        Kind::Layout | Kind::Variable if first_kind != kind => {
             add_cuts(text, (first, first_kind), (path, kind))?;
-            text.push_str(MADE_LAYOUT)
+            text.push_str(made_in_place(joined, kind))
         }
         _ => add_no_cut(text, path, first, true),
     }
 }
 
-// Adds what a file is that is no layout cut, and how one is made.
-fn add_not_layout(text: &mut String, path: &str, seen: Seen) -> Result<(), AllocError> {
-    let name = Shown(input_name(path));
+// Adds what a file is that is no layout or no variable cut, as that was asked for, and how one is made.
+fn add_not_joinable(
+    text: &mut String,
+    joined: Kind,
+    path: &str,
+    seen: Seen,
+) -> Result<(), AllocError> {
+    let (name, wanted) = (Shown(input_name(path)), kind_name(joined));
     match seen {
         Seen::Cuts {
             refused: Some(kind),
             ..
         } => {
             let cut = cut_name(kind);
-            write!(text, "fontcut: {name}: {cut}, and no layout one\n")?;
-            text.push_str(MADE_LAYOUT)
+            write!(text, "fontcut: {name}: {cut}, and no {wanted} one\n")?;
+            text.push_str(made_in_place(joined, kind))
         }
         _ => {
-            write!(text, "fontcut: {name}: no layout cut\n")?;
+            write!(text, "fontcut: {name}: no {wanted} cut\n")?;
             Ok(())
         }
     }
@@ -234,6 +266,19 @@ fn add_not_lean(text: &mut String, path: &str, seen: Seen) -> Result<(), AllocEr
             write!(text, "fontcut: {name}: no lean cut\n")?;
             Ok(())
         }
+    }
+}
+
+// Adds what a file is that is no cut of a kind.
+fn add_not_of_kind(
+    text: &mut String,
+    kind: Kind,
+    path: &str,
+    seen: Seen,
+) -> Result<(), AllocError> {
+    match kind {
+        Kind::Full | Kind::Lean => add_not_lean(text, path, seen),
+        Kind::Layout | Kind::Variable => add_not_joinable(text, kind, path, seen),
     }
 }
 
@@ -266,12 +311,7 @@ fn add_known(
             first,
             ..
         } => add_not_joined(text, *kind, path, first, seen),
-        Fault::NotOfKind {
-            kind: Kind::Layout,
-            path,
-            ..
-        } => add_not_layout(text, path, seen),
-        Fault::NotOfKind { path, .. } => add_not_lean(text, path, seen),
+        Fault::NotOfKind { kind, path, .. } => add_not_of_kind(text, *kind, path, seen),
         Fault::Replaces { file, out } => add_both(text, file, out),
         Fault::NoSet => text.push_str(SETS),
         Fault::PackedOut(_) | Fault::PackedFolder => text.push_str(FORCE),

@@ -131,6 +131,7 @@ fn kind_asked(kind: CutKind) -> Kind {
         CutKind::Full => Kind::Full,
         CutKind::Lean => Kind::Lean,
         CutKind::Layout => Kind::Layout,
+        CutKind::Variable => Kind::Variable,
     }
 }
 

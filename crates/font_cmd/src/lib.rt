@@ -26,6 +26,8 @@ mod slice_list;
 mod slicing;
 mod style_sheet;
 mod system;
+mod table_bytes;
+mod variations;
 mod wanted_files;
 mod wanted_words;
 

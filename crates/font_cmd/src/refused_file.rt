@@ -2,8 +2,8 @@
 //! OpenType Font; WOFF File Format 1.0 and 2.0, the signature of a file.
 use crate::cut_kinds::cut_kind;
 use crate::report::Fault;
-use crate::shaped_scripts::number_at;
 use crate::system::System;
+use crate::table_bytes::number_at;
 use command_line::STANDARD;
 use commands::RunError;
 use font_cut::{Font, FontError, JoinAllError, JoinError, Kind, TableError};
@@ -23,6 +23,9 @@ const NO_CUT: &str = "no cut as fontcut writes it";
 
 // What is said of a layout cut that is no full one.
 const LAYOUT_CUT: &str = "a layout cut; layout cuts are joined by join --layout";
+
+// The same of a variable cut.
+const VARIABLE_CUT: &str = "a variable cut; variable cuts are joined by join --variable";
 
 // What is said of a cut that makes a join too large.
 const TOO_LARGE: &str = "with this file the join is too large";
@@ -215,6 +218,15 @@ fn refused_kind<F: Files>(files: &F, path: &str, error: &RunError) -> Option<&'s
     }
 }
 
+// Returns what the file at a path is that is no full cut.
+fn no_full_cut<F: Files>(files: &F, alloc: Global, path: &str) -> Result<&'static str, AllocError> {
+    Ok(match cut_kind_at(files, alloc, path)? {
+        Some(Kind::Layout) => LAYOUT_CUT,
+        Some(Kind::Variable) => VARIABLE_CUT,
+        _ => NO_CUT,
+    })
+}
+
 // Returns what is known of a refused file.
 fn refused_seen<F: Files>(
     files: &F,
@@ -225,8 +237,8 @@ fn refused_seen<F: Files>(
     let Some(what) = refused_kind(files, path, error) else {
         return Ok(Seen::Nothing);
     };
-    if what == NO_CUT && cut_kind_at(files, alloc, path)? == Some(Kind::Layout) {
-        return Ok(Seen::What(LAYOUT_CUT));
+    if what == NO_CUT {
+        return Ok(Seen::What(no_full_cut(files, alloc, path)?));
     }
     Ok(Seen::What(what))
 }

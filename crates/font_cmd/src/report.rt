@@ -82,7 +82,7 @@ pub(crate) enum Fault<'a> {
         first: &'a str,
         error: RunError,
     },
-    /// The file at this path is refused, for it is no lean or layout cut.
+    /// The file at this path is refused, for it is no cut of a kind, which is not that of full cuts.
     NotOfKind {
         kind: Kind,
         path: &'a str,

@@ -1,5 +1,6 @@
 //! The scripts whose text a font shapes, by its GSUB and GPOS. OpenType 1.9, Script Tags; OpenType Layout Common Table
 //! Formats, ScriptList. Unicode, UAX 24.
+use crate::table_bytes::{number_at, table_named};
 use font_cut::{Font, Tag};
 use std::alloc::{AllocError, Global};
 use ucd_script::Script;
@@ -203,14 +204,6 @@ const TAG: usize = 4;
 
 const RECORD: usize = 6;
 
-/// Returns the number of two bytes at a place, or none where they are not there.
-pub(crate) fn number_at(bytes: &[u8], at: usize) -> usize {
-    match bytes.get(at..at.saturating_add(2)) {
-        Some(pair) => usize::from(u16::from_be_bytes([pair[0], pair[1]])),
-        None => 0,
-    }
-}
-
 // Returns the records of the scripts that a table of layout lists.
 fn script_records(table: &[u8]) -> &[u8] {
     let list = table.get(number_at(table, TAG)..).unwrap_or(&[]);
@@ -221,12 +214,7 @@ fn script_records(table: &[u8]) -> &[u8] {
 
 // Returns the records of the scripts that a font's first table of a name lists.
 fn records_of<'a>(font: &Font<'a>, name: Tag) -> &'a [u8] {
-    let directory = font.tables().directory();
-    let Some(entry) = directory.dropped().find(|entry| entry.tag == name) else {
-        return &[];
-    };
-    let rest = directory.file().get(entry.offset as usize..).unwrap_or(&[]);
-    script_records(rest.get(..entry.length as usize).unwrap_or(rest))
+    script_records(table_named(font, name))
 }
 
 // Returns whether some records of scripts have a tag.

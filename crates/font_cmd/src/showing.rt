@@ -1,15 +1,16 @@
-//! The command `show`: the numbers and tables of a font, and with `--verbose` its tables of layout and the kinds of
-//! cuts that it is.
+//! The command `show`: the numbers and tables of a font, and with `--verbose` its tables of layout and of variations,
+//! its axes and instances, and the kinds of cuts that it is.
 ghost use Rattle.std.specs.Prelude.{◌≡◌, true};
 ghost use Rattle.streams.specs.Outlet.{fresh_of};
 
-use crate::code_coverage::is_of_layout;
+use crate::code_coverage::{is_of_layout, is_of_variations};
 use crate::cut_kinds::is_cut_of;
 use crate::held_files::HeldFiles;
 use crate::inputs::inlet_at;
 use crate::outcome::{Outcome, STANDARD_OUTPUT, answered, print_more};
 use crate::report::Fault;
 use crate::system::System;
+use crate::variations::add_variations;
 use command_line::Verbosity;
 use commands::{RunError, run_show};
 use font_cut::{Font, Kind, OpenError, Outlet};
@@ -17,12 +18,21 @@ use std::alloc::{AllocError, Global};
 use std::io::{Read, Write};
 use streams::Inlet;
 
-// Adds a line for each table of layout, in the order of the file.
+// The kinds of cuts that are not full, and what lines call them.
+const KINDS: [(&str, Kind); 3] = [
+    ("lean", Kind::Lean),
+    ("layout", Kind::Layout),
+    ("variable", Kind::Variable),
+];
+
+// Adds a line for each table of layout or of variations, in the order of the file.
 fn add_tables(text: &mut String, font: &Font<'_>) -> Result<(), AllocError> {
     for entry in font.tables().directory().dropped() {
         let (tag, length) = (entry.tag, entry.length);
         if is_of_layout(tag) {
             write!(text, "layout {tag} {length}\n")?;
+        } else if is_of_variations(tag) {
+            write!(text, "variations {tag} {length}\n")?;
         }
     }
     Ok(())
@@ -50,8 +60,10 @@ fn add_kind(
 fn more_text(alloc: Global, font: &Font<'_>) -> Result<String, AllocError> {
     let mut text = String::new(alloc);
     add_tables(&mut text, font)?;
-    add_kind(&mut text, "lean", is_cut_of(alloc, Kind::Lean, font))?;
-    add_kind(&mut text, "layout", is_cut_of(alloc, Kind::Layout, font))?;
+    add_variations(alloc, &mut text, font)?;
+    for (name, kind) in KINDS {
+        add_kind(&mut text, name, is_cut_of(alloc, kind, font))?;
+    }
     Ok(text)
 }
 
@@ -76,8 +88,8 @@ fn show_file<'a, W: Write>(
     print_more(out, text.as_str())
 }
 
-/// Prints what a person asks of the font at a path, and with `--verbose` a line for each of its tables of layout, and
-/// for lean and layout cuts whether it is one.
+/// Prints what a person asks of the font at a path, and with `--verbose` a line for each of its tables of layout and of
+/// variations, for each axis and each named instance, and for each kind of cuts but full ones whether it is one.
 ///
 /// # Errors
 /// The first fault.

@@ -25,5 +25,5 @@ pub use Rattle.font_theory.specs.Kinds.{fault_of, format_of}
 pub use Rattle.font_theory.specs.LayoutCut.{layout_fault, layout_format}
 pub use Rattle.font_theory.specs.LeanCut.{lean_format}
 pub use Rattle.font_theory.specs.declared.kinds.Kind.{Kind}
-pub use Rattle.font_theory.specs.declared.kinds.Kind.TheVariants.{Full, Layout, Lean}
+pub use Rattle.font_theory.specs.declared.kinds.Kind.TheVariants.{Full, Layout, Lean, Variable}
 pub use Rattle.font_theory.specs.Tree.{file_at, union_below}

@@ -1,15 +1,16 @@
 -- The numbers of the kinds of cuts for C, this project's own, and what a call answers that is given one.
-use Rattle.std.specs.Prelude.{◌≡◌, ℕ, nat_eq, Option, None, Some, MatchOption, if◌then◌else◌}
+use Rattle.std.specs.Prelude.{◌≡◌, ℕ, [], ◌∷◌, nat_eq, Option, MatchOption}
+use Rattle.sfnt_bytes.specs.Lines.{first_of_lines, when}
 use Rattle.font_theory.specs.declared.kinds.Kind.{Kind}
-use Rattle.font_theory.specs.declared.kinds.Kind.TheVariants.{Full, Layout, Lean}
+use Rattle.font_theory.specs.declared.kinds.Kind.TheVariants.{Full, Layout, Lean, Variable}
 use Rattle.fontcut_c.specs.Answers.{unknown_kind}
 use Rattle.fontcut_c.specs.declared.answer.Answer.{Answer}
 
 -- the kind of a number, and none for a number that is no kind's
 unfoldable pub kind_of : ℕ → Option Kind
 kind_of number =
-    if nat_eq number 0 then Some Full
-    else (if nat_eq number 1 then Some Lean else (if nat_eq number 2 then Some Layout else None))
+    let is = nat_eq number in
+    first_of_lines (when (is 0) Full ∷ when (is 1) Lean ∷ when (is 2) Layout ∷ when (is 3) Variable ∷ [])
 
 -- what a call answers that is given the number of a kind: what it says of that kind, or that there is none
 abbrev pub AnswersInKind : ℕ → Answer → (Kind → Type 0) → Type 0

@@ -13,6 +13,7 @@ pub(crate) fn kind_of_number(number: u32) -> Option<Kind>
         0 => Some(Kind::Full),
         1 => Some(Kind::Lean),
         2 => Some(Kind::Layout),
+        3 => Some(Kind::Variable),
         _ => None,
     }
 }
