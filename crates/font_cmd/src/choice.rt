@@ -12,12 +12,21 @@ use std::io::Read;
 use wanted_characters::{CodeSet, add_all_parts, add_texts};
 
 /// The codes that a cut is for.
-#[derive(Drop)]
 pub(crate) struct Kept {
     /// Those that the line wants.
     pub(crate) wanted: CodeSet,
     /// Those that are kept besides where the font maps them, of which some may be wanted too.
     pub(crate) added: CodeSet,
+}
+
+// Written out: a derived drop is proved anew wherever a value is let go, with all that is known of the value.
+impl Drop for Kept {
+    fn drop(self) {
+        let Kept {
+            wanted: _wanted,
+            added: _added,
+        } = self;
+    }
 }
 
 impl Kept {
@@ -26,11 +35,11 @@ impl Kept {
     /// # Errors
     /// `AllocError` where memory is refused.
     pub(crate) fn into_wanted(self, alloc: Global) -> Result<Wanted, AllocError> {
-        let mut codes = self.wanted;
-        if !self.added.is_empty() {
-            codes.add_all(alloc, &self.added)?;
+        let Kept { mut wanted, added } = self;
+        if !added.is_empty() {
+            wanted.add_all(alloc, &added)?;
         }
-        codes.into_wanted(alloc)
+        wanted.into_wanted(alloc)
     }
 }
 
@@ -85,12 +94,13 @@ impl Choice {
     /// # Errors
     /// `AllocError` where memory is refused.
     pub(crate) fn left(self, alloc: Global) -> Result<Kept, AllocError> {
-        if self.gone.is_empty() {
-            return Ok(self.kept);
+        let Choice { kept, gone } = self;
+        if gone.is_empty() {
+            return Ok(kept);
         }
         Ok(Kept {
-            wanted: self.kept.wanted.without(alloc, &self.gone)?,
-            added: self.kept.added.without(alloc, &self.gone)?,
+            wanted: kept.wanted.without(alloc, &gone)?,
+            added: kept.added.without(alloc, &gone)?,
         })
     }
 }
@@ -151,7 +161,14 @@ pub(crate) fn add_all_files<'a, F: HeldFiles, I: Read + Copy + Drop, O>(
 
 /// Returns whether a line names a set of characters, be it empty.
 pub(crate) fn names_set(line: &Subset<'_>) -> bool {
-    let has_text = !line.texts.is_empty() || !line.text_files.is_empty();
-    let has_lists = !line.lists.is_empty() || !line.completed.is_empty();
-    has_text || has_lists || !line.code_files.is_empty() || !line.words.is_empty()
+    [
+        &line.texts,
+        &line.text_files,
+        &line.lists,
+        &line.completed,
+        &line.code_files,
+        &line.words,
+    ]
+    .iter()
+    .any(|named| !named.is_empty())
 }

@@ -32,7 +32,6 @@ const WHAT_KEEPS: &str = "--layout keeps what that needs";
 const WHAT_VARIES: &str = "the cut has the default instance only; --variable keeps the others";
 
 /// What is said of a font and of the codes that are wanted of it.
-#[derive(Drop)]
 pub(crate) struct Coverage {
     text: String,
     // How many codes are wanted, and how many of these the font does not map.
@@ -41,6 +40,18 @@ pub(crate) struct Coverage {
     // A line that names the scripts that the font shapes and a cut of the kind does not, where there are such, and one
     // where the font varies and the cut does not.
     notes: String,
+}
+
+// Written out: a derived drop is proved anew wherever a value is let go, with all that is known of the value.
+impl Drop for Coverage {
+    fn drop(self) {
+        let Coverage {
+            text: _text,
+            wanted: _,
+            lacking: _,
+            notes: _notes,
+        } = self;
+    }
 }
 
 /// Returns the codes that a font maps.
@@ -299,7 +310,6 @@ pub(crate) fn linked_count(
 }
 
 // The wanted codes of a font, and how many of them it maps.
-#[derive(Drop)]
 struct Counted {
     wanted: u32,
     // Those that the font does not map: how many they are, and their ranges.
@@ -309,6 +319,19 @@ struct Counted {
     added: u32,
     // The names of the scripts that it shapes and a cut does not.
     shaped: String,
+}
+
+// Written out: a derived drop is proved anew wherever a value is let go, with all that is known of the value.
+impl Drop for Counted {
+    fn drop(self) {
+        let Counted {
+            wanted: _,
+            lacking: _,
+            unmapped: _unmapped,
+            added: _,
+            shaped: _shaped,
+        } = self;
+    }
 }
 
 impl Counted {
@@ -407,27 +430,36 @@ impl Coverage {
     /// Returns a line that names the scripts that the font shapes and a cut of the kind does not, where there are
     /// such, and one where the font varies and the cut does not.
     pub(crate) fn into_notes(self) -> Option<String> {
-        if self.notes.is_empty() {
-            return None;
-        }
-        Some(self.notes)
+        let Coverage {
+            text: _text,
+            wanted: _,
+            lacking: _,
+            notes,
+        } = self;
+        if notes.is_empty() { None } else { Some(notes) }
     }
 
     /// Returns the lines, those for what a cut of a kind leaves out, one for the glyphs to which links lead where
     /// they are counted, and one for the bytes of the cut.
     pub(crate) fn with_cut(
-        mut self,
+        self,
         kind: Kind,
         linked: Option<usize>,
         size: u64,
     ) -> Result<String, AllocError> {
+        let Coverage {
+            mut text,
+            wanted: _,
+            lacking: _,
+            notes: _notes,
+        } = self;
         if kind != Kind::Full {
-            self.text.push_str(LEAN_LINES)?;
+            text.push_str(LEAN_LINES)?;
         }
         if let Some(count) = linked {
-            write!(self.text, "linked {count}\n")?;
+            write!(text, "linked {count}\n")?;
         }
-        write!(self.text, "cut {size} bytes\n")?;
-        Ok(self.text)
+        write!(text, "cut {size} bytes\n")?;
+        Ok(text)
     }
 }

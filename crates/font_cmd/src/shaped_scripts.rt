@@ -281,6 +281,33 @@ fn add_rows(
     Ok(())
 }
 
+// Returns the scripts of codes of some ranges.
+fn scripts_of(alloc: Global, ranges: &[(u32, u32)]) -> Result<Vec<Script>, AllocError> {
+    let mut scripts = Vec::new(alloc);
+    for &(first, last) in ranges {
+        add_scripts(&mut scripts, first, last)?;
+    }
+    Ok(scripts)
+}
+
+// Adds the names of those scripts of a font that are there and shaped, and cannot be read where nothing shapes them.
+fn add_complex(
+    names: &mut String,
+    scripts: &[Script],
+    listed: &Listed<'_>,
+) -> Result<(), AllocError> {
+    add_rows(names, &COMPLEX, scripts, listed, listed.has(ALL))
+}
+
+// Adds those of the others.
+fn add_simple(
+    names: &mut String,
+    scripts: &[Script],
+    listed: &Listed<'_>,
+) -> Result<(), AllocError> {
+    add_rows(names, &SIMPLE, scripts, listed, false)
+}
+
 /// Returns the names of the scripts of the codes of some ranges whose text a font shapes, with commas between them.
 ///
 /// # Errors
@@ -294,13 +321,9 @@ pub(crate) fn shaped_scripts(
         substituted: records_of(font, Tag(*b"GSUB")),
         positioned: records_of(font, Tag(*b"GPOS")),
     };
-    let mut scripts = Vec::new(alloc);
-    for &(first, last) in ranges {
-        add_scripts(&mut scripts, first, last)?;
-    }
+    let scripts = scripts_of(alloc, ranges)?;
     let mut names = String::new(alloc);
-    let lists_all = listed.has(ALL);
-    add_rows(&mut names, &COMPLEX, &scripts, &listed, lists_all)?;
-    add_rows(&mut names, &SIMPLE, &scripts, &listed, false)?;
+    add_complex(&mut names, &scripts, &listed)?;
+    add_simple(&mut names, &scripts, &listed)?;
     Ok(names)
 }

@@ -17,10 +17,27 @@ const LONGEST_NAME: usize = 200;
 const MARK: char = '\u{FEFF}';
 
 /// A slice: the name of its file, but for `.ttf`, and its codes.
-#[derive(Drop)]
 pub(crate) struct Slice<'t> {
     pub(crate) name: &'t str,
     pub(crate) codes: CodeSet,
+}
+
+// Written out: a derived drop is proved anew wherever a value is let go, with all that is known of the value.
+impl Drop for Slice<'_> {
+    fn drop(self) {
+        let Slice {
+            name: _,
+            codes: _codes,
+        } = self;
+    }
+}
+
+impl<'t> Slice<'t> {
+    /// Returns its name and its codes.
+    pub(crate) fn into_parts(self) -> (&'t str, CodeSet) {
+        let Slice { name, codes } = self;
+        (name, codes)
+    }
 }
 
 // Returns whether a name is one that a file can have in each folder and in a style sheet as it stands.

@@ -64,8 +64,9 @@ fn write_slice<'a, F: HeldFiles, I, O: Write + Copy + Drop>(
     slice: Slice<'_>,
 ) -> Result<(), Fault<'a>> {
     let alloc = system.alloc;
-    let path = slice_path(alloc, line.folder, slice.name)?;
-    let wanted = slice.codes.into_wanted(alloc)?;
+    let (name, codes) = slice.into_parts();
+    let path = slice_path(alloc, line.folder, name)?;
+    let wanted = codes.into_wanted(alloc)?;
     match write_cut(system, font, &wanted, path.as_str()) {
         Ok(()) => Ok(()),
         Err(fault) => Err(fault_in_folder(alloc, path.as_str(), fault)),
@@ -73,7 +74,6 @@ fn write_slice<'a, F: HeldFiles, I, O: Write + Copy + Drop>(
 }
 
 // What is said of slices.
-#[derive(Drop)]
 struct Said {
     // The rules of a style sheet for them.
     rules: String,
@@ -89,6 +89,16 @@ fn mapped_ranges(
 ) -> Result<Vec<(u32, u32)>, AllocError> {
     let lacking = slice.codes.without(alloc, mapped)?;
     slice.codes.without(alloc, &lacking)?.ranges(alloc)
+}
+
+// Written out: a derived drop is proved anew wherever a value is let go, with all that is known of the value.
+impl Drop for Said {
+    fn drop(self) {
+        let Said {
+            rules: _rules,
+            unmapped: _unmapped,
+        } = self;
+    }
 }
 
 impl Said {
@@ -131,6 +141,18 @@ impl Said {
             said.add(alloc, family, &mapped, slice)?;
         }
         Ok(said)
+    }
+
+    // Prints the rules for slices that are written, and returns what else is said of them.
+    fn told<W: Write>(self, is_quiet: bool, out: &mut Outlet<W>) -> Result<Outcome, Fault<'static>>
+        requires { fresh_of out.old ≡ true }
+    {
+        let Said { rules, unmapped } = self;
+        let printed = print(out, rules.as_str())?;
+        if is_quiet {
+            return Ok(printed);
+        }
+        Ok(Outcome::noting(unmapped))
     }
 
     // Returns what a strict line comes to that writes nothing.
@@ -186,21 +208,6 @@ fn write_cuts<'a, F: HeldFiles, I, O: Write + Copy + Drop>(
     }
 }
 
-// Prints the rules for slices that are written, and returns what else is said of them.
-fn told<W: Write>(
-    said: Said,
-    is_quiet: bool,
-    out: &mut Outlet<W>,
-) -> Result<Outcome, Fault<'static>>
-    requires { fresh_of out.old ≡ true }
-{
-    let printed = print(out, said.rules.as_str())?;
-    if is_quiet {
-        return Ok(printed);
-    }
-    Ok(Outcome::noting(said.unmapped))
-}
-
 // Writes the files of slices of an accepted font, and prints the rules for them.
 fn slice_font<'a, F: HeldFiles, I, O: Write + Copy + Drop, W: Write>(
     system: &System<'a, F, I, O>,
@@ -217,7 +224,7 @@ fn slice_font<'a, F: HeldFiles, I, O: Write + Copy + Drop, W: Write>(
         return Ok(said.unwritten(system.alloc, line.is_quiet)?);
     }
     write_cuts(system, kind, line, font, slices)?;
-    told(said, line.is_quiet, out)
+    said.told(line.is_quiet, out)
 }
 
 // Writes the files of slices of a font, whose file this is, and prints the rules for them.

@@ -27,10 +27,19 @@ impl Reason {
 }
 
 /// A reader or writer whose errors are kept as reasons.
-#[derive(Drop)]
 pub struct KeepsReason<'a, T> {
     inner: T,
     reason: &'a Reason,
+}
+
+// Written out: a derived drop is proved anew wherever a value is let go, with all that is known of the value.
+impl<T: Drop> Drop for KeepsReason<'_, T> {
+    fn drop(self) {
+        let KeepsReason {
+            inner: _inner,
+            reason: _,
+        } = self;
+    }
 }
 
 impl<'a, T> KeepsReason<'a, T> {
@@ -41,7 +50,8 @@ impl<'a, T> KeepsReason<'a, T> {
 
     /// Returns the reader or writer.
     pub fn into_inner(self) -> T {
-        self.inner
+        let KeepsReason { inner, reason: _ } = self;
+        inner
     }
 }
 

@@ -5,12 +5,22 @@ use std::alloc::{AllocError, Global};
 /// A set of codes: the ranges that came in rising order, and a bit for each code up to the greatest of the
 /// others. Most sets are given in rising order, and need no bits. A range that goes between others moves
 /// those above it, so that time would grow with the square of the number of ranges that do not rise.
-#[derive(Drop)]
 pub struct CodeSet {
     rising: Wanted,
     // The code after the last one of `rising`.
     next: u32,
     bits: Vec<u32>,
+}
+
+// Written out: a derived drop is proved anew wherever a value is let go, with all that is known of the value.
+impl Drop for CodeSet {
+    fn drop(self) {
+        let CodeSet {
+            rising: _rising,
+            next: _,
+            bits: _bits,
+        } = self;
+    }
 }
 
 // Puts a range after others, or lets the last of them go on where they touch.
@@ -197,7 +207,12 @@ impl CodeSet {
     /// `AllocError` where memory is refused.
     pub fn into_wanted(self, alloc: Global) -> Result<Wanted, AllocError> {
         if self.bits.is_empty() {
-            return Ok(self.rising);
+            let CodeSet {
+                rising,
+                next: _,
+                bits: _bits,
+            } = self;
+            return Ok(rising);
         }
         let mut wanted = Wanted::new(alloc);
         for (first, last) in self.ranges(alloc)? {
