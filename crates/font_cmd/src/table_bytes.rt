@@ -1,8 +1,12 @@
 //! The bytes of tables that are not read to cut a font. OpenType 1.9, Data Types; Organization of an OpenType Font.
+ghost use Rattle.std.specs.Prelude.{◌<◌};
+
 use font_cut::{Font, Tag};
 
 /// Returns the number of two bytes at a place, or none where they are not there.
-pub(crate) fn number_at(bytes: &[u8], at: usize) -> usize {
+pub(crate) fn number_at(bytes: &[u8], at: usize) -> usize
+    ensures { result < 65536 }
+{
     match bytes.get(at..at.saturating_add(2)) {
         Some(pair) => usize::from(u16::from_be_bytes([pair[0], pair[1]])),
         None => 0,
