@@ -23,7 +23,6 @@ import fontcut
 LONGEST_QUERY = 8000
 FOREVER = ("Cache-Control", "public, max-age=31536000, immutable")
 KINDS = ("full", "lean", "layout", "variable")
-SHAPED = ("layout", "variable")
 Range = Tuple[int, int]
 
 
@@ -87,7 +86,7 @@ def wanted_by(query: str) -> Tuple[List[Range], str]:
     lists = [re.sub(r"(?<![^\s,;:-])([Uu]) (?=[0-9A-Fa-f?])", r"\1+", value) for value in asked.get("unicodes", ())]
     texts = asked.get("text", ())
     # Cuts of some kinds are there to be shaped, and a shaper takes more characters than those of the text.
-    letters = set("".join(map(fontcut.needed, texts) if kind in SHAPED else texts))
+    letters = set("".join(map(fontcut.needed, texts) if kind in ("layout", "variable") else texts))
     try:
         ranges = fontcut.ranges([*lists, *(f"U+{ord(letter):X}" for letter in letters)])
     except ValueError as error:
