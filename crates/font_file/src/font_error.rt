@@ -23,7 +23,7 @@ pub enum FontError {
     BadGlyph(u16),
     /// Its `GSUB` cannot be read. Only layout cuts refuse it.
     BadLayout,
-    /// Its `gvar` cannot be read. Only cuts that keep variations refuse it, which no call makes yet.
+    /// Its `gvar` cannot be read. Only variable cuts refuse it.
     BadVariations,
 }
 
