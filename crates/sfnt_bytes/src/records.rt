@@ -35,6 +35,7 @@ impl Entry {
     }
 }
 
+#[inline(always)]
 #[tactic(auto, unfolding(crate::specs::Directory::tag_at))]
 fn read_tag(file: &[u8], at: usize) -> Tag
     requires { at + 4 ≤ length file.now }
@@ -109,23 +110,38 @@ pub(crate) fn records_in(file: &[u8]) -> Records<'_>
     }
 }
 
+// Returns whether a record carries the tag. It reads no other field: most records are passed over.
+#[inline(always)]
+#[tactic(auto, unfolding(crate::specs::Directory::entry_at))]
+fn carries(file: &[u8], k: usize, tag: Tag) -> bool
+    requires { 12 + 16 * (k + 1) ≤ length file.now }
+    ensures { result ≡ has_tag tag (entry_at file.now k) }
+{
+    read_tag(file, HEADER + RECORD * k).is(tag)
+}
+
 /// Returns how many records carry the tag.
+#[tactic(auto, using(crate::proofs::RecordLemmas::count_step, crate::proofs::RecordLemmas::count_end), unfolding(crate::specs::Directory::records_of))]
 pub(crate) fn count_of(file: &[u8], tag: Tag) -> usize
     requires { HasRecords file.now }
     ensures { result ≡ count_by (has_tag tag) (records_of file.now) }
 {
-    records_in(file).filter(|entry| entry.tag == tag).count()
+    let mut count = 0;
+    for k in 0..be16(file, 4) as usize {
+        count += usize::from(carries(file, k, tag));
+    }
+    count
 }
 
 /// Returns the first record that carries the tag.
-#[tactic(auto, unfolding(crate::specs::Directory::table_entry))]
+#[tactic(auto, using(crate::proofs::RecordLemmas::find_passed, crate::proofs::RecordLemmas::find_here, crate::proofs::RecordLemmas::find_end), unfolding(crate::specs::Directory::records_of, crate::specs::Directory::table_entry))]
 pub(crate) fn find_entry(file: &[u8], tag: Tag) -> Option<Entry>
     requires { HasRecords file.now }
     ensures { result ≡ table_entry file.now tag }
 {
-    for entry in records_in(file) {
-        if entry.tag == tag {
-            return Some(entry);
+    for k in 0..be16(file, 4) as usize {
+        if carries(file, k, tag) {
+            return Some(read_entry(file, k));
         }
     }
     None

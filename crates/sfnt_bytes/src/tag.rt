@@ -3,7 +3,7 @@ ghost use Rattle.std.specs.Prelude.{◌≡◌, ◌<◌};
 ghost use Rattle.std.specs.List.{list_any};
 ghost use Rattle.std.specs.Str.{bytes_eq};
 ghost use Rattle.sfnt_bytes.specs.Directory.{slot_at, slot_tag};
-ghost use Rattle.sfnt_bytes.specs.Tag.{is_kept_tag, tag_number};
+ghost use Rattle.sfnt_bytes.specs.Tag.{is_kept_tag, same_tag, tag_number};
 ghost use Rattle.sfnt_bytes.specs.declared.tag.TheConstants.{ALL_SLOTS as SLOT_COUNT};
 
 use crate::number::be32;
@@ -174,10 +174,20 @@ pub fn tag_of(slot: usize) -> Tag
 fn is_among(tags: &[Tag], tag: Tag) -> bool
     ensures { result ≡ list_any (λ kept. bytes_eq kept.0 tag.0) tags.now }
 {
-    tags.iter().any(|kept| *kept == tag)
+    tags.iter().any(|kept| kept.is(tag))
 }
 
 impl Tag {
+    /// Returns whether two tags are the same. `==` compares arrays by a call, and most records of a directory are
+    /// passed over for their first byte.
+    #[inline(always)]
+    pub(crate) fn is(self, other: Tag) -> bool
+        ensures { result ≡ same_tag self other }
+    {
+        let (these, those) = (self.0, other.0);
+        these[0] == those[0] && these[1] == those[1] && these[2] == those[2] && these[3] == those[3]
+    }
+
     /// Returns whether a cut keeps the table of this tag.
     #[tactic(auto, unfolding(crate::specs::Tag::is_kept_tag))]
     pub(crate) fn is_kept(self) -> bool
