@@ -2,11 +2,13 @@
 #![tactic(auto)]
 
 mod peers;
+mod subcommands;
 mod texts;
 
 use crate::peers::served;
+use crate::subcommands::{flag, join_command, subcommand, with_subcommands};
 use clap::error::ErrorKind;
-use clap::{Arg, ArgAction, ArgMatches, Command, Error};
+use clap::{Arg, ArgMatches, Command, Error};
 use std::alloc::{AllocError, Global};
 
 /// The version of the program: the number in the file `VERSION`, which `tests/release` compares with it.
@@ -26,17 +28,6 @@ const SUGGESTION: &str = "  tip: a similar argument exists: '--";
 
 // How many letters a suggestion has in common with the unknown option at their beginnings.
 const ALIKE: usize = 3;
-
-// The tables of layout, which a layout cut can do without.
-const LAYOUT_TABLES: &[&str] = &["BASE", "GDEF", "GPOS", "GSUB", "kern"];
-
-// The options that keep the tables of layout, of which a line has one at most.
-const KEEPS_LAYOUT: &str = "keeps-layout";
-
-// The names of the subcommands, in the order in which help lists them.
-const SUBCOMMANDS: [&str; 8] = [
-    "check", "show", "codes", "belongs", "subset", "slice", "join", "demo",
-];
 
 /// A command line.
 #[derive(Debug, Drop)]
@@ -197,226 +188,15 @@ pub enum LineError {
     InputTwice,
 }
 
-// Returns an argument that has to be there.
-fn required<'a>(alloc: Global, id: &'a str) -> Arg<'a> {
-    Arg::new(alloc, id).required(true)
-}
-
-// Returns a subcommand over one font.
-fn over_font<'a>(alloc: Global, name: &'a str, about: &'a str) -> Result<Command<'a>, AllocError> {
-    let font = required(alloc, "FONT").help(texts::FONT);
-    let command = Command::new(alloc, name).about(about);
-    command.arg(font)
-}
-
-// Returns an option that takes one value and is used as often as wanted.
-fn repeated<'a>(alloc: Global, long: &'a str, value: &'a str, help: &'a str) -> Arg<'a> {
-    Arg::new(alloc, long)
-        .long(long)
-        .value_name(value)
-        .action(ArgAction::Append)
-        .help(help)
-}
-
-// Returns an option that takes no value.
-fn flag<'a>(alloc: Global, long: &'a str, help: &'a str) -> Arg<'a> {
-    Arg::new(alloc, long)
-        .long(long)
-        .action(ArgAction::SetTrue)
-        .help(help)
-}
-
-// Returns the option for layout cuts, which are no lean ones.
-fn layout_flag<'a>(alloc: Global, help: &'a str) -> Result<Arg<'a>, AllocError> {
-    flag(alloc, "layout", help)
-        .group(KEEPS_LAYOUT)?
-        .conflicts_with("lean")
-}
-
-// Returns the option for variable cuts, which are no lean ones. A group has one option of a line at most, so a line for
-// layout cuts has it not.
-fn variable_flag<'a>(alloc: Global, help: &'a str) -> Result<Arg<'a>, AllocError> {
-    flag(alloc, "variable", help)
-        .group(KEEPS_LAYOUT)?
-        .conflicts_with("lean")
-}
-
-// Returns the option for tables of layout that are left out of layout and variable cuts. What an option requires is not
-// asked for where it conflicts with another one of the line, so the option itself conflicts with lean cuts.
-fn drop_option<'a>(alloc: Global) -> Result<Arg<'a>, AllocError> {
-    repeated(alloc, "drop", "TABLES", texts::DROP)
-        .value_delimiter(',')
-        .value_parser(LAYOUT_TABLES)
-        .requires_arg(KEEPS_LAYOUT)?
-        .conflicts_with("lean")
-}
-
-fn codes_command<'a>(alloc: Global) -> Result<Command<'a>, AllocError> {
-    over_font(alloc, "codes", texts::CODES)?.arg(flag(alloc, "glyphs", texts::GLYPHS))
-}
-
-fn belongs_command<'a>(alloc: Global) -> Result<Command<'a>, AllocError> {
-    Command::new(alloc, "belongs")
-        .about(texts::BELONGS)
-        .arg(Arg::new(alloc, "CUT").required(true).help(texts::CUT))?
-        .arg(Arg::new(alloc, "FONT").required(true).help(texts::FONT))?
-        .arg(flag(alloc, "lean", texts::LEAN_CUT))?
-        .arg(layout_flag(alloc, texts::LAYOUT_CUT)?)?
-        .arg(variable_flag(alloc, texts::VARIABLE_CUT)?)?
-        .arg(drop_option(alloc)?)
-}
-
-// Returns the option for texts, which may begin with a hyphen.
-fn text_option<'a>(alloc: Global) -> Arg<'a> {
-    repeated(alloc, "text", "TEXT", texts::TEXT).allow_hyphen_values(true)
-}
-
-// Returns the subcommand `subset` with the options for texts.
-fn with_texts<'a>(alloc: Global, command: Command<'a>) -> Result<Command<'a>, AllocError> {
-    command
-        .arg(text_option(alloc))?
-        .arg(repeated(alloc, "text-file", "FILE", texts::TEXT_FILE))?
-        .arg(flag(alloc, "exactly", texts::EXACTLY))
-}
-
-// Returns it with the options for lists of codes that are kept.
-fn with_lists<'a>(alloc: Global, command: Command<'a>) -> Result<Command<'a>, AllocError> {
-    command
-        .arg(repeated(alloc, "codes-file", "FILE", texts::CODES_FILE))?
-        .arg(repeated(alloc, "unicodes", "LIST", texts::UNICODES))?
-        .arg(repeated(alloc, "complete", "LIST", texts::COMPLETE))
-}
-
-// Returns it with the options for what is left out, and for reports.
-fn with_reports<'a>(alloc: Global, command: Command<'a>) -> Result<Command<'a>, AllocError> {
-    command
-        .arg(repeated(alloc, "exclude", "LIST", texts::EXCLUDE))?
-        .arg(repeated(alloc, "exclude-file", "FILE", texts::EXCLUDE_FILE))?
-        .arg(flag(alloc, "report", texts::REPORT))?
-        .arg(flag(alloc, "strict", texts::STRICT))
-}
-
-// Returns it with the options for kinds of cuts.
-fn with_kinds<'a>(alloc: Global, command: Command<'a>) -> Result<Command<'a>, AllocError> {
-    command
-        .arg(flag(alloc, "lean", texts::LEAN))?
-        .arg(layout_flag(alloc, texts::LAYOUT)?)?
-        .arg(variable_flag(alloc, texts::VARIABLE)?)?
-        .arg(drop_option(alloc)?)
-}
-
-// Returns the words of `subset`.
-fn words_argument<'a>(alloc: Global) -> Arg<'a> {
-    Arg::new(alloc, "WORDS")
-        .num_args(0..)
-        .action(ArgAction::Append)
-        .help(texts::WORDS)
-}
-
-fn subset_command<'a>(alloc: Global) -> Result<Command<'a>, AllocError> {
-    let bare = over_font(alloc, "subset", texts::SUBSET)?;
-    let named = bare.arg(required(alloc, "OUT").help(texts::OUT))?;
-    let reading = with_texts(alloc, named)?;
-    let listing = with_lists(alloc, reading)?;
-    let reporting = with_reports(alloc, listing)?;
-    with_kinds(alloc, reporting)?
-        .arg(flag(alloc, "force", texts::FORCE))?
-        .arg(words_argument(alloc))
-}
-
-// Returns the option for the file of slices.
-fn slices_option<'a>(alloc: Global) -> Arg<'a> {
-    Arg::new(alloc, "slices")
-        .long("slices")
-        .value_name("FILE")
-        .required(true)
-        .help(texts::SLICES)
-}
-
-// Returns the option for the rules of a style sheet.
-fn css_option<'a>(alloc: Global) -> Arg<'a> {
-    Arg::new(alloc, "css")
-        .long("css")
-        .value_name("FAMILY")
-        .help(texts::CSS)
-}
-
-// Returns the subcommand `slice` without the options for kinds of cuts.
-fn bare_slice_command<'a>(alloc: Global) -> Result<Command<'a>, AllocError> {
-    over_font(alloc, "slice", texts::SLICE)?
-        .arg(required(alloc, "FOLDER").help(texts::FOLDER))?
-        .arg(slices_option(alloc))?
-        .arg(css_option(alloc))?
-        .arg(flag(alloc, "strict", texts::STRICT_SLICES))
-}
-
-fn slice_command<'a>(alloc: Global) -> Result<Command<'a>, AllocError> {
-    bare_slice_command(alloc)?
-        .arg(flag(alloc, "lean", texts::LEAN_SLICES))?
-        .arg(layout_flag(alloc, texts::LAYOUT_SLICES)?)?
-        .arg(variable_flag(alloc, texts::VARIABLE_SLICES)?)?
-        .arg(drop_option(alloc)?)?
-        .arg(flag(alloc, "force", texts::FORCE))
-}
-
-// Returns the files of `join`.
-fn files_argument<'a>(alloc: Global) -> Arg<'a> {
-    Arg::new(alloc, "FILES")
-        .num_args(1..)
-        .action(ArgAction::Append)
-        .required(true)
-        .help(texts::FILES)
-}
-
-// Returns the option for the output of `join`.
-fn output_option<'a>(alloc: Global) -> Arg<'a> {
-    Arg::new(alloc, "output")
-        .short('o')
-        .long("output")
-        .value_name("OUT")
-        .help(texts::OUT)
-}
-
-// Returns the subcommand `join` with its output alone.
-fn bare_join_command<'a>(alloc: Global) -> Result<Command<'a>, AllocError> {
-    Command::new(alloc, "join")
-        .about(texts::JOIN)
-        .override_usage(texts::JOIN_USAGE)
-        .arg(output_option(alloc))
-}
-
-fn join_command<'a>(alloc: Global) -> Result<Command<'a>, AllocError> {
-    bare_join_command(alloc)?
-        .arg(flag(alloc, "lean", texts::LEAN_JOIN))?
-        .arg(layout_flag(alloc, texts::LAYOUT_JOIN)?)?
-        .arg(variable_flag(alloc, texts::VARIABLE_JOIN)?)?
-        .arg(flag(alloc, "force", texts::FORCE))?
-        .arg(files_argument(alloc))
-}
-
 // Returns the error of a line of `join` that names no output, and one file at most.
 fn no_output(alloc: Global) -> Result<Error, AllocError> {
     let mut command = join_command(alloc)?.bin_name("fontcut join")?;
     command.error(ErrorKind::MissingRequiredArgument, texts::NO_OUTPUT)
 }
 
-fn demo_command<'a>(alloc: Global) -> Command<'a> {
-    Command::new(alloc, "demo").about(texts::DEMO)
-}
-
-// Returns the subcommand of a name, if there is one.
-fn subcommand<'a>(alloc: Global, name: &str) -> Result<Option<Command<'a>>, AllocError> {
-    Ok(Some(match name {
-        "check" => over_font(alloc, "check", texts::CHECK)?.after_help(texts::AFTER_CHECK),
-        "show" => over_font(alloc, "show", texts::SHOW)?.after_help(texts::AFTER_SHOW),
-        "codes" => codes_command(alloc)?.after_help(texts::AFTER_CODES),
-        "belongs" => belongs_command(alloc)?.after_help(texts::AFTER_BELONGS),
-        "subset" => subset_command(alloc)?.after_help(texts::AFTER_SUBSET),
-        "slice" => slice_command(alloc)?.after_help(texts::AFTER_SLICE),
-        "join" => join_command(alloc)?.after_help(texts::AFTER_JOIN),
-        "demo" => demo_command(alloc).after_help(texts::AFTER_DEMO),
-        _ => return Ok(None),
-    }))
+// Returns an option without a value that stands before the name of a subcommand or after it.
+fn global_flag<'a>(alloc: Global, long: &'a str, help: &'a str) -> Arg<'a> {
+    flag(Arg::new(alloc, long).help(help), long).global(true)
 }
 
 // Returns the program's command, which has no subcommand yet.
@@ -428,19 +208,8 @@ fn bare_command<'a>(alloc: Global) -> Result<Command<'a>, AllocError> {
         .after_help(texts::AFTER_PROGRAM)
         .no_binary_name(true)
         .subcommand_required(true)
-        .arg(flag(alloc, "verbose", texts::VERBOSE).global(true))?
-        .arg(flag(alloc, "quiet", texts::QUIET).global(true))
-}
-
-// Returns the program's command with all subcommands, in the order in which help lists them.
-fn whole_command<'a>(alloc: Global) -> Result<Command<'a>, AllocError> {
-    let mut command = bare_command(alloc)?;
-    for name in SUBCOMMANDS {
-        if let Some(one) = subcommand(alloc, name)? {
-            command = command.subcommand(one)?;
-        }
-    }
-    Ok(command)
+        .arg(global_flag(alloc, "verbose", texts::VERBOSE))?
+        .arg(global_flag(alloc, "quiet", texts::QUIET))
 }
 
 // Returns a text of `clap` without its suggestion of another option, where that does not begin as the unknown one
@@ -700,7 +469,7 @@ fn matched_alone<'a>(alloc: Global, words: &'a [String]) -> Result<Option<ArgMat
 fn parse_line<'a>(alloc: Global, words: &'a [String]) -> Result<Line<'a>, Error> {
     let matches = match matched_alone(alloc, words)? {
         Some(matches) => matches,
-        None => whole_command(alloc)?.try_get_matches_from(words)?,
+        None => with_subcommands(alloc, bare_command(alloc)?)?.try_get_matches_from(words)?,
     };
     match line_of(alloc, &matches)? {
         Some(line) => Ok(line),
