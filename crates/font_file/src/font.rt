@@ -53,7 +53,6 @@ fn cmap<'a>(directory: &Directory<'a>) -> &'a [u8]
 
 /// A font file in which nothing is refused: each glyph has a metric and a record, each record has its
 /// components, and each code its glyph or none.
-#[derive(Drop)]
 pub struct Font<'a> {
     tables: Tables<'a>,
     mapping: Mapping<'a>,
@@ -68,6 +67,16 @@ impl<'a> Model for Font<'a> {
     ghost view = { λ f. f.tables };
 
     ghost invariant = { λ f. IsOpenedFont f.tables f.mapping };
+}
+
+// Written out: a derived drop is proved anew wherever a value is let go, with all that is known of the value.
+impl<'a> Drop for Font<'a> {
+    fn drop(self) {
+        let Font {
+            tables: _tables,
+            mapping: _mapping,
+        } = self;
+    }
 }
 
 impl<'a> Font<'a> {

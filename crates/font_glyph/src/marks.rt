@@ -62,7 +62,6 @@ fn first_marked(marks: &[bool], from: usize) -> usize
 }
 
 /// A set of glyphs below a count, in a byte a glyph.
-#[derive(Drop)]
 pub struct Marks<A: Allocator = Global> {
     marks: Vec<bool, A>,
 }
@@ -74,6 +73,13 @@ impl<A: Allocator> Model for Marks<A> {
     ghost Value = { List Bool };
 
     ghost view = { λ m. m.marks.items };
+}
+
+// Written out: a derived drop is proved anew wherever a value is let go, with all that is known of the value.
+impl<A: Allocator> Drop for Marks<A> {
+    fn drop(self) {
+        let Marks { marks: _marks } = self;
+    }
 }
 
 impl<A: Allocator> Marks<A> {

@@ -16,7 +16,6 @@ use std::marker::Model;
 
 /// A mapping that is quick to walk: where its subtable stands out of order, a list of the glyphs of all
 /// codes is kept beside it.
-#[derive(Drop)]
 pub struct Chart<'a, A: Allocator = Global> {
     mapping: &'a Mapping<'a>,
     laid_out: Option<LaidOut<A>>,
@@ -36,6 +35,17 @@ impl<'a, A: Allocator> Model for Chart<'a, A> {
 
     ghost invariant = { λ c. IfSome c.laid_out (λ l. slice_index l
         ≡ mapping_of c.mapping.now.0 c.mapping.now.1) };
+}
+
+// Written out: a derived drop is proved anew wherever a value is let go, with all that is known of the value.
+impl<'a, A: Allocator> Drop for Chart<'a, A> {
+    fn drop(self) {
+        let Chart {
+            mapping: _,
+            laid_out: _laid_out,
+            hint: _,
+        } = self;
+    }
 }
 
 impl<'a, A: Allocator + Copy> Chart<'a, A> {

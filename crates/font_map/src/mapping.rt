@@ -31,7 +31,6 @@ pub enum MapError {
 ///
 /// Segments and groups may stand in any order, overlap, and name glyphs that are not there: a code
 /// has no glyph, then.
-#[derive(Drop)]
 pub struct Mapping<'a> {
     cmap: &'a [u8],
     glyphs: u16,
@@ -48,6 +47,18 @@ impl<'a> Model for Mapping<'a> {
     ghost view = { λ m. (m.cmap.now, m.glyphs) };
 
     ghost invariant = { λ m. IsChosen m.cmap.now m.glyphs m.chosen m.subtable };
+}
+
+// Written out: a derived drop is proved anew wherever a value is let go, with all that is known of the value.
+impl<'a> Drop for Mapping<'a> {
+    fn drop(self) {
+        let Mapping {
+            cmap: _,
+            glyphs: _,
+            chosen: _,
+            subtable: _subtable,
+        } = self;
+    }
 }
 
 impl<'a> Mapping<'a> {

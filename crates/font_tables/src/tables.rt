@@ -80,7 +80,6 @@ fn table<'a>(directory: &Directory<'a>, slot: usize) -> &'a [u8]
 /// A font that has all the tables that it must have, with a metric and an outline for each glyph.
 ///
 /// Tables may be longer than they need to be. Nothing is read of the outlines themselves.
-#[derive(Drop)]
 pub struct Tables<'a> {
     directory: Directory<'a>,
     hmtx: &'a [u8],
@@ -102,6 +101,22 @@ impl<'a> Model for Tables<'a> {
 
     ghost invariant = { λ t. IsOpened t.directory t.hmtx.now t.loca.now t.glyf.now t.glyph_count
         t.units_per_em t.metric_count t.form };
+}
+
+// Written out: a derived drop is proved anew wherever a value is let go, with all that is known of the value.
+impl<'a> Drop for Tables<'a> {
+    fn drop(self) {
+        let Tables {
+            directory: _directory,
+            hmtx: _,
+            loca: _,
+            glyf: _,
+            glyph_count: _,
+            units_per_em: _,
+            metric_count: _,
+            form: _,
+        } = self;
+    }
 }
 
 impl<'a> Tables<'a> {
