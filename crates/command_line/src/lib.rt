@@ -30,7 +30,7 @@ const SUGGESTION: &str = "  tip: a similar argument exists: '--";
 const ALIKE: usize = 3;
 
 /// A command line.
-#[derive(Debug, Drop)]
+#[derive(Drop)]
 pub struct Line<'a> {
     /// What it asks for.
     pub task: Task<'a>,
@@ -50,7 +50,7 @@ pub enum Verbosity {
 }
 
 /// What a command line asks for.
-#[derive(Debug, Drop)]
+#[derive(Drop)]
 pub enum Task<'a> {
     /// Print the findings of the file at the path `font`, and whether it is accepted.
     Check { font: &'a str },
@@ -85,7 +85,7 @@ pub enum CutKind {
 }
 
 /// What `belongs` asks for.
-#[derive(Debug, Drop)]
+#[derive(Drop)]
 pub struct Belongs<'a> {
     /// The path of the file that may be a cut.
     pub cut: &'a str,
@@ -98,7 +98,7 @@ pub struct Belongs<'a> {
 }
 
 /// What `subset` asks for.
-#[derive(Debug, Drop)]
+#[derive(Drop)]
 pub struct Subset<'a> {
     /// The path of the font.
     pub font: &'a str,
@@ -138,7 +138,7 @@ pub struct Subset<'a> {
 }
 
 /// What `slice` asks for.
-#[derive(Debug, Drop)]
+#[derive(Drop)]
 pub struct Slices<'a> {
     /// The path of the font.
     pub font: &'a str,
@@ -161,7 +161,7 @@ pub struct Slices<'a> {
 }
 
 /// What `join` asks for.
-#[derive(Debug, Drop)]
+#[derive(Drop)]
 pub struct Join<'a> {
     /// The path that the join is written to.
     pub out: &'a str,
@@ -176,7 +176,7 @@ pub struct Join<'a> {
 }
 
 /// Why a command line asks for nothing that can be done.
-#[derive(Debug, Drop)]
+#[derive(Drop)]
 pub enum LineError {
     /// Memory was refused.
     NoMemory,

@@ -11,7 +11,7 @@ use std::fmt;
 pub(crate) const LONGEST_LINE: usize = 1_048_576;
 
 /// Why what a line asks for is not done.
-#[derive(Debug, Drop)]
+#[derive(Drop)]
 pub(crate) enum Fault<'a> {
     /// Standard input is named more than once.
     InputTwice,

@@ -34,7 +34,7 @@ pub enum FileKind {
 }
 
 /// Why a file is not read to its end.
-#[derive(Debug, Drop)]
+#[derive(Drop)]
 pub enum FileFault {
     /// A read failed.
     Unread,
