@@ -8,8 +8,9 @@ _fontcut_options() {
     codes) echo '--glyphs --verbose --quiet --help' ;;
     belongs) echo '--lean --layout --variable --drop --verbose --quiet --help' ;;
     subset)
-        echo '--text --text-file --exactly --codes-file --unicodes --complete --exclude --exclude-file --report'
-        echo '--strict --lean --layout --variable --drop --force --verbose --quiet --help'
+        echo '--text --text-file --exactly --codes-file --unicodes --complete --exclude --exclude-file --gids'
+        echo '--gids-file --report --strict --lean --layout --variable --no-layout-closure --drop --force'
+        echo '--verbose --quiet --help'
         ;;
     slice) echo '--slices --css --strict --lean --layout --variable --drop --force --verbose --quiet --help' ;;
     join) echo '-o --output --lean --layout --variable --force --verbose --quiet --help' ;;
@@ -35,7 +36,7 @@ _fontcut_operand() {
     case $command in
     check | show | codes) if [ "$number" = 1 ]; then _fontcut_files "$word"; fi ;;
     belongs | slice) if [ "$number" -le 2 ]; then _fontcut_files "$word"; fi ;;
-    subset) if [ "$number" -le 2 ]; then _fontcut_files "$word"; else _fontcut_words all "$word"; fi ;;
+    subset) if [ "$number" -le 2 ]; then _fontcut_files "$word"; else _fontcut_words 'all everything' "$word"; fi ;;
     join) _fontcut_files "$word" ;;
     help) if [ "$number" = 1 ]; then _fontcut_words "$commands" "$word"; fi ;;
     esac
@@ -55,7 +56,7 @@ _fontcut() {
             option=''
         elif ! $ended && [ "$word" = -- ]; then
             ended=true
-        elif ! $ended && [[ $word =~ ^--(drop|text|text-file|codes-file|unicodes|complete|exclude|exclude-file|slices|css|output)$ ]]; then
+        elif ! $ended && [[ $word =~ ^--(drop|text|text-file|codes-file|unicodes|complete|exclude|exclude-file|gids|gids-file|slices|css|output)$ ]]; then
             option=$word
         elif ! $ended && [[ $word == -?* ]]; then
             :
@@ -70,8 +71,8 @@ _fontcut() {
     [ "$word" != = ] || word=''
     case $option in
     --drop) _fontcut_words 'BASE GDEF GPOS GSUB kern' "$word" ;;
-    --text | --unicodes | --complete | --exclude | --css) ;;
-    --text-file | --codes-file | --exclude-file | --slices | --output) _fontcut_files "$word" ;;
+    --text | --unicodes | --complete | --exclude | --gids | --css) ;;
+    --text-file | --codes-file | --exclude-file | --gids-file | --slices | --output) _fontcut_files "$word" ;;
     *)
         if [[ $word == -* ]] && ! $ended; then
             _fontcut_words "$(_fontcut_options "$command")" "$word"

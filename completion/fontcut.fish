@@ -12,8 +12,9 @@ function __fontcut_options
         case belongs
             printf '%s\n' --lean --layout --variable --drop --verbose --quiet --help
         case subset
-            printf '%s\n' --text --text-file --exactly --codes-file --unicodes --complete --exclude --exclude-file --report
-            printf '%s\n' --strict --lean --layout --variable --drop --force --verbose --quiet --help
+            printf '%s\n' --text --text-file --exactly --codes-file --unicodes --complete --exclude --exclude-file --gids
+            printf '%s\n' --gids-file --report --strict --lean --layout --variable --no-layout-closure --drop --force
+            printf '%s\n' --verbose --quiet --help
         case slice
             printf '%s\n' --slices --css --strict --lean --layout --variable --drop --force --verbose --quiet --help
         case join
@@ -34,7 +35,7 @@ function __fontcut_operand -a name number word
             if test $number -le 2
                 __fish_complete_path $word
             else
-                printf '%s\n' all
+                printf '%s\n' all everything
             end
         case join
             __fish_complete_path $word
@@ -57,7 +58,7 @@ function __fontcut_complete
             set option ''
         else if test $ended = false -a "$before" = --
             set ended true
-        else if test $ended = false; and string match -q -r -- '^--(drop|text|text-file|codes-file|unicodes|complete|exclude|exclude-file|slices|css|output)$' $before
+        else if test $ended = false; and string match -q -r -- '^--(drop|text|text-file|codes-file|unicodes|complete|exclude|exclude-file|gids|gids-file|slices|css|output)$' $before
             set option $before
         else if test $ended = false; and string match -q -- '-?*' $before
             continue
@@ -70,12 +71,12 @@ function __fontcut_complete
     switch "$option"
         case --drop
             printf '%s\n' BASE GDEF GPOS GSUB kern
-        case --text --unicodes --complete --exclude --css
+        case --text --unicodes --complete --exclude --gids --css
             return
-        case --text-file --codes-file --exclude-file --slices --output
+        case --text-file --codes-file --exclude-file --gids-file --slices --output
             __fish_complete_path $word
         case '*'
-            if test $ended = false; and string match -q -r -- '^--(text-file|codes-file|exclude-file|slices|output)=' $word
+            if test $ended = false; and string match -q -r -- '^--(text-file|codes-file|exclude-file|gids-file|slices|output)=' $word
                 set -l parts (string split -m 1 = -- $word)
                 printf '%s\n' $parts[1]=(__fish_complete_path $parts[2])
             else if test $ended = false; and string match -q -- '-*' $word

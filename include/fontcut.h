@@ -128,14 +128,17 @@ typedef enum fontcut_status {
     FONTCUT_DIFFERENT_MAPPING = 22,  /* they map a code to two glyphs; detail: the least such code */
     FONTCUT_DIFFERENT_GLYPH = 23,    /* they have two outlines of a glyph; detail: the least such glyph */
     FONTCUT_NOTHING_TO_JOIN = 24,    /* there is no file */
-    FONTCUT_BAD_LAYOUT = 27,         /* GSUB cannot be read, which is asked for layout and variable cuts alone */
+    FONTCUT_BAD_LAYOUT = 27,         /* GSUB cannot be read, which is asked where its links are followed alone */
     FONTCUT_BAD_VARIATIONS = 28,     /* gvar cannot be read, which is asked for variable cuts alone */
     /* End of what tools/write_refusals writes. */
     FONTCUT_SMALL_ROOM = 100,        /* the room is too small; size: what is needed */
     FONTCUT_UNKNOWN_KIND = 101,      /* the number is no fontcut_kind, which is asked before all else; detail: it */
     FONTCUT_NO_GLYPH = 102,          /* a number is no glyph of the font; detail: the least index of such a one */
-    FONTCUT_BAD_COUNTS = 103         /* the counts of the sets do not add up to the number of ranges, or there are
-                                      * more places for sizes than sets, or fewer */
+    FONTCUT_BAD_COUNTS = 103,        /* the counts of the sets do not add up to the number of ranges or of glyphs, there
+                                      * are more counts of glyphs than sets, or there are more places for sizes than
+                                      * sets, or fewer */
+    FONTCUT_NO_NUMBERS = 104         /* glyphs are asked for by number of FONTCUT_FULL, whose cuts are by characters
+                                      * alone, which is asked before all but the kind */
 } fontcut_status;
 
 /* What `detail` of fontcut_cut_form says. Lean, layout and variable cuts are never old. */
@@ -177,6 +180,54 @@ fontcut_answer fontcut_cuts(uint32_t kind, const uint8_t *font, size_t font_leng
                             size_t range_count, const uint64_t *counts, size_t set_count, uint8_t *out, size_t room,
                             uint64_t *sizes, size_t sizes_length);
 
+/* The calls for glyphs by number, which are for FONTCUT_LEAN, FONTCUT_LAYOUT and FONTCUT_VARIABLE. What is wanted is two
+ * sets, the codes of the ranges and the glyphs of these numbers, in any order and as often as they come; the cut has the
+ * glyphs of both and what these are made of, and the characters of the ranges alone. Glyphs that a font has blank, without
+ * an outline, metrics or variation data, are not kept for their number. Such cuts join as others do.
+ *
+ * No links of GSUB are followed: whoever has shaped a text gives the glyphs that came of it, and the cut shapes this text
+ * as the font does. OTHER TEXT MAY VANISH IN IT: a glyph that GSUB puts and the cut does not keep is blank, and no other
+ * font steps in for it. For text that is not known give what fontcut_closure writes, too, as fontcut_subset does.
+ *
+ * Gives the size in bytes of the cut. No cut is made. Statuses: 101, 104; those of fontcut_check, then 15, 102, for
+ * FONTCUT_LAYOUT 5 and 6, for FONTCUT_VARIABLE 5, 6 and 28, then 16 and 18. */
+fontcut_answer fontcut_subset_glyphs_size(uint32_t kind, const uint8_t *font, size_t font_length,
+                                          const fontcut_range *ranges, size_t range_count, const uint16_t *glyphs,
+                                          size_t glyph_count);
+
+/* Writes that cut to the front of `out`, as fontcut_subset does; size: its bytes. Statuses: those of
+ * fontcut_subset_glyphs_size, then 100. */
+fontcut_answer fontcut_subset_glyphs(uint32_t kind, const uint8_t *font, size_t font_length,
+                                     const fontcut_range *ranges, size_t range_count, const uint16_t *glyphs,
+                                     size_t glyph_count, uint8_t *out, size_t room);
+
+/* Writes such cuts of a font for many sets, as fontcut_cuts does. `glyphs` has the glyphs of all sets, those of the first
+ * set first, and glyph_counts[i] says how many of them are of the set i; the sets after the last count have none.
+ * Statuses: 101, 104, 103; those of fontcut_check, then 15 and 102, whose details are indexes in all ranges and in all
+ * glyphs, for FONTCUT_LAYOUT 5 and 6, for FONTCUT_VARIABLE 5, 6 and 28, then 16, 18 and 100 as fontcut_cuts has them. */
+fontcut_answer fontcut_cuts_glyphs(uint32_t kind, const uint8_t *font, size_t font_length, const fontcut_range *ranges,
+                                   size_t range_count, const uint64_t *counts, size_t set_count,
+                                   const uint16_t *glyphs, size_t glyph_count, const uint64_t *glyph_counts,
+                                   size_t glyph_counts_length, uint8_t *out, size_t room, uint64_t *sizes,
+                                   size_t sizes_length);
+
+/* Writes the glyphs that a shaper may put to the front of `out`, ascending: those that GSUB, as cuts of a fontcut_kind keep
+ * it, leads to from .notdef, from the glyphs of the codes of the ranges, and from these glyphs; size: how many they are.
+ * With these and the ranges fontcut_subset_glyphs makes a cut for text of the characters in whatever order and with
+ * whatever features; without glyphs given it is the cut of fontcut_subset, byte for byte. `room` is in glyphs, of which a
+ * font has 65,535 at most. Statuses: 101; those of fontcut_check, then 15, 102, for FONTCUT_LAYOUT 5, 6 and 27, for
+ * FONTCUT_VARIABLE 5, 6, 27 and 28, then 16, 100. */
+fontcut_answer fontcut_closure(uint32_t kind, const uint8_t *font, size_t font_length, const fontcut_range *ranges,
+                               size_t range_count, const uint16_t *glyphs, size_t glyph_count, uint16_t *out,
+                               size_t room);
+
+/* Writes the glyphs that a file keeps as a cut of a fontcut_kind to the front of `out`, ascending: .notdef, the glyphs of
+ * its characters, those that have an outline, metrics or variation data, and what these are made of; size: how many they
+ * are. A file that is a cut is that of its font for these and for the codes that fontcut_codes writes. `room` is in
+ * glyphs. Statuses: 101; those of fontcut_check, then for FONTCUT_LAYOUT 5 and 6, and for FONTCUT_VARIABLE 5, 6 and 28;
+ * 16, 100. */
+fontcut_answer fontcut_kept(uint32_t kind, const uint8_t *font, size_t font_length, uint16_t *out, size_t room);
+
 /* The calls whose names end in _checked do what the calls without that ending do, and do not test the font again: of a
  * small cut of a large font that is most of the time. They are for who cuts one font many times. The caller holds that
  * fontcut_check, or another call, has accepted just these bytes, and that they have not been changed since; of other
@@ -187,20 +238,26 @@ fontcut_answer fontcut_subset_size_checked(uint32_t kind, const uint8_t *font, s
                                            const fontcut_range *ranges, size_t range_count);
 fontcut_answer fontcut_subset_checked(uint32_t kind, const uint8_t *font, size_t font_length,
                                       const fontcut_range *ranges, size_t range_count, uint8_t *out, size_t room);
+fontcut_answer fontcut_subset_glyphs_size_checked(uint32_t kind, const uint8_t *font, size_t font_length,
+                                                  const fontcut_range *ranges, size_t range_count,
+                                                  const uint16_t *glyphs, size_t glyph_count);
+fontcut_answer fontcut_subset_glyphs_checked(uint32_t kind, const uint8_t *font, size_t font_length,
+                                             const fontcut_range *ranges, size_t range_count, const uint16_t *glyphs,
+                                             size_t glyph_count, uint8_t *out, size_t room);
 fontcut_answer fontcut_glyphs_checked(const uint8_t *font, size_t font_length, const uint32_t *codes,
                                       size_t code_count, uint16_t *out, size_t room);
 fontcut_answer fontcut_metrics_checked(const uint8_t *font, size_t font_length, const uint16_t *glyphs,
                                        size_t glyph_count, fontcut_metric *out, size_t room);
 
 /* Says whether a font is a cut of a fontcut_kind, and in which form; detail: a fontcut_form. A font that is a lean
- * cut is a full cut too. Statuses: 101; those of fontcut_check, then for FONTCUT_LAYOUT 5, 6 and 27, and for
- * FONTCUT_VARIABLE 5, 6, 27 and 28; 16. */
+ * cut for characters alone is a full cut too. Statuses: 101; those of fontcut_check, then for FONTCUT_LAYOUT 5 and 6, and
+ * for FONTCUT_VARIABLE 5, 6 and 28; 16. */
 fontcut_answer fontcut_cut_form(uint32_t kind, const uint8_t *font, size_t font_length);
 
-/* Says whether the first file is a cut of the second one for some codes, of a fontcut_kind, a full cut in either
- * form; detail: 1 or 0. Statuses: 101; those of fontcut_check, of the first file with step 0, and then of the
- * second one with step 1; for FONTCUT_LAYOUT 5, 6 and 27, for FONTCUT_VARIABLE 5, 6, 27 and 28, of the first file and
- * then of the second one; 16. */
+/* Says whether the first file is a cut of the second one for some codes and some glyphs, of a fontcut_kind, a full cut in
+ * either form; detail: 1 or 0. Statuses: 101; those of fontcut_check, of the first file with step 0, and then of the
+ * second one with step 1; for FONTCUT_LAYOUT 5 and 6, for FONTCUT_VARIABLE 5, 6 and 28, of the first file and then of
+ * the second one; 16. */
 fontcut_answer fontcut_belongs(uint32_t kind, const uint8_t *cut, size_t cut_length, const uint8_t *font,
                                size_t font_length);
 
@@ -220,10 +277,10 @@ FONTCUT_DEPRECATED("call fontcut_belongs")
 fontcut_answer fontcut_is_cut_of(const uint8_t *cut, size_t cut_length, const uint8_t *font, size_t font_length);
 
 /* Writes the join of all files, cuts of one font and of a fontcut_kind, to the front of `out`: that font's cut for all
- * their codes; size: its bytes. Full cuts may come in either form and any order, and what is written is of today; lean
+ * their codes and glyphs; size: its bytes. Full cuts may come in either form and any order, and what is written is of today; lean
  * cuts join with lean cuts, layout cuts with layout cuts, and variable cuts with variable cuts. Statuses: 101; 24; of
- * the first file that is refused, with its index as step, those of fontcut_check, for FONTCUT_LAYOUT 5, 6 and 27, for
- * FONTCUT_VARIABLE 5, 6, 27 and 28, then 20, 21 to 23 where it differs from the join of the files before it, and 18
+ * the first file that is refused, with its index as step, those of fontcut_check, for FONTCUT_LAYOUT 5 and 6, for
+ * FONTCUT_VARIABLE 5, 6 and 28, then 20, 21 to 23 where it differs from the join of the files before it, and 18
  * where the join with it is too large; 16, with the index of the file that was being joined as step; 100. */
 fontcut_answer fontcut_join(uint32_t kind, const fontcut_bytes *files, size_t file_count, uint8_t *out, size_t room);
 

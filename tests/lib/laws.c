@@ -2,30 +2,35 @@
  *
  *     laws COUNT SEED FONT..
  *
- * Each of COUNT cases takes one of the fonts, changes it or leaves it as it is, and asks of all kinds of cuts: what a
- * file is refused with, every call refuses it with; an answer given twice is the same; the size that is told is that
- * of the cut; a room that is too small stays as it was; a cut is a cut, in today's form, and of its font; joins of
- * cuts are the cut for the union of their sets, in any order and grouping and with any of them twice; the cut of a cut
- * is the cut of the font; a join of files that nobody cut is refused with the first reason that there is, or has both
- * as its cuts and lies in each font that has both. Between kinds: a lean cut is that of each other cut of the font;
- * without tables of layout a layout cut is the lean one, and without those of variations too a variable cut is; where
- * nothing is cleared in the tables of layout, a layout cut is that of the variable cut. A case that breaks a law is
- * printed, with the law and the font. The last lines count the cases, the laws that held of each kind, and those that
- * did not. */
+ * Each of COUNT cases takes one of the fonts, changes it or leaves it as it is, and asks of all kinds of cuts, for
+ * codes alone or for codes and numbers of glyphs: what a file is refused with, every call refuses it with; an answer
+ * given twice is the same; the size that is told is that of the cut; a room that is too small stays as it was; a cut
+ * is a cut, in today's form, and of its font; joins of cuts are the cut for the union of their sets, in any order
+ * and grouping and with any of them twice; the cut of a cut is the cut of the font; a join of files that nobody cut
+ * is refused with the first reason that there is, or has both as its cuts and lies in each font that has both.
+ * Between kinds: a lean cut is that of each other cut of the font; without tables of layout a layout cut is the lean
+ * one, and without those of variations too a variable cut is; where nothing is cleared in the tables of layout, a
+ * layout cut is that of the variable cut. Of closures: a cut for codes is the cut for these and for what links lead
+ * to. A case that breaks a law is printed, with the law and the font. The last lines count the cases, the laws that
+ * held of each kind, and those that did not. */
 #include "fontcut.h"
 #include "files.h"
 #include "font_changes.h"
 
 #include <inttypes.h>
 
-enum { GUARD = 64, FILL = 0xA5, SETS = 3, RANGES = 8, KINDS = 4 };
+enum { GUARD = 64, FILL = 0xA5, SETS = 3, RANGES = 8, NUMBERS = 12, KINDS = 4, ALL_NUMBERS = 65536 };
 static const char *const kind_names[KINDS] = {"full", "lean", "layout", "variable"};
 static const fontcut_range every_code = {0, 0x10FFFF};
 static const fontcut_answer done = {FONTCUT_DONE, 0, 0, 0};
 
+/* Ranges of codes, and numbers of glyphs where it is exact: then no links are followed. */
 typedef struct set {
     fontcut_range ranges[SETS * RANGES];
     size_t count;
+    int is_exact;
+    uint16_t glyphs[SETS * NUMBERS];
+    size_t glyph_count;
 } set;
 
 typedef struct font {
@@ -82,14 +87,35 @@ static set some_set(const font *of)
         made.ranges[i] = (fontcut_range){first, last > 0x10FFFF ? 0x10FFFF : last};
     }
     if (!chance(16))
-        made = (set){{every_code}, 1};
+        made = (set){.ranges = {every_code}, .count = 1};
+    return made;
+}
+
+/* The same set with some numbers of a file, which is accepted. */
+static set with_numbers(set made, bytes of)
+{
+    fontcut_font_info info;
+    made.is_exact = fontcut_info(of.at, of.length, &info).status == FONTCUT_DONE;
+    made.glyph_count = made.is_exact ? chance(NUMBERS) : 0;
+    for (size_t i = 0; i < made.glyph_count; i++)
+        made.glyphs[i] = (uint16_t)chance(info.glyph_count);
+    return made;
+}
+
+/* What is wanted for cuts of a kind: full cuts are for codes alone. */
+static set wanted_for(fontcut_kind kind, set made)
+{
+    if (kind == FONTCUT_FULL)
+        made.is_exact = 0;
     return made;
 }
 
 static set both(set a, set b)
 {
     memcpy(a.ranges + a.count, b.ranges, b.count * sizeof *b.ranges);
+    memcpy(a.glyphs + a.glyph_count, b.glyphs, b.glyph_count * sizeof *b.glyphs);
     a.count += b.count;
+    a.glyph_count += b.glyph_count;
     return a;
 }
 
@@ -110,12 +136,31 @@ static void let_go(uint8_t *at)
         free(at - GUARD);
 }
 
-/* The cut of a file for a set; the laws of one cut are asked meanwhile. There are no bytes where it is refused. */
-static bytes cut_of(fontcut_kind kind, bytes of, set wanted)
+/* The call for the size of a cut for a set. */
+static fontcut_answer size_for(fontcut_kind kind, bytes of, const set *wanted)
 {
-    fontcut_answer size = fontcut_subset_size(kind, of.at, of.length, wanted.ranges, wanted.count);
+    if (wanted->is_exact)
+        return fontcut_subset_glyphs_size(kind, of.at, of.length, wanted->ranges, wanted->count, wanted->glyphs,
+                                          wanted->glyph_count);
+    return fontcut_subset_size(kind, of.at, of.length, wanted->ranges, wanted->count);
+}
+
+/* The call for a cut for a set. */
+static fontcut_answer cut_into(fontcut_kind kind, bytes of, const set *wanted, uint8_t *out, size_t room)
+{
+    if (wanted->is_exact)
+        return fontcut_subset_glyphs(kind, of.at, of.length, wanted->ranges, wanted->count, wanted->glyphs,
+                                     wanted->glyph_count, out, room);
+    return fontcut_subset(kind, of.at, of.length, wanted->ranges, wanted->count, out, room);
+}
+
+/* The cut of a file for a set; the laws of one cut are asked meanwhile. There are no bytes where it is refused. */
+static bytes cut_of(fontcut_kind kind, bytes of, set asked)
+{
+    set wanted = wanted_for(kind, asked);
+    fontcut_answer size = size_for(kind, of, &wanted);
     bytes made = {guarded(size.size), size.size};
-    fontcut_answer cut = fontcut_subset(kind, of.at, of.length, wanted.ranges, wanted.count, made.at, made.length);
+    fontcut_answer cut = cut_into(kind, of, &wanted, made.at, made.length);
     holds(same_answer(size, cut), kind, "the size that is told is that of the cut");
     holds(is_filled(made.at - GUARD, GUARD) && is_filled(made.at + made.length, GUARD), kind,
           "nothing is written outside a room");
@@ -124,11 +169,10 @@ static bytes cut_of(fontcut_kind kind, bytes of, set wanted)
         return (bytes){NULL, 0};
     }
     bytes again = {guarded(made.length), made.length};
-    fontcut_answer small = fontcut_subset(kind, of.at, of.length, wanted.ranges, wanted.count, again.at,
-                                          made.length - 1);
+    fontcut_answer small = cut_into(kind, of, &wanted, again.at, made.length - 1);
     holds(small.status == FONTCUT_SMALL_ROOM && small.size == made.length && is_filled(again.at, made.length), kind,
           "a room that is too small stays as it was");
-    fontcut_subset(kind, of.at, of.length, wanted.ranges, wanted.count, again.at, again.length);
+    cut_into(kind, of, &wanted, again.at, again.length);
     holds(same_bytes(made, again), kind, "the same cut is given twice");
     let_go(again.at);
     return made;
@@ -177,7 +221,7 @@ static int form_of(fontcut_kind kind, bytes file)
 }
 
 /* What a file is refused with for cuts of a kind: as a font, or else, for layout and variable cuts, for its tables of
- * layout and of variations. */
+ * layout and of variations. That GSUB cannot be read refuses calls that follow links alone. */
 static fontcut_answer refusal_of(fontcut_kind kind, bytes file)
 {
     fontcut_answer font = fontcut_check(file.at, file.length);
@@ -188,6 +232,35 @@ static fontcut_answer refusal_of(fontcut_kind kind, bytes file)
 }
 
 /* --- Laws of one kind ------------------------------------------------------------------------------------------- */
+
+/* Whether links are followed in a file for cuts of a kind, and its GSUB cannot be read. */
+static int has_bad_links(fontcut_kind kind, bytes file)
+{
+    return fontcut_subset_size(kind, file.at, file.length, NULL, 0).status == FONTCUT_BAD_LAYOUT;
+}
+
+/* The laws of the closure of a set in a font, whose cut for the codes is given, and of what that keeps. */
+static void ask_closure(fontcut_kind kind, bytes of, set wanted, bytes made)
+{
+    uint16_t *closed = room_of(2 * ALL_NUMBERS * sizeof *closed), *again = closed + ALL_NUMBERS;
+    fontcut_answer first = fontcut_closure(kind, of.at, of.length, wanted.ranges, wanted.count, NULL, 0, closed,
+                                           ALL_NUMBERS);
+    fontcut_answer second = fontcut_closure(kind, of.at, of.length, wanted.ranges, wanted.count, closed, first.size,
+                                            again, ALL_NUMBERS);
+    holds(first.status == FONTCUT_DONE && same_answer(first, second)
+              && memcmp(closed, again, first.size * sizeof *closed) == 0, kind, "a closure is its own closure");
+    bytes exact = {guarded(made.length), made.length};
+    fontcut_subset_glyphs(kind, of.at, of.length, wanted.ranges, wanted.count, closed, first.size, exact.at,
+                          exact.length);
+    holds(same_bytes(exact, made), kind, "a cut for codes is the cut for their closure");
+    fontcut_answer kept = fontcut_kept(kind, made.at, made.length, again, ALL_NUMBERS);
+    fontcut_subset_glyphs(kind, of.at, of.length, wanted.ranges, wanted.count, again, kept.size, exact.at,
+                          exact.length);
+    holds(kept.status == FONTCUT_DONE && same_bytes(exact, made), kind,
+          "a cut is the cut for its codes and for the glyphs that it keeps");
+    let_go(exact.at);
+    free(closed);
+}
 
 /* The laws of cuts for three sets, none of which is too large, and of their joins. */
 static void ask_joins(fontcut_kind kind, bytes of, const set *sets, const bytes *cuts)
@@ -222,6 +295,8 @@ static void ask_font(fontcut_kind kind, bytes of, const set *sets, bytes *cuts)
         holds(form_of(kind, cuts[i]) == FONTCUT_CURRENT_CUT, kind, "a cut is a cut in today's form");
         holds(is_cut_of(kind, cuts[i], of), kind, "a cut is a cut of its font");
     }
+    if (kind != FONTCUT_FULL && !sets[0].is_exact)
+        ask_closure(kind, of, sets[0], cuts[0]);
     ask_joins(kind, of, sets, cuts);
 }
 
@@ -322,25 +397,46 @@ static void ask_pair(fontcut_kind kind, bytes x, bytes y, bytes above)
     let_go(w.at);
 }
 
-/* What a file is refused with, each call refuses it with. */
-static void ask_refused(fontcut_kind kind, bytes file, set wanted, fontcut_answer refusal)
+/* What a file is refused with where links are followed, each call that follows them refuses it with. */
+static void ask_closing_refused(fontcut_kind kind, bytes file, set wanted, fontcut_answer refusal)
 {
     uint8_t out[GUARD];
+    uint16_t closed[GUARD];
     uint64_t count = wanted.count, size;
     memset(out, FILL, sizeof out);
+    memset(closed, FILL, sizeof closed);
     memset(&size, FILL, sizeof size);
-    fontcut_bytes list = {file.at, file.length};
     holds(same_answer(fontcut_subset_size(kind, file.at, file.length, wanted.ranges, wanted.count), refusal)
               && same_answer(fontcut_subset(kind, file.at, file.length, wanted.ranges, wanted.count, out, GUARD),
                              refusal)
               && same_answer(fontcut_cuts(kind, file.at, file.length, wanted.ranges, wanted.count, &count, 1, out,
                                           GUARD, &size, 1), refusal)
+              && same_answer(fontcut_closure(kind, file.at, file.length, wanted.ranges, wanted.count, NULL, 0, closed,
+                                             GUARD), refusal),
+          kind, "each call that follows links refuses a file alike");
+    holds(is_filled(out, GUARD) && is_filled((const uint8_t *)&size, sizeof size)
+              && is_filled((const uint8_t *)closed, sizeof closed), kind, "a refusal leaves the room as it was");
+}
+
+/* What a file is refused with where no links are followed, each other call refuses it with. Where its GSUB cannot be
+ * read, that is what those that follow links refuse it with; it comes before `gvar`. */
+static void ask_refused(fontcut_kind kind, bytes file, set wanted, fontcut_answer refusal)
+{
+    uint8_t out[GUARD];
+    memset(out, FILL, sizeof out);
+    fontcut_bytes list = {file.at, file.length};
+    holds((kind == FONTCUT_FULL
+           || (same_answer(fontcut_subset_glyphs_size(kind, file.at, file.length, NULL, 0, NULL, 0), refusal)
+               && same_answer(fontcut_subset_glyphs(kind, file.at, file.length, NULL, 0, NULL, 0, out, GUARD),
+                              refusal)))
               && same_answer(fontcut_cut_form(kind, file.at, file.length), refusal)
               && same_answer(fontcut_belongs(kind, file.at, file.length, file.at, file.length), refusal)
               && same_answer(fontcut_join(kind, &list, 1, out, GUARD), refusal),
           kind, "each call refuses a file alike");
-    holds(is_filled(out, GUARD) && is_filled((const uint8_t *)&size, sizeof size), kind,
-          "a refusal leaves the room as it was");
+    holds(is_filled(out, GUARD), kind, "a refusal leaves the room as it was");
+    if (has_bad_links(kind, file))
+        refusal = (fontcut_answer){FONTCUT_BAD_LAYOUT, 0, 0, 0};
+    ask_closing_refused(kind, file, wanted, refusal);
 }
 
 /* The laws of a changed cut, and of the cut for all codes of what came of the change, beside another cut. */
@@ -351,7 +447,7 @@ static void ask_hostile(fontcut_kind kind, bytes hostile, bytes other, bytes abo
         return;
     holds(is_cut_of(kind, hostile, hostile) == (form_of(kind, hostile) != FONTCUT_NO_CUT), kind,
           "a cut belongs to itself, and no other file does");
-    bytes recut = cut_of(kind, hostile, (set){{every_code}, 1});
+    bytes recut = cut_of(kind, hostile, (set){.ranges = {every_code}, .count = 1});
     if (recut.at)
         ask_pair(kind, recut, other, above);
     let_go(recut.at);
@@ -382,12 +478,28 @@ static void ask_all(fontcut_kind kind, bytes of, bytes version, const set *sets)
 /* The laws of a cut of another kind beside the lean cut for the same set. */
 static void ask_beside_lean(fontcut_kind kind, bytes cut, bytes lean)
 {
-    bytes again = cut_of(FONTCUT_LEAN, cut, (set){{every_code}, 1});
+    bytes again = cut_of(FONTCUT_LEAN, cut, (set){.ranges = {every_code}, .count = 1});
     holds(lean.length <= cut.length, kind, "a lean cut is no longer than the cut");
     holds(same_bytes(again, lean), kind, "the lean cut of a cut is the lean cut of the font");
-    holds((form_of(FONTCUT_LEAN, cut) == FONTCUT_CURRENT_CUT) == same_bytes(cut, lean), kind,
+    /* A full cut without names of glyphs is a lean one too, of all glyphs that have metrics. */
+    int is_lean = form_of(FONTCUT_LEAN, cut) == FONTCUT_CURRENT_CUT, is_same = same_bytes(cut, lean);
+    holds(kind == FONTCUT_FULL ? is_lean || !is_same : is_lean == is_same, kind,
           "a cut is a lean one where it is the font's alone");
     let_go(again.at);
+}
+
+/* The law of a cut for codes and numbers beside the lean cut for the same ones. */
+static void ask_exact_beside_lean(fontcut_kind kind, bytes of, set wanted)
+{
+    bytes lean = cut_of(FONTCUT_LEAN, of, wanted), made = cut_of(kind, of, wanted);
+    if (lean.at && made.at) {
+        bytes again = cut_of(FONTCUT_LEAN, made, wanted);
+        holds(same_bytes(again, lean), kind, "the lean cut of an exact cut is the lean cut of the font");
+        ask_pair(kind, made, lean, of);
+        let_go(again.at);
+    }
+    let_go(lean.at);
+    let_go(made.at);
 }
 
 /* The law of a font without the tables that cuts of a kind keep and lean cuts do not: without the first of those of
@@ -439,7 +551,7 @@ static void ask_variable(bytes variable, bytes layout, bytes of)
     seen.varied += length > 0;
     ask_pair(FONTCUT_VARIABLE, variable, layout, of);
     if (!tables_differ(layout, of, "GSUB")) {
-        bytes again = cut_of(FONTCUT_LAYOUT, variable, (set){{every_code}, 1});
+        bytes again = cut_of(FONTCUT_LAYOUT, variable, (set){.ranges = {every_code}, .count = 1});
         holds(same_bytes(again, layout), FONTCUT_VARIABLE,
               "where no links are cleared the layout cut of a variable cut is that of the font");
         let_go(again.at);
@@ -463,8 +575,12 @@ static void ask_both_shaped(bytes of, set wanted, bytes lean)
 }
 
 /* The laws between all kinds of cuts of an accepted font, which may be refused for layout and variable cuts. */
-static void ask_kinds(bytes of, set wanted)
+static void ask_kinds(bytes of, set asked)
 {
+    set wanted = asked;
+    wanted.is_exact = 0;
+    for (int kind = FONTCUT_LAYOUT; asked.is_exact && kind < KINDS; kind++)
+        ask_exact_beside_lean((fontcut_kind)kind, of, asked);
     bytes full = cut_of(FONTCUT_FULL, of, wanted), lean = cut_of(FONTCUT_LEAN, of, wanted);
     if (full.at && lean.at) {
         ask_beside_lean(FONTCUT_FULL, full, lean);
@@ -478,9 +594,17 @@ static void ask_kinds(bytes of, set wanted)
 /* The tag of the table that a refusal of tables of layout or of variations is about, as a number. */
 static uint32_t named_table(fontcut_answer refusal)
 {
-    return refusal.status == FONTCUT_BAD_LAYOUT       ? 0x47535542 /* GSUB */
-           : refusal.status == FONTCUT_BAD_VARIATIONS ? 0x67766172 /* gvar */
-                                                      : refusal.detail;
+    return refusal.status == FONTCUT_BAD_VARIATIONS ? 0x67766172 /* gvar */ : refusal.detail;
+}
+
+/* The law of a GSUB that cannot be read: without it links are followed. */
+static void ask_bad_links(fontcut_kind kind, bytes file)
+{
+    bytes without = without_table(file, "GSUB", 0);
+    holds(tables_of(file, "GSUB") == 1 && !has_bad_links(kind, without), kind,
+          "without a GSUB that cannot be read links are followed");
+    free(without.at);
+    seen.refused_of[kind]++;
 }
 
 /* The laws of a refusal of the tables of layout or of variations of a font that is accepted: it is one of theirs, and
@@ -493,7 +617,6 @@ static void ask_refused_table(fontcut_kind kind, bytes file, fontcut_answer refu
     table_at(file, tag, &length);
     int is_so = refusal.status == FONTCUT_DUPLICATE_TABLE ? tables_of(file, tag) > 1
               : refusal.status == FONTCUT_TABLE_OUT_OF_FILE ? tables_of(file, tag) == 1 && length == 0
-              : refusal.status == FONTCUT_BAD_LAYOUT ? length > 0
               : kind == FONTCUT_VARIABLE && refusal.status == FONTCUT_BAD_VARIATIONS && tables_of(file, tag) == 1;
     holds(is_so, kind, "the table that a font is refused for is as it is said to be");
     bytes without = without_table(file, tag, 0);
@@ -511,6 +634,9 @@ static void ask_case(const font *of)
     for (int i = 0; i < SETS; i++)
         sets[i] = some_set(of);
     int is_accepted = refusal_of(FONTCUT_FULL, file).status == FONTCUT_DONE;
+    if (is_accepted && chance(2))
+        for (int i = 0; i < SETS; i++)
+            sets[i] = with_numbers(sets[i], file);
     seen.accepted += is_accepted;
     seen.refused += !is_accepted;
     for (int number = 0; number < KINDS; number++) {
@@ -522,6 +648,10 @@ static void ask_case(const font *of)
             ask_refused(kind, file, sets[0], refusal);
         if (is_accepted && refusal.status != FONTCUT_DONE)
             ask_refused_table(kind, file, refusal);
+        else if (is_accepted && has_bad_links(kind, file)) {
+            ask_closing_refused(kind, file, sets[0], (fontcut_answer){FONTCUT_BAD_LAYOUT, 0, 0, 0});
+            ask_bad_links(kind, file);
+        }
     }
     if (is_accepted)
         ask_kinds(file, sets[0]);

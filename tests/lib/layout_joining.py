@@ -5,11 +5,11 @@ Layout cuts are joined as lean cuts are; the tables of layout are among those th
 """
 from typing import Optional, Sequence
 
-import lean_joining
-from font_cutting import outlines, whole_map
 from font_reading import KEPT
-from layout_cutting import cleaned_tables, is_layout_cut, layout_kept
-from layout_reading import LAYOUT, layout_refusal
+import glyph_cutting
+from layout_cutting import cleaned_tables
+from layout_reading import LAYOUT
+import lean_joining
 from lean_joining import Kind, shared
 
 
@@ -18,19 +18,7 @@ def layout_shared(file: bytes) -> dict[bytes, bytes]:
     return {**shared(file), **cleaned_tables(file)}
 
 
-def kept(file: bytes) -> dict[int, bytes]:
-    """By number the outlines of the glyphs that a layout cut keeps, the empty ones too."""
-    records = outlines(file)
-    return {glyph: records[glyph] for glyph in layout_kept(file, whole_map(file).values())}
-
-
-def refusal(file: bytes, name: str) -> Optional[tuple[int, str]]:
-    """The number and text of the refusal of a font, the first or the second, that is no layout cut, or None. Its tables
-    of layout can be refused too, which is seen in the same place."""
-    return layout_refusal(file) or (None if is_layout_cut(file) else (20, f"not a cut: {name}"))
-
-
-LAYOUT_CUTS = Kind(sorted(KEPT + LAYOUT), layout_shared, kept, refusal)
+LAYOUT_CUTS = Kind(sorted(KEPT + LAYOUT), layout_shared, glyph_cutting.LAYOUT_CUTS)
 
 
 def join(first: bytes, second: bytes) -> bytes:

@@ -2,12 +2,15 @@
 without names.
 
 It follows OpenType 1.9, `hmtx`, `vmtx` and `post` ("Version 3.0"), and the definition of lean cuts in
-crates/font_theory/specs/LeanCut.antt.
+crates/font_theory/specs/Kinds.antt.
 """
 from typing import Container, Mapping, Optional
 
-from font_cutting import ALL, Ranges, assembled, cut_tables, kept_glyphs, outlines, wanted_map, whole_map
+from font_cutting import Ranges, assembled, cut_tables, kept_glyphs, outlines, wanted_map
 from font_reading import u16
+
+# The tables that say how many pairs a table of metrics has, and these.
+METRICS = ((b"hhea", b"hmtx"), (b"vhea", b"vmtx"))
 
 
 def pairs_in(tables: Mapping[bytes, bytes], header: bytes, name: bytes, glyphs: int) -> int:
@@ -51,7 +54,7 @@ def lean_tables(file: bytes, wanted: Ranges, kept: Optional[Container[int]] = No
     if kept is None:
         kept = kept_glyphs(records, wanted_map(file, wanted).values())
     tables = cut_tables(file, wanted, kept)
-    for header, name in ((b"hhea", b"hmtx"), (b"vhea", b"vmtx")):
+    for header, name in METRICS:
         if name in tables:
             pairs = pairs_in(tables, header, name, len(records))
             tables[name] = cleared(tables[name], pairs, len(records), kept)
@@ -63,13 +66,3 @@ def lean_tables(file: bytes, wanted: Ranges, kept: Optional[Container[int]] = No
 def lean_cut(file: bytes, wanted: Ranges) -> bytes:
     """The lean cut of a font that is accepted, for wanted ranges of codes."""
     return assembled(lean_tables(file, wanted))
-
-
-def is_lean_cut(file: bytes) -> bool:
-    """Whether a file that is accepted is its own lean cut for all codes."""
-    return lean_cut(file, ALL) == file
-
-
-def is_lean_cut_of(made: bytes, file: bytes) -> bool:
-    """Whether an accepted file is a lean cut of another: the one for the codes that it maps."""
-    return lean_cut(file, [(code, code) for code in whole_map(made)]) == made

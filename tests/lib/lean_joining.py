@@ -5,38 +5,45 @@ It follows docs/FORMAT.md and the definition of lean cuts: of `hmtx` and `vmtx` 
 single glyph, and what belongs to a glyph is compared and united with its outline. Another kind of cut that is joined
 in the same way brings a `Kind` of its own.
 """
-from typing import Callable, Iterable, Mapping, NamedTuple, Optional, Sequence
+from typing import Callable, Iterable, NamedTuple, Optional, Sequence
 
 from font_cutting import assembled, cmap_table, cut_size, glyf_and_loca, groups_of, outlines, whole_map
-from font_joining import copied, different, file_refusal, kept
+from font_joining import copied, different, file_refusal
 from font_reading import KEPT, MAX_FILE, Refusal, tables_of, tag_text
-from lean_cutting import cleared, entry, is_lean_cut, pairs_in, without_names
+import glyph_cutting
+from glyph_cutting import CutKind, Glyph
+from lean_cutting import METRICS, cleared, entry, pairs_in, without_names
 
-METRICS = ((b"hhea", b"hmtx"), (b"vhea", b"vmtx"))
 
-
-def no_data(_: bytes) -> dict[int, bytes]:
+def no_tables(_: bytes, __: bytes) -> dict[bytes, bytes]:
     """For a kind of cut whose glyphs have outlines and metrics alone."""
     return {}
 
 
-def no_tables(_: bytes, __: bytes) -> dict[bytes, bytes]:
-    """For the same."""
-    return {}
-
-
 class Kind(NamedTuple):
-    """What is particular to a kind of cut: the tags of its tables in order, and functions of a file. These are what two
-    cuts of one font have in common of their copied tables, the outlines of the kept glyphs by number, and the refusal of
-    a file, which is called the first or the second, that is no such cut. If glyphs have more than outlines and metrics,
-    there is also their data by number, and the tables with it of the join of two files."""
+    """What is particular to joins of a kind of cuts: the tags of its tables in order, what two cuts of one font have in
+    common of their copied tables, and the kind. If glyphs have more than outlines and metrics, there are also the tables
+    with that of the join of two files."""
 
     tags: Sequence[bytes]
     shared: Callable[[bytes], dict[bytes, bytes]]
-    kept: Callable[[bytes], dict[int, bytes]]
-    refusal: Callable[[bytes, str], Optional[Refusal]]
-    data: Callable[[bytes], Mapping[int, bytes]] = no_data
+    cuts: CutKind
     data_tables: Callable[[bytes, bytes], dict[bytes, bytes]] = no_tables
+
+    def kept(self, file: bytes) -> dict[int, Glyph]:
+        """By number the glyphs that a cut keeps, blank ones too."""
+        glyphs = self.cuts.glyphs(file)
+        return {number: glyphs[number] for number in self.cuts.keeps(file)}
+
+    def refusal(self, file: bytes, name: str) -> Optional[Refusal]:
+        """The number and text of the refusal of a font, the first or the second, that is no cut, or None. Its tables of
+        layout and of variations can be refused too, which is seen in the same place."""
+        return self.cuts.refusal(file) or (None if self.cuts.is_cut(file) else (20, f"not a cut: {name}"))
+
+    def different_glyph(self, first: bytes, second: bytes) -> Optional[int]:
+        """The least glyph that both cuts keep and in which they differ, or None."""
+        found: Optional[int] = different(self.kept(first), self.kept(second))
+        return found
 
 
 def shared(file: bytes) -> dict[bytes, bytes]:
@@ -50,25 +57,7 @@ def shared(file: bytes) -> dict[bytes, bytes]:
     return tables
 
 
-def lean_refusal(file: bytes, name: str) -> Optional[Refusal]:
-    """The number and text of the refusal of a file, the first or the second, that is no lean cut, or None."""
-    return None if is_lean_cut(file) else (20, f"not a cut: {name}")
-
-
-LEAN = Kind(KEPT, shared, kept, lean_refusal)
-
-
-def kept_with_metrics(file: bytes, kind: Kind) -> dict[int, list[bytes]]:
-    """By number the outlines of the kept glyphs, each with its data, and with what the tables of metrics have of that
-    glyph alone."""
-    tables, data, glyphs = tables_of(file), kind.data(file), len(outlines(file))
-    found = {glyph: [outline, data.get(glyph, b"")] for glyph, outline in kind.kept(file).items()}
-    for header, name in METRICS:
-        pairs = pairs_in(tables, header, name, glyphs)
-        for glyph in found if pairs else ():
-            place, size = entry(pairs, glyph)
-            found[glyph].append(tables[name][place:place + size])
-    return found
+LEAN = Kind(KEPT, shared, glyph_cutting.LEAN)
 
 
 def different_table(first: bytes, second: bytes, kind: Kind) -> Optional[bytes]:
@@ -85,7 +74,7 @@ def difference_refusal(first: bytes, second: bytes, kind: Kind) -> Optional[Refu
     code = different(whole_map(first), whole_map(second))
     if code is not None:
         return 22, f"different mapping U+{code:04X}"
-    glyph = different(kept_with_metrics(first, kind), kept_with_metrics(second, kind))
+    glyph = kind.different_glyph(first, second)
     return None if glyph is None else (23, f"different glyph {glyph}")
 
 
@@ -106,7 +95,7 @@ def joined_tables(first: bytes, second: bytes, kind: Kind) -> dict[bytes, bytes]
             pairs = pairs_in(tables, header, name, glyphs)
             tables[name] = with_metrics(tables[name], others[name], pairs, kind.kept(second))
     tables[b"cmap"] = cmap_table(groups_of({**whole_map(first), **whole_map(second)}))
-    records = {**kind.kept(first), **kind.kept(second)}
+    records = {number: glyph.outline for file in (first, second) for number, glyph in kind.kept(file).items()}
     tables[b"glyf"], tables[b"loca"] = glyf_and_loca([records.get(glyph, b"") for glyph in range(glyphs)],
                                                      records.keys())
     return {**tables, **kind.data_tables(first, second)}

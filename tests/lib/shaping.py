@@ -5,10 +5,13 @@ import random
 import re
 import unicodedata
 from functools import lru_cache
-from typing import Iterable, Iterator, NamedTuple
+from typing import Iterable, Iterator, Mapping, NamedTuple
 
+from checks import run
 from font_cutting import whole_map
+from font_joining import file_refusal
 from font_reading import tables_of, u16
+from layout_reading import layout_refusal
 from shaping_texts import TEXTS
 
 APPLE = (b"mort", b"morx", b"kerx")
@@ -146,3 +149,31 @@ def features_of(file: bytes) -> list[str]:
         for index in range(u16(table, place) if place else 0):
             found.add(table[place + 2 + 6 * index:place + 6 + 6 * index])
     return sorted(tag.decode() for tag in found if re.fullmatch(rb"[A-Za-z0-9]{4}", tag))
+
+
+def has_cuts(file: bytes) -> bool:
+    """Whether a file is accepted for layout cuts and has GSUB or GPOS."""
+    return not (file_refusal(file) or layout_refusal(file) or {b"GSUB", b"GPOS"}.isdisjoint(tables_of(file)))
+
+
+def shaped(path: str, lines: str, *words: str) -> list[str]:
+    """What HarfBuzz gives for each line of a file: glyphs by their numbers, clusters, advances and offsets."""
+    status, out, err = run("hb-shape", "--no-glyph-names", *words, f"--text-file={lines}", path)
+    return out.decode().splitlines() if status == 0 else [err.decode()]
+
+
+def features_word(features: Iterable[str]) -> list[str]:
+    """The word by which HarfBuzz is told which features a text has besides those by default."""
+    listed = ",".join(features)
+    return [f"--features={listed}"] if listed else []
+
+
+def glyphs_in(line: str) -> set[int]:
+    """The numbers of the glyphs in a line of HarfBuzz's."""
+    return {int(glyph) for glyph in re.findall(r"[\[|](\d+)=", line)}
+
+
+def variations_word(setting: Mapping[str, float]) -> list[str]:
+    """The word by which HarfBuzz's programs are told a setting of axes."""
+    listed = ",".join(f"{tag}={value}" for tag, value in setting.items())
+    return [f"--variations={listed}"] if setting else []

@@ -11,6 +11,8 @@ from checks import DONE, NO_WORDS, PROGRAM, check, held, put, quiet, read, run, 
 import font_cutting
 from font_cutting import Ranges, ranges, whole_map
 from font_reading import MAX_FILE, Refusal, records_of
+import glyph_cutting
+from glyph_cutting import CutKind
 import layout_cutting
 import layout_joining
 from layout_making import letters
@@ -31,14 +33,13 @@ BAD_FONTS = [("a font without a mapping", {b"cmap": b""}, "13 no mapping"),
 
 
 class TriedKind(NamedTuple):
-    """A kind of cuts by its second reading: the first refusal of a font that is accepted, its cut for codes, whether a
-    file is a cut, or a cut of another file, and the join of files or the line that says why there is none."""
+    """A kind of cuts by its second reading: the first refusal of a font that is accepted, for cuts for codes, these cuts,
+    the kind for cuts in which no links are followed, and the join of files or the line that says why there is none."""
 
     name: str
     refusal: Callable[[bytes], Optional[Refusal]]
     cut: Callable[[bytes, Ranges], bytes]
-    is_cut: Callable[[bytes], bool]
-    is_cut_of: Callable[[bytes, bytes], bool]
+    exact: CutKind
     join_all: Callable[[Sequence[bytes]], tuple[Optional[bytes], Optional[str]]]
 
     def option(self) -> str:
@@ -49,10 +50,10 @@ class TriedKind(NamedTuple):
         return self.cut(font, ranges(words))
 
 
-LAYOUT = TriedKind("layout", layout_refusal, layout_cutting.layout_cut, layout_cutting.is_layout_cut,
-                   layout_cutting.is_layout_cut_of, layout_joining.join_all)
-VARIABLE = TriedKind("variable", variable_refusal, variable_cutting.variable_cut, variable_cutting.is_variable_cut,
-                     variable_cutting.is_variable_cut_of, variable_joining.join_all)
+LAYOUT = TriedKind("layout", layout_refusal, layout_cutting.layout_cut, glyph_cutting.LAYOUT_CUTS,
+                   layout_joining.join_all)
+VARIABLE = TriedKind("variable", variable_refusal, variable_cutting.variable_cut, glyph_cutting.VARIABLE,
+                     variable_joining.join_all)
 
 
 # Cuts.
@@ -81,7 +82,8 @@ def of_itself(kind: TriedKind, name: str, folder: str, path: str, made: bytes) -
 
 
 def refused_as(kind: TriedKind, folder: str, name: str, font: bytes, line: str) -> None:
-    """Checks that each command refuses a font for cuts of the kind with this line, and OUT stays as it was. Full and
+    """Checks that each command that makes cuts for codes refuses a font for cuts of the kind with this line, and OUT stays
+    as it was, and that `join` and `belongs` answer what the second reading says, since they follow no links. Full and
     lean cuts are made of it, and are those of the font of ten glyphs without tables of layout and of variations."""
     path, out, slices = (os.path.join(folder, name) for name in ("font.ttf", "out.ttf", "slices"))
     put(path, font)
@@ -90,9 +92,14 @@ def refused_as(kind: TriedKind, folder: str, name: str, font: bytes, line: str) 
     option, wanted = kind.option(), f"fontcut: {line}\n".encode()
     same(f"{name}: subset {option}", ((1, b"", wanted), b"as it was"),
          (quiet("subset", option, path, out, "U+41"), held(out)))
-    of_file = wanted.replace(b"refused", b"file 1: refused")
-    same(f"{name}: join {option}", (1, b"", of_file), quiet("join", option, "-o", out, path))
-    same(f"{name}: belongs {option}", (1, b"", of_file), quiet("belongs", option, path, path))
+    (joined, line_of_join), refusal = kind.join_all([font]), kind.exact.refusal(font)
+    same(f"{name}: join {option}", (1, b"", line_of_join.encode()) if line_of_join else DONE,
+         quiet("join", option, "-o", out, path))
+    same_bytes(f"{name}: join {option}, OUT", joined or b"as it was", held(out))
+    put(out, b"as it was")
+    of_file = "fontcut: file 1: refused {} {}\n".format(*(refusal or (0, ""))).encode()
+    belongs = (1, b"", of_file) if refusal else YES if kind.exact.is_cut(font) else NO
+    same(f"{name}: belongs {option}", belongs, quiet("belongs", option, path, path))
     same(f"{name}: slice {option}", (1, b"", wanted),
          quiet("slice", option, path, os.path.join(folder, "none"), "--slices", slices))
     same_bytes(f"{name}: OUT", b"as it was", held(out))
@@ -136,7 +143,7 @@ def belonging(kind: TriedKind, folder: str, rows: Iterable[tuple[str, bytes, byt
         put(paths[0], cut)
         put(paths[1], of)
         same(f"belongs {kind.option()}: {name}", YES if answer else NO, quiet("belongs", kind.option(), *paths))
-        same(f"belongs {kind.option()}: {name}, by a second reading", answer, kind.is_cut_of(cut, of))
+        same(f"belongs {kind.option()}: {name}, by a second reading", answer, kind.exact.is_cut_of(cut, of))
 
 
 def made_slices(kind: TriedKind, folder: str, font: bytes, slices: dict[str, str]) -> dict[str, bytes]:

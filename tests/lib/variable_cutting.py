@@ -6,9 +6,9 @@ offsets are long, because whether short ones are enough depends on which other g
 """
 import struct
 from itertools import accumulate
-from typing import Container, Iterable
+from typing import Container, Iterable, Optional
 
-from font_cutting import ALL, Ranges, assembled, kept_glyphs, outlines, wanted_map, whole_map
+from font_cutting import Ranges, assembled, kept_glyphs, outlines, wanted_map
 from font_reading import tables_of
 from layout_reading import roots
 from lean_cutting import lean_tables
@@ -39,9 +39,11 @@ def variable_kept(file: bytes, glyphs: Iterable[int]) -> set[int]:
     return kept
 
 
-def variable_tables(file: bytes, wanted: Ranges) -> dict[bytes, bytes]:
-    """The tables of the variable cut of a font for wanted ranges of codes, by tag."""
-    kept = variable_kept(file, wanted_map(file, wanted).values())
+def variable_tables(file: bytes, wanted: Ranges, kept: Optional[Container[int]] = None) -> dict[bytes, bytes]:
+    """The tables of the variable cut of a font for wanted ranges of codes, by tag; with other kept glyphs where these are
+    given."""
+    if kept is None:
+        kept = variable_kept(file, wanted_map(file, wanted).values())
     tables = {**lean_tables(file, wanted, kept), **copied_tables(file)}
     if b"gvar" in tables_of(file):
         found = variations_of(file)
@@ -55,13 +57,3 @@ def variable_cut(file: bytes, wanted: Ranges) -> bytes:
     variations too."""
     made: bytes = assembled(variable_tables(file, wanted))
     return made
-
-
-def is_variable_cut(file: bytes) -> bool:
-    """Whether a file that is accepted is its own variable cut for all codes."""
-    return variable_cut(file, ALL) == file
-
-
-def is_variable_cut_of(made: bytes, file: bytes) -> bool:
-    """Whether an accepted file is a variable cut of another: the one for the codes that it maps."""
-    return variable_cut(file, [(code, code) for code in whole_map(made)]) == made

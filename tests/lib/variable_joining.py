@@ -5,12 +5,13 @@ for the variation data of glyphs in `gvar`, which is compared and united with th
 """
 from typing import Optional, Sequence
 
-import lean_joining
-from font_cutting import outlines, whole_map
 from font_reading import KEPT, Refusal, tables_of
+import glyph_cutting
+from glyph_cutting import data_of
+import lean_joining
 from lean_joining import Kind, shared
-from variable_cutting import copied_tables, gvar_of, is_variable_cut, variable_kept
-from variable_reading import ADDED, Variations, variable_refusal, variations_of
+from variable_cutting import copied_tables, gvar_of
+from variable_reading import ADDED, Variations, variations_of
 
 
 def read(file: bytes) -> Optional[Variations]:
@@ -25,23 +26,6 @@ def variable_shared(file: bytes) -> dict[bytes, bytes]:
     return {**tables, b"gvar": found.front + found.shared_tuples} if found else tables
 
 
-def kept(file: bytes) -> dict[int, bytes]:
-    """By number the outlines of the glyphs that a variable cut keeps, the empty ones too."""
-    records = outlines(file)
-    return {glyph: records[glyph] for glyph in variable_kept(file, whole_map(file).values())}
-
-
-def refusal(file: bytes, name: str) -> Optional[Refusal]:
-    """The number and text of the refusal of a font, the first or the second, that is no variable cut, or None."""
-    return variable_refusal(file) or (None if is_variable_cut(file) else (20, f"not a cut: {name}"))
-
-
-def data_of(file: bytes) -> dict[int, bytes]:
-    """By number the variation data of all glyphs."""
-    found = read(file)
-    return dict(enumerate(found.data)) if found else {}
-
-
 def joined_gvar(first: bytes, second: bytes) -> dict[bytes, bytes]:
     """The `gvar` of the join of two variable cuts that nothing tells apart, by its tag, or nothing if they have none. A
     cut has no data for the glyphs that the other alone keeps."""
@@ -52,7 +36,7 @@ def joined_gvar(first: bytes, second: bytes) -> dict[bytes, bytes]:
     return {b"gvar": gvar_of(found._replace(data=united), range(len(united)))}
 
 
-VARIABLE_CUTS = Kind(sorted(KEPT + ADDED), variable_shared, kept, refusal, data_of, joined_gvar)
+VARIABLE_CUTS = Kind(sorted(KEPT + ADDED), variable_shared, glyph_cutting.VARIABLE, joined_gvar)
 
 
 def join_refusal(first: bytes, second: bytes) -> Optional[Refusal]:

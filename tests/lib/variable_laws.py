@@ -2,21 +2,22 @@
 accepted, and of any two files."""
 import random
 from collections import Counter
-from typing import Iterator, Optional, Sequence
+from typing import Iterator, Sequence
 
 from checks import check
 from font_changing import with_tables
 from font_cutting import ALL, Ranges, wanted_map
 from font_joining import file_refusal
-from font_reading import Refusal, table, tables_of
+from font_reading import table, tables_of
+from glyph_cutting import VARIABLE
+from glyph_laws import Law, laws_of_pair
 from layout_cutting import cleaned_tables, layout_cut
 from layout_reading import cleaned
 from lean_cutting import lean_cut
-from variable_cutting import gvar_of, is_variable_cut, is_variable_cut_of, variable_cut, variable_kept
-from variable_joining import join, join_all, join_refusal
+from variable_cutting import gvar_of, variable_cut, variable_kept
+from variable_joining import VARIABLE_CUTS, join, join_all
 from variable_reading import VARIATIONS, own_gsub, variable_refusal, variations_of
 
-Law = tuple[str, bool]  # what it says, and whether it holds
 Broken = dict[str, list[object]]  # of each law that does not hold, the fonts and sets of codes
 
 
@@ -26,10 +27,10 @@ def laws_of_cuts(chance: random.Random, font: bytes, sets: Sequence[Ranges]) -> 
     whole, one = variable_cut(font, codes), chance.randrange(len(sets))
     yield "a cut is accepted", not file_refusal(whole) and not variable_refusal(whole)
     yield "a cut is its own cut for its codes", variable_cut(cuts[one], sets[one]) == cuts[one]
-    yield "a cut is its own cut for all codes", is_variable_cut(whole) and is_variable_cut(cuts[one])
+    yield "a cut is its own cut for all codes", VARIABLE.is_cut(whole) and VARIABLE.is_cut(cuts[one])
     yield "a cut of a cut is that of the font", variable_cut(whole, sets[one]) == cuts[one]
     yield "a cut belongs to the font and to a cut for more codes", (
-        is_variable_cut_of(cuts[one], font) and is_variable_cut_of(cuts[one], whole))
+        VARIABLE.is_cut_of(cuts[one], font) and VARIABLE.is_cut_of(cuts[one], whole))
     yield "the lean cut of a cut is that of the font", (
         lean_cut(whole, sets[one]) == lean_cut(font, sets[one]) and lean_cut(whole, ALL) == lean_cut(font, codes))
     yield from laws_of_joins(chance, cuts, whole)
@@ -93,19 +94,7 @@ def all_hold(name: str, seen: Counter[str], broken: Broken) -> None:
 
 
 def is_answered_rightly(first: bytes, second: bytes, fonts: Sequence[bytes]) -> bool:
-    """Whether a join that is made has both files as cuts, and one that is refused has a reason: a file is no cut, or
-    none of these fonts has both as cuts, and in the other order the same difference is named."""
-    refusal, other = join_refusal(first, second), join_refusal(second, first)
-    if refusal is None:
-        joined = join(first, second)
-        return joined == join(second, first) and is_variable_cut(joined) and all(
-            is_variable_cut_of(file, joined) for file in (first, second))
-    if names_a_difference(refusal):
-        return refusal == other and not any(
-            is_variable_cut_of(first, font) and is_variable_cut_of(second, font) for font in fonts)
-    return other is not None and not names_a_difference(other)
-
-
-def names_a_difference(refusal: Optional[Refusal]) -> bool:
-    """Whether a join is refused because of what tells two cuts apart."""
-    return refusal is not None and refusal[0] in (21, 22, 23)
+    """Whether a join is made where both files are cuts of one of these fonts, and is a cut of it, or is refused rightly."""
+    able = VARIABLE.accepts(first) and VARIABLE.accepts(second)
+    above = [font for font in fonts if able and VARIABLE.is_cut_of(first, font) and VARIABLE.is_cut_of(second, font)]
+    return all(holds for _, holds in laws_of_pair(VARIABLE_CUTS, first, second, above))

@@ -203,8 +203,8 @@ VARIED = {
 # What the cut of LETTERS with VARIED for U+0041 has of each glyph, and tables with this that no cut has; the first one has
 # data of another glyph too.
 KEPT_DATA = [DATA[0], DATA[1], *[b""] * 7, DATA[9]]
+MORE_DATA = gvar([*KEPT_DATA[:2], b"\1", *KEPT_DATA[3:]], TUPLES)
 NO_CUTS = {
-    "data of a glyph that is not kept": gvar([*KEPT_DATA[:2], b"\1", *KEPT_DATA[3:]], TUPLES),
     "short offsets": gvar([part + bytes(len(part) % 2) for part in KEPT_DATA], TUPLES, flags=0),
     "tuples after the data": with_fields(gvar(KEPT_DATA, gaps=(b"", b"", b"".join(TUPLES))), sharedTupleCount=2,
                                          sharedTuplesOffset=END[1] + len(b"".join(KEPT_DATA))),

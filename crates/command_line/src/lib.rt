@@ -120,6 +120,10 @@ pub struct Subset<'a> {
     pub excluded: Vec<&'a str>,
     /// The paths of files of ranges of codes that are taken away.
     pub excluded_files: Vec<&'a str>,
+    /// Lists of numbers of glyphs that are kept.
+    pub glyph_lists: Vec<&'a str>,
+    /// The paths of files of numbers of glyphs that are kept.
+    pub glyph_files: Vec<&'a str>,
     /// Whether it is said which codes were wanted and are not mapped, and what was dropped.
     pub reports: bool,
     /// Whether nothing is written where a wanted code is not mapped.
@@ -128,6 +132,8 @@ pub struct Subset<'a> {
     pub is_exact: bool,
     /// The kind of cut that is written.
     pub kind: CutKind,
+    /// Whether a layout or a variable cut keeps what `GSUB` puts for the glyphs that are kept, too.
+    pub is_closed: bool,
     /// The names of the tables of layout that the cut does without.
     pub dropped: Vec<&'a str>,
     /// Whether OUT may have the ending of a packed font.
@@ -310,10 +316,13 @@ fn subset_task<'a>(
         completed: values_of(alloc, matches, "complete")?,
         excluded: values_of(alloc, matches, "exclude")?,
         excluded_files: values_of(alloc, matches, "exclude-file")?,
+        glyph_lists: values_of(alloc, matches, "gids")?,
+        glyph_files: values_of(alloc, matches, "gids-file")?,
         reports: matches.get_flag("report"),
         is_strict: matches.get_flag("strict"),
         is_exact: matches.get_flag("exactly"),
         kind: cut_kind(matches),
+        is_closed: !matches.get_flag("no-layout-closure"),
         dropped: values_of(alloc, matches, "drop")?,
         is_forced: matches.get_flag("force"),
         is_verbose: verbosity == Verbosity::Verbose,
@@ -489,7 +498,8 @@ fn reads_input_twice(task: &Task<'_>) -> bool {
         Task::Subset(line) => standard_count(&[line.font])
             .saturating_add(standard_count(&line.text_files))
             .saturating_add(standard_count(&line.code_files))
-            .saturating_add(standard_count(&line.excluded_files)),
+            .saturating_add(standard_count(&line.excluded_files))
+            .saturating_add(standard_count(&line.glyph_files)),
         Task::Join(line) => standard_count(&line.files),
         Task::Belongs(line) => standard_count(&[line.cut, line.font]),
         Task::Slice(line) => standard_count(&[line.font, line.slices]),

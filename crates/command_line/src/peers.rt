@@ -8,15 +8,14 @@ const OUT: &str = "OUT is the word after FONT; join takes -o OUT";
 
 const CODES_FILE: &str = "--codes-file FILE takes a file of ranges";
 
-const CHARACTERS: &str = "nothing: glyphs are chosen by their characters";
+const GLYPHS: &str =
+    "nothing: subset chooses glyphs by characters, and by their numbers with --gids";
 
 const TABLES: &str = "nothing: which tables a cut keeps is fixed; fontcut show lists them";
 
 const DROP: &str = "--layout --drop TABLES leaves out layout tables; the others are fixed";
 
 const LAYOUT: &str = "--layout keeps the layout tables whole, and the glyphs that GSUB puts";
-
-const NO_CLOSURE: &str = "--layout --drop GSUB keeps no glyph that GSUB puts";
 
 const INSTANCE: &str =
     "nothing: a cut has the default, with --variable all; fontTools makes others";
@@ -42,24 +41,21 @@ const LACKING: &str = "not needed: --strict refuses what the font lacks, and not
 const COLLECTION: &str = "nothing: collections are refused; fontTools takes a font out of one";
 
 // Each option, and what serves in its place.
-const PEERS: [(&str, &str); 36] = [
+const PEERS: [(&str, &str); 33] = [
     ("--flavor", TRUE_TYPE),
     ("--with-zopfli", TRUE_TYPE),
     ("--output-file", OUT),
     ("--output", OUT),
     ("-o", OUT),
     ("--unicodes-file", CODES_FILE),
-    ("--gids", CHARACTERS),
-    ("--gids-file", CHARACTERS),
-    ("--glyphs", CHARACTERS),
-    ("--glyphs-file", CHARACTERS),
+    ("--glyphs", GLYPHS),
+    ("--glyphs-file", GLYPHS),
     ("--drop-tables", DROP),
     ("--no-subset-tables", TABLES),
     ("--passthrough-tables", TABLES),
     ("--layout-features", LAYOUT),
     ("--layout-scripts", LAYOUT),
     ("--layout-closure", LAYOUT),
-    ("--no-layout-closure", NO_CLOSURE),
     ("--variations", INSTANCE),
     ("--instance", INSTANCE),
     ("--retain-gids", NUMBERS),

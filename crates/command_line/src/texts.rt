@@ -127,7 +127,17 @@ pub(crate) const EXCLUDE: &str = "Leaves out the codes of LIST; may be repeated"
 
 pub(crate) const EXCLUDE_FILE: &str = "Leaves out the codes of a file of lists; may be repeated";
 
-pub(crate) const WORDS: &str = "Ranges of codes to keep: all, U+41, U+41-5A";
+pub(crate) const GIDS: &str =
+    "With --lean, --layout or --variable, keeps the glyphs of LIST: 5,7-9,0x1F; may be repeated";
+
+pub(crate) const GIDS_FILE: &str =
+    "The same for a file of such lists; # starts a comment; may be repeated";
+
+pub(crate) const NO_LAYOUT_CLOSURE: &str =
+    "With --layout or --variable, keeps only what is named, and no substitutes of GSUB";
+
+pub(crate) const WORDS: &str =
+    "Ranges of codes to keep: all, U+41, U+41-5A; everything is all codes and all glyphs";
 
 pub(crate) const AFTER_SUBSET: &str = "\
 A cut keeps the glyph numbers. It drops colours, bitmaps and signatures; fontcut show lists the tables.
@@ -137,6 +147,10 @@ variations (fvar, avar, gvar, HVAR, MVAR, STAT, VVAR, cvar), so the font stays v
 its default instance only. The lean cut of a cut is that of its font: --lean with the word all makes a
 cut lean.
 
+If a text is already shaped, --gids with the glyph numbers that came and --no-layout-closure give an exact
+cut, which is smaller. It shapes the text that it was made for; other text may vanish in it, without a
+fallback font.
+
 Examples:
   fontcut subset font.ttf cut.ttf all
   fontcut subset font.ttf cut.ttf --text 'Hello, world'
@@ -144,6 +158,7 @@ Examples:
   fontcut subset font.ttf arabic.ttf U+20-7E U+600-6FF --layout
   fontcut subset font.ttf kerned.ttf U+20-7E --layout --drop GSUB
   fontcut subset font.ttf variable.ttf U+20-7E --variable
+  fontcut subset font.ttf exact.ttf --text office --gids 82,3312,70 --layout --no-layout-closure
   fontcut subset font.ttf cut.ttf U+20-7E --text-file page.txt --report
   fontcut subset font.ttf cut.ttf --unicodes 'U+4??, U+20AC' --exclude 450-45F
 

@@ -1,6 +1,7 @@
 -- The findings of a file that is accepted are those that are read.
 use Rattle.std.proofs.Common.{◌≡◌, ℕ, List, Some, None, refl}
-use Rattle.font_cut.specs.Fonts.{findings_of, font_fault}
+use Rattle.sfnt_bytes.specs.Findings.{findings_of}
+use Rattle.font_file.specs.Font.{font_fault}
 use Rattle.font_subset.proofs.FontLemmas.{directory_fault-accepted}
 use Rattle.commands.specs.Check.{read_findings}
 

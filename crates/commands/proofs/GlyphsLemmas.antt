@@ -13,8 +13,10 @@ use Rattle.codes.specs.Wanted.{IsBadRange}
 use Rattle.codes.specs.Word.{IsWord, code_word}
 use Rattle.codes.specs.declared.runs.Run.{Run}
 use Rattle.codes.proofs.RunLemmas.{run_gives}
-use Rattle.font_cut.specs.Fonts.{cmap_of, glyph_count_of, map_of, mapping_of}
-use Rattle.font_cut.proofs.FontLemmas.{mapping_of-small}
+use Rattle.font_file.specs.Font.{cmap_of, map_of}
+use Rattle.font_tables.specs.Fields.{glyph_count_of}
+use Rattle.font_map.specs.Mapping.{mapping_of}
+use Rattle.font_map.proofs.MappingLemmas.{mapping_of-small}
 use Rattle.font_subset.proofs.FontLemmas.{range_with_len-step}
 use Rattle.commands.specs.MappedGlyphs.{glyph_line, glyphs_text, mapped_from}
 use Rattle.commands.specs.Places.{IsPlace, IsPlaceFrom, codes_at}

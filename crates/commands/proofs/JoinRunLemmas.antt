@@ -1,6 +1,7 @@
 -- How a join that is refused leaves things, and what refuses that of cuts of one font.
-use Rattle.std.proofs.Common.{true, ◌≡◌, ◌∙◌, ℕ, Bool, List, [], Option, ap, length, refl, subst, sym}
-use Rattle.font_cut.specs.Fonts.{Format}
+use Rattle.std.proofs.Common.{true, ◌≡◌, ◌∙◌, ℕ, List, [], Option, ap, length, refl, subst, sym}
+use Rattle.font_theory.specs.Content.{Wanted}
+use Rattle.font_theory.specs.Cut.{Format}
 use Rattle.font_join.specs.JoinList.{IsAllJoined, IsAllRefusal, IsForSizeInto, IsForSizeOf, StopsJoin}
 use Rattle.streams.specs.Outlet as outlets
 use Rattle.font_join.specs.declared.join_error.JoinAllIntoError.{JoinAllIntoError}
@@ -18,7 +19,7 @@ use Rattle.commands.specs.declared.run_error.RunError.TheVariants as runs
 use Rattle.commands.proofs.ReadEachLemmas.{all_read_to}
 use Rattle.commands.proofs.RunLemmas.{sends_all}
 
-pub only_size_of : (format : Format) (F : List ℕ) (A : ℕ → ℕ → Bool) (files : List (List ℕ)) (count : ℕ)
+pub only_size_of : (format : Format) (F : List ℕ) (A : ℕ → Wanted) (files : List (List ℕ)) (count : ℕ)
     → length files ≡ count → (error : JoinAllError) → IsForSizeOf format F A files error
     → OnlySize format F A count (of_join_error error)
 only_size_of format F A files count long NothingToJoin none = sym long ∙ ap length none
@@ -52,7 +53,7 @@ join_stopped format remaining contents old new o files same spent got (At step (
 join_stopped format remaining contents old new o files same spent got (At step (DifferentGlyph g)) r =
     (spent, refl, refl, (files, got, r))
 
-pub only_size_into : (format : Format) (F : List ℕ) (A : ℕ → ℕ → Bool) (files : List (List ℕ)) (count : ℕ)
+pub only_size_into : (format : Format) (F : List ℕ) (A : ℕ → Wanted) (files : List (List ℕ)) (count : ℕ)
     → length files ≡ count → (error : JoinAllIntoError) → IsForSizeInto format F A files error
     → OnlySize format F A count (of_join_into_error error)
 only_size_into format F A files count long (NotJoined error) is = only_size_of format F A files count long error is
@@ -67,6 +68,7 @@ read_stopped format remaining contents old new o runs.Memory stops = (stops, ref
 read_stopped format remaining contents old new o (runs.Write count) stops = absurd stops
 read_stopped format remaining contents old new o (runs.Font error) stops = absurd stops
 read_stopped format remaining contents old new o (runs.OneOf which error) stops = absurd stops
+read_stopped format remaining contents old new o (runs.NoGlyph number) stops = absurd stops
 read_stopped format remaining contents old new o (runs.TooLarge size) stops = absurd stops
 read_stopped format remaining contents old new o (runs.Join error) stops = absurd stops
 

@@ -6,7 +6,7 @@ use Rattle.std.proofs.lemmas.List.{get_or_append_left, get_or_default, length-ap
 use Rattle.std.proofs.lemmas.List.Elements.{All-from_all_within, AllWithin-from_all, AllWithin-kept, AllWithin-more_set}
 use Rattle.std.proofs.lemmas.Option.{get_or_from_slice_get, slice_get_read, slice_get_within}
 use Rattle.std.specs.List.{AllWithin}
-use Rattle.font_cut.specs.Fonts.{file_at}
+use Rattle.font_theory.specs.Tree.{file_at}
 use Rattle.streams.specs.Inlet.{Gives, StopsAs, inlet_broken_of, inlet_fresh_of}
 use Rattle.commands.specs.JoinRun.{AreGot, AreSpent, AreReadTo, BreaksAfter, IsSpent, ReadStops}
 use Rattle.commands.specs.Run.{got, of_read_error}

@@ -1,28 +1,33 @@
 -- How a run over one font leaves its inlet and its outlet.
-use Rattle.std.proofs.Common.{Bool, rules, arith, ◌≡◌, ◌≤◌, ◌+◌, ℕ, List, [], Option, None, Some, Result, Ok, Err}
+use Rattle.std.proofs.Common.{◌∙◌, rules, arith, ◌≡◌, ◌≤◌, ◌+◌, ℕ, List, [], Option, None, Some, Result, Ok}
+use Rattle.std.proofs.Common.{Err}
 use Rattle.std.proofs.Common.{false, true, length, refl, subst, sym, take, take_all}
 use Rattle.std.specs.Option.{IfSome}
 use Rattle.std.specs.Result.{IfOk, IsErrAnd}
-use Rattle.std.proofs.lemmas.Option.{IfSome_then}
+use Rattle.std.proofs.lemmas.Option.{IfSome_then, none-some}
 use Rattle.font_subset.specs.CutOfFont.{IsTooLarge, StopsCut}
 use Rattle.font_subset.specs.declared.cut_font.CutIntoError.{CutIntoError}
 use Rattle.font_subset.specs.declared.cut_font.CutIntoError.TheVariants as cut_errors
-use Rattle.font_cut.specs.Fonts.{Kind, MAX_FILE, fault_of}
-use Rattle.font_subset.specs.CutOfKind.{cut_in}
-use Rattle.font_subset.specs.OpenedFont.{IsOpenRefusal}
-use Rattle.font_subset.specs.declared.layout_font.OpenError.{OpenError}
-use Rattle.font_subset.specs.declared.layout_font.OpenError.TheVariants as open_errors
+use Rattle.font_file.specs.declared.font_error.FontError.{FontError}
+use Rattle.sfnt_bytes.specs.declared.directory.TheConstants.{MAX_FILE}
+use Rattle.font_file.specs.Font.{font_fault}
+use Rattle.font_subset.specs.OpenedFont.{IsCuttingRefusal}
+use Rattle.font_subset.proofs.ClosingRefusalLemmas.{font_refused}
+use Rattle.font_subset.specs.declared.open_error.OpenError.{OpenError}
+use Rattle.font_subset.specs.declared.open_error.OpenError.TheVariants as open_errors
 use Rattle.streams.specs.Outlet as outlets
 use Rattle.streams.specs.declared.outlet.Outlet.{Outlet}
 use Rattle.streams.specs.Inlet.{StopsAs, inlet_broken_of, inlet_fresh_of, reader_of}
 use Rattle.commands.specs.Inside.{CutStops, SendsCut}
-use Rattle.commands.specs.Run.{HasCutIn, RefusesCutIn, RunStops, SendsText, got, of_cut_error, of_open_error}
-use Rattle.commands.specs.Run.{of_read_error}
+use Rattle.commands.specs.Run.{HasCutIn, RefusesCutIn, Request, RunStops, SendsText, cut_for, fault_for, got}
+use Rattle.commands.specs.Run.{of_cut_error}
+use Rattle.commands.specs.Run.{of_open_error, of_read_error, stray_number}
 use Rattle.streams.specs.declared.inlet.Inlet.{Inlet}
 use Rattle.streams.specs.declared.inlet.ReadError.{ReadError}
 use Rattle.streams.specs.declared.inlet.ReadError.TheVariants.{NoMemory, ReadFault}
 use Rattle.commands.specs.declared.run_error.RunError.{RunError}
-use Rattle.commands.specs.declared.run_error.RunError.TheVariants.{Font, Join, Memory, OneOf, Read, TooLarge, Write}
+use Rattle.commands.specs.declared.run_error.RunError.TheVariants.{Font, Join, Memory, NoGlyph, OneOf, Read, TooLarge}
+use Rattle.commands.specs.declared.run_error.RunError.TheVariants.{Write}
 
 -- the file is what came of the inlet's reader, where the reader's bytes are known
 abbrev pub Came : {R : Type 0} → (R → Option (List ℕ)) → Inlet R → List ℕ → Type 0
@@ -63,29 +68,36 @@ pub read_stops : {R W : Type 0} (remaining : R → Option (List ℕ)) (contents 
 read_stops remaining contents serves text refuses i j o (ReadFault count) stops = (stops.0, stops.1, refl)
 read_stops remaining contents serves text refuses i j o NoMemory stops = (stops, refl)
 
-module _ (kind : Kind) (wanted : ℕ → Bool) where
+module _ (r : Request) where
   abbrev made : List ℕ → List ℕ
-  made file = cut_in kind file wanted
+  made file = cut_for r file
 
   abbrev Has : List ℕ → Type 0
-  Has = HasCutIn kind wanted
+  Has = HasCutIn r
 
   -- why a run is not done that has read its file is why the cut of that file is not sent
   pub file_stops : {R W : Type 0} (remaining : R → Option (List ℕ)) (contents : W → Option (List ℕ)) (i j : Inlet R)
       (o p : Outlet W) (file : List ℕ) → inlet_broken_of j ≡ false → Came remaining i file
-      → (error : RunError) → CutStops contents kind wanted file o p error
-      → RunStops remaining contents Has made (RefusesCutIn kind remaining i wanted) i j o p error
+      → (error : RunError) → CutStops contents r file o p error
+      → RunStops remaining contents Has made (RefusesCutIn r remaining i) i j o p error
   file_stops remaining contents i j o p file whole came Memory stops = (whole, stops)
   file_stops remaining contents i j o p file whole came (Font error) stops = (
     whole,
     stops.0,
-    got_of remaining i (λ (f : List ℕ). fault_of kind f ≡ Some error) file came stops.1,
+    got_of remaining i (λ (f : List ℕ). (fault_for r f ≡ Some error)
+        × (font_fault f ≡ None → stray_number f r.numbers ≡ None)) file came (stops.1, stops.2),
+  )
+  file_stops remaining contents i j o p file whole came (NoGlyph number) stops = (
+    whole,
+    stops.0,
+    got_of remaining i (λ (f : List ℕ). (font_fault f ≡ None) × (stray_number f r.numbers ≡ Some number)) file came
+        (stops.1, stops.2),
   )
   file_stops remaining contents i j o p file whole came (TooLarge size) stops = (
     whole,
     stops.0,
-    got_of remaining i (λ (f : List ℕ). (fault_of kind f ≡ None)
-        × IsTooLarge (made f) size) file came (stops.1, stops.2),
+    got_of remaining i (λ (f : List ℕ). (fault_for r f ≡ None) × (stray_number f r.numbers ≡ None)
+        × IsTooLarge (made f) size) file came (stops.1, stops.2, stops.3),
   )
   file_stops remaining contents i j o p file whole came (Write count) stops = (
     whole,
@@ -101,8 +113,8 @@ module _ (kind : Kind) (wanted : ℕ → Bool) where
   -- the cut of a file that came, which was sent
   pub file_sent : {R W : Type 0} (remaining : R → Option (List ℕ)) (contents : W → Option (List ℕ)) (i j : Inlet R)
       (o p : Outlet W) (file : List ℕ) → inlet_fresh_of j ≡ false → inlet_broken_of j ≡ false → Came remaining i file
-      → (result : Result ℕ RunError) → SendsCut contents kind wanted file o p result
-      → SendsText remaining contents Has made (RefusesCutIn kind remaining i wanted) i j o p result
+      → (result : Result ℕ RunError) → SendsCut contents r file o p result
+      → SendsText remaining contents Has made (RefusesCutIn r remaining i) i j o p result
   file_sent remaining contents i j o p file spent whole came (Ok size) sends =
       record {
         spent = spent;
@@ -124,7 +136,7 @@ module _ (kind : Kind) (wanted : ℕ → Bool) where
   -- its size
   pub file_size : {R W : Type 0} (remaining : R → Option (List ℕ)) (contents : W → Option (List ℕ)) (i : Inlet R)
       (o p : Outlet W) (file : List ℕ) → Came remaining i file
-      → (result : Result ℕ RunError) → SendsCut contents kind wanted file o p result
+      → (result : Result ℕ RunError) → SendsCut contents r file o p result
       → IfOk result (λ size. (size ≤ MAX_FILE) × got remaining i (λ f. size ≡ length (made f)))
   file_size remaining contents i o p file came (Ok size) sends = (
     subst (λ (n : ℕ). n ≤ MAX_FILE) (sym sends.size) sends.has.1,
@@ -135,7 +147,7 @@ module _ (kind : Kind) (wanted : ℕ → Bool) where
   -- a call that ends with an error: what is said of the call follows from what is said of the error
   pub cut_err : {W : Type 0} (contents : W → Option (List ℕ)) (file : List ℕ) (o p : Outlet W)
       (result : Result ℕ RunError) (error : RunError) → IsErrAnd result (λ e. e ≡ error)
-      → CutStops contents kind wanted file o p error → SendsCut contents kind wanted file o p result
+      → CutStops contents r file o p error → SendsCut contents r file o p result
   cut_err contents file o p (Ok size) error is stops = absurd is
   cut_err contents file o p (Err e) error is stops =
       record {
@@ -144,30 +156,39 @@ module _ (kind : Kind) (wanted : ℕ → Bool) where
         unbroken = tt;
         flushed = tt;
         size = tt;
-        error = subst (CutStops contents kind wanted file o p) (sym is) stops;
+        error = subst (CutStops contents r file o p) (sym is) stops;
       }
 
-  -- a file that is refused for cuts of the kind, or for which memory is refused
+  -- what is refused as a font is refused, whatever is asked of it
+  pub font_stops : {W : Type 0} (contents : W → Option (List ℕ)) (file : List ℕ) (o : Outlet W) (error : FontError)
+      → font_fault file ≡ Some error → CutStops contents r file o o (Font error)
+  font_stops contents file o error refused = (
+    refl,
+    font_refused r.closes r.kind file error refused,
+    λ accepted. absurd (none-some error (sym accepted ∙ refused)),
+  )
+
+  -- a file that is refused for the cuts that are asked for, or for which memory is refused
   pub open_stops : {W : Type 0} (contents : W → Option (List ℕ)) (file : List ℕ) (o : Outlet W)
-      (error : OpenError) → IsOpenRefusal kind file error
-      → CutStops contents kind wanted file o o (of_open_error error)
-  open_stops contents file o open_errors.NoMemory refused = refl
-  open_stops contents file o (open_errors.Refused error) refused = (refl, refused)
+      (error : OpenError) → stray_number file r.numbers ≡ None → IsCuttingRefusal r.closes r.kind file error
+      → CutStops contents r file o o (of_open_error error)
+  open_stops contents file o open_errors.NoMemory known refused = refl
+  open_stops contents file o (open_errors.Refused error) known refused = (refl, refused, λ _. known)
 
   -- a cut was not sent, or not all of it
   pub made_stops : {W : Type 0} (contents : W → Option (List ℕ)) (file : List ℕ) (o p : Outlet W)
-      → fault_of kind file ≡ None → (error : CutIntoError) → StopsCut contents o p (made file) error
-      → CutStops contents kind wanted file o p (of_cut_error error)
-  made_stops contents file o p accepted cut_errors.NoMemory stops = stops
-  made_stops contents file o p accepted (cut_errors.TooLarge size) stops = (stops.0, accepted, stops.1)
-  made_stops contents file o p accepted (cut_errors.WriteFault count) stops =
-      (stops.1, sym stops.2, (accepted, stops.0), stops.3)
+      → fault_for r file ≡ None → stray_number file r.numbers ≡ None → (error : CutIntoError)
+      → StopsCut contents o p (made file) error → CutStops contents r file o p (of_cut_error error)
+  made_stops contents file o p accepted known cut_errors.NoMemory stops = stops
+  made_stops contents file o p accepted known (cut_errors.TooLarge size) stops = (stops.0, accepted, known, stops.1)
+  made_stops contents file o p accepted known (cut_errors.WriteFault count) stops =
+      (stops.1, sym stops.2, (accepted, stops.0, known), stops.3)
 
   -- all of it was sent, and was not flushed
   pub flush_stops : {W : Type 0} (contents : W → Option (List ℕ)) (file : List ℕ) (o m p : Outlet W) → Has file
       → outlets.fresh_of o ≡ true → outlets.WentOut contents o m (made file) → outlets.WentOut contents m p []
       → (count : ℕ) → count ≡ outlets.written_of p → outlets.broken_of p ≡ true
-      → CutStops contents kind wanted file o p (Write count)
+      → CutStops contents r file o p (Write count)
   flush_stops contents file o m p has fresh sent flushed count is broken =
       (broken, sym is, has, sends_all contents o m p (made file) fresh sent flushed count is)
 

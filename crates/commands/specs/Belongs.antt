@@ -1,9 +1,11 @@
 -- What `belongs` prints of two files, and how it leaves its inlets and its outlet, this project's own.
 use Rattle.std.specs.Prelude.{◌≡◌, ℕ, ◌⊎◌, ◌↔◌, Bool, false, true, IsTrue, List, None, Option, Some, codes, take}
 use Rattle.font_subset.specs.CutOfKind.{IsCutIn}
-use Rattle.font_subset.specs.declared.layout_font.OpenError.{OpenError}
-use Rattle.font_subset.specs.declared.layout_font.OpenError.TheVariants as open_errors
-use Rattle.font_cut.specs.Fonts.{FontError, Kind, fault_of}
+use Rattle.font_subset.specs.declared.open_error.OpenError.{OpenError}
+use Rattle.font_subset.specs.declared.open_error.OpenError.TheVariants as open_errors
+use Rattle.font_file.specs.declared.font_error.FontError.{FontError}
+use Rattle.font_theory.specs.declared.kinds.Kind.{Kind}
+use Rattle.font_theory.specs.Kinds.{fault_of}
 use Rattle.streams.specs.Outlet as outlets
 use Rattle.font_join.specs.declared.join_error.Which.{Which}
 use Rattle.font_join.specs.declared.join_error.Which.TheVariants.{First, Second}
@@ -14,7 +16,8 @@ use Rattle.commands.specs.JoinRun.{IsSpent}
 use Rattle.commands.specs.Run.{got}
 use Rattle.streams.specs.declared.inlet.Inlet.{Inlet}
 use Rattle.commands.specs.declared.run_error.RunError.{RunError}
-use Rattle.commands.specs.declared.run_error.RunError.TheVariants.{Font, Join, Memory, OneOf, Read, TooLarge, Write}
+use Rattle.commands.specs.declared.run_error.RunError.TheVariants.{Font, Join, Memory, NoGlyph, OneOf, Read, TooLarge}
+use Rattle.commands.specs.declared.run_error.RunError.TheVariants.{Write}
 
 -- all that `belongs` prints
 abbrev pub answer_text : Bool → List ℕ
@@ -79,5 +82,6 @@ BelongsStops kind remaining contents c d i j o p (Write count) =
     × outlets.WentOut contents o p (take count (answer_text answer)))
 -- nothing else stops it
 BelongsStops kind remaining contents c d i j o p (Font error) = ⊥
+BelongsStops kind remaining contents c d i j o p (NoGlyph number) = ⊥
 BelongsStops kind remaining contents c d i j o p (TooLarge size) = ⊥
 BelongsStops kind remaining contents c d i j o p (Join error) = ⊥

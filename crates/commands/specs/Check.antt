@@ -3,8 +3,13 @@ use Rattle.std.specs.Prelude.{ℕ, List, [], ◌∷◌, ◌++◌, if◌then◌el
 use Rattle.std.specs.Prelude.{Some}
 use Rattle.std.specs.List.{flat_map}
 use Rattle.std.specs.Option.{option_map, option_map_or}
-use Rattle.font_cut.specs.Fonts.{Finding, FontError, directory_fault, error_number, error_text, finding_text}
-use Rattle.font_cut.specs.Fonts.{findings_of, font_fault}
+use Rattle.sfnt_bytes.specs.declared.findings.Finding.{Finding}
+use Rattle.font_file.specs.declared.font_error.FontError.{FontError}
+use Rattle.sfnt_bytes.specs.Refusals.{directory_fault}
+use Rattle.font_file.specs.Text.{error_number, error_text}
+use Rattle.sfnt_bytes.specs.Text.{finding_text}
+use Rattle.sfnt_bytes.specs.Findings.{findings_of}
+use Rattle.font_file.specs.Font.{font_fault}
 use Rattle.commands.specs.declared.check.Report.{Report}
 
 -- a text and a line break

@@ -7,7 +7,9 @@ use Rattle.codes.specs.Wanted.{AreSeparate, IsBadRange, member}
 use Rattle.codes.specs.Word.{IsWord, range_word}
 use Rattle.codes.specs.declared.code_range.CodeRange.{CodeRange}
 use Rattle.codes.specs.declared.runs.Run.{Run}
-use Rattle.font_cut.specs.Fonts.{cmap_of, glyph_count_of, mapping_of}
+use Rattle.font_file.specs.Font.{cmap_of}
+use Rattle.font_tables.specs.Fields.{glyph_count_of}
+use Rattle.font_map.specs.Mapping.{mapping_of}
 use Rattle.commands.specs.Check.{line}
 
 -- the codes of a run

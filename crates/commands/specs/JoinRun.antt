@@ -1,8 +1,10 @@
 -- What the run of a join is given, and how it leaves its inlets and its outlet, this project's own, over the
 -- format of the cuts that are joined.
-use Rattle.std.specs.Prelude.{◌≡◌, ℕ, suc, ◌+◌, Bool, false, true, All, List, drop, length, Option, Some, take}
+use Rattle.std.specs.Prelude.{◌≡◌, ℕ, suc, ◌+◌, false, true, All, List, drop, length, Option, Some, take}
 use Rattle.std.specs.List.{AllWithin, slice_get}
-use Rattle.font_cut.specs.Fonts.{Format, cut, file_at, union_below}
+use Rattle.font_theory.specs.Content.{Wanted}
+use Rattle.font_theory.specs.Cut.{Format, cut}
+use Rattle.font_theory.specs.Tree.{file_at, union_below}
 use Rattle.font_join.specs.JoinList.{AreCuts, IsAllJoined, IsAllRefusal}
 use Rattle.font_join.specs.Join.{IsForSize}
 use Rattle.streams.specs.Outlet as outlets
@@ -12,7 +14,8 @@ use Rattle.streams.specs.Inlet as inlets
 use Rattle.commands.specs.Run.{got, of_join_error}
 use Rattle.streams.specs.declared.inlet.Inlet.{Inlet}
 use Rattle.commands.specs.declared.run_error.RunError.{RunError}
-use Rattle.commands.specs.declared.run_error.RunError.TheVariants.{Font, Join, Memory, OneOf, Read, TooLarge, Write}
+use Rattle.commands.specs.declared.run_error.RunError.TheVariants.{Font, Join, Memory, NoGlyph, OneOf, Read, TooLarge}
+use Rattle.commands.specs.declared.run_error.RunError.TheVariants.{Write}
 
 -- no inlet was read
 abbrev pub AreFresh : {R : Type 0} → List (Inlet R) → Type 0
@@ -83,6 +86,7 @@ JoinStops format remaining contents i j o p (Write count) =
 -- such a refusal is one of the join
 JoinStops format remaining contents i j o p (Font error) = ⊥
 JoinStops format remaining contents i j o p (OneOf which error) = ⊥
+JoinStops format remaining contents i j o p (NoGlyph number) = ⊥
 JoinStops format remaining contents i j o p (TooLarge size) = ⊥
 
 -- the join of what came from the readers went out, and has this number of bytes
@@ -94,12 +98,12 @@ SendsJoin format remaining contents i o p size =
 
 -- what came from the readers, whatever it is, are cuts of F for some sets, none of them too large
 abbrev pub GotCuts : {R : Type 0} → Format → (R → Option (List ℕ)) → List (Inlet R) → List ℕ →
-    (ℕ → ℕ → Bool) → Type 0
+    (ℕ → Wanted) → Type 0
 GotCuts format remaining list F A =
     (files : List (List ℕ)) → AreGot remaining list files → AreCuts format F A files
 
 -- no refusal but that the cut for the first sets is too large
-abbrev pub OnlySize : Format → List ℕ → (ℕ → ℕ → Bool) → ℕ → RunError → Type 0
+abbrev pub OnlySize : Format → List ℕ → (ℕ → Wanted) → ℕ → RunError → Type 0
 OnlySize format F A count (Join NothingToJoin) = count ≡ 0
 OnlySize format F A count (Join (At step error)) =
     IsForSize (length (cut format F (union_below A (suc step)))) error

@@ -4,7 +4,8 @@ use Rattle.std.specs.Prelude.{ℕ, ◌-◌, List, ◌∷◌, ◌++◌, decimal, 
 use Rattle.std.specs.List.{flat_map, range_with_len}
 use Rattle.codes.specs.CharacterMap.{is_mapped}
 use Rattle.codes.specs.declared.code_points.TheConstants.{CODES}
-use Rattle.font_cut.specs.Fonts.{map_of, metric_of}
+use Rattle.font_file.specs.Font.{map_of}
+use Rattle.font_tables.specs.Metrics.{metric_of}
 use Rattle.commands.specs.Check.{line}
 use Rattle.codes.specs.Word.{code_word}
 

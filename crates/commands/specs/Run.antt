@@ -1,14 +1,25 @@
 -- What a run is given, and how it leaves its inlet and its outlet, this project's own.
-use Rattle.std.specs.Prelude.{◌≡◌, ℕ, ◌+◌, ◌≤◌, Bool, false, true, length, List, None, Option, IfErr, IfSome, OnOk}
-use Rattle.std.specs.Prelude.{Result, Some, take}
+use Rattle.std.specs.Prelude.{◌≡◌, ℕ, ◌+◌, ◌≤◌, Bool, false, true, length, nat_le, List, [], None, Option, IfErr}
+use Rattle.std.specs.Prelude.{IfSome}
+use Rattle.std.specs.Prelude.{OnOk, Result, Some, option_copied, take}
+use Rattle.std.specs.List.{find}
+use Rattle.codes.specs.Wanted.{member}
 use Rattle.font_subset.specs.CutOfFont.{IsTooLarge}
-use Rattle.font_subset.specs.CutOfKind.{cut_in}
-use Rattle.font_cut.specs.Fonts.{Full, Kind, MAX_FILE, NO_MEMORY, READ_FAULT, TOO_LARGE, WRITE_FAULT, error_number}
-use Rattle.font_cut.specs.Fonts.{fault_of, font_fault}
+use Rattle.font_subset.specs.CutOfKind.{cut_as, keeps_links}
+use Rattle.font_subset.specs.KeptGlyphs.{glyphs_wanted}
+use Rattle.font_subset.specs.OpenedFont.{cutting_fault}
+use Rattle.font_file.specs.declared.font_error.FontError.{FontError}
+use Rattle.font_theory.specs.declared.kinds.Kind.TheVariants.{Full}
+use Rattle.font_theory.specs.declared.kinds.Kind.{Kind}
+use Rattle.sfnt_bytes.specs.declared.directory.TheConstants.{MAX_FILE}
+use Rattle.sfnt_bytes.specs.declared.numbers.TheConstants.{NO_MEMORY, READ_FAULT, TOO_LARGE, WRITE_FAULT}
+use Rattle.font_file.specs.Text.{error_number}
+use Rattle.font_file.specs.Font.{font_fault}
+use Rattle.font_tables.specs.Fields.{glyph_count_of}
 use Rattle.font_subset.specs.declared.cut_font.CutIntoError.{CutIntoError}
 use Rattle.font_subset.specs.declared.cut_font.CutIntoError.TheVariants as cut_errors
-use Rattle.font_subset.specs.declared.layout_font.OpenError.{OpenError}
-use Rattle.font_subset.specs.declared.layout_font.OpenError.TheVariants as open_errors
+use Rattle.font_subset.specs.declared.open_error.OpenError.{OpenError}
+use Rattle.font_subset.specs.declared.open_error.OpenError.TheVariants as open_errors
 use Rattle.font_join.specs.JoinText.{join_all_error_number}
 use Rattle.font_join.specs.declared.join_error.JoinAllIntoError.{JoinAllIntoError}
 use Rattle.font_join.specs.declared.join_error.JoinAllIntoError.TheVariants as join_into_errors
@@ -19,8 +30,11 @@ use Rattle.streams.specs.declared.inlet.Inlet.{Inlet}
 use Rattle.streams.specs.declared.inlet.ReadError.{ReadError}
 use Rattle.streams.specs.declared.inlet.ReadError.TheVariants.{NoMemory, ReadFault}
 use Rattle.streams.specs.declared.outlet.Outlet.{Outlet}
+use Rattle.commands.specs.declared.cut_request.CutRequest.{CutRequest}
 use Rattle.commands.specs.declared.run_error.RunError.{RunError}
-use Rattle.commands.specs.declared.run_error.RunError.TheVariants.{Font, Join, Memory, OneOf, Read, TooLarge, Write}
+use Rattle.commands.specs.declared.run_error.RunError.TheVariants.{Font, Join, Memory, NoGlyph, OneOf, Read, TooLarge}
+use Rattle.commands.specs.declared.run_error.RunError.TheVariants.{Write}
+use Rattle.commands.specs.declared.run_error.TheConstants.{NO_GLYPH}
 use Rattle.streams.specs.Inlet as inlets
 use Rattle.streams.specs.Outlet as outlets
 
@@ -43,6 +57,8 @@ RunStops remaining contents serves text refuses i j o p (Font error) =
     (inlets.inlet_broken_of j ≡ false) × (p ≡ o) × refuses (Font error)
 RunStops remaining contents serves text refuses i j o p (OneOf which error) =
     (inlets.inlet_broken_of j ≡ false) × (p ≡ o) × refuses (OneOf which error)
+RunStops remaining contents serves text refuses i j o p (NoGlyph number) =
+    (inlets.inlet_broken_of j ≡ false) × (p ≡ o) × refuses (NoGlyph number)
 RunStops remaining contents serves text refuses i j o p (TooLarge size) =
     (inlets.inlet_broken_of j ≡ false) × (p ≡ o) × refuses (TooLarge size)
 RunStops remaining contents serves text refuses i j o p (Join error) =
@@ -70,13 +86,48 @@ AnyFile file = Unit {0}
 abbrev pub IsAccepted : List ℕ → Type 0
 IsAccepted file = font_fault file ≡ None
 
--- a file is accepted for cuts of a kind, and its cut for the wanted codes is not too large
-abbrev pub HasCutIn : Kind → (ℕ → Bool) → List ℕ → Type 0
-HasCutIn kind wanted file = (fault_of kind file ≡ None) × (length (cut_in kind file wanted) ≤ MAX_FILE)
+-- what is asked of a font: cuts of a kind, closed under links or not, for codes and for glyphs by number, or all glyphs
+pub record Request : Type 0 where
+  pub kind : Kind
+  pub closes : Bool
+  pub codes : ℕ → Bool
+  pub numbers : Option (List ℕ)
+
+-- the codes of a set alone, where layout and variable cuts have all that links of GSUB lead to
+abbrev pub codes_request : Kind → (ℕ → Bool) → Request
+codes_request kind codes = record { kind = kind; closes = keeps_links kind; codes = codes; numbers = Some [] }
+
+-- what a run is asked for
+abbrev pub requested : {A : Type 0} → CutRequest A → Request
+requested request = record {
+  kind = request.kind;
+  closes = request.closes;
+  codes = member request.codes.now;
+  numbers = option_copied request.glyphs;
+}
+
+-- the cut of a file that is asked for
+abbrev pub cut_for : Request → List ℕ → List ℕ
+cut_for r file =
+    cut_as (r.kind, (file, r.closes)) (record { codes = r.codes; glyphs = glyphs_wanted r.numbers })
+
+-- why a file is refused for the cuts that are asked for
+abbrev pub fault_for : Request → List ℕ → Option FontError
+fault_for r file = cutting_fault r.closes r.kind file
+
+-- the first of the numbers that is no glyph of a file
+abbrev pub stray_number : List ℕ → Option (List ℕ) → Option ℕ
+stray_number file None = None
+stray_number file (Some numbers) = find (λ g. nat_le (glyph_count_of file) g) numbers
+
+-- a file is accepted for the cuts that are asked for, its cut is not too large, and all numbers are glyphs
+abbrev pub HasCutIn : Request → List ℕ → Type 0
+HasCutIn r file =
+    (fault_for r file ≡ None) × (length (cut_for r file) ≤ MAX_FILE) × (stray_number file r.numbers ≡ None)
 
 -- a file is accepted, and its cut for the wanted codes is not too large
 abbrev pub HasCut : (ℕ → Bool) → List ℕ → Type 0
-HasCut = HasCutIn Full
+HasCut codes = HasCutIn (codes_request Full codes)
 
 -- no file is refused
 abbrev pub RefusesNone : RunError → Type 0
@@ -86,27 +137,33 @@ RefusesNone error = ⊥
 abbrev pub RefusesFont : {R : Type 0} → (R → Option (List ℕ)) → Inlet R → RunError → Type 0
 RefusesFont remaining inlet (Font error) = got remaining inlet (λ file. font_fault file ≡ Some error)
 RefusesFont remaining inlet (OneOf which error) = ⊥
+RefusesFont remaining inlet (NoGlyph number) = ⊥
 RefusesFont remaining inlet (TooLarge size) = ⊥
 RefusesFont remaining inlet (Join error) = ⊥
 RefusesFont remaining inlet (Read count) = ⊥
 RefusesFont remaining inlet Memory = ⊥
 RefusesFont remaining inlet (Write count) = ⊥
 
--- a file is refused for cuts of a kind, or is accepted and its cut has this size, more than a file may have
-abbrev pub RefusesCutIn : {R : Type 0} → Kind → (R → Option (List ℕ)) → Inlet R → (ℕ → Bool) → RunError → Type 0
-RefusesCutIn kind remaining inlet wanted (Font error) =
-    got remaining inlet (λ file. fault_of kind file ≡ Some error)
-RefusesCutIn kind remaining inlet wanted (TooLarge size) =
-    got remaining inlet (λ file. (fault_of kind file ≡ None) × IsTooLarge (cut_in kind file wanted) size)
-RefusesCutIn kind remaining inlet wanted (OneOf which error) = ⊥
-RefusesCutIn kind remaining inlet wanted (Join error) = ⊥
-RefusesCutIn kind remaining inlet wanted (Read count) = ⊥
-RefusesCutIn kind remaining inlet wanted Memory = ⊥
-RefusesCutIn kind remaining inlet wanted (Write count) = ⊥
+-- a file is refused for the cuts that are asked for; or, where it is accepted as a font, a number is no glyph of it;
+-- or its cut has this size, more than a file may have
+abbrev pub RefusesCutIn : {R : Type 0} → Request → (R → Option (List ℕ)) → Inlet R → RunError → Type 0
+RefusesCutIn r remaining inlet (Font error) =
+    got remaining inlet (λ file. (fault_for r file ≡ Some error)
+    × (font_fault file ≡ None → stray_number file r.numbers ≡ None))
+RefusesCutIn r remaining inlet (NoGlyph number) =
+    got remaining inlet (λ file. (font_fault file ≡ None) × (stray_number file r.numbers ≡ Some number))
+RefusesCutIn r remaining inlet (TooLarge size) =
+    got remaining inlet (λ file. (fault_for r file ≡ None) × (stray_number file r.numbers ≡ None)
+    × IsTooLarge (cut_for r file) size)
+RefusesCutIn r remaining inlet (OneOf which error) = ⊥
+RefusesCutIn r remaining inlet (Join error) = ⊥
+RefusesCutIn r remaining inlet (Read count) = ⊥
+RefusesCutIn r remaining inlet Memory = ⊥
+RefusesCutIn r remaining inlet (Write count) = ⊥
 
 -- a file is refused as a font, or its cut is too large
 abbrev pub RefusesCut : {R : Type 0} → (R → Option (List ℕ)) → Inlet R → (ℕ → Bool) → RunError → Type 0
-RefusesCut = RefusesCutIn Full
+RefusesCut remaining inlet codes = RefusesCutIn (codes_request Full codes) remaining inlet
 
 -- the error of a run whose inlet was not read to its end
 abbrev pub of_read_error : ReadError → RunError
@@ -141,5 +198,6 @@ run_error_number Memory = NO_MEMORY
 run_error_number (Write count) = WRITE_FAULT
 run_error_number (Font error) = error_number error
 run_error_number (OneOf which error) = error_number error
+run_error_number (NoGlyph number) = NO_GLYPH
 run_error_number (TooLarge size) = TOO_LARGE
 run_error_number (Join error) = join_all_error_number error

@@ -3,9 +3,18 @@ use Rattle.std.specs.Prelude.{ℕ, List, [], ◌∷◌, ◌++◌, codes, decimal
 use Rattle.std.specs.List.{flat_map, range_with_len}
 use Rattle.std.specs.Option.{option_copied, option_map_or}
 use Rattle.font_subset.specs.CutOfFont.{cut_form_of}
-use Rattle.font_cut.specs.Fonts.{Entry, LocaForm, Long, SLOTS, Short, Tag, chosen_of, cmap_of, dropped_of}
-use Rattle.font_cut.specs.Fonts.{glyph_count_of, kept_tag, loca_form_of, mapped_codes, mapping_of, metric_count_of}
-use Rattle.font_cut.specs.Fonts.{table_of, tag_text, units_per_em_of}
+use Rattle.sfnt_bytes.specs.declared.records.Entry.{Entry}
+use Rattle.font_tables.specs.declared.loca.LocaForm.{LocaForm}
+use Rattle.font_tables.specs.declared.loca.LocaForm.TheVariants.{Long, Short}
+use Rattle.sfnt_bytes.specs.declared.tag.TheConstants.{SLOTS}
+use Rattle.sfnt_bytes.specs.declared.tag.Tag.{Tag}
+use Rattle.font_map.specs.Cmap.{chosen_of}
+use Rattle.font_file.specs.Font.{cmap_of}
+use Rattle.sfnt_bytes.specs.Directory.{dropped_of, kept_tag, table_of}
+use Rattle.font_tables.specs.Fields.{glyph_count_of, loca_form_of, metric_count_of, units_per_em_of}
+use Rattle.codes.specs.CharacterMap.{mapped_codes}
+use Rattle.font_map.specs.Mapping.{mapping_of}
+use Rattle.sfnt_bytes.specs.Text.{tag_text}
 use Rattle.font_subset.specs.declared.forms.CutForm.{CutForm}
 use Rattle.font_subset.specs.declared.forms.CutForm.TheVariants.{Current, Not, Old}
 use Rattle.commands.specs.Check.{line}

@@ -1,16 +1,20 @@
 //! `belongs`: whether a file is a cut of a font.
 ghost use Rattle.std.specs.Prelude.{◌≡◌, None, IfErr, IfOk, MatchResult, OnOk, false, true};
 ghost use Rattle.streams.specs.Outlet.{WentOut, broken_of, flushed_of, fresh_of};
-ghost use Rattle.font_cut.specs.Fonts.{Kind, fault_of};
+ghost use Rattle.font_theory.specs.declared.kinds.Kind.{Kind};
+ghost use Rattle.font_theory.specs.Kinds.{fault_of};
 ghost use Rattle.commands.specs.Belongs.{Answers, BelongsStops, IsUnanswered, IsUnopened, answer_text, got_both, of_unopened};
 ghost use Rattle.streams.specs.Inlet.{inlet_fresh_of};
 ghost use Rattle.commands.specs.JoinRun.{IsSpent};
 
 use crate::run_error::{RunError, send};
-use font_cut::{Font, FontOfKind, Kind, OpenError, Outlet, Which, belongs};
+use font_file::Font;
+use font_join::Which;
+use font_subset::{FontOfKind, OpenError, belongs};
+use font_theory::Kind;
 use std::alloc::Allocator;
 use std::io::{Read, Write};
-use streams::Inlet;
+use streams::{Inlet, Outlet};
 
 // Opens one of two files, or returns why that one is refused as a font.
 fn opened_as(which: Which, file: &[u8]) -> Result<Font<'_>, RunError>

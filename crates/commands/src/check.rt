@@ -1,18 +1,20 @@
 //! `check`: the findings of a file, and whether it is accepted.
 ghost use Rattle.std.specs.Prelude.{◌≡◌, ◌↔◌, None, Some, IfOk, IsTrue, OnOk, [], false, true};
 ghost use Rattle.std.specs.List.{flat_map};
-ghost use Rattle.font_cut.specs.Fonts.{findings_of, font_fault};
+ghost use Rattle.sfnt_bytes.specs.Findings.{findings_of};
+ghost use Rattle.font_file.specs.Font.{font_fault};
 ghost use Rattle.commands.specs.Check.{check_text, finding_line, read_findings, report_text, shown_findings};
 ghost use Rattle.streams.specs.Inlet.{inlet_fresh_of};
 ghost use Rattle.streams.specs.Outlet.{flushed_of, fresh_of};
 ghost use Rattle.commands.specs.Run.{AnyFile, RefusesNone, SendsText, got};
 
 use crate::run_error::{RunError, send};
-use font_cut::{Directory, Finding, Font, FontError, Outlet};
+use font_file::{Font, FontError};
+use sfnt_bytes::{Directory, Finding};
 use std::alloc::{AllocError, Allocator};
 use std::fmt;
 use std::io::{Read, Write};
-use streams::Inlet;
+use streams::{Inlet, Outlet};
 
 // A line for each finding.
 #[derive(Clone, Copy)]

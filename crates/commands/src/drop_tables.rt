@@ -3,8 +3,7 @@ ghost use Rattle.std.specs.Prelude.{◌≡◌, ◌+◌, ◌*◌, ◌++◌, ◌�
 ghost use Rattle.sfnt_bytes.specs.Directory.{HasRecords, tag_at};
 ghost use Rattle.commands.specs.Drop.{is_among, record_without, without_tables};
 
-use font_cut::{Directory, Tag};
-use sfnt_bytes::be16;
+use sfnt_bytes::{Directory, Tag, be16};
 use std::alloc::{AllocError, Allocator};
 
 // The bytes before the records of tables, and those of a record and of its tag.

@@ -1,16 +1,20 @@
 //! `join`: the join of cuts.
 ghost use Rattle.std.specs.Prelude.{◌≡◌, ◌≤◌, ℕ, Bool, List, IfErr, IfOk, MatchResult, OnOk, false, length, map, true};
-ghost use Rattle.font_subset.specs.CutOfFont.{cut_of};
 ghost use Rattle.font_subset.specs.CutOfKind.{cut_in};
-ghost use Rattle.font_cut.specs.Fonts.{MAX_FILE, format_of, our_format, union_below};
+ghost use Rattle.font_theory.specs.Content.{Wanted};
+ghost use Rattle.font_theory.specs.declared.kinds.Kind.TheVariants.{Full};
+ghost use Rattle.sfnt_bytes.specs.declared.directory.TheConstants.{MAX_FILE};
+ghost use Rattle.font_theory.specs.Kinds.{format_of};
+ghost use Rattle.font_theory.specs.Tree.{union_below};
 ghost use Rattle.streams.specs.Outlet.{WentOut, broken_of, flushed_of, fresh_of};
 ghost use Rattle.commands.specs.JoinRun.{AreFresh, AreGot, AreSpent, GotCuts, JoinStops, OnlySize, ReadStops, SendsJoin};
 
 use crate::run_error::RunError;
-use font_cut::{Kind, Outlet, join_all_of_kind_into};
+use font_join::join_all_of_kind_into;
+use font_theory::Kind;
 use std::alloc::Allocator;
 use std::io::{Read, Write};
-use streams::Inlet;
+use streams::{Inlet, Outlet};
 
 // Reads each inlet to its end, in order. Where a reader fails, its inlet is broken, and no other.
 fn read_each<R: Read, A: Allocator + Copy>(
@@ -53,7 +57,7 @@ pub fn run_join_of_kind<R: Read, W: Write, A: Allocator + Copy>(
     ensures small { IfOk result (λ size. size ≤ MAX_FILE) }
     ensures whole { OnOk result (AreSpent inlets.new × (broken_of outlet.new ≡ false)) }
     ensures flushed { OnOk result (flushed_of outlet.new ≡ true) }
-    ensures cuts { (F : List ℕ) (A : ℕ → ℕ → Bool) → GotCuts (format_of kind) R.remaining inlets.old F A →
+    ensures cuts { (F : List ℕ) (A : ℕ → Wanted) → GotCuts (format_of kind) R.remaining inlets.old F A →
         MatchResult result (λ size. let z = cut_in kind F (union_below A (length inlets.old)) in
         (size ≡ length z) × WentOut W.contents outlet.old outlet.new z)
         (OnlySize (format_of kind) F A (length inlets.old)) }
@@ -83,17 +87,17 @@ pub fn run_join<R: Read, W: Write, A: Allocator + Copy>(
     requires outlet { fresh_of outlet.old ≡ true }
 
     ensures sent { IfOk result
-        (SendsJoin our_format R.remaining W.contents inlets.old outlet.old outlet.new) }
+        (SendsJoin (format_of Full) R.remaining W.contents inlets.old outlet.old outlet.new) }
     ensures small { IfOk result (λ size. size ≤ MAX_FILE) }
     ensures whole { OnOk result (AreSpent inlets.new × (broken_of outlet.new ≡ false)) }
     ensures flushed { OnOk result (flushed_of outlet.new ≡ true) }
-    ensures cuts { (F : List ℕ) (A : ℕ → ℕ → Bool) → GotCuts our_format R.remaining inlets.old F A →
-        MatchResult result (λ size. let z = cut_of F (union_below A (length inlets.old)) in
+    ensures cuts { (F : List ℕ) (A : ℕ → Wanted) → GotCuts (format_of Full) R.remaining inlets.old F A →
+        MatchResult result (λ size. let z = cut_in Full F (union_below A (length inlets.old)) in
         (size ≡ length z) × WentOut W.contents outlet.old outlet.new z)
-        (OnlySize our_format F A (length inlets.old)) }
+        (OnlySize (format_of Full) F A (length inlets.old)) }
 
     ensures error { IfErr result
-        (JoinStops our_format R.remaining W.contents inlets.old inlets.new outlet.old outlet.new) }
+        (JoinStops (format_of Full) R.remaining W.contents inlets.old inlets.new outlet.old outlet.new) }
 {
     run_join_of_kind(alloc, Kind::Full, inlets, outlet)
 }

@@ -4,6 +4,7 @@
 
 mod belongs;
 mod check;
+mod cut_request;
 mod drop_tables;
 mod join;
 mod mapped_codes;
@@ -14,10 +15,11 @@ mod subset;
 
 pub use crate::belongs::run_belongs;
 pub use crate::check::run_check;
+pub use crate::cut_request::CutRequest;
 pub use crate::drop_tables::without_tables;
 pub use crate::join::{run_join, run_join_of_kind};
 pub use crate::mapped_codes::{codes_laws, next_range, run_codes};
 pub use crate::mapped_glyphs::{glyphs_law, run_glyphs};
-pub use crate::run_error::RunError;
+pub use crate::run_error::{NO_GLYPH, RunError};
 pub use crate::show::run_show;
-pub use crate::subset::{run_subset, run_subset_of_kind};
+pub use crate::subset::{run_subset, run_subset_of_kind, run_subset_of_request};

@@ -1,19 +1,23 @@
 //! `codes`: the mapped codes of a font, as words that `subset` reads.
-ghost use Rattle.std.specs.Prelude.{◌≡◌, ◌+◌, ◌≤◌, ◌∷◌, ℕ, [], MatchOption, OnOk, Some, true};
+ghost use Rattle.std.specs.Prelude.{◌≡◌, ◌+◌, ◌≤◌, ◌∷◌, ℕ, [], IfErr, IfOk, MatchOption, None, OnOk, Some, string_bytes, true};
 ghost use Rattle.codes.specs.CharacterMap.{IsCharacterMap};
 ghost use Rattle.codes.specs.declared.code_points.TheConstants.{LAST_CODE};
-ghost use Rattle.font_cut.specs.Fonts.{mapping_of};
+ghost use Rattle.font_map.specs.Mapping.{mapping_of};
 ghost use Rattle.streams.specs.Outlet.{flushed_of, fresh_of};
 ghost use Rattle.commands.specs.Codes.{CodesLaws, code_lines, code_ranges, codes_text};
 ghost use Rattle.streams.specs.Inlet.{inlet_fresh_of};
+ghost use Rattle.commands.specs.Inside.{RefusesText};
+ghost use Rattle.font_file.specs.Font.{font_fault};
 ghost use Rattle.commands.specs.Run.{IsAccepted, RefusesFont, SendsText};
 
 use crate::run_error::{RunError, send};
-use font_cut::{Chart, CodeRange, Font, Outlet};
+use codes::CodeRange;
+use font_file::Font;
+use font_map::Chart;
 use std::alloc::{Allocator, Global};
 use std::fmt;
 use std::io::{Read, Write};
-use streams::Inlet;
+use streams::{Inlet, Outlet};
 
 // The mapped codes of a font, by the chart of its mapping, which is quick to walk in whatever order its
 // subtable stands.
@@ -58,13 +62,25 @@ impl<'a, A: Allocator> fmt::Display for Codes<'a, A> {
     }
 }
 
+// Returns the lines of the codes that a font maps. It borrows the file, which its caller owns: of what a function owns it
+// is proved at each `?` that it can be let go.
+#[tactic(auto, unfolding(crate::specs::Codes::codes_text))]
+fn codes_of_file<A: Allocator + Copy>(alloc: A, file: &[u8]) -> Result<String<A>, RunError>
+    ensures accepted { OnOk result (font_fault file.now ≡ None) }
+    ensures text { IfOk result (λ text. string_bytes text ≡ codes_text file.now) }
+    ensures error { IfErr result (RefusesText file.now) }
+{
+    let font = Font::open(file)?;
+    let codes = Codes(Chart::of(alloc, font.mapping())?);
+    Ok(codes.to_string(alloc)?)
+}
+
 /// Reads a font to its end, and sends the codes that it maps, ascending: each range of them, as long as it
 /// can be, is a line, `U+41` or `U+41-5A`.
 ///
 /// # Errors
 /// `Read` where the reader fails, `Memory` where memory is refused, `Font` where the font is: then
 /// nothing was sent. `Write` where the writer fails.
-#[tactic(auto, unfolding(crate::specs::Codes::codes_text))]
 pub fn run_codes<R: Read, W: Write, A: Allocator + Copy>(
     alloc: A,
     inlet: &mut Inlet<R>,
@@ -77,9 +93,7 @@ pub fn run_codes<R: Read, W: Write, A: Allocator + Copy>(
     ensures flushed { OnOk result (flushed_of outlet.new ≡ true) }
 {
     let file = inlet.read_all(alloc)?;
-    let font = Font::open(&file)?;
-    let codes = Codes(Chart::of(alloc, font.mapping())?);
-    let text = codes.to_string(alloc)?;
+    let text = codes_of_file(alloc, &file)?;
     Ok(send(outlet, text.as_bytes())?)
 }
 

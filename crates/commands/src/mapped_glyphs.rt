@@ -1,24 +1,26 @@
 //! `codes --glyphs`: each mapped code of a font with its glyph and the advance width of that. OpenType 1.9,
 //! `cmap` and `hmtx`.
-ghost use Rattle.std.specs.Prelude.{◌≡◌, ◌+◌, ℕ, [], MatchOption, OnOk, Some, true};
+ghost use Rattle.std.specs.Prelude.{◌≡◌, ◌+◌, ℕ, [], IfErr, IfOk, MatchOption, None, OnOk, Some, string_bytes, true};
 ghost use Rattle.codes.specs.CharacterMap.{IsCharacterMap, is_mapped};
 ghost use Rattle.codes.specs.Wanted.{IsBadRange};
 ghost use Rattle.codes.specs.Word.{IsWord, code_word};
-ghost use Rattle.font_cut.specs.Fonts.{map_of};
+ghost use Rattle.font_file.specs.Font.{font_fault, map_of};
 ghost use Rattle.streams.specs.Inlet.{inlet_fresh_of};
 ghost use Rattle.streams.specs.Outlet.{flushed_of, fresh_of};
 ghost use Rattle.commands.specs.MappedGlyphs.{glyph_line, glyph_text, glyphs_text, mapped_from};
 ghost use Rattle.commands.specs.Places.{IsPlace, IsPlaceFrom};
+ghost use Rattle.commands.specs.Inside.{RefusesText};
 ghost use Rattle.commands.specs.Run.{IsAccepted, RefusesFont, SendsText};
 
 use crate::run_error::{RunError, send};
 use codes::Run;
-use font_cut::{Chart, Font, Outlet};
+use font_file::Font;
+use font_map::Chart;
 use std::alloc::{Allocator, Global};
 use std::fmt;
 use std::io::{Read, Write};
 use std::marker::Model;
-use streams::Inlet;
+use streams::{Inlet, Outlet};
 
 // A code, its glyph, and how far that advances, which are printed as a line.
 #[derive(Clone, Copy)]
@@ -53,7 +55,8 @@ struct Glyphs<'a, A: Allocator = Global> {
 
 impl<'a, A: Allocator> Model for Glyphs<'a, A> {
     ghost use Rattle.std.specs.Prelude.{◌≡◌, ℕ, List};
-    ghost use Rattle.font_cut.specs.Fonts.{cmap_of, glyph_count_of};
+    ghost use Rattle.font_file.specs.Font.{cmap_of};
+    ghost use Rattle.font_tables.specs.Fields.{glyph_count_of};
 
     ghost Value = { List ℕ };
 
@@ -120,6 +123,18 @@ impl<'a, A: Allocator> fmt::Display for Glyphs<'a, A> {
     }
 }
 
+// Returns the lines of the codes that a font maps. It borrows the file, which its caller owns, as `codes_of_file` does.
+fn glyphs_of_file<A: Allocator + Copy>(alloc: A, file: &[u8]) -> Result<String<A>, RunError>
+    ensures accepted { OnOk result (font_fault file.now ≡ None) }
+    ensures text { IfOk result (λ text. string_bytes text ≡ glyphs_text file.now) }
+    ensures error { IfErr result (RefusesText file.now) }
+{
+    let font = Font::open(file)?;
+    let chart = Chart::of(alloc, font.mapping())?;
+    let glyphs = Glyphs { font: &font, chart };
+    Ok(glyphs.to_string(alloc)?)
+}
+
 /// Reads a font to its end, and sends a line for each code that it maps, ascending: the code, the number of
 /// its glyph, and the advance width of that in font units, as `U+41 36 1401`.
 ///
@@ -138,10 +153,7 @@ pub fn run_glyphs<R: Read, W: Write, A: Allocator + Copy>(
     ensures flushed { OnOk result (flushed_of outlet.new ≡ true) }
 {
     let file = inlet.read_all(alloc)?;
-    let font = Font::open(&file)?;
-    let chart = Chart::of(alloc, font.mapping())?;
-    let glyphs = Glyphs { font: &font, chart };
-    let text = glyphs.to_string(alloc)?;
+    let text = glyphs_of_file(alloc, &file)?;
     Ok(send(outlet, text.as_bytes())?)
 }
 

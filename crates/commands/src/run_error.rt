@@ -4,14 +4,17 @@ ghost use Rattle.streams.specs.Outlet.{WentOut, broken_of, flushed_of, fresh_of,
 ghost use Rattle.commands.specs.Run.{of_cut_error, of_join_error, of_join_into_error, of_open_error, of_read_error, run_error_number};
 ghost use Rattle.commands.specs.declared.run_error.RunError.TheVariants.{Font, Memory, Write};
 
-use font_cut::{
-    CutIntoError, FontError, JoinAllError, JoinAllIntoError, JoinError, NoMemory, OpenError,
-    Outlet, Which, WriteFault, numbers,
-};
+use font_file::FontError;
+use font_join::{JoinAllError, JoinAllIntoError, JoinError, Which};
+use font_subset::{CutIntoError, OpenError};
+use sfnt_bytes::{NoMemory, numbers};
 use std::alloc::AllocError;
 use std::io;
-use streams::ReadError;
+use streams::{Outlet, ReadError, WriteFault};
 use thiserror::Error;
+
+/// The number of the refusal of a number that is no glyph, which is its status for C too.
+pub const NO_GLYPH: u8 = 102;
 
 /// Why a run was not done.
 #[derive(Clone, Copy, Debug, PartialEq, Eq, Error)]
@@ -31,6 +34,9 @@ pub enum RunError {
     /// One of two files, by its place, is refused as a font.
     #[error("{1}")]
     OneOf(Which, FontError),
+    /// The font has no glyph of this number.
+    #[error("no glyph {0}")]
+    NoGlyph(u16),
     /// The file to be written would have this number of bytes, more than a file may have.
     #[error("too large {0}")]
     TooLarge(u64),
@@ -50,6 +56,7 @@ impl RunError {
             RunError::Write(_) => numbers::WRITE_FAULT,
             RunError::Font(error) => error.number(),
             RunError::OneOf(_, error) => error.number(),
+            RunError::NoGlyph(_) => NO_GLYPH,
             RunError::TooLarge(_) => numbers::TOO_LARGE,
             RunError::Join(error) => error.number(),
         }

@@ -1,20 +1,26 @@
 //! `show`: what a person asks of a font, and what a cut of it keeps and drops.
-ghost use Rattle.std.specs.Prelude.{◌≡◌, ◌<◌, None, Some, IfOk, OnOk, true};
-ghost use Rattle.font_cut.specs.Fonts.{SLOTS, cmap_of, glyph_count_of, mapped_codes, mapping_of};
+ghost use Rattle.std.specs.Prelude.{◌≡◌, ◌<◌, None, Some, IfErr, IfOk, OnOk, string_bytes, true};
+ghost use Rattle.sfnt_bytes.specs.declared.tag.TheConstants.{SLOTS};
+ghost use Rattle.font_file.specs.Font.{cmap_of, font_fault};
+ghost use Rattle.font_tables.specs.Fields.{glyph_count_of};
+ghost use Rattle.codes.specs.CharacterMap.{mapped_codes};
+ghost use Rattle.font_map.specs.Mapping.{mapping_of};
 ghost use Rattle.streams.specs.Inlet.{inlet_fresh_of};
 ghost use Rattle.streams.specs.Outlet.{flushed_of, fresh_of};
+ghost use Rattle.commands.specs.Inside.{RefusesText};
 ghost use Rattle.commands.specs.Run.{IsAccepted, RefusesFont, SendsText};
 ghost use Rattle.commands.specs.Show.{cut_text, dropped_line, dropped_text, font_text, kept_line, kept_table_line, kept_text, mapped_text, numbers_text, show_text};
 
 use crate::run_error::{RunError, send};
-use font_cut::{
-    Chart, CutForm, Directory, Entry, Font, KEPT, LocaForm, Mapping, NoMemory, Outlet, SLOTS,
-    Tables, Tag, cut_form,
-};
+use font_file::Font;
+use font_map::{Chart, Mapping};
+use font_subset::{CutForm, cut_form};
+use font_tables::{LocaForm, Tables};
+use sfnt_bytes::{Directory, Entry, KEPT, NoMemory, SLOTS, Tag};
 use std::alloc::Allocator;
 use std::fmt;
 use std::io::{Read, Write};
-use streams::Inlet;
+use streams::{Inlet, Outlet};
 
 // The line of a kept table, where there is one.
 #[derive(Clone, Copy)]
@@ -24,7 +30,7 @@ struct KeptLine<'a> {
 }
 
 impl<'a> KeptLine<'a> {
-    #[tactic(auto, unfolding(font_cut::specs::Fonts::kept_tag))]
+    #[tactic(auto, unfolding(sfnt_bytes::specs::Directory::kept_tag))]
     fn of(directory: &Directory<'a>, slot: usize) -> KeptLine<'a>
         requires { slot < SLOTS }
         ensures { kept_table_line result ≡ kept_line directory.now slot }
@@ -189,6 +195,22 @@ impl<'a> fmt::Display for Shown<'a> {
     }
 }
 
+// Returns the lines of a font. It borrows the file, which its caller owns, as `codes_of_file` does.
+#[tactic(auto, unfolding(crate::specs::Show::show_text))]
+fn shown_file<A: Allocator + Copy>(alloc: A, file: &[u8]) -> Result<String<A>, RunError>
+    ensures accepted { OnOk result (font_fault file.now ≡ None) }
+    ensures text { IfOk result (λ text. string_bytes text ≡ show_text file.now) }
+    ensures error { IfErr result (RefusesText file.now) }
+{
+    let font = Font::open(file)?;
+    let shown = Shown {
+        font: &font,
+        mapped: count_mapped(alloc, &font)?,
+        form: cut_form(alloc, &font)?,
+    };
+    Ok(shown.to_string(alloc)?)
+}
+
 /// Reads a font to its end, and sends its numbers of glyphs, units and metrics, the form of its
 /// `loca`, which subtable its mapping is read from and how many codes that maps, a line for each table
 /// that a cut keeps or drops, and whether the font is a cut itself: as it is written now (`yes`), as it was
@@ -197,7 +219,6 @@ impl<'a> fmt::Display for Shown<'a> {
 /// # Errors
 /// `Read` where the reader fails, `Memory` where memory is refused, `Font` where the font is: then
 /// nothing was sent. `Write` where the writer fails.
-#[tactic(auto, unfolding(crate::specs::Show::show_text))]
 pub fn run_show<R: Read, W: Write, A: Allocator + Copy>(
     alloc: A,
     inlet: &mut Inlet<R>,
@@ -210,12 +231,6 @@ pub fn run_show<R: Read, W: Write, A: Allocator + Copy>(
     ensures flushed { OnOk result (flushed_of outlet.new ≡ true) }
 {
     let file = inlet.read_all(alloc)?;
-    let font = Font::open(&file)?;
-    let shown = Shown {
-        font: &font,
-        mapped: count_mapped(alloc, &font)?,
-        form: cut_form(alloc, &font)?,
-    };
-    let text = shown.to_string(alloc)?;
+    let text = shown_file(alloc, &file)?;
     Ok(send(outlet, text.as_bytes())?)
 }

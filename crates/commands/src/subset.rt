@@ -1,68 +1,128 @@
-//! `subset`: the cut of a font for the codes that are wanted.
-ghost use Rattle.std.specs.Prelude.{◌≡◌, ◌≤◌, IfOk, OnOk, length, true};
+//! `subset`: the cut of a font for the codes and the glyphs that are wanted.
+ghost use Rattle.std.specs.Prelude.{◌≡◌, ◌≤◌, None, IfOk, OnOk, length, nat_le, option_copied, true};
+ghost use Rattle.std.specs.List.{find};
 ghost use Rattle.font_subset.specs.CutOfFont.{cut_of};
-ghost use Rattle.font_subset.specs.CutOfKind.{cut_in};
-ghost use Rattle.font_cut.specs.Fonts.{MAX_FILE, member};
+ghost use Rattle.sfnt_bytes.specs.declared.directory.TheConstants.{MAX_FILE};
+ghost use Rattle.font_file.specs.Font.{font_fault};
+ghost use Rattle.codes.specs.Wanted.{member};
 ghost use Rattle.streams.specs.Outlet.{flushed_of, fresh_of};
 ghost use Rattle.streams.specs.Inlet.{inlet_fresh_of};
 ghost use Rattle.commands.specs.Inside.{SendsCut};
-ghost use Rattle.commands.specs.Run.{HasCut, HasCutIn, RefusesCut, RefusesCutIn, SendsText, got};
+ghost use Rattle.commands.specs.Run.{HasCut, HasCutIn, RefusesCut, RefusesCutIn, SendsText, codes_request, cut_for, got, requested, stray_number};
 
+use crate::cut_request::CutRequest;
 use crate::run_error::RunError;
-use font_cut::{Font, FontOfKind, Kind, Outlet, Wanted, cut_of_kind_into};
+use codes::Wanted;
+use font_file::Font;
+use font_subset::{FontToCut, cut_of_kind_into, keeps_layout};
+use font_theory::Kind;
 use std::alloc::Allocator;
 use std::io::{Read, Write};
-use streams::Inlet;
+use streams::{Inlet, Outlet};
 
-// Sends the cut of a font that was opened for cuts of a kind, flushes, and returns its size. It owns nothing, nor do the
+// Sends the cut of a font that was opened for what is asked, flushes, and returns its size. It owns nothing, nor do the
 // two below own more than they open: of what a function owns it is proved at each `?` that it can be let go.
 fn send_of_opened<W: Write, A: Allocator + Copy>(
     alloc: A,
-    font: &FontOfKind<'_, '_, A>,
-    wanted: &Wanted<A>,
+    font: &FontToCut<'_, '_, A>,
+    request: &CutRequest<'_, A>,
     outlet: &mut Outlet<W>,
 ) -> Result<u64, RunError>
-    requires { fresh_of outlet.old ≡ true }
-    ensures { SendsCut W.contents font.now.0 (member wanted.now) font.now.1 outlet.old outlet.new result }
+    requires fresh { fresh_of outlet.old ≡ true }
+    requires opened { font.now ≡ (request.now.kind, (font.now.1.0, request.now.closes)) }
+    requires known { stray_number font.now.1.0 (option_copied request.now.glyphs) ≡ None }
+    ensures { SendsCut W.contents (requested request.now) font.now.1.0 outlet.old outlet.new result }
 {
-    let _kind = font.kind();
-    let size = cut_of_kind_into(alloc, font, wanted, outlet)?;
+    let _opened = font.font();
+    let size = cut_of_kind_into(alloc, font, Some(request.codes), request.glyphs, outlet)?;
     outlet.finish()?;
     Ok(size)
 }
 
-// The same of an accepted font, which is opened for the kind first.
+// Finds the first number that is not below a count.
+fn first_past(count: u16, numbers: &[u16]) -> Option<u16>
+    ensures { result ≡ find (λ g. nat_le count g) numbers.now }
+{
+    for number in numbers {
+        if count <= *number {
+            return Some(*number);
+        }
+    }
+    None
+}
+
+// Finds the first number that is no glyph of a font.
+fn stray_in(font: &Font<'_>, numbers: Option<&[u16]>) -> Option<u16>
+    ensures { result ≡ stray_number font.now (option_copied numbers.entry) }
+{
+    let count = font.tables().glyph_count();
+    match numbers {
+        Some(numbers) => first_past(count, numbers),
+        None => None,
+    }
+}
+
+// The same of an accepted font, which is opened for what is asked first.
 fn send_of_font<W: Write, A: Allocator + Copy>(
     alloc: A,
-    kind: Kind,
     font: &Font<'_>,
-    wanted: &Wanted<A>,
+    request: &CutRequest<'_, A>,
     outlet: &mut Outlet<W>,
 ) -> Result<u64, RunError>
-    requires { fresh_of outlet.old ≡ true }
-    ensures { SendsCut W.contents kind (member wanted.now) font.now outlet.old outlet.new result }
+    requires fresh { fresh_of outlet.old ≡ true }
+    requires accepted { font_fault font.now ≡ None }
+    ensures { SendsCut W.contents (requested request.now) font.now outlet.old outlet.new result }
 {
-    let opened = FontOfKind::open(alloc, kind, font)?;
-    send_of_opened(alloc, &opened, wanted, outlet)
+    if let Some(number) = stray_in(font, request.glyphs) {
+        return Err(RunError::NoGlyph(number));
+    }
+    let opened = FontToCut::open(alloc, request.kind, request.closes, font)?;
+    send_of_opened(alloc, &opened, request, outlet)
 }
 
 // The same of a file, which is opened as a font first.
 fn send_of_file<W: Write, A: Allocator + Copy>(
     alloc: A,
-    kind: Kind,
     file: &[u8],
-    wanted: &Wanted<A>,
+    request: &CutRequest<'_, A>,
     outlet: &mut Outlet<W>,
 ) -> Result<u64, RunError>
     requires { fresh_of outlet.old ≡ true }
-    ensures { SendsCut W.contents kind (member wanted.now) file.now outlet.old outlet.new result }
+    ensures { SendsCut W.contents (requested request.now) file.now outlet.old outlet.new result }
 {
     let font = Font::open(file)?;
-    send_of_font(alloc, kind, &font, wanted, outlet)
+    send_of_font(alloc, &font, request, outlet)
+}
+
+/// Reads a font to its end, sends its cut for what is asked, and returns the size of the cut in bytes.
+///
+/// # Errors
+///
+/// `Read` where the reader fails, `Memory` where memory is refused, `Font` where the font is, `NoGlyph` with the first
+/// number that is no glyph of the font, and `TooLarge` where its cut has more bytes than a file may have: then nothing was
+/// sent. `Write` where the writer fails. A number is looked at after the font as such, and before what cuts of the kind
+/// read of it besides.
+pub fn run_subset_of_request<R: Read, W: Write, A: Allocator + Copy>(
+    alloc: A,
+    request: &CutRequest<'_, A>,
+    inlet: &mut Inlet<R>,
+    outlet: &mut Outlet<W>,
+) -> Result<u64, RunError>
+    requires inlet { inlet_fresh_of inlet.old ≡ true }
+    requires outlet { fresh_of outlet.old ≡ true }
+    ensures sent { SendsText R.remaining W.contents (HasCutIn (requested request.now)) (cut_for (requested request.now))
+        (RefusesCutIn (requested request.now) R.remaining inlet.old)
+        inlet.old inlet.new outlet.old outlet.new result }
+    ensures flushed { OnOk result (flushed_of outlet.new ≡ true) }
+    ensures size { IfOk result (λ size. (size ≤ MAX_FILE) × got R.remaining inlet.old
+        (λ file. size ≡ length (cut_for (requested request.now) file))) }
+{
+    let file = inlet.read_all(alloc)?;
+    send_of_file(alloc, &file, request, outlet)
 }
 
 /// Reads a font to its end, sends its cut of a kind for the codes that are wanted, and returns the size of the cut
-/// in bytes.
+/// in bytes. Layout and variable cuts have all glyphs that links of `GSUB` lead to.
 ///
 /// # Errors
 ///
@@ -78,16 +138,20 @@ pub fn run_subset_of_kind<R: Read, W: Write, A: Allocator + Copy>(
 ) -> Result<u64, RunError>
     requires inlet { inlet_fresh_of inlet.old ≡ true }
     requires outlet { fresh_of outlet.old ≡ true }
-    ensures sent { SendsText R.remaining W.contents (HasCutIn kind (member wanted.now))
-        (λ file. cut_in kind file (member wanted.now))
-        (RefusesCutIn kind R.remaining inlet.old (member wanted.now))
+    ensures sent { let r = codes_request kind (member wanted.now) in
+        SendsText R.remaining W.contents (HasCutIn r) (cut_for r) (RefusesCutIn r R.remaining inlet.old)
         inlet.old inlet.new outlet.old outlet.new result }
     ensures flushed { OnOk result (flushed_of outlet.new ≡ true) }
     ensures size { IfOk result (λ size. (size ≤ MAX_FILE) × got R.remaining inlet.old
-        (λ file. size ≡ length (cut_in kind file (member wanted.now)))) }
+        (λ file. size ≡ length (cut_for (codes_request kind (member wanted.now)) file))) }
 {
-    let file = inlet.read_all(alloc)?;
-    send_of_file(alloc, kind, &file, wanted, outlet)
+    let request = CutRequest {
+        kind,
+        closes: keeps_layout(kind),
+        codes: wanted,
+        glyphs: Some(&[]),
+    };
+    run_subset_of_request(alloc, &request, inlet, outlet)
 }
 
 /// Reads a font to its end, sends its cut for the codes that are wanted, and returns the size of the cut

@@ -1,7 +1,8 @@
 //! Joins of lean cuts, and what refuses them.
 use crate::samples::copies;
 use font_cut::{JoinError, Kind, Tag, Which, join_all_of_kind, join_of_kind};
-use sample_fonts::known_cuts::{A_AND_B, AACUTE, LEAN_A_AND_B, LEAN_A_B_AACUTE, LEAN_AACUTE};
+use sample_fonts::known_cuts::{LEAN_A_AND_B, LEAN_A_B_AACUTE, LEAN_AACUTE};
+use sfnt_bytes::BASE6;
 use std::test::Fail;
 
 #[test]
@@ -19,7 +20,7 @@ fn lean_join_of_many(rt: HostRuntime) -> Result<(), Fail> {
     Ok(())
 }
 
-// A full cut is no lean one. The last advance is of all glyphs after it, so it stands in the table; any
+// A font is not a cut. The last advance is of all glyphs after it, so it stands in the table; any
 // other is of its glyph.
 #[test]
 fn refused_lean_joins(rt: HostRuntime) {
@@ -29,13 +30,13 @@ fn refused_lean_joins(rt: HostRuntime) {
     (metric[81], metric[233], metric[317]) = (121, 212, 89);
     for (first, second, refusal) in [
         (
-            &AACUTE[..],
+            &BASE6[..],
             &LEAN_A_AND_B[..],
             JoinError::NotACut(Which::First),
         ),
         (
             &LEAN_AACUTE[..],
-            &A_AND_B[..],
+            &BASE6[..],
             JoinError::NotACut(Which::Second),
         ),
         (

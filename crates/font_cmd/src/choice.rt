@@ -1,53 +1,32 @@
-//! The codes that a line of `subset` keeps: those of its words, lists, texts and files, and what texts need.
-use crate::held_files::HeldFiles;
+//! The codes that a line of `subset` keeps: those of its words, lists, texts and files, and what texts need; and the
+//! glyphs that it keeps by their numbers.
 use crate::inputs::sources;
 use crate::report::Fault;
-use crate::system::System;
-use crate::wanted_files::FileKind;
+use crate::wanted_glyphs::{listed_glyphs, names_glyphs};
 use crate::wanted_words::{add_files, add_lists, add_text_files, codes_of};
 use command_line::{CutKind, Subset};
-use font_cut::Wanted;
+use font_coverage::Kept;
+use program_files::{HeldFiles, System};
 use std::alloc::{AllocError, Global};
 use std::io::Read;
-use wanted_characters::{CodeSet, add_all_parts, add_texts};
+use wanted_characters::{CodeSet, FileKind, add_all_parts, add_texts};
 
-/// The codes that a cut is for.
-pub(crate) struct Kept {
-    /// Those that the line wants.
-    pub(crate) wanted: CodeSet,
-    /// Those that are kept besides where the font maps them, of which some may be wanted too.
-    pub(crate) added: CodeSet,
-}
-
-// Written out: a derived drop is proved anew wherever a value is let go, with all that is known of the value.
-impl Drop for Kept {
-    fn drop(self) {
-        let Kept {
-            wanted: _wanted,
-            added: _added,
-        } = self;
-    }
-}
-
-impl Kept {
-    /// Returns both as a wanted set.
-    ///
-    /// # Errors
-    /// `AllocError` where memory is refused.
-    pub(crate) fn into_wanted(self, alloc: Global) -> Result<Wanted, AllocError> {
-        let Kept { mut wanted, added } = self;
-        if !added.is_empty() {
-            wanted.add_all(alloc, &added)?;
-        }
-        wanted.into_wanted(alloc)
-    }
-}
-
-/// The codes that a line keeps, and those that it takes away from them.
-#[derive(Drop)]
+/// The codes that a line keeps, those that it takes away from them, and the numbers of glyphs that it keeps.
 pub(crate) struct Choice {
     kept: Kept,
     gone: CodeSet,
+    glyphs: CodeSet,
+}
+
+// Written out: a derived drop is proved anew wherever a value is let go, with all that is known of the value.
+impl Drop for Choice {
+    fn drop(self) {
+        let Choice {
+            kept: _kept,
+            gone: _gone,
+            glyphs: _glyphs,
+        } = self;
+    }
 }
 
 // Returns whether what the texts of a line need is kept with them.
@@ -78,7 +57,7 @@ fn kept_by<'a>(alloc: Global, line: &Subset<'a>) -> Result<Kept, Fault<'a>> {
 }
 
 impl Choice {
-    /// Returns the codes of the arguments of a line, which are looked at before any file.
+    /// Returns the codes and the numbers of the arguments of a line, which are looked at before any file.
     ///
     /// # Errors
     /// The first fault.
@@ -86,22 +65,24 @@ impl Choice {
         let kept = kept_by(alloc, line)?;
         let mut gone = CodeSet::new(alloc);
         add_lists(alloc, &mut gone, &line.excluded)?;
-        Ok(Choice { kept, gone })
+        let glyphs = listed_glyphs(alloc, line)?;
+        Ok(Choice { kept, gone, glyphs })
     }
 
-    /// Returns the codes that are left.
+    /// Returns the codes that are left, and the numbers of glyphs.
     ///
     /// # Errors
     /// `AllocError` where memory is refused.
-    pub(crate) fn left(self, alloc: Global) -> Result<Kept, AllocError> {
-        let Choice { kept, gone } = self;
+    pub(crate) fn left(self, alloc: Global) -> Result<(Kept, CodeSet), AllocError> {
+        let Choice { kept, gone, glyphs } = self;
         if gone.is_empty() {
-            return Ok(kept);
+            return Ok((kept, glyphs));
         }
-        Ok(Kept {
+        let left = Kept {
             wanted: kept.wanted.without(alloc, &gone)?,
             added: kept.added.without(alloc, &gone)?,
-        })
+        };
+        Ok((left, glyphs))
     }
 }
 
@@ -120,29 +101,50 @@ fn add_texts_of_files<'a, R: Read + Drop>(
 }
 
 // The files that a line names, none of which is read yet.
-#[derive(Drop)]
 struct Opened<R> {
     texts: Vec<R>,
     words: Vec<R>,
     excluded: Vec<R>,
+    glyphs: Vec<R>,
 }
 
-// Adds the codes of files that are open.
-fn add_opened<'a, R: Read + Drop>(
-    alloc: Global,
-    line: &Subset<'a>,
-    files: Opened<R>,
-    choice: &mut Choice,
-) -> Result<(), Fault<'a>> {
-    let Choice { kept, gone } = choice;
-    add_texts_of_files(alloc, line, files.texts, kept)?;
-    let (words, wanted) = (&line.code_files, &mut kept.wanted);
-    add_files(alloc, files.words, words, FileKind::Words, wanted)?;
-    let paths = &line.excluded_files;
-    add_files(alloc, files.excluded, paths, FileKind::Words, gone)
+// Written out, as that of a choice.
+impl<R: Drop> Drop for Opened<R> {
+    fn drop(self) {
+        let Opened {
+            texts: _texts,
+            words: _words,
+            excluded: _excluded,
+            glyphs: _glyphs,
+        } = self;
+    }
 }
 
-/// Adds the codes of the files that a line names, which are all opened before one is read.
+impl<R: Read + Drop> Opened<R> {
+    // Adds the codes of files that are open.
+    fn add_to<'a>(
+        self,
+        alloc: Global,
+        line: &Subset<'a>,
+        choice: &mut Choice,
+    ) -> Result<(), Fault<'a>> {
+        let Opened {
+            texts,
+            words,
+            excluded,
+            glyphs,
+        } = self;
+        add_texts_of_files(alloc, line, texts, &mut choice.kept)?;
+        let (paths, wanted) = (&line.code_files, &mut choice.kept.wanted);
+        add_files(alloc, words, paths, FileKind::Words, wanted)?;
+        let paths = &line.excluded_files;
+        add_files(alloc, excluded, paths, FileKind::Words, &mut choice.gone)?;
+        let (paths, numbers) = (&line.glyph_files, &mut choice.glyphs);
+        add_files(alloc, glyphs, paths, FileKind::Numbers, numbers)
+    }
+}
+
+/// Adds the codes and the numbers of the files that a line names, which are all opened before one is read.
 ///
 /// # Errors
 /// The first fault.
@@ -155,20 +157,15 @@ pub(crate) fn add_all_files<'a, F: HeldFiles, I: Read + Copy + Drop, O>(
         texts: sources(system, &line.text_files)?,
         words: sources(system, &line.code_files)?,
         excluded: sources(system, &line.excluded_files)?,
+        glyphs: sources(system, &line.glyph_files)?,
     };
-    add_opened(system.alloc, line, files, choice)
+    files.add_to(system.alloc, line, choice)
 }
 
-/// Returns whether a line names a set of characters, be it empty.
+/// Returns whether a line names a set of characters or of glyphs, be it empty.
 pub(crate) fn names_set(line: &Subset<'_>) -> bool {
-    [
-        &line.texts,
-        &line.text_files,
-        &line.lists,
-        &line.completed,
-        &line.code_files,
-        &line.words,
-    ]
-    .iter()
-    .any(|named| !named.is_empty())
+    let has_texts = !line.texts.is_empty() || !line.text_files.is_empty();
+    let has_lists = !line.lists.is_empty() || !line.completed.is_empty();
+    let has_files = !line.code_files.is_empty() || names_glyphs(line);
+    has_texts || has_lists || has_files || !line.words.is_empty()
 }

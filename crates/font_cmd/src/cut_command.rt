@@ -1,24 +1,46 @@
-//! The command `subset`: the cut of a font for the wanted codes of a line.
+//! The command `subset`: the cut of a font for the wanted codes and glyphs of a line.
 ghost use Rattle.std.specs.Prelude.{◌≡◌, true};
 ghost use Rattle.streams.specs.Inlet.{inlet_fresh_of};
 
-use crate::choice::{Choice, Kept, add_all_files, names_set};
-use crate::code_coverage::{Coverage, linked_count};
-use crate::cut_kinds::keeps_layout;
+use crate::choice::{Choice, add_all_files, names_set};
 use crate::dropped_tables::without_named;
-use crate::held_files::HeldFiles;
 use crate::inputs::inlet_at;
 use crate::outcome::Outcome;
 use crate::output::{outlet, packed_out, placed};
 use crate::report::Fault;
-use crate::system::System;
+use crate::wanted_glyphs::{EVERYTHING, keeps_all_glyphs, listed, names_glyphs};
+use codes::Wanted;
 use command_line::Subset;
-use commands::{RunError, run_subset_of_kind};
-use font_cut::{Font, Kind, Wanted};
+use commands::{CutRequest, RunError, run_subset_of_request};
+use font_coverage::{Coverage, Kept, linked_count};
+use font_file::Font;
+use font_subset::keeps_layout;
+use font_theory::Kind;
+use program_files::{HeldFiles, System};
 use std::alloc::{AllocError, Global};
 use std::io::{Read, Write};
 use streams::Inlet;
 use wanted_characters::is_range_word;
+
+// Returns what a line asks of a font, by the codes and the numbers of glyphs that it keeps.
+fn request_of<'w>(
+    kind: Kind,
+    line: &Subset<'_>,
+    codes: &'w Wanted,
+    numbers: &'w [u16],
+) -> CutRequest<'w> {
+    let glyphs = if keeps_all_glyphs(line) {
+        None
+    } else {
+        Some(numbers)
+    };
+    CutRequest {
+        kind,
+        closes: line.is_closed,
+        codes,
+        glyphs,
+    }
+}
 
 // Sends the cut of what an inlet reads to OUT, and answers its size.
 fn send_cut<'a, F: HeldFiles, I, O: Write + Copy + Drop, R: Read>(
@@ -27,11 +49,13 @@ fn send_cut<'a, F: HeldFiles, I, O: Write + Copy + Drop, R: Read>(
     line: &Subset<'a>,
     inlet: &mut Inlet<R>,
     wanted: &Wanted,
+    numbers: &[u16],
 ) -> Result<u64, Fault<'a>>
     requires { inlet_fresh_of inlet.old ≡ true }
 {
     let mut outlet = outlet(system, line.out)?;
-    let sent = run_subset_of_kind(system.alloc, kind, inlet, wanted, &mut outlet);
+    let request = request_of(kind, line, wanted, numbers);
+    let sent = run_subset_of_request(system.alloc, &request, inlet, &mut outlet);
     let size = sent.map_err(|error| Fault::of_run(line.font, line.out, error))?;
     placed(system, outlet, line.out)?;
     Ok(size)
@@ -61,7 +85,7 @@ fn with_report<'a>(
     }
 }
 
-// Returns the number of glyphs that a cut keeps by links, where a line reports it.
+// Returns the number of glyphs that a closed cut for codes alone keeps by links, where a line reports it.
 fn reported_links(
     alloc: Global,
     kind: Kind,
@@ -69,54 +93,64 @@ fn reported_links(
     font: &Font<'_>,
     wanted: &Wanted,
 ) -> Result<Option<usize>, AllocError> {
-    if line.reports && keeps_layout(kind) {
+    let is_of_codes = line.is_closed && !names_glyphs(line);
+    if line.reports && keeps_layout(kind) && is_of_codes {
         return linked_count(alloc, kind, font, wanted);
     }
     Ok(None)
 }
 
-// Cuts a font for the codes that are wanted, and reports on the cut.
+// Cuts a font for the codes and the glyphs that are wanted, and reports on the cut.
 fn cut_of_font<'a, F: HeldFiles, I, O: Write + Copy + Drop>(
     system: &System<'a, F, I, O>,
     kind: Kind,
     line: &Subset<'a>,
     font: &Font<'_>,
     wanted: &Wanted,
+    numbers: &[u16],
     coverage: Coverage,
 ) -> Result<Outcome, Fault<'a>> {
     let linked = reported_links(system.alloc, kind, line, font, wanted)?;
     let mut inlet = Inlet::new(font.tables().directory().file());
-    let size = send_cut(system, kind, line, &mut inlet, wanted)?;
+    let size = send_cut(system, kind, line, &mut inlet, wanted, numbers)?;
     with_report(kind, line, coverage, linked, size)
 }
 
-// Cuts a font for the codes that are kept, and reports on them.
+// Returns whether a strict line is not done. One that names glyphs need not name codes.
+fn is_refused(line: &Subset<'_>, coverage: &Coverage) -> bool {
+    let is_enough = names_glyphs(line) && !coverage.is_lacking();
+    line.is_strict && !is_enough && !coverage.is_whole()
+}
+
+// Cuts a font for the codes that are kept and for glyphs, and reports on the codes.
 fn cut_for_codes<'a, F: HeldFiles, I, O: Write + Copy + Drop>(
     system: &System<'a, F, I, O>,
     kind: Kind,
     line: &Subset<'a>,
     font: &Font<'_>,
     kept: Kept,
+    numbers: &[u16],
 ) -> Result<Outcome, Fault<'a>> {
     let coverage = Coverage::of(system.alloc, font, &kept, kind, line.is_verbose)?;
-    if line.is_strict && !coverage.is_whole() {
+    if is_refused(line, &coverage) {
         let text = coverage.unwritten_text(system.alloc)?;
         return Ok(Outcome::saying(false, text));
     }
     let wanted = kept.into_wanted(system.alloc)?;
-    cut_of_font(system, kind, line, font, &wanted, coverage)
+    cut_of_font(system, kind, line, font, &wanted, numbers, coverage)
 }
 
-// Cuts a font, whose file this is, for the codes that are kept, and reports on them.
+// Cuts a font, whose file this is, for the codes that are kept and for glyphs, and reports on the codes.
 fn cut_of_file<'a, F: HeldFiles, I, O: Write + Copy + Drop>(
     system: &System<'a, F, I, O>,
     kind: Kind,
     line: &Subset<'a>,
     file: &[u8],
     kept: Kept,
+    numbers: &[u16],
 ) -> Result<Outcome, Fault<'a>> {
     let font = opened(line, file)?;
-    cut_for_codes(system, kind, line, &font, kept)
+    cut_for_codes(system, kind, line, &font, kept, numbers)
 }
 
 // Reads a font into memory, without the tables that a line drops.
@@ -140,52 +174,64 @@ fn cut_held<'a, F: HeldFiles, I, O: Write + Copy + Drop, R: Read>(
     line: &Subset<'a>,
     inlet: &mut Inlet<R>,
     kept: Kept,
+    numbers: &[u16],
 ) -> Result<Outcome, Fault<'a>>
     requires { inlet_fresh_of inlet.old ≡ true }
 {
     let file = held_file(system, line, inlet)?;
-    cut_of_file(system, kind, line, &file, kept)
+    cut_of_file(system, kind, line, &file, kept, numbers)
 }
 
-// Cuts the font of an inlet for the codes that are kept, as a line asks for it.
+// Returns whether the font of a line is held in memory while it is cut.
+fn is_held(line: &Subset<'_>) -> bool {
+    let says_more = line.reports || line.is_strict || line.is_verbose;
+    says_more || !line.dropped.is_empty()
+}
+
+// Cuts the font of an inlet for the codes that are kept and for glyphs, as a line asks for it.
 fn cut_inlet<'a, F: HeldFiles, I, O: Write + Copy + Drop, R: Read>(
     system: &System<'a, F, I, O>,
     kind: Kind,
     line: &Subset<'a>,
     inlet: &mut Inlet<R>,
     kept: Kept,
+    numbers: &[u16],
 ) -> Result<Outcome, Fault<'a>>
     requires { inlet_fresh_of inlet.old ≡ true }
 {
-    if line.reports || line.is_strict || line.is_verbose || !line.dropped.is_empty() {
-        return cut_held(system, kind, line, inlet, kept);
+    if is_held(line) {
+        return cut_held(system, kind, line, inlet, kept, numbers);
     }
     let wanted = kept.into_wanted(system.alloc)?;
-    send_cut(system, kind, line, inlet, &wanted)?;
+    send_cut(system, kind, line, inlet, &wanted, numbers)?;
     Ok(Outcome::of(true))
 }
 
-// Looks at the OUT of a line, and at whether it names a set of characters.
-fn check_line<'a>(line: &Subset<'a>) -> Result<(), Fault<'a>> {
-    if is_range_word(line.out) {
+// Looks at the OUT of a line, and at whether it names a set of characters or glyphs that cuts of its kind can have.
+fn check_line<'a>(kind: Kind, line: &Subset<'a>) -> Result<(), Fault<'a>> {
+    if is_range_word(line.out) || line.out == EVERYTHING {
         return Err(Fault::OutIsWord(line.out));
     }
     packed_out(line.out, line.is_forced)?;
-    if names_set(line) {
-        Ok(())
-    } else {
-        Err(Fault::NoSet)
+    if !names_set(line) {
+        return Err(Fault::NoSet);
     }
+    if kind == Kind::Full && names_glyphs(line) {
+        return Err(Fault::NumbersOfFull);
+    }
+    Ok(())
 }
 
-// Returns the codes that a line keeps, with those of its files.
+// Returns the codes and the numbers of glyphs that a line keeps, with those of its files.
 fn all_kept<'a, F: HeldFiles, I: Read + Copy + Drop, O>(
     system: &System<'a, F, I, O>,
     line: &Subset<'a>,
     mut choice: Choice,
-) -> Result<Kept, Fault<'a>> {
+) -> Result<(Kept, Vec<u16>), Fault<'a>> {
     add_all_files(system, line, &mut choice)?;
-    Ok(choice.left(system.alloc)?)
+    let (kept, glyphs) = choice.left(system.alloc)?;
+    let numbers = listed(system.alloc, &glyphs)?;
+    Ok((kept, numbers))
 }
 
 // Writes the cut of a font for the codes of the arguments of a line and of its files.
@@ -196,11 +242,11 @@ fn subset_for<'a, F: HeldFiles, I: Read + Copy + Drop, O: Write + Copy + Drop>(
     choice: Choice,
 ) -> Result<Outcome, Fault<'a>> {
     let mut inlet = inlet_at(system, line.font)?;
-    let kept = all_kept(system, line, choice)?;
-    cut_inlet(system, kind, line, &mut inlet, kept)
+    let (kept, numbers) = all_kept(system, line, choice)?;
+    cut_inlet(system, kind, line, &mut inlet, kept, &numbers)
 }
 
-/// Writes the cut of a font for the wanted codes. The words are looked at before the font is opened, and the
+/// Writes the cut of a font for the wanted codes and glyphs. The words are looked at before the font is opened, and the
 /// font is opened before files of wanted codes.
 ///
 /// # Errors
@@ -210,7 +256,7 @@ pub(crate) fn subset<'a, F: HeldFiles, I: Read + Copy + Drop, O: Write + Copy + 
     kind: Kind,
     line: &Subset<'a>,
 ) -> Result<Outcome, Fault<'a>> {
-    check_line(line)?;
+    check_line(kind, line)?;
     let choice = Choice::of(system.alloc, line)?;
     subset_for(system, kind, line, choice)
 }

@@ -1,9 +1,11 @@
 //! `demo`: what is found in the font that the program carries, and what its cuts come to.
 use crate::wanted_words::codes_of;
+use codes::Wanted;
 use commands::{RunError, run_join, run_subset};
-use font_cut::{BASE6, Directory, Font, Outlet, Wanted};
+use font_file::Font;
+use sfnt_bytes::{BASE6, Directory};
 use std::alloc::{AllocError, Global};
-use streams::Inlet;
+use streams::{Inlet, Outlet};
 
 // Returns a line for the file, one for each table, and the number of findings.
 //

@@ -2,10 +2,11 @@
 use crate::inputs::input_name;
 use crate::refused_file::Seen;
 use crate::report::Fault;
-use crate::shown::{Shown, shown_character};
 use command_line::Verbosity;
 use commands::RunError;
-use font_cut::{JoinAllError, JoinError, Kind};
+use font_join::{JoinAllError, JoinError};
+use font_texts::{Shown, shown_character};
+use font_theory::Kind;
 use std::alloc::{AllocError, Global};
 use std::io;
 
@@ -21,6 +22,10 @@ fontcut: these joins in one more
 // How ranges are written.
 const RANGES: &str =
     "fontcut: a range is written U+41, U+41-5A or all; in lists 41-5A and U+4?? too\n";
+
+// How numbers of glyphs are written.
+const NUMBERS: &str =
+    "fontcut: glyph numbers are written 5, 7-9 or 0x1F; codes --glyphs prints those of characters\n";
 
 // How sets of characters are named.
 const SETS: &str = "\
@@ -216,8 +221,10 @@ fn add_not_joined(
         return add_no_cut(text, path, first, false);
     };
     let has_lean = first_kind == Kind::Lean || kind == Kind::Lean;
+    let has_full = first_kind == Kind::Full || kind == Kind::Full;
     match joined {
         Kind::Full if has_lean => add_kinds(text, (first, first_kind), (path, kind)),
+        Kind::Lean if has_lean && has_full => add_kinds(text, (first, first_kind), (path, kind)),
         Kind::Layout | Kind::Variable if first_kind != kind => {
             add_cuts(text, (first, first_kind), (path, kind))?;
             text.push_str(made_in_place(joined, kind))
@@ -342,6 +349,9 @@ fn add_hints(text: &mut String, fault: &Fault<'_>, reason: Option<i32>) -> Resul
         Fault::Unread(_) if reason == Some(TOO_MANY_FILES) => text.push_str(IN_SEVERAL_CALLS),
         Fault::BadWord(_) | Fault::BadListed { .. } | Fault::BadLine { word: Some(_), .. } => {
             text.push_str(RANGES)
+        }
+        Fault::BadNumber { word: Some(_), .. } | Fault::Refused(RunError::NoGlyph(_)) => {
+            text.push_str(NUMBERS)
         }
         Fault::BadName { .. } => text.push_str(NAMES),
         Fault::NotJoined { error, .. } => add_character(text, error),

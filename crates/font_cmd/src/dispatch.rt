@@ -6,7 +6,6 @@ use crate::cut_command::subset;
 use crate::demo::demo_text;
 use crate::details::{Details, NO_DETAILS};
 use crate::dropped_tables::without_named;
-use crate::held_files::HeldFiles;
 use crate::inputs::{inlet_at, read_whole};
 use crate::join_command::join;
 use crate::outcome::{Outcome, answered, ended, print, report, say};
@@ -14,13 +13,14 @@ use crate::refused_file::{Seen, look_again};
 use crate::report::{Fault, no_memory};
 use crate::showing::show;
 use crate::slicing::slice;
-use crate::system::{Reason, System};
 use command_line::{Belongs, CutKind, Line, LineError, Task, Verbosity, is_quiet, parse};
 use commands::{RunError, run_belongs, run_check, run_codes, run_glyphs};
-use font_cut::{Kind, Outlet, Which};
+use font_join::Which;
+use font_theory::Kind;
+use program_files::{HeldFiles, Reason, System};
 use std::alloc::{AllocError, Global};
 use std::io::{Read, Write};
-use streams::Inlet;
+use streams::{Inlet, Outlet};
 
 fn check<'a, F: HeldFiles, I: Read + Copy + Drop, O, W: Write>(
     system: &System<'a, F, I, O>,

@@ -1,8 +1,9 @@
 //! The tables of layout that a line drops from a font before it is cut.
-use crate::code_coverage::is_of_layout;
 use crate::report::Fault;
 use commands::{RunError, without_tables};
-use font_cut::{Font, Tag};
+use font_coverage::is_of_layout;
+use font_file::Font;
+use sfnt_bytes::Tag;
 use std::alloc::{AllocError, Global};
 
 // Returns the tag of a table of layout by its name.

@@ -4,9 +4,9 @@ ghost use Rattle.streams.specs.Inlet.{inlet_fresh_of};
 ghost use Rattle.commands.specs.JoinRun.{AreFresh};
 
 use crate::report::{Fault, no_memory};
-use crate::system::{KeepsReason, System};
 use command_line::STANDARD;
 use commands::RunError;
+use program_files::{KeepsReason, System};
 use std::alloc::AllocError;
 use std::fs::File;
 use std::io;

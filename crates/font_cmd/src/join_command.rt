@@ -2,16 +2,14 @@
 ghost use Rattle.std.specs.Prelude.{◌≡◌, true};
 ghost use Rattle.commands.specs.JoinRun.{AreFresh};
 
-use crate::held_files::HeldFiles;
 use crate::inputs::inlets_at;
-use crate::out_file::standing_file;
 use crate::outcome::Outcome;
 use crate::output::{outlet, packed_out, placed};
 use crate::report::{Fault, refused_join};
-use crate::system::System;
 use command_line::{Join, STANDARD};
 use commands::{RunError, run_join_of_kind};
-use font_cut::Kind;
+use font_theory::Kind;
+use program_files::{HeldFiles, System, standing_file};
 use std::fs;
 use std::io::{Read, Write};
 use std::os::unix::fs::MetadataExt;

@@ -5,9 +5,9 @@ ghost use Rattle.streams.specs.Outlet.{fresh_of};
 use crate::details::{Details, add_details};
 use crate::report::{Fault, no_memory};
 use commands::RunError;
-use font_cut::Outlet;
 use std::alloc::{AllocError, Global};
 use std::io::Write;
+use streams::Outlet;
 
 /// The name in the place of a path where a report cannot be written.
 pub(crate) const STANDARD_OUTPUT: &str = "standard output";

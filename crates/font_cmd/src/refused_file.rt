@@ -1,12 +1,15 @@
 //! What files are that are refused as fonts or not joined: they are read again. OpenType 1.9, Organization of an
 //! OpenType Font; WOFF File Format 1.0 and 2.0, the signature of a file.
-use crate::cut_kinds::cut_kind;
 use crate::report::Fault;
-use crate::system::System;
-use crate::table_bytes::number_at;
 use command_line::STANDARD;
 use commands::RunError;
-use font_cut::{Font, FontError, JoinAllError, JoinError, Kind, TableError};
+use font_coverage::cut_kind;
+use font_file::{Font, FontError};
+use font_join::{JoinAllError, JoinError};
+use font_tables::TableError;
+use font_texts::number_at;
+use font_theory::Kind;
+use program_files::System;
 use std::alloc::{AllocError, Global};
 use std::fs;
 use std::fs::File;
@@ -256,10 +259,12 @@ pub(crate) fn look_again<F: Files, I, O>(
         Fault::RefusedFile { path, error } => refused_seen(files, alloc, path, error),
         Fault::NotJoined {
             kind: Kind::Lean,
+            path,
+            first,
             ..
         } => Ok(Seen::Cuts {
-            first: Some(Kind::Lean),
-            refused: Some(Kind::Lean),
+            first: Some(cut_kind_at(files, alloc, first)?.unwrap_or(Kind::Lean)),
+            refused: Some(cut_kind_at(files, alloc, path)?.unwrap_or(Kind::Lean)),
         }),
         Fault::NotJoined { path, first, .. } => Ok(Seen::Cuts {
             first: cut_kind_at(files, alloc, first)?,

@@ -1,9 +1,11 @@
 //! Why the program does not do what a line asks for.
 use crate::inputs::input_name;
-use crate::shown::{Shown, ShownWord};
 use command_line::STANDARD;
 use commands::RunError;
-use font_cut::{JoinAllError, JoinError, Kind, MAX_FILE, Which};
+use font_join::{JoinAllError, JoinError, Which};
+use font_texts::{Shown, ShownWord};
+use font_theory::Kind;
+use sfnt_bytes::MAX_FILE;
 use std::alloc::AllocError;
 use std::fmt;
 
@@ -21,6 +23,14 @@ pub(crate) enum Fault<'a> {
     BadListed {
         word: Option<String>,
     },
+    /// A list of glyph numbers has this word, which is none, or is not UTF-8: the one in a line, or one in a line of the
+    /// file at a path.
+    BadNumber {
+        place: Option<(&'a str, u64)>,
+        word: Option<String>,
+    },
+    /// Glyphs are wanted by their numbers, and cuts of no kind that has them.
+    NumbersOfFull,
     /// OUT is this word, which names a range of codes.
     OutIsWord(&'a str),
     /// OUT has the ending of a packed font, and this path before it.
@@ -112,6 +122,8 @@ impl<'a> Fault<'a> {
             Fault::InputTwice
             | Fault::BadWord(_)
             | Fault::BadListed { .. }
+            | Fault::BadNumber { .. }
+            | Fault::NumbersOfFull
             | Fault::OutIsWord(_)
             | Fault::PackedOut(_)
             | Fault::PackedFolder
@@ -229,6 +241,29 @@ fn write_bad_line<W: fmt::Write>(
     }
 }
 
+// Writes that numbers of glyphs are at fault.
+fn write_bad_number<W: fmt::Write>(f: &mut fmt::Formatter<W>, fault: &Fault<'_>) -> fmt::Result {
+    match fault {
+        Fault::BadNumber { place, word } => {
+            if let Some((path, line)) = place {
+                let name = Shown(input_name(path));
+                write!(f, "{name}: line {line}: ")?;
+            }
+            match word {
+                Some(word) => {
+                    let word = ShownWord(word.as_str());
+                    write!(f, "bad glyph number {word}")
+                }
+                None => f.write_str("not UTF-8"),
+            }
+        }
+        Fault::NumbersOfFull => {
+            f.write_str("glyph numbers are for cuts by --lean, --layout or --variable")
+        }
+        _ => Ok(()),
+    }
+}
+
 // Writes that a list has this word, or bytes that are no word.
 fn write_bad_listed<W: fmt::Write>(
     f: &mut fmt::Formatter<W>,
@@ -324,6 +359,7 @@ impl fmt::Display for Fault<'_> {
             }
             Fault::BadListed { word } => write_bad_listed(f, word),
             Fault::BadLine { path, line, word } => write_bad_line(f, path, *line, word),
+            Fault::BadNumber { .. } | Fault::NumbersOfFull => { write_bad_number(f, self) }
             Fault::OutIsWord(_)
             | Fault::PackedOut(_)
             | Fault::PackedFolder

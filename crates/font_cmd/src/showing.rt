@@ -1,22 +1,23 @@
 //! The command `show`: the numbers and tables of a font, and with `--verbose` its tables of layout and of variations,
 //! its axes and instances, and the kinds of cuts that it is.
 ghost use Rattle.std.specs.Prelude.{◌≡◌, true};
+ghost use Rattle.streams.specs.Inlet.{inlet_fresh_of};
 ghost use Rattle.streams.specs.Outlet.{fresh_of};
 
-use crate::code_coverage::{is_of_layout, is_of_variations};
-use crate::cut_kinds::is_cut_of;
-use crate::held_files::HeldFiles;
 use crate::inputs::inlet_at;
 use crate::outcome::{Outcome, STANDARD_OUTPUT, answered, print_more};
 use crate::report::Fault;
-use crate::system::System;
-use crate::variations::add_variations;
 use command_line::Verbosity;
 use commands::{RunError, run_show};
-use font_cut::{Font, Kind, OpenError, Outlet};
+use font_coverage::{is_cut_of, is_of_layout, is_of_variations};
+use font_file::Font;
+use font_subset::OpenError;
+use font_texts::add_variations;
+use font_theory::Kind;
+use program_files::{HeldFiles, System};
 use std::alloc::{AllocError, Global};
 use std::io::{Read, Write};
-use streams::Inlet;
+use streams::{Inlet, Outlet};
 
 // The kinds of cuts that are not full, and what lines call them.
 const KINDS: [(&str, Kind); 3] = [
@@ -67,6 +68,22 @@ fn more_text(alloc: Global, font: &Font<'_>) -> Result<String, AllocError> {
     Ok(text)
 }
 
+// Shows the font of a file, and then what else is said of it, for which the memory was asked for before the first line is
+// printed.
+fn show_and_more<'a, W: Write>(
+    alloc: Global,
+    path: &'a str,
+    file: &[u8],
+    more: &str,
+    out: &mut Outlet<W>,
+) -> Result<Outcome, Fault<'a>>
+    requires { fresh_of out.old ≡ true }
+{
+    let shown = run_show(alloc, &mut Inlet::new(file), out);
+    shown.map_err(|error| Fault::of_run(path, STANDARD_OUTPUT, error))?;
+    print_more(out, more)
+}
+
 // Shows the font that is held in a file, and says more of it.
 fn show_file<'a, W: Write>(
     alloc: Global,
@@ -81,11 +98,26 @@ fn show_file<'a, W: Write>(
         STANDARD_OUTPUT,
         RunError::from(error),
     ))?;
-    // Memory is asked for before the first line is printed.
     let text = more_text(alloc, &font)?;
-    let shown = run_show(alloc, &mut Inlet::new(file), out);
-    shown.map_err(|error| Fault::of_run(path, STANDARD_OUTPUT, error))?;
-    print_more(out, text.as_str())
+    show_and_more(alloc, path, file, text.as_str(), out)
+}
+
+// Reads a font, shows it, and says more of it.
+fn show_read<'a, R: Read, W: Write>(
+    alloc: Global,
+    path: &'a str,
+    inlet: &mut Inlet<R>,
+    out: &mut Outlet<W>,
+) -> Result<Outcome, Fault<'a>>
+    requires inlet { inlet_fresh_of inlet.old ≡ true }
+    requires out { fresh_of out.old ≡ true }
+{
+    let file = inlet.read_all(alloc).map_err(|error| Fault::of_run(
+        path,
+        STANDARD_OUTPUT,
+        RunError::from(error),
+    ))?;
+    show_file(alloc, path, &file, out)
 }
 
 /// Prints what a person asks of the font at a path, and with `--verbose` a line for each of its tables of layout and of
@@ -105,10 +137,5 @@ pub(crate) fn show<'a, F: HeldFiles, I: Read + Copy + Drop, O, W: Write>(
     if verbosity != Verbosity::Verbose {
         return answered(font, run_show(system.alloc, &mut inlet, out).map(|()| true));
     }
-    let file = inlet.read_all(system.alloc).map_err(|error| Fault::of_run(
-        font,
-        STANDARD_OUTPUT,
-        RunError::from(error),
-    ))?;
-    show_file(system.alloc, font, &file, out)
+    show_read(system.alloc, font, &mut inlet, out)
 }

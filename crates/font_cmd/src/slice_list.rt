@@ -1,11 +1,10 @@
 //! Files of slices: in each line the name of a slice and the list of its codes. This project's own.
 use crate::report::{Fault, LONGEST_LINE, no_memory};
-use crate::wanted_files::{FileFault, FileKind, add_listed};
-use font_cut::MAX_FILE;
+use sfnt_bytes::MAX_FILE;
 use std::alloc::Global;
 use std::collections::BTreeSet;
 use std::io::Read;
-use wanted_characters::CodeSet;
+use wanted_characters::{CodeSet, FileFault, FileKind, add_listed};
 
 // The most bytes of one read.
 const PIECE: usize = 16 * 1024;
@@ -203,6 +202,21 @@ struct Slices<'t> {
 }
 
 impl<'t> Slices<'t> {
+    // Adds the name of the slice of a line.
+    fn add_name<'a>(
+        &mut self,
+        alloc: Global,
+        path: &'a str,
+        number: u64,
+        name: &'t str,
+    ) -> Result<(), Fault<'a>> {
+        match self.names.insert(name) {
+            Ok(true) => Ok(()),
+            Ok(false) => Err(name_twice(alloc, path, number, name)),
+            Err(_) => Err(no_memory()),
+        }
+    }
+
     // Adds the slice of a line of the file at a path, if the line has one.
     fn add_line<'a>(
         &mut self,
@@ -214,9 +228,7 @@ impl<'t> Slices<'t> {
         let Some(slice) = slice_of(alloc, path, number, line)? else {
             return Ok(());
         };
-        if !self.names.insert(slice.name).map_err(|_| no_memory())? {
-            return Err(name_twice(alloc, path, number, slice.name));
-        }
+        self.add_name(alloc, path, number, slice.name)?;
         match self.slices.push(slice) {
             Ok(()) => Ok(()),
             Err(_) => Err(no_memory()),

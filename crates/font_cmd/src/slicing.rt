@@ -2,23 +2,25 @@
 ghost use Rattle.std.specs.Prelude.{◌≡◌, true};
 ghost use Rattle.streams.specs.Outlet.{fresh_of};
 
-use crate::code_coverage::mapped_codes;
 use crate::dropped_tables::without_named;
-use crate::held_files::HeldFiles;
 use crate::inputs::{read_whole, source};
 use crate::outcome::{Outcome, print};
 use crate::output::{before_packed, outlet, placed};
 use crate::report::{Fault, no_memory};
-use crate::shown::ShownWord;
 use crate::slice_list::{Slice, read_lines, slices_of};
-use crate::style_sheet::add_rule;
-use crate::system::System;
+use codes::Wanted;
 use command_line::Slices;
 use commands::RunError;
-use font_cut::{Font, FontOfKind, Kind, Outlet, Wanted, cut_of_kind_into};
+use font_coverage::mapped_codes;
+use font_file::Font;
+use font_subset::{FontToCut, cut_of_kind_into, keeps_layout};
+use font_texts::{ShownWord, add_rule};
+use font_theory::Kind;
+use program_files::{HeldFiles, System};
 use std::alloc::{AllocError, Global};
 use std::fs;
 use std::io::{ErrorKind, Read, Write};
+use streams::Outlet;
 use wanted_characters::CodeSet;
 
 // What is said first where a strict line is not done.
@@ -27,12 +29,12 @@ const UNWRITTEN: &str = "fontcut: nothing was written: the font maps no characte
 // Writes the cut of a font for the wanted codes to the file at a path.
 fn write_cut<'p, F: HeldFiles, I, O: Write + Copy + Drop>(
     system: &System<'_, F, I, O>,
-    font: &FontOfKind<'_, '_>,
+    font: &FontToCut<'_, '_>,
     wanted: &Wanted,
     path: &'p str,
 ) -> Result<(), Fault<'p>> {
     let mut outlet = outlet(system, path)?;
-    let sent = cut_of_kind_into(system.alloc, font, wanted, &mut outlet);
+    let sent = cut_of_kind_into(system.alloc, font, Some(wanted), Some(&[]), &mut outlet);
     sent.map_err(|error| Fault::of_run(path, path, RunError::from(error)))?;
     if outlet.finish().is_err() {
         return Err(Fault::Unwritten(path));
@@ -60,7 +62,7 @@ fn slice_path(alloc: Global, folder: &str, name: &str) -> Result<String, AllocEr
 fn write_slice<'a, F: HeldFiles, I, O: Write + Copy + Drop>(
     system: &System<'a, F, I, O>,
     line: &Slices<'a>,
-    font: &FontOfKind<'_, '_>,
+    font: &FontToCut<'_, '_>,
     slice: Slice<'_>,
 ) -> Result<(), Fault<'a>> {
     let alloc = system.alloc;
@@ -184,7 +186,7 @@ fn make_folder<'a, F: HeldFiles, I, O>(
 fn write_slices<'a, F: HeldFiles, I, O: Write + Copy + Drop>(
     system: &System<'a, F, I, O>,
     line: &Slices<'a>,
-    font: &FontOfKind<'_, '_>,
+    font: &FontToCut<'_, '_>,
     slices: Vec<Slice<'_>>,
 ) -> Result<(), Fault<'a>> {
     make_folder(system, line.folder)?;
@@ -202,7 +204,7 @@ fn write_cuts<'a, F: HeldFiles, I, O: Write + Copy + Drop>(
     font: &Font<'_>,
     slices: Vec<Slice<'_>>,
 ) -> Result<(), Fault<'a>> {
-    match FontOfKind::open(system.alloc, kind, font) {
+    match FontToCut::open(system.alloc, kind, keeps_layout(kind), font) {
         Ok(opened) => write_slices(system, line, &opened, slices),
         Err(error) => Err(Fault::of_run(line.font, line.folder, RunError::from(error))),
     }
@@ -262,6 +264,21 @@ fn file_of<'a, F: HeldFiles, I: Read + Copy + Drop, O>(
     without_named(system.alloc, line.font, whole, &line.dropped)
 }
 
+// Does what a line asks for with the slices of a file, whose lines these are.
+fn slice_listed<'a, F: HeldFiles, I: Read + Copy + Drop, O: Write + Copy + Drop, W: Write>(
+    system: &System<'a, F, I, O>,
+    kind: Kind,
+    line: &Slices<'a>,
+    list: &[u8],
+    out: &mut Outlet<W>,
+) -> Result<Outcome, Fault<'a>>
+    requires { fresh_of out.old ≡ true }
+{
+    let slices = slices_of(system.alloc, line.slices, list)?;
+    let file = file_of(system, line)?;
+    slice_file(system, kind, line, &file, slices, out)
+}
+
 /// Writes the cut of a font for each slice of a file, and prints the rules of a style sheet for them where these are
 /// wanted. The file of slices is read before the font.
 ///
@@ -279,7 +296,5 @@ pub(crate) fn slice<'a, F: HeldFiles, I: Read + Copy + Drop, O: Write + Copy + D
         return Err(Fault::PackedFolder);
     }
     let list = list_of(system, line)?;
-    let slices = slices_of(system.alloc, line.slices, &list)?;
-    let file = file_of(system, line)?;
-    slice_file(system, kind, line, &file, slices, out)
+    slice_listed(system, kind, line, &list, out)
 }

@@ -1,15 +1,23 @@
 //! The wanted codes of a command line: the ranges of its words and files, and the characters of its texts.
 use crate::report::{Fault, no_memory};
-use crate::wanted_files::{FileFault, FileKind, add_listed, add_text_and_needs};
-use font_cut::read_word;
+use crate::wanted_glyphs::EVERYTHING;
+use codes::{LAST_CODE, read_word};
 use std::alloc::{AllocError, Global};
 use std::io::Read;
-use wanted_characters::CodeSet;
+use wanted_characters::{CodeSet, FileFault, FileKind, add_listed, add_text_and_needs};
+
+// Returns the codes of a word. The word for everything has all of them.
+fn codes_of_word<'a>(word: &'a str) -> Result<(u32, u32), Fault<'a>> {
+    if word == EVERYTHING {
+        return Ok((0, LAST_CODE));
+    }
+    read_word(word).map_err(|_| Fault::BadWord(word))
+}
 
 // Adds the ranges of words, up to the first one that is no word.
 fn add_words<'a>(codes: &mut CodeSet, words: &[&'a str]) -> Result<(), Fault<'a>> {
     for &word in words {
-        let (first, last) = read_word(word).map_err(|_| Fault::BadWord(word))?;
+        let (first, last) = codes_of_word(word)?;
         codes.add_range(first, last)?;
     }
     Ok(())
@@ -63,19 +71,23 @@ pub(crate) fn add_lists<'a>(
     Ok(())
 }
 
-// Returns why the file at a path is not read to its end.
-fn fault_at<'a>(path: &'a str, fault: FileFault) -> Fault<'a> {
+// Returns why the file at a path, which lists this, is not read to its end.
+fn fault_at<'a>(path: &'a str, kind: FileKind, fault: FileFault) -> Fault<'a> {
     match fault {
         FileFault::Unread => Fault::Unread(path),
+        FileFault::BadLine { line, word } if kind == FileKind::Numbers => Fault::BadNumber {
+            place: Some((path, line)),
+            word,
+        },
         FileFault::BadLine { line, word } => Fault::BadLine { path, line, word },
         FileFault::NoMemory => no_memory(),
     }
 }
 
-/// Adds the codes that files list, whose paths these are.
+/// Adds the codes that files list, whose paths these are, or the glyph numbers.
 ///
 /// # Errors
-/// `Unread` with the first path whose file cannot be read, `BadLine` with the first line that is not as
+/// `Unread` with the first path whose file cannot be read, `BadLine` or `BadNumber` with the first line that is not as
 /// it should be, `Refused` where memory is.
 pub(crate) fn add_files<'a, R: Read + Drop>(
     alloc: Global,
@@ -86,7 +98,7 @@ pub(crate) fn add_files<'a, R: Read + Drop>(
 ) -> Result<(), Fault<'a>> {
     for (mut file, &path) in files.into_iter().zip(paths) {
         if let Err(fault) = add_listed(alloc, &mut file, kind, codes) {
-            return Err(fault_at(path, fault));
+            return Err(fault_at(path, kind, fault));
         }
     }
     Ok(())
@@ -105,7 +117,7 @@ pub(crate) fn add_text_files<'a, R: Read + Drop>(
 ) -> Result<(), Fault<'a>> {
     for (mut file, &path) in files.into_iter().zip(paths) {
         if let Err(fault) = add_text_and_needs(alloc, &mut file, codes, added) {
-            return Err(fault_at(path, fault));
+            return Err(fault_at(path, FileKind::Characters, fault));
         }
     }
     Ok(())

@@ -20,10 +20,8 @@ pub use Rattle.codes.specs.Wanted.{member}
 pub use Rattle.font_file.specs.Font.{cmap_of, font_fault, map_of}
 pub use Rattle.font_file.specs.Text.{error_number, error_text}
 pub use Rattle.font_file.specs.declared.font_error.FontError.{FontError}
-pub use Rattle.font_theory.specs.Cut.{Format, cut, our_format}
+pub use Rattle.font_theory.specs.Cut.{Format, cut}
 pub use Rattle.font_theory.specs.Kinds.{fault_of, format_of}
-pub use Rattle.font_theory.specs.LayoutCut.{layout_fault, layout_format}
-pub use Rattle.font_theory.specs.LeanCut.{lean_format}
 pub use Rattle.font_theory.specs.declared.kinds.Kind.{Kind}
 pub use Rattle.font_theory.specs.declared.kinds.Kind.TheVariants.{Full, Layout, Lean, Variable}
 pub use Rattle.font_theory.specs.Tree.{file_at, union_below}

@@ -14,8 +14,9 @@ pub use font_map::{
     read_word,
 };
 pub use font_subset::{
-    CutError, CutForm, CutIntoError, CutOf, CutOfKind, FontOfKind, OpenError, belongs, cut,
-    cut_form, cut_into, cut_of_kind, cut_of_kind_into, form_of_kind, is_cut, is_cut_of, is_of_kind,
+    CutError, CutForm, CutIntoError, CutOf, CutOfKind, FontOfKind, FontToCut, OpenError, belongs,
+    cut, cut_form, cut_into, cut_of_kind, cut_of_kind_into, form_of_kind, is_cut, is_cut_of,
+    is_of_kind, keeps_layout, kept_glyphs, numbers_of,
 };
 pub use font_tables::{LocaForm, TableError, Tables};
 pub use font_theory::Kind;

@@ -1,14 +1,20 @@
 -- A file whose runs are listed, and a first one.
-use Rattle.std.proofs.Common.{◌≡◌, ℕ, ◌-◌, List, find, Option, None, sym, ap, ◌∙◌, arith}
+use Rattle.std.proofs.Common.{◌≡◌, ℕ, ◌-◌, List, [], Bool, true, false, cond, find, is_some, Option, None, refl, sym}
+use Rattle.std.proofs.Common.{ap}
+use Rattle.std.proofs.Common.{◌∙◌, arith}
 use Rattle.std.specs.List.{range_with_len}
 use Rattle.font_glyph.specs.RecordMap.{Records}
-use Rattle.font_theory.specs.Content.{content, everything, font_of}
-use Rattle.font_theory.specs.Cut.{our_format, content_of_all}
+use Rattle.font_theory.specs.Content.{content, everything, font_of, is_kept}
+use Rattle.font_theory.specs.Cut.{content_of_all}
 use Rattle.font_theory.specs.Difference.{are_different}
 use Rattle.font_theory.specs.Agreement.{both}
-use Rattle.font_subset.proofs.ContentOfAllLemmas.{our_format-whole}
+use Rattle.font_theory.specs.Kinds.{format_by, format_of, full_settings, spelled_by}
+use Rattle.font_theory.specs.declared.kinds.Kind.TheVariants.{Full}
+use Rattle.font_theory.proofs.ContentLemmas.{parts-path}
+use Rattle.font_theory.proofs.KindLemmas.{plain_font-full}
 use Rattle.font_join.specs.Union.{is_other, listed_outline}
 use Rattle.font_join.proofs.FirstLemmas.{first_none}
+use Rattle.font_join.proofs.ThreeTableLemmas.{undivided_spelled}
 
 -- nothing differs from nothing
 pub none_other : (outlines : List (Option (List ℕ))) (L : Records) (n : ℕ)
@@ -18,9 +24,34 @@ none_other outlines L n none =
     let all : n - 0 ≡ n = omega arith in
     ap (λ (k : ℕ). find (is_other (listed_outline outlines) L) (range_with_len 0 k)) (sym all)
     ∙ first_none (is_other (listed_outline outlines) L) n 0
-    (λ g low. ap (λ (o : Option (List ℕ)). are_different o (L g)) (none g))
+    (λ g low. ap (λ (o : Option (List ℕ)). are_different o (L g) false) (none g))
+
+abbrev nothing : List ℕ
+nothing = []
 
 -- the content of two files, of which a join is made
-pub both_whole : (x y : List ℕ) → both (content_of_all our_format x) (content_of_all our_format y)
+pub both_whole : (x y : List ℕ)
+    → spelled_by Full (both (content_of_all (format_of Full) x) (content_of_all (format_of Full) y))
     ≡ both (content (font_of x) everything) (content (font_of y) everything)
-both_whole x y = λ i. both (our_format-whole x i) (our_format-whole y i)
+unfolding full_settings format_by
+both_whole x y =
+    (λ i. spelled_by Full (both (content (plain_font-full x i) everything) (content (plain_font-full y i) everything)))
+    ∙ (λ i. record {
+      copied = undivided_spelled Full refl (both (content (font_of x) everything) (content (font_of y) everything)) i;
+      head = (font_of x).head;
+      map = (both (content (font_of x) everything) (content (font_of y) everything)).map;
+      outline = (both (content (font_of x) everything) (content (font_of y) everything)).outline;
+      parts = sym (parts-path (none_both x y)) i;
+      there = (both (content (font_of x) everything) (content (font_of y) everything)).there;
+    })
+  where
+    none_both : (x y : List ℕ) (slot g : ℕ)
+        → (both (content (font_of x) everything) (content (font_of y) everything)).parts slot g ≡ []
+    none_both x y slot g = go (is_some ((content (font_of x) everything).outline g)) (is_kept (font_of x) everything g)
+        (is_kept (font_of y) everything g)
+      where
+        go : (b u v : Bool) → cond b (cond u nothing nothing) (cond v nothing nothing) ≡ nothing
+        go true true v = refl
+        go true false v = refl
+        go false u true = refl
+        go false u false = refl

@@ -1,5 +1,6 @@
 -- The variation data of contents that are compared and united.
-use Rattle.std.proofs.Common.{◌≡◌, ℕ, zero, suc, ◌+◌, ◌<◌, ◌≤◌, false, List, [], ◌∷◌, ◌++◌, length, map}
+use Rattle.std.proofs.Common.{◌≡◌, ℕ, zero, suc, ◌+◌, ◌<◌, ◌≤◌, ◌&&◌, false, find, not, List, [], ◌∷◌, ◌++◌, length}
+use Rattle.std.proofs.Common.{map}
 use Rattle.std.proofs.Common.{length-append, length-drop, Option, None, Some, is_some, unwrap_or, cond, Bool, true}
 use Rattle.std.proofs.Common.{refl}
 use Rattle.std.proofs.Common.{slice_index_or, sym, ap, ◌∙◌, subst, arith}
@@ -17,12 +18,13 @@ use Rattle.font_variations.proofs.GvarLemmas.{is_good}
 use Rattle.font_variations.proofs.GivenLemmas.{listed_by_index, made_of_listed}
 use Rattle.font_variations.proofs.LawLemmas.{lead_in_order}
 use Rattle.font_theory.specs.Content.{Content, glyph_count, is_bad_variations_in, table_in_slot}
+use Rattle.font_theory.proofs.WordLemmas.{variation_data-none}
 use Rattle.font_variations.proofs.MadeLemmas.{length-made}
-use Rattle.font_theory.specs.VariableCut.{gvar_with, variation_data}
-use Rattle.font_theory.proofs.VariableCopiedLemmas.{variation_data-none}
+use Rattle.font_theory.specs.Parted.{gvar_with, variation_data}
 use Rattle.font_write.specs.declared.source.TheConstants.{MAX_TABLE}
-use Rattle.font_join.specs.KindInside.{HasFineGvar, either_data, opened_gvar}
-use Rattle.font_join.proofs.LeanTableLemmas.{Tables}
+use Rattle.font_join.specs.KindInside.{HasFineGvar, either_data, has_other_data, opened_gvar}
+use Rattle.font_join.proofs.FirstLemmas.{first_absent}
+use Rattle.font_join.proofs.ThreeTableLemmas.{Tables}
 
 -- the data of a glyph are as long as the step to the next offset, or shorter
 data_step : (gvar : List ℕ) (fvar : Option (List ℕ)) (n g : ℕ) → is_bad_variations gvar fvar n ≡ false → g < n
@@ -217,3 +219,28 @@ listed_count bytes xs f n all = sym (length-map xs bytes) ∙ ap length all ∙ 
 -- where there are none they are short
 pub nothing_long : (n : ℕ) → length (concat (listed_data (λ _. []) n)) ≡ 0
 nothing_long n = listed_none (λ _. []) n 0 (λ j. refl)
+
+-- where neither content has a `gvar` no data differ
+no_table : (copied : ℕ → Option (List ℕ)) → is_some (opened_gvar copied) ≡ false → copied GVAR ≡ None
+no_table copied none = go (copied GVAR) none
+  where
+    go : (o : Option (List ℕ)) → is_some {T = List ℕ × ℕ} (option_map (λ t. (t, glyph_count copied)) o) ≡ false
+        → o ≡ None
+    go None h = refl
+    go (Some t) h = cc
+
+pub no_data_told : (C D : Content) → is_some (opened_gvar C.copied) ≡ false → is_some (opened_gvar D.copied) ≡ false
+    → None ≡ find (has_other_data C D) (range_with_len 0 (glyph_count C.copied))
+no_data_told C D first second = sym (first_absent (has_other_data C D) (glyph_count C.copied) (λ g low. none g))
+  where
+    nowhere : (a b : Bool) → (a && (b && false)) ≡ false
+    nowhere true true = refl
+    nowhere true false = refl
+    nowhere false b = refl
+
+    none : (g : ℕ) → has_other_data C D g ≡ false
+    none g =
+        (λ i. is_some (C.outline g) && (is_some (D.outline g)
+        && not (bytes_eq (variation_data-none C.copied (no_table C.copied first) g i)
+        (variation_data-none D.copied (no_table D.copied second) g i))))
+        ∙ nowhere (is_some (C.outline g)) (is_some (D.outline g))

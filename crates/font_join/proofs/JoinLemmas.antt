@@ -7,7 +7,7 @@ use Rattle.sfnt_bytes.specs.Lines.{first_of_lines, when}
 use Rattle.sfnt_bytes.specs.declared.directory.TheConstants.{MAX_FILE}
 use Rattle.font_file.specs.Font.{font_fault}
 use Rattle.font_file.specs.declared.font_error.FontError.{FontError}
-use Rattle.font_theory.specs.Content.{Content, Font as FontRead, content, everything}
+use Rattle.font_theory.specs.Content.{Content, Font as FontRead, Wanted, content, everything}
 use Rattle.font_theory.specs.Cut.{CanJoin, Format, IsCut, Under, Writes, cut, either, is_cut, joined, renewed}
 use Rattle.font_theory.specs.Cut.{content_of_all}
 use Rattle.font_theory.specs.Difference.{difference}
@@ -338,7 +338,7 @@ module _ {R : Format} {fault : List ℕ → Option FontError} {font : List ℕ �
             go None None None None None false a b c c' g k h = cc
 
   -- cuts of one font
-  module _ (F : List ℕ) (A B : ℕ → Bool) (x y : List ℕ) (accepted : R.fault F ≡ None)
+  module _ (F : List ℕ) (A B : Wanted) (x y : List ℕ) (accepted : R.fault F ≡ None)
       (ex : Writes R (content (R.font F) A) x) (ey : Writes R (content (R.font F) B) y) (sx : length x ≤ MAX_FILE)
       (sy : length y ≤ MAX_FILE) where
     pub can_join_cuts : CanJoin R x y

@@ -1,11 +1,11 @@
 -- What stands after joins in turn, and what follows from it.
-use Rattle.std.proofs.Common.{◌≡◌, ℕ, zero, suc, ◌+◌, ◌<◌, ◌≤◌, Bool, List, [], get_or, length, map, refl, sym}
+use Rattle.std.proofs.Common.{◌≡◌, ℕ, zero, suc, ◌+◌, ◌<◌, ◌≤◌, List, [], get_or, length, map, refl, sym}
 use Rattle.std.proofs.Common.{subst, arith, Option, None, Result, Ok, Err, IfOk, IfErr, MatchResult}
 use Rattle.std.proofs.lemmas.List.{get_or-map}
 use Rattle.std.proofs.lemmas.Result.{MatchResult-weaker}
 use Rattle.sfnt_bytes.specs.declared.directory.TheConstants.{MAX_FILE}
 use Rattle.font_file.specs.declared.font_error.FontError.{FontError}
-use Rattle.font_theory.specs.Content.{Content, Font as FontRead}
+use Rattle.font_theory.specs.Content.{Content, Font as FontRead, Wanted}
 use Rattle.font_theory.specs.Cut.{Format, IsCurrent, IsCut, cut, renewed}
 use Rattle.font_theory.specs.Tree.{Differs, IsOver, IsSmall, JoinTree, Value, cuts, file_at, grown, union_below}
 use Rattle.font_theory.proofs.FontLemmas.{size-accepted}
@@ -50,10 +50,6 @@ module _ {R : Format} {fault : List ℕ → Option FontError} {font : List ℕ �
         let j' : IsJoin R w (file_at files k) v =
         subst (λ (a : List ℕ). IsJoin R a (file_at files k) v) ex (subst (λ (b : List ℕ). IsJoin R x b v) ey j) in
         subst (λ (n : ℕ). Stands R files n v) e (w, s, j')
-
-    pub stands_end : (k : ℕ) (z : List ℕ) → k ≡ length files → 0 < length files → Stands R files k z
-        → IsAllJoined R files z
-    stands_end k z e some s = record { some = some; stands = subst (λ (n : ℕ). Stands R files n z) e s }
 
     -- what stands after k joins is the value of the tree that grows file by file
     pub Value-stands : (k : ℕ) (v : List ℕ) → Stands R files k v → Value R (grown files k) v
@@ -100,7 +96,7 @@ module _ {R : Format} {fault : List ℕ → Option FontError} {font : List ℕ �
         (to_most z (small_joined z all)) forms t over few
 
     pub value_of_cuts : (z : List ℕ) → IsAllJoined R files z → (F : List ℕ) → R.fault F ≡ None
-        → (t : JoinTree (ℕ → Bool)) → IsOver files (cuts R F t) → IsSmall R (cuts R F t)
+        → (t : JoinTree Wanted) → IsOver files (cuts R F t) → IsSmall R (cuts R F t)
         → Value R (cuts R F t) z
     value_of_cuts z all F accepted t over few =
         Value-grown_cuts R kind.law files all.some z (Value-stands (length files) z all.stands)
@@ -136,7 +132,7 @@ module _ {R : Format} {fault : List ℕ → Option FontError} {font : List ℕ �
     clash_differs (At k NoMemory) r d = absurd d
 
     -- cuts of one font
-    module _ (F : List ℕ) (A : ℕ → ℕ → Bool) (are : AreCuts R F A files) where
+    module _ (F : List ℕ) (A : ℕ → Wanted) (are : AreCuts R F A files) where
       most : (k : ℕ) → k < length files → length (file_at files k) ≤ R.limit
       most k low = to_most (file_at files k) (are.small k low)
 
@@ -170,9 +166,9 @@ module _ {R : Format} {fault : List ℕ → Option FontError} {font : List ℕ �
 
     -- an answer that gives what all steps come to has the laws, where each refusal over cuts of one font is for size
     pub laws_of_join : {T E : Type 0} (result : Result T E) (gives : List ℕ → T → Type 0) (is_for_size : List ℕ
-        → (ℕ → ℕ → Bool) → List (List ℕ) → E → Type 0)
-        → MatchResult result (λ v. (z : List ℕ) × IsAllJoined R files z × gives z v) (λ e. (F : List ℕ) (A : ℕ → ℕ
-        → Bool) → AreCuts R F A files → is_for_size F A files e)
+        → (ℕ → Wanted) → List (List ℕ) → E → Type 0)
+        → MatchResult result (λ v. (z : List ℕ) × IsAllJoined R files z × gives z v) (λ e. (F : List ℕ) (A : ℕ
+        → Wanted) → AreCuts R F A files → is_for_size F A files e)
         → JoinLaws R files result gives is_for_size
     laws_of_join result gives is_for_size h = record {
       value = MatchResult-weaker result h (λ v w. (w.0, w.2, Value-stands (length files) w.0 w.1.stands)) (λ e q. tt);

@@ -1,6 +1,7 @@
 -- A cut that is merged into a union of cuts of its kind.
-use Rattle.std.proofs.Common.{◌≡◌, ◌≢◌, ℕ, ◌≤◌, List, [], find, length, Option}
-use Rattle.std.proofs.Common.{None, unwrap_or, refl, sym, ap, ◌∙◌, subst, arith}
+use Rattle.std.proofs.Common.{◌≡◌, ℕ, ◌≤◌, Bool, true, false, cond, List, [], find, length, Option}
+use Rattle.std.proofs.Common.{None, inl, inr, refl, sym, ap, ◌∙◌, subst, arith}
+use Rattle.std.proofs.lemmas.Bool.{cases_Bool}
 use Rattle.std.specs.List.{range_with_len}
 use Rattle.std.specs.Option.{option_map}
 use Rattle.std.proofs.Math.Path.{fun_ext}
@@ -8,46 +9,41 @@ use Rattle.sfnt_bytes.specs.declared.directory.TheConstants.{MAX_FILE}
 use Rattle.sfnt_bytes.specs.declared.tag.TheConstants.{GVAR, HMTX, VMTX}
 use Rattle.font_tables.specs.Fields.{glyph_count_of}
 use Rattle.codes.specs.CharacterMap.{AreCompatible, united}
-use Rattle.font_glyph.specs.RecordMap.{union_of}
+use Rattle.font_glyph.specs.RecordMap.{record_in, union_of}
 use Rattle.font_theory.specs.Content.{Content, IsClosedContent, content, everything, font_of, glyph_count}
-use Rattle.font_theory.specs.Content.{table_in_slot}
+use Rattle.font_theory.specs.Content.{is_kept, table_in_slot}
 use Rattle.font_file.specs.Font.{font_fault}
 use Rattle.font_theory.proofs.CutLemmas.{IsCut-current}
-use Rattle.font_theory.specs.Cut.{Arises, IsCut, our_format, content_of_all}
+use Rattle.font_theory.specs.Cut.{Arises, IsCut, content_of_all}
 use Rattle.font_theory.specs.Cut.Arises.{of_file, of_two}
-use Rattle.font_theory.specs.Difference.{difference, is_different_glyph}
+use Rattle.font_theory.specs.Difference.{difference}
 use Rattle.font_theory.specs.Agreement.{Agree, both}
-use Rattle.font_theory.specs.LeanCut.{either_bytes, spelled_copied, spelled_out}
-use Rattle.font_theory.specs.VariableCut.{gvar_with}
+use Rattle.font_theory.specs.Parted.{either_bytes}
 use Rattle.font_theory.specs.declared.Difference.TheVariants.{AtGlyph}
 use Rattle.font_theory.proofs.ArisesLemmas.{IsClosed-arises}
+use Rattle.font_theory.proofs.ContentLemmas.{nothing_either, parts-path}
 use Rattle.font_theory.proofs.DifferenceLemmas.{Agree-from_none}
-use Rattle.font_theory.proofs.LeanAgreeLemmas.{union-lean}
-use Rattle.font_theory.proofs.LeanCopiedLemmas.{AreAlike-spelled, glyph_count-alike}
-use Rattle.font_theory.proofs.LeanLemmas.{IsLean}
-use Rattle.font_theory.proofs.VariableCopiedLemmas.{glyph_count-filled}
-use Rattle.font_theory.proofs.VariableFileLemmas.{IsClosed-variable}
-use Rattle.font_theory.proofs.VariableLeanLemmas.{count-spelled, gvar-spelled}
 use Rattle.font_subset.proofs.SourceLemmas.{count_as, table_small}
 use Rattle.sfnt_bytes.specs.Directory.{slot_tag}
-use Rattle.font_join.proofs.VariableUnionLemmas.{blanks_written, early_written, glyphs_written, outlines_written}
-use Rattle.font_join.proofs.VariableUnionLemmas.{tables_written}
-use Rattle.font_theory.proofs.KindLemmas.{kind_is}
-use Rattle.font_theory.specs.Kinds.{font_as, format_of, spelled_by, tables_as}
+use Rattle.font_theory.proofs.KindJoinLemmas.{unions}
+use Rattle.font_theory.proofs.KindLemmas.{divides, kind_is, settings-are}
+use Rattle.font_theory.proofs.SettingsLemmas.{IsClosed-by, there-written}
+use Rattle.font_theory.specs.Kinds.{font_as, format_of, full_settings, layout_settings, lean_settings, settings}
+use Rattle.font_theory.specs.Kinds.{spelled_by, tables_as, there_by, variable_settings, divides_tables}
 use Rattle.font_theory.specs.declared.kinds.Kind.{Kind}
 use Rattle.font_theory.specs.declared.kinds.Kind.TheVariants.{Full, Layout, Lean, Variable}
 use Rattle.map_union.specs.RunLists.{TwoLists, map_in}
 use Rattle.font_join.specs.Inside.{AreTaken, early_difference}
-use Rattle.font_join.specs.KindInside.{HasFineGvar, HoldsIn}
-use Rattle.font_join.specs.KindInside.{HasBlanks, IsUnion, SpellsIn, blanked, compared, has_other_metrics, least_of}
-use Rattle.font_join.specs.KindInside.{either_data, laid_over, values_told, own_in, united_gvar}
-use Rattle.font_join.specs.Union.{Held, ThreeTables, content_in, is_other, listed_outline, replaced, tables_in}
+use Rattle.font_join.specs.KindInside.{HasFineGvar, HoldsIn, IsGrown}
+use Rattle.font_join.specs.KindInside.{HasBlanks, IsUnion, SpellsIn, blanks_in, laid_over, least_of, own_in, parts_told}
+use Rattle.font_join.specs.KindInside.{united_gvar}
+use Rattle.font_join.specs.Union.{Held, ThreeTables, content_in, is_other, listed_outline, no_tables, replaced}
+use Rattle.font_join.specs.Union.{tables_in}
 use Rattle.font_join.specs.Union.{three_of}
-use Rattle.font_join.proofs.AddFaultLemmas.{difference-late}
-use Rattle.font_join.proofs.LeanGlyphLemmas.{glyphs_told}
-use Rattle.font_join.proofs.LeanTableLemmas.{Tables, blanks_thin, closed_spelled, count_of_replaced}
-use Rattle.font_join.proofs.LeanTableLemmas.{early_spelled, layout_thin, lean_thin, no_gvar_layout, no_gvar_lean}
-use Rattle.font_join.proofs.LeanTableLemmas.{replaced_copied, replaced_hmtx, replaced_is, replaced_vmtx, same_count}
+use Rattle.font_join.proofs.ToldLemmas.{least_none, told_merged}
+use Rattle.font_join.proofs.ThreeTableLemmas.{Tables, blanks_spelled, count_of_replaced, count_spelled}
+use Rattle.font_join.proofs.ThreeTableLemmas.{undivided_spelled}
+use Rattle.font_join.proofs.ThreeTableLemmas.{replaced_copied, replaced_hmtx, replaced_is, replaced_vmtx, same_count}
 use Rattle.font_join.proofs.JoinLemmas.{font_accepted}
 use Rattle.font_join.proofs.OutlineListLemmas.{taken_whole}
 
@@ -55,97 +51,71 @@ pub spells_file : (k : Kind) (y : List ℕ) → IsCut (format_of k) y
     → SpellsIn k (content (font_as k y) everything) (content_of_all (format_of k) y)
 spells_file k y form = record { arises = of_file y everything form.accepted refl; is = (kind_is k).means y form }
 
+-- the tables of a union: its own, or those of its first file
+abbrev tables_by : Bool → Tables → ThreeTables → Tables
+tables_by b c o slot = cond b (replaced c o slot) (c slot)
+
+pub own_tables : (k : Kind) (c : Tables) (o : ThreeTables) → divides_tables k ≡ true → replaced c o ≡ tables_in k c o
+own_tables k c o some = sym (ap (λ b. tables_by b c o) some)
+
+pub first_tables : (k : Kind) (c : Tables) (o : ThreeTables) → divides_tables k ≡ false → c ≡ tables_in k c o
+first_tables k c o none = sym (ap (λ b. tables_by b c o) none)
+
+-- whether the kind of a union divides tables, which is held as u and known as v
+pub is_divided : (u v : Held) → u ≡ v → (k : Kind) (b : Bool) → k ≡ u.kind → b ≡ divides_tables k
+    → divides_tables v.kind ≡ b
+is_divided u v same k b kind is = sym (is ∙ ap divides_tables (kind ∙ ap (λ (w : Held). w.kind) same))
+
 -- what is the same in a content and in what it is written as
 pub count_in : (k : Kind) (c : Tables) (o : ThreeTables) → glyph_count (tables_in k c o) ≡ glyph_count c
-count_in Full c o = refl
-count_in Lean c o = count_of_replaced c o
-count_in Layout c o = count_of_replaced c o
-count_in Variable c o = count_of_replaced c o
+count_in k c o = elim (cases_Bool (divides_tables k)) [
+  | inl some ↦ ap glyph_count (sym (own_tables k c o some)) ∙ count_of_replaced c o
+  | inr none ↦ ap glyph_count (sym (first_tables k c o none))
+]
 
--- the tables of a union
-pub own_tables : (k : Kind) (c : Tables) (o : ThreeTables) (slot : ℕ) → k ≢ Full
-    → replaced c o slot ≡ tables_in k c o slot
-own_tables Full c o slot other = absurd (other refl)
-own_tables Lean c o slot other = refl
-own_tables Layout c o slot other = refl
-own_tables Variable c o slot other = refl
-
-pub full_copied : (k : Kind) (c : Tables) (o : ThreeTables) (slot : ℕ) → k ≡ Full → c slot ≡ tables_in k c o slot
-full_copied k c o slot full = ap (λ (q : Kind). tables_in q c o slot) (sym full)
-
-count_spelled : (k : Kind) (K : Content) → glyph_count (spelled_by k K).copied ≡ glyph_count K.copied
-count_spelled Full K = refl
-count_spelled Lean K = glyph_count-alike K.copied (spelled_copied K) (AreAlike-spelled K)
-count_spelled Layout K = glyph_count-alike K.copied (spelled_copied K) (AreAlike-spelled K)
-count_spelled Variable K = glyph_count-filled (spelled_out K) ∙ count-spelled K
-
-map_spelled : (k : Kind) (K : Content) → (spelled_by k K).map ≡ K.map
-map_spelled Full K = refl
-map_spelled Lean K = refl
-map_spelled Layout K = refl
-map_spelled Variable K = refl
-
-head_spelled : (k : Kind) (K : Content) → (spelled_by k K).head ≡ K.head
-head_spelled Full K = refl
-head_spelled Lean K = refl
-head_spelled Layout K = refl
-head_spelled Variable K = refl
-
--- what the union of two contents is written as
-both_spelled : (k : Kind) (K L : Content) → Arises (format_of k) K → Arises (format_of k) L → Agree K L
-    → (spelled_by k (both K L)).outline
-    ≡ union_of (spelled_by k K).outline (spelled_by k L).outline
-both_spelled Full K L first second agree = refl
-both_spelled Lean K L first second agree = (union-lean K L (lean_thin.lean K first) agree).1
-both_spelled Layout K L first second agree = (union-lean K L (layout_thin.lean K first) agree).1
-both_spelled Variable K L first second agree = outlines_written K L first second agree
-
-thin_both : (c : Tables) (o : ThreeTables) (K L : Content) (f : List ℕ → List ℕ) → IsLean K → Agree K L
-    → K.copied GVAR ≡ None → replaced c o ≡ spelled_copied K
-    → replaced c (laid_over (spelled_out L).copied o (option_map f (replaced c o GVAR))) ≡ spelled_copied (both K L)
-thin_both c o K L f lean agree none is =
-    let p : ThreeTables = laid_over (spelled_out L).copied o (option_map f (replaced c o GVAR)) in
-    let U = union-lean K L lean agree in
-    let across : p.hmtx ≡ spelled_copied (both K L) HMTX =
-    ap (option_map (λ t. either_bytes t (unwrap_or ((spelled_out L).copied HMTX) [])))
-    (replaced_hmtx c o HMTX refl ∙ ap (λ (t : Tables). t HMTX) is) ∙ sym U.3 in
-    let down : p.vmtx ≡ spelled_copied (both K L) VMTX =
-    ap (option_map (λ t. either_bytes t (unwrap_or ((spelled_out L).copied VMTX) [])))
-    (replaced_vmtx c o VMTX refl ∙ ap (λ (t : Tables). t VMTX) is) ∙ sym U.4 in
-    let first : spelled_copied K GVAR ≡ None = gvar-spelled K ∙ none in
-    let gvar : p.gvar ≡ spelled_copied (both K L) GVAR =
-    ap (option_map f) (ap (λ (t : Tables). t GVAR) is ∙ first) ∙ sym (gvar-spelled (both K L) ∙ none) in
-    replaced_is c p (spelled_copied (both K L)) (λ i. record { hmtx = across i; vmtx = down i; gvar = gvar i })
-    (λ slot a b d. replaced_copied c o slot a b d ∙ ap (λ (t : Tables). t slot) is ∙ sym (U.2 slot a b))
+-- what the union of two contents is written with
+module _ (k : Kind) (c : Tables) (o : ThreeTables) (C K L : Content) where
+  tables_written : Arises (format_of k) K → Arises (format_of k) L → Agree K L → C ≡ spelled_by k K
+      → replaced c o ≡ C.copied
+      → replaced c (laid_over (spelled_by k L).copied o (united_gvar C (spelled_by k L)))
+      ≡ (spelled_by k (both K L)).copied
+  tables_written first second agree spells is =
+      let D : Content = spelled_by k L in
+      let U = (unions (settings k) (settings-are k) (divides k) K L first second agree).1 in
+      let at : replaced c o ≡ (spelled_by k K).copied = is ∙ ap (λ (M : Content). M.copied) spells in
+      let over : ThreeTables = laid_over D.copied o (united_gvar C D) in
+      let across : over.hmtx ≡ (spelled_by k (both K L)).copied HMTX =
+      ap (option_map (λ t. either_bytes t (table_in_slot D.copied HMTX)))
+      (replaced_hmtx c o HMTX refl ∙ ap (λ (t : Tables). t HMTX) at) ∙ sym U.hmtx in
+      let down : over.vmtx ≡ (spelled_by k (both K L)).copied VMTX =
+      ap (option_map (λ t. either_bytes t (table_in_slot D.copied VMTX)))
+      (replaced_vmtx c o VMTX refl ∙ ap (λ (t : Tables). t VMTX) at) ∙ sym U.vmtx in
+      let gvar : over.gvar ≡ (spelled_by k (both K L)).copied GVAR =
+      ap (λ (M : Content). united_gvar M D) spells ∙ sym U.gvar in
+      replaced_is c over (spelled_by k (both K L)).copied
+      (λ i. record { hmtx = across i; vmtx = down i; gvar = gvar i })
+      (λ slot a b d. replaced_copied c o slot a b d ∙ ap (λ (t : Tables). t slot) at ∙ sym (U.others slot d a b))
 
 tables_both : (k : Kind) (c : Tables) (o : ThreeTables) (C K L : Content) → Arises (format_of k) K
     → Arises (format_of k) L → Agree K L → C ≡ spelled_by k K → tables_in k c o ≡ C.copied
     → tables_in k c (laid_over (spelled_by k L).copied o (united_gvar C (spelled_by k L)))
     ≡ (spelled_by k (both K L)).copied
-tables_both Full c o C K L first second agree spells is = is ∙ ap (λ (M : Content). M.copied) spells
-tables_both Lean c o C K L first second agree spells is =
-    let f : List ℕ → List ℕ = gvar_with (either_data C (spelled_out L)) (glyph_count C.copied) in
-    ap (λ (g : Option (List ℕ)). replaced c (laid_over (spelled_out L).copied o (option_map f g)))
-    (ap (λ (t : Tables). t GVAR) (sym is))
-    ∙ thin_both c o K L f (lean_thin.lean K first) agree (no_gvar_lean K first)
-    (is ∙ ap (λ (M : Content). M.copied) spells)
-tables_both Layout c o C K L first second agree spells is =
-    let f : List ℕ → List ℕ = gvar_with (either_data C (spelled_out L)) (glyph_count C.copied) in
-    ap (λ (g : Option (List ℕ)). replaced c (laid_over (spelled_out L).copied o (option_map f g)))
-    (ap (λ (t : Tables). t GVAR) (sym is))
-    ∙ thin_both c o K L f (layout_thin.lean K first) agree (no_gvar_layout K first)
-    (is ∙ ap (λ (M : Content). M.copied) spells)
-tables_both Variable c o C K L first second agree spells is = tables_written c o C K L first second agree spells is
+tables_both k c o C K L first second agree spells is =
+    let over : ThreeTables = laid_over (spelled_by k L).copied o (united_gvar C (spelled_by k L)) in
+    elim (cases_Bool (divides_tables k)) [
+      | inl some ↦ sym (own_tables k c over some)
+          ∙ tables_written k c o C K L first second agree spells (own_tables k c o some ∙ is)
+      | inr none ↦
+          sym (first_tables k c over none) ∙ first_tables k c o none ∙ is ∙ ap (λ (M : Content). M.copied) spells
+          ∙ undivided_spelled k none K ∙ sym (undivided_spelled k none (both K L))
+    ]
 
 pub closed_in : (k : Kind) (C K : Content) → SpellsIn k C K → IsClosedContent C
-closed_in Full C K h =
-    subst IsClosedContent (sym h.is) (IsClosed-arises our_format (kind_is Full).law.is_font K h.arises)
-closed_in Lean C K h = closed_spelled lean_thin C K h
-closed_in Layout C K h = closed_spelled layout_thin C K h
-closed_in Variable C K h = subst IsClosedContent (sym h.is) (IsClosed-variable K h.arises)
+closed_in k C K h = subst IsClosedContent (sym h.is) (IsClosed-by (settings k) (settings-are k) K h.arises)
 
 -- the `gvar` of a file in cut form, and that of a union, are fine
 short_gvar : (k : Kind) (y : List ℕ) → font_fault y ≡ None → length (table_in_slot (tables_as k y) GVAR) ≤ MAX_FILE
+unfolding full_settings lean_settings layout_settings variable_settings
 short_gvar Full y accepted = omega arith
 short_gvar Lean y accepted = omega arith
 short_gvar Layout y accepted = omega arith
@@ -184,79 +154,41 @@ agree_tested k C K y h form none = Agree-from_none K (content_of_all (format_of 
     (IsClosed-arises (format_of k) (kind_is k).law.is_font (content_of_all (format_of k) y)
     (spells_file k y form).arises) none
 
--- what is compared, by the kinds
-pub compared_full : (k : Kind) (C D : Content) → k ≡ Full → early_difference C D ≡ early_difference (compared k C)
-    (compared k D)
-compared_full k C D full = ap (λ (q : Kind). early_difference (compared q C) (compared q D)) (sym full)
-
-pub compared_other : (k : Kind) (C D : Content) → k ≢ Full → early_difference (blanked C) (blanked D)
-    ≡ early_difference (compared k C) (compared k D)
-compared_other Full C D other = absurd (other refl)
-compared_other Lean C D other = refl
-compared_other Layout C D other = refl
-compared_other Variable C D other = refl
-
-pub values_by : (k q : Kind) (C D : Content) → k ≡ q → values_told q C D ≡ values_told k C D
-values_by k q C D is = ap (λ (r : Kind). values_told r C D) (sym is)
-
--- what tells two contents apart before their glyphs do
-pub early_told : (k : Kind) (C D K L : Content) → SpellsIn k C K → SpellsIn k D L
-    → early_difference (compared k C) (compared k D) ≡ early_difference K L
-early_told Full C D K L h g = λ i. early_difference (h.is i) (g.is i)
-early_told Lean C D K L h g = early_spelled lean_thin C D K L h g
-early_told Layout C D K L h g = early_spelled layout_thin C D K L h g
-early_told Variable C D K L h g = early_written C D K L h g
-
--- and in a glyph: the first with other metrics, where these are compared, or another outline
-pub told_merged : (k : Kind) (C D K L : Content) → SpellsIn k C K → SpellsIn k D L → early_difference K L ≡ None
-    → (other metrics : Option ℕ) (n : ℕ) → n ≡ glyph_count C.copied
-    → other ≡ find (is_other C.outline D.outline) (range_with_len 0 n) → metrics ≡ values_told k C D
-    → difference K L ≡ option_map AtGlyph (least_of metrics other)
-unfolding is_different_glyph
-told_merged Full C D K L h g early other metrics n count outlines told =
-    difference-late K L early
-    ∙ (λ i. option_map AtGlyph (find (is_other (sym h.is i).outline (sym g.is i).outline)
-    (range_with_len 0 (glyph_count (sym h.is i).copied))))
-    ∙ ap (λ (m : ℕ). option_map AtGlyph (find (is_other C.outline D.outline) (range_with_len 0 m))) (sym count)
-    ∙ ap (option_map AtGlyph) (sym outlines)
-    ∙ ap (λ (m : Option ℕ). option_map AtGlyph (least_of m other)) (sym told)
-told_merged Lean C D K L h g early other metrics n count outlines told =
-    glyphs_told lean_thin C D K L h g early other metrics n count outlines (told
-    ∙ ap (λ (m : ℕ). find (has_other_metrics C D) (range_with_len 0 m)) (sym count))
-told_merged Layout C D K L h g early other metrics n count outlines told =
-    glyphs_told layout_thin C D K L h g early other metrics n count outlines (told
-    ∙ ap (λ (m : ℕ). find (has_other_metrics C D) (range_with_len 0 m)) (sym count))
-told_merged Variable C D K L h g early other metrics n count outlines told =
-    glyphs_written C D K L h g early other metrics n count outlines told
-
-pub form_of : (u v : Held) → u ≡ v → (y : List ℕ) → IsCut (format_of v.kind) y → IsCut (format_of u.kind) y
-form_of u v same y cut = subst (λ (w : Held). IsCut (format_of w.kind) y) (sym same) cut
-
 -- a file whose glyphs have been compared with those of a union, which is held as u and known as v
-module _ (u v : Held) (same : u ≡ v) (y : List ℕ) (cut : IsCut (format_of v.kind) y)
+module _ (u v : Held) (same : u ≡ v) (q : Kind) (kind : q ≡ v.kind) (y : List ℕ) (cut : IsCut (format_of v.kind) y)
     (early : (M : Content) → SpellsIn v.kind (content_in v) M → early_difference M (content_of_all (format_of v.kind) y)
     ≡ None)
-    (K : Content) (spells : SpellsIn u.kind (content_in u) K) (n : ℕ) (count : n ≡ glyph_count_of u.tables)
-    (other metrics : Option ℕ)
-    (differs : other ≡ find (is_other (listed_outline u.outlines) (content (font_as u.kind y) everything).outline)
+    (n : ℕ) (count : n ≡ glyph_count_of u.tables) (other parts : Option ℕ)
+    (differs : other ≡ find (is_other (listed_outline u.outlines) (content (font_as q y) everything).outline)
     (range_with_len 0 n))
-    (measured : metrics ≡ values_told v.kind (content_in v) (content (font_as u.kind y) everything)) where
-  pub told_of : difference K (content_of_all (format_of u.kind) y) ≡ option_map AtGlyph (least_of metrics other)
+    (told : (M : Content) → SpellsIn v.kind (content_in v) M → parts
+    ≡ parts_told M (content_of_all (format_of v.kind) y))
+    (K : Content) (spells : SpellsIn u.kind (content_in u) K) where
+  pub kind_of : q ≡ u.kind
+  kind_of = kind ∙ sym (ap (λ (w : Held). w.kind) same)
+
+  pub form_of : IsCut (format_of u.kind) y
+  form_of = subst (λ (w : Held). IsCut (format_of w.kind) y) (sym same) cut
+
+  pub told_of : difference K (content_of_all (format_of u.kind) y) ≡ option_map AtGlyph (least_of parts other)
   told_of =
       told_merged u.kind (content_in u) (content (font_as u.kind y) everything) K (content_of_all (format_of u.kind) y)
-      spells (spells_file u.kind y (form_of u v same y cut))
+      spells (spells_file u.kind y form_of)
       (subst (λ (w : Held). (M : Content) → SpellsIn w.kind (content_in w) M
       → early_difference M (content_of_all (format_of w.kind) y) ≡ None) (sym same) early K spells)
-      other metrics n (count ∙ count_as u.kind u.tables
-      ∙ sym (count_in u.kind (tables_as u.kind u.tables) u.own)) differs
-      (subst (λ (w : Held). metrics ≡ values_told w.kind (content_in w) (content (font_as u.kind y) everything))
-      (sym same) measured)
+      other parts n (count ∙ count_as u.kind u.tables ∙ sym (count_in u.kind (tables_as u.kind u.tables) u.own))
+      (subst (λ (k : Kind). other ≡ find (is_other (listed_outline u.outlines) (content (font_as k y)
+      everything).outline)
+      (range_with_len 0 n)) kind_of differs)
+      (subst (λ (w : Held). (M : Content) → SpellsIn w.kind (content_in w) M
+      → parts ≡ parts_told M (content_of_all (format_of w.kind) y)) (sym same) told K spells)
 
-  pub none_of : least_of metrics other ≡ None → difference K (content_of_all (format_of u.kind) y) ≡ None
-  none_of least = told_of ∙ ap (option_map AtGlyph) least
+  module _ (least : least_of parts other ≡ None) where
+    pub none_of : difference K (content_of_all (format_of u.kind) y) ≡ None
+    none_of = told_of ∙ ap (option_map AtGlyph) least
 
-  pub agree_of : least_of metrics other ≡ None → Agree K (content_of_all (format_of u.kind) y)
-  agree_of least = agree_tested u.kind (content_in u) K y spells (form_of u v same y cut) (none_of least)
+    pub agree_of : Agree K (content_of_all (format_of u.kind) y)
+    agree_of = agree_tested u.kind (content_in u) K y spells form_of none_of
 
 -- contents with no difference in a table have as many glyphs
 pub count_early : (k : Kind) (C D K L : Content) → SpellsIn k C K → SpellsIn k D L → early_difference K L ≡ None
@@ -268,13 +200,9 @@ count_early k C D K L h g early =
 -- the tables without what is of single glyphs stay
 blanks_kept : (k : Kind) (C D K M : Content) (blanks : ThreeTables) → SpellsIn k C K → SpellsIn k D M
     → K.copied ≡ M.copied → HasBlanks k C.copied blanks → HasBlanks k D.copied blanks
-blanks_kept Full C D K M blanks h g same are = tt
-blanks_kept Lean C D K M blanks h g same are =
-    are ∙ blanks_thin lean_thin C K h ∙ ap three_of same ∙ sym (blanks_thin lean_thin D M g)
-blanks_kept Layout C D K M blanks h g same are =
-    are ∙ blanks_thin layout_thin C K h ∙ ap three_of same ∙ sym (blanks_thin layout_thin D M g)
-blanks_kept Variable C D K M blanks h g same are =
-    are ∙ blanks_written C K h ∙ ap three_of same ∙ sym (blanks_written D M g)
+blanks_kept k C D K M blanks h g same are = λ some.
+    are some ∙ (λ i. blanks_in (h.is i).copied) ∙ blanks_spelled k K h.arises some ∙ ap three_of same
+    ∙ sym ((λ i. blanks_in (g.is i).copied) ∙ blanks_spelled k M g.arises some)
 
 module _ (u : Held) (y : List ℕ) (K : Content) (spells : SpellsIn u.kind (content_in u) K)
     (form : IsCut (format_of u.kind) y) (agree : Agree K (content_of_all (format_of u.kind) y)) where
@@ -288,10 +216,10 @@ module _ (u : Held) (y : List ℕ) (K : Content) (spells : SpellsIn u.kind (cont
   second = spells_file u.kind y form
 
   map_first : map_in u.runs ≡ K.map
-  map_first = ap (λ (C : Content). C.map) spells.is ∙ map_spelled u.kind K
+  map_first = ap (λ (C : Content). C.map) spells.is
 
   map_second : D.map ≡ L.map
-  map_second = ap (λ (C : Content). C.map) second.is ∙ map_spelled u.kind L
+  map_second = ap (λ (C : Content). C.map) second.is
 
   pub compatible : AreCompatible (map_in u.runs) D.map
   compatible = subst (λ (m : ℕ → ℕ). AreCompatible m D.map) (sym map_first)
@@ -326,14 +254,19 @@ module _ (u : Held) (y : List ℕ) (K : Content) (spells : SpellsIn u.kind (cont
         spells.is refl
 
     head_merged : (font_of u.tables).head ≡ (spelled_by u.kind (both K L)).head
-    head_merged = ap (λ (C : Content). C.head) spells.is ∙ head_spelled u.kind K ∙ sym (head_spelled u.kind (both K L))
+    head_merged = ap (λ (C : Content). C.head) spells.is
 
     map_merged : map_in runs ≡ (spelled_by u.kind (both K L)).map
-    map_merged = maps ∙ (λ i. united (map_first i) (map_second i)) ∙ sym (map_spelled u.kind (both K L))
+    map_merged = maps ∙ (λ i. united (map_first i) (map_second i))
 
     outlines_merged : listed_outline outlines ≡ (spelled_by u.kind (both K L)).outline
     outlines_merged = fun_ext taken ∙ (λ i. union_of (spells.is i).outline (second.is i).outline)
-        ∙ sym (both_spelled u.kind K L spells.arises second.arises agree)
+
+    there_merged : (content_in merged).there ≡ (spelled_by u.kind (both K L)).there
+    there_merged =
+        (λ i. there_by (settings u.kind) (tables_merged i) (record_in (outlines_merged i)))
+        ∙ fun_ext (there-written (settings u.kind) (settings-are u.kind) (both K L)
+        (of_two K L spells.arises second.arises agree refl))
 
     pub spells_merged : SpellsIn u.kind (content_in merged) (both K L)
     spells_merged = record {
@@ -343,6 +276,8 @@ module _ (u : Held) (y : List ℕ) (K : Content) (spells : SpellsIn u.kind (cont
         head = head_merged i;
         map = map_merged i;
         outline = outlines_merged i;
+        parts = λ _ _. [];
+        there = there_merged i;
       };
     }
 
@@ -356,12 +291,64 @@ module _ (u : Held) (y : List ℕ) (K : Content) (spells : SpellsIn u.kind (cont
           ok.has_blanks;
     }
 
+-- the union with a file that was taken into it, of which the same is known
+module _ (u v : Held) (same : u ≡ v) (q : Kind) (kind : q ≡ v.kind) (y : List ℕ) (cut : IsCut (format_of v.kind) y)
+    (early : (M : Content) → SpellsIn v.kind (content_in v) M → early_difference M (content_of_all (format_of v.kind) y)
+    ≡ None)
+    (n : ℕ) (count : n ≡ glyph_count_of u.tables) (other parts : Option ℕ)
+    (differs : other ≡ find (is_other (listed_outline u.outlines) (content (font_as q y) everything).outline)
+    (range_with_len 0 n))
+    (told : (M : Content) → SpellsIn v.kind (content_in v) M → parts
+    ≡ parts_told M (content_of_all (format_of v.kind) y))
+    (least : least_of parts other ≡ None) (runs : TwoLists) (outlines : List (Option (List ℕ))) (own : ThreeTables)
+    (gvar : Option (List ℕ)) (of_glyphs : length u.outlines ≡ glyph_count_of u.tables)
+    (taken : other ≡ None → AreTaken u.outlines outlines (content (font_as q y) everything).outline n)
+    (maps : map_in runs ≡ united (map_in u.runs) (content (font_as q y) everything).map)
+    (joined : gvar ≡ united_gvar (content_in v) (content (font_as q y) everything))
+    (over : own ≡ laid_over (tables_as q y) u.own gvar) (K : Content) (spells : SpellsIn u.kind (content_in u) K) where
+  abbrev all : Held
+  all = record { kind = u.kind; tables = u.tables; runs = runs; outlines = outlines; own = own }
+
+  here : q ≡ u.kind
+  here = kind_of u v same q kind y cut early n count other parts differs told K spells
+
+  cut_here : IsCut (format_of u.kind) y
+  cut_here = form_of u v same q kind y cut early n count other parts differs told K spells
+
+  agree : Agree K (content_of_all (format_of u.kind) y)
+  agree = agree_of u v same q kind y cut early n count other parts differs told K spells least
+
+  are : AreTaken u.outlines outlines (content (font_as u.kind y) everything).outline n
+  are = subst (λ (k : Kind). AreTaken u.outlines outlines (content (font_as k y) everything).outline n) here
+      (taken (least_none parts other least))
+
+  laid : own ≡ laid_over (tables_as u.kind y) u.own (united_gvar (content_in u) (content (font_as u.kind y) everything))
+  laid = over
+      ∙ (λ i. laid_over (tables_as (here i) y) u.own ((joined
+      ∙ (λ j. united_gvar (content_in (sym same j)) (content (font_as (here j) y) everything))) i))
+
+  all_taken : (g : ℕ) → listed_outline outlines g
+      ≡ union_of (listed_outline u.outlines) (content (font_as u.kind y) everything).outline g
+  all_taken = taken_merged u y K spells cut_here agree outlines n count of_glyphs are
+
+  pub grown_of : IsGrown u.kind y K all
+  grown_of = record {
+    kind_is = refl;
+    spells = spells_merged u y K spells cut_here agree runs outlines own maps all_taken laid;
+    none = none_of u v same q kind y cut early n count other parts differs told K spells least;
+  }
+
+  pub union_of_all : (blanks : ThreeTables) → IsUnion u blanks → IsUnion all blanks
+  union_of_all blanks ok =
+      union_merged u y K spells cut_here agree runs outlines own maps all_taken laid blanks ok are.count
+
 -- a first file
 tables_of_first : (k : Kind) (c : Tables) (o : ThreeTables) → o ≡ own_in k c → tables_in k c o ≡ c
-tables_of_first Full c o is = refl
-tables_of_first Lean c o is = replaced_is c o c is (λ slot a b d. refl)
-tables_of_first Layout c o is = replaced_is c o c is (λ slot a b d. refl)
-tables_of_first Variable c o is = replaced_is c o c is (λ slot a b d. refl)
+tables_of_first k c o is = elim (cases_Bool (divides_tables k)) [
+  | inl some ↦ sym (own_tables k c o some)
+      ∙ replaced_is c o c (is ∙ ap (λ b. cond b (three_of c) no_tables) some) (λ slot a b d. refl)
+  | inr none ↦ sym (first_tables k c o none)
+]
 
 module _ (k : Kind) (x : List ℕ) (form : IsCut (format_of k) x) (runs : TwoLists) (outlines : List (Option (List ℕ)))
     (own : ThreeTables) (spells : map_in runs ≡ (content (font_as k x) everything).map)
@@ -373,12 +360,23 @@ module _ (k : Kind) (x : List ℕ) (form : IsCut (format_of k) x) (runs : TwoLis
   tables_first : (content_in of_one).copied ≡ tables_as k x
   tables_first = tables_of_first k (tables_as k x) own copies
 
+  there_first : (content_in of_one).there ≡ (content (font_as k x) everything).there
+  there_first =
+      let means = (kind_is k).means x form in
+      (λ i. there_by (settings k) (tables_first i) (record_in (fun_ext taken i)))
+      ∙ (λ i. there_by (settings k) (means i).copied (record_in (means i).outline))
+      ∙ fun_ext (there-written (settings k) (settings-are k) (content_of_all (format_of k) x)
+      (of_file x everything form.accepted refl))
+      ∙ sym (ap (λ (C : Content). C.there) means)
+
   content_first : content_in of_one ≡ content (font_as k x) everything
   content_first = λ i. record {
     copied = tables_first i;
     head = (font_of x).head;
     map = spells i;
     outline = fun_ext taken i;
+    parts = sym (parts-path (λ slot g. nothing_either (is_kept (font_as k x) everything g) [] refl)) i;
+    there = there_first i;
   }
 
   pub spells_first : SpellsIn k (content_in of_one) (content_of_all (format_of k) x)

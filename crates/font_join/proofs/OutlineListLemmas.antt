@@ -89,7 +89,8 @@ taken_more old now new L n before count taken others =
 -- a glyph that is not taken yet is distinguished by its mark from that of the beginning
 pub other_now : (old now : List (Option (List ℕ))) (L : Records) (n : ℕ) (b : Bool) → AreTaken old now L n
     → b ≡ is_other (listed_outline now) L n → b ≡ is_other (listed_outline old) L n
-other_now old now L n b are e = e ∙ ap (λ (o : Option (List ℕ)). are_different o (L n)) (are.above n (omega arith))
+other_now old now L n b are e = e ∙ ap (λ (o : Option (List ℕ)). are_different o (L n) false) (are.above n (omega
+    arith))
 
 pub taken_all : (old now : List (Option (List ℕ))) (L : Records) (n : ℕ) → AreTaken old now L n → length old ≡ n
     → ((g : ℕ) → n ≤ g → L g ≡ None) → (g : ℕ) → listed_outline now g ≡ union_of (listed_outline old) L g
@@ -132,9 +133,9 @@ taken_end old now L n m k count past end are = elim (cases_lt n m) [
 
 -- a glyph that a file does not keep has no other outline there
 pub other_absent : (K L : Records) (g : ℕ) → L g ≡ None → is_other K L g ≡ false
-other_absent K L g none = ap (are_different (K g)) none ∙ none_other (K g)
+other_absent K L g none = ap (λ (o : Option (List ℕ)). are_different (K g) o false) none ∙ none_other (K g)
   where
-    none_other : (o : Option (List ℕ)) → are_different o None ≡ false
+    none_other : (o : Option (List ℕ)) → are_different o None false ≡ false
     none_other None = refl
     none_other (Some b) = refl
 

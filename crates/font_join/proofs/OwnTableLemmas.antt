@@ -6,7 +6,7 @@ use Rattle.std.specs.Option.{option_map}
 use Rattle.std.proofs.lemmas.Bool.{cases_lt}
 use Rattle.std.proofs.lemmas.List.{get_or_past}
 use Rattle.std.proofs.lemmas.List.FromFn.{fill_by_all, length-map-range_with_len}
-use Rattle.font_theory.specs.LeanCut.{either_bytes}
+use Rattle.font_theory.specs.Parted.{either_bytes}
 use Rattle.font_write.specs.declared.source.TheConstants.{MAX_TABLE}
 
 -- the lengths of tables

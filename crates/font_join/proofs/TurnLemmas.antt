@@ -7,11 +7,11 @@ use Rattle.sfnt_bytes.specs.declared.directory.TheConstants.{MAX_FILE}
 use Rattle.font_file.specs.Font.{font_fault}
 use Rattle.font_file.specs.declared.font_error.FontError.{FontError}
 use Rattle.font_theory.specs.Content.{Content, Font as FontRead, everything}
-use Rattle.font_theory.specs.Cut.{Arises, Format, IsCut, content_of_all}
-use Rattle.font_theory.specs.Cut.Arises.{of_file, of_two}
+use Rattle.font_theory.specs.Cut.{Format, IsCut, content_of_all}
+use Rattle.font_theory.specs.Cut.Arises.{of_file}
 use Rattle.font_theory.specs.Difference.{difference}
 use Rattle.font_theory.specs.File.{file, current_writing}
-use Rattle.font_theory.specs.Agreement.{Agree, both}
+use Rattle.font_theory.specs.Agreement.{both}
 use Rattle.font_theory.specs.Tree.{file_at}
 use Rattle.font_theory.proofs.CutLemmas.{CanJoin-self, IsCurrent-written, IsCut-current, is_cut-of}
 use Rattle.font_theory.proofs.CutLemmas.{content_of_all-written}
@@ -24,8 +24,8 @@ use Rattle.font_theory.specs.Kinds.{IsKind, format_of}
 use Rattle.font_theory.specs.declared.kinds.Kind.{Kind}
 use Rattle.font_theory.proofs.KindLemmas.{kind_is}
 use Rattle.font_subset.specs.OpenedFont.{IsOpenRefusal}
-use Rattle.font_subset.specs.declared.layout_font.OpenError.{OpenError}
-use Rattle.font_subset.specs.declared.layout_font.OpenError.TheVariants as open_errors
+use Rattle.font_subset.specs.declared.open_error.OpenError.{OpenError}
+use Rattle.font_subset.specs.declared.open_error.OpenError.TheVariants as open_errors
 use Rattle.font_join.specs.Inside.{HoldsFile, IsAddRefusal, IsFirstUnion, IsFormRefusal, IsTooLargeFile, IsUnited}
 use Rattle.font_join.specs.Inside.{Spells, add_fault, of_open_error}
 use Rattle.font_join.specs.Join.{IsJoin, IsJoinRefusal, IsUnionRefusal, different, form_fault, of_file_error}
@@ -56,16 +56,6 @@ refused_at_first R files x error some e r =
 
 module _ {R : Format} {fault : List ℕ → Option FontError} {font : List ℕ → FontRead} {spelled : Content
     → Content} (kind : IsKind R fault font spelled) where
-  -- the content of a file is spelled as it is read
-  pub spells_whole : (C : Content) (x : List ℕ) → R.fault x ≡ None → C ≡ spelled (content_of_all R x)
-      → Spells R spelled C (content_of_all R x)
-  spells_whole C x accepted is = record { arises = of_file x everything accepted refl; is = is }
-
-  -- so is that of both, where they agree
-  pub spells_both : (C D K L : Content) → Spells R spelled C K → Arises R L → Agree K L → D ≡ spelled (both K L)
-      → Spells R spelled D (both K L)
-  spells_both C D K L first second agree is = record { arises = of_two K L first.arises second agree refl; is = is }
-
   -- unions that are written alike hold the same files
   pub united_same : (files : List (List ℕ)) (C D : Content) → D ≡ C → IsUnited R spelled files C
       → IsUnited R spelled files D

@@ -5,7 +5,7 @@ use Rattle.sfnt_bytes.specs.Sums.{checksum_of}
 use Rattle.codes.specs.Runs.{groups_from}
 use Rattle.codes.specs.declared.runs.Run.{Run}
 use Rattle.codes.proofs.RunLemmas.{groups_done}
-use Rattle.font_theory.specs.Content.{Content, IsWritable, KeepsComponents, glyph_count}
+use Rattle.font_theory.specs.Content.{Content, IsWritable, glyph_count}
 use Rattle.font_theory.specs.File.{current_writing, file, writing_of, groups_of_content, outlines_of, second_writing}
 use Rattle.font_theory.specs.File.{size_of}
 use Rattle.font_theory.proofs.SizeLemmas.{length-file}
@@ -42,9 +42,6 @@ module _ (K : Content) where
         head_size = ok.head_size;
         past = ok.past;
       }
-
-  pub components_without : KeepsComponents K → KeepsComponents (without_codes K)
-  components_without h = record { notdef = h.notdef; mapped = λ c. h.notdef; components = h.components }
 
   no_groups : length (groups_from (without_codes K).map 0) ≡ 0
   no_groups = ap length (groups_done (without_codes K).map 0 no_codes (λ c x. refl))

@@ -9,8 +9,8 @@ use Rattle.font_join.specs.declared.join_error.Which.TheVariants.{Second}
 use Rattle.font_file.specs.Font.{font_fault}
 use Rattle.font_file.specs.declared.font_error.FontError.{FontError}
 use Rattle.font_glyph.specs.RecordMap.{Records, union_of}
-use Rattle.font_subset.specs.declared.layout_font.OpenError.{OpenError}
-use Rattle.font_subset.specs.declared.layout_font.OpenError.TheVariants as open_errors
+use Rattle.font_subset.specs.declared.open_error.OpenError.{OpenError}
+use Rattle.font_subset.specs.declared.open_error.OpenError.TheVariants as open_errors
 use Rattle.font_theory.specs.Content.{CODES, Content}
 use Rattle.font_theory.specs.Cut.{Arises, Format, IsCurrent, IsCut, content_of_all}
 use Rattle.font_theory.specs.Difference.{difference, first_slot, is_different_code, is_different_table}
@@ -96,4 +96,11 @@ IsAddRefusal R K y error = add_fault R K y ≡ Some error
 
 -- a content without its codes
 abbrev pub without_codes : Content → Content
-without_codes K = record { copied = K.copied; head = K.head; map = λ _. 0; outline = K.outline }
+without_codes K = record {
+  copied = K.copied;
+  head = K.head;
+  map = λ _. 0;
+  outline = K.outline;
+  parts = K.parts;
+  there = K.there;
+}

@@ -1,5 +1,4 @@
--- What the join of two files answers, this project's own, over the format of the cuts that are joined:
--- `our_format`, or that of lean or layout cuts.
+-- What the join of two files answers, this project's own, over the format of the cuts that are joined.
 use Rattle.std.specs.Prelude.{◌≡◌, ◌≢◌, ℕ, ◌<◌, nat_lt, not, List, [], ◌∷◌, ◌++◌, length, Option, None, Some}
 use Rattle.std.specs.Option.{option_map, option_or}
 use Rattle.sfnt_bytes.specs.Directory.{slot_tag}

@@ -1,10 +1,10 @@
 -- What the joins of a list of files in turn answer, this project's own, over the format of the cuts that are
 -- joined.
-use Rattle.std.specs.Prelude.{◌≡◌, ℕ, zero, suc, ◌<◌, ◌≤◌, Bool, true, List, [], length, take, Option, None, Result}
+use Rattle.std.specs.Prelude.{◌≡◌, ℕ, zero, suc, ◌<◌, ◌≤◌, true, List, [], length, take, Option, None, Result}
 use Rattle.std.specs.Prelude.{IfOk, MatchResult}
 use Rattle.sfnt_bytes.specs.declared.directory.TheConstants.{MAX_FILE}
 use Rattle.font_file.specs.Font.{font_fault}
-use Rattle.font_theory.specs.Content.{content}
+use Rattle.font_theory.specs.Content.{Wanted, content}
 use Rattle.font_theory.specs.Cut.{Format, IsCurrent, IsCut, Writes, cut, renewed}
 use Rattle.font_theory.specs.Tree.{Differs, IsOver, IsSmall, JoinTree, Value, cuts, file_at, grown, union_below}
 use Rattle.font_join.specs.Join.{IsForSize, IsJoin, IsJoinRefusal}
@@ -46,13 +46,13 @@ pub record IsFirst (files : List (List ℕ)) (x : List ℕ) : Type 0 where
   pub accepted : font_fault x ≡ None
 
 -- the files are cuts of F for some sets, in any forms, and none of them is too large
-pub record AreCuts (R : Format) (F : List ℕ) (A : ℕ → ℕ → Bool) (files : List (List ℕ)) : Type 0 where
+pub record AreCuts (R : Format) (F : List ℕ) (A : ℕ → Wanted) (files : List (List ℕ)) : Type 0 where
   pub accepted : R.fault F ≡ None
   pub cuts : (k : ℕ) → k < length files → Writes R (content (R.font F) (A k)) (file_at files k)
   pub small : (k : ℕ) → k < length files → length (file_at files k) ≤ MAX_FILE
 
 -- memory is refused, or the cut for the first sets is too large
-abbrev pub IsForSizeOf : Format → List ℕ → (ℕ → ℕ → Bool) → List (List ℕ) → JoinAllError → Type 0
+abbrev pub IsForSizeOf : Format → List ℕ → (ℕ → Wanted) → List (List ℕ) → JoinAllError → Type 0
 IsForSizeOf R F A files NothingToJoin = files ≡ []
 IsForSizeOf R F A files (At step error) = IsForSize (length (cut R F (union_below A (suc step)))) error
 
@@ -92,18 +92,18 @@ StopsJoin R contents old new files (WriteFault written) =
     (z : List ℕ) × IsAllJoined R files z × IsCutOff contents old new z written
 
 -- memory is refused, or the cut for the first sets is too large, or a write failed
-abbrev pub IsForSizeInto : Format → List ℕ → (ℕ → ℕ → Bool) → List (List ℕ) → JoinAllIntoError → Type 0
+abbrev pub IsForSizeInto : Format → List ℕ → (ℕ → Wanted) → List (List ℕ) → JoinAllIntoError → Type 0
 IsForSizeInto R F A files (NotJoined error) = IsForSizeOf R F A files error
 IsForSizeInto R F A files (WriteFault written) = Unit {0}
 
 -- the laws of joins of many files, over what `gives` says of an answer: that it is, or that it sent, some
 -- file
 
--- cuts of one file give its cut for all their codes
+-- cuts of one file give its cut for all that they want
 abbrev pub GivesCutOfUnion : {T E : Type 0} → Format → List (List ℕ) → Result T E → (List ℕ → T → Type 0) →
-    (List ℕ → (ℕ → ℕ → Bool) → List (List ℕ) → E → Type 0) → Type 0
+    (List ℕ → (ℕ → Wanted) → List (List ℕ) → E → Type 0) → Type 0
 GivesCutOfUnion R files result gives is_for_size =
-    (F : List ℕ) (A : ℕ → ℕ → Bool) → AreCuts R F A files →
+    (F : List ℕ) (A : ℕ → Wanted) → AreCuts R F A files →
     MatchResult result (gives (cut R F (union_below A (length files)))) (is_for_size F A files)
 
 -- the value of a tree of joins is given
@@ -115,7 +115,7 @@ GivesValue R result gives t = IfOk result (λ answer. (z : List ℕ) × gives z 
 abbrev pub AgreesWithTreesOfCuts : {T E : Type 0} → Format → List (List ℕ) → Result T E →
     (List ℕ → T → Type 0) → Type 0
 AgreesWithTreesOfCuts R files result gives =
-    (F : List ℕ) (t : JoinTree (ℕ → Bool)) → R.fault F ≡ None → IsOver files (cuts R F t) →
+    (F : List ℕ) (t : JoinTree Wanted) → R.fault F ≡ None → IsOver files (cuts R F t) →
     IsSmall R (cuts R F t) → GivesValue R result gives (cuts R F t)
 
 -- that of each tree over the files where these are current
@@ -133,9 +133,9 @@ AgreesWithEveryTree R files result gives =
     IfOk result (λ answer. (v : List ℕ) × Value R t v × gives (renewed R v) answer)
 
 -- the laws of an answer: it is the value of the tree that grows file by file; over cuts of one file it is the
--- cut for all their codes, or too large; and it is what each other tree over the files comes to
+-- cut for all that they want, or too large; and it is what each other tree over the files comes to
 pub record JoinLaws {T E : Type 0} (R : Format) (files : List (List ℕ)) (result : Result T E)
-    (gives : List ℕ → T → Type 0) (is_for_size : List ℕ → (ℕ → ℕ → Bool) → List (List ℕ) → E → Type 0)
+    (gives : List ℕ → T → Type 0) (is_for_size : List ℕ → (ℕ → Wanted) → List (List ℕ) → E → Type 0)
     : Type 0 where
   pub value : GivesValue R result gives (grown files (length files))
   pub cuts : GivesCutOfUnion R files result gives is_for_size

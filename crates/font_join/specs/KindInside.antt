@@ -1,5 +1,5 @@
 -- Words of private contracts and of proofs, of each kind of cut: no public clause names them.
-use Rattle.std.specs.Prelude.{◌≡◌, false, ℕ, ◌≤◌, nat_lt, not, find, Bool, ◌&&◌, List, [], ◌++◌, length, is_some}
+use Rattle.std.specs.Prelude.{◌≡◌, false, true, ℕ, ◌≤◌, nat_lt, not, find, Bool, ◌&&◌, List, [], ◌++◌, length, is_some}
 use Rattle.std.specs.Prelude.{if◌then◌else◌, Option, None, Some}
 use Rattle.std.specs.List.{range_with_len}
 use Rattle.std.specs.Option.{option_map}
@@ -8,14 +8,13 @@ use Rattle.sfnt_bytes.specs.declared.directory.TheConstants.{MAX_FILE}
 use Rattle.sfnt_bytes.specs.declared.tag.TheConstants.{GVAR, HHEA, HMTX, VHEA, VMTX}
 use Rattle.font_tables.specs.Fields.{glyph_count_of}
 use Rattle.font_theory.specs.Content.{Content, glyph_count, is_bad_variations_in, table_in_slot}
-use Rattle.font_theory.specs.VariableCut.{gvar_with, variation_data}
-use Rattle.font_theory.specs.LeanCut.{blank, either_bytes, metric_bytes, metrics_at, pairs_in}
+use Rattle.font_theory.specs.Parted.{blank, either_bytes, gvar_with, metric_bytes, metrics_at, pairs_in}
+use Rattle.font_theory.specs.Parted.{variation_data}
 use Rattle.font_theory.specs.Cut.{content_of_all}
-use Rattle.font_theory.specs.Difference.{difference}
+use Rattle.font_theory.specs.Difference.{difference, has_other_part}
 use Rattle.font_theory.specs.Agreement.{both}
-use Rattle.font_theory.specs.Kinds.{format_of, spelled_by}
+use Rattle.font_theory.specs.Kinds.{divides_tables, format_of, spelled_by}
 use Rattle.font_theory.specs.declared.kinds.Kind.{Kind}
-use Rattle.font_theory.specs.declared.kinds.Kind.TheVariants.{Full, Layout, Lean, Variable}
 use Rattle.font_join.specs.Inside.{HoldsFile, IsUnited, Spells}
 use Rattle.font_join.specs.Union.{Held, ThreeTables, content_in, no_tables, replaced, three_of}
 
@@ -52,6 +51,8 @@ blanked K = record {
   head = K.head;
   map = K.map;
   outline = K.outline;
+  parts = λ _ _. [];
+  there = K.there;
 }
 
 -- the metrics of glyph g in two tables, each with the number of its pairs
@@ -76,34 +77,17 @@ least_of None second = second
 least_of (Some a) None = Some a
 least_of (Some a) (Some b) = if nat_lt b a then Some b else Some a
 
--- what of a content of a kind is compared with another before its glyphs are
-abbrev pub compared : Kind → Content → Content
-compared Full K = K
-compared Lean K = blanked K
-compared Layout K = blanked K
-compared Variable K = blanked K
+-- both keep the glyph, with another part in some slot
+abbrev pub has_other_parts : Content → Content → ℕ → Bool
+has_other_parts K L g = is_some (K.outline g) && (is_some (L.outline g) && has_other_part K L g)
 
--- the first glyph that two contents keep with other metrics, and with other variation data
-abbrev pub metrics_told : Content → Content → Option ℕ
-metrics_told C D = find (has_other_metrics C D) (range_with_len 0 (glyph_count C.copied))
-
-abbrev pub data_told : Content → Content → Option ℕ
-data_told C D = find (has_other_data C D) (range_with_len 0 (glyph_count C.copied))
-
--- the first glyph that two contents of a kind keep with other values beside its outline, where the kind compares
--- these
-abbrev pub values_told : Kind → Content → Content → Option ℕ
-values_told Full C D = None
-values_told Lean C D = metrics_told C D
-values_told Layout C D = metrics_told C D
-values_told Variable C D = least_of (metrics_told C D) (data_told C D)
+-- the first such glyph
+abbrev pub parts_told : Content → Content → Option ℕ
+parts_told K L = find (has_other_parts K L) (range_with_len 0 (glyph_count K.copied))
 
 -- the tables of its own that a union of a kind has of its first file
 abbrev pub own_in : Kind → (ℕ → Option (List ℕ)) → ThreeTables
-own_in Full copied = no_tables
-own_in Lean copied = three_of copied
-own_in Layout copied = three_of copied
-own_in Variable copied = three_of copied
+own_in kind copied = if divides_tables kind then three_of copied else no_tables
 
 -- the variation data of a glyph of two contents: those of the first where it keeps the glyph
 abbrev pub either_data : Content → Content → ℕ → List ℕ
@@ -121,12 +105,9 @@ laid_over copied own gvar = record {
   gvar = gvar;
 }
 
--- the tables without what is of single glyphs, where the kind compares that for itself
+-- the tables without what is of single glyphs, where the kind divides tables
 abbrev pub HasBlanks : Kind → (ℕ → Option (List ℕ)) → ThreeTables → Type 0
-HasBlanks Full copied tables = Unit {0}
-HasBlanks Lean copied tables = tables ≡ blanks_in copied
-HasBlanks Layout copied tables = tables ≡ blanks_in copied
-HasBlanks Variable copied tables = tables ≡ blanks_in copied
+HasBlanks kind copied tables = divides_tables kind ≡ true → tables ≡ blanks_in copied
 
 -- K is a content that accepted files of a kind come to, and C is what it is written as
 abbrev pub SpellsIn : Kind → Content → Content → Type 0

@@ -1,15 +1,15 @@
 -- The union of many files in cut form, this project's own: what is held of it, and its content.
-use Rattle.std.specs.Prelude.{◌≡◌, ℕ, ◌+◌, ◌<◌, ◌≤◌, nat_eq, Bool, List, [], ◌∷◌, get_or, length, if◌then◌else◌, Option}
+use Rattle.std.specs.Prelude.{◌≡◌, ℕ, ◌+◌, ◌<◌, ◌≤◌, nat_eq, Bool, false, List, [], ◌∷◌, get_or, length}
+use Rattle.std.specs.Prelude.{if◌then◌else◌, Option}
 use Rattle.std.specs.Prelude.{None, IfSome}
 use Rattle.std.specs.Option.{unwrap_or}
 use Rattle.sfnt_bytes.specs.declared.directory.TheConstants.{MAX_FILE}
 use Rattle.sfnt_bytes.specs.declared.tag.TheConstants.{GVAR, HMTX, VMTX}
-use Rattle.font_glyph.specs.RecordMap.{Records}
+use Rattle.font_glyph.specs.RecordMap.{Records, record_in}
 use Rattle.font_theory.specs.Content.{Content, font_of}
 use Rattle.font_theory.specs.Difference.{are_different}
-use Rattle.font_theory.specs.Kinds.{tables_as}
+use Rattle.font_theory.specs.Kinds.{settings, tables_as, there_by, divides_tables}
 use Rattle.font_theory.specs.declared.kinds.Kind.{Kind}
-use Rattle.font_theory.specs.declared.kinds.Kind.TheVariants.{Full, Layout, Lean, Variable}
 use Rattle.font_write.specs.declared.source.TheConstants.{MAX_TABLE}
 use Rattle.map_union.specs.RunLists.{TwoLists, map_in}
 
@@ -44,7 +44,7 @@ pub record AreShort (three : ThreeTables) : Type 0 where
   pub short_gvar : length (unwrap_or three.gvar []) ≤ MAX_TABLE
 
 -- what is held of a union: the kind of its cuts, the file whose tables it has, its runs and its outlines, and
--- tables of its own, which a union of full cuts has not
+-- tables of its own, where the kind divides tables
 pub record Held : Type 0 where
   pub kind : Kind
   pub tables : List ℕ
@@ -54,10 +54,7 @@ pub record Held : Type 0 where
 
 -- the tables of a union of a kind
 abbrev pub tables_in : Kind → (ℕ → Option (List ℕ)) → ThreeTables → ℕ → Option (List ℕ)
-tables_in Full copied own = copied
-tables_in Lean copied own = replaced copied own
-tables_in Layout copied own = replaced copied own
-tables_in Variable copied own = replaced copied own
+tables_in kind copied own slot = if divides_tables kind then replaced copied own slot else copied slot
 
 -- its content, as it is written
 abbrev pub content_in : Held → Content
@@ -66,6 +63,9 @@ content_in u = record {
   head = (font_of u.tables).head;
   map = map_in u.runs;
   outline = listed_outline u.outlines;
+  parts = λ _ _. [];
+  there = there_by (settings u.kind) (tables_in u.kind (tables_as u.kind u.tables) u.own)
+      (record_in (listed_outline u.outlines));
 }
 
 -- no outline is too large
@@ -85,4 +85,4 @@ pub record HaveLength (outlines : List (Option (List ℕ))) (bytes : ℕ) : Type
 
 -- both have a record of the number, and these differ
 abbrev pub is_other : Records → Records → ℕ → Bool
-is_other first second g = are_different (first g) (second g)
+is_other first second g = are_different (first g) (second g) false

@@ -4,7 +4,7 @@ ghost use Rattle.std.specs.List.{concat, range_with_len};
 ghost use Rattle.sfnt_bytes.specs.declared.directory.TheConstants.{MAX_FILE};
 ghost use Rattle.std.specs.Option.{option_map};
 ghost use Rattle.font_theory.specs.Content.{Content, glyph_count};
-ghost use Rattle.font_theory.specs.VariableCut.{gvar_with, variation_data};
+ghost use Rattle.font_theory.specs.Parted.{gvar_with, variation_data};
 ghost use Rattle.font_variations.specs.MadeGvar.{listed_data};
 ghost use Rattle.font_write.specs.declared.source.TheConstants.{MAX_TABLE};
 ghost use Rattle.font_join.specs.KindInside.{HasFineGvar, either_data, emptied_in, has_other_data, opened_gvar, united_gvar};
@@ -72,6 +72,9 @@ pub(crate) fn different_data<K: Source, L: Source>(k: &K, l: &L) -> Option<u16>
     l.recall_laws();
     let first = variations_of(k);
     let second = variations_of(l);
+    if first.is_none() && second.is_none() {
+        return None;
+    }
     let count = l.glyph_count();
     let mut g = l.next_kept(0);
     while g < count {

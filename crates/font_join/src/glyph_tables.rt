@@ -114,7 +114,7 @@ impl<A: Allocator + Copy> GlyphTables<A> {
         Ok(GlyphTables { hmtx, vmtx, gvar })
     }
 
-    /// Returns the tables of its own that a union of a kind has of its first file: copies, but for full cuts.
+    /// Returns the tables of its own that a union of a kind has of its first file: copies, where the kind divides tables.
     ///
     /// # Errors
     ///
@@ -126,10 +126,10 @@ impl<A: Allocator + Copy> GlyphTables<A> {
     ) -> Result<GlyphTables<A>, NoMemory>
         ensures { IfOk result (λ t. t ≡ own_in kind (S.content_of source.now).copied) }
     {
-        match kind {
-            Kind::Full => Ok(GlyphTables::none()),
-            Kind::Lean | Kind::Layout | Kind::Variable => GlyphTables::copies(alloc, source),
+        if kind.divides_tables() {
+            return GlyphTables::copies(alloc, source);
         }
+        Ok(GlyphTables::none())
     }
 
     /// Returns the tables of a content without what they have of single glyphs, for which memory is asked for.
@@ -147,7 +147,7 @@ impl<A: Allocator + Copy> GlyphTables<A> {
         Ok(GlyphTables { hmtx, vmtx, gvar })
     }
 
-    /// Does the same where cuts of a kind are compared in what is of single glyphs, and else returns none.
+    /// Does the same where the kind divides tables, and else returns none.
     ///
     /// # Errors
     ///
@@ -160,9 +160,9 @@ impl<A: Allocator + Copy> GlyphTables<A> {
         requires { HasFineGvar (S.content_of source.now).copied }
         ensures { IfOk result (HasBlanks kind (S.content_of source.now).copied) }
     {
-        match kind {
-            Kind::Full => Ok(GlyphTables::none()),
-            Kind::Lean | Kind::Layout | Kind::Variable => GlyphTables::blank(alloc, source),
+        if kind.divides_tables() {
+            return GlyphTables::blank(alloc, source);
         }
+        Ok(GlyphTables::none())
     }
 }

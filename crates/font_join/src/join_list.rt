@@ -1,11 +1,12 @@
 //! Joins of a list of files, one after the other. They are this project's own, and in no standard.
 ghost use Rattle.std.specs.Prelude.{◌≡◌, ◌≤◌, ℕ, List, length, map, false, true, Err, IfErr, IfOk, IsSome, MatchResult, OnOk};
 ghost use Rattle.sfnt_bytes.specs.declared.directory.TheConstants.{MAX_FILE};
-ghost use Rattle.font_theory.specs.Cut.{Format, our_format};
+ghost use Rattle.font_theory.specs.Cut.{Format};
 ghost use Rattle.font_theory.specs.File.{current_writing, file};
 ghost use Rattle.streams.specs.Outlet.{HasSent, broken_of, fresh_of, writer_of};
 ghost use Rattle.font_join.specs.JoinList.{EveryTreeDiffers, IsAllJoined, IsAllRefusal, IsFirst, IsForSizeInto, IsForSizeOf, IsSentAs, JoinLaws, SendsAll, StopsJoin};
 ghost use Rattle.font_join.specs.Union.{content_in};
+ghost use Rattle.font_theory.specs.declared.kinds.Kind.TheVariants.{Full};
 ghost use Rattle.font_theory.specs.Kinds.{format_of};
 ghost use Rattle.font_join.specs.KindInside.{IsUnitedIn};
 ghost use Rattle.font_join.specs.declared.join_error.JoinAllIntoError.TheVariants.{NotJoined};
@@ -98,12 +99,12 @@ pub fn join_all<A: Allocator + Copy>(
     files: &[Vec<u8, A>],
 ) -> Result<Vec<u8, A>, JoinAllError>
     ensures exact { let bytes = map (λ v. v.items) files.now in
-        MatchResult result (λ z. IsAllJoined our_format bytes z.items) (IsAllRefusal our_format bytes) }
+        MatchResult result (λ z. IsAllJoined (format_of Full) bytes z.items) (IsAllRefusal (format_of Full) bytes) }
     ensures small { IfOk result (λ z. length z.items ≤ MAX_FILE) }
     ensures laws { let bytes = map (λ v. v.items) files.now in
-        JoinLaws our_format bytes result (λ z v. v.items ≡ z) (IsForSizeOf our_format) }
+        JoinLaws (format_of Full) bytes result (λ z v. v.items ≡ z) (IsForSizeOf (format_of Full)) }
     ensures clash { let bytes = map (λ v. v.items) files.now in
-        IfErr result (EveryTreeDiffers our_format bytes) }
+        IfErr result (EveryTreeDiffers (format_of Full) bytes) }
 {
     join_all_of_kind(alloc, Kind::Full, files)
 }
@@ -211,20 +212,20 @@ pub fn join_all_into<A: Allocator + Copy, W: Write>(
 ) -> Result<u64, JoinAllIntoError>
     requires { fresh_of out.old ≡ true }
     ensures exact { let bytes = map (λ v. v.items) files.now in
-        IfOk result (SendsAll our_format W.contents out.old out.new bytes) }
+        IfOk result (SendsAll (format_of Full) W.contents out.old out.new bytes) }
     ensures small { IfOk result (λ size. size ≤ MAX_FILE) }
     ensures sent { let bytes = map (λ v. v.items) files.now in
         IfOk result (λ size. IsSome (W.contents (writer_of out.old)) →
-        (z : List ℕ) × IsAllJoined our_format bytes z × HasSent W.contents out.new z) }
+        (z : List ℕ) × IsAllJoined (format_of Full) bytes z × HasSent W.contents out.new z) }
     ensures unbroken { OnOk result (broken_of out.new ≡ false) }
     ensures stops { let bytes = map (λ v. v.items) files.now in
-        IfErr result (StopsJoin our_format W.contents out.old out.new bytes) }
+        IfErr result (StopsJoin (format_of Full) W.contents out.old out.new bytes) }
 
     // The laws of `join_all`, of the bytes that went out.
     ensures laws { let bytes = map (λ v. v.items) files.now in
-        JoinLaws our_format bytes result (IsSentAs W.contents out.old out.new) (IsForSizeInto our_format) }
+        JoinLaws (format_of Full) bytes result (IsSentAs W.contents out.old out.new) (IsForSizeInto (format_of Full)) }
     ensures clash { let bytes = map (λ v. v.items) files.now in
-        (error : JoinAllError) → result ≡ Err (NotJoined error) → EveryTreeDiffers our_format bytes error }
+        (error : JoinAllError) → result ≡ Err (NotJoined error) → EveryTreeDiffers (format_of Full) bytes error }
 {
     join_all_of_kind_into(alloc, Kind::Full, files, out)
 }

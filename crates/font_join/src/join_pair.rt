@@ -1,9 +1,10 @@
 //! The join of two cuts, which is this project's own: the least file of which both are cuts.
-ghost use Rattle.std.specs.Prelude.{◌≡◌, ℕ, Bool, List, ◌≤◌, length, None, IfErr, IfOk, MatchResult};
+ghost use Rattle.std.specs.Prelude.{◌≡◌, ◌||◌, ℕ, Bool, List, true, ◌≤◌, length, None, IfErr, IfOk, MatchResult};
 ghost use Rattle.sfnt_bytes.specs.declared.directory.TheConstants.{MAX_FILE};
 ghost use Rattle.font_file.specs.Font.{font_fault};
-ghost use Rattle.font_theory.specs.Content.{content, everything};
-ghost use Rattle.font_theory.specs.Cut.{IsCut, Writes, either, our_format, renewed};
+ghost use Rattle.font_theory.specs.Content.{Wanted, content, everything};
+ghost use Rattle.font_theory.specs.Cut.{IsCut, Writes, either, renewed};
+ghost use Rattle.font_theory.specs.declared.kinds.Kind.TheVariants.{Full};
 ghost use Rattle.font_theory.specs.Kinds.{fault_of, format_of};
 ghost use Rattle.font_subset.specs.CutOfKind.{cut_in};
 ghost use Rattle.font_subset.specs.CutOfFont.{IsCutOf, cut_of};
@@ -45,7 +46,7 @@ pub fn join_of_kind<A: Allocator + Copy>(
 ) -> Result<Vec<u8, A>, JoinError>
     ensures exact { MatchResult result (λ z. IsJoin (format_of kind) x.now y.now z.items)
         (IsJoinRefusal (format_of kind) x.now y.now) }
-    ensures cuts { (F : List ℕ) (A B : ℕ → Bool) → fault_of kind F ≡ None →
+    ensures cuts { (F : List ℕ) (A B : Wanted) → fault_of kind F ≡ None →
         Writes (format_of kind) (content ((format_of kind).font F) A) x.now →
         Writes (format_of kind) (content ((format_of kind).font F) B) y.now →
         length x.now ≤ MAX_FILE → length y.now ≤ MAX_FILE →
@@ -81,20 +82,20 @@ pub fn join_of_kind<A: Allocator + Copy>(
 /// assert_eq!(rt; joined.as_slice(), A_B_AACUTE.as_slice());
 /// ```
 pub fn join<A: Allocator + Copy>(alloc: A, x: &[u8], y: &[u8]) -> Result<Vec<u8, A>, JoinError>
-    ensures exact { MatchResult result (λ z. IsJoin our_format x.now y.now z.items)
-        (IsJoinRefusal our_format x.now y.now) }
+    ensures exact { MatchResult result (λ z. IsJoin (format_of Full) x.now y.now z.items)
+        (IsJoinRefusal (format_of Full) x.now y.now) }
     ensures cuts { (F : List ℕ) (A B : ℕ → Bool) → font_fault F ≡ None → IsCutOf F A x.now →
         IsCutOf F B y.now → length x.now ≤ MAX_FILE → length y.now ≤ MAX_FILE →
-        MatchResult result (λ z. z.items ≡ cut_of F (either A B))
-        (IsForSize (length (cut_of F (either A B)))) }
-    ensures itself { font_fault x.now ≡ None → cut_of x.now everything ≡ x.now → y.now ≡ x.now →
+        MatchResult result (λ z. z.items ≡ cut_of F (λ c. A c || B c))
+        (IsForSize (length (cut_of F (λ c. A c || B c)))) }
+    ensures itself { font_fault x.now ≡ None → cut_of x.now (λ _. true) ≡ x.now → y.now ≡ x.now →
         MatchResult result (λ z. z.items ≡ x.now) (λ error. error ≡ JoinError.NoMemory) }
-    ensures renewal { IsCut our_format x.now → y.now ≡ x.now →
-        MatchResult result (λ z. z.items ≡ renewed our_format x.now)
-        (IsForSize (length (renewed our_format x.now))) }
-    ensures upper { IfOk result (λ z. IsLeastUpper our_format x.now y.now z.items) }
+    ensures renewal { IsCut (format_of Full) x.now → y.now ≡ x.now →
+        MatchResult result (λ z. z.items ≡ renewed (format_of Full) x.now)
+        (IsForSize (length (renewed (format_of Full) x.now))) }
+    ensures upper { IfOk result (λ z. IsLeastUpper (format_of Full) x.now y.now z.items) }
     ensures small { IfOk result (λ z. length z.items ≤ MAX_FILE) }
-    ensures refused { IfErr result (RefusalIsRight our_format x.now y.now) }
+    ensures refused { IfErr result (RefusalIsRight (format_of Full) x.now y.now) }
 {
     join_of_kind(alloc, Kind::Full, x, y)
 }

@@ -1,9 +1,10 @@
 //! The union of two fonts in cut form, of which a join is made. It is this project's own.
 ghost use Rattle.std.specs.Prelude.{◌≡◌, None, MatchResult};
 ghost use Rattle.font_theory.specs.Content.{content, everything, font_of};
-ghost use Rattle.font_theory.specs.Cut.{content_of_all, our_format};
+ghost use Rattle.font_theory.specs.Cut.{content_of_all};
 ghost use Rattle.font_theory.specs.Agreement.{both};
 ghost use Rattle.font_join.specs.Join.{IsUnionRefusal, union_fault};
+ghost use Rattle.font_theory.specs.declared.kinds.Kind.TheVariants.{Full};
 ghost use Rattle.font_theory.specs.Kinds.{format_of, spelled_by};
 ghost use Rattle.font_join.specs.Union.{content_in};
 
@@ -28,8 +29,8 @@ impl<'a, A: Allocator + Copy> Union<'a, 'a, A> {
     pub fn new(alloc: A, x: &'a Font<'a>, y: &'a Font<'a>) -> Result<Joined<'a, A>, JoinError>
         ensures { MatchResult result (λ joined. (content_in joined
             ≡ both (content (font_of x.entry.now) everything) (content (font_of y.entry.now) everything))
-            × (union_fault our_format x.entry.now y.entry.now ≡ None))
-            (IsUnionRefusal our_format x.entry.now y.entry.now) }
+            × (union_fault (format_of Full) x.entry.now y.entry.now ≡ None))
+            (IsUnionRefusal (format_of Full) x.entry.now y.entry.now) }
     {
         Union::of_two(alloc, Kind::Full, x, y)
     }

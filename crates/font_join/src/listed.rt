@@ -16,21 +16,22 @@ use sfnt_bytes::NoMemory;
 use std::alloc::Allocator;
 use std::marker::Model;
 
-/// A font of a kind, the glyphs that its codes keep, and its runs.
+/// A font of a kind, the glyphs that all its codes and all its glyphs keep, and its runs.
 pub(crate) struct Listed<'f, 'a, A: Allocator> {
     font: Selection<'f, 'a, A>,
 }
 
 // Its value is the kind, and the file of the font.
 impl<'f, 'a, A: Allocator> Model for Listed<'f, 'a, A> {
-    ghost use Rattle.std.specs.Prelude.{◌≡◌, ℕ, List, None};
+    ghost use Rattle.std.specs.Prelude.{◌≡◌, ℕ, List};
     ghost use Rattle.font_theory.specs.declared.kinds.Kind.{Kind};
+    ghost use Rattle.font_subset.specs.KeptGlyphs.{all_asked};
 
     ghost Value = { Kind × List ℕ };
 
     ghost view = { λ l. (l.font.0, l.font.1.0) };
 
-    ghost invariant = { λ l. l.font.1.1 ≡ None };
+    ghost invariant = { λ l. l.font.1.1 ≡ all_asked };
 }
 
 // Written out: a derived drop is proved anew wherever a value is let go, with all that is known of the value.

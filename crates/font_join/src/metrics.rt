@@ -3,7 +3,7 @@ ghost use Rattle.std.specs.Prelude.{◌≡◌, ◌+◌, ◌<◌, ℕ, find, nat_
 ghost use Rattle.std.specs.List.{range_with_len};
 ghost use Rattle.std.specs.Str.{bytes_eq};
 ghost use Rattle.font_theory.specs.Content.{glyph_count, table_in_slot};
-ghost use Rattle.font_theory.specs.LeanCut.{entry_at, entry_size, metric_bytes, metrics_at, pairs_in};
+ghost use Rattle.font_theory.specs.Parted.{entry_at, entry_size, metric_bytes, metrics_at, pairs_in};
 ghost use Rattle.font_join.specs.KindInside.{has_other_metrics, metrics_by};
 
 use crate::difference::is_same;
@@ -23,7 +23,7 @@ fn byte_at(table: &[u8], j: usize) -> u8
 }
 
 // Returns how many bytes of a table of metrics are of one glyph alone: none where the table has no pairs.
-#[tactic(auto, unfolding(font_theory::specs::LeanCut::entry_size))]
+#[tactic(auto, unfolding(font_theory::specs::Parted::entry_size))]
 fn size_of_entry(pairs: usize, g: usize) -> usize
     requires small { g < 65536 }
     ensures { result ≡ entry_size pairs g }
@@ -35,7 +35,7 @@ fn size_of_entry(pairs: usize, g: usize) -> usize
 }
 
 // Returns the place of these bytes in the table.
-#[tactic(auto, unfolding(font_theory::specs::LeanCut::entry_at))]
+#[tactic(auto, unfolding(font_theory::specs::Parted::entry_at))]
 fn place_of_entry(pairs: usize, g: usize) -> usize
     requires few { pairs < 65536 }
     requires small { g < 65536 }

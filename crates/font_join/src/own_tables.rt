@@ -1,7 +1,7 @@
 //! The tables of metrics that a union has of its own. OpenType 1.9, hmtx; vmtx.
 ghost use Rattle.std.specs.Prelude.{◌≡◌, [], option_copied, unwrap_or, IfOk};
 ghost use Rattle.std.specs.Option.{option_map};
-ghost use Rattle.font_theory.specs.LeanCut.{either_bytes};
+ghost use Rattle.font_theory.specs.Parted.{either_bytes};
 
 use sfnt_bytes::NoMemory;
 use std::alloc::Allocator;

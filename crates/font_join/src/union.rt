@@ -13,7 +13,7 @@ ghost use Rattle.font_theory.specs.declared.kinds.Kind.{Kind};
 ghost use Rattle.font_write.specs.WholeFile.{IsTooLarge};
 ghost use Rattle.font_join.specs.Union.{content_in};
 ghost use Rattle.font_join.specs.Inside.{IsAddRefusal, IsFormRefusal, add_fault, early_difference};
-ghost use Rattle.font_join.specs.KindInside.{IsGrown, SpellsIn, least_of, values_told};
+ghost use Rattle.font_join.specs.KindInside.{IsGrown, SpellsIn, least_of, parts_told};
 ghost use Rattle.font_join.specs.declared.join_error.Which.TheVariants.{First};
 
 use crate::blanked::Blanked;
@@ -48,8 +48,8 @@ fn least(first: Option<u16>, second: Option<u16>) -> Option<u16>
 }
 
 /// The union of cuts of one kind: the tables of the first of them, the maps of all in one, and for each glyph
-/// the slice of the first file that keeps it. Except for full cuts, a union has `hmtx` and `vmtx` of its own, which
-/// are those of all byte by byte, and a `gvar` of its own with the variation data of all.
+/// the slice of the first file that keeps it. Where the kind divides tables, a union has tables of its own with the
+/// parts of all: `hmtx` and `vmtx`, which are those of all byte by byte, and `gvar`.
 pub struct Union<'f, 'a, A: Allocator> {
     first: FontOfKind<'f, 'a, A>,
     map: UnionMap<A>,
@@ -106,12 +106,11 @@ impl<'f, 'a, A: Allocator> Source for Union<'f, 'a, A> {
     }
 
     fn copied(&self, slot: usize) -> Option<&[u8]> {
-        match self.first.kind() {
-            Kind::Full => self.first.copied(slot),
-            Kind::Lean | Kind::Layout | Kind::Variable => {
-                self.own.or_copied(slot, self.first.copied(slot))
-            }
+        let copied = self.first.copied(slot);
+        if self.first.kind().divides_tables() {
+            return self.own.or_copied(slot, copied);
         }
+        copied
     }
 
     fn head(&self) -> &[u8] {
@@ -161,15 +160,13 @@ impl<'f, 'a, A: Allocator + Copy> Union<'f, 'a, A> {
         ensures { IfOk result (λ found. (K : Content) → SpellsIn self.now.kind (content_in self.now) K →
             found ≡ early_difference K (content_of_all (format_of self.now.kind) file.now.1)) }
     {
-        match self.first.kind() {
-            Kind::Full => Ok(early_difference(self, &self.map, file)),
-            Kind::Lean | Kind::Layout | Kind::Variable => {
-                let blanks = GlyphTables::blank(alloc, file)?;
-                let first = Blanked::new(self, &self.blanks);
-                let second = Blanked::new(file, &blanks);
-                Ok(early_difference(&first, &self.map, &second))
-            }
+        if !self.first.kind().divides_tables() {
+            return Ok(early_difference(self, &self.map, file));
         }
+        let blanks = GlyphTables::blank(alloc, file)?;
+        let first = Blanked::new(self, &self.blanks);
+        let second = Blanked::new(file, &blanks);
+        Ok(early_difference(&first, &self.map, &second))
     }
 
     // Returns why a cut is not added, before its glyphs are compared.
@@ -187,22 +184,20 @@ impl<'f, 'a, A: Allocator + Copy> Union<'f, 'a, A> {
         }
     }
 
-    // Returns the first glyph that a cut keeps with other metrics or variation data than the union, where these are
-    // compared.
-    fn other_values(&self, file: &Listed<'_, 'a, A>) -> Option<u16>
+    // Returns the first glyph that a cut and the union keep with another part in a table that is divided.
+    fn other_parts(&self, file: &Listed<'_, 'a, A>) -> Option<u16>
         requires same { file.now.0 ≡ self.now.kind }
         requires form { IsCut (format_of self.now.kind) file.now.1 }
         requires early { (K : Content) → SpellsIn self.now.kind (content_in self.now) K →
             early_difference K (content_of_all (format_of self.now.kind) file.now.1) ≡ None }
         requires small { length (table_in_slot (content_in self.now).copied GVAR) ≤ MAX_FILE }
-        ensures { result ≡ values_told self.now.kind (content_in self.now)
-            (content (font_as file.now.0 file.now.1) everything) }
+        ensures { (K : Content) → SpellsIn self.now.kind (content_in self.now) K →
+            result ≡ parts_told K (content_of_all (format_of self.now.kind) file.now.1) }
     {
-        match self.first.kind() {
-            Kind::Full => None,
-            Kind::Lean | Kind::Layout => different_metrics(self, file),
-            Kind::Variable => least(different_metrics(self, file), different_data(self, file)),
+        if !self.first.kind().divides_tables() {
+            return None;
         }
+        least(different_metrics(self, file), different_data(self, file))
     }
 
     // Returns the union with a cut that agrees with it in its tables and its map, or the first glyph in which
@@ -217,7 +212,7 @@ impl<'f, 'a, A: Allocator + Copy> Union<'f, 'a, A> {
             (IsGrown self.entry.kind file.entry.1 K)
             (IsAddRefusal (format_of self.entry.kind) K file.entry.1) }
     {
-        let values = self.other_values(&file);
+        let parts = self.other_parts(&file);
         let gvar = gvar_of_both(alloc, &self, &file)?;
         let count = self.first.font().tables().glyph_count();
         let Union {
@@ -228,7 +223,7 @@ impl<'f, 'a, A: Allocator + Copy> Union<'f, 'a, A> {
             blanks,
         } = self;
         let other = outlines.take(&file, count);
-        if let Some(g) = least(values, other) {
+        if let Some(g) = least(parts, other) {
             return Err(JoinError::DifferentGlyph(g));
         }
         let own = own.laid_over(&file, gvar);

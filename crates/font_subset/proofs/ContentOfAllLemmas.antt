@@ -1,6 +1,6 @@
 -- What a font holds for all codes, and whether its file is the file of that.
 use Rattle.std.proofs.Common.{◌≡◌, ℕ, ◌<◌, Some, Bool, true, false, ◌||◌, if◌then◌else◌, List, [], None, IsTrue, ◌↔◌}
-use Rattle.std.proofs.Common.{inl, inr, refl, sym, ◌∙◌, ap}
+use Rattle.std.proofs.Common.{inl, inr, refl, subst, sym, ◌∙◌, ap}
 use Rattle.std.specs.Option.{is_some, unwrap_or}
 use Rattle.std.specs.Str.{bytes_eq}
 use Rattle.std.proofs.lemmas.Slice.Eq.{bytes_eq-Decides}
@@ -9,14 +9,15 @@ use Rattle.font_file.specs.Font.{font_fault}
 use Rattle.sfnt_bytes.specs.Lines.{when}
 use Rattle.font_theory.specs.Bytes.{padded}
 use Rattle.font_theory.specs.Content.{Font, content, everything, font_of, is_kept}
-use Rattle.font_theory.specs.Cut.{Format, IsCurrent, IsCut, IsOld, is_current, is_cut, is_old, our_format}
+use Rattle.font_theory.specs.Cut.{Format, IsCurrent, IsCut, IsOld, is_current, is_cut, is_old}
 use Rattle.font_theory.specs.Cut.{content_of_all}
 use Rattle.font_theory.proofs.CutLemmas.{IsCut-cases, IsCut-current, IsCut-old, is_current-of, is_current-tells}
 use Rattle.font_theory.proofs.CutLemmas.{is_cut-tells, is_old-of, is_old-tells}
 use Rattle.font_theory.proofs.WritingLemmas.{no_cut-both}
-use Rattle.font_theory.specs.Kinds.{fault_of, font_as, format_of}
+use Rattle.font_theory.specs.Kinds.{fault_of, font_as, format_by, format_of}
+use Rattle.font_theory.specs.declared.kinds.Kind.TheVariants.{Full}
 use Rattle.font_theory.specs.declared.kinds.Kind.{Kind}
-use Rattle.font_theory.proofs.KindLemmas.{kind_is, read_whole}
+use Rattle.font_theory.proofs.KindLemmas.{full-is, full_fault-is, kind_is, read_whole}
 use Rattle.font_subset.specs.CutOfFont.{IsFormOf, cut_form_of, form_in}
 use Rattle.font_subset.specs.Inside.{IsFileIn}
 use Rattle.font_subset.specs.declared.forms.CutForm.{CutForm}
@@ -27,14 +28,16 @@ use Rattle.font_tables.specs.Outlines.{outline_of}
 use Rattle.font_subset.specs.KeptGlyphs.{IsKeptSet}
 use Rattle.font_subset.proofs.SourceLemmas.{kept_below, kept_is}
 
--- what this program reads of a file, and why it refuses one
-pub our_format-fault : (X : List ℕ) → our_format.fault X ≡ font_fault X
-unfolding our_format
-our_format-fault X = refl
+-- the reader and the writer of full cuts
+abbrev full : Format
+full = format_of Full
 
-pub our_format-whole : (X : List ℕ) → content_of_all our_format X ≡ content (font_of X) everything
-unfolding our_format
-our_format-whole X = refl
+full_accepts : (X : List ℕ) → font_fault X ≡ None → full.fault X ≡ None
+unfolding format_by
+full_accepts X h = full_fault-is X ∙ h
+
+no_full_both : (X : List ℕ) → IsCurrent full X → IsOld full X → ⊥
+no_full_both X now old = no_cut-both X (subst (λ R. IsCurrent R X) full-is now) (subst (λ R. IsOld R X) full-is old)
 
 -- the tests of both forms, of the files of the content
 is_current_is : (R : Format) (X : List ℕ) → is_current R X ≡ bytes_eq (R.file (content_of_all R X)) X
@@ -114,38 +117,38 @@ module _ (R : Format) where
 
 pub form_told : (form : CutForm) (X : List ℕ) → font_fault X ≡ None → form ≡ cut_form_of X → IsFormOf X form
 unfolding form_in
-form_told form X accepted e = go (is_current our_format X) (is_old our_format X) refl refl e
+form_told form X accepted e = go (is_current full X) (is_old full X) refl refl e
   where
-    ok : our_format.fault X ≡ None
-    ok = our_format-fault X ∙ accepted
+    ok : full.fault X ≡ None
+    ok = full_accepts X accepted
 
     other : (a b : CutForm) → form ≡ a → form ≡ b → (a ≡ b → ⊥) → ⊥
     other a b p q n = n (sym p ∙ q)
 
-    go : (b c : Bool) → is_current our_format X ≡ b → is_old our_format X ≡ c
+    go : (b c : Bool) → is_current full X ≡ b → is_old full X ≡ c
         → form ≡ (if b then Current else if c then Old else Not) → IsFormOf X form
     go true c p q e =
-        let is = is_current-tells our_format X ok p in
+        let is = is_current-tells full X ok p in
         record {
           current = (λ h. is, λ h. e);
-          old = (λ h. absurd (other Current Old e h (λ n. cc)), λ old. absurd (no_cut-both X is old));
-          neither = (λ h. absurd (other Current Not e h (λ n. cc)), λ no. absurd (no (IsCut-current our_format X is)));
+          old = (λ h. absurd (other Current Old e h (λ n. cc)), λ old. absurd (no_full_both X is old));
+          neither = (λ h. absurd (other Current Not e h (λ n. cc)), λ no. absurd (no (IsCut-current full X is)));
         }
     go false true p q e =
-        let is = is_old-tells our_format X ok q in
+        let is = is_old-tells full X ok q in
         record {
-          current = (λ h. absurd (other Old Current e h (λ n. cc)), λ current. absurd (no_cut-both X current is));
+          current = (λ h. absurd (other Old Current e h (λ n. cc)), λ current. absurd (no_full_both X current is));
           old = (λ h. is, λ h. e);
-          neither = (λ h. absurd (other Old Not e h (λ n. cc)), λ no. absurd (no (IsCut-old our_format X is)));
+          neither = (λ h. absurd (other Old Not e h (λ n. cc)), λ no. absurd (no (IsCut-old full X is)));
         }
     go false false p q e =
-        let no_current : IsCurrent our_format X → ⊥ =
-        λ h. both_false (is_current our_format X) p (is_current-of our_format X h) in
-        let no_old : IsOld our_format X → ⊥ = λ h. both_false (is_old our_format X) q (is_old-of our_format X h) in
+        let no_current : IsCurrent full X → ⊥ =
+        λ h. both_false (is_current full X) p (is_current-of full X h) in
+        let no_old : IsOld full X → ⊥ = λ h. both_false (is_old full X) q (is_old-of full X h) in
         record {
           current = (λ h. absurd (other Not Current e h (λ n. cc)), λ h. absurd (no_current h));
           old = (λ h. absurd (other Not Old e h (λ n. cc)), λ h. absurd (no_old h));
-          neither = (λ h cut. elim (IsCut-cases our_format X cut) [ inl a ↦ no_current a | inr b ↦ no_old b ], λ h. e);
+          neither = (λ h cut. elim (IsCut-cases full X cut) [ inl a ↦ no_current a | inr b ↦ no_old b ], λ h. e);
         }
       where
         both_false : (b : Bool) → b ≡ false → b ≡ true → ⊥

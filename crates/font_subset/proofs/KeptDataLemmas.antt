@@ -10,7 +10,6 @@ use Rattle.font_variations.specs.MadeGvar.{listed_data}
 use Rattle.font_variations.proofs.LawLemmas.{lead_in_order}
 use Rattle.font_tables.specs.Fields.{glyph_count_of}
 use Rattle.font_write.specs.Parts.{IsNextKept}
-use Rattle.font_subset.specs.Inside.{AreKeptData}
 use Rattle.font_subset.specs.KeptGlyphs.{selected}
 use Rattle.font_subset.proofs.SourceLemmas.{Held, count_as}
 use Rattle.std.specs.Option.{is_some}
@@ -133,13 +132,6 @@ data_step cut gvar old new g next bytes are low is set kept =
           ∙ are.above h (let from = kept.from_on in omega (arith, past, from));
       here = λ within. kept.kept (let count = are.count in omega (arith, within, long, count, count_as cut.0 cut.1.0));
     }
-
-pub data_end : (cut : Held) (gvar : List ℕ) (listed : List (List ℕ)) (to : ℕ) → AreDataTo cut gvar listed to
-    → length listed ≤ to → AreKeptData cut gvar listed
-data_end cut gvar listed to are past = record {
-  count = are.count;
-  each = λ g low. let count = are.count in are.below g (omega (arith, low, past, count)) (omega (arith, low, count));
-}
 
 -- a list that has one slice so many times
 pub map_repeated : {X : Type 0} (f : X → List ℕ) (n : ℕ) (x : X) → map f (replicate n x) ≡ replicate n (f x)

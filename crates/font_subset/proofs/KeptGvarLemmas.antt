@@ -15,18 +15,17 @@ use Rattle.font_variations.specs.MadeGvar.{data_at, gvar_bytes, listed_data}
 use Rattle.font_variations.proofs.GivenLemmas.{made_of_listed}
 use Rattle.font_variations.proofs.MadeLemmas.{length-made}
 use Rattle.font_theory.specs.Content.{Content, glyph_count}
-use Rattle.font_theory.specs.Kinds.{fault_of, tables_as}
-use Rattle.font_theory.specs.VariableCut.{gvar_with, variation_data}
+use Rattle.font_theory.specs.Kinds.{fault_of, full_settings, layout_settings, lean_settings, tables_as}
+use Rattle.font_theory.specs.Kinds.{variable_settings}
+use Rattle.font_theory.specs.Parted.{gvar_with, variation_data}
 use Rattle.font_theory.specs.declared.kinds.Kind.{Kind}
 use Rattle.font_theory.specs.declared.kinds.Kind.TheVariants.{Full, Layout, Lean, Variable}
-use Rattle.font_theory.proofs.KindLemmas.{opened}
 use Rattle.font_write.specs.declared.source.TheConstants.{MAX_TABLE}
 use Rattle.font_subset.specs.Inside.{AreKeptData, IsMadeTable}
 use Rattle.font_subset.specs.KeptGlyphs.{AreVariationsIn, selected}
 use Rattle.font_subset.proofs.KeptDataLemmas.{kept_data_small, shared_small}
-use Rattle.font_subset.proofs.KindSourceLemmas.{made_gvar, made_no_gvar}
-use Rattle.font_subset.proofs.SourceLemmas.{Held, count_as, table_small}
-use Rattle.font_subset.proofs.VariedLemmas.{data_held}
+use Rattle.font_subset.proofs.KindSourceLemmas.{data_held, made_gvar, made_no_gvar}
+use Rattle.font_subset.proofs.SourceLemmas.{Held, count_as, opened, table_small}
 
 -- what is read as variations is the table, and the number of glyphs
 abbrev beside : ℕ → List ℕ → List ℕ × ℕ
@@ -50,6 +49,7 @@ read_count kind file read is = (some_table (glyph_count_of file) (tables_as kind
 -- a `gvar` that is read is no longer than a file
 gvar_small : (kind : Kind) (file gvar : List ℕ) → fault_of kind file ≡ None → tables_as kind file GVAR ≡ Some gvar
     → length gvar ≤ MAX_FILE
+unfolding full_settings lean_settings layout_settings variable_settings
 gvar_small Full file gvar ok some = cc
 gvar_small Lean file gvar ok some = cc
 gvar_small Layout file gvar ok some = cc

@@ -1,133 +1,145 @@
 -- What a font gives to its cuts of each kind.
-use Rattle.std.proofs.Common.{◌≡◌, ◌≢◌, ℕ, suc, ◌<◌, ◌≤◌, ◌||◌, cond, Bool, true, refl, List, [], length, Option, None}
+use Rattle.std.proofs.Common.{◌≡◌, ◌≢◌, ℕ, suc, ◌<◌, ◌≤◌, ◌||◌, cond, if◌then◌else◌, Bool, true, false, refl, List}
+use Rattle.std.proofs.Common.{[], length, Option, None}
 use Rattle.std.proofs.Common.{Some, sym, ◌∙◌, ap, subst, arith, MatchOption}
 use Rattle.std.specs.Option.{IsSome, is_some, option_map, option_or, unwrap_or}
 use Rattle.std.proofs.Math.Path.{fun_ext}
-use Rattle.std.proofs.lemmas.Bool.{lt-ltb}
+use Rattle.std.proofs.lemmas.Bool.{lt-ltb, ne_eqb}
 use Rattle.font_write.specs.declared.source.TheConstants.{MAX_TABLE}
 use Rattle.sfnt_bytes.specs.declared.tag.TheConstants.{GVAR, HHEA, HMTX, POST, VHEA, VMTX}
 use Rattle.font_tables.specs.Fields.{number_of_h_metrics}
 use Rattle.font_tables.specs.Refusals.{is_bad_hhea, is_bad_hmtx}
-use Rattle.font_theory.specs.Content.{Content, IsWritable, KeepsComponents, content, font_of, glyph_count}
-use Rattle.font_theory.specs.Content.{layout_font_of}
-use Rattle.font_theory.specs.Cut.{our_format}
-use Rattle.font_theory.specs.Kinds.{fault_of, font_as, format_of, spelled_by, tables_as}
-use Rattle.font_theory.specs.LayoutCut.{layout_format}
-use Rattle.font_theory.specs.LeanCut.{blank, cleared, lean_format, leaned, pairs_in, thin_post}
-use Rattle.font_theory.specs.VariableCut.{gvar_with, variable_font_of, variable_format}
+use Rattle.font_theory.specs.Bytes.{cut_head}
+use Rattle.font_theory.specs.Content.{Content, Font, IsWritable, KeepsComponents, Wanted, content, glyph_count}
+use Rattle.font_theory.specs.Kinds.{by_metrics, by_variations, fault_of, font_as, format_by, format_of, full_settings}
+use Rattle.font_theory.specs.Kinds.{layout_settings, lean_settings, partition_of, reduced, spelled_by, tables_as}
+use Rattle.font_theory.specs.Kinds.{variable_settings}
+use Rattle.font_theory.specs.Parted.{blank, cleared, gvar_with, pairs_in, pairs_of, thin_post, variation_data}
+use Rattle.font_theory.specs.Parting.{may_divide, undivided}
 use Rattle.font_theory.specs.declared.kinds.Kind.{Kind}
 use Rattle.font_theory.specs.declared.kinds.Kind.TheVariants.{Full, Layout, Lean, Variable}
-use Rattle.font_theory.proofs.FontLemmas.{IsFont-accepted}
-use Rattle.font_theory.proofs.LayoutCutLemmas.{IsFont-layout}
-use Rattle.font_theory.proofs.LeanedLemmas.{leaned-is}
-use Rattle.font_theory.proofs.VariableFormatLemmas.{IsFont-variable}
+use Rattle.font_theory.proofs.DividedLemmas.{reduced-is}
+use Rattle.font_theory.proofs.KindLemmas.{settings-are}
+use Rattle.font_theory.proofs.PartLemmas.{glyph_count-alike, never-divided}
+use Rattle.font_theory.proofs.WordLemmas.{gvar-reduced, hmtx-reduced, keeps-is, post-reduced, reduced-slot}
+use Rattle.font_theory.proofs.WordLemmas.{reduced-undivided, vmtx-reduced}
 use Rattle.font_write.specs.Parts.{IsNextKept}
-use Rattle.font_subset.specs.KeptGlyphs.{codes_wanted, selected, written_of}
+use Rattle.font_subset.specs.KeptGlyphs.{selected, wanted_in, written_of}
 use Rattle.font_subset.specs.Inside.{IsMadeTable}
 use Rattle.font_subset.proofs.LeanTableLemmas.{cleared-none}
-use Rattle.font_subset.proofs.LeanedLemmas.{leaned_components, leaned_count, leaned_head, leaned_hmtx, leaned_map}
-use Rattle.font_subset.proofs.LeanedLemmas.{leaned_other, leaned_outline, leaned_post, leaned_vmtx, leaned_writable}
-use Rattle.font_subset.proofs.SourceLemmas.{Held, is_writable, keeps_components}
-use Rattle.font_subset.proofs.VariedLemmas.{data_held, held_components, held_count, held_is, held_slot, held_writable}
-use Rattle.font_subset.proofs.VariedLemmas.{with_data_held}
+use Rattle.font_subset.proofs.SourceLemmas.{Held, is_font, is_writable, keeps_components}
 
 -- what is written of a content of a kind, where that is of the font itself and not of what the kind reads of it
 abbrev kept_by : Kind → Content → Content
-kept_by Full K = K
-kept_by Lean K = leaned K
-kept_by Layout K = leaned K
-kept_by Variable K = with_data_held K
+kept_by kind K = reduced (partition_of kind) K
 
-by_kind : (kind : Kind) (font : List ℕ) (wanted : ℕ → Bool) → fault_of kind font ≡ None
+by_kind : (kind : Kind) (font : List ℕ) (wanted : Wanted) → fault_of kind font ≡ None
     → spelled_by kind (content ((format_of kind).font font) wanted) ≡ kept_by kind (content (font_as kind font) wanted)
-unfolding our_format lean_format layout_format variable_format
-by_kind Full font wanted ok = refl
-by_kind Lean font wanted ok = leaned-is (font_of font) (IsFont-accepted font ok) wanted
-by_kind Layout font wanted ok = leaned-is (layout_font_of font) (IsFont-layout font ok) wanted
-by_kind Variable font wanted ok = held_is (variable_font_of font) wanted (IsFont-variable font ok)
+unfolding format_by
+by_kind kind font wanted ok = reduced-is (partition_of kind) (settings-are kind).partition (font_as kind font)
+    (is_font kind font ok) wanted
 
 pub written_spelled : (cut : Held)
-    → written_of cut ≡ spelled_by cut.0 (content ((format_of cut.0).font cut.1.0) (codes_wanted cut.1.1))
+    → written_of cut ≡ spelled_by cut.0 (content ((format_of cut.0).font cut.1.0) (wanted_in cut.1.1))
 unfolding written_of
 written_spelled cut = refl
 
 written_is : (cut : Held) → fault_of cut.0 cut.1.0 ≡ None → written_of cut ≡ kept_by cut.0 (selected cut)
-written_is cut ok = written_spelled cut ∙ by_kind cut.0 cut.1.0 (codes_wanted cut.1.1) ok
+written_is cut ok = written_spelled cut ∙ by_kind cut.0 cut.1.0 (wanted_in cut.1.1) ok
 
 -- what it has of that content
-kept_head : (kind : Kind) (K : Content) → (kept_by kind K).head ≡ K.head
-kept_head Full K = refl
-kept_head Lean K = leaned_head K
-kept_head Layout K = leaned_head K
-kept_head Variable K = refl
+module _ (kind : Kind) (K : Content) where
+  kept_head : (kept_by kind K).head ≡ K.head
+  unfolding reduced
+  kept_head = refl
 
-kept_map : (kind : Kind) (K : Content) → (kept_by kind K).map ≡ K.map
-kept_map Full K = refl
-kept_map Lean K = leaned_map K
-kept_map Layout K = leaned_map K
-kept_map Variable K = refl
+  kept_map : (kept_by kind K).map ≡ K.map
+  unfolding reduced
+  kept_map = refl
 
-kept_outline : (kind : Kind) (K : Content) → (kept_by kind K).outline ≡ K.outline
-kept_outline Full K = refl
-kept_outline Lean K = leaned_outline K
-kept_outline Layout K = leaned_outline K
-kept_outline Variable K = refl
+  kept_outline : (kept_by kind K).outline ≡ K.outline
+  unfolding reduced
+  kept_outline = refl
 
-kept_count : (kind : Kind) (K : Content) → glyph_count (kept_by kind K).copied ≡ glyph_count K.copied
-kept_count Full K = refl
-kept_count Lean K = leaned_count K
-kept_count Layout K = leaned_count K
-kept_count Variable K = held_count K
+  kept_alike : (slot : ℕ) → may_divide slot ≡ false → (kept_by kind K).copied slot ≡ K.copied slot
+  kept_alike slot f = reduced-undivided (partition_of kind) K slot ((settings-are kind).partition.others slot f)
 
-kept_other : (kind : Kind) (K : Content) (slot : ℕ) → slot ≢ HMTX → slot ≢ POST → slot ≢ VMTX → slot ≢ GVAR
-    → (kept_by kind K).copied slot ≡ K.copied slot
-kept_other Full K slot a b c d = refl
-kept_other Lean K slot a b c d = leaned_other K slot a b c
-kept_other Layout K slot a b c d = leaned_other K slot a b c
-kept_other Variable K slot a b c d = held_slot K slot d ∙ leaned_other K slot a b c
+  kept_count : glyph_count (kept_by kind K).copied ≡ glyph_count K.copied
+  kept_count = glyph_count-alike K.copied (kept_by kind K).copied kept_alike
 
-kept_writable : (kind : Kind) (K : Content) → IsWritable K → IsWritable (kept_by kind K)
-kept_writable Full K ok = ok
-kept_writable Lean K ok = leaned_writable K ok
-kept_writable Layout K ok = leaned_writable K ok
-kept_writable Variable K ok = held_writable K ok
+  kept_other : (slot : ℕ) → slot ≢ HMTX → slot ≢ POST → slot ≢ VMTX → slot ≢ GVAR
+      → (kept_by kind K).copied slot ≡ K.copied slot
+  kept_other slot a b c d = kept_alike slot (rw (
+    ne_eqb slot GVAR d,
+    ne_eqb slot HMTX a,
+    ne_eqb slot POST b,
+    ne_eqb slot VMTX c,
+  ) refl)
 
-kept_components : (kind : Kind) (K : Content) → KeepsComponents K → KeepsComponents (kept_by kind K)
-kept_components Full K ok = ok
-kept_components Lean K ok = leaned_components K ok
-kept_components Layout K ok = leaned_components K ok
-kept_components Variable K ok = held_components K ok
+  kept_writable : IsWritable K → IsWritable (kept_by kind K)
+  kept_writable ok = record {
+    mapped_below = λ c. subst (λ (m : ℕ → ℕ). m c < glyph_count (kept_by kind K).copied) (sym kept_map)
+        (subst (λ (n : ℕ). K.map c < n) (sym kept_count) (ok.mapped_below c));
+    mapped_codes = λ c past. ap (λ (m : ℕ → ℕ). m c) kept_map ∙ ok.mapped_codes c past;
+    slots = λ slot never. kept_alike slot (never-divided slot never) ∙ ok.slots slot never;
+    head_form = subst (λ (h : List ℕ). cut_head h ≡ h) (sym kept_head) ok.head_form;
+    head_size = subst (λ (h : List ℕ). 54 ≤ length h) (sym kept_head) ok.head_size;
+    past = λ g past. ap (λ o. o g) kept_outline ∙ ok.past g (subst (λ (n : ℕ). n ≤ g) kept_count past);
+  }
 
-kept_full : (kind : Kind) (K : Content) → kind ≡ Full → kept_by kind K ≡ K
-kept_full kind K full = ap (λ (k : Kind). kept_by k K) full
+  kept_components : KeepsComponents K → KeepsComponents (kept_by kind K)
+  unfolding reduced
+  kept_components h = record { notdef = h.notdef; mapped = h.mapped; components = h.components }
 
-kept_leaned : (kind : Kind) (K : Content) (slot : ℕ) → kind ≢ Full → slot ≢ GVAR
-    → (kept_by kind K).copied slot ≡ (leaned K).copied slot
-kept_leaned Full K slot n other = absurd (n refl)
-kept_leaned Lean K slot n other = refl
-kept_leaned Layout K slot n other = refl
-kept_leaned Variable K slot n other = held_slot K slot other
+  -- a full cut has each table as it is, and `gvar`, where it is not read, is in none
+  kept_no_gvar : K.copied GVAR ≡ None → (kept_by kind K).copied GVAR ≡ None
+  unfolding reduced
+  kept_no_gvar none = ap (option_map _) none
 
--- `gvar`, which only a variable cut has
-leaned_no_gvar : (K : Content) → K.copied GVAR ≡ None → (leaned K).copied GVAR ≡ None
-leaned_no_gvar K none =
-    leaned_other K GVAR (λ e. omega (arith, e)) (λ e. omega (arith, e)) (λ e. omega (arith, e)) ∙ none
+full_partition : (slot : ℕ) → partition_of Full slot ≡ undivided
+unfolding full_settings
+full_partition slot = refl
 
-kept_no_gvar : (kind : Kind) (K : Content) → kind ≢ Full → K.copied GVAR ≡ None → (kept_by kind K).copied GVAR ≡ None
-kept_no_gvar Full K n none = absurd (n refl)
-kept_no_gvar Lean K n none = leaned_no_gvar K none
-kept_no_gvar Layout K n none = leaned_no_gvar K none
-kept_no_gvar Variable K n none = ap (option_map (gvar_with (data_held K) (glyph_count K.copied))) none
+kept_full : (kind : Kind) (K : Content) (slot : ℕ) → kind ≡ Full → (kept_by kind K).copied slot ≡ K.copied slot
+kept_full kind K slot full = ap (λ (k : Kind). (kept_by k K).copied slot) full
+    ∙ reduced-undivided (partition_of Full) K slot (full_partition slot)
 
-kept_gvar : (kind : Kind) (file : List ℕ) (wanted : ℕ → Bool) (gvar : List ℕ) → tables_as kind file GVAR ≡ Some gvar
+-- the others divide tables as a lean cut does, but for `gvar`
+pub as_lean : (kind : Kind) (slot : ℕ) → kind ≢ Full → slot ≢ GVAR → partition_of kind slot ≡ by_metrics slot
+unfolding lean_settings layout_settings variable_settings
+as_lean Full slot n other = absurd (n refl)
+as_lean Lean slot n other = refl
+as_lean Layout slot n other = refl
+as_lean Variable slot n other = rw (ne_eqb slot GVAR other) refl
+
+-- the data of the kept glyphs, and none of the others
+abbrev pub data_held : Content → ℕ → List ℕ
+data_held K g = if is_some (K.outline g) then variation_data K.copied g else []
+
+variable_partition : partition_of Variable GVAR ≡ by_variations GVAR
+unfolding variable_settings
+variable_partition = refl
+
+variable_gvar : (file : List ℕ) (wanted : Wanted) (gvar : List ℕ) → fault_of Variable file ≡ None
+    → tables_as Variable file GVAR ≡ Some gvar
+    → (kept_by Variable (content (font_as Variable file) wanted)).copied GVAR
+    ≡ Some (gvar_with (data_held (content (font_as Variable file) wanted)) (glyph_count (tables_as Variable file)) gvar)
+variable_gvar file wanted gvar ok some =
+    let F : Font = font_as Variable file in
+    let n = glyph_count F.copied in
+    reduced-slot (partition_of Variable) by_variations (content F wanted) GVAR variable_partition
+    ∙ gvar-reduced F wanted (is_font Variable file ok)
+    ∙ (λ i. option_map (gvar_with (λ g. cond (sym (keeps-is F wanted) i g) (variation_data F.copied g) []) n) (some i))
+
+kept_gvar : (kind : Kind) (file : List ℕ) (wanted : Wanted) (gvar : List ℕ) → fault_of kind file ≡ None
+    → tables_as kind file GVAR ≡ Some gvar
     → (kept_by kind (content (font_as kind file) wanted)).copied GVAR
     ≡ Some (gvar_with (data_held (content (font_as kind file) wanted)) (glyph_count (tables_as kind file)) gvar)
-kept_gvar Full file wanted gvar some = cc
-kept_gvar Lean file wanted gvar some = cc
-kept_gvar Layout file wanted gvar some = cc
-kept_gvar Variable file wanted gvar some =
-    ap (option_map (gvar_with (data_held (content (variable_font_of file) wanted))
-    (glyph_count (variable_font_of file).copied))) some
+unfolding full_settings lean_settings layout_settings
+kept_gvar Full file wanted gvar ok some = cc
+kept_gvar Lean file wanted gvar ok some = cc
+kept_gvar Layout file wanted gvar ok some = cc
+kept_gvar Variable file wanted gvar ok some = variable_gvar file wanted gvar ok some
 
 module _ (cut : Held) (ok : fault_of cut.0 cut.1.0 ≡ None) where
   pub in_writable : IsWritable (written_of cut)
@@ -174,43 +186,57 @@ module _ (cut : Held) (ok : fault_of cut.0 cut.1.0 ≡ None) where
   pub made_none : (slot : ℕ) → cut.0 ≡ Full → IsMadeTable cut slot None
   made_none slot full =
       record {
-        is = sym (ap (λ (K : Content). K.copied slot) (written_is cut ok ∙ kept_full cut.0 (selected cut) full));
+        is = sym (ap (λ (K : Content). K.copied slot) (written_is cut ok) ∙ kept_full cut.0 (selected cut) slot full);
         small = omega arith;
       }
 
   -- the tables that others have anew
   module _ (other : cut.0 ≢ Full) where
-    written_leaned : (slot : ℕ) → slot ≢ GVAR → (written_of cut).copied slot ≡ (leaned (selected cut)).copied slot
-    written_leaned slot d = ap (λ (L : Content). L.copied slot) (written_is cut ok)
-        ∙ kept_leaned cut.0 (selected cut) slot other d
-
     abbrev K : Content
     K = selected cut
+
+    abbrev F : Font
+    F = font_as cut.0 cut.1.0
+
+    abbrev A : Wanted
+    A = wanted_in cut.1.1
+
+    written_lean : (slot : ℕ) → slot ≢ GVAR → (written_of cut).copied slot ≡ (reduced by_metrics K).copied slot
+    written_lean slot d = ap (λ (L : Content). L.copied slot) (written_is cut ok)
+        ∙ reduced-slot (partition_of cut.0) by_metrics K slot (as_lean cut.0 slot other d)
 
     pub made_hmtx : (table : Option (List ℕ)) → option_or table (K.copied HMTX)
         ≡ option_map (cleared (λ g. is_some (K.outline g)) (pairs_in K.copied HHEA HMTX) (glyph_count K.copied))
         (K.copied HMTX)
         → length (unwrap_or table []) ≤ MAX_TABLE → IsMadeTable cut HMTX table
-    made_hmtx table is small =
-        record { is = is ∙ sym (written_leaned HMTX (λ e. omega (arith, e)) ∙ leaned_hmtx K); small = small }
+    made_hmtx table is small = record {
+      is = is ∙ (λ i. option_map (cleared (keeps-is F A i) (pairs_in K.copied HHEA HMTX) (glyph_count K.copied))
+          (K.copied HMTX))
+          ∙ sym (written_lean HMTX (λ e. omega (arith, e)) ∙ hmtx-reduced F A);
+      small = small;
+    }
 
     pub made_vmtx : (table : Option (List ℕ)) → option_or table (K.copied VMTX)
         ≡ option_map (cleared (λ g. is_some (K.outline g)) (pairs_in K.copied VHEA VMTX) (glyph_count K.copied))
         (K.copied VMTX)
         → length (unwrap_or table []) ≤ MAX_TABLE → IsMadeTable cut VMTX table
-    made_vmtx table is small =
-        record { is = is ∙ sym (written_leaned VMTX (λ e. omega (arith, e)) ∙ leaned_vmtx K); small = small }
+    made_vmtx table is small = record {
+      is = is ∙ (λ i. option_map (cleared (keeps-is F A i) (pairs_in K.copied VHEA VMTX) (glyph_count K.copied))
+          (K.copied VMTX))
+          ∙ sym (written_lean VMTX (λ e. omega (arith, e)) ∙ vmtx-reduced F A);
+      small = small;
+    }
 
     pub made_post : (table : Option (List ℕ)) → option_or table (K.copied POST) ≡ option_map thin_post (K.copied POST)
         → length (unwrap_or table []) ≤ MAX_TABLE → IsMadeTable cut POST table
     made_post table is small =
-        record { is = is ∙ sym (written_leaned POST (λ e. omega (arith, e)) ∙ leaned_post K); small = small }
+        record { is = is ∙ sym (written_lean POST (λ e. omega (arith, e)) ∙ post-reduced F A); small = small }
 
     -- a font of which no `gvar` is read, and one whose `gvar` is made of the data of the kept glyphs
     pub made_no_gvar : tables_as cut.0 cut.1.0 GVAR ≡ None → IsMadeTable cut GVAR None
     made_no_gvar none = record {
       is = none
-          ∙ sym (ap (λ (L : Content). L.copied GVAR) (written_is cut ok) ∙ kept_no_gvar cut.0 K other none);
+          ∙ sym (ap (λ (L : Content). L.copied GVAR) (written_is cut ok) ∙ kept_no_gvar cut.0 K none);
       small = omega arith;
     }
 
@@ -219,7 +245,7 @@ module _ (cut : Held) (ok : fault_of cut.0 cut.1.0 ≡ None) where
         → IsMadeTable cut GVAR (Some table)
     made_gvar gvar table some is small = record {
       is = ap Some is ∙ sym (ap (λ (L : Content). L.copied GVAR) (written_is cut ok)
-          ∙ kept_gvar cut.0 cut.1.0 (codes_wanted cut.1.1) gvar some);
+          ∙ kept_gvar cut.0 cut.1.0 (wanted_in cut.1.1) gvar ok some);
       small = small;
     }
 
@@ -248,11 +274,11 @@ made_at bytes o held now at slot made same here anew given =
     given_by bytes o made ((selected now).copied slot) ((written_of now).copied slot) given
     (subst (λ (k : Held). option_or made ((selected k).copied slot) ≡ (written_of k).copied slot) same there)
 
-pairs_same : (copied : ℕ → Option (List ℕ)) (h b count pairs : ℕ) (header table : List ℕ) → copied b ≡ Some table
+pub pairs_same : (copied : ℕ → Option (List ℕ)) (h b count pairs : ℕ) (header table : List ℕ) → copied b ≡ Some table
     → unwrap_or (copied h) [] ≡ header → count ≡ glyph_count copied
     → pairs ≡ cond (is_bad_hhea header count || is_bad_hmtx table (number_of_h_metrics header) count) 0
     (number_of_h_metrics header) → pairs ≡ pairs_in copied h b
-unfolding pairs_in
+unfolding pairs_of
 pairs_same copied h b count pairs header table there head n is =
     is ∙ (λ i. cond (is_bad_hhea (sym head i) (n i) || is_bad_hmtx (unwrap_or (sym there i) [])
     (number_of_h_metrics (sym head i)) (n i)) 0 (number_of_h_metrics (sym head i)))

@@ -9,9 +9,9 @@ use Rattle.std.proofs.lemmas.List.{length-take, length-take-le}
 use Rattle.std.specs.Option.{IsSome, is_some}
 use Rattle.font_theory.specs.Bytes.{bytes32}
 use Rattle.font_theory.specs.Content.{Content, glyph_count}
-use Rattle.font_theory.specs.LeanCut.{blank, cleared, entry_at, entry_size, holder, is_entry, thin_post, within}
-use Rattle.font_theory.proofs.LeanEntryLemmas.{get_or-blank, get_or-cleared, is_byte_of, is_place, length-blank}
-use Rattle.font_theory.proofs.LeanEntryLemmas.{length-cleared}
+use Rattle.font_theory.specs.Parted.{blank, cleared, entry_at, entry_size, holder, is_entry, thin_post, within}
+use Rattle.font_theory.proofs.EntryLemmas.{get_or-blank, get_or-cleared, is_byte_of, is_place, length-blank}
+use Rattle.font_theory.proofs.EntryLemmas.{length-cleared}
 use Rattle.font_write.specs.Parts.{IsNextKept}
 use Rattle.font_subset.specs.Inside.{AreCopied}
 use borrow.Rule.Slice.PartMut.{post_of, put_mid}

@@ -1,6 +1,7 @@
 -- Marks of .notdef and of the glyphs of codes.
-use Rattle.std.proofs.Common.{◌≡◌, ℕ, ◌+◌, ◌-◌, ◌<◌, ◌≤◌, ◌↔◌, inl, inr, Bool, true, ◌||◌, nat_eq, List, [], length}
-use Rattle.std.proofs.Common.{Option, None, Some, ap, unwrap_or, refl, sym, ◌∙◌, subst, arith}
+use Rattle.std.proofs.Common.{◌≡◌, ℕ, ◌+◌, ◌-◌, ◌<◌, ◌≤◌, ◌↔◌, inl, inr, Bool, true, ◌&&◌, ◌||◌, nat_eq, List}
+use Rattle.std.proofs.Common.{length}
+use Rattle.std.proofs.Common.{None, ap, refl, sym, ◌∙◌, subst, arith}
 use mathlib.Core.Path.{fun_ext}
 use Rattle.std.proofs.lemmas.Bool.{cases_eq, cases_lt, eq-eqb, eqb-true, or_cases, or_left, or_right}
 use Rattle.std.specs.Cmp.{both_ways}
@@ -9,28 +10,23 @@ use Rattle.codes.specs.CharacterMap.{IsCharacterMap, restricted}
 use Rattle.codes.specs.Runs.{IsRun, NoRun}
 use Rattle.codes.specs.declared.runs.Run.{Run}
 use Rattle.font_glyph.specs.Reach.{Reach}
-use Rattle.font_theory.specs.Content.{CODES, everything, font_of, glyph_count, is_kept, is_root, is_seed}
-use Rattle.font_theory.specs.Content.{links_in}
-use Rattle.font_theory.specs.Kinds.{fault_of, font_as, tables_as}
+use Rattle.font_theory.specs.Content.{CODES, Wanted, is_kept, is_root, is_seed}
+use Rattle.font_theory.specs.Kinds.{fault_of, font_as, settings}
 use Rattle.font_theory.specs.declared.kinds.Kind.{Kind}
 use Rattle.font_theory.specs.declared.kinds.Kind.TheVariants.{Full, Layout, Lean, Variable}
-use Rattle.font_theory.proofs.LayoutFileLemmas.{is_kept-layout}
-use Rattle.font_theory.proofs.VariableFileLemmas.{is_kept-variable_file}
-use Rattle.font_theory.proofs.RootLemmas.{roots_marked}
-use Rattle.font_glyph.specs.Linked.{Linked}
-use Rattle.font_glyph.specs.declared.linked.TheConstants as numbers
+use Rattle.font_theory.proofs.KindFileLemmas.{is_kept-by}
+use Rattle.font_theory.proofs.KindLemmas.{settings-are}
 use Rattle.std.specs.Bool.{Decides}
-use Rattle.font_theory.proofs.WantedLemmas.{is_seed-code, is_seed-tells, is_seed-zero}
+use Rattle.font_theory.proofs.WantedLemmas.{is_root-none, is_seed-code, is_seed-tells, is_seed-zero}
 use Rattle.font_tables.specs.Fields.{glyph_count_of}
 use Rattle.font_tables.specs.Outlines.{outline_of}
 use Rattle.font_file.specs.Font.{font_fault, map_of}
-use Rattle.font_theory.proofs.FileWantedLemmas.{is_kept-file, roots-font}
 use Rattle.font_theory.proofs.FontLemmas.{IsFont-accepted, glyph_count-file}
 use Rattle.font_theory.proofs.SpellingLemmas.{codes_are}
 use Rattle.font_theory.proofs.WantedLemmas.{restricted-cases}
-use Rattle.font_subset.specs.KeptGlyphs.{IsKeptSet, IsRootSet, layout_read, variations_read}
-use Rattle.font_subset.proofs.SourceLemmas.{count_as}
-use Rattle.font_subset.specs.Inside.{AreMarked, AreSeedsTo, IsSeedSet}
+use Rattle.font_subset.specs.KeptGlyphs.{IsKeptSet, IsRootSet}
+use Rattle.font_subset.proofs.PresenceLemmas.{none_there}
+use Rattle.font_subset.specs.Inside.{AreMarked, AreNumbered, AreSeedsTo, IsSeedSet}
 
 pub marked_start : (old : List Bool) (low : ℕ) → AreMarked old old low (low - low)
 marked_start old low =
@@ -132,87 +128,37 @@ run_within file wanted from run accepted is =
     let low = wanted_below file wanted accepted run.last in
     omega arith
 
--- where no table of layout is read the roots are the seeds
-pub seeds_alone : (kind : Kind) (file : List ℕ) (wanted : ℕ → Bool) (marks : List Bool) → fault_of kind file ≡ None
-    → None ≡ layout_read kind file → None ≡ variations_read kind file → IsSeedSet file wanted marks
+-- with the wanted glyphs that are there, or in full cuts alone, the seeds are the roots
+pub roots_numbered : (kind : Kind) (file : List ℕ) (wanted : Wanted) (seeds marks : List Bool)
+    → IsSeedSet file wanted.codes seeds → AreNumbered (font_as kind file).there wanted.glyphs seeds marks
     → IsRootSet kind file wanted marks
-seeds_alone Full file wanted marks accepted none other is = record {
-  count = is.count;
-  roots = λ g. is.seeds g
-      ∙ sym (ap (λ s. s g) (roots-font file wanted accepted));
+unfolding is_root
+roots_numbered kind file wanted seeds marks is more = record {
+  count = more.count ∙ is.count;
+  roots = λ g. more.marked g ∙ ap (λ b. b || (wanted.glyphs g && (font_as kind file).there g)) (is.seeds g);
 }
-seeds_alone Lean file wanted marks accepted none other is = record {
+
+pub roots_full : (kind : Kind) (file : List ℕ) (wanted : Wanted) (seeds : List Bool) → kind ≡ Full
+    → IsSeedSet file wanted.codes seeds → IsRootSet kind file wanted seeds
+roots_full Full file wanted seeds full is = record {
   count = is.count;
-  roots = λ g. is.seeds g
-      ∙ sym (ap (λ s. s g) (roots-font file wanted accepted));
+  roots = λ g. is.seeds g ∙ sym (ap (λ s. s g) (is_root-none (font_as Full file) wanted (none_there file)));
 }
-seeds_alone Layout file wanted marks accepted none other is = cc
-seeds_alone Variable file wanted marks accepted none other is = cc
-
--- and else what links lead to from the seeds
-pub roots_found : (kind : Kind) (file : List ℕ) (wanted : ℕ → Bool) (l : ℕ → List ℕ) (seeds marks : List Bool) (n : ℕ)
-    → l ≡ links_in (tables_as kind file) → n ≡ glyph_count_of file → IsSeedSet file wanted seeds
-    → length marks ≡ n
-    → ((g : ℕ) → has marks g ≡ true ↔ (g < n) × Linked l (has seeds) numbers.NUMBERS g)
-    → IsRootSet kind file wanted marks
-roots_found kind file wanted l seeds marks n same size is count found =
-    let whole : n ≡ glyph_count (tables_as kind file) = size ∙ count_as kind file in
-    let P : ℕ → (ℕ → List ℕ) → ℕ → Type 0 = λ k m g. has marks g ≡ true ↔ (g < k)
-    × Linked m (has seeds) numbers.NUMBERS g in
-    record {
-      count = count ∙ size;
-      roots = roots_marked (tables_as kind file) (restricted wanted (map_of file)) seeds marks is.seeds
-          (λ g. subst (λ (X : Type 0). X) (λ i. P (whole i) (same i) g) (found g));
-    }
-
--- of a font with its tables of layout, or with those of variations too
-pub roots_of_layout : (kind : Kind) (file held : List ℕ) (wanted : ℕ → Bool) (marks : List Bool)
-    → Some held ≡ layout_read kind file → IsRootSet Layout held wanted marks → IsRootSet kind file wanted marks
-roots_of_layout Full file held wanted marks some is = cc
-roots_of_layout Lean file held wanted marks some is = cc
-roots_of_layout Layout file held wanted marks some is =
-    subst (λ (o : Option (List ℕ)). IsRootSet Layout (unwrap_or o []) wanted marks) some is
-roots_of_layout Variable file held wanted marks some is = cc
-
-pub roots_of_variable : (kind : Kind) (file held : List ℕ) (wanted : ℕ → Bool) (marks : List Bool)
-    → Some held ≡ variations_read kind file → IsRootSet Variable held wanted marks → IsRootSet kind file wanted marks
-roots_of_variable Full file held wanted marks some is = cc
-roots_of_variable Lean file held wanted marks some is = cc
-roots_of_variable Layout file held wanted marks some is = cc
-roots_of_variable Variable file held wanted marks some is =
-    subst (λ (o : Option (List ℕ)). IsRootSet Variable (unwrap_or o []) wanted marks) some is
-
--- the file that is read is that of the font
-pub read_layout : (kind : Kind) (file held : List ℕ) → Some held ≡ layout_read kind file → held ≡ file
-read_layout Full file held some = cc
-read_layout Lean file held some = cc
-read_layout Layout file held some = ap (λ (o : Option (List ℕ)). unwrap_or o []) some
-read_layout Variable file held some = cc
-
-pub read_variable : (kind : Kind) (file held : List ℕ) → Some held ≡ variations_read kind file → held ≡ file
-read_variable Full file held some = cc
-read_variable Lean file held some = cc
-read_variable Layout file held some = cc
-read_variable Variable file held some = ap (λ (o : Option (List ℕ)). unwrap_or o []) some
+roots_full Lean file wanted seeds full is = absurd (let n : Lean ≡ Full = full in cc)
+roots_full Layout file wanted seeds full is = absurd (let n : Layout ≡ Full = full in cc)
+roots_full Variable file wanted seeds full is = absurd (let n : Variable ≡ Full = full in cc)
 
 -- what is reached from the roots is what a cut keeps
-is_kept_as : (kind : Kind) (file : List ℕ) (wanted : ℕ → Bool) → fault_of kind file ≡ None → (g : ℕ)
+is_kept_as : (kind : Kind) (file : List ℕ) (wanted : Wanted) → fault_of kind file ≡ None → (g : ℕ)
     → Decides (is_kept (font_as kind file) wanted g)
-    (Reach (outline_of file) (is_root (tables_as kind file) (restricted wanted (map_of file))) g)
-is_kept_as Full file wanted accepted g =
-    subst (λ s. Decides (is_kept (font_of file) wanted g) (Reach (outline_of file) s g))
-    (sym (roots-font file wanted accepted)) (is_kept-file file wanted accepted g)
-is_kept_as Lean file wanted accepted g =
-    subst (λ s. Decides (is_kept (font_of file) wanted g) (Reach (outline_of file) s g))
-    (sym (roots-font file wanted accepted)) (is_kept-file file wanted accepted g)
-is_kept_as Layout file wanted accepted g = is_kept-layout file wanted accepted g
-is_kept_as Variable file wanted accepted g = is_kept-variable_file file wanted accepted g
+    (Reach (outline_of file) (is_root (font_as kind file) wanted) g)
+is_kept_as kind file wanted accepted g = is_kept-by (settings kind) (settings-are kind) file accepted wanted g
 
-pub kept_marked : (kind : Kind) (file : List ℕ) (wanted : ℕ → Bool) (roots marks : List Bool)
+pub kept_marked : (kind : Kind) (file : List ℕ) (wanted : Wanted) (roots marks : List Bool)
     → fault_of kind file ≡ None → IsRootSet kind file wanted roots → length marks ≡ glyph_count_of file
     → ((g : ℕ) → has marks g ≡ true ↔ Reach (outline_of file) (has roots) g) → IsKeptSet kind file wanted marks
 kept_marked kind file wanted roots marks accepted is count reached =
-    let same : has roots ≡ is_root (tables_as kind file) (restricted wanted (map_of file)) = fun_ext is.roots in
+    let same : has roots ≡ is_root (font_as kind file) wanted = fun_ext is.roots in
     record {
       count = count;
       kept = λ g.
@@ -224,9 +170,9 @@ kept_marked kind file wanted roots marks accepted is count reached =
 
 -- the map of an accepted file is a character map
 pub whole_map : (file : List ℕ) (count : ℕ) → font_fault file ≡ None → count ≡ glyph_count_of file → count < 65536
-    → IsCharacterMap (restricted everything (map_of file))
+    → IsCharacterMap (restricted (λ _. true) (map_of file))
 whole_map file count accepted is small =
     record {
-      codes = λ c past. wanted_past file everything accepted c (subst (λ (n : ℕ). n ≤ c) (sym codes_are) past);
-      glyphs = λ c. omega (arith, wanted_below file everything accepted c, is, small);
+      codes = λ c past. wanted_past file (λ _. true) accepted c (subst (λ (n : ℕ). n ≤ c) (sym codes_are) past);
+      glyphs = λ c. omega (arith, wanted_below file (λ _. true) accepted c, is, small);
     }

@@ -1,12 +1,12 @@
 -- What a font gives to its cuts.
 use Rattle.std.proofs.Common.{◌≡◌, ℕ, zero, suc, ◌+◌, ◌-◌, ◌<◌, ◌≤◌, Bool, true, false, List, [], ◌∷◌}
 use Rattle.std.proofs.Common.{nat_lt, length, slice_range, drop, Option, None, Some, refl, sym, ◌∙◌, ap, subst, arith}
-use Rattle.std.proofs.Common.{MatchOption}
+use Rattle.std.proofs.Common.{MatchOption, cond, nat_le}
 use Rattle.std.specs.Option.{option_map, unwrap_or, is_some, IsSome}
 use Rattle.std.proofs.lemmas.List.{length-drop, length-take}
-use Rattle.std.proofs.lemmas.Bool.{false_from_ne_true, le-ltb}
-use Rattle.sfnt_bytes.specs.Directory.{kept_tag, table_bytes, table_entry, table_of}
-use Rattle.sfnt_bytes.specs.declared.tag.TheConstants.{SLOTS}
+use Rattle.std.proofs.lemmas.Bool.{false_from_ne_true, le-leb, le-ltb, or_right}
+use Rattle.sfnt_bytes.specs.Directory.{is_layout_slot, kept_tag, slot_tag, table_bytes, table_entry, table_of}
+use Rattle.sfnt_bytes.specs.declared.tag.TheConstants.{ALL_SLOTS, FIRST_VARIATION, GVAR, SLOTS}
 use Rattle.sfnt_bytes.specs.Lines.{when}
 use Rattle.sfnt_bytes.specs.declared.directory.TheConstants.{MAX_FILE}
 use Rattle.sfnt_bytes.specs.declared.records.Entry.{Entry}
@@ -19,27 +19,30 @@ use Rattle.font_theory.specs.Bytes.{padded}
 use Rattle.font_glyph.specs.Marks.{NoMark, has}
 use Rattle.font_write.specs.Parts.{IsNextKept}
 use Rattle.font_write.proofs.MeasureLemmas.{none_if}
-use Rattle.font_theory.specs.Content.{Content, IsFont, IsWritable, KeepsComponents, content, font_of, glyph_count}
-use Rattle.font_theory.specs.Content.{is_kept}
-use Rattle.font_theory.specs.Kinds.{fault_of, font_as, tables_as}
-use Rattle.font_theory.specs.declared.kinds.Kind.{Kind}
+use Rattle.font_theory.specs.Content.{Content, IsFont, IsWritable, KeepsComponents, Wanted, content, font_of}
+use Rattle.font_theory.specs.Content.{glyph_count}
+use Rattle.font_theory.specs.Content.{is_kept, is_made, is_never_copied, is_never_in_layout}
+use Rattle.font_theory.specs.Kinds.{fault_of, font_as, layout_settings, read_by, settings, tables_as}
+use Rattle.font_theory.specs.Kinds.{variable_settings}
+use Rattle.font_theory.specs.Kinds.Reading.{absent, as_it_is, unvarying}
 use Rattle.font_theory.specs.declared.kinds.Kind.TheVariants.{Full, Layout, Lean, Variable}
-use Rattle.font_theory.proofs.LayoutCutLemmas.{IsFont-layout, layout_count}
-use Rattle.font_theory.proofs.LayoutLeanLemmas.{copied-below}
-use Rattle.font_theory.proofs.VariableFormatLemmas.{IsFont-variable, variable-below, variable_count}
-use Rattle.codes.specs.declared.code_range.CodeRange.{CodeRange}
+use Rattle.font_theory.specs.declared.kinds.Kind.{Kind}
+use Rattle.font_theory.proofs.KindLemmas.{full_fault-is, full_font-is, lean_fault-is, lean_tables-is, settings-are}
+use Rattle.font_theory.proofs.SettingsLemmas.{IsFont-by, count_by, font_fault-by, tables_by-below}
 use Rattle.font_theory.proofs.ContentLemmas.{IsClosed-content}
 use Rattle.font_theory.proofs.FileWantedLemmas.{outline-file}
 use Rattle.font_theory.proofs.HeldLemmas.{KeepsComponents-closed}
 use Rattle.font_theory.proofs.WritableLemmas.{IsWritable-closed}
-use Rattle.font_subset.specs.KeptGlyphs.{IsKeptSet, codes_wanted, selected}
-use Rattle.font_theory.proofs.FontLemmas.{IsFont-accepted, are_sound, glyph_count-file, size-accepted}
+use Rattle.font_subset.specs.KeptGlyphs.{Asked, AreVariationsIn, IsKeptSet, selected}
+use Rattle.font_subset.specs.KeptGlyphs.{wanted_in}
+use Rattle.font_subset.specs.Inside.{slots_of}
+use Rattle.font_theory.proofs.FontLemmas.{are_sound, glyph_count-file, size-accepted}
 use Rattle.font_theory.proofs.FontLemmas.{table_fault-accepted}
 use Rattle.font_theory.proofs.CutHeadLemmas.{head-size}
 
--- the kind of a cut, the file of its font, and the ranges of its codes
+-- the kind of a cut, the file of its font, and what is asked of it
 abbrev pub Held : Type 0
-Held = Kind × (List ℕ × Option (List CodeRange))
+Held = Kind × (List ℕ × Asked)
 
 pub head_is : (file : List ℕ) → unwrap_or (table_of file (kept_tag 6)) [] ≡ head_of file
 unfolding kept_tag table_or_empty head_tag
@@ -82,36 +85,73 @@ outline_small file g accepted =
 
 -- what an accepted file means to cuts of a kind is a font
 pub is_font : (kind : Kind) (file : List ℕ) → fault_of kind file ≡ None → IsFont (font_as kind file)
-is_font Full file accepted = IsFont-accepted file accepted
-is_font Lean file accepted = IsFont-accepted file accepted
-is_font Layout file accepted = IsFont-layout file accepted
-is_font Variable file accepted = IsFont-variable file accepted
+is_font kind file accepted = IsFont-by (settings kind) (settings-are kind) file accepted
 
 -- the count of glyphs is read of a table that is copied
 pub count_as : (kind : Kind) (file : List ℕ) → glyph_count_of file ≡ glyph_count (tables_as kind file)
-count_as Full file = sym (glyph_count-file file)
-count_as Lean file = sym (glyph_count-file file)
-count_as Layout file = sym (layout_count file ∙ glyph_count-file file)
-count_as Variable file = sym (variable_count file)
+count_as kind file = sym (count_by (settings kind) (settings-are kind) file ∙ glyph_count-file file)
 
 -- a file of the content can be written, and it keeps what its own outlines are made of
 pub is_writable : (cut : Held) → fault_of cut.0 cut.1.0 ≡ None → IsWritable (selected cut)
 is_writable cut accepted =
-    IsWritable-closed (selected cut) (IsClosed-content (font_as cut.0 cut.1.0) (codes_wanted cut.1.1)
+    IsWritable-closed (selected cut) (IsClosed-content (font_as cut.0 cut.1.0) (wanted_in cut.1.1)
     (is_font cut.0 cut.1.0 accepted))
 
 pub keeps_components : (cut : Held) → fault_of cut.0 cut.1.0 ≡ None → KeepsComponents (selected cut)
 keeps_components cut accepted =
-    KeepsComponents-closed (selected cut) (IsClosed-content (font_as cut.0 cut.1.0) (codes_wanted cut.1.1)
+    KeepsComponents-closed (selected cut) (IsClosed-content (font_as cut.0 cut.1.0) (wanted_in cut.1.1)
     (is_font cut.0 cut.1.0 accepted))
 
 -- the tables by slot
 pub copied_low : (kind : Kind) (file : List ℕ) (slot : ℕ) → slot < SLOTS
     → (font_of file).copied slot ≡ tables_as kind file slot
-copied_low Full file slot low = refl
-copied_low Lean file slot low = refl
-copied_low Layout file slot low = sym (copied-below file slot low)
-copied_low Variable file slot low = sym (variable-below file slot low)
+copied_low kind file slot low = sym (tables_by-below (settings kind) (settings-are kind) file slot low)
+
+-- an accepted font is accepted for full and for lean cuts
+pub full_accepted : (file : List ℕ) → font_fault file ≡ None → fault_of Full file ≡ None
+full_accepted file h = full_fault-is file ∙ h
+
+pub lean_accepted : (file : List ℕ) → font_fault file ≡ None → fault_of Lean file ≡ None
+lean_accepted file h = lean_fault-is file ∙ h
+
+-- which further tables a kind reads
+plain_further : (file : List ℕ) (slot : ℕ) → SLOTS ≤ slot → (font_of file).copied slot ≡ None
+plain_further file slot past =
+    let made : is_made slot ≡ true = or_right _ (nat_le SLOTS slot) (le-leb SLOTS slot past) in rw made refl
+
+layout_further : (file : List ℕ) (slot : ℕ) → FIRST_VARIATION ≤ slot → tables_as Layout file slot ≡ None
+unfolding layout_settings
+layout_further file slot far =
+    let never : is_never_in_layout slot ≡ true = or_right _ (nat_le FIRST_VARIATION slot) (le-leb FIRST_VARIATION slot
+    far) in
+    ap (λ b. read_by (cond b absent (cond (is_layout_slot slot) unvarying as_it_is)) slot
+    (table_of file (slot_tag slot))) never
+
+variable_further : (file : List ℕ) (slot : ℕ) → ALL_SLOTS ≤ slot → tables_as Variable file slot ≡ None
+unfolding variable_settings
+variable_further file slot far =
+    let never : is_never_copied slot ≡ true = or_right _ (nat_le ALL_SLOTS slot) (le-leb ALL_SLOTS slot far) in
+    ap (λ b. read_by (cond b absent as_it_is) slot (table_of file (slot_tag slot))) never
+
+pub unread : (kind : Kind) (file : List ℕ) (slot : ℕ) → SLOTS ≤ slot → slots_of kind ≤ slot
+    → tables_as kind file slot ≡ None
+unread Full file slot past far = ap (λ F. F.copied slot) (full_font-is file) ∙ plain_further file slot past
+unread Lean file slot past far = lean_tables-is file slot ∙ plain_further file slot past
+unread Layout file slot past far = layout_further file slot far
+unread Variable file slot past far = variable_further file slot far
+
+-- full cuts read none
+pub full_further : (kind : Kind) (file : List ℕ) (slot : ℕ) → kind ≡ Full → SLOTS ≤ slot
+    → tables_as kind file slot ≡ None
+full_further kind file slot full past =
+    let last : slots_of kind ≡ SLOTS = ap slots_of full in unread kind file slot past (omega (arith, last, past))
+
+pub variations_full : (kind : Kind) (file : List ℕ) → kind ≡ Full → AreVariationsIn kind file None
+variations_full kind file full = sym (ap (option_map _) (full_further kind file GVAR full (omega arith)))
+
+-- a file that is accepted for cuts of a kind is a font
+pub opened : (kind : Kind) (file : List ℕ) → fault_of kind file ≡ None → font_fault file ≡ None
+opened kind file accepted = font_fault-by (settings kind) (settings-are kind) file accepted
 
 -- no mark stands past the marks
 has-past : (marks : List Bool) (g : ℕ) → has marks g ≡ true → g < length marks
@@ -128,7 +168,7 @@ pub is_some-when : (b : Bool) (x : List ℕ) → is_some (when b x) ≡ b
 is_some-when true x = refl
 is_some-when false x = refl
 
-module _ (kind : Kind) (file : List ℕ) (wanted : ℕ → Bool) (marks : List Bool) (kept : IsKeptSet kind file wanted marks)
+module _ (kind : Kind) (file : List ℕ) (wanted : Wanted) (marks : List Bool) (kept : IsKeptSet kind file wanted marks)
   where
     abbrev K : Content
     K = content (font_as kind file) wanted

@@ -8,20 +8,17 @@ use Rattle.codes.specs.CharacterMap.{is_mapped, restricted}
 use Rattle.codes.specs.Runs.{IsRun, NoRun}
 use Rattle.codes.specs.Wanted.{codes_between, either, no_codes}
 use Rattle.codes.specs.declared.runs.Run.{Run}
-use Rattle.font_file.specs.Font.{map_of}
-use Rattle.font_theory.specs.Content.{Content, Font, content}
-use Rattle.font_theory.specs.Cut.{Format, IsFormat, Under, Writes, codes_of, our_format}
-use Rattle.font_theory.specs.Kinds.{fault_of, format_of}
-use Rattle.font_theory.specs.LayoutCut.{layout_format}
-use Rattle.font_theory.specs.LeanCut.{lean_format}
-use Rattle.font_theory.specs.VariableCut.{variable_format}
+use Rattle.font_theory.specs.Content.{Content, Font, Wanted, content, everything, font_of, is_kept, of_codes, within}
+use Rattle.font_theory.specs.Cut.{Format, IsFormat, Under, Writes, our_format, wanted_of}
+use Rattle.font_theory.specs.Kinds.{fault_of, format_by, format_of}
 use Rattle.font_theory.specs.declared.kinds.Kind.{Kind}
-use Rattle.font_theory.specs.declared.kinds.Kind.TheVariants.{Full, Layout, Lean, Variable}
-use Rattle.font_theory.proofs.ContentLemmas.{content-mapped}
-use Rattle.font_theory.proofs.CutLemmas.{codes_of-accepted, font-cut}
-use Rattle.font_theory.proofs.KindLemmas.{kind_is}
+use Rattle.font_theory.proofs.ContentLemmas.{content-all, content-mapped, content-none}
+use Rattle.font_theory.proofs.CutLemmas.{font-cut, wanted_of-accepted}
+use Rattle.font_theory.proofs.KindLemmas.{full-is, kind_is}
 use Rattle.font_subset.specs.Inside.{AreMappedTo}
-use Rattle.font_subset.specs.CutOfKind.{IsCutIn}
+use Rattle.font_subset.specs.CutOfKind.{IsCutIn, own_of}
+use Rattle.font_subset.specs.CutOfFont.{IsCutForSome}
+use Rattle.font_theory.specs.declared.kinds.Kind.TheVariants.{Full}
 
 -- on one code: its glyph, and whether it is in the set
 beside : (x from first last c : ℕ) (b : Bool) → from ≤ first → first ≤ last → b ≡ (nat_lt c from && nat_lt 0 x)
@@ -63,68 +60,81 @@ mapped_end m from w none are = fun_ext (λ c. are c ∙ go c)
           | inr high ↦ let z : m c ≡ 0 = none c high in grind (arith, nat_tests)
         ]
 
--- a cut for some codes is the cut for those that it maps
+-- a cut is the cut for the codes that it maps and the glyphs that are there
 module _ (R : Format) (law : IsFormat R) where
-  same_mapped : (a : Bool) (g : ℕ) → g ≢ 0 → a ≡ nat_lt 0 (cond a g 0)
-  same_mapped true g some = sym (lt-ltb 0 g (omega (arith, some)))
+  same_mapped : (a : Bool) (g : ℕ) → g ≢ 0 → nat_lt 0 (cond a g 0) ≡ (a && true)
+  same_mapped true g some = lt-ltb 0 g (omega (arith, some))
   same_mapped false g some = refl
 
-  pub Under-cut : (X F : List ℕ) (A : ℕ → Bool) → R.fault X ≡ None → R.fault F ≡ None
+  pub Under-cut : (X F : List ℕ) (A : Wanted) → R.fault X ≡ None → R.fault F ≡ None
       → Writes R (content (R.font F) A) X → Under R X F
   Under-cut X F A ok h w = record {
     accepted = h;
-    written = subst (λ (K : Content). Writes R K X) (content-mapped (R.font F) A (codes_of R X) (law.is_font F h) same)
+    written = subst (λ (K : Content). Writes R K X)
+        (sym (ap (content (R.font F)) own ∙ content-mapped (R.font F) _ (within (R.font F) A everything)
+        (law.is_font F h) (λ c some. same_mapped (A.codes c) ((R.font F).map c) some)
+        (λ g there. ap (λ t. is_kept (R.font F) A g && t) there)
+        ∙ content-all (R.font F) A (law.is_font F h)))
         w;
   }
     where
-      read : (c : ℕ) → codes_of R X c ≡ is_mapped (restricted A (R.font F).map) c
-      read c = ap (λ v. v c) (codes_of-accepted R law X ok)
-          ∙ ap (λ (G : Font). is_mapped G.map c) (font-cut R law F h A X w (law.accepted_size X ok))
-
-      same : (c : ℕ) → (R.font F).map c ≢ 0 → A c ≡ codes_of R X c
-      same c some = same_mapped (A c) ((R.font F).map c) some ∙ sym (read c)
+      own : wanted_of R X ≡ record {
+        codes = is_mapped (restricted A.codes (R.font F).map);
+        glyphs = λ g. is_kept (R.font F) A g && (R.font F).there g;
+      }
+      own = wanted_of-accepted R law X ok
+          ∙ ap (λ (G : Font). record { codes = is_mapped G.map; glyphs = G.there })
+          (font-cut R law F h A X w (law.accepted_size X ok))
 
 -- in words
-codes_of_kind : (kind : Kind) (file : List ℕ) → fault_of kind file ≡ None → codes_of (format_of kind) file
-    ≡ is_mapped (map_of file)
-unfolding our_format lean_format layout_format variable_format
-codes_of_kind Full file accepted = codes_of-accepted our_format (kind_is Full).law file accepted
-codes_of_kind Lean file accepted = codes_of-accepted lean_format (kind_is Lean).law file accepted
-codes_of_kind Layout file accepted = codes_of-accepted layout_format (kind_is Layout).law file accepted
-codes_of_kind Variable file accepted = codes_of-accepted variable_format (kind_is Variable).law file accepted
-
--- all but full cuts have one form
-for_some : (kind : Kind) (made font : List ℕ)
-    → ((wanted : ℕ → Bool) × Writes (format_of kind) (content ((format_of kind).font font) wanted) made)
-    ↔ IsCutIn kind font made
-unfolding lean_format layout_format variable_format
-for_some Full made font = (λ w. w, λ w. w)
-for_some Lean made font = (λ w. (w.0, elim w.1 [ inl e ↦ sym e | inr e ↦ sym e ]), λ w. (w.0, inl (sym w.1)))
-for_some Layout made font = (λ w. (w.0, elim w.1 [ inl e ↦ sym e | inr e ↦ sym e ]), λ w. (w.0, inl (sym w.1)))
-for_some Variable made font = (λ w. (w.0, elim w.1 [ inl e ↦ sym e | inr e ↦ sym e ]), λ w. (w.0, inl (sym w.1)))
+wanted_of_kind : (kind : Kind) (file : List ℕ) → fault_of kind file ≡ None → wanted_of (format_of kind) file
+    ≡ own_of kind file
+unfolding format_by
+wanted_of_kind kind file accepted = wanted_of-accepted (format_of kind) (kind_is kind).law file accepted
 
 module _ (kind : Kind) (b : Bool) (made font : List ℕ) (ok : fault_of kind made ≡ None) (accepted : fault_of kind font
     ≡ None)
-    (is : IsTrue b ↔ Writes (format_of kind) (content ((format_of kind).font font) (is_mapped (map_of made))) made)
+    (is : IsTrue b ↔ Writes (format_of kind) (content ((format_of kind).font font) (own_of kind made)) made)
   where
     abbrev R : Format
     R = format_of kind
 
     pub is_under : IsTrue b ↔ Under R made font
     is_under =
-        let e = codes_of_kind kind made ok in (
+        let e = wanted_of_kind kind made ok in (
           λ t. record {
             accepted = (kind_is kind).fault_is font
                 ∙ accepted;
-            written = subst (λ (v : ℕ → Bool). Writes R (content (R.font font) v) made) (sym e) (is.0 t);
+            written = subst (λ (v : Wanted). Writes R (content (R.font font) v) made) (sym e) (is.0 t);
           },
-          λ u. is.1 (subst (λ (v : ℕ → Bool). Writes R (content (R.font font) v) made) e u.written),
+          λ u. is.1 (subst (λ (v : Wanted). Writes R (content (R.font font) v) made) e u.written),
         )
 
     pub is_cut_for_some : IsTrue b ↔ IsCutIn kind font made
     is_cut_for_some = (
-      λ t. (for_some kind made font).0 (is_mapped (map_of made), is.0 t),
-      λ w. (let v = (for_some kind made font).1 w in
+      λ t. (own_of kind made, is.0 t),
+      λ w. (let v = w in
           is_under.1 (Under-cut R (kind_is kind).law made font v.0 ((kind_is kind).fault_is made
           ∙ ok) ((kind_is kind).fault_is font ∙ accepted) v.1)),
     )
+
+our_font : (X : List ℕ) → our_format.font X ≡ font_of X
+unfolding our_format
+our_font X = refl
+
+-- a full cut is one for codes alone
+pub is_cut_of_codes : (font made : List ℕ) → fault_of Full font ≡ None → IsCutIn Full font made
+    ↔ IsCutForSome font made
+is_cut_of_codes font made accepted = (
+  λ w. (let v = w in (v.0.codes, subst (λ (K : Content). Writes (format_of Full) K made) (same v.0) v.1)),
+  λ w. (let v = w in (of_codes v.0, v.1)),
+)
+  where
+    full_font : (format_of Full).font font ≡ font_of font
+    full_font = ap (λ (R : Format). R.font font) full-is ∙ our_font font
+
+    same : (W : Wanted) → content ((format_of Full).font font) W
+        ≡ content ((format_of Full).font font) (of_codes W.codes)
+    same W = content-none ((format_of Full).font font) W
+        ((kind_is Full).law.is_font font ((kind_is Full).fault_is font ∙ accepted))
+        (λ g. ap (λ (F : Font). F.there g) full_font)

@@ -8,8 +8,10 @@ use Rattle.font_tables.specs.Outlines.{outline_of}
 use Rattle.font_glyph.specs.Reach.{Reach}
 use Rattle.font_file.specs.Font.{font_fault, map_of}
 use Rattle.font_theory.specs.Bytes.{padded}
-use Rattle.font_theory.specs.Content.{content, font_of}
-use Rattle.font_theory.specs.Cut.{Format, IsCurrent, IsCut, IsOld, Writes, cut, is_current, is_old, our_format}
+use Rattle.font_theory.specs.Content.{content, font_of, of_codes}
+use Rattle.font_theory.specs.Cut.{Format, IsCurrent, IsCut, IsOld, Writes, cut, is_current, is_old}
+use Rattle.font_theory.specs.Kinds.{format_of}
+use Rattle.font_theory.specs.declared.kinds.Kind.TheVariants.{Full}
 use Rattle.streams.specs.Outlet.{WentOut, broken_of, written_of}
 pub use Rattle.font_write.specs.WholeFile.{IsTooLarge, IsWritten}
 use Rattle.font_subset.specs.declared.cut_font.CutError.{CutError}
@@ -22,24 +24,24 @@ use Rattle.streams.specs.declared.outlet.Outlet.{Outlet}
 
 -- the cut of a file for the wanted codes
 abbrev pub cut_of : List ℕ → (ℕ → Bool) → List ℕ
-cut_of file wanted = cut our_format file wanted
+cut_of file wanted = cut (format_of Full) file (of_codes wanted)
 
 -- the form in which an accepted file is its own cut for all codes
 unfoldable pub form_in : Format → List ℕ → CutForm
 form_in R file = if is_current R file then Current else if is_old R file then Old else Not
 
 abbrev pub cut_form_of : List ℕ → CutForm
-cut_form_of file = form_in our_format file
+cut_form_of file = form_in (format_of Full) file
 
 -- a form says whether an accepted file is current, or an old cut, or neither
 pub record IsFormOf (file : List ℕ) (form : CutForm) : Type 0 where
-  pub current : (form ≡ Current) ↔ IsCurrent our_format file
-  pub old : (form ≡ Old) ↔ IsOld our_format file
-  pub neither : (form ≡ Not) ↔ ¬ IsCut our_format file
+  pub current : (form ≡ Current) ↔ IsCurrent (format_of Full) file
+  pub old : (form ≡ Old) ↔ IsOld (format_of Full) file
+  pub neither : (form ≡ Not) ↔ ¬ IsCut (format_of Full) file
 
 -- a file is a cut of another for the wanted codes, in some form
 abbrev pub IsCutOf : List ℕ → (ℕ → Bool) → List ℕ → Type 0
-IsCutOf file wanted made = Writes our_format (content (our_format.font file) wanted) made
+IsCutOf file wanted made = Writes (format_of Full) (content ((format_of Full).font file) (of_codes wanted)) made
 
 -- a file is a cut of another for some codes, in some form
 abbrev pub IsCutForSome : List ℕ → List ℕ → Type 0
@@ -73,5 +75,5 @@ pub record IsSound (file : List ℕ) (wanted : ℕ → Bool) (made : List ℕ) :
   pub kept :
       (c : ℕ) → wanted c ≡ true → (g : ℕ) → Reach (outline_of file) (nat_eq (map_of file c)) g →
       outline_of made g ≡ padded (outline_of file g)
-  pub cut_form : IsCurrent our_format made
+  pub cut_form : IsCurrent (format_of Full) made
   pub cuts : (others : ℕ → Bool) → cut_of made others ≡ cut_of file (λ c. wanted c && others c)

@@ -6,14 +6,14 @@ use Rattle.font_glyph.specs.Marks.{has}
 use Rattle.codes.specs.CharacterMap.{is_mapped, restricted}
 use Rattle.font_tables.specs.Fields.{glyph_count_of}
 use Rattle.font_variations.specs.Gvar.{data_of}
-use Rattle.font_theory.specs.Content.{is_seed, Content, table_read}
+use Rattle.font_theory.specs.Content.{is_seed, table_in_slot, Content}
+use Rattle.font_theory.specs.Parted.{pairs_in}
 use Rattle.font_theory.specs.Cut.{Format}
-use Rattle.font_theory.specs.Kinds.{fault_of}
-use Rattle.font_theory.specs.LayoutCut.{gsub_of, layout_fault}
+use Rattle.font_theory.specs.Closed.{is_bad_layout_in}
+use Rattle.font_theory.specs.Kinds.{fault_of, gsub_as, tables_as, settings}
 use Rattle.font_theory.specs.Links.{links}
-use Rattle.font_theory.specs.VariableCut.{variable_fault, whole_gsub_of}
 use Rattle.font_theory.specs.declared.kinds.Kind.{Kind}
-use Rattle.font_theory.specs.declared.kinds.Kind.TheVariants.{Full}
+use Rattle.font_theory.specs.declared.kinds.Kind.TheVariants.{Full, Layout, Lean, Variable}
 use Rattle.font_write.specs.declared.whole_file.FileError.{FileError}
 use Rattle.font_write.specs.declared.whole_file.FileError.TheVariants as file_errors
 use Rattle.font_write.specs.declared.whole_file.SendError.{SendError}
@@ -23,18 +23,48 @@ use Rattle.font_subset.specs.declared.cut_font.CutError.TheVariants as cut_error
 use Rattle.font_subset.specs.declared.cut_font.CutIntoError.{CutIntoError}
 use Rattle.font_subset.specs.declared.cut_font.CutIntoError.TheVariants as into_errors
 use Rattle.font_write.specs.declared.source.TheConstants.{MAX_TABLE}
-use Rattle.sfnt_bytes.specs.Directory.{slot_tag, table_of}
-use Rattle.sfnt_bytes.specs.declared.tag.TheConstants.{BASE, GDEF, GPOS, GSUB, GVAR, KERN}
-use Rattle.std.specs.Prelude.{◌≡◌, ◌≢◌, ℕ, ◌+◌, ◌<◌, ◌≤◌, ◌⊎◌, ◌↔◌, nat_lt, ◌&&◌, Bool, true, List, [], length}
-use Rattle.std.specs.Prelude.{slice_index, slice_index_or, if◌then◌else◌, Option, None, MatchOption, unwrap_or}
-use Rattle.std.specs.Option.{is_some, option_map, option_or}
-use Rattle.codes.specs.declared.code_range.CodeRange.{CodeRange}
-use Rattle.font_subset.specs.KeptGlyphs.{IsKeptSet, selected, written_of}
+use Rattle.sfnt_bytes.specs.declared.tag.TheConstants.{BASE, GDEF, GPOS, GSUB, HHEA, HMTX, KERN, VHEA, VMTX}
+use Rattle.sfnt_bytes.specs.declared.tag.TheConstants.{ALL_SLOTS, FIRST_VARIATION, SLOTS}
+use Rattle.std.specs.Prelude.{◌≡◌, ◌≢◌, ℕ, ◌+◌, ◌*◌, ◌<◌, ◌≤◌, ◌⊎◌, ◌↔◌, nat_lt, ◌&&◌, ◌||◌, Bool, false, true, List}
+use Rattle.std.specs.Prelude.{[], length, slice_index, slice_index_or, if◌then◌else◌, Option, None, IfSome}
+use Rattle.std.specs.Prelude.{MatchOption, unwrap_or, Some, nat_le}
+use Rattle.std.specs.Option.{is_some, option_or}
+use Rattle.font_theory.specs.Content.{Wanted}
+use Rattle.font_subset.specs.CutOfKind.{closed_of}
+use Rattle.font_subset.specs.KeptGlyphs.{Asked, IsKeptSet, selected, written_of, AreVariationsIn}
+use Rattle.sfnt_bytes.specs.Lines.{first_of_lines}
+use Rattle.sfnt_bytes.specs.Refusals.{tag_lines}
+use Rattle.sfnt_bytes.specs.declared.directory.DirError.{DirError}
 
 -- the n glyphs from a given one on are marked, beside those that were
 pub record AreMarked (old new : List Bool) (low n : ℕ) : Type 0 where
   pub count : length new ≡ length old
   pub marked : (g : ℕ) → has new g ≡ true ↔ ((low ≤ g) × (g < low + n)) ⊎ (has old g ≡ true)
+
+-- a number is one from a given one on, below another
+abbrev pub is_between : ℕ → ℕ → ℕ → Bool
+is_between low high g = nat_le low g && nat_lt g high
+
+-- beside those that were, the glyphs are marked that are wanted by number and are there
+pub record AreNumbered (there glyphs : ℕ → Bool) (old new : List Bool) : Type 0 where
+  pub count : length new ≡ length old
+  pub marked : (g : ℕ) → has new g ≡ (has old g || (glyphs g && there g))
+
+-- a table of metrics that has so many pairs is that of a font for cuts of a kind, or there is none that its header
+-- describes; then there are no pairs
+pub record AreMetricsOf (kind : Kind) (file : List ℕ) (header slot : ℕ) (table : List ℕ) (pairs : ℕ) : Type 0 where
+  pub few : pairs ≤ glyph_count_of file
+  pub room : 0 < pairs → 2 * (pairs + glyph_count_of file) ≤ length table
+  pub pairs_are : pairs ≡ pairs_in (tables_as kind file) header slot
+  pub table_is : 0 < pairs → table ≡ table_in_slot (tables_as kind file) slot
+
+-- what tells which glyphs of a font are there: its tables of metrics, each with the number of its pairs
+pub record IsPresence (kind : Kind) (file : List ℕ) (across : List ℕ) (pairs : ℕ) (down : List ℕ) (rows : ℕ)
+    : Type 0 where
+  pub accepted : fault_of kind file ≡ None
+  pub numbered : kind ≢ Full
+  pub across_are : AreMetricsOf kind file HHEA HMTX across pairs
+  pub down_are : AreMetricsOf kind file VHEA VMTX down rows
 
 -- .notdef and the glyphs of the wanted codes are marked
 pub record IsSeedSet (file : List ℕ) (wanted : ℕ → Bool) (marks : List Bool) : Type 0 where
@@ -73,7 +103,7 @@ pub record AreCopied (from : List ℕ) (at size : ℕ) (old new : List ℕ) : Ty
   pub outside : (j : ℕ) → (j < at) ⊎ (at + size ≤ j) → slice_index new j ≡ slice_index old j
 
 -- for each glyph that is selected its data in a `gvar`, and nothing for the others
-pub record AreKeptData (cut : Kind × (List ℕ × Option (List CodeRange))) (gvar : List ℕ) (listed : List (List ℕ))
+pub record AreKeptData (cut : Kind × (List ℕ × Asked)) (gvar : List ℕ) (listed : List (List ℕ))
     : Type 0 where
   pub count : length listed ≡ glyph_count_of cut.1.0
   pub each :
@@ -81,45 +111,69 @@ pub record AreKeptData (cut : Kind × (List ℕ × Option (List CodeRange))) (gv
       ≡ if is_some ((selected cut).outline g) then data_of gvar g else []
 
 -- the table of a slot that a cut of a kind has anew, or none where it has that of the font
-pub record IsMadeTable (cut : Kind × (List ℕ × Option (List CodeRange))) (slot : ℕ)
+pub record IsMadeTable (cut : Kind × (List ℕ × Asked)) (slot : ℕ)
     (table : Option (List ℕ)) : Type 0 where
   pub is : option_or table ((selected cut).copied slot) ≡ (written_of cut).copied slot
   pub small : length (unwrap_or table []) ≤ MAX_TABLE
+
+-- the glyphs of what is wanted, closed under the links of a GSUB, are marked
+pub record AreClosedMarks (kind : Kind) (file : List ℕ) (wanted : Wanted) (marks : List Bool) : Type 0 where
+  pub count : length marks ≡ glyph_count_of file
+  pub glyphs :
+      (g : ℕ) → g < glyph_count_of file → has marks g ≡ (closed_of kind file wanted).glyphs g
 
 -- what each number leads to by the links of a GSUB is listed
 pub record AreLinksOf (gsub : List ℕ) (listed : List (List ℕ)) : Type 0 where
   pub few : length listed ≤ 65536
   pub each : (g : ℕ) → slice_index_or listed g [] ≡ links gsub g
 
--- what is kept of a font that was opened for layout cuts: its tables of layout without what varies, and links
-pub record IsOpenedLayout (file : List ℕ) (base gdef gpos gsub kern : Option (List ℕ))
-    (listed : List (List ℕ)) : Type 0 where
-  pub accepted : layout_fault file ≡ None
-  pub base_is : base ≡ table_read file BASE
-  pub gdef_is : gdef ≡ table_read file GDEF
-  pub gpos_is : gpos ≡ table_read file GPOS
-  pub gsub_is : gsub ≡ table_read file GSUB
-  pub kern_is : kern ≡ table_read file KERN
-  pub links_are : AreLinksOf (gsub_of file) listed
+-- where cuts are closed under links, these are listed, and the GSUB that has them can be read
+abbrev pub AreLinksToFollow : Kind → List ℕ → Option (List (List ℕ)) → Type 0
+AreLinksToFollow kind file listed =
+    IfSome listed (λ links. (is_bad_layout_in (tables_as kind file) ≡ false) × AreLinksOf (gsub_as kind file) links)
 
--- the `gvar` of a font, and the number of its glyphs, or none where there is no such table
-abbrev pub AreVariationsOf : List ℕ → Option (List ℕ × ℕ) → Type 0
-AreVariationsOf file variations =
-    variations ≡ option_map (λ gvar. (gvar, glyph_count_of file)) (table_of file (slot_tag GVAR))
+-- the refusal, by the directory, of the tables of layout and of variations that cuts of a kind read
+abbrev pub tags_fault : Kind → List ℕ → Option DirError
+tags_fault kind file = first_of_lines (tag_lines (settings kind).tags file)
 
--- what is kept of a font that was opened for variable cuts: links, and its `gvar`
-pub record IsOpenedVariable (file : List ℕ) (listed : List (List ℕ)) (variations : Option (List ℕ × ℕ))
-    : Type 0 where
-  pub accepted : variable_fault file ≡ None
-  pub links_are : AreLinksOf (whole_gsub_of file) listed
-  pub variations_are : AreVariationsOf file variations
+-- the slot after the last one that cuts of a kind read
+abbrev pub slots_of : Kind → ℕ
+slots_of Full = SLOTS
+slots_of Lean = SLOTS
+slots_of Layout = FIRST_VARIATION
+slots_of Variable = ALL_SLOTS
+
+-- the file whose tables of layout are read without what varies, where cuts of a kind read them so
+abbrev pub fixed_read : Kind → List ℕ → Option (List ℕ)
+fixed_read Full file = None
+fixed_read Lean file = None
+fixed_read Layout file = Some file
+fixed_read Variable file = None
+
+-- these tables of a file
+pub record AreFixed (file : List ℕ) (base gdef gpos gsub kern : Option (List ℕ)) : Type 0 where
+  pub base_is : base ≡ tables_as Layout file BASE
+  pub gdef_is : gdef ≡ tables_as Layout file GDEF
+  pub gpos_is : gpos ≡ tables_as Layout file GPOS
+  pub gsub_is : gsub ≡ tables_as Layout file GSUB
+  pub kern_is : kern ≡ tables_as Layout file KERN
+
+-- what is read of the tables of layout and of variations of a file
+pub record IsRead (kind : Kind) (file : List ℕ) (fixed : Option (List ℕ)) : Type 0 where
+  pub inside : tags_fault kind file ≡ None
+  pub fixed_is : fixed ≡ fixed_read kind file
+
+-- what is held of a font that was opened for cuts of a kind: its `gvar`
+pub record IsOpened (kind : Kind) (file : List ℕ) (variations : Option (List ℕ × ℕ)) : Type 0 where
+  pub accepted : fault_of kind file ≡ None
+  pub variations_are : AreVariationsIn kind file variations
 
 -- the font that a cut of a kind was opened for, which a full cut needs not
 abbrev pub IsOpenedFor : Kind → List ℕ → Option (Kind × List ℕ) → Type 0
 IsOpenedFor kind file opened = MatchOption opened (kind ≡ Full) (λ held. held ≡ (kind, file))
 
--- what is held of a font for some codes: it was opened for a kind, and what a cut keeps is marked
-pub record IsSelected (kind : Kind) (file : List ℕ) (opened : Option (Kind × List ℕ)) (wanted : ℕ → Bool)
+-- what is held of a font for what is wanted: it was opened for a kind, and what a cut keeps is marked
+pub record IsSelected (kind : Kind) (file : List ℕ) (opened : Option (Kind × List ℕ)) (wanted : Wanted)
     (marks : List Bool) : Type 0 where
   pub accepted : fault_of kind file ≡ None
   pub opened_for : IsOpenedFor kind file opened

@@ -1,5 +1,6 @@
--- The glyphs that a cut keeps, as marks (OpenType 1.9, GSUB; glyf, Composite Glyph Description).
-use Rattle.std.specs.Prelude.{◌≡◌, ℕ, Bool, List, length, Option, None, Some}
+-- The glyphs that a cut keeps, as marks (OpenType 1.9, glyf, Composite Glyph Description).
+use Rattle.std.specs.Prelude.{◌≡◌, ℕ, nat_eq, Bool, true, List, [], length, Option, None, Some}
+use Rattle.std.specs.List.{filter, list_any, range_with_len}
 use Rattle.std.specs.Option.{option_map}
 use Rattle.sfnt_bytes.specs.declared.tag.TheConstants.{GVAR}
 use Rattle.codes.specs.CharacterMap.{restricted}
@@ -8,53 +9,69 @@ use Rattle.codes.specs.declared.code_range.CodeRange.{CodeRange}
 use Rattle.font_glyph.specs.Marks.{has}
 use Rattle.font_tables.specs.Fields.{glyph_count_of}
 use Rattle.font_file.specs.Font.{map_of}
-use Rattle.font_theory.specs.Content.{Content, content, everything, is_kept, is_root}
+use Rattle.font_theory.specs.Content.{Content, Wanted, content, is_kept, is_root}
 use Rattle.font_theory.specs.Kinds.{font_as, format_of, spelled_by, tables_as}
 use Rattle.font_theory.specs.declared.kinds.Kind.{Kind}
-use Rattle.font_theory.specs.declared.kinds.Kind.TheVariants.{Full, Layout, Lean, Variable}
+
+-- what is asked for
+pub record Asked : Type 0 where
+  pub ranges : Option (List CodeRange)  -- the codes in some ranges, or all
+  pub numbers : Option (List ℕ)  -- the glyphs of some numbers, or all
+
+-- the codes in some ranges, or all, and the glyphs of some numbers, or all
+abbrev pub asked : Option (List CodeRange) → Option (List ℕ) → Asked
+asked ranges numbers = record { ranges = ranges; numbers = numbers }
+
+-- all codes and all glyphs
+abbrev pub all_asked : Asked
+all_asked = asked None None
+
+-- codes alone
+abbrev pub codes_asked : Option (List CodeRange) → Asked
+codes_asked ranges = asked ranges (Some [])
 
 -- the wanted codes: those in some ranges, or all
 abbrev pub codes_wanted : Option (List CodeRange) → ℕ → Bool
-codes_wanted None = everything
+codes_wanted None = λ _. true
 codes_wanted (Some ranges) = member ranges
+
+-- the wanted glyphs: those of some numbers, or all
+abbrev pub glyphs_wanted : Option (List ℕ) → ℕ → Bool
+glyphs_wanted None = λ _. true
+glyphs_wanted (Some numbers) = λ g. list_any (λ h. nat_eq h g) numbers
+
+-- the numbers below a count at which a test is true, ascending
+abbrev pub numbers_in : (ℕ → Bool) → ℕ → List ℕ
+numbers_in test count = filter test (range_with_len 0 count)
+
+-- what is wanted
+abbrev pub wanted_in : Asked → Wanted
+wanted_in asked = record { codes = codes_wanted asked.ranges; glyphs = glyphs_wanted asked.numbers }
 
 -- the character map of a file on the wanted codes
 abbrev pub wanted_map : List ℕ → Option (List CodeRange) → ℕ → ℕ
 wanted_map file wanted = restricted (codes_wanted wanted) (map_of file)
 
--- the roots of a cut of a kind are marked: what links lead to from .notdef and the glyphs of the wanted codes
-pub record IsRootSet (kind : Kind) (file : List ℕ) (wanted : ℕ → Bool) (marks : List Bool) : Type 0 where
+-- the roots of a cut of a kind are marked: .notdef, the glyphs of the wanted codes, and the wanted glyphs that are
+-- there
+pub record IsRootSet (kind : Kind) (file : List ℕ) (wanted : Wanted) (marks : List Bool) : Type 0 where
   pub count : length marks ≡ glyph_count_of file
-  pub roots : (g : ℕ) → has marks g ≡ is_root (tables_as kind file) (restricted wanted (map_of file)) g
+  pub roots : (g : ℕ) → has marks g ≡ is_root (font_as kind file) wanted g
 
 -- the glyphs that a cut of a kind keeps are marked
-pub record IsKeptSet (kind : Kind) (file : List ℕ) (wanted : ℕ → Bool) (marks : List Bool) : Type 0 where
+pub record IsKeptSet (kind : Kind) (file : List ℕ) (wanted : Wanted) (marks : List Bool) : Type 0 where
   pub count : length marks ≡ glyph_count_of file
   pub kept : (g : ℕ) → has marks g ≡ is_kept (font_as kind file) wanted g
-
--- the file whose tables of layout are read, without what varies: for layout cuts alone
-abbrev pub layout_read : Kind → List ℕ → Option (List ℕ)
-layout_read Full file = None
-layout_read Lean file = None
-layout_read Layout file = Some file
-layout_read Variable file = None
-
--- the file whose tables of layout and of variations are read, each as it is: for variable cuts alone
-abbrev pub variations_read : Kind → List ℕ → Option (List ℕ)
-variations_read Full file = None
-variations_read Lean file = None
-variations_read Layout file = None
-variations_read Variable file = Some file
 
 -- the `gvar` that cuts of a kind read of a file, and the number of its glyphs, or none
 abbrev pub AreVariationsIn : Kind → List ℕ → Option (List ℕ × ℕ) → Type 0
 AreVariationsIn kind file variations =
     variations ≡ option_map (λ gvar. (gvar, glyph_count_of file)) (tables_as kind file GVAR)
 
--- what is selected of a file for some codes, as cuts of a kind read it
-abbrev pub selected : Kind × (List ℕ × Option (List CodeRange)) → Content
-selected cut = content (font_as cut.0 cut.1.0) (codes_wanted cut.1.1)
+-- what is selected of a file for what is asked, as cuts of a kind read it
+abbrev pub selected : Kind × (List ℕ × Asked) → Content
+selected cut = content (font_as cut.0 cut.1.0) (wanted_in cut.1.1)
 
--- the content that the cut of a file for some codes is written as, of a kind
-unfoldable pub written_of : Kind × (List ℕ × Option (List CodeRange)) → Content
-written_of cut = spelled_by cut.0 (content ((format_of cut.0).font cut.1.0) (codes_wanted cut.1.1))
+-- the content that the cut of a file for what is asked is written as, of a kind
+unfoldable pub written_of : Kind × (List ℕ × Asked) → Content
+written_of cut = spelled_by cut.0 (content ((format_of cut.0).font cut.1.0) (wanted_in cut.1.1))

@@ -2,9 +2,6 @@ pub mod KeptGlyphs
 pub mod CutOfFont
 pub mod Inside
 pub mod CutOfKind
-pub mod LayoutCutOfFont
-pub mod LeanCutOfFont
 pub mod ListedRuns
 pub mod OpenedFont
 pub mod Text
-pub mod VariableCutOfFont

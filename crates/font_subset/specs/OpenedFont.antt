@@ -1,24 +1,43 @@
 -- Why a font is not opened for cuts of a kind, this project's own.
-use Rattle.std.specs.Prelude.{◌≡◌, ◌≢◌, ℕ, List, Some}
-use Rattle.font_theory.specs.Kinds.{fault_of}
-use Rattle.font_theory.specs.LayoutCut.{layout_fault}
+use Rattle.std.specs.Prelude.{◌≡◌, ◌≢◌, ℕ, Bool, if◌then◌else◌, List, [], ◌∷◌, Option, Some}
+use Rattle.std.specs.Option.{option_map}
+use Rattle.sfnt_bytes.specs.Lines.{first_of_lines, when}
+use Rattle.sfnt_bytes.specs.Refusals.{tag_lines}
+use Rattle.font_file.specs.Font.{font_fault}
+use Rattle.font_file.specs.declared.font_error.FontError.{FontError}
+use Rattle.font_file.specs.declared.font_error.FontError.TheVariants.{BadLayout, BadVariations, Directory}
+use Rattle.font_theory.specs.Closed.{is_bad_layout_in}
+use Rattle.font_theory.specs.Content.{is_bad_variations_in}
+use Rattle.font_theory.specs.Kinds.{fault_of, settings, tables_as}
 use Rattle.font_theory.specs.declared.kinds.Kind.{Kind}
-use Rattle.font_theory.specs.VariableCut.{variable_fault}
-use Rattle.font_theory.specs.declared.kinds.Kind.TheVariants.{Full, Lean}
-use Rattle.font_subset.specs.declared.layout_font.OpenError.{OpenError}
-use Rattle.font_subset.specs.declared.layout_font.OpenError.TheVariants.{NoMemory, Refused}
+use Rattle.font_theory.specs.declared.kinds.Kind.TheVariants.{Full, Layout, Lean}
+use Rattle.font_subset.specs.declared.open_error.OpenError.{OpenError}
+use Rattle.font_subset.specs.declared.open_error.OpenError.TheVariants.{NoMemory, Refused}
 
--- of layout cuts: memory is refused, or the file is
-abbrev pub IsLayoutRefusal : List ℕ → OpenError → Type 0
-IsLayoutRefusal file NoMemory = Unit {0}
-IsLayoutRefusal file (Refused error) = layout_fault file ≡ Some error
+-- memory is refused, which is asked for where tables of layout are read without what varies, or the file is
+abbrev pub IsOpenRefusal : Kind → List ℕ → OpenError → Type 0
+IsOpenRefusal kind file NoMemory = kind ≡ Layout
+IsOpenRefusal kind file (Refused error) = fault_of kind file ≡ Some error
 
--- of variable cuts
-abbrev pub IsVariableRefusal : List ℕ → OpenError → Type 0
-IsVariableRefusal file NoMemory = Unit {0}
-IsVariableRefusal file (Refused error) = variable_fault file ≡ Some error
+-- the refusals of a file for cuts that are closed under links, in their order: of the font, of the directory, of
+-- `GSUB`, which no other call reads, and of `gvar`
+abbrev pub closing_lines : Kind → List ℕ → List (Option FontError)
+closing_lines kind file =
+    font_fault file
+    ∷ option_map Directory (first_of_lines (tag_lines (settings kind).tags file))
+    ∷ when (is_bad_layout_in (tables_as kind file)) BadLayout
+    ∷ when (is_bad_variations_in (tables_as kind file)) BadVariations
+    ∷ []
+
+-- the first that applies
+unfoldable pub closing_fault : Kind → List ℕ → Option FontError
+closing_fault kind file = first_of_lines (closing_lines kind file)
+
+-- why a file is refused for cuts of a kind, which are closed under links or not
+abbrev pub cutting_fault : Bool → Kind → List ℕ → Option FontError
+cutting_fault closes kind file = if closes then closing_fault kind file else fault_of kind file
 
 -- memory is refused, which is asked for where tables of layout are read, or the file is
-abbrev pub IsOpenRefusal : Kind → List ℕ → OpenError → Type 0
-IsOpenRefusal kind file NoMemory = (kind ≢ Full) × (kind ≢ Lean)
-IsOpenRefusal kind file (Refused error) = fault_of kind file ≡ Some error
+abbrev pub IsCuttingRefusal : Bool → Kind → List ℕ → OpenError → Type 0
+IsCuttingRefusal closes kind file NoMemory = (kind ≢ Full) × (kind ≢ Lean)
+IsCuttingRefusal closes kind file (Refused error) = cutting_fault closes kind file ≡ Some error

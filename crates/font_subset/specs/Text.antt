@@ -6,8 +6,8 @@ use Rattle.font_subset.specs.declared.cut_font.CutError.{CutError}
 use Rattle.font_subset.specs.declared.cut_font.CutError.TheVariants as cut_errors
 use Rattle.font_subset.specs.declared.cut_font.CutIntoError.{CutIntoError}
 use Rattle.font_subset.specs.declared.cut_font.CutIntoError.TheVariants as into_errors
-use Rattle.font_subset.specs.declared.layout_font.OpenError.{OpenError}
-use Rattle.font_subset.specs.declared.layout_font.OpenError.TheVariants as open_errors
+use Rattle.font_subset.specs.declared.open_error.OpenError.{OpenError}
+use Rattle.font_subset.specs.declared.open_error.OpenError.TheVariants as open_errors
 
 -- that of a cut in memory
 abbrev pub cut_error_number : CutError → ℕ

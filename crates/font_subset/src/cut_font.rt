@@ -1,17 +1,19 @@
 //! The cut of a font for a wanted set, in memory or sent: a font file in its turn. OpenType 1.9,
 //! Organization of an OpenType Font.
-ghost use Rattle.std.specs.Prelude.{◌≡◌, ◌≤◌, length, false, true, IfErr, IfOk, IsSome, MatchResult, OnOk};
+ghost use Rattle.std.specs.Prelude.{◌≡◌, ◌≤◌, length, false, true, IfErr, IfOk, IsSome, MatchResult, OnOk, Some, option_copied};
 ghost use Rattle.sfnt_bytes.specs.declared.directory.TheConstants.{MAX_FILE};
 ghost use Rattle.codes.specs.Wanted.{member};
 ghost use Rattle.font_subset.specs.CutOfFont.{IsCutRefusal, IsSound, IsWritten, StopsCut, cut_of};
 ghost use Rattle.font_subset.specs.Inside.{of_file_error, of_send_error};
-ghost use Rattle.font_subset.specs.CutOfKind.{IsSoundIn, cut_in};
+ghost use Rattle.font_subset.specs.CutOfKind.{IsSoundCut, IsSoundIn, cut_as, cut_in};
+ghost use Rattle.font_subset.specs.KeptGlyphs.{asked, wanted_in};
 ghost use Rattle.streams.specs.Outlet.{HasSent, WentOut, broken_of, fresh_of, writer_of};
 ghost use Rattle.font_subset.specs.declared.cut_font.CutError.TheVariants.{NoMemory as CutNoMemory};
 ghost use Rattle.font_subset.specs.declared.cut_font.CutIntoError.TheVariants.{NoMemory as IntoNoMemory};
 ghost use Rattle.font_subset.specs.Text.{cut_error_number, cut_into_error_number};
 
 use crate::font_of_kind::FontOfKind;
+use crate::font_to_cut::{FontToCut, numbers_of};
 use crate::kind_source::CutOfKind;
 use font_file::Font;
 use font_map::Wanted;
@@ -114,17 +116,60 @@ impl From<SendError> for CutIntoError {
 fn cut_exactly<A: Allocator + Copy>(
     alloc: A,
     font: &FontOfKind<'_, '_, A>,
-    wanted: &Wanted<A>,
+    codes: Option<&Wanted<A>>,
+    glyphs: Option<&[u16]>,
 ) -> Result<Vec<u8, A>, CutError>
-    ensures { MatchResult result (λ v. IsWritten (cut_in font.now.0 font.now.1 (member wanted.now)) v.items)
-        (IsCutRefusal (cut_in font.now.0 font.now.1 (member wanted.now))) }
+    ensures { MatchResult result (λ v. IsWritten (cut_in font.now.0 font.now.1
+        (wanted_in (asked (option_copied codes.entry) (option_copied glyphs.entry)))) v.items)
+        (IsCutRefusal (cut_in font.now.0 font.now.1
+        (wanted_in (asked (option_copied codes.entry) (option_copied glyphs.entry))))) }
 {
-    let source = CutOfKind::new(alloc, font, Some(wanted))?;
+    let source = CutOfKind::new(alloc, font, codes, glyphs)?;
     Ok(file_in_memory(alloc, &source)?)
 }
 
-/// Returns the cut of a font for the wanted codes, of a kind, as one file in a vector of just its size. Every
-/// glyph keeps its number.
+// Returns the cut of a font for the wanted codes, or for all where no set is given, and for the glyphs of these numbers, or
+// for all where no list is given, of a kind. No links are followed.
+fn exact_cut<A: Allocator + Copy>(
+    alloc: A,
+    font: &FontOfKind<'_, '_, A>,
+    codes: Option<&Wanted<A>>,
+    glyphs: Option<&[u16]>,
+) -> Result<Vec<u8, A>, CutError>
+    ensures exact { MatchResult result (λ v. v.items ≡ cut_in font.now.0 font.now.1
+        (wanted_in (asked (option_copied codes.entry) (option_copied glyphs.entry))))
+        (IsCutRefusal (cut_in font.now.0 font.now.1
+        (wanted_in (asked (option_copied codes.entry) (option_copied glyphs.entry))))) }
+    ensures small { IfOk result (λ v. length v.items ≤ MAX_FILE) }
+    ensures sound { IfOk result (λ v. IsSoundIn font.now.0 font.now.1
+        (wanted_in (asked (option_copied codes.entry) (option_copied glyphs.entry))) v.items) }
+{
+    let _kind = font.kind();
+    cut_exactly(alloc, font, codes, glyphs)
+}
+
+// Returns the cut of an opened font, or the refusal that applies.
+fn cut_of_opened<A: Allocator + Copy>(
+    alloc: A,
+    font: &FontToCut<'_, '_, A>,
+    codes: Option<&Wanted<A>>,
+    glyphs: Option<&[u16]>,
+) -> Result<Vec<u8, A>, CutError>
+    ensures { MatchResult result (λ v. IsWritten (cut_as font.now
+        (wanted_in (asked (option_copied codes.entry) (option_copied glyphs.entry)))) v.items)
+        (IsCutRefusal (cut_as font.now
+        (wanted_in (asked (option_copied codes.entry) (option_copied glyphs.entry))))) }
+{
+    let numbers = font.numbers(alloc, codes, glyphs)?;
+    cut_exactly(alloc, font.font(), codes, numbers_of(&numbers))
+}
+
+/// Returns the cut of a font for the wanted codes, or for all where no set is given, and for the glyphs of these numbers,
+/// or for all where no list is given, of the kind for which it was opened, as one file in a vector of just its size. Every
+/// glyph keeps its number. Numbers of glyphs that are not there do not count, nor do numbers at all in full cuts.
+///
+/// Where the font was opened for cuts that are closed, the cut has all that links of `GSUB` lead to from there: what a
+/// shaper may put for text of these codes, in whatever order and with whatever features.
 ///
 /// # Errors
 ///
@@ -137,21 +182,26 @@ fn cut_exactly<A: Allocator + Copy>(
 /// ```
 /// let font = Font::open(&BASE6)?;
 /// let wanted = wanted_of(rt.alloc(), &[(0xC1, 0xC1)])?;
-/// let made = cut_of_kind(rt.alloc(), &FontOfKind::lean(&font), &wanted)?;
+/// let lean = FontToCut::open(rt.alloc(), Kind::Lean, false, &font)?;
+/// let made = cut_of_kind(rt.alloc(), &lean, Some(&wanted), Some(&[]))?;
 /// assert_eq!(rt; made.as_slice(), LEAN_AACUTE.as_slice());
 /// ```
 pub fn cut_of_kind<A: Allocator + Copy>(
     alloc: A,
-    font: &FontOfKind<'_, '_, A>,
-    wanted: &Wanted<A>,
+    font: &FontToCut<'_, '_, A>,
+    codes: Option<&Wanted<A>>,
+    glyphs: Option<&[u16]>,
 ) -> Result<Vec<u8, A>, CutError>
-    ensures exact { MatchResult result (λ v. v.items ≡ cut_in font.now.0 font.now.1 (member wanted.now))
-        (IsCutRefusal (cut_in font.now.0 font.now.1 (member wanted.now))) }
+    ensures exact { MatchResult result (λ v. v.items ≡ cut_as font.now
+        (wanted_in (asked (option_copied codes.entry) (option_copied glyphs.entry))))
+        (IsCutRefusal (cut_as font.now
+        (wanted_in (asked (option_copied codes.entry) (option_copied glyphs.entry))))) }
     ensures small { IfOk result (λ v. length v.items ≤ MAX_FILE) }
-    ensures sound { IfOk result (λ v. IsSoundIn font.now.0 font.now.1 (member wanted.now) v.items) }
+    ensures sound { IfOk result (λ v. IsSoundCut font.now
+        (wanted_in (asked (option_copied codes.entry) (option_copied glyphs.entry))) v.items) }
 {
-    let _kind = font.kind();
-    cut_exactly(alloc, font, wanted)
+    let _opened = font.font();
+    cut_of_opened(alloc, font, codes, glyphs)
 }
 
 /// Returns the cut of a font for the wanted codes, as one file in a vector of just its size. Every glyph
@@ -182,58 +232,123 @@ pub fn cut<A: Allocator + Copy>(
     ensures small { IfOk result (λ v. length v.items ≤ MAX_FILE) }
     ensures sound { IfOk result (λ v. IsSound font.now (member wanted.now) v.items) }
 {
-    cut_of_kind(alloc, &FontOfKind::full(font), wanted)
+    exact_cut(alloc, &FontOfKind::full(font), Some(wanted), Some(&[]))
 }
 
 // Sends the cut of a kind, or answers the refusal that applies.
 fn cut_into_exactly<W: Write, A: Allocator + Copy>(
     alloc: A,
     font: &FontOfKind<'_, '_, A>,
-    wanted: &Wanted<A>,
+    codes: Option<&Wanted<A>>,
+    glyphs: Option<&[u16]>,
     out: &mut Outlet<W>,
 ) -> Result<u64, CutIntoError>
     requires { fresh_of out.old ≡ true }
-    ensures size { IfOk result (λ size. size ≡ length (cut_in font.now.0 font.now.1 (member wanted.now))) }
-    ensures small { OnOk result (length (cut_in font.now.0 font.now.1 (member wanted.now)) ≤ MAX_FILE) }
+    ensures size { IfOk result (λ size. size ≡ length (cut_in font.now.0 font.now.1
+        (wanted_in (asked (option_copied codes.entry) (option_copied glyphs.entry))))) }
+    ensures small { OnOk result (length (cut_in font.now.0 font.now.1
+        (wanted_in (asked (option_copied codes.entry) (option_copied glyphs.entry)))) ≤ MAX_FILE) }
     ensures sends { OnOk result
-        (WentOut W.contents out.old out.new (cut_in font.now.0 font.now.1 (member wanted.now))) }
+        (WentOut W.contents out.old out.new (cut_in font.now.0 font.now.1
+        (wanted_in (asked (option_copied codes.entry) (option_copied glyphs.entry))))) }
     ensures unbroken { OnOk result (broken_of out.new ≡ false) }
     ensures stops { IfErr result
-        (StopsCut W.contents out.old out.new (cut_in font.now.0 font.now.1 (member wanted.now))) }
+        (StopsCut W.contents out.old out.new (cut_in font.now.0 font.now.1
+        (wanted_in (asked (option_copied codes.entry) (option_copied glyphs.entry))))) }
 {
-    let source = CutOfKind::new(alloc, font, Some(wanted))?;
+    let source = CutOfKind::new(alloc, font, codes, glyphs)?;
     Ok(send_whole(&source, out)?)
 }
 
-/// Sends the cut of a font for the wanted codes, of a kind, and returns its length. All memory is asked for
-/// before the first write: that for the glyphs that it keeps and for the tables that it has anew, and none
-/// for the cut itself.
+// Sends the same.
+fn exact_cut_into<W: Write, A: Allocator + Copy>(
+    alloc: A,
+    font: &FontOfKind<'_, '_, A>,
+    codes: Option<&Wanted<A>>,
+    glyphs: Option<&[u16]>,
+    out: &mut Outlet<W>,
+) -> Result<u64, CutIntoError>
+    requires { fresh_of out.old ≡ true }
+    ensures size { IfOk result (λ size. size ≡ length (cut_in font.now.0 font.now.1
+        (wanted_in (asked (option_copied codes.entry) (option_copied glyphs.entry))))) }
+    ensures small { OnOk result (length (cut_in font.now.0 font.now.1
+        (wanted_in (asked (option_copied codes.entry) (option_copied glyphs.entry)))) ≤ MAX_FILE) }
+    ensures sent { OnOk result (IsSome (W.contents (writer_of out.old)) →
+        HasSent W.contents out.new (cut_in font.now.0 font.now.1
+        (wanted_in (asked (option_copied codes.entry) (option_copied glyphs.entry))))) }
+    ensures sends { OnOk result
+        (WentOut W.contents out.old out.new (cut_in font.now.0 font.now.1
+        (wanted_in (asked (option_copied codes.entry) (option_copied glyphs.entry))))) }
+    ensures unbroken { OnOk result (broken_of out.new ≡ false) }
+    ensures stops { IfErr result
+        (StopsCut W.contents out.old out.new (cut_in font.now.0 font.now.1
+        (wanted_in (asked (option_copied codes.entry) (option_copied glyphs.entry))))) }
+    ensures sound { OnOk result
+        (IsSoundIn font.now.0 font.now.1
+        (wanted_in (asked (option_copied codes.entry) (option_copied glyphs.entry)))
+        (cut_in font.now.0 font.now.1
+        (wanted_in (asked (option_copied codes.entry) (option_copied glyphs.entry))))) }
+{
+    let _kind = font.kind();
+    cut_into_exactly(alloc, font, codes, glyphs, out)
+}
+
+// Sends the cut of an opened font, or answers the refusal that applies.
+fn send_of_opened<W: Write, A: Allocator + Copy>(
+    alloc: A,
+    font: &FontToCut<'_, '_, A>,
+    codes: Option<&Wanted<A>>,
+    glyphs: Option<&[u16]>,
+    out: &mut Outlet<W>,
+) -> Result<u64, CutIntoError>
+    requires { fresh_of out.old ≡ true }
+    ensures size { IfOk result (λ size. size ≡ length (cut_as font.now
+        (wanted_in (asked (option_copied codes.entry) (option_copied glyphs.entry))))) }
+    ensures small { OnOk result (length (cut_as font.now
+        (wanted_in (asked (option_copied codes.entry) (option_copied glyphs.entry)))) ≤ MAX_FILE) }
+    ensures sends { OnOk result (WentOut W.contents out.old out.new (cut_as font.now
+        (wanted_in (asked (option_copied codes.entry) (option_copied glyphs.entry))))) }
+    ensures unbroken { OnOk result (broken_of out.new ≡ false) }
+    ensures stops { IfErr result (StopsCut W.contents out.old out.new (cut_as font.now
+        (wanted_in (asked (option_copied codes.entry) (option_copied glyphs.entry))))) }
+{
+    let numbers = font.numbers(alloc, codes, glyphs)?;
+    cut_into_exactly(alloc, font.font(), codes, numbers_of(&numbers), out)
+}
+
+/// Sends the cut of a font for what is wanted, as [`cut_of_kind`] returns it, and returns its length. All memory is asked
+/// for before the first write: that for the glyphs that it keeps and for the tables that it has anew, and none for the
+/// cut itself.
 ///
 /// # Errors
 ///
 /// Those of [`cut_into`].
 pub fn cut_of_kind_into<W: Write, A: Allocator + Copy>(
     alloc: A,
-    font: &FontOfKind<'_, '_, A>,
-    wanted: &Wanted<A>,
+    font: &FontToCut<'_, '_, A>,
+    codes: Option<&Wanted<A>>,
+    glyphs: Option<&[u16]>,
     out: &mut Outlet<W>,
 ) -> Result<u64, CutIntoError>
     requires { fresh_of out.old ≡ true }
-    ensures size { IfOk result (λ size. size ≡ length (cut_in font.now.0 font.now.1 (member wanted.now))) }
-    ensures small { OnOk result (length (cut_in font.now.0 font.now.1 (member wanted.now)) ≤ MAX_FILE) }
+    ensures size { IfOk result (λ size. size ≡ length (cut_as font.now
+        (wanted_in (asked (option_copied codes.entry) (option_copied glyphs.entry))))) }
+    ensures small { OnOk result (length (cut_as font.now
+        (wanted_in (asked (option_copied codes.entry) (option_copied glyphs.entry)))) ≤ MAX_FILE) }
     ensures sent { OnOk result (IsSome (W.contents (writer_of out.old)) →
-        HasSent W.contents out.new (cut_in font.now.0 font.now.1 (member wanted.now))) }
-    ensures sends { OnOk result
-        (WentOut W.contents out.old out.new (cut_in font.now.0 font.now.1 (member wanted.now))) }
+        HasSent W.contents out.new (cut_as font.now
+        (wanted_in (asked (option_copied codes.entry) (option_copied glyphs.entry))))) }
+    ensures sends { OnOk result (WentOut W.contents out.old out.new (cut_as font.now
+        (wanted_in (asked (option_copied codes.entry) (option_copied glyphs.entry))))) }
     ensures unbroken { OnOk result (broken_of out.new ≡ false) }
-    ensures stops { IfErr result
-        (StopsCut W.contents out.old out.new (cut_in font.now.0 font.now.1 (member wanted.now))) }
-    ensures sound { OnOk result
-        (IsSoundIn font.now.0 font.now.1 (member wanted.now)
-        (cut_in font.now.0 font.now.1 (member wanted.now))) }
+    ensures stops { IfErr result (StopsCut W.contents out.old out.new (cut_as font.now
+        (wanted_in (asked (option_copied codes.entry) (option_copied glyphs.entry))))) }
+    ensures sound { OnOk result (IsSoundCut font.now
+        (wanted_in (asked (option_copied codes.entry) (option_copied glyphs.entry))) (cut_as font.now
+        (wanted_in (asked (option_copied codes.entry) (option_copied glyphs.entry))))) }
 {
-    let _kind = font.kind();
-    cut_into_exactly(alloc, font, wanted, out)
+    let _opened = font.font();
+    send_of_opened(alloc, font, codes, glyphs, out)
 }
 
 /// Sends the cut of a font for the wanted codes, and returns how many bytes it has. All memory is asked
@@ -272,5 +387,5 @@ pub fn cut_into<W: Write, A: Allocator + Copy>(
     ensures stops { IfErr result (StopsCut W.contents out.old out.new (cut_of font.now (member wanted.now))) }
     ensures sound { OnOk result (IsSound font.now (member wanted.now) (cut_of font.now (member wanted.now))) }
 {
-    cut_of_kind_into(alloc, &FontOfKind::full(font), wanted, out)
+    exact_cut_into(alloc, &FontOfKind::full(font), Some(wanted), Some(&[]), out)
 }

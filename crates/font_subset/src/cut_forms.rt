@@ -1,20 +1,23 @@
 //! The forms of a cut, which are this project's own: a font's file is that of its content for all codes, as
 //! it is written now or as it was written before.
-ghost use Rattle.std.specs.Prelude.{◌≡◌, ◌≤◌, length, None, IfOk, IsTrue, ◌↔◌};
+ghost use Rattle.std.specs.Prelude.{◌≡◌, ◌≤◌, length, None, Some, IfOk, IsTrue, ◌↔◌};
 ghost use Rattle.sfnt_bytes.specs.declared.directory.TheConstants.{MAX_FILE};
 ghost use Rattle.codes.specs.CharacterMap.{is_mapped};
 ghost use Rattle.codes.specs.Wanted.{member};
 ghost use Rattle.font_file.specs.Font.{map_of};
-ghost use Rattle.font_theory.specs.Cut.{IsCurrent, Under, Writes, is_current, our_format};
+ghost use Rattle.font_theory.specs.Cut.{IsCurrent, Under, Writes, is_current};
 ghost use Rattle.font_theory.specs.Content.{Content, content};
 ghost use Rattle.font_theory.specs.Kinds.{format_of, spelled_by};
+ghost use Rattle.font_theory.specs.declared.kinds.Kind.TheVariants.{Full};
 ghost use Rattle.font_subset.specs.CutOfFont.{IsCutForSome, IsFormOf, cut_form_of};
-ghost use Rattle.font_subset.specs.CutOfKind.{IsCutIn, form_as};
+ghost use Rattle.font_subset.specs.CutOfKind.{IsCutIn, form_as, own_of};
+ghost use Rattle.font_subset.specs.KeptGlyphs.{all_asked, asked, wanted_in};
 
 use crate::accepted::recall_accepted;
 use crate::font_of_kind::FontOfKind;
 use crate::forms::{CutForm, form_of_file};
 use crate::kind_source::CutOfKind;
+use crate::presence::glyphs_there;
 use crate::selection::Selection;
 use font_file::Font;
 use font_map::{Chart, Wanted};
@@ -35,7 +38,7 @@ pub fn form_of_kind<A: Allocator + Copy>(
 ) -> Result<CutForm, NoMemory>
     ensures { IfOk result (λ form. form ≡ form_as font.now.0 font.now.1) }
 {
-    let source = CutOfKind::new(alloc, font, None)?;
+    let source = CutOfKind::new(alloc, font, None, None)?;
     Ok(source.form())
 }
 
@@ -49,7 +52,7 @@ pub fn listed_form<'f, 'a, A: Allocator + Copy>(
     alloc: A,
     font: &'f FontOfKind<'f, 'a, A>,
 ) -> Result<(Selection<'f, 'a, A>, CutForm), NoMemory>
-    ensures selection { IfOk result (λ both. both.0 ≡ (font.entry.now.0, (font.entry.now.1, None))) }
+    ensures selection { IfOk result (λ both. both.0 ≡ (font.entry.now.0, (font.entry.now.1, all_asked))) }
     ensures form { IfOk result (λ both. both.1 ≡ form_as font.entry.now.0 font.entry.now.1) }
 {
     let selection = Selection::with_runs(alloc, font)?;
@@ -71,8 +74,9 @@ pub fn listed_form<'f, 'a, A: Allocator + Copy>(
 ///
 /// ```
 /// let (lean, made) = (Font::open(&LEAN_AACUTE)?, Font::open(&AACUTE)?);
+/// let base = Font::open(&BASE6)?;
 /// assert_eq!(rt; is_of_kind(rt.alloc(), &FontOfKind::lean(&lean)), Ok(true));
-/// assert_eq!(rt; is_of_kind(rt.alloc(), &FontOfKind::lean(&made)), Ok(false));
+/// assert_eq!(rt; is_of_kind(rt.alloc(), &FontOfKind::lean(&base)), Ok(false));
 /// ```
 pub fn is_of_kind<A: Allocator + Copy>(
     alloc: A,
@@ -119,8 +123,8 @@ pub fn cut_form<A: Allocator + Copy>(alloc: A, font: &Font<'_>) -> Result<CutFor
 /// assert_eq!(rt; is_cut(rt.alloc(), &font), Ok(false));
 /// ```
 pub fn is_cut<A: Allocator + Copy>(alloc: A, font: &Font<'_>) -> Result<bool, NoMemory>
-    ensures exact { IfOk result (λ b. b ≡ is_current our_format font.now) }
-    ensures form { IfOk result (λ b. IsTrue b ↔ IsCurrent our_format font.now) }
+    ensures exact { IfOk result (λ b. b ≡ is_current (format_of Full) font.now) }
+    ensures form { IfOk result (λ b. IsTrue b ↔ IsCurrent (format_of Full) font.now) }
 {
     is_of_kind(alloc, &FontOfKind::full(font))
 }
@@ -160,22 +164,40 @@ fn is_written<S: Source>(kind: Kind, source: &S, bytes: &[u8]) -> bool
     !matches!(form_of_file(kind, source, bytes), CutForm::Not)
 }
 
-// Returns whether a font's file is the cut of another font, of that font's kind, for the codes that it maps.
-fn is_cut_for_own_codes<A: Allocator + Copy>(
+// Returns whether bytes are the cut of a font for some codes and some glyphs, of the font's kind and in any form.
+fn is_cut_for<A: Allocator + Copy>(
     alloc: A,
-    cut: &Font<'_>,
     font: &FontOfKind<'_, '_, A>,
+    codes: &Wanted<A>,
+    glyphs: &[u16],
+    bytes: &[u8],
 ) -> Result<bool, NoMemory>
-    ensures { IfOk result (λ b. IsTrue b ↔ Writes (format_of font.now.0)
-        (content ((format_of font.now.0).font font.now.1) (is_mapped (map_of cut.now))) cut.now) }
+    requires { length bytes.now ≤ MAX_FILE }
+    ensures { IfOk result (λ b. IsTrue b ↔ Writes (format_of font.now.0) (content ((format_of font.now.0).font font.now.1)
+        (wanted_in (asked (Some codes.now) (Some glyphs.now)))) bytes.now) }
 {
-    let codes = mapped_set(alloc, cut)?;
-    let source = CutOfKind::new(alloc, font, Some(&codes))?;
-    Ok(is_written(font.kind(), &source, file_of(cut)))
+    let source = CutOfKind::new(alloc, font, Some(codes), Some(glyphs))?;
+    Ok(is_written(font.kind(), &source, bytes))
 }
 
-/// Returns whether the file of `cut` is a cut of `font` for some codes, of the kind for which both were opened and in
-/// any form: then it is the cut for the codes that it maps itself. No cut is built for that.
+// Returns whether a font's file is the cut of another font, of that font's kind, for the codes that it maps and the
+// glyphs that are there.
+fn is_cut_for_own<A: Allocator + Copy>(
+    alloc: A,
+    cut: &FontOfKind<'_, '_, A>,
+    font: &FontOfKind<'_, '_, A>,
+) -> Result<bool, NoMemory>
+    ensures { IfOk result (λ b. IsTrue b ↔ Writes (format_of font.now.0) (content ((format_of font.now.0).font font.now.1)
+        (own_of cut.now.0 cut.now.1)) cut.now.1) }
+{
+    let codes = mapped_set(alloc, cut.font())?;
+    let glyphs = glyphs_there(alloc, cut)?;
+    is_cut_for(alloc, font, &codes, &glyphs, file_of(cut.font()))
+}
+
+/// Returns whether the file of `cut` is a cut of `font` for something that is wanted, of the kind for which both were
+/// opened and in any form: then it is the cut for the codes that it maps itself and the glyphs that are there. No cut is
+/// built for that.
 ///
 /// # Errors
 ///
@@ -197,11 +219,11 @@ pub fn belongs<A: Allocator + Copy>(
 ) -> Result<bool, NoMemory>
     requires { cut.now.0 ≡ font.now.0 }
     ensures exact { IfOk result (λ b. IsTrue b ↔ Under (format_of font.now.0) cut.now.1 font.now.1) }
-    ensures some_codes { IfOk result (λ b. IsTrue b ↔ IsCutIn font.now.0 font.now.1 cut.now.1) }
+    ensures some_wanted { IfOk result (λ b. IsTrue b ↔ IsCutIn font.now.0 font.now.1 cut.now.1) }
 {
     let _cut_kind = cut.kind();
     let _kind = font.kind();
-    is_cut_for_own_codes(alloc, cut.font(), font)
+    is_cut_for_own(alloc, cut, font)
 }
 
 /// Returns whether the file of `cut` is a cut of `font` for some codes, in any form of a cut: then it is
@@ -215,8 +237,9 @@ pub fn is_cut_of<A: Allocator + Copy>(
     cut: &Font<'_>,
     font: &Font<'_>,
 ) -> Result<bool, NoMemory>
-    ensures exact { IfOk result (λ b. IsTrue b ↔ Under our_format cut.now font.now) }
+    ensures exact { IfOk result (λ b. IsTrue b ↔ Under (format_of Full) cut.now font.now) }
     ensures some_codes { IfOk result (λ b. IsTrue b ↔ IsCutForSome font.now cut.now) }
 {
+    recall_accepted(font);
     belongs(alloc, &FontOfKind::full(cut), &FontOfKind::full(font))
 }

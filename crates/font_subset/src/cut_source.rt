@@ -18,15 +18,15 @@ pub struct CutOf<'f, 'a, A: Allocator = Global> {
 
 // Its value is the file of the font, and the ranges of the wanted codes, where these are not all.
 impl<'f, 'a, A: Allocator> Model for CutOf<'f, 'a, A> {
-    ghost use Rattle.std.specs.Prelude.{◌≡◌, ℕ, List, Option};
+    ghost use Rattle.std.specs.Prelude.{◌≡◌, ℕ, List, [], Option, Some};
     ghost use Rattle.codes.specs.declared.code_range.CodeRange.{CodeRange};
     ghost use Rattle.font_theory.specs.declared.kinds.Kind.TheVariants.{Full};
 
     ghost Value = { List ℕ × Option (List CodeRange) };
 
-    ghost view = { λ c. c.selection.1 };
+    ghost view = { λ c. (c.selection.1.0, c.selection.1.1.ranges) };
 
-    ghost invariant = { λ c. c.selection.0 ≡ Full };
+    ghost invariant = { λ c. (c.selection.0 ≡ Full) × (c.selection.1.1.numbers ≡ Some []) };
 }
 
 // Written out: a derived drop is proved anew wherever a value is let go, with all that is known of the value.
@@ -70,10 +70,12 @@ impl<'f, 'a, A: Allocator + Copy> CutOf<'f, 'a, A> {
 }
 
 impl<'f, 'a, A: Allocator> Source for CutOf<'f, 'a, A> {
-    ghost use Rattle.font_theory.specs.Content.{content, font_of};
-    ghost use Rattle.font_subset.specs.KeptGlyphs.{codes_wanted};
+    ghost use Rattle.font_theory.specs.Content.{content};
+    ghost use Rattle.font_theory.specs.Kinds.{font_as};
+    ghost use Rattle.font_theory.specs.declared.kinds.Kind.TheVariants.{Full};
+    ghost use Rattle.font_subset.specs.KeptGlyphs.{codes_asked, wanted_in};
 
-    ghost content_of = { λ c. content (font_of c.0) (codes_wanted c.1) };
+    ghost content_of = { λ c. content (font_as Full c.0) (wanted_in (codes_asked c.1)) };
 
     fn recall_laws(&self) {
         self.selection.recall_laws();

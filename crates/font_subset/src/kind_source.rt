@@ -9,9 +9,9 @@ ghost use Rattle.font_tables.specs.Fields.{number_of_h_metrics};
 ghost use Rattle.font_tables.specs.Refusals.{is_bad_hhea, is_bad_hmtx};
 ghost use Rattle.font_theory.specs.Content.{glyph_count};
 ghost use Rattle.font_theory.specs.declared.kinds.Kind.TheVariants.{Full};
-ghost use Rattle.font_theory.specs.LeanCut.{blank, cleared, pairs_in, thin_post};
+ghost use Rattle.font_theory.specs.Parted.{blank, cleared, pairs_in, thin_post};
 ghost use Rattle.sfnt_bytes.specs.declared.tag.TheConstants.{POST};
-ghost use Rattle.font_subset.specs.KeptGlyphs.{selected, written_of};
+ghost use Rattle.font_subset.specs.KeptGlyphs.{all_asked, asked, selected, written_of};
 ghost use Rattle.font_subset.specs.CutOfKind.{form_as};
 ghost use Rattle.font_write.specs.declared.source.TheConstants.{MAX_TABLE};
 
@@ -146,16 +146,16 @@ pub struct CutOfKind<'f, 'a, A: Allocator = Global> {
     gvar: Option<Vec<u8, A>>,
 }
 
-// Its value is that of the selection: the kind, the file of the font, and the ranges of the wanted codes.
+// Its value is that of the selection: the kind, the file of the font, and what is asked of it.
 impl<'f, 'a, A: Allocator> Model for CutOfKind<'f, 'a, A> {
-    ghost use Rattle.std.specs.Prelude.{ℕ, List, Option};
+    ghost use Rattle.std.specs.Prelude.{ℕ, List};
     ghost use Rattle.std.specs.Option.{option_map};
-    ghost use Rattle.codes.specs.declared.code_range.CodeRange.{CodeRange};
     ghost use Rattle.sfnt_bytes.specs.declared.tag.TheConstants.{GVAR, HMTX, POST, VMTX};
     ghost use Rattle.font_theory.specs.declared.kinds.Kind.{Kind};
     ghost use Rattle.font_subset.specs.Inside.{IsMadeTable};
+    ghost use Rattle.font_subset.specs.KeptGlyphs.{Asked};
 
-    ghost Value = { Kind × (List ℕ × Option (List CodeRange)) };
+    ghost Value = { Kind × (List ℕ × Asked) };
 
     ghost view = { λ c. c.selection };
 
@@ -220,8 +220,9 @@ impl<'f, 'a, A: Allocator + Copy> CutOfKind<'f, 'a, A> {
         })
     }
 
-    /// Returns the content of the cut of a font for the wanted codes, or for all where no set is given. All memory
-    /// that the cut needs before its file is made is asked for here.
+    /// Returns the content of the cut of a font for the wanted codes, or for all where no set is given, and for the glyphs
+    /// of these numbers, or for all where no list is given. All memory that the cut needs before its file is made is
+    /// asked for here.
     ///
     /// # Errors
     ///
@@ -230,11 +231,17 @@ impl<'f, 'a, A: Allocator + Copy> CutOfKind<'f, 'a, A> {
         alloc: A,
         font: &'f FontOfKind<'f, 'a, A>,
         wanted: Option<&'f Wanted<A>>,
+        numbers: Option<&'f [u16]>,
     ) -> Result<CutOfKind<'f, 'a, A>, NoMemory>
-        ensures { IfOk result (λ source.
-            source ≡ (font.entry.now.0, (font.entry.now.1, option_copied wanted.entry))) }
+        ensures { IfOk result (λ source. source ≡ (
+          font.entry.now.0,
+          (
+            font.entry.now.1,
+            asked (option_copied wanted.entry) (option_copied numbers.entry),
+          ),
+        )) }
     {
-        let selection = Selection::new(alloc, font, wanted)?;
+        let selection = Selection::new(alloc, font, wanted, numbers)?;
         CutOfKind::of(alloc, selection)
     }
 }
@@ -265,9 +272,9 @@ impl<'f, 'a, A: Allocator> CutOfKind<'f, 'a, A> {
         selection
     }
 
-    /// Returns the form in which the font's file is the file of this content, which is that for all codes.
+    /// Returns the form in which the font's file is the file of this content, which is that for all codes and all glyphs.
     pub fn form(&self) -> CutForm
-        requires { self.now.1.1 ≡ None }
+        requires { self.now.1.1 ≡ all_asked }
         ensures { result ≡ form_as self.now.0 self.now.1.0 }
     {
         form_of_file(self.selection.kind(), self, self.file())

@@ -3,7 +3,7 @@
 ghost use Rattle.std.specs.Prelude.{◌≡◌, ◌+◌, ◌*◌, ◌<◌, ◌≤◌, ◌++◌, drop, is_some, length, replicate, IfOk};
 ghost use Rattle.font_theory.specs.Bytes.{bytes32};
 ghost use Rattle.font_theory.specs.Content.{glyph_count};
-ghost use Rattle.font_theory.specs.LeanCut.{blank, cleared, entry_at, entry_size, thin_post};
+ghost use Rattle.font_theory.specs.Parted.{blank, cleared, entry_at, entry_size, thin_post};
 ghost use Rattle.font_subset.specs.Inside.{AreCopied};
 
 use font_write::Source;
@@ -32,7 +32,7 @@ fn copy_bytes(to: &mut [u8], from: &[u8], at: usize, size: usize)
 }
 
 // Copies the bytes of glyph g alone.
-#[tactic(auto, unfolding(font_theory::specs::LeanCut::entry_at, font_theory::specs::LeanCut::entry_size))]
+#[tactic(auto, unfolding(font_theory::specs::Parted::entry_at, font_theory::specs::Parted::entry_size))]
 fn copy_entry(to: &mut [u8], from: &[u8], pairs: usize, g: usize)
     requires some { 0 < pairs }
     requires few { pairs < 65536 }

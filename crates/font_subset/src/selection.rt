@@ -1,7 +1,6 @@
-//! What is selected of a font for its cuts of a kind: the codes that are wanted of it, and the glyphs that these
-//! keep. From .notdef and the glyphs of these codes links lead to the roots, which for full and lean cuts are
-//! these glyphs alone, and from there chains of components lead to all that is kept. OpenType 1.9, cmap; glyf,
-//! Composite Glyph Description; GSUB.
+//! What is selected of a font for its cuts of a kind: the codes and the glyphs that are wanted of it, and the glyphs
+//! that these keep. From .notdef, the glyphs of these codes, and the wanted glyphs that are there chains of components
+//! lead to all that is kept. OpenType 1.9, cmap; glyf, Composite Glyph Description.
 ghost use Rattle.std.specs.Prelude.{◌≡◌, ◌+◌, ◌-◌, ◌<◌, ◌≤◌, ℕ, Bool, [], length, None, Some, option_copied, unwrap_or, IfOk, MatchOption, true};
 ghost use Rattle.sfnt_bytes.specs.Directory.{kept_tag, table_of};
 ghost use Rattle.sfnt_bytes.specs.declared.directory.TheConstants.{MAX_FILE};
@@ -12,18 +11,19 @@ ghost use Rattle.font_tables.specs.Tables.{head_of};
 ghost use Rattle.codes.specs.CharacterMap.{IsCharacterMap};
 ghost use Rattle.codes.specs.Runs.{IsRun, NoRun};
 ghost use Rattle.font_file.specs.Font.{font_fault};
-ghost use Rattle.font_theory.specs.Content.{content, everything, font_of};
+ghost use Rattle.font_theory.specs.Content.{Wanted as WantedSets, content, everything, font_of};
 ghost use Rattle.font_theory.specs.Cut.{IsCut};
 ghost use Rattle.font_theory.specs.Kinds.{fault_of, font_as, format_of, tables_as};
 ghost use Rattle.font_theory.specs.declared.kinds.Kind.{Kind};
 ghost use Rattle.font_theory.specs.declared.kinds.Kind.TheVariants.{Full};
-ghost use Rattle.font_subset.specs.KeptGlyphs.{AreVariationsIn, IsKeptSet, IsRootSet, codes_wanted, wanted_map};
+ghost use Rattle.font_subset.specs.KeptGlyphs.{AreVariationsIn, IsKeptSet, IsRootSet, all_asked, asked, codes_asked, codes_wanted, wanted_in, wanted_map};
 ghost use Rattle.font_subset.specs.Inside.{AreMarked, IsOpenedFor, IsSeedSet};
 ghost use Rattle.font_subset.specs.ListedRuns.{AreRunsOf};
 
 use crate::accepted::{copied, head, outline, recall_accepted};
 use crate::font_of_kind::FontOfKind;
 use crate::listed_runs::ListedRuns;
+use crate::presence::with_numbers;
 use font_file::Font;
 use font_glyph::{Marks, close};
 use font_map::{Chart, Pieces, Run, Wanted, run_of};
@@ -201,21 +201,40 @@ fn mark_seeds<A: Allocator + Copy>(
     Ok(seeds)
 }
 
-// Marks the roots of a cut: the glyphs to which links lead from .notdef and from those of the wanted codes.
+/// Marks .notdef, and the glyphs of the wanted codes, or of all where no set is given.
+///
+/// # Errors
+///
+/// `NoMemory` where memory is refused.
+pub(crate) fn marked_seeds<A: Allocator + Copy>(
+    alloc: A,
+    font: &Font<'_>,
+    wanted: Option<&Wanted<A>>,
+) -> Result<Marks<A>, NoMemory>
+    ensures { IfOk result (IsSeedSet font.now (codes_wanted (option_copied wanted.entry))) }
+{
+    let charted = Charted::of(alloc, font)?;
+    let seeds = mark_seeds(alloc, &charted, wanted)?;
+    Ok(seeds)
+}
+
+// Marks the roots of a cut: .notdef, the glyphs of the wanted codes, and the wanted glyphs that are there.
 fn mark_roots<A: Allocator + Copy>(
     alloc: A,
     kind: Kind,
     font: &Charted<'_, '_, A>,
     opened: Option<&FontOfKind<'_, '_, A>>,
     wanted: Option<&Wanted<A>>,
+    numbers: Option<&[u16]>,
 ) -> Result<Marks<A>, NoMemory>
     requires accepted { fault_of kind font.now ≡ None }
     requires opened { IsOpenedFor kind font.now (option_copied opened) }
-    ensures { IfOk result (IsRootSet kind font.now (codes_wanted (option_copied wanted.entry))) }
+    ensures { IfOk result (IsRootSet kind font.now
+        (wanted_in (asked (option_copied wanted.entry) (option_copied numbers.entry)))) }
 {
     let seeds = mark_seeds(alloc, font, wanted)?;
     match opened {
-        Some(opened) => opened.mark_roots(alloc, seeds),
+        Some(opened) => Ok(with_numbers(seeds, opened, numbers)),
         None => Ok(seeds),
     }
 }
@@ -227,7 +246,7 @@ fn mark_reached<A: Allocator + Copy>(
     roots: &Marks<A>,
 ) -> Result<Marks<A>, NoMemory>
     requires { length roots.now ≡ glyph_count_of font.now }
-    ensures { IfOk result (λ kept. (kind : Kind) (wanted : ℕ → Bool) → fault_of kind font.now ≡ None →
+    ensures { IfOk result (λ kept. (kind : Kind) (wanted : WantedSets) → fault_of kind font.now ≡ None →
         IsRootSet kind font.now wanted roots.now → IsKeptSet kind font.now wanted kept) }
 {
     let kept = close(alloc, font.font(), roots)?;
@@ -241,18 +260,20 @@ fn mark_kept<A: Allocator + Copy>(
     font: &Charted<'_, '_, A>,
     opened: Option<&FontOfKind<'_, '_, A>>,
     wanted: Option<&Wanted<A>>,
+    numbers: Option<&[u16]>,
 ) -> Result<Marks<A>, NoMemory>
     requires accepted { fault_of kind font.now ≡ None }
     requires opened { IsOpenedFor kind font.now (option_copied opened) }
-    ensures { IfOk result (IsKeptSet kind font.now (codes_wanted (option_copied wanted.entry))) }
+    ensures { IfOk result (IsKeptSet kind font.now
+        (wanted_in (asked (option_copied wanted.entry) (option_copied numbers.entry)))) }
 {
-    let roots = mark_roots(alloc, kind, font, opened, wanted)?;
+    let roots = mark_roots(alloc, kind, font, opened, wanted, numbers)?;
     let kept = mark_reached(alloc, font, &roots)?;
     Ok(kept)
 }
 
 /// What is selected of a font for a cut of a kind: its tables, the wanted codes that it maps, and the outlines
-/// that these keep.
+/// that these and the wanted glyphs keep.
 pub struct Selection<'f, 'a, A: Allocator = Global> {
     kind: Kind,
     charted: Charted<'f, 'a, A>,
@@ -260,23 +281,25 @@ pub struct Selection<'f, 'a, A: Allocator = Global> {
     opened: Option<&'f FontOfKind<'f, 'a, A>>,
     // All codes are wanted where no set stands here.
     wanted: Option<&'f Wanted<A>>,
+    // All glyphs are wanted where no list stands here.
+    numbers: Option<&'f [u16]>,
     kept: Marks<A>,
 }
 
-// Its value is the kind, the file of the font, and the ranges of the wanted codes, where these are not all.
+// Its value is the kind, the file of the font, the ranges of the wanted codes, and the numbers of the wanted glyphs,
+// where these are not all.
 impl<'f, 'a, A: Allocator> Model for Selection<'f, 'a, A> {
-    ghost use Rattle.std.specs.Prelude.{ℕ, List, Option, option_copied};
-    ghost use Rattle.codes.specs.declared.code_range.CodeRange.{CodeRange};
+    ghost use Rattle.std.specs.Prelude.{ℕ, List, option_copied};
     ghost use Rattle.font_theory.specs.declared.kinds.Kind.{Kind};
-    ghost use Rattle.font_subset.specs.KeptGlyphs.{codes_wanted};
+    ghost use Rattle.font_subset.specs.KeptGlyphs.{Asked, asked, wanted_in};
     ghost use Rattle.font_subset.specs.Inside.{IsSelected};
 
-    ghost Value = { Kind × (List ℕ × Option (List CodeRange)) };
+    ghost Value = { Kind × (List ℕ × Asked) };
 
-    ghost view = { λ s. (s.kind, (s.charted, option_copied s.wanted)) };
+    ghost view = { λ s. (s.kind, (s.charted, asked (option_copied s.wanted) (option_copied s.numbers))) };
 
     ghost invariant = { λ s. IsSelected s.kind s.charted (option_copied s.opened)
-        (codes_wanted (option_copied s.wanted)) s.kept };
+        (wanted_in (asked (option_copied s.wanted) (option_copied s.numbers))) s.kept };
 }
 
 // Written out: a derived drop is proved anew wherever a value is let go, with all that is known of the value.
@@ -287,14 +310,16 @@ impl<'f, 'a, A: Allocator> Drop for Selection<'f, 'a, A> {
             charted: _charted,
             opened: _,
             wanted: _,
+            numbers: _,
             kept: _kept,
         } = self;
     }
 }
 
 impl<'f, 'a, A: Allocator + Copy> Selection<'f, 'a, A> {
-    /// Selects the wanted codes of a font, or all where no set is given. All memory that is needed to keep
-    /// them is asked for here.
+    /// Selects the wanted codes of a font, or all where no set is given, and the glyphs of these numbers, or all where no
+    /// list is given. Numbers of glyphs that are not there do not count, nor do numbers at all in full cuts. All memory
+    /// that is needed to keep them is asked for here.
     ///
     /// # Errors
     ///
@@ -303,22 +328,29 @@ impl<'f, 'a, A: Allocator + Copy> Selection<'f, 'a, A> {
         alloc: A,
         font: &'f FontOfKind<'f, 'a, A>,
         wanted: Option<&'f Wanted<A>>,
+        numbers: Option<&'f [u16]>,
     ) -> Result<Selection<'f, 'a, A>, NoMemory>
-        ensures { IfOk result (λ selection.
-            selection ≡ (font.entry.now.0, (font.entry.now.1, option_copied wanted.entry))) }
+        ensures { IfOk result (λ selection. selection ≡ (
+          font.entry.now.0,
+          (
+            font.entry.now.1,
+            asked (option_copied wanted.entry) (option_copied numbers.entry),
+          ),
+        )) }
     {
         let charted = Charted::of(alloc, font.font())?;
-        let kept = mark_kept(alloc, font.kind(), &charted, Some(font), wanted)?;
+        let kept = mark_kept(alloc, font.kind(), &charted, Some(font), wanted, numbers)?;
         Ok(Selection {
             kind: font.kind(),
             charted,
             opened: Some(font),
             wanted,
+            numbers,
             kept,
         })
     }
 
-    /// Selects all codes of a font, and lists the runs of its map, which is walked more than once.
+    /// Selects all codes and all glyphs of a font, and lists the runs of its map, which is walked more than once.
     ///
     /// # Errors
     ///
@@ -327,15 +359,16 @@ impl<'f, 'a, A: Allocator + Copy> Selection<'f, 'a, A> {
         alloc: A,
         font: &'f FontOfKind<'f, 'a, A>,
     ) -> Result<Selection<'f, 'a, A>, NoMemory>
-        ensures { IfOk result (λ selection. selection ≡ (font.entry.now.0, (font.entry.now.1, None))) }
+        ensures { IfOk result (λ selection. selection ≡ (font.entry.now.0, (font.entry.now.1, all_asked))) }
     {
         let charted = Charted::with_runs(alloc, font.font())?;
-        let kept = mark_kept(alloc, font.kind(), &charted, Some(font), None)?;
+        let kept = mark_kept(alloc, font.kind(), &charted, Some(font), None, None)?;
         Ok(Selection {
             kind: font.kind(),
             charted,
             opened: Some(font),
             wanted: None,
+            numbers: None,
             kept,
         })
     }
@@ -345,22 +378,24 @@ impl<'f, 'a, A: Allocator + Copy> Selection<'f, 'a, A> {
     /// # Errors
     ///
     /// `NoMemory` where memory is refused.
+    #[tactic(auto, using(crate::proofs::SourceLemmas::full_accepted))]
     pub(crate) fn full(
         alloc: A,
         font: &'f Font<'a>,
         wanted: Option<&'f Wanted<A>>,
     ) -> Result<Selection<'f, 'a, A>, NoMemory>
         ensures { IfOk result (λ selection.
-            selection ≡ (Full, (font.entry.now, option_copied wanted.entry))) }
+            selection ≡ (Full, (font.entry.now, codes_asked (option_copied wanted.entry)))) }
     {
         recall_accepted(font);
         let charted = Charted::of(alloc, font)?;
-        let kept = mark_kept(alloc, Kind::Full, &charted, None, wanted)?;
+        let kept = mark_kept(alloc, Kind::Full, &charted, None, wanted, Some(&[]))?;
         Ok(Selection {
             kind: Kind::Full,
             charted,
             opened: None,
             wanted,
+            numbers: Some(&[]),
             kept,
         })
     }
@@ -378,6 +413,7 @@ impl<'f, 'a, A: Allocator + Copy> Selection<'f, 'a, A> {
             charted,
             opened: _,
             wanted: _,
+            numbers: _,
             kept: _kept,
         } = self;
         charted.into_runs(alloc)
@@ -469,11 +505,18 @@ impl<'f, 'a, A: Allocator> Selection<'f, 'a, A> {
         self.kind
     }
 
-    /// Returns the outline of a glyph that all codes keep, as a file in cut form has it: with the zeros
+    /// Returns the glyphs that are kept.
+    pub(crate) fn kept(&self) -> &Marks<A>
+        ensures { IsKeptSet self.now.0 self.now.1.0 (wanted_in self.now.1.1) result.now }
+    {
+        &self.kept
+    }
+
+    /// Returns the outline of a glyph that all codes and all glyphs keep, as a file in cut form has it: with the zeros
     /// that fill it.
     pub fn written_outline(&self, g: u16) -> Option<&'a [u8]>
         requires form { IsCut (format_of self.now.0) self.now.1.0 }
-        requires all { self.now.1.1 ≡ None }
+        requires all { self.now.1.1 ≡ all_asked }
         ensures outline { MatchOption result
             ((content (font_as self.now.0 self.now.1.0) everything).outline g ≡ None)
             (λ b. (content (font_as self.now.0 self.now.1.0) everything).outline g ≡ Some b.now) }

@@ -1,25 +1,30 @@
 -- Cuts and joins of files, and the order of files.
 use Rattle.std.proofs.Common.{◌≡◌, ◌≢◌, ℕ, ◌≤◌, Bool, true, false, cond, nat_eq, nat_lt, ◌&&◌, ◌||◌, ◌⊎◌, inl, inr}
-use Rattle.std.proofs.Common.{List, length, refl, sym, ◌∙◌, ap, subst, arith, is_none, unwrap_or, [], Option, Some}
+use Rattle.std.proofs.Common.{List, length, refl, sym, ◌∙◌, ap, subst, arith, is_none, is_some, Option}
+use Rattle.std.proofs.Common.{Some}
 use Rattle.std.proofs.Common.{None}
-use Rattle.std.proofs.Math.Path.{fun_ext}
+use Rattle.std.proofs.Math.Bool.{or_self}
 use Rattle.std.specs.Str.{bytes_eq}
 use Rattle.std.proofs.lemmas.Bool.{and_from, and_parts, lt-ltb, ltb-true, or_cases, or_left, or_right}
 use Rattle.std.proofs.lemmas.Bool.Decides.{nat_tests}
 use Rattle.std.proofs.lemmas.Slice.Eq.{bytes_eq-Decides}
 use Rattle.codes.specs.CharacterMap.{is_mapped, restricted, united}
-use Rattle.sfnt_bytes.specs.Lines.{when}
-use Rattle.font_theory.specs.Bytes.{padded}
 use Rattle.codes.proofs.MapLemmas.{same_cond}
-use Rattle.font_theory.specs.Content.{Content, IsClosedContent, content, everything, is_kept, read_back}
+use Rattle.font_theory.specs.Content.{Content, IsClosedContent, Wanted, content, either, everything, is_kept, read_back}
+use Rattle.font_theory.specs.Content.{within}
 use Rattle.font_theory.specs.Cut.{Arises, CanJoin, Format, IsCurrent, IsCut, IsFormat, IsOld, Under, Writes, codes_of}
-use Rattle.font_theory.specs.Cut.{cut, either, is_current, is_cut, is_old, joined, old_cut, renewed, content_of_all}
+use Rattle.font_theory.specs.Cut.{wanted_of, cut, is_current, is_cut, is_old, joined, old_cut, renewed, content_of_all}
 use Rattle.font_theory.specs.Cut.Arises.{of_file, of_two}
 use Rattle.font_theory.specs.Agreement.{Agree, both}
 use Rattle.font_theory.proofs.ArisesLemmas.{IsClosed-arises}
-use Rattle.font_theory.proofs.ContentLemmas.{IsClosed-content, content-mapped, content-read_back}
+use Rattle.font_theory.proofs.HeldLemmas.{cases_option, there-none}
+use Rattle.font_theory.proofs.ContentLemmas.{IsClosed-content, content-less, content-mapped, content-read_back}
 use Rattle.font_theory.proofs.JoinLemmas.{Agree-content, Agree-self, both-content, both-self, content-left}
-use Rattle.font_theory.proofs.JoinLemmas.{content-right}
+use Rattle.font_theory.proofs.JoinLemmas.{content-right, own}
+
+or_false : (b : Bool) → (b || false) ≡ b
+or_false true = refl
+or_false false = refl
 
 mapped_either : (x y : ℕ) → nat_lt 0 (cond (nat_eq x 0) y x) ≡ (nat_lt 0 x || nat_lt 0 y)
 mapped_either x y = grind (arith, nat_tests)
@@ -84,6 +89,13 @@ module _ (R : Format) (law : IsFormat R) where
   pub codes_of-accepted : (X : List ℕ) → R.fault X ≡ None → codes_of R X ≡ is_mapped (R.font X).map
   codes_of-accepted X h = ap (λ o c. is_none o && is_mapped (R.font X).map c) h
 
+  pub wanted_of-accepted : (X : List ℕ) → R.fault X ≡ None
+      → wanted_of R X ≡ record { codes = is_mapped (R.font X).map; glyphs = (R.font X).there }
+  wanted_of-accepted X h = ap (λ o. record {
+    codes = λ c. is_none o && is_mapped (R.font X).map c;
+    glyphs = λ g. is_none o && (R.font X).there g;
+  }) h
+
   -- a file that is written of a content that arises is in cut form, and has that content
   pub content_of_all-written : (K : Content) (X : List ℕ) → Arises R K → Writes R K X → length X ≤ R.limit
       → content_of_all R X ≡ K
@@ -113,13 +125,10 @@ module _ (R : Format) (law : IsFormat R) where
       (law.reads_back (content_of_all R X) X (of_file X everything ok.accepted refl) ok.written
       (law.accepted_size X ok.accepted)).1
 
-  -- what is kept of a file in cut form stands in it as it is written: with its zeros
-  pub outline-whole : (X : List ℕ) → IsCut R X → (g : ℕ) → is_kept (R.font X) everything g ≡ true
-      → (content_of_all R X).outline g ≡ Some ((R.font X).outline g)
-  outline-whole X ok g kept =
-      let e : (content_of_all R X).outline g ≡ Some (padded ((R.font X).outline g)) =
-      ap (λ b. when b (padded ((R.font X).outline g))) kept in
-      e ∙ ap Some (sym (ap (λ F. F.outline g) (font-whole X ok) ∙ ap (λ o. unwrap_or o []) e))
+  -- what a file in cut form has is what its content has
+  pub wanted_of-whole : (X : List ℕ) → IsCut R X → wanted_of R X ≡ own (content_of_all R X)
+  wanted_of-whole X ok = wanted_of-accepted X ok.accepted
+      ∙ ap (λ F. record { codes = is_mapped F.map; glyphs = F.there }) (font-whole X ok)
 
   pub IsClosed-whole : (X : List ℕ) → R.fault X ≡ None → IsClosedContent (content_of_all R X)
   IsClosed-whole X h = IsClosed-content (R.font X) everything (law.is_font X h)
@@ -145,7 +154,7 @@ module _ (R : Format) (law : IsFormat R) where
   ]
 
   -- what holds of a file X that is a cut of an accepted font for A
-  module _ (F : List ℕ) (h : R.fault F ≡ None) (A : ℕ → Bool) (X : List ℕ) (w : Writes R (content (R.font F) A) X)
+  module _ (F : List ℕ) (h : R.fault F ≡ None) (A : Wanted) (X : List ℕ) (w : Writes R (content (R.font F) A) X)
       (small : length X ≤ R.limit) where
     arises : Arises R (content (R.font F) A)
     arises = of_file F A h refl
@@ -159,28 +168,33 @@ module _ (R : Format) (law : IsFormat R) where
     pub IsCut-cut : IsCut R X
     IsCut-cut = IsCut-written _ X arises w small
 
-    pub content-cut : (B : ℕ → Bool) → content (R.font X) B ≡ content (R.font F) (λ c. A c && B c)
+    pub content-cut : (B : Wanted) → content (R.font X) B ≡ content (R.font F) (within (R.font F) A B)
     content-cut B = ap (λ G. content G B) font-cut ∙ content-read_back (R.font F) A B (law.is_font F h)
 
-    pub cut-cut : (B : ℕ → Bool) → cut R X B ≡ cut R F (λ c. A c && B c)
+    pub cut-cut : (B : Wanted) → cut R X B ≡ cut R F (within (R.font F) A B)
     cut-cut B = ap R.file (content-cut B)
 
+    pub cut-less : (B : Wanted) → ((c : ℕ) → B.codes c ≡ true → A.codes c ≡ true)
+        → ((g : ℕ) → B.glyphs g ≡ true → A.glyphs g ≡ true) → cut R X B ≡ cut R F B
+    cut-less B codes glyphs =
+        ap R.file (ap (λ G. content G B) font-cut ∙ content-less (R.font F) A B (law.is_font F h) codes glyphs)
+
   -- and as it is written it is current
-  pub IsCurrent-cut : (F : List ℕ) → R.fault F ≡ None → (A : ℕ → Bool) (X : List ℕ) → X ≡ cut R F A → length X ≤ R.limit
+  pub IsCurrent-cut : (F : List ℕ) → R.fault F ≡ None → (A : Wanted) (X : List ℕ) → X ≡ cut R F A → length X ≤ R.limit
       → IsCurrent R X
   IsCurrent-cut F h A X is small = IsCurrent-written (content (R.font F) A) X (of_file F A h refl) (sym is) small
 
   -- as it was written before it is an old one, of the same content
-  pub IsOld-cut : (F : List ℕ) → R.fault F ≡ None → (A : ℕ → Bool) (X : List ℕ) → X ≡ old_cut R F A → length X ≤ R.limit
+  pub IsOld-cut : (F : List ℕ) → R.fault F ≡ None → (A : Wanted) (X : List ℕ) → X ≡ old_cut R F A → length X ≤ R.limit
       → IsOld R X
   IsOld-cut F h A X is small = IsOld-written (content (R.font F) A) X (of_file F A h refl) (sym is) small
 
-  pub content_of_all-old_cut : (F : List ℕ) → R.fault F ≡ None → (A : ℕ → Bool) → length (old_cut R F A) ≤ R.limit
+  pub content_of_all-old_cut : (F : List ℕ) → R.fault F ≡ None → (A : Wanted) → length (old_cut R F A) ≤ R.limit
       → content_of_all R (old_cut R F A) ≡ content (R.font F) A
   content_of_all-old_cut F h A small = content_of_all-cut F h A (old_cut R F A) (inr refl) small
 
   -- joining two cuts of a font, in any forms
-  module _ (F : List ℕ) (h : R.fault F ≡ None) (A B : ℕ → Bool) (X Y : List ℕ)
+  module _ (F : List ℕ) (h : R.fault F ≡ None) (A B : Wanted) (X Y : List ℕ)
       (wX : Writes R (content (R.font F) A) X) (wY : Writes R (content (R.font F) B) Y) (sX : length X ≤ R.limit)
       (sY : length Y ≤ R.limit) where
     pub CanJoin-cuts : CanJoin R X Y
@@ -224,7 +238,7 @@ module _ (R : Format) (law : IsFormat R) where
     Under-joined_left = record {
       accepted = back.0;
       written = subst (λ K. Writes R K X)
-          (sym ((λ i. content (back.1 i) (codes_of-accepted X can.first.accepted i))
+          (sym ((λ i. content (back.1 i) (wanted_of-whole X can.first i))
           ∙ content-left _ _ okX okY can.agree))
           can.first.written;
     }
@@ -233,7 +247,7 @@ module _ (R : Format) (law : IsFormat R) where
     Under-joined_right = record {
       accepted = back.0;
       written = subst (λ K. Writes R K Y)
-          (sym ((λ i. content (back.1 i) (codes_of-accepted Y can.second.accepted i))
+          (sym ((λ i. content (back.1 i) (wanted_of-whole Y can.second i))
           ∙ content-right _ _ okX okY can.agree))
           can.second.written;
     }
@@ -241,10 +255,10 @@ module _ (R : Format) (law : IsFormat R) where
   -- a file under an accepted one, of a size that may be, is in cut form
   module _ (X F : List ℕ) (u : Under R X F) (small : length X ≤ R.limit) where
     pub IsCut-under : IsCut R X
-    IsCut-under = IsCut-cut F u.accepted (codes_of R X) X u.written small
+    IsCut-under = IsCut-cut F u.accepted (wanted_of R X) X u.written small
 
-    pub content_of_all-under : content_of_all R X ≡ content (R.font F) (codes_of R X)
-    content_of_all-under = content_of_all-cut F u.accepted (codes_of R X) X u.written small
+    pub content_of_all-under : content_of_all R X ≡ content (R.font F) (wanted_of R X)
+    content_of_all-under = content_of_all-cut F u.accepted (wanted_of R X) X u.written small
 
   pub Agree-under : (X Y F : List ℕ) → Under R X F → Under R Y F → length X ≤ R.limit → length Y ≤ R.limit
       → Agree (content_of_all R X) (content_of_all R Y)
@@ -272,20 +286,46 @@ module _ (R : Format) (law : IsFormat R) where
       sy : length Y ≤ R.limit
       sy = law.accepted_size Y can.second.accepted
 
-      union : both (content_of_all R X) (content_of_all R Y) ≡ content (R.font F) (either (codes_of R X) (codes_of R Y))
+      K : Content
+      K = content_of_all R X
+
+      L : Content
+      L = content_of_all R Y
+
+      union : both K L ≡ content (R.font F) (either (wanted_of R X) (wanted_of R Y))
       union = both_is (content_of_all-under X F u sx) (content_of_all-under Y F v sy)
           ∙ both-content (R.font F) _ _ (law.is_font F u.accepted)
 
-      codes_joined : (c : ℕ) → codes_of R (joined R X Y) c ≡ (codes_of R X c || codes_of R Y c)
-      codes_joined c =
-          ap (λ A. A c) (codes_of-accepted (joined R X Y) (IsCut-joined X Y can small).accepted)
-          ∙ ap (λ G. is_mapped G.map c) (back X Y can small).1
-          ∙ is_mapped-united (content_of_all R X).map (content_of_all R Y).map c
-          ∙ sym (ap (λ A. A c || is_mapped (R.font Y).map c) (codes_of-accepted X can.first.accepted))
-          ∙ sym (ap (λ A. codes_of R X c || A c) (codes_of-accepted Y can.second.accepted))
+      there_joined : (g : ℕ) → (both K L).there g ≡ (K.there g || L.there g)
+      there_joined g = go (cases_option (K.outline g)) (cases_option (L.outline g))
+        where
+          go : ((K.outline g ≡ None) ⊎ ((a : List ℕ) × (K.outline g ≡ Some a)))
+              → ((L.outline g ≡ None) ⊎ ((b : List ℕ) × (L.outline g ≡ Some b)))
+              → (both K L).there g ≡ (K.there g || L.there g)
+          go (inl k) l = ap (λ o. cond (is_some o) (K.there g) (L.there g)) k
+              ∙ sym (ap (λ b. b || L.there g) (there-none K (IsClosed-whole X can.first.accepted) g k))
+          go (inr k) (inl l) = ap (λ o. cond (is_some o) (K.there g) (L.there g)) k.1
+              ∙ sym (ap (λ b. K.there g || b) (there-none L (IsClosed-whole Y can.second.accepted) g l)
+              ∙ or_false (K.there g))
+          go (inr k) (inr l) = ap (λ o. cond (is_some o) (K.there g) (L.there g)) k.1
+              ∙ sym (or_self (K.there g))
+              ∙ ap (λ b. K.there g || b) (can.agree.there g k.0 l.0 k.1 l.1)
 
-      same : both (content_of_all R X) (content_of_all R Y) ≡ content (R.font F) (codes_of R (joined R X Y))
-      same = union ∙ ap (content (R.font F)) (sym (fun_ext codes_joined))
+      own_joined : own (both K L) ≡ either (own K) (own L)
+      own_joined = λ i. record {
+        codes = λ c. is_mapped-united K.map L.map c i;
+        glyphs = λ g. there_joined g i;
+      }
+
+      wanted_joined : wanted_of R (joined R X Y) ≡ either (wanted_of R X) (wanted_of R Y)
+      wanted_joined =
+          wanted_of-whole (joined R X Y) (IsCut-joined X Y can small)
+          ∙ ap own (content_of_all-joined X Y can small)
+          ∙ own_joined
+          ∙ (λ i. either (sym (wanted_of-whole X can.first) i) (sym (wanted_of-whole Y can.second) i))
+
+      same : both K L ≡ content (R.font F) (wanted_of R (joined R X Y))
+      same = union ∙ ap (content (R.font F)) (sym wanted_joined)
 
   codes_of-tells : (X : List ℕ) (c : ℕ) → codes_of R X c ≡ true → (R.fault X ≡ None) × ((R.font X).map c ≢ 0)
   codes_of-tells X c h = let w = and_parts _ _ h in (none_is (R.fault X) w.0, is_mapped-tells (R.font X).map c w.1)
@@ -301,39 +341,54 @@ module _ (R : Format) (law : IsFormat R) where
       ap (λ K. K.map c) (content_of_all-under X F u sx) in
       codes_of-some F c u.accepted (λ e. w.1 (m ∙ ap (λ g. cond (codes_of R X c) g 0) e ∙ same_cond (codes_of R X c) 0))
 
+  -- what is there in a file under another is there in that
+  pub there-under : (X F : List ℕ) → Under R X F → (g : ℕ) → (wanted_of R X).glyphs g ≡ true
+      → (wanted_of R F).glyphs g ≡ true
+  there-under X F u g h =
+      let w = and_parts _ _ h in
+      let ok : R.fault X ≡ None = none_is (R.fault X) w.0 in
+      let sx = law.accepted_size X ok in
+      let form = IsCut-under X F u sx in
+      let t : (is_kept (R.font F) (wanted_of R X) g && (R.font F).there g) ≡ true =
+      sym (ap (λ K. K.there g) (content_of_all-under X F u sx)) ∙ sym (ap (λ G. G.there g) (font-whole X form)) ∙ w.1 in
+      and_from _ _ (ap is_none u.accepted) (and_parts _ _ t).1
+
+  there-some : (X : List ℕ) (g : ℕ) → R.fault X ≡ None → (R.font X).there g ≡ true → (wanted_of R X).glyphs g ≡ true
+  there-some X g h t = and_from _ _ (ap is_none h) t
+
   -- the order is reflexive on files in cut form, and transitive
+  pub content-own : (X : List ℕ) → R.fault X ≡ None → content (R.font X) (wanted_of R X) ≡ content_of_all R X
+  content-own X h = content-mapped (R.font X) (wanted_of R X) everything (law.is_font X h)
+      (λ c n. codes_of-some X c h n) (λ g t. there-some X g h t)
+
   pub Under-self : (X : List ℕ) → IsCut R X → Under R X X
   Under-self X ok = record {
     accepted = ok.accepted;
-    written = subst (λ K. Writes R K X)
-        (sym (content-mapped (R.font X) (codes_of R X) everything (law.is_font X ok.accepted)
-        (λ c n. codes_of-some X c ok.accepted n))) ok.written;
+    written = subst (λ K. Writes R K X) (sym (content-own X ok.accepted)) ok.written;
   }
 
   pub Under-through : (X Y Z : List ℕ) → Under R X Y → Under R Y Z → Under R X Z
   Under-through X Y Z u v = record {
     accepted = v.accepted;
     written = subst (λ K. Writes R K X)
-        (content-cut Z v.accepted (codes_of R Y) Y v.written (law.accepted_size Y u.accepted) (codes_of R X)
-        ∙ content-mapped (R.font Z) (λ c. codes_of R Y c && codes_of R X c) (codes_of R X) (law.is_font Z v.accepted)
-        (λ c _. go (codes_of R Y c) (codes_of R X c) (codes_of-under X Y u c)))
+        (ap (λ G. content G (wanted_of R X)) (font-cut Z v.accepted (wanted_of R Y) Y v.written (law.accepted_size Y
+        u.accepted))
+        ∙ content-less (R.font Z) (wanted_of R Y) (wanted_of R X) (law.is_font Z v.accepted) (codes_of-under X Y u)
+        (there-under X Y u))
         u.written;
   }
-    where
-      go : (b a : Bool) → (a ≡ true → b ≡ true) → (b && a) ≡ a
-      go true a h = refl
-      go false true h = h refl
-      go false false h = refl
 
   -- files under each other have one content
   pub content_of_all-mutual : (X Z : List ℕ) → Under R X Z → Under R Z X → content_of_all R X ≡ content_of_all R Z
   content_of_all-mutual X Z u v =
-      let same : codes_of R X ≡ codes_of R Z =
-      fun_ext (λ c. go (codes_of R X c) (codes_of R Z c) (codes_of-under X Z u c) (codes_of-under Z X v c)) in
+      let same : wanted_of R X ≡ wanted_of R Z = λ i. record {
+        codes = λ c. go (codes_of R X c) (codes_of R Z c) (codes_of-under X Z u c) (codes_of-under Z X v c) i;
+        glyphs = λ g. go ((wanted_of R X).glyphs g) ((wanted_of R Z).glyphs g) (there-under X Z u g)
+            (there-under Z X v g) i;
+      } in
       content_of_all-under X Z u (law.accepted_size X v.accepted)
       ∙ ap (content (R.font Z)) same
-      ∙ content-mapped (R.font Z) (codes_of R Z) everything (law.is_font Z u.accepted)
-      (λ c n. codes_of-some Z c u.accepted n)
+      ∙ content-own Z u.accepted
     where
       go : (a b : Bool) → (a ≡ true → b ≡ true) → (b ≡ true → a ≡ true) → a ≡ b
       go true true h k = refl

@@ -1,11 +1,12 @@
 -- The first difference of two contents.
-use Rattle.std.proofs.Common.{◌≡◌, ℕ, ◌<◌, ◌≤◌, Bool, true, false, cond, not, nat_eq, nat_lt, ◌&&◌, ◌⊎◌, inl, inr, List}
+use Rattle.std.proofs.Common.{◌≡◌, ℕ, ◌<◌, ◌≤◌, Bool, true, false, cond, not, nat_eq, nat_lt, ◌&&◌, ◌||◌, ◌⊎◌, inl}
+use Rattle.std.proofs.Common.{inr, List}
 use Rattle.std.proofs.Common.{[], ◌∷◌, find, get_or, refl, sym, ◌∙◌, ap, subst, arith, Option, Some, None}
 use Rattle.std.specs.List.{range_with_len}
 use Rattle.std.specs.Option.{option_eq, option_map}
 use Rattle.std.specs.Str.{bytes_eq}
 use Rattle.std.proofs.lemmas.Bool.{cases_eq, cases_lt, eqb-true, eq-eqb, le-leb, lt-ltb, ltb-true, ne_eqb, not-false}
-use Rattle.std.proofs.lemmas.Bool.{or_right}
+use Rattle.std.proofs.lemmas.Bool.{both_ways, cases_Bool, false_from_ne_true, or_parts, or_right}
 use Rattle.std.proofs.lemmas.Slice.Eq.{bytes_eq-Decides}
 use Rattle.sfnt_bytes.specs.Directory.{slot_at}
 use Rattle.sfnt_bytes.specs.Lines.{first_of_lines}
@@ -16,7 +17,8 @@ use Rattle.codes.proofs.OrderLemmas.{find_none}
 use Rattle.font_theory.specs.Content.{CODES, Content, IsClosedContent, everything, glyph_count, is_never_copied}
 use Rattle.font_theory.specs.Content.{read_back}
 use Rattle.font_theory.specs.Difference.{are_different, difference, first_slot, is_different_code, is_different_glyph}
-use Rattle.font_theory.specs.Difference.{is_different_table}
+use Rattle.font_theory.specs.Difference.{PARTED, are_apart, has_other_part, is_different_table}
+use Rattle.font_glyph.proofs.FoundLemmas.{any_decides}
 use Rattle.font_theory.specs.Agreement.{Agree}
 use Rattle.font_theory.specs.declared.Difference.{Difference}
 use Rattle.font_theory.specs.declared.Difference.TheVariants.{AtCode, AtGlyph, AtTable}
@@ -101,12 +103,52 @@ same_code K L c h some also =
     let d : not (nat_eq (K.map c) (L.map c)) ≡ false = rw (t, u) at h in
     eqb-true _ _ (not-false _ d)
 
+apart-tells : (a b : Bool) → are_apart a b ≡ false → a ≡ b
+apart-tells true b h = sym (not-false b h)
+apart-tells false b h = sym h
+
+pub apart-same : (a b : Bool) → a ≡ b → are_apart a b ≡ false
+apart-same a b e = subst (λ (x : Bool). are_apart a x ≡ false) e (go a)
+  where
+    go : (x : Bool) → are_apart x x ≡ false
+    go true = refl
+    go false = refl
+
 same_glyph : (K L : Content) (g : ℕ) (a b : List ℕ) → is_different_glyph K L g ≡ false → K.outline g ≡ Some a
-    → L.outline g ≡ Some b → a ≡ b
+    → L.outline g ≡ Some b → (a ≡ b) × (has_other_part K L g ≡ false) × (K.there g ≡ L.there g)
 unfolding is_different_glyph
 same_glyph K L g a b h ea eb =
-    let d : not (bytes_eq a b) ≡ false = (λ i. are_different (sym ea i) (sym eb i)) ∙ h in
-    (bytes_eq-Decides a b).0 (not-false _ d)
+    let other : Bool = has_other_part K L g || are_apart (K.there g) (L.there g) in
+    let d : (not (bytes_eq a b) || other) ≡ false = (λ i. are_different (sym ea i) (sym eb i) other) ∙ h in
+    let w = or_parts _ _ d in
+    let x = or_parts _ _ w.1 in
+    ((bytes_eq-Decides a b).0 (not-false _ w.0), x.0, apart-tells (K.there g) (L.there g) x.1)
+
+-- parts in each slot
+slot_parted : (slot : ℕ) → slot < 29 → slot < PARTED
+unfolding PARTED
+slot_parted slot low = low
+
+pub same_part : (K L : Content) (g slot : ℕ) → has_other_part K L g ≡ false → slot < PARTED
+    → K.parts slot g ≡ L.parts slot g
+unfolding has_other_part
+same_part K L g slot h low =
+    elim (cases_Bool (bytes_eq (K.parts slot g) (L.parts slot g))) [
+      | inl t ↦ (bytes_eq-Decides (K.parts slot g) (L.parts slot g)).0 t
+      | inr f ↦
+          absurd (both_ways _ h ((any_decides (λ s. not (bytes_eq (K.parts s g) (L.parts s g))) PARTED).1 (
+            slot,
+            low,
+            ap not f,
+          )))
+    ]
+
+pub part_same : (K L : Content) (g : ℕ) → ((slot : ℕ) → K.parts slot g ≡ L.parts slot g) → has_other_part K L g ≡ false
+unfolding has_other_part
+part_same K L g h =
+    false_from_ne_true _ (λ t.
+    let w = (any_decides (λ s. not (bytes_eq (K.parts s g) (L.parts s g))) PARTED).0 t in
+    both_ways _ (ap not ((bytes_eq-Decides (K.parts w.0 g) (L.parts w.0 g)).1 (h w.0))) w.2)
 
 -- where there is none to find
 table_same : (K L : Content) (slot : ℕ) → K.head ≡ L.head → K.copied slot ≡ L.copied slot
@@ -131,15 +173,20 @@ code_same K L c h = go (nat_lt 0 (K.map c)) (nat_lt 0 (L.map c)) refl refl
     go true true x y = ap not (eq-eqb _ _ (h (ltb-true 0 (K.map c) x) (ltb-true 0 (L.map c) y)))
 
 glyph_same : (K L : Content) (g : ℕ) → ((a b : List ℕ) → K.outline g ≡ Some a → L.outline g ≡ Some b → a ≡ b)
+    → ((a b : List ℕ) → K.outline g ≡ Some a → L.outline g ≡ Some b → (slot : ℕ) → K.parts slot g ≡ L.parts slot g)
+    → ((a b : List ℕ) → K.outline g ≡ Some a → L.outline g ≡ Some b → K.there g ≡ L.there g)
     → is_different_glyph K L g ≡ false
 unfolding is_different_glyph
-glyph_same K L g h = go (K.outline g) (L.outline g) refl refl
+glyph_same K L g h parts there = go (K.outline g) (L.outline g) refl refl
   where
-    go : (o p : Option (List ℕ)) → K.outline g ≡ o → L.outline g ≡ p → are_different o p ≡ false
+    go : (o p : Option (List ℕ)) → K.outline g ≡ o → L.outline g ≡ p
+        → are_different o p (has_other_part K L g || are_apart (K.there g) (L.there g)) ≡ false
     go None None x y = refl
     go None (Some b) x y = refl
     go (Some a) None x y = refl
-    go (Some a) (Some b) x y = ap not ((bytes_eq-Decides a b).1 (h a b x y))
+    go (Some a) (Some b) x y =
+        λ i. not ((bytes_eq-Decides a b).1 (h a b x y) i)
+        || (part_same K L g (parts a b x y) i || apart-same (K.there g) (L.there g) (there a b x y) i)
 
 -- the slots that a cut makes anew
 never_past : (slot : ℕ) → 29 ≤ slot → is_never_copied slot ≡ true
@@ -171,7 +218,22 @@ module _ (K L : Content) (okK : IsClosedContent K) (okL : IsClosedContent L) whe
         outline = λ g a b ea eb.
             let low : g < glyph_count K.copied =
             IsKept-below (read_back K) everything okK.font g (some-held K okK g a ea) in
-            same_glyph K L g a b (find-none (is_different_glyph K L) (glyph_count K.copied) g w.2 low) ea eb;
+            (same_glyph K L g a b (find-none (is_different_glyph K L) (glyph_count K.copied) g w.2 low) ea eb).0;
+        parts = λ g a b ea eb slot.
+            let low : g < glyph_count K.copied =
+            IsKept-below (read_back K) everything okK.font g (some-held K okK g a ea) in
+            let same = same_glyph K L g a b (find-none (is_different_glyph K L) (glyph_count K.copied) g w.2 low) ea eb
+            in
+            elim (cases_lt slot 29) [
+              | inl few ↦ same_part K L g slot same.1 (slot_parted slot few)
+              | inr past ↦
+                  okK.font.unparted slot g (never_past slot past)
+                  ∙ sym (okL.font.unparted slot g (never_past slot past))
+            ];
+        there = λ g a b ea eb.
+            let low : g < glyph_count K.copied =
+            IsKept-below (read_back K) everything okK.font g (some-held K okK g a ea) in
+            (same_glyph K L g a b (find-none (is_different_glyph K L) (glyph_count K.copied) g w.2 low) ea eb).2;
       }
 
   pub none_from-Agree : Agree K L → difference K L ≡ None
@@ -181,7 +243,8 @@ module _ (K L : Content) (okK : IsClosedContent K) (okL : IsClosedContent L) whe
       let c = find_none (is_different_code K L) 0 (range_with_len 0 CODES)
       (λ k low. let x = get_or (range_with_len 0 CODES) k 0 in code_same K L x (agree.map x)) in
       let g = find_none (is_different_glyph K L) 0 (range_with_len 0 (glyph_count K.copied))
-      (λ k low. let x = get_or (range_with_len 0 (glyph_count K.copied)) k 0 in glyph_same K L x (agree.outline x)) in
+      (λ k low. let x = get_or (range_with_len 0 (glyph_count K.copied)) k 0 in glyph_same K L x (agree.outline x)
+      (agree.parts x) (agree.there x)) in
       λ i. line_of (t i) (c i) (g i)
 
   -- whether they agree is decided

@@ -11,12 +11,10 @@ use Rattle.font_tables.specs.Outlines.{outline_of}
 use Rattle.font_file.specs.Font.{font_fault, map_of}
 use Rattle.font_file.proofs.FontLemmas.{is_record-accepted}
 use Rattle.font_theory.specs.Bytes.{padded}
-use Rattle.font_theory.specs.Content.{content, font_of, glyph_count, is_kept, is_root, is_seed, read_back}
+use Rattle.font_theory.specs.Content.{Wanted, content, font_of, glyph_count, is_kept, is_root, is_seed, read_back}
 use Rattle.font_theory.proofs.ContentLemmas.{IsKept-wanted, read_back-reached, wanted-map}
 use Rattle.font_theory.proofs.FontLemmas.{IsFont-accepted, glyph_count-file}
-use Rattle.font_theory.proofs.LinkLemmas.{links_in-none}
-use Rattle.font_theory.proofs.RootLemmas.{is_root-alone}
-use Rattle.font_theory.proofs.WantedLemmas.{component-below, is_kept-decides, seeds-below}
+use Rattle.font_theory.proofs.WantedLemmas.{component-below, is_kept-decides, is_root-none, seeds-below}
 
 -- below its count a glyph of a font has the outline of the file
 pub outline-file : (file : List ℕ) (g : ℕ) → g < glyph_count_of file → (font_of file).outline g ≡ outline_of file g
@@ -46,34 +44,34 @@ module _ (file : List ℕ) (accepted : font_fault file ≡ None) (seeds : ℕ �
       let c' = subst (λ (b : List ℕ). IsComponentOf b g) (outline-file file s w.1) c in
       (part w.0 c', component-accepted s g w.1 c')
 
--- a plain reader sees no links
-pub roots-font : (file : List ℕ) (wanted : ℕ → Bool) → font_fault file ≡ None
-    → is_root (font_of file).copied (restricted wanted (map_of file)) ≡ is_seed (restricted wanted (map_of file))
-roots-font file wanted accepted = is_root-alone (font_of file).copied (restricted wanted (map_of file))
-    (links_in-none (font_of file).copied refl) (seeds-below (font_of file) wanted (IsFont-accepted file accepted))
+-- a plain reader has no glyph wanted by number
+pub roots-font : (file : List ℕ) (wanted : Wanted)
+    → is_root (font_of file) wanted ≡ is_seed (restricted wanted.codes (map_of file))
+roots-font file wanted = is_root-none (font_of file) wanted (λ g. refl)
 
 -- what is kept of an accepted file is what its outlines lead to
-pub is_kept-file : (file : List ℕ) (wanted : ℕ → Bool) → font_fault file ≡ None → (g : ℕ)
-    → Decides (is_kept (font_of file) wanted g) (Reach (outline_of file) (is_seed (restricted wanted (map_of file))) g)
+pub is_kept-file : (file : List ℕ) (wanted : Wanted) → font_fault file ≡ None → (g : ℕ)
+    → Decides (is_kept (font_of file) wanted g) (Reach (outline_of file) (is_seed (restricted wanted.codes (map_of
+    file))) g)
 is_kept-file file wanted accepted g =
     let ok = IsFont-accepted file accepted in
-    let below : (h : ℕ) → is_seed (restricted wanted (map_of file)) h ≡ true → h < glyph_count_of file =
+    let below : (h : ℕ) → is_seed (restricted wanted.codes (map_of file)) h ≡ true → h < glyph_count_of file =
     λ h s. subst (λ (n : ℕ). h < n) (glyph_count-file file) (seeds-below (font_of file) wanted ok h s) in
     let P : (ℕ → Bool) → Type 0 = λ s. Reach (font_of file).outline s g in
-    let same = roots-font file wanted accepted in
+    let same = roots-font file wanted in
     Decides-like _ (λ r. (Reach-file file accepted _ below g (subst P same r)).0)
     (λ r. subst P (sym same) (Reach-font file accepted _ below g r).0) (is_kept-decides (font_of file) wanted ok g)
 
 -- a file of which a content of an accepted one is read back
-module _ (file other : List ℕ) (wanted : ℕ → Bool) (accepted : font_fault file ≡ None) (same : font_of other
+module _ (file other : List ℕ) (wanted : Wanted) (accepted : font_fault file ≡ None) (same : font_of other
     ≡ read_back (content (font_of file) wanted)) where
   pub glyph_count_of-same : glyph_count_of other ≡ glyph_count_of file
   glyph_count_of-same = sym (glyph_count-file other) ∙ ap (λ F. glyph_count F.copied) same ∙ glyph_count-file file
 
-  pub map_of-wanted : (c : ℕ) → wanted c ≡ true → map_of other c ≡ map_of file c
+  pub map_of-wanted : (c : ℕ) → wanted.codes c ≡ true → map_of other c ≡ map_of file c
   map_of-wanted c h = ap (λ F. F.map c) same ∙ wanted-map (font_of file) wanted c h
 
-  pub outline_of-wanted : (c : ℕ) → wanted c ≡ true → (g : ℕ) → Reach (outline_of file) (nat_eq (map_of file c)) g
+  pub outline_of-wanted : (c : ℕ) → wanted.codes c ≡ true → (g : ℕ) → Reach (outline_of file) (nat_eq (map_of file c)) g
       → outline_of other g ≡ padded (outline_of file g)
   outline_of-wanted c h g r =
       let ok = IsFont-accepted file accepted in

@@ -27,7 +27,7 @@ use Rattle.font_file.specs.declared.font_error.FontError.TheVariants.{Directory,
 use Rattle.font_file.proofs.FontLemmas.{directory_fault-accepted, font_fault_is, is_record-accepted}
 use Rattle.font_theory.specs.Content.{CODES, IsFont, IsPlain, font_of, glyph_count, is_made, is_never_copied}
 use Rattle.font_theory.specs.Content.{metric_count, table_in_slot}
-use Rattle.font_theory.proofs.LinkLemmas.{is_bad_layout_in-none, is_bad_variations_in-none, never-in_plain}
+use Rattle.font_theory.proofs.LinkLemmas.{is_bad_variations_in-none, never-in_plain}
 use Rattle.font_theory.proofs.LinkLemmas.{never-layout}
 use Rattle.font_theory.proofs.CutHeadLemmas.{cut_head-cut_head, head-size, is_bad_head-cut_head}
 use Rattle.font_theory.proofs.PaddedLemmas.{IsRecord-nil}
@@ -133,12 +133,13 @@ IsFont-accepted file accepted =
         | inr past ↦ let f = le-ltb g (glyph_count_of file) past in rw f (IsRecord-nil _)
       ];
       slots = λ slot never. IsPlain-font_of file slot (never-made slot never);
+      unparted = λ _ _ _. refl;
+      there_below = λ g h. cc;
       head_form = cut_head-cut_head (head_of file) (head-size (head_of file) sound.head);
       head = is_bad_head-cut_head (head_of file) sound.head;
       maxp = subst (λ (b : List ℕ). is_bad_maxp b ≡ false) (sym (maxp-slot file)) sound.maxp;
       hhea = (λ i. is_bad_hhea (hhea-slot file i) (n i)) ∙ sound.hhea;
       hmtx = (λ i. is_bad_hmtx (hmtx-slot file i) (metric_count-file file i) (n i)) ∙ sound.hmtx;
-      readable = is_bad_layout_in-none (font_of file).copied refl;
       variations = is_bad_variations_in-none (font_of file).copied refl;
     }
 

@@ -1,11 +1,10 @@
 -- Trees that grow file by file, and the other trees over the same files.
-use Rattle.std.proofs.Common.{◌≡◌, ℕ, zero, suc, ◌<◌, ◌≤◌, Bool, inl, inr, List, None, length, refl, sym, ◌∙◌, ap}
+use Rattle.std.proofs.Common.{◌≡◌, ℕ, zero, suc, ◌<◌, ◌≤◌, inl, inr, List, None, length, refl, sym, ◌∙◌, ap}
 use Rattle.std.proofs.Common.{subst, arith}
 use Rattle.std.proofs.Math.Bool.{or_self}
-use Rattle.std.proofs.Math.Path.{fun_ext}
 use Rattle.std.proofs.lemmas.Bool.{cases_eq}
-use Rattle.font_theory.specs.Content.{content}
-use Rattle.font_theory.specs.Cut.{CanJoin, Format, IsCurrent, IsCut, IsFormat, Writes, cut, either, joined}
+use Rattle.font_theory.specs.Content.{Wanted, content, either}
+use Rattle.font_theory.specs.Cut.{CanJoin, Format, IsCurrent, IsCut, IsFormat, Writes, cut, joined}
 use Rattle.font_theory.specs.Cut.{content_of_all}
 use Rattle.font_theory.specs.Agreement.{Agree}
 use Rattle.font_theory.specs.Tree.{Differs, IsOver, IsSmall, JoinTree, Takes, Value, cuts, file_at, grown, union_below}
@@ -16,8 +15,11 @@ use Rattle.font_theory.proofs.TreeLemmas.{Differs-clash, Value-current, Value-cu
 use Rattle.font_theory.proofs.TreeLemmas.{Value-same, Value-small}
 
 -- what one joins with itself stays one set
-pub either-once : (A : ℕ → ℕ → Bool) → either (A 0) (A 0) ≡ union_below A 1
-either-once A = fun_ext (λ c. or_self (A 0 c))
+pub either-once : (A : ℕ → Wanted) → either (A 0) (A 0) ≡ union_below A 1
+either-once A = λ i. record {
+  codes = λ c. or_self ((A 0).codes c) i;
+  glyphs = λ g. or_self ((A 0).glyphs g) i;
+}
 
 module _ (R : Format) (law : IsFormat R) (files : List (List ℕ)) where
   -- each file that was joined is in cut form
@@ -102,7 +104,7 @@ module _ (R : Format) (law : IsFormat R) (files : List (List ℕ)) where
         subst (Value R t) (sym writing.written ∙ q.3) q.1
 
     -- a tree over cuts of one font has that same value
-    pub Value-grown_cuts : (F : List ℕ) → R.fault F ≡ None → (t : JoinTree (ℕ → Bool)) → IsOver files (cuts R F t)
+    pub Value-grown_cuts : (F : List ℕ) → R.fault F ≡ None → (t : JoinTree Wanted) → IsOver files (cuts R F t)
         → IsSmall R (cuts R F t) → Value R (cuts R F t) z
     Value-grown_cuts F h t over few =
         let q = Value-cuts R law F h t few in
@@ -128,10 +130,10 @@ module _ (R : Format) (law : IsFormat R) (files : List (List ℕ)) where
       (writing, forms k low, apart)
 
   -- cuts of one font, in any forms, grow to its cut for all their sets
-  module _ (F : List ℕ) (h : R.fault F ≡ None) (A : ℕ → ℕ → Bool)
+  module _ (F : List ℕ) (h : R.fault F ≡ None) (A : ℕ → Wanted)
       (are : (k : ℕ) → k < length files → Writes R (content (R.font F) (A k)) (file_at files k)) (few : (k : ℕ)
       → k < length files → length (file_at files k) ≤ R.limit) where
-    step : (B : ℕ → Bool) (k : ℕ) → k < length files → (x : List ℕ) → Writes R (content (R.font F) B) x
+    step : (B : Wanted) (k : ℕ) → k < length files → (x : List ℕ) → Writes R (content (R.font F) B) x
         → length x ≤ R.limit
         → CanJoin R x (file_at files k) × (joined R x (file_at files k) ≡ cut R F (either B (A k)))
     step B k low x w small = (

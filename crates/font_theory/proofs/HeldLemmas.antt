@@ -1,5 +1,6 @@
 -- What a closed content keeps.
-use Rattle.std.proofs.Common.{◌≡◌, ℕ, ◌⊎◌, true, inl, inr, List, [], refl, sym, ◌∙◌, ap, subst, arith, unwrap_or}
+use Rattle.std.proofs.Common.{◌≡◌, ℕ, ◌⊎◌, true, false, ◌&&◌, cond, inl, inr, List, [], refl, sym, ◌∙◌, ap, subst}
+use Rattle.std.proofs.Common.{arith, unwrap_or}
 use Rattle.std.proofs.Common.{Option, Some, None}
 use Rattle.std.specs.Option.{IsSome}
 use Rattle.std.proofs.lemmas.Bool.{cases_Bool}
@@ -10,21 +11,21 @@ use Rattle.font_glyph.specs.RecordMap.{HoldsComponents}
 use Rattle.font_theory.specs.Bytes.{padded}
 use Rattle.font_theory.specs.Content.{KeepsComponents, Content, IsClosedContent, everything, is_kept, is_root}
 use Rattle.font_theory.specs.Content.{read_back}
-use Rattle.font_theory.proofs.RootLemmas.{is_root-seed}
 use Rattle.font_theory.proofs.PaddedLemmas.{IsRecord-nil}
-use Rattle.font_theory.proofs.WantedLemmas.{component-below, is_kept-decides, is_seed-code, is_seed-zero}
+use Rattle.font_theory.proofs.WantedLemmas.{component-below, is_kept-decides, is_root-seed, is_root-there, is_seed-code}
+use Rattle.font_theory.proofs.WantedLemmas.{is_seed-zero}
 
 -- an option, with what it is
 pub cases_option : {A : Type 0} (o : Option A) → (o ≡ None) ⊎ ((a : A) × (o ≡ Some a))
 cases_option None = inl refl
 cases_option (Some a) = inr (a, refl)
 
--- what a content's own codes reach in it
+-- what a content's own codes and glyphs reach in it
 abbrev pub IsHeld : Content → ℕ → Type 0
-IsHeld K g = Reach (read_back K).outline (is_root K.copied K.map) g
+IsHeld K g = Reach (read_back K).outline (is_root (read_back K) everything) g
 
 -- an empty record names nothing
-component-nil : (g : ℕ) → IsComponentOf [] g → ⊥
+pub component-nil : (g : ℕ) → IsComponentOf [] g → ⊥
 component-nil g h = let low = component-below 0 [] g (IsRecord-nil 0) h in absurd (omega (arith, low))
 
 module _ (K : Content) (ok : IsClosedContent K) where
@@ -59,15 +60,35 @@ module _ (K : Content) (ok : IsClosedContent K) where
   some-is : (g : ℕ) → IsHeld K g → IsSome (K.outline g)
   some-is g r = let w = held-some g r in rw (w.1) refl
 
+  -- a glyph that is not kept has no parts
+  pub parts-none : (g : ℕ) → K.outline g ≡ None → (slot : ℕ) → K.parts slot g ≡ []
+  parts-none g none slot =
+      elim (cases_Bool (is_kept (read_back K) everything g)) [
+        | inl t ↦
+            let w = held-some g ((is_kept-decides (read_back K) everything ok.font g).0 t) in
+            let n : Some w.0 ≡ None = sym w.1 ∙ none in cc
+        | inr f ↦
+            sym (ap (λ (C : Content). C.parts slot g) ok.closed)
+            ∙ ap (λ b. cond b (K.parts slot g) []) f
+      ]
+
+  -- so it is not there
+  pub there-none : (g : ℕ) → K.outline g ≡ None → K.there g ≡ false
+  there-none g none =
+      elim (cases_Bool (is_kept (read_back K) everything g)) [
+        | inl t ↦
+            let w = held-some g ((is_kept-decides (read_back K) everything ok.font g).0 t) in
+            let n : Some w.0 ≡ None = sym w.1 ∙ none in cc
+        | inr f ↦ sym (ap (λ (C : Content). C.there g) ok.closed) ∙ ap (λ b. b && K.there g) f
+      ]
+
   -- .notdef, the glyph of each code, and each component of what it keeps
   pub zero-kept : IsSome (K.outline 0)
-  zero-kept = let low = ok.font.mapped_below 0 in
-      some-is 0 (seed (is_root-seed K.copied K.map 0 (omega arith) (is_seed-zero K.map)))
+  zero-kept = some-is 0 (seed (is_root-seed (read_back K) everything 0 (is_seed-zero K.map)))
 
   pub code-kept : (c : ℕ) → IsSome (K.outline (K.map c))
   code-kept c = some-is (K.map c)
-      (seed (is_root-seed K.copied K.map (K.map c) (ok.font.mapped_below c) (is_seed-code K.map ok.font.mapped_codes
-      c)))
+      (seed (is_root-seed (read_back K) everything (K.map c) (is_seed-code K.map ok.font.mapped_codes c)))
 
   pub components-kept : HoldsComponents K.outline
   components-kept s g p = go (cases_option (K.outline s))
@@ -78,9 +99,9 @@ module _ (K : Content) (ok : IsClosedContent K) where
       go (inr some) = some-is g (part (some-held s some.0 some.1) p)
 
 module _ (K : Content) (ok : IsClosedContent K) where
-  -- and each glyph that may be shaped
-  pub roots-kept : (g : ℕ) → is_root K.copied K.map g ≡ true → IsSome (K.outline g)
-  roots-kept g h = some-is K ok g (seed h)
+  -- and each glyph that is there
+  pub roots-kept : (g : ℕ) → K.there g ≡ true → IsSome (K.outline g)
+  roots-kept g h = some-is K ok g (seed (is_root-there (read_back K) everything g refl h))
 
 pub KeepsComponents-closed : (K : Content) → IsClosedContent K → KeepsComponents K
 KeepsComponents-closed K ok =

@@ -1,151 +1,281 @@
--- Each kind of cuts is one.
-use Rattle.std.proofs.Common.{◌≡◌, ℕ, List, Option, None, Some, ap, inl, inr, refl, sym, ◌∙◌}
-use Rattle.std.specs.Option.{option_or}
-use Rattle.sfnt_bytes.specs.Lines.{first_of_lines}
+-- The settings of each kind, and full cuts as those of a plain reader.
+use Rattle.std.proofs.Common.{◌≡◌, ℕ, Bool, true, false, cond, ◌&&◌, nat_eq, nat_lt, inl, inr, List, [], ◌⊎◌, refl}
+use Rattle.std.proofs.Common.{◌∙◌, sym, ap, subst, ◌∷◌, Option, Some, None, ◌≢◌}
+use Rattle.std.specs.Option.{option_map, option_or}
+use Rattle.std.proofs.lemmas.Bool.{both_ways, cases_Bool, false_from_ne_true, leb-false, ne_eqb, or_parts}
+use Rattle.sfnt_bytes.specs.Directory.{is_layout_slot, slot_tag, table_of}
+use Rattle.sfnt_bytes.specs.Lines.{first_of_lines, when}
+use Rattle.sfnt_bytes.specs.Refusals.{tag_lines}
+use Rattle.sfnt_bytes.specs.declared.directory.TheConstants.{MAX_FILE}
+use Rattle.sfnt_bytes.specs.declared.tag.TheConstants.{GVAR, HHEA, HMTX, POST, SLOTS, VHEA, VMTX}
 use Rattle.font_file.specs.Font.{font_fault}
 use Rattle.font_file.specs.declared.font_error.FontError.{FontError}
-use Rattle.font_theory.specs.Content.{Content, Font, IsClosedContent, content, everything, font_of, layout_font_of}
-use Rattle.font_theory.specs.Content.{read_back}
-use Rattle.font_theory.specs.Cut.{IsCurrent, IsCut, content_of_all, our_format}
-use Rattle.font_theory.specs.File.{current_writing, file}
-use Rattle.font_theory.specs.Kinds.{IsKind, fault_of, font_as, format_of, spelled_by}
-use Rattle.font_theory.specs.LayoutCut.{layout_fault, layout_format, layout_lines}
-use Rattle.font_theory.specs.LeanCut.{lean_format, spelled_out, thin}
-use Rattle.font_theory.specs.VariableCut.{variable_fault, variable_font_of, variable_format, written_out}
+use Rattle.font_file.specs.declared.font_error.FontError.TheVariants.{BadVariations, Directory}
+use Rattle.font_theory.specs.Content.{Content, content, everything, glyph_count, read_back, font_of, is_made}
+use Rattle.font_theory.specs.Content.{is_never_copied}
+use Rattle.font_theory.specs.Cut.{IsCut, our_format}
+use Rattle.font_theory.specs.File.{Writing, adjustment_in, bytes_in_slot, current_writing, file, groups_of_content}
+use Rattle.font_theory.specs.File.{outlines_of, writing_of}
+use Rattle.font_theory.specs.Kinds.{AreSettings, Settings, all_undivided, by_metrics, fault_by, font_by, format_by}
+use Rattle.font_theory.specs.Kinds.{full_settings, layout_settings, lean_settings, plain_reading, read_by, settings}
+use Rattle.font_theory.specs.Kinds.{has_record, tables_by, there_by, variable_settings, IsKind, fault_of, font_as}
+use Rattle.font_theory.specs.Kinds.{format_of, spelled_by, divides_tables, partition_of}
+use Rattle.font_theory.specs.Kinds.Reading.{absent, as_it_is, unvarying}
+use Rattle.font_theory.specs.Parted.{metrics, nameless, variations}
+use Rattle.font_theory.specs.Parting.{divided, parts_of, undivided, undivided_content}
+use Rattle.font_theory.specs.declared.Profile.TheVariants.{First}
 use Rattle.font_theory.specs.declared.kinds.Kind.{Kind}
 use Rattle.font_theory.specs.declared.kinds.Kind.TheVariants.{Full, Layout, Lean, Variable}
-use Rattle.font_theory.proofs.ContentLemmas.{IsClosed-content}
-use Rattle.font_theory.proofs.CutLemmas.{font-whole}
-use Rattle.font_theory.proofs.FormatLemmas.{our_format-limit}
-use Rattle.font_theory.proofs.LayoutCutLemmas.{IsFont-layout, font_fault-layout, layout_format-is}
-use Rattle.font_theory.proofs.LayoutFileLemmas.{read-layout}
-use Rattle.font_theory.proofs.LeanContentLemmas.{IsClosed-spelled}
-use Rattle.font_theory.proofs.LeanFileLemmas.{read-current}
-use Rattle.font_theory.proofs.LeanFormatLemmas.{lean_format-is}
-use Rattle.font_theory.proofs.LeanLemmas.{IsFont-thin}
-use Rattle.font_theory.proofs.OurFormatLemmas.{our_format-is}
-use Rattle.font_theory.proofs.VariableFileLemmas.{means-variable, whole-variable}
-use Rattle.font_theory.proofs.VariableFormatLemmas.{font_fault-variable, refused-variable, variable_format-is}
+use Rattle.font_theory.proofs.ContentLemmas.{parts-path}
+use Rattle.font_theory.proofs.FontLemmas.{never-made}
+use Rattle.font_theory.proofs.LinkLemmas.{is_bad_variations_in-none, layout-made, may-layout}
+use Rattle.font_theory.proofs.LinkLemmas.{never-layout}
+use Rattle.font_theory.proofs.PartLemmas.{by_slot, frames-undivided, parts_of-undivided, wholes-undivided}
+use Rattle.font_theory.proofs.PartedLemmas.{IsPartition-metrics, IsPartition-undivided, IsPartition-variations}
+use Rattle.font_theory.proofs.PartedLemmas.{other-metrics}
+use Rattle.font_theory.proofs.SettingsLemmas.{IsKind-by, read-cut, means-cut, tables_by-below}
 
-our_fault : (X : List ℕ) → our_format.fault X ≡ font_fault X
-unfolding our_format
-our_fault X = refl
+plain_read : (slot : ℕ) → is_made slot ≡ false → plain_reading slot ≡ as_it_is
+plain_read slot f = rw f refl
 
-our_writes : (K : Content) → our_format.file K ≡ file current_writing K
-unfolding our_format
-our_writes K = refl
+plain_never : (slot : ℕ) → is_never_copied slot ≡ true → plain_reading slot ≡ absent
+plain_never slot never = rw (never-made slot never) refl
 
-our_means : (X : List ℕ) → content (font_of X) everything ≡ content_of_all our_format X
-unfolding our_format
-our_means X = refl
+plain_whole : {X : Type 0} (slot : ℕ) → plain_reading slot ≡ unvarying → X
+plain_whole slot e = go (is_made slot) e
+  where
+    go : {X : Type 0} → (b : Bool) → cond b absent as_it_is ≡ unvarying → X
+    go true h = cc
+    go false h = cc
 
-full : IsKind our_format font_fault font_of (λ K. K)
-full = record {
-  law = our_format-is;
-  fault_is = our_fault;
-  refused = λ X error h. h;
-  limit = our_format-limit;
-  writes = our_writes;
-  means = λ X form. our_means X;
+pub AreSettings-full : AreSettings full_settings
+unfolding full_settings
+AreSettings-full = record {
+  plain = plain_read;
+  never = plain_never;
+  whole = λ slot e. refl;
+  partition = IsPartition-undivided;
 }
 
--- what is read of a file that is written of a closed content is that content
-closed_read : (G : Font) (S : Content) → IsClosedContent S → G ≡ read_back S → content G everything ≡ S
-closed_read G S closed is = ap (λ (H : Font). content H everything) is ∙ closed.closed
-
-lean_current : (X : List ℕ) → IsCut lean_format X → IsCurrent lean_format X
-unfolding lean_format
-lean_current X form = record { accepted = form.accepted; written = elim form.written [ inl e ↦ e | inr e ↦ e ] }
-
-lean_means : (X : List ℕ) → IsCut lean_format X → content (font_of X) everything
-    ≡ spelled_out (content_of_all lean_format X)
-unfolding lean_format
-lean_means X form =
-    let read = read-current X (lean_current X form) in
-    let ok = IsClosed-content (lean_format.font X) everything (lean_format-is.is_font X form.accepted) in
-    closed_read (font_of X) (spelled_out (content_of_all lean_format X))
-    (IsClosed-spelled (content_of_all lean_format X) ok read.1) read.0
-
-lean : IsKind lean_format font_fault font_of spelled_out
-unfolding lean_format
-lean = record {
-  law = lean_format-is;
-  fault_is = λ X. refl;
-  refused = λ X error h. h;
-  limit = refl;
-  writes = λ K. refl;
-  means = lean_means;
+pub AreSettings-lean : AreSettings lean_settings
+unfolding lean_settings
+AreSettings-lean = record {
+  plain = plain_read;
+  never = plain_never;
+  whole = λ slot e. plain_whole slot e;
+  partition = IsPartition-metrics;
 }
 
-layout_current : (X : List ℕ) → IsCut layout_format X → IsCurrent layout_format X
-unfolding layout_format
-layout_current X form = record { accepted = form.accepted; written = elim form.written [ inl e ↦ e | inr e ↦ e ] }
+layout_plain : (slot : ℕ) → is_made slot ≡ false → layout_settings.reading slot ≡ as_it_is
+unfolding layout_settings
+layout_plain slot f =
+    let a = may-layout slot f in
+    let b = false_from_ne_true (is_layout_slot slot) (λ t. both_ways (is_made slot) f (layout-made slot t)) in
+    λ i. cond (a i) absent (cond (b i) unvarying as_it_is)
 
-layout_means : (X : List ℕ) → IsCut layout_format X → content (layout_font_of X) everything
-    ≡ spelled_out (content_of_all layout_format X)
-unfolding layout_format
-layout_means X form =
-    let accepted : layout_fault X ≡ None = form.accepted in
-    let read = read-layout X (layout_current X form) in
-    let ok = IsClosed-content (thin (layout_font_of X)) everything
-    (IsFont-thin (layout_font_of X) (IsFont-layout X accepted)) in
-    closed_read (layout_font_of X) (spelled_out (content_of_all layout_format X))
-    (IsClosed-spelled (content_of_all layout_format X) ok read.1) read.0
-
-layout_refused : (X : List ℕ) (error : FontError) → font_fault X ≡ Some error → layout_fault X ≡ Some error
-unfolding layout_fault
-layout_refused X error h = ap (λ (o : Option FontError). option_or o (first_of_lines (layout_lines X))) h
-
-layout : IsKind layout_format layout_fault layout_font_of spelled_out
-unfolding layout_format
-layout = record {
-  law = layout_format-is;
-  fault_is = λ X. refl;
-  refused = layout_refused;
-  limit = refl;
-  writes = λ K. refl;
-  means = layout_means;
+pub AreSettings-layout : AreSettings layout_settings
+unfolding layout_settings
+AreSettings-layout = record {
+  plain = layout_plain;
+  never = λ slot never. ap (λ b. cond b absent (cond (is_layout_slot slot) unvarying as_it_is)) (never-layout slot
+      never);
+  whole = by_slot (λ slot. layout_settings.reading slot ≡ unvarying → by_metrics slot ≡ undivided)
+      (λ e. refl) (λ e. cc) (λ e. cc) (λ e. cc) (λ slot d a b c e. other-metrics slot a b c);
+  partition = IsPartition-metrics;
 }
 
-variable : IsKind variable_format variable_fault variable_font_of written_out
-unfolding variable_format
-variable = record {
-  law = variable_format-is;
-  fault_is = λ X. refl;
-  refused = refused-variable;
-  limit = refl;
-  writes = λ K. refl;
-  means = means-variable;
+pub AreSettings-variable : AreSettings variable_settings
+unfolding variable_settings
+AreSettings-variable = record {
+  plain = λ slot f. rw (false_from_ne_true (is_never_copied slot)
+      (λ t. both_ways (is_made slot) f (never-made slot t))) refl;
+  never = λ slot never. rw never refl;
+  whole = λ slot e. go (is_never_copied slot) e;
+  partition = IsPartition-variations;
 }
+  where
+    go : {X : Type 0} → (b : Bool) → cond b absent as_it_is ≡ unvarying → X
+    go true h = cc
+    go false h = cc
+
+pub settings-are : (kind : Kind) → AreSettings (settings kind)
+settings-are Full = AreSettings-full
+settings-are Lean = AreSettings-lean
+settings-are Layout = AreSettings-layout
+settings-are Variable = AreSettings-variable
+
+-- what a plain reader refuses and sees
+module _ (s : Settings) (is : AreSettings s) (plain : (slot : ℕ) → s.reading slot ≡ plain_reading slot) where
+  pub tables_by-plain : (X : List ℕ) (slot : ℕ) → tables_by s X slot ≡ (font_of X).copied slot
+  tables_by-plain X slot =
+      elim (cases_Bool (is_made slot)) [
+        | inl t ↦ ap (λ r. read_by r slot (table_of X (slot_tag slot))) (plain slot) ∙ rw t refl
+        | inr f ↦ tables_by-below s is X slot (leb-false SLOTS slot (or_parts _ _ f).1)
+      ]
+
+  pub font_by-plain : s.by_number ≡ false → (X : List ℕ) → font_by s X ≡ font_of X
+  unfolding there_by
+  font_by-plain none X = λ i. record {
+    copied = λ slot. tables_by-plain X slot i;
+    head = (font_of X).head;
+    map = (font_of X).map;
+    outline = (font_of X).outline;
+    parts = λ _ _. [];
+    there = λ g. ap (λ b. b && (nat_lt g (glyph_count (tables_by s X)) && has_record ((font_of X).outline g)
+        (λ slot. parts_of s.partition (tables_by s X) slot g))) none i;
+  }
+
+  pub fault_by-plain : s.tags ≡ [] → (X : List ℕ) → fault_by s X ≡ font_fault X
+  unfolding fault_by
+  fault_by-plain none X =
+      let gvar = is_bad_variations_in-none (tables_by s X) (tables_by-plain X GVAR) in
+      (λ i. option_or (font_fault X) (first_of_lines
+      (option_map Directory (first_of_lines (tag_lines (none i) X)) ∷ when (gvar i) BadVariations ∷ [])))
+      ∙ go (font_fault X)
+    where
+      go : (o : Option FontError) → option_or o None ≡ o
+      go None = refl
+      go (Some e) = refl
+
+-- the file of a content has nothing of its parts
+pub file-parts : (writing : Writing) (K : Content) (parts : ℕ → ℕ → List ℕ) (there : ℕ → Bool)
+    → file writing (record {
+      copied = K.copied;
+      head = K.head;
+      map = K.map;
+      outline = K.outline;
+      parts = parts;
+      there = there;
+    })
+    ≡ file writing K
+unfolding file adjustment_in bytes_in_slot groups_of_content outlines_of
+file-parts writing K parts there = refl
+
+-- contents with the same tables, head, map and outlines have one file
+pub file-same : (writing : Writing) (K L : Content) → K.copied ≡ L.copied → K.head ≡ L.head → K.map ≡ L.map
+    → K.outline ≡ L.outline → file writing K ≡ file writing L
+file-same writing K L copied head map outline =
+    (λ i. file writing (record {
+      copied = copied i;
+      head = head i;
+      map = map i;
+      outline = outline i;
+      parts = K.parts;
+      there = K.there;
+    })) ∙ file-parts writing L K.parts K.there
+
+file-undivided : (writing : Writing) (K : Content) → file writing (undivided_content all_undivided K) ≡ file writing K
+file-undivided writing K =
+    (λ i. file writing (record {
+      copied = λ slot. wholes-undivided all_undivided K.copied slot refl K.parts i;
+      head = K.head;
+      map = K.map;
+      outline = K.outline;
+      parts = λ _ _. [];
+      there = K.there;
+    }))
+    ∙ file-parts writing K (λ _ _. []) K.there
+
+-- full cuts are read and written as a plain reader reads, and as this program writes
+pub plain_font-full : (X : List ℕ) → divided all_undivided (font_by full_settings X) ≡ font_of X
+unfolding full_settings
+plain_font-full X =
+    (λ i. record {
+      copied = λ slot. frames-undivided all_undivided (tables_by full_settings X) slot refl i;
+      head = (font_of X).head;
+      map = (font_of X).map;
+      outline = (font_of X).outline;
+      parts = parts-path (λ slot g. parts_of-undivided all_undivided (tables_by full_settings X) slot refl g) i;
+      there = (font_by full_settings X).there;
+    })
+    ∙ font_by-plain full_settings AreSettings-full (λ slot. refl) refl X
+
+pub full-is : format_by full_settings ≡ our_format
+unfolding format_by our_format full_settings
+full-is = λ i. record {
+  fault = λ X. fault_by-plain full_settings AreSettings-full (λ slot. refl) refl X i;
+  font = λ X. plain_font-full X i;
+  file = λ K. file-undivided current_writing K i;
+  old = λ K. file-undivided (writing_of First) K i;
+  limit = MAX_FILE;
+}
+
+pub lean_fault-is : (X : List ℕ) → fault_by lean_settings X ≡ font_fault X
+unfolding lean_settings
+lean_fault-is = fault_by-plain lean_settings AreSettings-lean (λ slot. refl) refl
+
+pub lean_tables-is : (X : List ℕ) (slot : ℕ) → tables_by lean_settings X slot ≡ (font_of X).copied slot
+unfolding lean_settings
+lean_tables-is = tables_by-plain lean_settings AreSettings-lean (λ slot. refl)
+
+pub full_fault-is : (X : List ℕ) → fault_by full_settings X ≡ font_fault X
+unfolding full_settings
+full_fault-is = fault_by-plain full_settings AreSettings-full (λ slot. refl) refl
+
+pub full_font-is : (X : List ℕ) → font_by full_settings X ≡ font_of X
+unfolding full_settings there_by
+full_font-is = font_by-plain full_settings AreSettings-full (λ slot. refl) refl
+
+-- a kind whose glyphs may be wanted by number divides metrics
+pub numbered : (kind : Kind) → (settings kind).by_number ≡ true → (slot : ℕ) → is_made slot ≡ false
+    → (settings kind).partition slot ≡ by_metrics slot
+unfolding full_settings lean_settings layout_settings variable_settings
+numbered Full h slot f = cc
+numbered Lean h slot f = refl
+numbered Layout h slot f = refl
+numbered Variable h slot f = let no : nat_eq slot GVAR ≡ false = ne_eqb slot GVAR (λ e. let t : is_made GVAR ≡ false =
+    subst (λ (x : ℕ). is_made x ≡ false) e f in cc) in rw no refl
+
+-- how each kind divides tables
+pub record DividesAs (s : Settings) : Type 0 where
+  pub gvar : (s.partition GVAR ≡ variations) ⊎ (s.reading GVAR ≡ absent)
+  pub hmtx : (s.partition HMTX ≡ undivided) ⊎ (s.partition HMTX ≡ metrics HHEA)
+  pub post : (s.partition POST ≡ undivided) ⊎ (s.partition POST ≡ nameless)
+  pub vmtx : (s.partition VMTX ≡ undivided) ⊎ (s.partition VMTX ≡ metrics VHEA)
+
+full_divides : DividesAs full_settings
+unfolding full_settings
+full_divides = record { gvar = inr refl; hmtx = inl refl; post = inl refl; vmtx = inl refl }
+
+lean_divides : DividesAs lean_settings
+unfolding lean_settings
+lean_divides = record { gvar = inr refl; hmtx = inr refl; post = inr refl; vmtx = inr refl }
+
+layout_divides : DividesAs layout_settings
+unfolding layout_settings
+layout_divides = record { gvar = inr refl; hmtx = inr refl; post = inr refl; vmtx = inr refl }
+
+variable_divides : DividesAs variable_settings
+unfolding variable_settings
+variable_divides = record { gvar = inl refl; hmtx = inr refl; post = inr refl; vmtx = inr refl }
+
+pub divides : (kind : Kind) → DividesAs (settings kind)
+divides Full = full_divides
+divides Lean = lean_divides
+divides Layout = layout_divides
+divides Variable = variable_divides
+
+-- a kind divides no table, or those of metrics and `post` as lean cuts do
+pub undivided-kind : (kind : Kind) → divides_tables kind ≡ false → (slot : ℕ) → partition_of kind slot ≡ undivided
+unfolding full_settings
+undivided-kind Full none slot = refl
+undivided-kind Lean none slot = cc
+undivided-kind Layout none slot = cc
+undivided-kind Variable none slot = cc
+
+pub divided-kind : (kind : Kind) → divides_tables kind ≡ true → (slot : ℕ) → slot ≢ GVAR
+    → partition_of kind slot ≡ by_metrics slot
+unfolding lean_settings layout_settings variable_settings
+divided-kind Full some slot other = cc
+divided-kind Lean some slot other = refl
+divided-kind Layout some slot other = refl
+divided-kind Variable some slot other = let f = ne_eqb slot GVAR other in rw f refl
 
 pub kind_is : (kind : Kind) → IsKind (format_of kind) (fault_of kind) (font_as kind) (spelled_by kind)
-kind_is Full = full
-kind_is Lean = lean
-kind_is Layout = layout
-kind_is Variable = variable
-
--- a file that is accepted for cuts of a kind is a font
-pub opened : (kind : Kind) (X : List ℕ) → fault_of kind X ≡ None → font_fault X ≡ None
-opened Full X accepted = accepted
-opened Lean X accepted = accepted
-opened Layout X accepted = font_fault-layout X accepted
-opened Variable X accepted = font_fault-variable X accepted
+kind_is kind = IsKind-by (settings kind) (settings-are kind)
 
 -- a file in cut form is read as what is read back of its content
-whole_full : (X : List ℕ) → IsCut our_format X → font_of X ≡ read_back (content (font_of X) everything)
-unfolding our_format
-whole_full X form = font-whole our_format our_format-is X form
-
-whole_lean : (X : List ℕ) → IsCut lean_format X → font_of X ≡ read_back (content (font_of X) everything)
-whole_lean X form = (read-current X (lean_current X form)).0 ∙ ap read_back (sym (lean_means X form))
-
-whole_layout : (X : List ℕ) → IsCut layout_format X
-    → layout_font_of X ≡ read_back (content (layout_font_of X) everything)
-whole_layout X form = (read-layout X (layout_current X form)).0 ∙ ap read_back (sym (layout_means X form))
-
 pub read_whole : (kind : Kind) (X : List ℕ) → IsCut (format_of kind) X
     → font_as kind X ≡ read_back (content (font_as kind X) everything)
-read_whole Full = whole_full
-read_whole Lean = whole_lean
-read_whole Layout = whole_layout
-read_whole Variable = whole-variable
+read_whole kind X form = read-cut (settings kind) (settings-are kind) X form
+    ∙ ap read_back (sym (means-cut (settings kind) (settings-are kind) X form))

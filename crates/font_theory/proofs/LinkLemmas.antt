@@ -8,8 +8,9 @@ use Rattle.std.proofs.Math.Path.{fun_ext}
 use Rattle.sfnt_bytes.specs.Directory.{is_layout_slot}
 use Rattle.sfnt_bytes.specs.declared.tag.TheConstants.{ALL_SLOTS, FIRST_VARIATION, FVAR, GSUB, GVAR}
 use Rattle.font_variations.specs.Gvar.{is_bad_variations}
-use Rattle.font_theory.specs.Content.{IsPlain, glyph_count, is_bad_layout_in, is_bad_variations_in, is_made}
-use Rattle.font_theory.specs.Content.{is_never_copied, is_never_in_layout, links_in, table_in_slot}
+use Rattle.font_theory.specs.Content.{IsPlain, glyph_count, is_bad_variations_in, is_made}
+use Rattle.font_theory.specs.Closed.{is_bad_layout_in, links_in}
+use Rattle.font_theory.specs.Content.{is_never_copied, is_never_in_layout, table_in_slot}
 use Rattle.font_layout.specs.Layout.{kept_in, leads_of, links, links_in as table_links_in}
 use Rattle.font_layout.specs.Steps.{lookup_list, steps_in}
 use Rattle.font_layout.proofs.CleaningLemmas.{fixed-fixed}
@@ -65,17 +66,6 @@ pub is_bad_variations_in-none : (c : Tables) → c GVAR ≡ None → is_bad_vari
 unfolding is_bad_variations_in
 is_bad_variations_in-none c none =
     ap (λ o. option_map_or (λ gvar. is_bad_variations gvar (c FVAR) (glyph_count c)) o false) none
-
-pub is_bad_variations_in-same : (c d : Tables) → d FVAR ≡ c FVAR → d GVAR ≡ c GVAR → glyph_count d ≡ glyph_count c
-    → is_bad_variations_in d ≡ is_bad_variations_in c
-unfolding is_bad_variations_in
-is_bad_variations_in-same c d fvar gvar count =
-    λ i. option_map_or (λ table. is_bad_variations table (fvar i) (count i)) (gvar i) false
-
--- what a layout reader leaves as it is: no table of variations, and none of layout with what varies
-pub record IsOfLayout (c : Tables) : Type 0 where
-  pub absent : (slot : ℕ) → is_never_in_layout slot ≡ true → c slot ≡ None
-  pub fixed : (slot : ℕ) → is_layout_slot slot ≡ true → option_map (fixed slot) (c slot) ≡ c slot
 
 -- a slot of layout is one that a layout cut copies
 pub layout-copied : (slot : ℕ) → is_layout_slot slot ≡ true → is_never_in_layout slot ≡ false

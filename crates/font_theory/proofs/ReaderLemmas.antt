@@ -13,24 +13,22 @@ use Rattle.font_tables.specs.Fields.{glyph_count_of, num_glyphs, number_of_h_met
 use Rattle.font_tables.specs.Metrics.{metric_in, metric_of}
 use Rattle.font_tables.specs.Outlines.{outline_of}
 use Rattle.font_tables.specs.Refusals.{is_bad_hhea, is_bad_hmtx, is_bad_maxp}
-use Rattle.codes.specs.CharacterMap.{restricted}
-use Rattle.font_glyph.specs.Linked.{Linked}
 use Rattle.font_glyph.specs.Reach.{Reach}
 use Rattle.font_glyph.specs.Record.{IsRecord}
 use Rattle.font_file.specs.Font.{font_fault, map_of}
 use Rattle.font_file.specs.declared.font_error.FontError.{FontError}
 use Rattle.font_file.specs.declared.font_error.FontError.TheVariants.{Directory}
 use Rattle.font_theory.specs.Bytes.{padded}
-use Rattle.font_theory.specs.Content.{Font, IsFont, NUMBERS, content, font_of, glyph_count, is_bad_layout_in}
-use Rattle.font_theory.specs.Content.{is_bad_variations_in, is_kept, is_made, is_never_copied, is_root, is_seed}
-use Rattle.font_theory.specs.Content.{links_in, metric_count, read_back, table_in_slot}
-use Rattle.font_theory.specs.LayoutCut.{without_layout}
-use Rattle.font_theory.proofs.ContentLemmas.{IsKept-linked, read_back-reached}
+use Rattle.font_theory.specs.Content.{IsFont, Wanted, content, font_of, glyph_count}
+use Rattle.font_theory.specs.Content.{is_bad_variations_in, is_kept, is_made, is_never_copied, is_root}
+use Rattle.font_theory.specs.Content.{metric_count, read_back, table_in_slot}
+use Rattle.font_theory.specs.Kinds.{without_layout}
+use Rattle.font_theory.proofs.ContentLemmas.{IsKept-number, IsKept-wanted, read_back-reached}
 use Rattle.font_theory.proofs.FileWantedLemmas.{Reach-file, Reach-font, outline-file, roots-font}
 use Rattle.font_theory.proofs.FontLemmas.{IsFont-accepted, glyph_count-file, size-accepted, size-refused}
-use Rattle.font_theory.proofs.LeanMetricLemmas.{metric_of-tables}
-use Rattle.font_theory.proofs.RootLemmas.{is_root-below, is_root-decides}
-use Rattle.font_theory.proofs.WantedLemmas.{Reach-along, is_kept-decides, seeds-roots}
+use Rattle.font_theory.proofs.MetricLemmas.{metric_of-tables}
+use Rattle.font_theory.proofs.MeaningLemmas.{seen}
+use Rattle.font_theory.proofs.WantedLemmas.{IsKept, Reach-along, is_kept-decides, roots-below, seeds-roots}
 
 abbrev Tables : Type 0
 Tables = ℕ → Option (List ℕ)
@@ -62,16 +60,8 @@ module _ (file : List ℕ) (lines : List (Option FontError)) where
       go None e r = size-accepted file e
       go (Some x) e r = size-refused file error (e ∙ r) other
 
--- a reader that sees these tables in a file
-abbrev pub seen : List ℕ → Tables → Font
-seen file tables = record {
-  copied = tables;
-  head = (font_of file).head;
-  map = (font_of file).map;
-  outline = (font_of file).outline;
-}
-
-module _ (file : List ℕ) (c : Tables) (below : (slot : ℕ) → slot < SLOTS → c slot ≡ (font_of file).copied slot) where
+module _ (file : List ℕ) (c : Tables) (there : ℕ → Bool) (below : (slot : ℕ) → slot < SLOTS
+    → c slot ≡ (font_of file).copied slot) where
   table-seen : (slot : ℕ) → slot < SLOTS → table_in_slot c slot ≡ table_in_slot (font_of file).copied slot
   table-seen slot low = ap (λ (o : Option (List ℕ)). unwrap_or o []) (below slot low)
 
@@ -96,8 +86,9 @@ module _ (file : List ℕ) (c : Tables) (below : (slot : ℕ) → slot < SLOTS �
 
   -- it sees a font in an accepted file
   pub IsFont-seen : font_fault file ≡ None → ((slot : ℕ) → is_never_copied slot ≡ true → c slot ≡ None)
-      → is_bad_layout_in c ≡ false → is_bad_variations_in c ≡ false → IsFont (seen file c)
-  IsFont-seen accepted slots readable variations =
+      → is_bad_variations_in c ≡ false → ((g : ℕ) → there g ≡ true → g < glyph_count c)
+      → IsFont (seen file c there)
+  IsFont-seen accepted slots variations low =
       let ok = IsFont-accepted file accepted in
       let n = glyph_count-seen in
       record {
@@ -105,22 +96,25 @@ module _ (file : List ℕ) (c : Tables) (below : (slot : ℕ) → slot < SLOTS �
         mapped_codes = ok.mapped_codes;
         records = λ g. subst (λ (k : ℕ). IsRecord k ((font_of file).outline g)) (sym n) (ok.records g);
         slots = slots;
+        unparted = λ _ _ _. refl;
+        there_below = low;
         head_form = ok.head_form;
         head = ok.head;
         maxp = ap is_bad_maxp (table-seen MAXP (omega arith)) ∙ ok.maxp;
         hhea = (λ i. is_bad_hhea (table-seen HHEA (omega arith) i) (n i)) ∙ ok.hhea;
         hmtx = (λ i. is_bad_hmtx (hmtx-seen i) (metric_count-seen i) (n i)) ∙ ok.hmtx;
-        readable = readable;
         variations = variations;
       }
 
   -- of which a plain reader sees all but the tables of layout and of variations
-  pub font_of-seen : font_of file ≡ without_layout (seen file c)
+  pub font_of-seen : font_of file ≡ without_layout (seen file c there)
   font_of-seen = λ i. record {
     copied = λ slot. go slot i;
     head = (font_of file).head;
     map = (font_of file).map;
     outline = (font_of file).outline;
+    parts = λ _ _. [];
+    there = λ _. false;
   }
     where
       go : (slot : ℕ) → (font_of file).copied slot ≡ cond (is_made slot) None (c slot)
@@ -132,51 +126,52 @@ module _ (file : List ℕ) (c : Tables) (below : (slot : ℕ) → slot < SLOTS �
                 sym (ap (λ b. cond b None (c slot)) f ∙ below slot low)
           ]
 
-  module _ (wanted : ℕ → Bool) (accepted : font_fault file ≡ None) (ok : IsFont (seen file c)) (linked : ℕ → List ℕ)
-      (links_are : links_in c ≡ linked) where
+  module _ (wanted : Wanted) (accepted : font_fault file ≡ None) (ok : IsFont (seen file c there)) where
     abbrev roots : ℕ → Bool
-    roots = is_root c (restricted wanted (map_of file))
-
-    -- what may be shaped is what links lead to
-    pub is_root-seen : (m : ℕ → ℕ) (g : ℕ)
-        → Decides (is_root c m g) ((g < glyph_count_of file) × Linked linked (is_seed m) NUMBERS g)
-    is_root-seen m g =
-        let P : ℕ → (ℕ → List ℕ) → Type 0 = λ n l. (g < n) × Linked l (is_seed m) NUMBERS g in
-        let same : P (glyph_count c) (links_in c) ≡ P (glyph_count_of file) linked =
-        λ i. P (count-seen i) (links_are i) in
-        Decides-like _ (λ r. subst (λ (X : Type 0). X) same r) (λ r. subst (λ (X : Type 0). X) (sym same) r)
-        (is_root-decides c m g)
+    roots = is_root (seen file c there) wanted
 
     low_roots : (h : ℕ) → roots h ≡ true → h < glyph_count_of file
-    low_roots h s = subst (λ (n : ℕ). h < n) count-seen (is_root-below c (restricted wanted (map_of file)) h s)
+    low_roots h s = subst (λ (n : ℕ). h < n) count-seen (roots-below (seen file c there) wanted ok h s)
 
-    -- what is kept is what outlines lead to from there
-    pub is_kept-seen : (g : ℕ) → Decides (is_kept (seen file c) wanted g) (Reach (outline_of file) roots g)
+    -- what is kept is what outlines lead to from the roots
+    pub is_kept-seen : (g : ℕ) → Decides (is_kept (seen file c there) wanted g) (Reach (outline_of file) roots g)
     is_kept-seen g =
         Decides-like _ (λ r. (Reach-file file accepted roots low_roots g r).0)
-        (λ r. (Reach-font file accepted roots low_roots g r).0) (is_kept-decides (seen file c) wanted ok g)
+        (λ r. (Reach-font file accepted roots low_roots g r).0) (is_kept-decides (seen file c there) wanted ok g)
 
     -- and no less than a plain cut keeps
-    pub kept-plain : (g : ℕ) → is_kept (font_of file) wanted g ≡ true → is_kept (seen file c) wanted g ≡ true
+    pub kept-plain : (g : ℕ) → is_kept (font_of file) wanted g ≡ true → is_kept (seen file c there) wanted g ≡ true
     kept-plain g h =
         let r = (is_kept-decides (font_of file) wanted (IsFont-accepted file accepted) g).0 h in
-        (is_kept-decides (seen file c) wanted ok g).1
-        (Reach-along _ _ _ _ (λ x e. seeds-roots (seen file c) wanted ok x (subst (λ (p : ℕ → Bool). p x ≡ true)
-        (roots-font file wanted accepted) e)) (λ _ _ _ p. p) g r)
+        (is_kept-decides (seen file c there) wanted ok g).1
+        (Reach-along _ _ _ _ (λ x e. seeds-roots (seen file c there) wanted ok x (subst (λ (p : ℕ → Bool). p x ≡ true)
+        (roots-font file wanted) e)) (λ _ _ _ p. p) g r)
 
-    -- the outline of what components lead to from where links lead from the glyph of a wanted code
-    pub outline-linked : (x : ℕ) → wanted x ≡ true → (r g : ℕ) → r < glyph_count_of file
-        → Linked linked (nat_eq (map_of file x)) NUMBERS r → Reach (outline_of file) (nat_eq r) g
+    -- the outline of what components lead to from a kept glyph
+    pub outline-from : (r g : ℕ) → r < glyph_count_of file
+        → ((x : ℕ) → Reach (font_of file).outline (nat_eq r) x → IsKept (seen file c there) wanted x)
+        → Reach (outline_of file) (nat_eq r) g
         → (g < glyph_count_of file)
-        × ((read_back (content (seen file c) wanted)).outline g ≡ padded (outline_of file g))
-    outline-linked x h r g low led reach =
+        × ((read_back (content (seen file c there) wanted)).outline g ≡ padded (outline_of file g))
+    outline-from r g low kept reach =
         let under : (y : ℕ) → nat_eq r y ≡ true → y < glyph_count_of file =
         λ y e. subst (λ (z : ℕ). z < glyph_count_of file) (eqb-true r y e) low in
-        let w = Reach-font file accepted (nat_eq r) under g reach in
-        let here : r < glyph_count c = subst (λ (n : ℕ). r < n) (sym count-seen) low in
-        let led' : Linked (links_in c) (nat_eq (map_of file x)) NUMBERS r =
-        subst (λ (l : ℕ → List ℕ). Linked l (nat_eq (map_of file x)) NUMBERS r) (sym links_are) led in (
+        let w = Reach-font file accepted (nat_eq r) under g reach in (
           w.1,
-          read_back-reached (seen file c) wanted ok g (IsKept-linked (seen file c) wanted ok x h r here led' g w.0)
-              ∙ ap padded (outline-file file g w.1),
+          read_back-reached (seen file c there) wanted ok g (kept g w.0) ∙ ap padded (outline-file file g w.1),
         )
+
+    -- from the glyph of a wanted code, and from a wanted glyph that is there
+    pub outline-code : (x : ℕ) → wanted.codes x ≡ true → (g : ℕ) → Reach (outline_of file) (nat_eq (map_of file x)) g
+        → (g < glyph_count_of file)
+        × ((read_back (content (seen file c there) wanted)).outline g ≡ padded (outline_of file g))
+    outline-code x h g =
+        outline-from (map_of file x) g (subst (λ (n : ℕ). map_of file x < n) count-seen (ok.mapped_below x))
+        (IsKept-wanted (seen file c there) wanted ok x h)
+
+    pub outline-number : (r : ℕ) → wanted.glyphs r ≡ true → there r ≡ true → (g : ℕ)
+        → Reach (outline_of file) (nat_eq r) g → (g < glyph_count_of file)
+        × ((read_back (content (seen file c there) wanted)).outline g ≡ padded (outline_of file g))
+    outline-number r w t g =
+        outline-from r g (subst (λ (n : ℕ). r < n) count-seen (ok.there_below r t))
+        (IsKept-number (seen file c there) wanted r w t)

@@ -1,5 +1,6 @@
 -- What is read of a small font, and what is kept of it for two sets of codes, by computation.
-use Rattle.std.proofs.Common.{◌≡◌, ℕ, zero, suc, ◌<◌, ◌≤◌, ◌⊎◌, ◌||◌, Bool, true, false, cond, nat_eq, nat_lt, List, []}
+use Rattle.std.proofs.Common.{◌≡◌, ℕ, zero, suc, ◌<◌, ◌≤◌, ◌⊎◌, ◌&&◌, ◌||◌, Bool, true, false, cond, nat_eq, nat_lt}
+use Rattle.std.proofs.Common.{List, []}
 use Rattle.std.proofs.Common.{◌∷◌, get_or, map, take, refl, sym, ap, subst, ◌∙◌, arith, Option, Some, None, option_map}
 use Rattle.std.proofs.Common.{inl, inr, flat_map}
 use Rattle.std.specs.List.{range_with_len}
@@ -35,12 +36,13 @@ use Rattle.font_file.specs.declared.font_error.FontError.TheVariants.{Directory,
 use Rattle.font_file.proofs.FontLemmas.{font_fault_is, glyph_fault}
 use Rattle.font_theory.specs.Bytes.{bytes16, cut_head, padded}
 use Rattle.font_theory.specs.Content.{Content, Font, IsFont, content, font_of, is_kept, is_made, is_root, is_seed}
-use Rattle.font_theory.proofs.LinkLemmas.{links_in-none}
-use Rattle.font_theory.proofs.RootLemmas.{is_root-alone}
+use Rattle.font_theory.specs.Content.{of_codes}
 use Rattle.font_theory.specs.WorkedFiles.{of_words}
+use Rattle.font_theory.proofs.ContentLemmas.{nothing_either}
 use Rattle.font_theory.proofs.FontLemmas.{IsFont-accepted}
-use Rattle.font_theory.proofs.WantedLemmas.{IsKept, is_kept-decides, is_seed-code, is_seed-tells, is_seed-zero}
-use Rattle.font_theory.proofs.WantedLemmas.{restricted-past, seeds-below, seeds-roots}
+use Rattle.font_theory.proofs.WantedLemmas.{IsKept, is_kept-decides, is_root-none, is_seed-code, is_seed-tells}
+use Rattle.font_theory.proofs.WantedLemmas.{is_seed-zero}
+use Rattle.font_theory.proofs.WantedLemmas.{restricted-past, seeds-roots}
 
 -- the bytes of numbers of 16 bits
 abbrev of_halves : List ℕ → List ℕ
@@ -189,29 +191,27 @@ component_of-small s g low h = cases s low (there ∙ (names_decides (font.outli
         ]
     cases (suc (suc (suc (suc k)))) l e = absurd (omega arith)
 
--- it has no `GSUB`, and so no links
-roots_are : (wanted : ℕ → Bool) → is_root font.copied (restricted wanted font.map)
-    ≡ is_seed (restricted wanted font.map)
-roots_are wanted = is_root-alone font.copied (restricted wanted font.map) (links_in-none font.copied refl)
-    (seeds-below font wanted is_font)
+-- no glyph of it is wanted by number
+roots_are : (wanted : ℕ → Bool) → is_root font (of_codes wanted) ≡ is_seed (restricted wanted font.map)
+roots_are wanted = is_root-none font (of_codes wanted) (λ g. refl)
 
-first : (wanted : ℕ → Bool) (g : ℕ) → is_seed (restricted wanted font.map) g ≡ true → IsKept font wanted g
-first wanted g h = seed (seeds-roots font wanted is_font g h)
+first : (wanted : ℕ → Bool) (g : ℕ) → is_seed (restricted wanted font.map) g ≡ true → IsKept font (of_codes wanted) g
+first wanted g h = seed (seeds-roots font (of_codes wanted) is_font g h)
 
 -- what is kept are the glyphs below a number, where seeds and components stay below it and each of them is
 -- reached
 kept_below : (wanted : ℕ → Bool) (n : ℕ) → ((g : ℕ) → is_seed (restricted wanted font.map) g ≡ true → g < n)
     → ((s g : ℕ) → s < n → IsComponentOf (font.outline s) g → g < n)
-    → ((g : ℕ) → g < n → IsKept font wanted g) → (g : ℕ) → is_kept font wanted g ≡ nat_lt g n
+    → ((g : ℕ) → g < n → IsKept font (of_codes wanted) g) → (g : ℕ) → is_kept font (of_codes wanted) g ≡ nat_lt g n
 kept_below wanted n seeds parts back g =
-    same_from_decides {P = IsKept font wanted g} (is_kept font wanted g) (nat_lt g n)
-    (is_kept-decides font wanted is_font g) (
+    same_from_decides {P = IsKept font (of_codes wanted) g} (is_kept font (of_codes wanted) g) (nat_lt g n)
+    (is_kept-decides font (of_codes wanted) is_font g) (
       (λ t. back g (ltb-true g n t)),
-      (λ r. Reach-within font.outline (is_root font.copied (restricted wanted font.map))
+      (λ r. Reach-within font.outline (is_root font (of_codes wanted))
           (λ h. nat_lt h n) closed g r),
     )
   where
-    closed : IsClosed font.outline (is_root font.copied (restricted wanted font.map)) (λ h. nat_lt h n ≡ true)
+    closed : IsClosed font.outline (is_root font (of_codes wanted)) (λ h. nat_lt h n ≡ true)
     closed = record {
       has_seeds = λ h e. lt-ltb h n (seeds h (subst (λ (p : ℕ → Bool). p h ≡ true) (roots_are wanted) e));
       has_parts = λ s h e c. lt-ltb h n (parts s h (ltb-true s n e) c);
@@ -221,7 +221,7 @@ kept_below wanted n seeds parts back g =
 abbrev pub nothing : ℕ → Bool
 nothing c = false
 
-nothing_kept : (g : ℕ) → is_kept font nothing g ≡ nat_lt g 1
+nothing_kept : (g : ℕ) → is_kept font (of_codes nothing) g ≡ nat_lt g 1
 nothing_kept g = kept_below nothing 1 seeds parts back g
   where
     seeds : (h : ℕ) → is_seed (restricted nothing font.map) h ≡ true → h < 1
@@ -234,9 +234,9 @@ nothing_kept g = kept_below nothing 1 seeds parts back g
     parts : (s h : ℕ) → s < 1 → IsComponentOf (font.outline s) h → h < 1
     parts s h low c = let w = component_of-small s h (omega arith) c in let three : s ≡ 3 = w.0 in absurd (omega arith)
 
-    back : (h : ℕ) → h < 1 → IsKept font nothing h
+    back : (h : ℕ) → h < 1 → IsKept font (of_codes nothing) h
     back h low = let e : 0 ≡ h = omega arith in
-        subst (IsKept font nothing) e (first nothing 0 (is_seed-zero (restricted nothing font.map)))
+        subst (IsKept font (of_codes nothing)) e (first nothing 0 (is_seed-zero (restricted nothing font.map)))
 
 -- for 0xC1: its glyph 3, the components 1 and 2 of that, and .notdef
 abbrev pub only_aacute : ℕ → Bool
@@ -261,7 +261,7 @@ aacute_map_is c = elim (cases_eq c 0xC1) [
   | inr other ↦ let f = ne_eqb c 0xC1 other in rw f refl
 ]
 
-aacute_kept : (g : ℕ) → is_kept font only_aacute g ≡ nat_lt g 4
+aacute_kept : (g : ℕ) → is_kept font (of_codes only_aacute) g ≡ nat_lt g 4
 aacute_kept g = kept_below only_aacute 4 seeds parts back g
   where
     three : aacute_map 0xC1 ≡ 3
@@ -280,15 +280,15 @@ aacute_kept g = kept_below only_aacute 4 seeds parts back g
     parts : (s h : ℕ) → s < 4 → IsComponentOf (font.outline s) h → h < 4
     parts s h low c = let w = component_of-small s h low c in elim w.1 [ inl one ↦ omega arith | inr two ↦ omega arith ]
 
-    third : IsKept font only_aacute 3
+    third : IsKept font (of_codes only_aacute) 3
     third = first only_aacute 3 (subst (λ (k : ℕ). is_seed aacute_map k ≡ true) three
-        (is_seed-code aacute_map (restricted-past font only_aacute is_font) 0xC1))
+        (is_seed-code aacute_map (restricted-past font (of_codes only_aacute) is_font) 0xC1))
 
-    named : (h : ℕ) → (nat_eq 1 h || (nat_eq 2 h || false)) ≡ true → IsKept font only_aacute h
+    named : (h : ℕ) → (nat_eq 1 h || (nat_eq 2 h || false)) ≡ true → IsKept font (of_codes only_aacute) h
     named h e = part third ((names_decides (font.outline 3) h).0 (ap (λ (l : List Bool). get_or l 3 false)
         (named_listed h) ∙ e))
 
-    back : (h : ℕ) → h < 4 → IsKept font only_aacute h
+    back : (h : ℕ) → h < 4 → IsKept font (of_codes only_aacute) h
     back zero low = first only_aacute 0 (is_seed-zero aacute_map)
     back (suc zero) low = named 1 refl
     back (suc (suc zero)) low = named 2 refl
@@ -302,6 +302,8 @@ small_content m n = record {
   head = small_head;
   map = m;
   outline = λ g. get_or (take n small_outlines) g None;
+  parts = λ _ _. [];
+  there = λ _. false;
 }
 
 outlines_are : (n g : ℕ) → n ≤ 4 → when (nat_lt g n) (padded (font.outline g)) ≡ get_or (take n small_outlines) g None
@@ -317,16 +319,22 @@ outlines_are n g few = elim (cases_lt g n) [
 ]
 
 content_is : (wanted : ℕ → Bool) (m : ℕ → ℕ) (n : ℕ) → n ≤ 4 → ((c : ℕ) → restricted wanted font.map c ≡ m c)
-    → ((g : ℕ) → is_kept font wanted g ≡ nat_lt g n) → content font wanted ≡ small_content m n
+    → ((g : ℕ) → is_kept font (of_codes wanted) g ≡ nat_lt g n) → content font (of_codes wanted) ≡ small_content m n
 content_is wanted m n few maps kept = λ i. record {
   copied = λ slot. copied_is slot i;
   head = head_is i;
   map = λ c. maps c i;
   outline = λ g. (ap (λ (b : Bool). when b (padded (font.outline g))) (kept g) ∙ outlines_are n g few) i;
+  parts = λ slot g. nothing_either (is_kept font (of_codes wanted) g) [] refl i;
+  there = λ g. none (is_kept font (of_codes wanted) g) i;
 }
+  where
+    none : (b : Bool) → (b && false) ≡ false
+    none true = refl
+    none false = refl
 
-pub content-nothing : content font nothing ≡ small_content (λ c. 0) 1
+pub content-nothing : content font (of_codes nothing) ≡ small_content (λ c. 0) 1
 content-nothing = content_is nothing (λ c. 0) 1 (omega arith) (λ c. refl) nothing_kept
 
-pub content-aacute : content font only_aacute ≡ small_content one_code 4
+pub content-aacute : content font (of_codes only_aacute) ≡ small_content one_code 4
 content-aacute = content_is only_aacute one_code 4 (omega arith) aacute_map_is aacute_kept

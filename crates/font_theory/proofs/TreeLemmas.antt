@@ -1,10 +1,11 @@
 -- Trees of joins, and what they come to.
-use Rattle.std.proofs.Common.{◌≡◌, ℕ, ◌≤◌, Bool, true, false, ◌⊎◌, inl, inr, List, length, None, refl, sym, ◌∙◌, ap}
+use Rattle.std.proofs.Common.{◌≡◌, ℕ, ◌≤◌, Bool, true, false, ◌⊎◌, inl, inr, ◌||◌, List, length, None, refl, sym, ◌∙◌}
+use Rattle.std.proofs.Common.{ap}
 use Rattle.std.proofs.Common.{subst}
-use Rattle.std.proofs.Math.Path.{fun_ext}
 use Rattle.std.proofs.lemmas.Bool.{or_cases, or_left, or_right}
 use Rattle.font_theory.specs.Cut.{Format, IsCurrent, IsCut, IsFormat, Under, cut, joined, content_of_all}
 use Rattle.font_theory.specs.Agreement.{Agree}
+use Rattle.font_theory.specs.Content.{Wanted, either}
 use Rattle.font_theory.specs.Tree.{Clash, Differs, IsSmall, JoinTree, Takes, Value, cuts, union_in}
 use Rattle.font_theory.specs.Tree.JoinTree.{leaf, node}
 use Rattle.font_theory.proofs.CutLemmas.{Agree-under, CanJoin-cuts, CanJoin-under, IsClosed-whole, IsCurrent-joined}
@@ -96,7 +97,7 @@ module _ (R : Format) (law : IsFormat R) where
       subst (IsCurrent R) (sym p.5) (IsCurrent-joined R law p.0 p.1 p.4 (joined-small s t v small p))
 
   -- a tree of cuts of one font has as its value the cut for the union
-  pub Value-cuts : (F : List ℕ) → R.fault F ≡ None → (t : JoinTree (ℕ → Bool)) → IsSmall R (cuts R F t)
+  pub Value-cuts : (F : List ℕ) → R.fault F ≡ None → (t : JoinTree Wanted) → IsSmall R (cuts R F t)
       → Value R (cuts R F t) (cut R F (union_in t))
   Value-cuts F h (leaf A) small = refl
   Value-cuts F h (node s t) small =
@@ -161,26 +162,37 @@ module _ (R : Format) (law : IsFormat R) where
             (law.accepted_size y clash.1.accepted)))
       ]
 
--- the union of a tree of sets has what some set in it has
-pub union_in-tells : (t : JoinTree (ℕ → Bool)) (c : ℕ) → union_in t c ≡ true → (A : ℕ → Bool) × Takes t A × (A c ≡ true)
-union_in-tells (leaf A) c h = (A, refl, h)
-union_in-tells (node s t) c h =
-    elim (or_cases (union_in s c) (union_in t c) h) [
-      | inl e ↦ let w = union_in-tells s c e in (w.0, inl w.1, w.2)
-      | inr e ↦ let w = union_in-tells t c e in (w.0, inr w.1, w.2)
-    ]
+-- the union of a tree has what some set in it has, seen through any test that sees both in a union
+module _ (has : Wanted → ℕ → Bool) (sees : (V W : Wanted) (c : ℕ) → has (either V W) c ≡ (has V c || has W c)) where
+  union_in-tells : (t : JoinTree Wanted) (c : ℕ) → has (union_in t) c ≡ true
+      → (A : Wanted) × Takes t A × (has A c ≡ true)
+  union_in-tells (leaf A) c h = (A, refl, h)
+  union_in-tells (node s t) c h =
+      elim (or_cases (has (union_in s) c) (has (union_in t) c) (sym (sees (union_in s) (union_in t) c) ∙ h)) [
+        | inl e ↦ let w = union_in-tells s c e in (w.0, inl w.1, w.2)
+        | inr e ↦ let w = union_in-tells t c e in (w.0, inr w.1, w.2)
+      ]
 
-pub union_in-has : (t : JoinTree (ℕ → Bool)) (c : ℕ) (A : ℕ → Bool) → Takes t A → A c ≡ true → union_in t c ≡ true
-union_in-has (leaf B) c A h e = sym (ap (λ f. f c) h) ∙ e
-union_in-has (node s t) c A (inl h) e = or_left (union_in s c) (union_in t c) (union_in-has s c A h e)
-union_in-has (node s t) c A (inr h) e = or_right (union_in s c) (union_in t c) (union_in-has t c A h e)
+  union_in-has : (t : JoinTree Wanted) (c : ℕ) (A : Wanted) → Takes t A → has A c ≡ true → has (union_in t) c ≡ true
+  union_in-has (leaf B) c A h e = sym (ap (λ V. has V c) h) ∙ e
+  union_in-has (node s t) c A (inl h) e = sees (union_in s) (union_in t) c
+      ∙ or_left (has (union_in s) c) (has (union_in t) c) (union_in-has s c A h e)
+  union_in-has (node s t) c A (inr h) e = sees (union_in s) (union_in t) c
+      ∙ or_right (has (union_in s) c) (has (union_in t) c) (union_in-has t c A h e)
+
+  union_seen : (s t : JoinTree Wanted) → ((A : Wanted) → Takes s A → Takes t A)
+      → ((A : Wanted) → Takes t A → Takes s A) → (c : ℕ) → has (union_in s) c ≡ has (union_in t) c
+  union_seen s t to from c = go (has (union_in s) c) (has (union_in t) c) refl refl
+    where
+      go : (a b : Bool) → has (union_in s) c ≡ a → has (union_in t) c ≡ b → has (union_in s) c ≡ has (union_in t) c
+      go true b x y = x ∙ sym (let w = union_in-tells s c x in union_in-has t c w.0 (to w.0 w.1) w.2)
+      go false true x y = (let w = union_in-tells t c y in union_in-has s c w.0 (from w.0 w.1) w.2) ∙ sym y
+      go false false x y = x ∙ sym y
 
 -- so trees that take the same sets have one union
-pub union_in-same : (s t : JoinTree (ℕ → Bool)) → ((A : ℕ → Bool) → Takes s A → Takes t A)
-    → ((A : ℕ → Bool) → Takes t A → Takes s A) → union_in s ≡ union_in t
-union_in-same s t to from = fun_ext (λ c. go c (union_in s c) (union_in t c) refl refl)
-  where
-    go : (c : ℕ) (a b : Bool) → union_in s c ≡ a → union_in t c ≡ b → union_in s c ≡ union_in t c
-    go c true b x y = x ∙ sym (let w = union_in-tells s c x in union_in-has t c w.0 (to w.0 w.1) w.2)
-    go c false true x y = (let w = union_in-tells t c y in union_in-has s c w.0 (from w.0 w.1) w.2) ∙ sym y
-    go c false false x y = x ∙ sym y
+pub union_in-same : (s t : JoinTree Wanted) → ((A : Wanted) → Takes s A → Takes t A)
+    → ((A : Wanted) → Takes t A → Takes s A) → union_in s ≡ union_in t
+union_in-same s t to from = λ i. record {
+  codes = λ c. union_seen (λ V. V.codes) (λ V W c. refl) s t to from c i;
+  glyphs = λ g. union_seen (λ V. V.glyphs) (λ V W c. refl) s t to from g i;
+}

@@ -1,10 +1,10 @@
 -- What is read of an accepted font, and what a cut is made of, this project's own; tables stand by slot.
 use Rattle.std.specs.Prelude.{◌≡◌, ℕ, ◌<◌, ◌≤◌, ◌&&◌, nat_eq, nat_le, nat_lt, Bool, true, false, ◌||◌, List, [], length}
 use Rattle.std.specs.Prelude.{if◌then◌else◌, Option, None, IsSome, unwrap_or}
-use Rattle.std.specs.Option.{option_map, option_map_or}
-use Rattle.sfnt_bytes.specs.Directory.{is_layout_slot, kept_tag, slot_tag, table_of}
+use Rattle.std.specs.Option.{option_map_or}
+use Rattle.sfnt_bytes.specs.Directory.{kept_tag, table_of}
 use Rattle.sfnt_bytes.specs.Lines.{when}
-use Rattle.sfnt_bytes.specs.declared.tag.TheConstants.{ALL_SLOTS, CMAP, FIRST_VARIATION, FVAR, GLYF, GSUB}
+use Rattle.sfnt_bytes.specs.declared.tag.TheConstants.{ALL_SLOTS, CMAP, FIRST_VARIATION, FVAR, GLYF}
 use Rattle.sfnt_bytes.specs.declared.tag.TheConstants.{GVAR, HEAD, HHEA, HMTX, LOCA, MAXP, SLOTS}
 use Rattle.font_tables.specs.Fields.{glyph_count_of, num_glyphs, number_of_h_metrics}
 use Rattle.font_tables.specs.Outlines.{outline_of}
@@ -12,15 +12,12 @@ use Rattle.font_tables.specs.Refusals.{is_bad_head, is_bad_hhea, is_bad_hmtx, is
 use Rattle.font_tables.specs.Tables.{head_of}
 use Rattle.codes.specs.CharacterMap.{restricted}
 use Rattle.codes.specs.declared.code_points.TheConstants as points
-use Rattle.font_glyph.specs.Linked.{is_linked}
 use Rattle.font_glyph.specs.Reach.{any_below, reached}
 use Rattle.font_glyph.specs.Record.{IsRecord}
-use Rattle.font_glyph.specs.declared.linked.TheConstants as numbers
 use Rattle.font_glyph.specs.RecordMap.{HoldsComponents, Records, record_in}
 use Rattle.font_variations.specs.Gvar.{is_bad_variations}
 use Rattle.font_file.specs.Font.{map_of}
 use Rattle.font_theory.specs.Bytes.{cut_head, padded}
-use Rattle.font_theory.specs.Links.{fixed, is_bad_layout, links}
 
 -- how many code points there are: 0 to 0x10FFFF
 unfoldable pub CODES : ℕ
@@ -32,6 +29,8 @@ pub record Font : Type 0 where
   pub head : List ℕ  -- as a cut has it, with checksumAdjustment 0
   pub map : ℕ → ℕ  -- 0: not mapped
   pub outline : ℕ → List ℕ  -- [] past the last glyph
+  pub parts : ℕ → ℕ → List ℕ  -- by slot, and then by glyph: what a divided table has of a glyph alone
+  pub there : ℕ → Bool  -- the glyphs that may be wanted by number: those of which there is an outline or a part
 
 -- what a cut is made of
 pub record Content : Type 0 where
@@ -39,6 +38,13 @@ pub record Content : Type 0 where
   pub head : List ℕ
   pub map : ℕ → ℕ
   pub outline : Records  -- None: not kept
+  pub parts : ℕ → ℕ → List ℕ  -- [] of a glyph that is not kept
+  pub there : ℕ → Bool  -- the kept glyphs of which there is an outline or a part, where they may be wanted by number
+
+-- what is wanted of a font
+pub record Wanted : Type 0 where
+  pub codes : ℕ → Bool  -- the codes
+  pub glyphs : ℕ → Bool  -- the glyphs, by number
 
 -- `cmap`, `glyf`, `head` and `loca`, which a cut makes anew, and what is no slot of a plain cut
 abbrev pub is_made : ℕ → Bool
@@ -67,14 +73,6 @@ glyph_count copied = num_glyphs (table_in_slot copied MAXP)
 unfoldable pub metric_count : (ℕ → Option (List ℕ)) → ℕ
 metric_count copied = number_of_h_metrics (table_in_slot copied HHEA)
 
--- the links of a glyph, none where there is no `GSUB`
-unfoldable pub links_in : (ℕ → Option (List ℕ)) → ℕ → List ℕ
-links_in copied g = links (table_in_slot copied GSUB) g
-
--- `GSUB` is bad
-unfoldable pub is_bad_layout_in : (ℕ → Option (List ℕ)) → Bool
-is_bad_layout_in copied = is_bad_layout (table_in_slot copied GSUB)
-
 -- there is a `gvar`, which is bad
 unfoldable pub is_bad_variations_in : (ℕ → Option (List ℕ)) → Bool
 is_bad_variations_in copied =
@@ -84,40 +82,55 @@ is_bad_variations_in copied =
 abbrev pub IsPlain : (ℕ → Option (List ℕ)) → Type 0
 IsPlain copied = (slot : ℕ) → is_made slot ≡ true → copied slot ≡ None
 
--- all codes
-abbrev pub everything : ℕ → Bool
-everything _ = true
+-- all codes and all glyphs
+abbrev pub everything : Wanted
+everything = record { codes = λ _. true; glyphs = λ _. true }
+
+-- codes alone
+abbrev pub of_codes : (ℕ → Bool) → Wanted
+of_codes codes = record { codes = codes; glyphs = λ _. false }
+
+-- what either of two wants
+abbrev pub either : Wanted → Wanted → Wanted
+either V W = record { codes = λ c. V.codes c || W.codes c; glyphs = λ g. V.glyphs g || W.glyphs g }
 
 -- .notdef, or the glyph of a mapped code
 unfoldable pub is_seed : (ℕ → ℕ) → ℕ → Bool
 is_seed m g = nat_eq g 0 || any_below (λ c. nat_eq (m c) g) CODES
 
--- how many numbers a table may name glyphs by: 0 to 0xFFFF (OpenType 1.9, Data Types, uint16)
-unfoldable pub NUMBERS : ℕ
-NUMBERS = numbers.NUMBERS
-
--- a glyph is a root: a chain of links leads to it from .notdef, or from the glyph of a mapped code; the chain
--- may lead over numbers that are no glyphs
-unfoldable pub is_root : (ℕ → Option (List ℕ)) → (ℕ → ℕ) → ℕ → Bool
-is_root copied m g = nat_lt g (glyph_count copied) && is_linked (links_in copied) (is_seed m) NUMBERS g
+-- a glyph is a root: .notdef, the glyph of a wanted code, or a wanted glyph that is there
+unfoldable pub is_root : Font → Wanted → ℕ → Bool
+is_root F wanted g = is_seed (restricted wanted.codes F.map) g || (wanted.glyphs g && F.there g)
 
 -- a glyph is kept: a chain of components leads to it from a root
-unfoldable pub is_kept : Font → (ℕ → Bool) → ℕ → Bool
-is_kept F wanted g =
-    reached F.outline (is_root F.copied (restricted wanted F.map)) (glyph_count F.copied) g
+unfoldable pub is_kept : Font → Wanted → ℕ → Bool
+is_kept F wanted g = reached F.outline (is_root F wanted) (glyph_count F.copied) g
 
--- the content of a font for the wanted codes
-abbrev pub content : Font → (ℕ → Bool) → Content
+-- the content of a font for what is wanted
+abbrev pub content : Font → Wanted → Content
 content F wanted = record {
   copied = F.copied;
   head = F.head;
-  map = restricted wanted F.map;
+  map = restricted wanted.codes F.map;
   outline = λ g. when (is_kept F wanted g) (padded (F.outline g));
+  parts = λ slot g. if is_kept F wanted g then F.parts slot g else [];
+  there = λ g. is_kept F wanted g && F.there g;
 }
+
+-- what is wanted within what a cut keeps: the codes of both, and of the glyphs those that it keeps
+abbrev pub within : Font → Wanted → Wanted → Wanted
+within F V W = record { codes = λ c. V.codes c && W.codes c; glyphs = λ g. is_kept F V g && W.glyphs g }
 
 -- what is read of the file of a content
 abbrev pub read_back : Content → Font
-read_back K = record { copied = K.copied; head = K.head; map = K.map; outline = record_in K.outline }
+read_back K = record {
+  copied = K.copied;
+  head = K.head;
+  map = K.map;
+  outline = record_in K.outline;
+  parts = K.parts;
+  there = K.there;
+}
 
 -- what is read of a file
 abbrev pub font_of : List ℕ → Font
@@ -126,21 +139,8 @@ font_of file = record {
   head = cut_head (head_of file);
   map = map_of file;
   outline = λ g. if nat_lt g (glyph_count_of file) then outline_of file g else [];
-}
-
--- the table of a slot, one of layout without what varies
-abbrev pub table_read : List ℕ → ℕ → Option (List ℕ)
-table_read file slot =
-    if is_layout_slot slot then option_map (fixed slot) (table_of file (slot_tag slot))
-    else table_of file (slot_tag slot)
-
--- what is read of a file with its tables of layout
-abbrev pub layout_font_of : List ℕ → Font
-layout_font_of file = record {
-  copied = λ slot. if is_never_in_layout slot then None else table_read file slot;
-  head = cut_head (head_of file);
-  map = map_of file;
-  outline = λ g. if nat_lt g (glyph_count_of file) then outline_of file g else [];
+  parts = λ _ _. [];
+  there = λ _. false;
 }
 
 -- what holds of each font that is accepted
@@ -149,15 +149,17 @@ pub record IsFont (F : Font) : Type 0 where
   pub mapped_codes : (c : ℕ) → CODES ≤ c → F.map c ≡ 0
   pub records : (g : ℕ) → IsRecord (glyph_count F.copied) (F.outline g)
   pub slots : (slot : ℕ) → is_never_copied slot ≡ true → F.copied slot ≡ None
+  pub unparted : (slot g : ℕ) → is_never_copied slot ≡ true → F.parts slot g ≡ []
+  pub there_below : (g : ℕ) → F.there g ≡ true → g < glyph_count F.copied
   pub head_form : cut_head F.head ≡ F.head
   pub head : is_bad_head F.head ≡ false
   pub maxp : is_bad_maxp (table_in_slot F.copied MAXP) ≡ false
   pub hhea : is_bad_hhea (table_in_slot F.copied HHEA) (glyph_count F.copied) ≡ false
   pub hmtx : is_bad_hmtx (table_in_slot F.copied HMTX) (metric_count F.copied) (glyph_count F.copied) ≡ false
-  pub readable : is_bad_layout_in F.copied ≡ false
   pub variations : is_bad_variations_in F.copied ≡ false
 
--- the content of a file in cut form: a font is read of it, of which it is the content for all codes
+-- the content of a file in cut form: a font is read of it, of which it is the content for all codes and
+-- all glyphs
 pub record IsClosedContent (K : Content) : Type 0 where
   pub font : IsFont (read_back K)
   pub closed : content (read_back K) everything ≡ K

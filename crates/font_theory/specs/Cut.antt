@@ -7,11 +7,11 @@ use Rattle.codes.specs.CharacterMap.{is_mapped}
 use Rattle.font_file.specs.Font.{font_fault}
 use Rattle.font_file.specs.declared.font_error.FontError.{FontError}
 use Rattle.font_file.specs.declared.font_error.FontError.TheVariants.{Directory}
-use Rattle.font_theory.specs.Content.{Content, Font, IsFont, content, everything, font_of, read_back}
+use Rattle.font_theory.specs.Content.{Content, Font, IsFont, Wanted, content, everything, font_of, read_back}
 use Rattle.font_theory.specs.File.{Writing, current_writing, file, writing_of}
 use Rattle.font_theory.specs.Agreement.{Agree, both}
 use Rattle.font_theory.specs.declared.Profile.TheVariants.{First}
-pub use Rattle.codes.specs.Wanted.{either}
+pub use Rattle.font_theory.specs.Content.{either}
 
 -- a reader and a writer of files
 pub record Format : Type 0 where
@@ -27,7 +27,7 @@ Writes R K X = (R.file K ≡ X) ⊎ (R.old K ≡ X)
 
 -- a content that accepted files come to by cuts and joins
 pub data Arises (R : Format) : Content → Type 0 where
-  of_file : {K : Content} (X : List ℕ) (wanted : ℕ → Bool) → R.fault X ≡ None →
+  of_file : {K : Content} (X : List ℕ) (wanted : Wanted) → R.fault X ≡ None →
       content (R.font X) wanted ≡ K → Arises R K
   of_two : {K : Content} (L M : Content) → Arises R L → Arises R M → Agree L M → both L M ≡ K → Arises R K
 
@@ -42,19 +42,19 @@ pub record IsFormat (R : Format) : Type 0 where
       (K : Content) (X : List ℕ) → Arises R K → Writes R K X → length X ≤ R.limit →
       (R.fault X ≡ None) × (R.font X ≡ read_back K)
 
--- the cut of a file for the wanted codes
-abbrev pub cut : Format → List ℕ → (ℕ → Bool) → List ℕ
+-- the cut of a file for what is wanted
+abbrev pub cut : Format → List ℕ → Wanted → List ℕ
 cut R F wanted = R.file (content (R.font F) wanted)
 
 -- the same as it was written before
-abbrev pub old_cut : Format → List ℕ → (ℕ → Bool) → List ℕ
+abbrev pub old_cut : Format → List ℕ → Wanted → List ℕ
 old_cut R F wanted = R.old (content (R.font F) wanted)
 
--- the content of a file for all codes
+-- the content of a file for all codes and all glyphs
 abbrev pub content_of_all : Format → List ℕ → Content
 content_of_all R X = content (R.font X) everything
 
--- X written anew: its cut for all codes
+-- X written anew: its cut for all codes and all glyphs
 abbrev pub renewed : Format → List ℕ → List ℕ
 renewed R X = R.file (content_of_all R X)
 
@@ -89,10 +89,14 @@ is_old R X = bytes_eq (R.old (content_of_all R X)) X
 abbrev pub codes_of : Format → List ℕ → ℕ → Bool
 codes_of R X c = is_none (R.fault X) && is_mapped (R.font X).map c
 
--- X is a cut of Z in some form, for the codes of X
+-- what a file has of what may be wanted: the codes that it maps, and the glyphs that are there
+abbrev pub wanted_of : Format → List ℕ → Wanted
+wanted_of R X = record { codes = codes_of R X; glyphs = λ g. is_none (R.fault X) && (R.font X).there g }
+
+-- X is a cut of Z in some form, for what X has
 pub record Under (R : Format) (X Z : List ℕ) : Type 0 where
   pub accepted : R.fault Z ≡ None
-  pub written : Writes R (content (R.font Z) (codes_of R X)) X
+  pub written : Writes R (content (R.font Z) (wanted_of R X)) X
 
 -- the file of both contents
 abbrev pub joined : Format → List ℕ → List ℕ → List ℕ

@@ -1,53 +1,276 @@
--- The kinds of cuts, this project's own: how the files of each are read and written.
-use Rattle.std.specs.Prelude.{◌≡◌, ℕ, List, Option, Some}
+-- The kinds of cuts, this project's own: a kind is a row of settings, which say how its files are read and written.
+use Rattle.std.specs.Prelude.{◌≡◌, ◌≢◌, ℕ, ◌<◌, ◌≤◌, nat_eq, nat_lt, ◌&&◌, ◌||◌, Bool, true, false, List, [], ◌∷◌}
+use Rattle.std.specs.Prelude.{if◌then◌else◌, length, Option, None, Some}
+use Rattle.std.specs.Prelude.{is_some}
+use Rattle.std.specs.Option.{option_map, option_or}
+use Rattle.sfnt_bytes.specs.Directory.{is_layout_slot, slot_tag, table_of}
+use Rattle.sfnt_bytes.specs.Lines.{first_of_lines, when}
+use Rattle.sfnt_bytes.specs.Refusals.{tag_lines}
 use Rattle.sfnt_bytes.specs.declared.directory.TheConstants.{MAX_FILE}
+use Rattle.sfnt_bytes.specs.declared.tag.Tag.{Tag}
+use Rattle.sfnt_bytes.specs.declared.tag.TheConstants.{ALL_SLOTS, FIRST_VARIATION, GSUB, GVAR, HHEA, HMTX, LAYOUT}
+use Rattle.sfnt_bytes.specs.declared.tag.TheConstants.{LAYOUT_AND_VARIATIONS, POST, VHEA, VMTX}
+use Rattle.codes.specs.CharacterMap.{AreCompatible, united}
+use Rattle.font_glyph.specs.Reach.{any_below}
+use Rattle.font_glyph.specs.RecordMap.{union_of}
 use Rattle.font_file.specs.Font.{font_fault}
 use Rattle.font_file.specs.declared.font_error.FontError.{FontError}
-use Rattle.font_theory.specs.Content.{Content, Font, content, everything, font_of, layout_font_of}
-use Rattle.font_theory.specs.Cut.{Format, IsCut, IsFormat, content_of_all, our_format}
-use Rattle.font_theory.specs.File.{current_writing, file}
-use Rattle.font_theory.specs.LayoutCut.{layout_fault, layout_format}
-use Rattle.font_theory.specs.LeanCut.{lean_format, spelled_out}
-use Rattle.font_theory.specs.VariableCut.{variable_fault, variable_font_of, variable_format, written_out}
+use Rattle.font_file.specs.declared.font_error.FontError.TheVariants.{BadVariations, Directory}
+use Rattle.font_theory.specs.Bytes.{padded}
+use Rattle.font_theory.specs.Content.{Content, Font, Wanted, content, everything, font_of, glyph_count}
+use Rattle.font_theory.specs.Content.{is_bad_variations_in, is_kept, is_made, is_never_copied, is_never_in_layout}
+use Rattle.font_theory.specs.Content.{table_in_slot}
+use Rattle.font_theory.specs.Cut.{Format, IsCut, IsFormat, content_of_all}
+use Rattle.font_theory.specs.File.{current_profile, current_writing, file, writing_of}
+use Rattle.font_theory.specs.Links.{fixed}
+use Rattle.font_theory.specs.Parted.{either_bytes, gvar_with, metrics, nameless, variation_data, variations}
+use Rattle.font_theory.specs.Parting.{Partition, Tables, context, divided, frames, parts_of, undivided}
+use Rattle.font_theory.specs.Parting.{IsPartition, undivided_content}
+use Rattle.font_theory.specs.declared.Profile.{Profile}
+use Rattle.font_theory.specs.declared.Profile.TheVariants.{First}
 use Rattle.font_theory.specs.declared.kinds.Kind.{Kind}
 use Rattle.font_theory.specs.declared.kinds.Kind.TheVariants.{Full, Layout, Lean, Variable}
 
--- the format in which the files of a kind are read and written
-abbrev pub format_of : Kind → Format
-format_of Full = our_format
-format_of Lean = lean_format
-format_of Layout = layout_format
-format_of Variable = variable_format
+-- how a table is read: not at all, as it is, or without what varies
+pub data Reading : Type 0 where
+  absent : Reading
+  as_it_is : Reading
+  unvarying : Reading
 
--- why a file is refused as a font for cuts of a kind
-abbrev pub fault_of : Kind → List ℕ → Option FontError
-fault_of Full file = font_fault file
-fault_of Lean file = font_fault file
-fault_of Layout file = layout_fault file
-fault_of Variable file = variable_fault file
+-- what is read of the table of a slot
+abbrev pub read_by : Reading → ℕ → Option (List ℕ) → Option (List ℕ)
+read_by absent slot table = None
+read_by as_it_is slot table = table
+read_by unvarying slot table = option_map (fixed slot) table
 
--- the tables that a file has for cuts of a kind, by slot
-abbrev pub tables_as : Kind → List ℕ → ℕ → Option (List ℕ)
-tables_as Full file = (font_of file).copied
-tables_as Lean file = (font_of file).copied
-tables_as Layout file = (layout_font_of file).copied
-tables_as Variable file = (variable_font_of file).copied
+-- what a kind settles
+pub record Settings : Type 0 where
+  pub reading : ℕ → Reading  -- how the table of each slot is read
+  pub partition : Partition  -- how it is divided
+  pub tags : List Tag  -- the tables that are refused where they stand twice or out of the file, beside those of a font
+  pub old : Profile  -- what was written before, and is still read as a cut
+  pub by_number : Bool  -- glyphs may be wanted by number, and not by their codes alone
 
--- the font that an accepted file means to cuts of a kind
-abbrev pub font_as : Kind → List ℕ → Font
-font_as kind file = record {
-  copied = tables_as kind file;
+-- the tables that a file has for cuts with these settings
+abbrev pub tables_by : Settings → List ℕ → Tables
+tables_by s file slot = read_by (s.reading slot) slot (table_of file (slot_tag slot))
+
+-- a glyph has an outline, or a part that is not empty
+unfoldable pub has_record : List ℕ → (ℕ → List ℕ) → Bool
+has_record outline parts =
+    nat_lt 0 (length outline) || any_below (λ slot. nat_lt 0 (length (parts slot))) ALL_SLOTS
+
+-- the glyphs that may be wanted by number: those that have a record
+unfoldable pub there_by : Settings → Tables → (ℕ → List ℕ) → ℕ → Bool
+there_by s copied outline g =
+    s.by_number
+    && (nat_lt g (glyph_count copied) && has_record (outline g) (λ slot. parts_of s.partition copied slot g))
+
+-- the font that a file means to them
+abbrev pub font_by : Settings → List ℕ → Font
+font_by s file = record {
+  copied = tables_by s file;
   head = (font_of file).head;
   map = (font_of file).map;
   outline = (font_of file).outline;
+  parts = λ _ _. [];
+  there = there_by s (tables_by s file) (font_of file).outline;
 }
+
+-- the refusals of the tables beside those of a font, where `find` gives the least tag, as the tags are ascending
+abbrev pub lines_by : Settings → List ℕ → List (Option FontError)
+lines_by s file =
+    option_map Directory (first_of_lines (tag_lines s.tags file))
+    ∷ when (is_bad_variations_in (tables_by s file)) BadVariations
+    ∷ []
+
+-- the first refusal that applies: of the font, or else of these tables
+unfoldable pub fault_by : Settings → List ℕ → Option FontError
+fault_by s file = option_or (font_fault file) (first_of_lines (lines_by s file))
+
+-- the reader and the writer of cuts with these settings
+unfoldable pub format_by : Settings → Format
+format_by s = record {
+  fault = fault_by s;
+  font = λ X. divided s.partition (font_by s X);
+  file = λ K. file current_writing (undivided_content s.partition K);
+  old = λ K. file (writing_of s.old) (undivided_content s.partition K);
+  limit = MAX_FILE;
+}
+
+-- what is asked of settings
+pub record AreSettings (s : Settings) : Type 0 where
+  pub plain : (slot : ℕ) → is_made slot ≡ false → s.reading slot ≡ as_it_is
+  pub never : (slot : ℕ) → is_never_copied slot ≡ true → s.reading slot ≡ absent
+  pub whole : (slot : ℕ) → s.reading slot ≡ unvarying → s.partition slot ≡ undivided
+  pub partition : IsPartition s.partition
+
+-- the tables of a plain cut alone
+abbrev pub plain_reading : ℕ → Reading
+plain_reading slot = if is_made slot then absent else as_it_is
+
+-- no table is divided
+abbrev pub all_undivided : Partition
+all_undivided _ = undivided
+
+-- metrics are of their glyphs, and names of glyphs are left out
+abbrev pub by_metrics : Partition
+by_metrics slot =
+    if nat_eq slot HMTX then metrics HHEA
+    else if nat_eq slot POST then nameless
+    else if nat_eq slot VMTX then metrics VHEA
+    else undivided
+
+-- so are variation data
+abbrev pub by_variations : Partition
+by_variations slot = if nat_eq slot GVAR then variations else by_metrics slot
+
+-- cuts with the metrics and the names of all glyphs
+unfoldable pub full_settings : Settings
+full_settings =
+    record { reading = plain_reading; partition = all_undivided; tags = []; old = First; by_number = false }
+
+-- cuts with the metrics of the kept glyphs alone, and without names of glyphs
+unfoldable pub lean_settings : Settings
+lean_settings =
+    record { reading = plain_reading; partition = by_metrics; tags = []; old = current_profile; by_number = true }
+
+-- lean cuts that keep the tables of layout too (OpenType 1.9, BASE; GDEF; GPOS; GSUB; kern), but for what varies
+unfoldable pub layout_settings : Settings
+layout_settings = record {
+  reading =
+      λ slot. if is_never_in_layout slot then absent else if is_layout_slot slot then unvarying else as_it_is;
+  partition = by_metrics;
+  tags = LAYOUT;
+  old = current_profile;
+  by_number = true;
+}
+
+-- layout cuts that keep variations too (OpenType 1.9, gvar; fvar; avar; cvar; HVAR; MVAR; STAT; VVAR)
+unfoldable pub variable_settings : Settings
+variable_settings = record {
+  reading = λ slot. if is_never_copied slot then absent else as_it_is;
+  partition = by_variations;
+  tags = LAYOUT_AND_VARIATIONS;
+  old = current_profile;
+  by_number = true;
+}
+
+-- the settings of a kind
+abbrev pub settings : Kind → Settings
+settings Full = full_settings
+settings Lean = lean_settings
+settings Layout = layout_settings
+settings Variable = variable_settings
+
+-- whether cuts of a kind divide tables
+abbrev pub divides_tables : Kind → Bool
+divides_tables Full = false
+divides_tables _ = true
+
+-- the format in which the files of a kind are read and written
+abbrev pub format_of : Kind → Format
+format_of kind = format_by (settings kind)
+
+-- why a file is refused as a font for cuts of a kind
+abbrev pub fault_of : Kind → List ℕ → Option FontError
+fault_of kind = fault_by (settings kind)
+
+-- the tables that a file has for cuts of a kind, by slot
+abbrev pub tables_as : Kind → List ℕ → Tables
+tables_as kind = tables_by (settings kind)
+
+-- the font that an accepted file means to cuts of a kind
+abbrev pub font_as : Kind → List ℕ → Font
+font_as kind = font_by (settings kind)
+
+-- the bytes of `GSUB` as cuts of a kind read it, none where there is no such table
+abbrev pub gsub_as : Kind → List ℕ → List ℕ
+gsub_as kind file = table_in_slot (tables_as kind file) GSUB
+
+-- how a kind divides tables
+abbrev pub partition_of : Kind → Partition
+partition_of kind = (settings kind).partition
 
 -- the content that a content of a kind is written as
 abbrev pub spelled_by : Kind → Content → Content
-spelled_by Full K = K
-spelled_by Lean K = spelled_out K
-spelled_by Layout K = spelled_out K
-spelled_by Variable K = written_out K
+spelled_by kind = undivided_content (partition_of kind)
+
+-- the content that a cut of a kind is written of: that of the font, with the parts of the kept glyphs alone in each
+-- table that is divided
+unfoldable pub reduced : Partition → Content → Content
+reduced p K = record {
+  copied = λ slot. option_map (λ t. (p slot).whole (context K.copied) ((p slot).frame (context K.copied) t)
+      (λ g. if is_some (K.outline g) then (p slot).part (context K.copied) t g else [])) (K.copied slot);
+  head = K.head;
+  map = K.map;
+  outline = K.outline;
+  parts = λ _ _. [];
+  there = K.there;
+}
+
+-- what two fonts in cut form need to be joined: nothing tells them apart in the frame of a table, in a code that both
+-- map, and in the outline or a part of a glyph that both keep
+pub record AgreeBy (p : Partition) (F G : Font) : Type 0 where
+  pub copied : (slot : ℕ) → frames p F.copied slot ≡ frames p G.copied slot
+  pub head : F.head ≡ G.head
+  pub map : AreCompatible F.map G.map
+  pub outline :
+      (g : ℕ) → is_kept F everything g ≡ true → is_kept G everything g ≡ true →
+      padded (F.outline g) ≡ padded (G.outline g)
+  pub parts :
+      (g : ℕ) → is_kept F everything g ≡ true → is_kept G everything g ≡ true → (slot : ℕ) →
+      parts_of p F.copied slot g ≡ parts_of p G.copied slot g
+
+-- a content is the union of two that contents are written as: it has the head and the tables of the first, the codes
+-- and the outlines of both, and in each table that is divided the parts of the first where it keeps the glyph, and else
+-- those of the second
+pub record IsUnionBy (p : Partition) (K L U : Content) : Type 0 where
+  pub head : U.head ≡ K.head
+  pub map : U.map ≡ united K.map L.map
+  pub outline : U.outline ≡ union_of K.outline L.outline
+  pub copied :
+      (slot : ℕ) → U.copied slot ≡ option_map (λ t. (p slot).whole (context K.copied)
+      ((p slot).frame (context K.copied) t)
+      (λ g. if is_some (K.outline g) then parts_of p K.copied slot g else parts_of p L.copied slot g)) (K.copied slot)
+
+-- the same in other words: `hmtx` and `vmtx` of both byte by byte, where one has 0 the other's, a `gvar` with the data
+-- of both, and the other tables of either
+pub record IsWrittenUnion (K L U : Content) : Type 0 where
+  pub head : U.head ≡ K.head
+  pub map : U.map ≡ united K.map L.map
+  pub outline : U.outline ≡ union_of K.outline L.outline
+  pub others : (slot : ℕ) → slot ≢ GVAR → slot ≢ HMTX → slot ≢ VMTX → U.copied slot ≡ K.copied slot
+  pub hmtx : U.copied HMTX ≡ option_map (λ t. either_bytes t (table_in_slot L.copied HMTX)) (K.copied HMTX)
+  pub vmtx : U.copied VMTX ≡ option_map (λ t. either_bytes t (table_in_slot L.copied VMTX)) (K.copied VMTX)
+  pub gvar :
+      U.copied GVAR ≡ option_map
+      (gvar_with
+      (λ g. if is_some (K.outline g) then variation_data K.copied g else variation_data L.copied g)
+      (glyph_count K.copied))
+      (K.copied GVAR)
+
+-- the variation data of the kept glyphs, and none of the others
+abbrev pub kept_data : Font → Wanted → ℕ → List ℕ
+kept_data F wanted g = if is_kept F wanted g then variation_data F.copied g else []
+
+-- a font without its tables of layout and of variations
+abbrev pub without_layout : Font → Font
+without_layout F = record {
+  copied = λ slot. if is_made slot then None else F.copied slot;
+  head = F.head;
+  map = F.map;
+  outline = F.outline;
+  parts = λ _ _. [];
+  there = λ _. false;
+}
+
+-- a file has no table of variations, and nothing in its tables of layout that varies
+pub record HasNothingVarying (file : List ℕ) : Type 0 where
+  pub absent : (slot : ℕ) → FIRST_VARIATION ≤ slot → slot < ALL_SLOTS → table_of file (slot_tag slot) ≡ None
+  pub fixed :
+      (slot : ℕ) → is_layout_slot slot ≡ true →
+      option_map (fixed slot) (table_of file (slot_tag slot)) ≡ table_of file (slot_tag slot)
 
 -- cuts of one kind: files that this program reads, and writes as it writes what is spelled of their contents
 pub record IsKind (R : Format) (fault : List ℕ → Option FontError) (font : List ℕ → Font)

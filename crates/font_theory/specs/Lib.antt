@@ -1,13 +1,13 @@
+pub mod Agreement
 pub mod Bytes
+pub mod Closed
 pub mod Content
 pub mod Cut
 pub mod Difference
 pub mod File
-pub mod Agreement
 pub mod Kinds
-pub mod LayoutCut
-pub mod LeanCut
 pub mod Links
+pub mod Parted
+pub mod Parting
 pub mod Tree
-pub mod VariableCut
 pub mod WorkedFiles

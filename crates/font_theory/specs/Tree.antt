@@ -1,7 +1,8 @@
 -- Trees of joins, and what they come to, this project's own.
-use Rattle.std.specs.Prelude.{◌≡◌, ℕ, zero, suc, ◌<◌, ◌≤◌, Bool, false, ◌||◌, ◌⊎◌, List, [], length, get_or}
+use Rattle.std.specs.Prelude.{◌≡◌, ℕ, zero, suc, ◌<◌, ◌≤◌, false, ◌⊎◌, List, [], length, get_or}
 use Rattle.font_theory.specs.Cut.{CanJoin, Format, IsCut, cut, joined, content_of_all}
 use Rattle.font_theory.specs.Agreement.{Agree}
+use Rattle.font_theory.specs.Content.{Wanted, either, of_codes}
 
 -- a tree of joins
 pub data JoinTree (A : Type 0) : Type 0 where
@@ -49,16 +50,16 @@ grown files zero = leaf (file_at files 0)
 grown files (suc k) = node (grown files k) (leaf (file_at files k))
 
 -- the cuts of a file for the sets in a tree
-abbrev pub cuts : Format → List ℕ → JoinTree (ℕ → Bool) → JoinTree (List ℕ)
+abbrev pub cuts : Format → List ℕ → JoinTree Wanted → JoinTree (List ℕ)
 cuts R F (leaf A) = leaf (cut R F A)
 cuts R F (node s t) = node (cuts R F s) (cuts R F t)
 
--- the codes of all sets in a tree
-abbrev pub union_in : JoinTree (ℕ → Bool) → ℕ → Bool
-union_in (leaf A) c = A c
-union_in (node s t) c = union_in s c || union_in t c
+-- what all in a tree want
+abbrev pub union_in : JoinTree Wanted → Wanted
+union_in (leaf A) = A
+union_in (node s t) = either (union_in s) (union_in t)
 
--- the codes of the first n of some sets
-abbrev pub union_below : (ℕ → ℕ → Bool) → ℕ → ℕ → Bool
-union_below A zero c = false
-union_below A (suc n) c = union_below A n c || A n c
+-- what the first n of some want
+abbrev pub union_below : (ℕ → Wanted) → ℕ → Wanted
+union_below A zero = of_codes (λ _. false)
+union_below A (suc n) = either (union_below A n) (A n)

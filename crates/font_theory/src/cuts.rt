@@ -1,18 +1,16 @@
 //! The laws of fonts, contents and cuts: the contract of each function is the law.
-ghost use Rattle.std.specs.Prelude.{◌≡◌, ◌≢◌, ℕ, ◌<◌, ◌≤◌, ◌↔◌, ◌⊎◌, nat_eq, Bool, true, ◌&&◌, List, [], length, IsSome, Option, None, Some};
+ghost use Rattle.std.specs.Prelude.{◌≡◌, ◌≢◌, ℕ, ◌≤◌, ◌↔◌, ◌⊎◌, nat_eq, Bool, true, false, List, [], length, IsSome, Option, None, Some};
 ghost use Rattle.sfnt_bytes.specs.declared.directory.DirError.TheVariants.{FileTooLarge};
 ghost use Rattle.sfnt_bytes.specs.declared.directory.TheConstants.{MAX_FILE};
-ghost use Rattle.sfnt_bytes.specs.declared.tag.TheConstants.{GSUB};
 ghost use Rattle.font_tables.specs.Metrics.{metric_of};
 ghost use Rattle.font_tables.specs.Outlines.{outline_of};
 ghost use Rattle.codes.specs.CharacterMap.{restricted};
-ghost use Rattle.font_glyph.specs.Linked.{Linked};
 ghost use Rattle.font_glyph.specs.Reach.{Reach};
 ghost use Rattle.font_file.specs.Font.{font_fault, map_of};
 ghost use Rattle.font_file.specs.declared.font_error.FontError.{FontError};
 ghost use Rattle.font_file.specs.declared.font_error.FontError.TheVariants.{Directory};
 ghost use Rattle.font_theory.specs.Bytes.{padded};
-ghost use Rattle.font_theory.specs.Content.{Content, Font, IsClosedContent, IsFont, IsPlain, IsWritable, KeepsComponents, NUMBERS, content, font_of, glyph_count, is_kept, is_root, is_seed, links_in, read_back};
+ghost use Rattle.font_theory.specs.Content.{Content, Font, IsClosedContent, IsFont, IsPlain, IsWritable, KeepsComponents, Wanted, content, font_of, is_kept, is_root, is_seed, of_codes, read_back, within};
 ghost use Rattle.font_theory.specs.Cut.{Format, IsCurrent, IsCut, IsFormat, IsOld, Writes, cut, is_current, is_cut, is_old, old_cut, content_of_all};
 
 /// What an accepted file means is a font.
@@ -29,7 +27,7 @@ pub fn size_of_file()
 
 /// A content of a font is closed.
 pub fn content_is_closed()
-    ensures { (F : Font) (wanted : ℕ → Bool) → IsFont F → IsClosedContent (content F wanted) }
+    ensures { (F : Font) (wanted : Wanted) → IsFont F → IsClosedContent (content F wanted) }
 {}
 
 /// A closed content is one for which a file is written.
@@ -44,85 +42,91 @@ pub fn closed_keeps()
         × ((g : ℕ) (b : List ℕ) → K.outline g ≡ Some b → padded b ≡ b) }
 {}
 
-/// The content of a content is that of the font for the codes in both sets.
+/// The content of a content is that of the font for the codes in both sets, and for the glyphs of the second that the
+/// first keeps. So the content for no more than was wanted is that of the font.
 pub fn cut_of_cut()
-    ensures { (F : Font) (A B : ℕ → Bool) → IsFont F → content (read_back (content F A)) B ≡ content F
-        (λ c. A c && B c) }
+    ensures { (F : Font) (A B : Wanted) → IsFont F → (content (read_back (content F A)) B ≡ content F (within F A B))
+        × (((c : ℕ) → B.codes c ≡ true → A.codes c ≡ true) → ((g : ℕ) → B.glyphs g ≡ true → A.glyphs g ≡ true)
+        → content (read_back (content F A)) B ≡ content F B) }
+{}
+
+/// Of what is wanted only the codes that are mapped count, and the glyphs that are there.
+pub fn wanted_counts()
+    ensures { (F : Font) (A B : Wanted) → IsFont F → ((c : ℕ) → F.map c ≢ 0 → A.codes c ≡ B.codes c)
+        → ((g : ℕ) → F.there g ≡ true → A.glyphs g ≡ B.glyphs g) → content F A ≡ content F B }
 {}
 
 /// A wanted code keeps its glyph, and what that glyph leads to keeps its outline, up to zeros
-/// after it.
+/// after it; so does what a wanted glyph leads to that is there.
 pub fn wanted_is_kept()
-    ensures { (F : Font) (wanted : ℕ → Bool) → IsFont F
-        → ((g : ℕ) → Reach F.outline (is_seed (restricted wanted F.map)) g →
+    ensures { (F : Font) (wanted : Wanted) → IsFont F
+        → ((g : ℕ) → Reach F.outline (is_seed (restricted wanted.codes F.map)) g →
         (read_back (content F wanted)).outline g ≡ padded (F.outline g))
-        × ((c : ℕ) → wanted c ≡ true → ((content F wanted).map c ≡ F.map c)
+        × ((c : ℕ) → wanted.codes c ≡ true → ((content F wanted).map c ≡ F.map c)
         × ((g : ℕ) → Reach F.outline (nat_eq (F.map c)) g →
-        (read_back (content F wanted)).outline g ≡ padded (F.outline g))) }
-{}
-
-/// The same of each glyph that links lead to from that glyph, and so of all that may be shaped for the wanted
-/// codes.
-pub fn linked_is_kept()
-    ensures { (F : Font) (wanted : ℕ → Bool) → IsFont F
-        → ((g : ℕ) → Reach F.outline (is_root F.copied (restricted wanted F.map)) g →
-        (read_back (content F wanted)).outline g ≡ padded (F.outline g))
-        × ((c : ℕ) → wanted c ≡ true → (r g : ℕ) → r < glyph_count F.copied →
-        Linked (links_in F.copied) (nat_eq (F.map c)) NUMBERS r → Reach F.outline (nat_eq r) g →
+        (read_back (content F wanted)).outline g ≡ padded (F.outline g)))
+        × ((r : ℕ) → wanted.glyphs r ≡ true → F.there r ≡ true → (g : ℕ) → Reach F.outline (nat_eq r) g →
         (read_back (content F wanted)).outline g ≡ padded (F.outline g)) }
 {}
 
-/// A glyph may be shaped where links lead to it from .notdef or the glyph of a mapped code; in a closed content
-/// it has an outline.
-pub fn roots_are_linked()
-    ensures { ((copied : ℕ → Option (List ℕ)) (m : ℕ → ℕ) (g : ℕ) →
-        is_root copied m g ≡ true ↔ (g < glyph_count copied) × Linked (links_in copied) (is_seed m) NUMBERS g)
-        × ((K : Content) → IsClosedContent K → (g : ℕ) → is_root K.copied K.map g ≡ true →
-        IsSome (K.outline g)) }
+/// A glyph is a root exactly where it is .notdef, the glyph of a wanted code, or a wanted glyph that is there; what is
+/// kept is what components lead to from the roots; and what is there in a closed content has an outline.
+pub fn roots_are()
+    ensures { ((F : Font) (wanted : Wanted) (g : ℕ) →
+        is_root F wanted g ≡ true ↔ (is_seed (restricted wanted.codes F.map) g ≡ true)
+        ⊎ ((wanted.glyphs g ≡ true) × (F.there g ≡ true)))
+        × ((F : Font) (wanted : Wanted) → IsFont F → (g : ℕ) →
+        is_kept F wanted g ≡ true ↔ Reach F.outline (is_root F wanted) g)
+        × ((K : Content) → IsClosedContent K → (g : ℕ) → K.there g ≡ true → IsSome (K.outline g)) }
 {}
 
-/// Where no `GSUB` is copied there is no link: only .notdef and the glyphs of the mapped codes may be shaped. An
-/// plain reader copies none.
-pub fn plain_has_no_links()
-    ensures { ((copied : ℕ → Option (List ℕ)) → copied GSUB ≡ None → ((g : ℕ) → links_in copied g ≡ [])
-        × ((m : ℕ → ℕ) → ((c : ℕ) → m c < glyph_count copied) → is_root copied m ≡ is_seed m))
+/// Where no glyph is there, as in a plain reader, what is wanted by number does not count; and where codes alone are
+/// wanted, the roots are .notdef and their glyphs.
+pub fn plain_has_no_numbers()
+    ensures { ((F : Font) (wanted : Wanted) → ((g : ℕ) → F.there g ≡ false) →
+        is_root F wanted ≡ is_seed (restricted wanted.codes F.map))
+        × ((F : Font) (codes : ℕ → Bool) → is_root F (of_codes codes) ≡ is_seed (restricted codes F.map))
+        × ((F : Font) (wanted : Wanted) → IsFont F → ((g : ℕ) → F.there g ≡ false) →
+        content F wanted ≡ content F (of_codes wanted.codes))
         × ((file : List ℕ) → IsPlain (font_of file).copied)
-        × ((copied : ℕ → Option (List ℕ)) → IsPlain copied → copied GSUB ≡ None) }
+        × ((file : List ℕ) (g : ℕ) → (font_of file).there g ≡ false) }
 {}
 
 /// What is kept of an accepted file is what its outlines lead to from .notdef and the glyphs of the
 /// wanted codes.
 pub fn kept_is_reached()
-    ensures { (file : List ℕ) (wanted : ℕ → Bool) → font_fault file ≡ None
+    ensures { (file : List ℕ) (wanted : Wanted) → font_fault file ≡ None
         → (g : ℕ) → is_kept (font_of file) wanted g ≡ true ↔ Reach (outline_of file)
-        (is_seed (restricted wanted (map_of file))) g }
+        (is_seed (restricted wanted.codes (map_of file))) g }
 {}
 
 /// In a file of which a content of an accepted one is read back, a wanted code has its glyph, and
 /// what that glyph leads to has its outline, up to zeros after it.
 pub fn wanted_is_in_file()
-    ensures { (file other : List ℕ) (wanted : ℕ → Bool) → font_fault file ≡ None →
+    ensures { (file other : List ℕ) (wanted : Wanted) → font_fault file ≡ None →
         font_of other ≡ read_back (content (font_of file) wanted)
-        → (c : ℕ) → wanted c ≡ true → (map_of other c ≡ map_of file c)
+        → (c : ℕ) → wanted.codes c ≡ true → (map_of other c ≡ map_of file c)
         × ((g : ℕ) → Reach (outline_of file) (nat_eq (map_of file c)) g →
         outline_of other g ≡ padded (outline_of file g)) }
 {}
 
 /// A file of which a content of another one is read back has the metrics of that one.
 pub fn metrics_are_kept()
-    ensures { (file other : List ℕ) (wanted : ℕ → Bool) →
+    ensures { (file other : List ℕ) (wanted : Wanted) →
         font_of other ≡ read_back (content (font_of file) wanted) → (g : ℕ) →
         metric_of other g ≡ metric_of file g }
 {}
 
 /// A cut that is not too large is in cut form, and its cuts are those of the font for the codes in
-/// both sets.
+/// both sets and the wanted glyphs that it keeps; those for no more than was wanted are those of the font.
 pub fn cut_is_cut()
-    ensures { (R : Format) → IsFormat R → (F : List ℕ) → R.fault F ≡ None → (A : ℕ → Bool) (X : List ℕ) →
+    ensures { (R : Format) → IsFormat R → (F : List ℕ) → R.fault F ≡ None → (A : Wanted) (X : List ℕ) →
         Writes R (content (R.font F) A) X → length X ≤ R.limit
         → IsCut R X × (R.font X ≡ read_back (content (R.font F) A))
         × (content_of_all R X ≡ content (R.font F) A)
-        × ((B : ℕ → Bool) → cut R X B ≡ cut R F (λ c. A c && B c)) }
+        × ((B : Wanted) → cut R X B ≡ cut R F (within (R.font F) A B))
+        × ((B : Wanted) → ((c : ℕ) → B.codes c ≡ true → A.codes c ≡ true) →
+        ((g : ℕ) → B.glyphs g ≡ true → A.glyphs g ≡ true) → cut R X B ≡ cut R F B) }
 {}
 
 /// Whether an accepted file is in cut form is decided.
@@ -132,14 +136,14 @@ pub fn cut_form_is_decided()
 
 /// A cut that is written, and is not too large, is current.
 pub fn cut_is_current()
-    ensures { (R : Format) → IsFormat R → (F : List ℕ) → R.fault F ≡ None → (A : ℕ → Bool) →
+    ensures { (R : Format) → IsFormat R → (F : List ℕ) → R.fault F ≡ None → (A : Wanted) →
         length (cut R F A) ≤ R.limit → IsCurrent R (cut R F A) }
 {}
 
 /// A cut as it was written before is an old one, where it is not too large, and its content for all codes
-/// is that of the font for the wanted ones.
+/// and glyphs is that of the font for what was wanted.
 pub fn old_cut_is_old()
-    ensures { (R : Format) → IsFormat R → (F : List ℕ) → R.fault F ≡ None → (A : ℕ → Bool) →
+    ensures { (R : Format) → IsFormat R → (F : List ℕ) → R.fault F ≡ None → (A : Wanted) →
         length (old_cut R F A) ≤ R.limit → IsOld R (old_cut R F A)
         × (content_of_all R (old_cut R F A) ≡ content (R.font F) A) }
 {}

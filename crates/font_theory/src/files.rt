@@ -8,7 +8,7 @@ ghost use Rattle.sfnt_bytes.specs.Findings.{findings_of};
 ghost use Rattle.sfnt_bytes.specs.declared.directory.TheConstants.{MAX_FILE};
 ghost use Rattle.font_file.specs.Font.{font_fault};
 ghost use Rattle.font_theory.specs.Bytes.{padded};
-ghost use Rattle.font_theory.specs.Content.{Content, IsClosedContent, IsPlain, IsWritable, font_of, read_back};
+ghost use Rattle.font_theory.specs.Content.{Content, IsClosedContent, IsPlain, IsWritable, font_of, of_codes, read_back};
 ghost use Rattle.sfnt_bytes.specs.declared.base6.TheConstants.{BASE6};
 ghost use Rattle.font_theory.specs.Cut.{Arises, IsCurrent, IsFormat, IsOld, Writes, cut, format_with, our_format};
 ghost use Rattle.font_theory.specs.File.{Writing, IsWriting, file, writing_of, glyf_bytes, groups_of_content, outlines_of, size_of, size_with, table_in, tables_from};
@@ -19,7 +19,7 @@ ghost use Rattle.font_theory.specs.WorkedFiles.{aacute_file, nothing_file, nothi
 /// What is read of the file of a content is the content.
 pub fn file_means()
     ensures { (writing : Writing) → IsWriting writing → (K : Content) → IsWritable K → IsPlain K.copied
-        → font_of (file writing K) ≡ read_back K }
+        → ((slot g : ℕ) → K.parts slot g ≡ []) → ((g : ℕ) → K.there g ≡ false) → font_of (file writing K) ≡ read_back K }
 {}
 
 /// Of a content without tables of layout, the tables stand slot by slot, with the kept tags.
@@ -112,23 +112,23 @@ pub fn our_format_is()
 
 /// A closed content whose file is not too large is one that accepted files come to: that file.
 pub fn closed_arises()
-    ensures { (K : Content) (X : List ℕ) → IsClosedContent K → IsPlain K.copied → Writes our_format K X →
-        length X ≤ MAX_FILE → Arises our_format K }
+    ensures { (K : Content) (X : List ℕ) → IsClosedContent K → IsPlain K.copied →
+        ((slot g : ℕ) → K.parts slot g ≡ []) → ((g : ℕ) → K.there g ≡ false) → Writes our_format K X → length X ≤ MAX_FILE → Arises our_format K }
 {}
 
 /// The cut of a small font for no code in the first profile, byte by byte.
 pub fn cut_of_nothing()
-    ensures { cut (format_with (writing_of First) (writing_of First)) BASE6 (λ c. false) ≡ nothing_file }
+    ensures { cut (format_with (writing_of First) (writing_of First)) BASE6 (of_codes (λ c. false)) ≡ nothing_file }
 {}
 
 /// The same in the second profile.
 pub fn cut_of_nothing_second()
     ensures { cut (format_with (writing_of Second) (writing_of First)) BASE6
-        (λ c. false) ≡ nothing_second_file }
+        (of_codes (λ c. false)) ≡ nothing_second_file }
 {}
 
 /// Its cut for the code of a composite glyph, byte by byte.
 pub fn cut_of_aacute()
     ensures { cut (format_with (writing_of First) (writing_of First)) BASE6
-        (λ c. nat_eq c 0xC1) ≡ aacute_file }
+        (of_codes (λ c. nat_eq c 0xC1)) ≡ aacute_file }
 {}

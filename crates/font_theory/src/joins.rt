@@ -1,17 +1,17 @@
 //! The laws of unions of contents, of joins of files, and of their order: the contract of each
 //! function is the law.
-ghost use Rattle.std.specs.Prelude.{◌≡◌, ◌≢◌, ℕ, ◌≤◌, ◌↔◌, Bool, true, false, List, length, None, Some};
+ghost use Rattle.std.specs.Prelude.{◌≡◌, ◌≢◌, ℕ, ◌≤◌, ◌↔◌, true, false, List, length, None, Some};
 ghost use Rattle.sfnt_bytes.specs.declared.directory.DirError.TheVariants.{FileTooLarge};
 ghost use Rattle.font_file.specs.declared.font_error.FontError.{FontError};
 ghost use Rattle.font_file.specs.declared.font_error.FontError.TheVariants.{Directory};
-ghost use Rattle.font_theory.specs.Content.{Content, Font, IsClosedContent, IsFont, content};
-ghost use Rattle.font_theory.specs.Cut.{CanJoin, Format, IsCurrent, IsCut, IsFormat, Under, Writes, cut, either, is_cut, joined, renewed, content_of_all};
+ghost use Rattle.font_theory.specs.Content.{Content, Font, IsClosedContent, IsFont, Wanted, content, either};
+ghost use Rattle.font_theory.specs.Cut.{CanJoin, Format, IsCurrent, IsCut, IsFormat, Under, Writes, cut, is_cut, joined, renewed, content_of_all};
 ghost use Rattle.font_theory.specs.Difference.{difference};
 ghost use Rattle.font_theory.specs.Agreement.{Agree, both};
 
-/// Two contents of a font agree, and their union is its content for the codes of either set.
+/// Two contents of a font agree, and their union is its content for what either wants.
 pub fn union_of_cuts()
-    ensures { (F : Font) (A B : ℕ → Bool) → IsFont F → Agree (content F A) (content F B)
+    ensures { (F : Font) (A B : Wanted) → IsFont F → Agree (content F A) (content F B)
         × (both (content F A) (content F B) ≡ content F (either A B)) }
 {}
 
@@ -49,9 +49,9 @@ pub fn under_is_order()
         × (IsCurrent R X → IsCurrent R Z → X ≡ Z)) }
 {}
 
-/// Two cuts of a font can be joined, and give its cut for the codes of either set.
+/// Two cuts of a font can be joined, and give its cut for what either wants.
 pub fn join_of_cuts()
-    ensures { (R : Format) → IsFormat R → (F : List ℕ) → R.fault F ≡ None → (A B : ℕ → Bool) (X Y : List ℕ)
+    ensures { (R : Format) → IsFormat R → (F : List ℕ) → R.fault F ≡ None → (A B : Wanted) (X Y : List ℕ)
         → Writes R (content (R.font F) A) X → Writes R (content (R.font F) B) Y → length X ≤ R.limit →
         length Y ≤ R.limit
         → CanJoin R X Y × (joined R X Y ≡ cut R F (either A B)) }

@@ -1,20 +1,21 @@
 //! What cuts and joins are, and the laws that hold of them: each function's contract is a law.
 #![tactic(auto)]
 
+mod closing;
 mod cuts;
 mod files;
 mod joins;
 mod kinds;
-mod layout_cuts;
-mod lean;
 mod trees;
-pub mod variable_cuts;
 
+pub use crate::closing::{
+    closed_cuts_join, closed_is, closed_of_either, closed_on_cut, linked_cut_is_cut,
+};
 pub use crate::cuts::{
     closed_is_writable, closed_keeps, content_is_closed, current_is_cut, current_is_decided,
     cut_form_is_decided, cut_is_current, cut_is_cut, cut_is_in_a_form, cut_of_cut, kept_is_reached,
-    linked_is_kept, meaning_is_font, metrics_are_kept, old_cut_is_old, old_is_decided,
-    plain_has_no_links, roots_are_linked, size_of_file, wanted_is_in_file, wanted_is_kept,
+    meaning_is_font, metrics_are_kept, old_cut_is_old, old_is_decided, plain_has_no_numbers,
+    roots_are, size_of_file, wanted_counts, wanted_is_in_file, wanted_is_kept,
 };
 pub use crate::files::{
     closed_arises, cut_of_aacute, cut_of_nothing, cut_of_nothing_second, file_has_no_finding,
@@ -26,20 +27,15 @@ pub use crate::joins::{
     can_join_is_decided, join_of_cuts, join_of_one, least_upper_bound, no_difference,
     true_refusals, under_is_order, under_one_file, union_is_closed, union_of_cuts,
 };
-pub use crate::kinds::{Kind, kinds_are_kinds};
-pub use crate::layout_cuts::{
-    font_is_without_layout, join_of_layout_cuts, layout_agreement_is, layout_contents_agree,
-    layout_cut_is_accepted, layout_file_means, layout_is_a_format, layout_is_closed,
-    layout_join_is, layout_keeps_no_less, layout_kept_is_reached, layout_least_upper_bound,
-    layout_means_a_font, layout_slots_are, layout_tables_are_kept, layout_union_is,
-    lean_cut_of_layout_cut, trees_of_layout_cuts, wanted_is_in_layout_file,
-};
-pub use crate::lean::{
-    join_of_lean_cuts, lean_agreement_is, lean_content_is, lean_contents_agree,
-    lean_cut_is_accepted, lean_cut_is_current, lean_cut_is_no_longer, lean_cut_of_cut,
-    lean_file_means, lean_is_a_format, lean_is_closed, lean_join_is, lean_least_upper_bound,
-    lean_metrics_are, lean_records_are, lean_slots_are, lean_tables_are, lean_union_is, leaned_is,
-    trees_of_lean_cuts, wanted_is_in_lean_file,
+pub use crate::kinds::{
+    Kind, accepted_is_a_font, agreement_is, contents_agree, cut_is_accepted, different_glyph_is,
+    divided_tables_are, file_of_kind_means, full_has_no_numbers, full_is_plain,
+    gvar_without_data_is, join_of_cuts_of_kind, join_of_kind_is, kept_metrics_are,
+    kept_of_kind_is_reached, kinds_are_kinds, lean_cut_is_current, lean_cut_is_no_longer,
+    lean_cut_of_cut, least_upper_bound_of_kind, parts_are, parts_are_kept, reduced_is,
+    refusals_of_kind_are_true, settings_are_kinds, slots_are, tables_are_kept,
+    trees_of_cuts_of_kind, union_is, variable_cut_of_unvarying, wanted_is_in_file_of_kind,
+    written_is_closed,
 };
 pub use crate::trees::{
     clash_everywhere, grown_cuts, same_content, same_union, same_value, same_value_of_cuts,

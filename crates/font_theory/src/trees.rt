@@ -1,27 +1,27 @@
 //! The laws of trees of joins: the contract of each function is the law.
-ghost use Rattle.std.specs.Prelude.{◌≡◌, ℕ, suc, ◌<◌, ◌≤◌, Bool, List, length, None};
-ghost use Rattle.font_theory.specs.Content.{content};
+ghost use Rattle.std.specs.Prelude.{◌≡◌, ℕ, suc, ◌<◌, ◌≤◌, List, length, None};
+ghost use Rattle.font_theory.specs.Content.{Wanted, content};
 ghost use Rattle.font_theory.specs.Cut.{CanJoin, Format, IsCurrent, IsCut, IsFormat, Writes, cut, joined, renewed, content_of_all};
 ghost use Rattle.font_theory.specs.Agreement.{Agree};
 ghost use Rattle.font_theory.specs.Tree.{Differs, IsOver, IsSmall, JoinTree, Takes, Value, cuts, file_at, grown, union_below, union_in};
 
 /// A tree of cuts of one font that meets no size has as its value the cut for the union of its sets.
 pub fn trees_of_cuts()
-    ensures { (R : Format) → IsFormat R → (F : List ℕ) → R.fault F ≡ None → (t : JoinTree (ℕ → Bool)) →
+    ensures { (R : Format) → IsFormat R → (F : List ℕ) → R.fault F ≡ None → (t : JoinTree Wanted) →
         IsSmall R (cuts R F t) → Value R (cuts R F t) (cut R F (union_in t)) }
 {}
 
 /// Trees that take the same sets, in any order, grouping and repetition, have one union.
 pub fn same_union()
-    ensures { (s t : JoinTree (ℕ → Bool)) → ((A : ℕ → Bool) → Takes s A → Takes t A) →
-        ((A : ℕ → Bool) → Takes t A → Takes s A) → union_in s ≡ union_in t }
+    ensures { (s t : JoinTree Wanted) → ((A : Wanted) → Takes s A → Takes t A) →
+        ((A : Wanted) → Takes t A → Takes s A) → union_in s ≡ union_in t }
 {}
 
 /// The tree that grows over cuts of one font, in any forms, comes to the cut for all their sets, and at
 /// each step the two can be joined.
 pub fn grown_cuts()
     ensures { (R : Format) → IsFormat R → (files : List (List ℕ)) (F : List ℕ) → R.fault F ≡ None →
-        (A : ℕ → ℕ → Bool)
+        (A : ℕ → Wanted)
         → ((k : ℕ) → k < length files → Writes R (content (R.font F) (A k)) (file_at files k)) →
         ((k : ℕ) → k < length files → length (file_at files k) ≤ R.limit)
         → (k : ℕ) → k < length files
@@ -53,7 +53,7 @@ pub fn same_value()
 pub fn same_value_of_cuts()
     ensures { (R : Format) → IsFormat R → (files : List (List ℕ)) → 0 < length files → (z : List ℕ) →
         Value R (grown files (length files)) z → length z ≤ R.limit
-        → (F : List ℕ) → R.fault F ≡ None → (t : JoinTree (ℕ → Bool)) → IsOver files (cuts R F t) →
+        → (F : List ℕ) → R.fault F ≡ None → (t : JoinTree Wanted) → IsOver files (cuts R F t) →
         IsSmall R (cuts R F t) → Value R (cuts R F t) z }
 {}
 

@@ -11,8 +11,8 @@ use Rattle.font_file.specs.declared.font_error.FontError.TheVariants.{BadGlyph, 
 use Rattle.font_file.specs.declared.font_error.FontError.TheVariants.{Mapping, Tables}
 use Rattle.font_subset.specs.declared.forms.CutForm.{CutForm}
 use Rattle.font_subset.specs.declared.forms.CutForm.TheVariants.{Current, Not, Old}
-use Rattle.font_subset.specs.declared.layout_font.OpenError.{OpenError}
-use Rattle.font_subset.specs.declared.layout_font.OpenError.TheVariants as open_errors
+use Rattle.font_subset.specs.declared.open_error.OpenError.{OpenError}
+use Rattle.font_subset.specs.declared.open_error.OpenError.TheVariants as open_errors
 use Rattle.font_join.specs.JoinText.{join_all_error_number, join_error_number}
 use Rattle.font_join.specs.declared.join_error.JoinAllError.{JoinAllError}
 use Rattle.font_join.specs.declared.join_error.JoinAllError.TheVariants.{At, NothingToJoin}
@@ -38,6 +38,10 @@ refused number argument = record { status = number; detail = argument; size = 0;
 -- a number that is no kind's was given for one
 abbrev pub unknown_kind : ℕ → Answer
 unknown_kind number = refused 101 number
+
+-- glyphs were asked for by number of full cuts, which are by characters alone
+abbrev pub no_numbers : Answer
+no_numbers = refused 104 0
 
 -- a status that says a size
 abbrev pub sized : ℕ → ℕ → Answer

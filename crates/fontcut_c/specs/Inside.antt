@@ -1,22 +1,28 @@
 -- Words of private contracts and of proofs: no public clause names them.
 use Rattle.std.specs.Prelude.{◌≡◌, ℕ, ◌+◌, ◌<◌, ◌≤◌, Bool, List, [], ◌∷◌, ◌++◌, drop, length, map, sum, take, None}
 use Rattle.std.specs.Prelude.{Some, if◌then◌else◌}
+use Rattle.std.specs.Option.{option_map}
 use Rattle.std.specs.List.{concat}
 use Rattle.sfnt_bytes.specs.declared.directory.TheConstants.{MAX_FILE}
 use Rattle.font_file.specs.Font.{font_fault}
 use Rattle.font_theory.specs.Content.{Content}
 use Rattle.font_theory.specs.File.{current_writing, file}
-use Rattle.font_theory.specs.Kinds.{fault_of}
 use Rattle.font_theory.specs.declared.kinds.Kind.{Kind}
 use Rattle.font_write.specs.Trace.{Trace}
-use Rattle.font_subset.specs.declared.layout_font.OpenError.{OpenError}
-use Rattle.font_subset.specs.declared.layout_font.OpenError.TheVariants as open_errors
+use Rattle.font_subset.specs.CutOfKind.{cut_as, cut_in}
+use Rattle.font_subset.specs.KeptGlyphs.{asked, glyphs_wanted, wanted_in}
+use Rattle.font_subset.specs.declared.open_error.OpenError.{OpenError}
+use Rattle.font_subset.specs.declared.open_error.OpenError.TheVariants as open_errors
 use Rattle.fontcut_c.specs.Answers.{IsInRoom}
-use Rattle.fontcut_c.specs.ManyCuts.{AddUp, AreInRoom, AreSmall, AreSmallTo, IsFirstLarge, sets_of, size_of_all}
-use Rattle.fontcut_c.specs.Cutting.{IsFirstBad, wanted_by}
+use Rattle.fontcut_c.specs.ManyCuts.{AddUp, AreSmall, AreSmallTo, IsFirstLarge, Sets, of_all, requests_in, requests_of}
+use Rattle.fontcut_c.specs.ManyCuts.{size_of_all}
+use Rattle.fontcut_c.specs.Cutting.{IsAccepted, IsFirstBad, IsFirstUnknown, IsRefusedFor, Request, closes_for}
+use Rattle.fontcut_c.specs.Cutting.{fault_for}
+use Rattle.fontcut_c.specs.Cutting.{wanted_by}
+use Rattle.fontcut_c.specs.declared.wanted_set.WantedSet.{WantedSet}
 use Rattle.codes.specs.declared.code_range.CodeRange.{CodeRange}
 use Rattle.fontcut_c.specs.declared.refusal.Refusal.{Refusal}
-use Rattle.fontcut_c.specs.declared.refusal.Refusal.TheVariants.{BadCounts, BadRange, Font, NoMemory, Second}
+use Rattle.fontcut_c.specs.declared.refusal.Refusal.TheVariants.{BadCounts, BadRange, Font, NoGlyph, NoMemory, Second}
 use Rattle.fontcut_c.specs.declared.refusal.Refusal.TheVariants.{SmallRoom, TooLarge}
 
 -- what was shown to room: what is filled, or, where it is stopped, all of it and the byte that found no room
@@ -67,18 +73,29 @@ abbrev pub RefusesJoined : List ℕ → ℕ → Refusal → Type 0
 RefusesJoined bytes room (SmallRoom size) = IsLargerFile bytes room size
 RefusesJoined bytes room _ = ⊥
 
--- what refuses a request before memory is asked for: the font, and then the first bad range
-abbrev pub RefusesRequest : List ℕ → List CodeRange → Refusal → Type 0
-RefusesRequest font ranges (Font error) = font_fault font ≡ Some error
-RefusesRequest font ranges (BadRange k) = (font_fault font ≡ None) × IsFirstBad ranges k
-RefusesRequest font ranges _ = ⊥
+-- what refuses a request before memory is asked for: the font, the first bad range, and then the first number that is
+-- no glyph
+abbrev pub RefusesRequest : List ℕ → Request → Refusal → Type 0
+RefusesRequest font r (Font error) = font_fault font ≡ Some error
+RefusesRequest font r (BadRange k) = (font_fault font ≡ None) × IsFirstBad r.ranges k
+RefusesRequest font r (NoGlyph k) = IsFirstUnknown font r k
+RefusesRequest font r _ = ⊥
 
--- what refuses a request for sets before memory is asked for: their counts, the font, and then the first
--- bad range
-abbrev pub RefusesRequestForSets : List ℕ → List CodeRange → List ℕ → ℕ → Refusal → Type 0
-RefusesRequestForSets font ranges counts places BadCounts = ¬ AddUp counts ranges places
-RefusesRequestForSets font ranges counts places refusal =
-    AddUp counts ranges places × RefusesRequest font ranges refusal
+-- what refuses a request for sets before memory is asked for: their counts, and then what refuses all that is wanted
+abbrev pub RefusesRequestForSets : List ℕ → Sets → ℕ → Refusal → Type 0
+RefusesRequestForSets font sets places BadCounts = ¬ AddUp sets places
+RefusesRequestForSets font sets places refusal = AddUp sets places × RefusesRequest font (of_all sets) refusal
+
+-- why a font that is accepted for a request is not opened for the cut: it is refused, or memory is
+abbrev pub RefusesOpening : Kind → List ℕ → Request → Refusal → Type 0
+RefusesOpening kind font r (Font error) = IsRefusedFor kind font r error
+RefusesOpening kind font r NoMemory = IsAccepted font r
+RefusesOpening kind font r _ = ⊥
+
+-- a font was opened for the cut that is wanted
+abbrev pub IsOpenedFor : Kind → List ℕ → Request → Kind × (List ℕ × Bool) → Type 0
+IsOpenedFor kind font r opened =
+    (opened ≡ (kind, (font, closes_for kind r))) × (fault_for kind font r ≡ None)
 
 -- what refuses a cut and its font before they are opened for a kind: the cut, or else the font
 abbrev pub RefusesFonts : List ℕ → List ℕ → Refusal → Type 0
@@ -91,12 +108,29 @@ abbrev pub of_unopened_second : OpenError → Refusal
 of_unopened_second open_errors.NoMemory = NoMemory
 of_unopened_second (open_errors.Refused error) = Second error
 
--- the codes of the first n sets, and where the ranges of the others begin
-pub record AreSetsTo (counts : List ℕ) (ranges : List CodeRange) (n from : ℕ) (codes : List (ℕ → Bool))
+-- what an opened font is asked for, and the cut for it
+abbrev pub cut_of_set : Kind × (List ℕ × Bool) → WantedSet → List ℕ
+cut_of_set font set =
+    cut_in font.0 font.1.0 (wanted_in (asked (Some set.codes) (option_map (λ v. v.items) set.numbers)))
+
+-- that is the cut for the codes of ranges and for these glyphs
+abbrev pub IsWantedSet : Kind × (List ℕ × Bool) → List CodeRange → List ℕ → WantedSet → Type 0
+IsWantedSet font ranges glyphs set =
+    cut_of_set font set ≡ cut_as font (record { codes = wanted_by ranges; glyphs = glyphs_wanted (Some glyphs) })
+
+-- the cut of an opened font for what is wanted
+abbrev pub cut_opened : Kind × (List ℕ × Bool) → Request → List ℕ
+cut_opened font r = cut_as font (record { codes = wanted_by r.ranges; glyphs = glyphs_wanted (Some r.glyphs) })
+
+-- the cuts for the first n sets, and where the ranges and the glyphs of the others begin
+pub record AreSetsTo (cut : Request → List ℕ) (sets : Sets) (n from glyph_from : ℕ) (cuts : List (List ℕ))
     : Type 0 where
-  pub left : from + sum (drop n counts) ≡ length ranges
-  pub codes_are : codes ++ map wanted_by (sets_of (drop n counts) (drop from ranges))
-      ≡ map wanted_by (sets_of counts ranges)
+  pub left : from + sum (drop n sets.counts) ≡ length sets.ranges
+  pub glyphs_left : glyph_from + sum (drop n sets.glyph_counts) ≡ length sets.glyphs
+  pub cuts_are :
+      cuts ++ map cut (requests_in sets.closes (drop n sets.counts) (drop from sets.ranges) (drop n sets.glyph_counts)
+      (drop glyph_from sets.glyphs))
+      ≡ map cut (requests_of sets)
 
 -- the files of sources, by their contents
 abbrev pub files_of : {S : Type 0} → (S → Content) → List S → List (List ℕ)
@@ -125,13 +159,7 @@ RefusesFiles files room (TooLarge size) = IsFirstLarge files size
 RefusesFiles files room (SmallRoom size) = AreSmall files × (size ≡ size_of_all files) × (room < size)
 RefusesFiles files room _ = ⊥
 
--- why the cuts of a font are not written: the font is refused for cuts of the kind, memory is, or else the cuts
--- as files
-abbrev pub RefusesWriting : Kind → List ℕ → List (List ℕ) → ℕ → Refusal → Type 0
-RefusesWriting kind font cuts room (Font error) = fault_of kind font ≡ Some error
-RefusesWriting kind font cuts room NoMemory = Unit {0}
-RefusesWriting kind font cuts room refusal = (fault_of kind font ≡ None) × RefusesFiles cuts room refusal
-
--- the font is accepted for cuts of the kind, and its cuts are in the room
-abbrev pub AreWritten : Kind → List ℕ → List (List ℕ) → List ℕ → List ℕ → List ℕ → ℕ → Type 0
-AreWritten kind font cuts old new sizes size = (fault_of kind font ≡ None) × AreInRoom cuts old new sizes size
+-- so many items are more than there is room for
+abbrev pub RefusesRoom : ℕ → ℕ → Refusal → Type 0
+RefusesRoom count room (SmallRoom size) = (size ≡ count) × (room < size)
+RefusesRoom count room _ = ⊥

@@ -3,6 +3,7 @@ pub mod ManyCuts
 pub mod Cutting
 pub mod Errors
 pub mod Forms
+pub mod GlyphSets
 pub mod Glyphs
 pub mod Info
 pub mod Inside

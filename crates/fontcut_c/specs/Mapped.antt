@@ -1,7 +1,8 @@
 -- What the call for the mapped codes answers, this project's own: the ranges that `codes` prints.
 use Rattle.std.specs.Prelude.{◌≡◌, ℕ, ◌<◌, List, length, None, Some, Result, MatchResult}
-use Rattle.font_file.specs.Font.{font_fault}
-use Rattle.font_cut.specs.Fonts.{cmap_of, glyph_count_of, mapping_of}
+use Rattle.font_file.specs.Font.{cmap_of, font_fault}
+use Rattle.font_tables.specs.Fields.{glyph_count_of}
+use Rattle.font_map.specs.Mapping.{mapping_of}
 use Rattle.commands.specs.Codes.{code_ranges}
 use Rattle.fontcut_c.specs.Answers.{IsInRoom, size_answer}
 use Rattle.fontcut_c.specs.declared.answer.Answer.{Answer}

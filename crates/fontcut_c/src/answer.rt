@@ -1,16 +1,20 @@
 //! What each call answers.
 ghost use Rattle.std.specs.Prelude.{◌≡◌};
-ghost use Rattle.fontcut_c.specs.Answers.{at_step, done as done_with, refused as refused_with, sized as sized_with, told as told_with, unknown_kind as unknown_kind_with};
+ghost use Rattle.fontcut_c.specs.Answers.{at_step, done as done_with, no_numbers as no_numbers_with, refused as refused_with, sized as sized_with, told as told_with, unknown_kind as unknown_kind_with};
 
 /// The status of a number that was given for a kind of cuts and is none's.
 const UNKNOWN_KIND: u8 = 101;
+
+/// The status of glyphs that are asked for by number of full cuts.
+const NO_NUMBERS: u8 = 104;
 
 /// What a call answers. A field that has nothing to tell is 0.
 #[repr(C)]
 #[derive(Clone, Copy, Debug, PartialEq, Eq)]
 pub struct Answer {
     /// 0 where the call is done, 100 where the room is too small, 101 where there is no such kind of cuts, 102
-    /// where the font has no such glyph, 103 where counts do not add up, and else the number of the refusal.
+    /// where the font has no such glyph, 103 where counts do not add up, 104 where glyphs are asked for by number
+    /// of full cuts, and else the number of the refusal.
     pub status: u32,
     /// What a refusal names: a tag as a big-endian number, an index, a glyph, a code or the number that is no
     /// kind's; and the answer to a question.
@@ -64,6 +68,13 @@ impl Answer {
         ensures { result ≡ unknown_kind_with number }
     {
         Answer::refused(UNKNOWN_KIND, number)
+    }
+
+    /// Returns the answer where glyphs are asked for by number of full cuts.
+    pub(crate) fn no_numbers() -> Answer
+        ensures { result ≡ no_numbers_with }
+    {
+        Answer::refused(NO_NUMBERS, 0)
     }
 
     /// Returns a status that says a size.

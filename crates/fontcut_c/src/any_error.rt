@@ -3,10 +3,12 @@ ghost use Rattle.std.specs.Prelude.{◌≡◌, Some};
 ghost use Rattle.fontcut_c.specs.Errors.{any_error_text, error_of as error_of_answer, font_error_of, join_error_of, which_at};
 
 use crate::answer::Answer;
-use font_cut::{
-    DirError, FontError, JoinAllError, JoinError, MapError, TableError, Tag, WantedError, Which,
-};
-use sfnt_bytes::numbers;
+use codes::WantedError;
+use font_file::FontError;
+use font_join::{JoinAllError, JoinError, Which};
+use font_map::MapError;
+use font_tables::TableError;
+use sfnt_bytes::{DirError, Tag, numbers};
 use std::fmt;
 
 /// An error that the library answers.

@@ -9,7 +9,9 @@ ghost use Rattle.fontcut_c.specs.Inside.{RefusesFonts, of_unopened_second};
 
 use crate::answer::Answer;
 use crate::refusal::Refusal;
-use font_cut::{CutForm, Font, FontOfKind, Kind, OpenError, belongs, form_of_kind};
+use font_file::Font;
+use font_subset::{CutForm, FontOfKind, OpenError, belongs, form_of_kind};
+use font_theory::Kind;
 use std::alloc::Global;
 
 // Returns in which form an opened font is a cut of a kind.

@@ -5,7 +5,7 @@ ghost use Rattle.font_tables.specs.Fields.{glyph_count_of};
 ghost use Rattle.fontcut_c.specs.Glyphs.{AreGlyphs, AreMetricsInRoom, IsFirstNoGlyph, RefusesMetrics, metric_in, metrics_of};
 
 use crate::refusal::Refusal;
-use font_cut::Font;
+use font_file::Font;
 
 /// The metrics of a glyph, in font units.
 #[repr(C)]
@@ -17,8 +17,8 @@ pub struct Metric {
     pub bearing: i16,
 }
 
-// Finds the first number that is no glyph of the font.
-fn first_no_glyph(font: &Font<'_>, glyphs: &[u16]) -> Option<usize>
+/// Finds the first number that is no glyph of the font.
+pub(crate) fn first_no_glyph(font: &Font<'_>, glyphs: &[u16]) -> Option<usize>
     ensures { MatchOption result (AreGlyphs font.now glyphs.now) (IsFirstNoGlyph font.now glyphs.now) }
 {
     let count = font.tables().glyph_count();

@@ -5,7 +5,7 @@ ghost use Rattle.font_file.specs.Font.{font_fault};
 ghost use Rattle.fontcut_c.specs.Glyphs.{AreGlyphsInRoom, RefusesGlyphs, glyphs_of};
 
 use crate::refusal::Refusal;
-use font_cut::Font;
+use font_file::Font;
 
 // Writes the glyph of each code to the front of room that has a place for each.
 #[tactic(auto, using(crate::proofs::RowLemmas::row_more, crate::proofs::RowLemmas::row_all))]

@@ -7,7 +7,7 @@ ghost use Rattle.font_tables.specs.Refusals.{table_fault};
 ghost use Rattle.font_tables.specs.Tables.{head_of, hhea_of, table_or_empty};
 ghost use Rattle.fontcut_c.specs.Info.{info_of};
 
-use font_cut::Font;
+use font_file::Font;
 use sfnt_bytes::{HEAD, HHEA, be16};
 
 /// The numbers of a whole font. All but the number of glyphs are as the font has them, and nothing of them is checked.

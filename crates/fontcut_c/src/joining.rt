@@ -8,8 +8,8 @@ ghost use Rattle.fontcut_c.specs.Text.{NamesFile};
 
 use crate::caller_room::write_sized;
 use crate::refusal::Refusal;
-use font_cut::Kind;
 use font_join::{open_first_file, union_of_files};
+use font_theory::Kind;
 use font_write::{CURRENT, Source, file_size};
 use std::alloc::Global;
 

@@ -9,6 +9,7 @@ mod caller_room;
 mod cutting;
 mod filled;
 mod glyph_metrics;
+mod glyph_sets;
 mod glyphs;
 mod info;
 mod joining;
@@ -16,23 +17,25 @@ mod kind;
 mod many_cuts;
 mod mapped;
 mod refusal;
+mod requests;
 mod text;
 mod wanted_ranges;
+mod wanted_set;
 
 ghost use Rattle.std.specs.Prelude.{◌≡◌, ◌≢◌, IfErr, None, length, map};
 ghost use Rattle.std.specs.List.{concat};
 ghost use Rattle.font_file.specs.Font.{font_fault};
 ghost use Rattle.font_subset.specs.CutOfFont.{cut_of};
-ghost use Rattle.font_subset.specs.CutOfKind.{cut_in};
 ghost use Rattle.font_theory.specs.declared.kinds.Kind.TheVariants.{Full};
 ghost use Rattle.fontcut_c.specs.Answers.{IsInRoom, check_answer, size_answer};
-ghost use Rattle.fontcut_c.specs.ManyCuts.{AnswersCuts, cuts_for};
-ghost use Rattle.fontcut_c.specs.Cutting.{AnswersCut, AnswersCutSize, wanted_by};
+ghost use Rattle.fontcut_c.specs.ManyCuts.{AnswersCuts, codes_sets, cuts_for, exact_sets};
+ghost use Rattle.fontcut_c.specs.Cutting.{AnswersCut, AnswersCutSize, closing_request, codes_request, cut_for, exact_request, wanted_by};
 ghost use Rattle.fontcut_c.specs.Forms.{AnswersBelonging, AnswersForm};
+ghost use Rattle.fontcut_c.specs.GlyphSets.{AnswersClosure, AnswersKept, closure_of, kept_of};
 ghost use Rattle.fontcut_c.specs.Glyphs.{AnswersGlyphs, AnswersMetrics, glyphs_of, metrics_of};
 ghost use Rattle.fontcut_c.specs.Info.{info_of};
 ghost use Rattle.fontcut_c.specs.Joining.{AnswersJoin};
-ghost use Rattle.fontcut_c.specs.KindNumbers.{AnswersInKind, HoldsInKind};
+ghost use Rattle.fontcut_c.specs.KindNumbers.{AnswersByNumber, AnswersInKind, HoldsInKind};
 ghost use Rattle.fontcut_c.specs.Mapped.{AnswersCodes};
 ghost use Rattle.fontcut_c.specs.Text.{AnswersText, NamesFile, answer_text, check_text, refusal_text};
 ghost use Rattle.fontcut_c.specs.declared.TheConstants.{VERSION};
@@ -43,17 +46,20 @@ use crate::belonging::{belonging_answer, form_answer};
 use crate::cutting::{checked_cut_size, checked_cut_to, cut_size, cut_to};
 pub use crate::glyph_metrics::Metric;
 use crate::glyph_metrics::{checked_metrics_to, metrics_to};
+use crate::glyph_sets::{closure_to, kept_to};
 use crate::glyphs::{checked_glyphs_to, glyphs_to};
 pub use crate::info::Info;
 use crate::info::info_in;
 use crate::joining::join_to;
-use crate::kind::kind_of_number;
+use crate::kind::{kind_of_number, takes_glyphs};
 use crate::many_cuts::cuts_to;
 use crate::mapped::codes_to;
 pub use crate::refusal::Refusal;
+use crate::requests::{CutRequest, SetsRequest};
 use crate::text::text_to;
-pub use font_cut::CodeRange;
-use font_cut::{Font, Kind};
+pub use codes::CodeRange;
+use font_file::Font;
+use font_theory::Kind;
 use std::alloc::Global;
 
 /// Says whether a font is accepted: status 0, or the first refusal that applies, whose text [`fontcut_refusal_text`]
@@ -91,10 +97,10 @@ pub extern "C" fn fontcut_subset_size(
     font: &[u8],
     ranges: &[CodeRange],
 ) -> Answer
-    ensures { AnswersInKind kind result (λ k. AnswersCutSize k font.now ranges.now result) }
+    ensures { AnswersInKind kind result (λ k. AnswersCutSize k font.now (codes_request ranges.now) result) }
 {
     match kind_of_number(kind) {
-        Some(kind) => answered(cut_size(alloc, kind, font, ranges)),
+        Some(kind) => answered(cut_size(alloc, kind, font, &CutRequest::of_codes(ranges))),
         None => Answer::unknown_kind(kind),
     }
 }
@@ -111,13 +117,13 @@ pub extern "C" fn fontcut_subset(
     out: &mut [u8],
 ) -> Answer
     ensures exact { AnswersInKind kind result
-        (λ k. AnswersCut k font.now ranges.now out.old out.new result) }
+        (λ k. AnswersCut k font.now (codes_request ranges.now) out.old out.new result) }
     ensures done { result.status ≡ 0 → HoldsInKind kind
-        (λ k. IsInRoom (cut_in k font.now (wanted_by ranges.now)) out.old out.new result.size) }
+        (λ k. IsInRoom (cut_for k font.now (codes_request ranges.now)) out.old out.new result.size) }
     ensures untouched { result.status ≢ 0 → out.new ≡ out.old }
 {
     match kind_of_number(kind) {
-        Some(kind) => answered(cut_to(alloc, kind, font, ranges, out)),
+        Some(kind) => answered(cut_to(alloc, kind, font, &CutRequest::of_codes(ranges), out)),
         None => Answer::unknown_kind(kind),
     }
 }
@@ -132,10 +138,10 @@ pub extern "C" fn fontcut_subset_size_checked(
     ranges: &[CodeRange],
 ) -> Answer
     requires { font_fault font.now ≡ None }
-    ensures { AnswersInKind kind result (λ k. AnswersCutSize k font.now ranges.now result) }
+    ensures { AnswersInKind kind result (λ k. AnswersCutSize k font.now (codes_request ranges.now) result) }
 {
     match kind_of_number(kind) {
-        Some(kind) => answered(checked_cut_size(alloc, kind, font, ranges)),
+        Some(kind) => answered(checked_cut_size(alloc, kind, font, &CutRequest::of_codes(ranges))),
         None => Answer::unknown_kind(kind),
     }
 }
@@ -152,13 +158,119 @@ pub extern "C" fn fontcut_subset_checked(
 ) -> Answer
     requires { font_fault font.now ≡ None }
     ensures exact { AnswersInKind kind result
-        (λ k. AnswersCut k font.now ranges.now out.old out.new result) }
+        (λ k. AnswersCut k font.now (codes_request ranges.now) out.old out.new result) }
     ensures done { result.status ≡ 0 → HoldsInKind kind
-        (λ k. IsInRoom (cut_in k font.now (wanted_by ranges.now)) out.old out.new result.size) }
+        (λ k. IsInRoom (cut_for k font.now (codes_request ranges.now)) out.old out.new result.size) }
     ensures untouched { result.status ≢ 0 → out.new ≡ out.old }
 {
     match kind_of_number(kind) {
-        Some(kind) => answered(checked_cut_to(alloc, kind, font, ranges, out)),
+        Some(kind) => answered(checked_cut_to(
+            alloc,
+            kind,
+            font,
+            &CutRequest::of_codes(ranges),
+            out,
+        )),
+        None => Answer::unknown_kind(kind),
+    }
+}
+
+/// Gives the size in bytes of the cut of a font for the codes of the ranges and for the glyphs of these numbers, of the
+/// kind that the number names. No links are followed: layout and variable cuts have just these glyphs and what they are
+/// made of, and serve text that was shaped to them; [`fontcut_closure`] gives what serves other text. No cut is built.
+/// Status 101 where the number names no kind, and then 104 where full cuts are asked for glyphs, which is asked before all
+/// else; status 102 where a number is no glyph of the font, and `detail` is the first such index.
+#[unsafe(no_mangle)]
+pub extern "C" fn fontcut_subset_glyphs_size(
+    alloc: Global,
+    kind: u32,
+    font: &[u8],
+    ranges: &[CodeRange],
+    glyphs: &[u16],
+) -> Answer
+    ensures { AnswersInKind kind result (λ k. AnswersByNumber k glyphs.now result
+        (AnswersCutSize k font.now (exact_request ranges.now glyphs.now) result)) }
+{
+    match kind_of_number(kind) {
+        Some(kind) if takes_glyphs(kind, glyphs) => {
+            answered(cut_size(alloc, kind, font, &CutRequest::exact(ranges, glyphs)))
+        }
+        Some(_) => Answer::no_numbers(),
+        None => Answer::unknown_kind(kind),
+    }
+}
+
+/// Writes the cut that [`fontcut_subset_glyphs_size`] measures to the front of `out`. A refusal leaves `out` as it was.
+#[unsafe(no_mangle)]
+pub extern "C" fn fontcut_subset_glyphs(
+    alloc: Global,
+    kind: u32,
+    font: &[u8],
+    ranges: &[CodeRange],
+    glyphs: &[u16],
+    out: &mut [u8],
+) -> Answer
+    ensures exact { AnswersInKind kind result (λ k. AnswersByNumber k glyphs.now result
+        (AnswersCut k font.now (exact_request ranges.now glyphs.now) out.old out.new result)) }
+    ensures done { result.status ≡ 0 → HoldsInKind kind
+        (λ k. IsInRoom (cut_for k font.now (exact_request ranges.now glyphs.now)) out.old out.new result.size) }
+    ensures untouched { result.status ≢ 0 → out.new ≡ out.old }
+{
+    match kind_of_number(kind) {
+        Some(kind) if takes_glyphs(kind, glyphs) => {
+            answered(cut_to(alloc, kind, font, &CutRequest::exact(ranges, glyphs), out))
+        }
+        Some(_) => Answer::no_numbers(),
+        None => Answer::unknown_kind(kind),
+    }
+}
+
+/// Gives what [`fontcut_subset_glyphs_size`] gives, of a font that [`fontcut_check`] has accepted: these bytes, or others
+/// that are the same. The font is not tested again.
+#[unsafe(no_mangle)]
+pub extern "C" fn fontcut_subset_glyphs_size_checked(
+    alloc: Global,
+    kind: u32,
+    font: &[u8],
+    ranges: &[CodeRange],
+    glyphs: &[u16],
+) -> Answer
+    requires { font_fault font.now ≡ None }
+    ensures { AnswersInKind kind result (λ k. AnswersByNumber k glyphs.now result
+        (AnswersCutSize k font.now (exact_request ranges.now glyphs.now) result)) }
+{
+    match kind_of_number(kind) {
+        Some(kind) if takes_glyphs(kind, glyphs) => {
+            answered(checked_cut_size(alloc, kind, font, &CutRequest::exact(ranges, glyphs)))
+        }
+        Some(_) => Answer::no_numbers(),
+        None => Answer::unknown_kind(kind),
+    }
+}
+
+/// Does what [`fontcut_subset_glyphs`] does, with a font that [`fontcut_check`] has accepted: these bytes, or others that
+/// are the same. The font is not tested again.
+#[unsafe(no_mangle)]
+pub extern "C" fn fontcut_subset_glyphs_checked(
+    alloc: Global,
+    kind: u32,
+    font: &[u8],
+    ranges: &[CodeRange],
+    glyphs: &[u16],
+    out: &mut [u8],
+) -> Answer
+    requires { font_fault font.now ≡ None }
+    ensures exact { AnswersInKind kind result (λ k. AnswersByNumber k glyphs.now result
+        (AnswersCut k font.now (exact_request ranges.now glyphs.now) out.old out.new result)) }
+    ensures done { result.status ≡ 0 → HoldsInKind kind
+        (λ k. IsInRoom (cut_for k font.now (exact_request ranges.now glyphs.now)) out.old out.new result.size) }
+    ensures untouched { result.status ≢ 0 → out.new ≡ out.old }
+{
+    match kind_of_number(kind) {
+        Some(kind) if takes_glyphs(kind, glyphs) => {
+            answered(checked_cut_to(alloc, kind, font, &CutRequest::exact(ranges, glyphs), out))
+        }
+        Some(_) => Answer::no_numbers(),
         None => Answer::unknown_kind(kind),
     }
 }
@@ -179,16 +291,63 @@ pub extern "C" fn fontcut_cuts(
     sizes: &mut [u64],
 ) -> Answer
     ensures exact { AnswersInKind kind result
-        (λ k. AnswersCuts k font.now ranges.now counts.now out.old out.new sizes.old sizes.new result) }
+        (λ k. AnswersCuts k font.now (codes_sets ranges.now counts.now) out.old out.new sizes.old sizes.new result) }
     ensures done { result.status ≡ 0 → HoldsInKind kind
-        (λ k. IsInRoom (concat (cuts_for k font.now ranges.now counts.now)) out.old out.new result.size) }
+        (λ k. IsInRoom (concat (cuts_for k font.now (codes_sets ranges.now counts.now))) out.old out.new result.size) }
     ensures sizes_done { result.status ≡ 0 → HoldsInKind kind
-        (λ k. sizes.new ≡ map (λ cut. length cut) (cuts_for k font.now ranges.now counts.now)) }
+        (λ k. sizes.new ≡ map (λ cut. length cut) (cuts_for k font.now (codes_sets ranges.now counts.now))) }
     ensures untouched { result.status ≢ 0 → out.new ≡ out.old }
     ensures sizes_untouched { result.status ≢ 0 → sizes.new ≡ sizes.old }
 {
     match kind_of_number(kind) {
-        Some(kind) => answered(cuts_to(alloc, kind, font, ranges, counts, out, sizes)),
+        Some(kind) => answered(cuts_to(
+            alloc,
+            kind,
+            font,
+            &SetsRequest::of_codes(ranges, counts),
+            out,
+            sizes,
+        )),
+        None => Answer::unknown_kind(kind),
+    }
+}
+
+/// Writes the cuts of a font for many sets of codes and of glyphs, as [`fontcut_subset_glyphs`] writes one of them, to the
+/// front of `out`, end to end in the order of the sets, and the length of each to `sizes`. `ranges` and `counts` are those
+/// of [`fontcut_cuts`], `glyphs` has the glyphs of the first set, then those of the next one, and so on, and `glyph_counts`
+/// how many each set has; the sets after the last such count have none. A refusal leaves `out` and `sizes` as they were.
+/// Status 101 where the number names no kind, and then 104 where full cuts are asked for glyphs, which is asked before all
+/// else, and then 103 where counts do not add up, where there are more counts of glyphs than sets, or where `sizes` has
+/// more places or fewer than there are sets.
+#[unsafe(no_mangle)]
+pub extern "C" fn fontcut_cuts_glyphs(
+    alloc: Global,
+    kind: u32,
+    font: &[u8],
+    ranges: &[CodeRange],
+    counts: &[u64],
+    glyphs: &[u16],
+    glyph_counts: &[u64],
+    out: &mut [u8],
+    sizes: &mut [u64],
+) -> Answer
+    ensures exact { let sets = exact_sets ranges.now counts.now glyphs.now glyph_counts.now in
+        AnswersInKind kind result (λ k. AnswersByNumber k glyphs.now result
+        (AnswersCuts k font.now sets out.old out.new sizes.old sizes.new result)) }
+    ensures done { let sets = exact_sets ranges.now counts.now glyphs.now glyph_counts.now in
+        result.status ≡ 0 → HoldsInKind kind
+        (λ k. IsInRoom (concat (cuts_for k font.now sets)) out.old out.new result.size) }
+    ensures sizes_done { let sets = exact_sets ranges.now counts.now glyphs.now glyph_counts.now in
+        result.status ≡ 0 → HoldsInKind kind (λ k. sizes.new ≡ map (λ cut. length cut) (cuts_for k font.now sets)) }
+    ensures untouched { result.status ≢ 0 → out.new ≡ out.old }
+    ensures sizes_untouched { result.status ≢ 0 → sizes.new ≡ sizes.old }
+{
+    match kind_of_number(kind) {
+        Some(kind) if takes_glyphs(kind, glyphs) => {
+            let sets = SetsRequest::exact(ranges, counts, glyphs, glyph_counts);
+            answered(cuts_to(alloc, kind, font, &sets, out, sizes))
+        }
+        Some(_) => Answer::no_numbers(),
         None => Answer::unknown_kind(kind),
     }
 }
@@ -222,9 +381,9 @@ pub extern "C" fn fontcut_belongs(alloc: Global, kind: u32, cut: &[u8], font: &[
 /// [`fontcut_subset_size`] of a full cut. Deprecated: the next version does not have it.
 #[unsafe(no_mangle)]
 pub extern "C" fn fontcut_cut_size(alloc: Global, font: &[u8], ranges: &[CodeRange]) -> Answer
-    ensures { AnswersCutSize Full font.now ranges.now result }
+    ensures { AnswersCutSize Full font.now (codes_request ranges.now) result }
 {
-    answered(cut_size(alloc, Kind::Full, font, ranges))
+    answered(cut_size(alloc, Kind::Full, font, &CutRequest::of_codes(ranges)))
 }
 
 /// [`fontcut_subset`] of a full cut. Deprecated: the next version does not have it.
@@ -235,12 +394,12 @@ pub extern "C" fn fontcut_cut(
     ranges: &[CodeRange],
     out: &mut [u8],
 ) -> Answer
-    ensures exact { AnswersCut Full font.now ranges.now out.old out.new result }
+    ensures exact { AnswersCut Full font.now (codes_request ranges.now) out.old out.new result }
     ensures done { result.status ≡ 0 →
         IsInRoom (cut_of font.now (wanted_by ranges.now)) out.old out.new result.size }
     ensures untouched { result.status ≢ 0 → out.new ≡ out.old }
 {
-    answered(cut_to(alloc, Kind::Full, font, ranges, out))
+    answered(cut_to(alloc, Kind::Full, font, &CutRequest::of_codes(ranges), out))
 }
 
 /// [`fontcut_cut_form`] of a full cut. Deprecated: the next version does not have it.
@@ -302,6 +461,55 @@ pub extern "C" fn fontcut_glyphs(font: &[u8], codes: &[u32], out: &mut [u16]) ->
     ensures untouched { result.status ≢ 0 → out.new ≡ out.old }
 {
     answered(glyphs_to(font, codes, out))
+}
+
+/// Writes the glyphs that a shaper may put for text to the front of `out`, ascending: those that chains of links of `GSUB`
+/// lead to, as cuts of the kind that the number names keep it, from .notdef, from the glyphs of the codes of the ranges, and
+/// from these glyphs. `size` counts glyphs. A cut for the same ranges and for these glyphs serves all text of these
+/// characters, in whatever order and with whatever features. A refusal leaves `out` as it was. Status 101 where the number
+/// names no kind, which is asked before all else, and 102 where a number is no glyph of the font.
+#[unsafe(no_mangle)]
+pub extern "C" fn fontcut_closure(
+    alloc: Global,
+    kind: u32,
+    font: &[u8],
+    ranges: &[CodeRange],
+    glyphs: &[u16],
+    out: &mut [u16],
+) -> Answer
+    ensures exact { AnswersInKind kind result
+        (λ k. AnswersClosure k font.now (closing_request ranges.now glyphs.now) out.old out.new result) }
+    ensures done { result.status ≡ 0 → HoldsInKind kind
+        (λ k. IsInRoom (closure_of k font.now (closing_request ranges.now glyphs.now)) out.old out.new result.size) }
+    ensures untouched { result.status ≢ 0 → out.new ≡ out.old }
+{
+    match kind_of_number(kind) {
+        Some(kind) => answered(closure_to(
+            alloc,
+            kind,
+            font,
+            &CutRequest::closing(ranges, glyphs),
+            out,
+        )),
+        None => Answer::unknown_kind(kind),
+    }
+}
+
+/// Writes the glyphs that a file keeps of itself as a cut of the kind that the number names to the front of `out`,
+/// ascending: .notdef, the glyphs of its characters, those that have an outline, metrics or variation data, and what
+/// these are made of. `size` counts glyphs. With the ranges of [`fontcut_codes`] they are what a file that is a cut was made
+/// for. A refusal leaves `out` as it was. Status 101 where the number names no kind, which is asked before all else.
+#[unsafe(no_mangle)]
+pub extern "C" fn fontcut_kept(alloc: Global, kind: u32, font: &[u8], out: &mut [u16]) -> Answer
+    ensures exact { AnswersInKind kind result (λ k. AnswersKept k font.now out.old out.new result) }
+    ensures done { result.status ≡ 0 → HoldsInKind kind
+        (λ k. IsInRoom (kept_of k font.now) out.old out.new result.size) }
+    ensures untouched { result.status ≢ 0 → out.new ≡ out.old }
+{
+    match kind_of_number(kind) {
+        Some(kind) => answered(kept_to(alloc, kind, font, out)),
+        None => Answer::unknown_kind(kind),
+    }
 }
 
 /// Writes the advance width and the left side bearing of each glyph to the front of `out`, in font units. `size`

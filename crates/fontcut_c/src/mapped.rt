@@ -1,12 +1,14 @@
 //! The ranges of the codes that a font maps, counted, and written to the caller's room.
 ghost use Rattle.std.specs.Prelude.{◌≡◌, ◌≤◌, ◌++◌, MatchResult, drop, length};
-ghost use Rattle.font_cut.specs.Fonts.{mapping_of};
+ghost use Rattle.font_map.specs.Mapping.{mapping_of};
 ghost use Rattle.commands.specs.Codes.{code_ranges};
 ghost use Rattle.fontcut_c.specs.Mapped.{IsListInRoom, RefusesList};
 
 use crate::refusal::Refusal;
+use codes::CodeRange;
 use commands::next_range;
-use font_cut::{Chart, CodeRange, Font};
+use font_file::Font;
+use font_map::Chart;
 use std::alloc::Global;
 
 // Counts the ranges.

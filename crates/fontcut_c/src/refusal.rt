@@ -11,8 +11,11 @@ ghost use Rattle.fontcut_c.specs.declared.any_error.AnyError.TheVariants.{Font};
 ghost use Rattle.fontcut_c.specs.declared.refusal.Refusal.TheVariants.{Font as FontRefused, Join as JoinRefused, NoMemory as MemoryRefused};
 
 use crate::answer::Answer;
-use font_cut::{DirError, FontError, JoinAllError, JoinError, OpenError, TableError};
-use sfnt_bytes::{NoMemory, Tag, numbers};
+use font_file::FontError;
+use font_join::{JoinAllError, JoinError};
+use font_subset::OpenError;
+use font_tables::TableError;
+use sfnt_bytes::{DirError, NoMemory, Tag, numbers};
 
 /// The status of a room that is too small.
 const SMALL_ROOM: u8 = 100;

@@ -3,7 +3,8 @@ ghost use Rattle.std.specs.Prelude.{◌≡◌, ◌<◌, ℕ, MatchOption, IfOk};
 ghost use Rattle.codes.specs.Wanted.{member};
 ghost use Rattle.fontcut_c.specs.Cutting.{AreGood, IsFirstBad, wanted_by};
 
-use font_cut::{CodeRange, LAST_CODE, NoMemory, Wanted};
+use codes::{CodeRange, LAST_CODE, Wanted};
+use sfnt_bytes::NoMemory;
 use std::alloc::Global;
 
 /// Finds the first range that ends before it begins, or past the last code point.

@@ -1,5 +1,6 @@
 use Rattle.std.proofs.Common.{◌≡◌, ◌↔◌, ◌∙◌, ℕ, IsTrue, List, None, ap, subst, sym}
-use Rattle.font_cut.specs.Fonts.{Kind, fault_of}
+use Rattle.font_theory.specs.declared.kinds.Kind.{Kind}
+use Rattle.font_theory.specs.Kinds.{fault_of}
 use Rattle.font_subset.specs.CutOfKind.{IsCutIn}
 use Rattle.font_subset.proofs.CutLemmas.{passed_on}
 use Rattle.font_join.specs.declared.join_error.Which.TheVariants.{Second}
@@ -31,5 +32,5 @@ returns g c =
       font_accepted = subst (λ (k : Kind). fault_of k c.args.font.now ≡ None) c.kind.ensures.kind
           c.in_ok-opened.ensures.1;
       is = subst (λ (v : Kind × List ℕ). IsTrue c.in_ok-belongs.field-0 ↔ IsCutIn v.0 v.1 cut.1) opened
-          c.in_ok-belongs.ensures.some_codes;
+          c.in_ok-belongs.ensures.some_wanted;
     }

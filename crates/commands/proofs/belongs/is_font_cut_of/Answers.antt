@@ -1,6 +1,6 @@
 use Rattle.std.proofs.Common.{List, ℕ, subst}
 use Rattle.std.specs.Result.{MatchResult}
-use Rattle.font_cut.specs.Fonts.{Kind}
+use Rattle.font_theory.specs.declared.kinds.Kind.{Kind}
 use Rattle.font_subset.proofs.CutLemmas.{passed_on}
 use Rattle.commands.specs.Belongs.{Answers, IsUnanswered}
 use Rattle.commands.proofs.BelongsLemmas.{first_unopened}

@@ -1,6 +1,7 @@
 use Rattle.std.proofs.Common.{ℕ, rules, length, map, sym, subst, ◌∙◌, ap}
 use Rattle.font_subset.specs.CutOfKind.{cut_in}
-use Rattle.font_cut.specs.Fonts.{format_of, union_below}
+use Rattle.font_theory.specs.Kinds.{format_of}
+use Rattle.font_theory.specs.Tree.{union_below}
 use Rattle.font_join.specs.JoinList.{AreCuts, IsSentAs}
 use Rattle.commands.specs.JoinRun.{AreGot}
 use Rattle.commands.proofs.JoinRunLemmas.{finish_stopped, into_stopped, only_size_into, read_stopped}

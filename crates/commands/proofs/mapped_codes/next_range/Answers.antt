@@ -1,5 +1,5 @@
 use Rattle.std.proofs.Common.{rules, arith, ◌≡◌, []}
-use Rattle.font_cut.specs.Fonts.{mapping_of}
+use Rattle.font_map.specs.Mapping.{mapping_of}
 use Rattle.commands.specs.Codes.{code_ranges}
 use Rattle.commands.proofs.CodesLemmas.{none_left, walk_apart, walk_end, walk_on, walk_start}
 use Rattle.commands.proofs.mapped_codes.next_range.Goals as goal

@@ -1,5 +1,5 @@
 use Rattle.std.proofs.Common.{◌-◌}
-use Rattle.font_cut.specs.Fonts.{mapping_of}
+use Rattle.font_map.specs.Mapping.{mapping_of}
 use Rattle.commands.proofs.CodesLemmas.{Walks}
 use Rattle.commands.proofs.mapped_codes.next_range.Given as goal
 

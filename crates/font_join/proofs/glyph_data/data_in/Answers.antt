@@ -1,5 +1,5 @@
 use Rattle.std.proofs.Common.{sym, ◌∙◌}
-use Rattle.font_theory.proofs.VariableCopiedLemmas.{variation_data-none}
+use Rattle.font_theory.proofs.WordLemmas.{variation_data-none}
 use Rattle.font_join.proofs.GlyphDataLemmas.{opened_data, opened_none}
 use Rattle.font_join.proofs.glyph_data.data_in.Goals as goal
 

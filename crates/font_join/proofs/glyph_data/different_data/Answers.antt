@@ -1,9 +1,9 @@
-use Rattle.std.proofs.Common.{◌≤◌, ◌+◌, ◌∙◌, sym, arith}
+use Rattle.std.proofs.Common.{◌≤◌, ◌+◌, ◌∙◌, ap, is_some, not, sym, arith}
 use Rattle.font_theory.specs.Content.{Content, glyph_count}
 use Rattle.font_join.specs.KindInside.{has_other_data}
 use Rattle.font_join.proofs.FirstLemmas.{fails_next}
-use Rattle.font_join.proofs.LeanGlyphLemmas.{others_found, others_none, others_skip}
-use Rattle.font_join.proofs.GlyphDataLemmas.{same_data}
+use Rattle.font_join.proofs.ToldLemmas.{others_found, others_none, others_skip}
+use Rattle.font_join.proofs.GlyphDataLemmas.{no_data_told, same_data}
 use Rattle.font_join.proofs.glyph_data.different_data.Goals as goal
 
 pub loop-g-init : goal.loop-g-init
@@ -39,3 +39,9 @@ returns g c =
     let D : Content = g.L.Source.content_of c.args.l.now in
     let past : glyph_count D.copied ≤ c.loop-g.g = omega (arith, c.loop-g-test.false, c.glyph_count-count.ensures) in
     others_none C D (same_data C D) c.loop-g.g c.recall_laws-2.ensures.writable.past c.loop-g.invariant.0 past
+
+pub returns-then-is_none-2 : goal.returns-then-is_none-2
+returns-then-is_none-2 g c =
+    no_data_told (g.K.Source.content_of c.args.k.now) (g.L.Source.content_of c.args.l.now)
+    (ap is_some (sym c.variations_of-first.ensures) ∙ c.is_none.ensures ∙ ap not c.if-is_none.true)
+    (ap is_some (sym c.variations_of-second.ensures) ∙ c.is_none-then-is_none.ensures ∙ ap not c.if-is_none-2.true)

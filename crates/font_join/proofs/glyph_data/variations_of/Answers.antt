@@ -1,6 +1,6 @@
 use Rattle.std.proofs.Common.{◌≡◌, false, true, sym, ap, ◌∙◌}
 use Rattle.std.specs.Result.{is_ok}
-use Rattle.font_join.proofs.LeanTableLemmas.{looked_up}
+use Rattle.font_join.proofs.ThreeTableLemmas.{looked_up}
 use Rattle.font_join.proofs.GlyphDataLemmas.{accepted_at}
 use Rattle.font_join.proofs.glyph_data.variations_of.Goals as goal
 

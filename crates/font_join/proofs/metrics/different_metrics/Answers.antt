@@ -2,7 +2,7 @@ use Rattle.std.proofs.Common.{◌≤◌, ◌+◌, ◌∙◌, sym, arith}
 use Rattle.font_theory.specs.Content.{Content, glyph_count}
 use Rattle.font_join.specs.KindInside.{has_other_metrics}
 use Rattle.font_join.proofs.FirstLemmas.{fails_next}
-use Rattle.font_join.proofs.LeanGlyphLemmas.{others_found, others_none, others_skip, same_metrics}
+use Rattle.font_join.proofs.ToldLemmas.{others_found, others_none, others_skip, same_metrics}
 use Rattle.font_join.proofs.metrics.different_metrics.Goals as goal
 
 pub loop-g-init : goal.loop-g-init

@@ -1,4 +1,4 @@
-use Rattle.font_join.proofs.LeanTableLemmas.{metric_four}
+use Rattle.font_join.proofs.ThreeTableLemmas.{metric_four}
 use Rattle.font_join.proofs.metrics.metrics_in.Goals as goal
 
 pub returns : goal.returns

@@ -1,7 +1,7 @@
 use Rattle.std.proofs.Common.{◌≡◌, ℕ, List, [], Option, refl, sym}
 use Rattle.std.specs.Option.{unwrap_or}
 use Rattle.font_subset.proofs.KindSourceLemmas.{or_empty}
-use Rattle.font_join.proofs.LeanTableLemmas.{pairs_read}
+use Rattle.font_join.proofs.ThreeTableLemmas.{pairs_read}
 use Rattle.font_join.proofs.metrics.table_of.Goals as goal
 
 pub returns-clause-pairs : goal.returns-clause-pairs

@@ -1,9 +1,15 @@
+use Rattle.std.proofs.Common.{option_copied}
 use Rattle.std.proofs.lemmas.Result.{MatchResult-weaker}
-use Rattle.codes.specs.Wanted.{member}
+use Rattle.font_subset.specs.CutOfKind.{wanted_with}
+use Rattle.font_subset.specs.KeptGlyphs.{asked, wanted_in}
 use Rattle.font_subset.proofs.CutLemmas.{is_sound_in}
 use Rattle.font_subset.proofs.cut_font.cut_of_kind.Goals as goal
 
 pub returns-clause-sound : goal.returns-clause-sound
 returns-clause-sound g c =
-    MatchResult-weaker c.cut_exactly.result c.cut_exactly.ensures (λ v written. is_sound_in c.args.font.now v.items
-    (member c.args.wanted.now) c.kind-kind.ensures.sound written) (λ e h. tt)
+    let font = c.args.font.now in
+    MatchResult-weaker c.cut_of_opened.result c.cut_of_opened.ensures
+    (λ v written. is_sound_in (font.0, font.1.0) v.items (wanted_with font.1.1 font.0 font.1.0
+    (wanted_in (asked (option_copied c.args.codes) (option_copied c.args.glyphs)))) c.font-opened.ensures.accepted
+    written)
+    (λ e h. tt)

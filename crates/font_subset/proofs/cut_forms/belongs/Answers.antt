@@ -1,28 +1,27 @@
 use Rattle.std.proofs.Common.{◌≡◌, ℕ, Bool, List, None, IsTrue, ◌↔◌, subst}
 use Rattle.std.proofs.lemmas.Result.{MatchResult-weaker}
-use Rattle.codes.specs.CharacterMap.{is_mapped}
-use Rattle.font_file.specs.Font.{map_of}
 use Rattle.font_theory.specs.Content.{content}
 use Rattle.font_theory.specs.Cut.{Writes}
 use Rattle.font_theory.specs.Kinds.{fault_of, format_of}
 use Rattle.font_theory.specs.declared.kinds.Kind.{Kind}
+use Rattle.font_subset.specs.CutOfKind.{own_of}
 use Rattle.font_subset.proofs.UnderLemmas.{is_cut_for_some, is_under}
 use Rattle.font_subset.proofs.cut_forms.belongs.Goals as goal
 
-abbrev Told : Kind × List ℕ → Bool → List ℕ → Type 0
-Told font b file =
-    IsTrue b ↔ Writes (format_of font.0) (content ((format_of font.0).font font.1) (is_mapped (map_of file))) file
+abbrev Told : Kind × List ℕ → Bool → List ℕ → Kind → Type 0
+Told font b file kind =
+    IsTrue b ↔ Writes (format_of font.0) (content ((format_of font.0).font font.1) (own_of kind file)) file
 
 pub returns-clause-exact : goal.returns-clause-exact
 returns-clause-exact g c =
     let ok = subst (λ (kind : Kind). fault_of kind c.args.cut.now.1 ≡ None) c.requires c.kind-cut_kind.ensures.sound in
-    MatchResult-weaker c.is_cut_for_own_codes.result c.is_cut_for_own_codes.ensures (λ b e. is_under c.args.font.now.0 b
+    MatchResult-weaker c.is_cut_for_own.result c.is_cut_for_own.ensures (λ b e. is_under c.args.font.now.0 b
     c.args.cut.now.1 c.args.font.now.1 ok c.kind-kind.ensures.sound
-    (subst (λ (f : List ℕ). Told c.args.font.now b f) c.font.ensures.font e)) (λ e h. tt)
+    (subst (Told c.args.font.now b c.args.cut.now.1) c.requires e)) (λ e h. tt)
 
-pub returns-clause-some_codes : goal.returns-clause-some_codes
-returns-clause-some_codes g c =
+pub returns-clause-some_wanted : goal.returns-clause-some_wanted
+returns-clause-some_wanted g c =
     let ok = subst (λ (kind : Kind). fault_of kind c.args.cut.now.1 ≡ None) c.requires c.kind-cut_kind.ensures.sound in
-    MatchResult-weaker c.is_cut_for_own_codes.result c.is_cut_for_own_codes.ensures
+    MatchResult-weaker c.is_cut_for_own.result c.is_cut_for_own.ensures
     (λ b e. is_cut_for_some c.args.font.now.0 b c.args.cut.now.1 c.args.font.now.1 ok c.kind-kind.ensures.sound
-    (subst (λ (f : List ℕ). Told c.args.font.now b f) c.font.ensures.font e)) (λ e h. tt)
+    (subst (Told c.args.font.now b c.args.cut.now.1) c.requires e)) (λ e h. tt)

@@ -1,6 +1,6 @@
 use Rattle.std.proofs.Common.{◌≡◌, ℕ, List, [], length, Option, refl, ap, arith}
 use Rattle.std.specs.Option.{unwrap_or}
-use Rattle.font_theory.proofs.LeanEntryLemmas.{length-blank}
+use Rattle.font_theory.proofs.EntryLemmas.{length-blank}
 use Rattle.font_subset.proofs.KindSourceLemmas.{blank_made, or_empty}
 use Rattle.font_subset.proofs.kind_source.blank_of.Goals as goal
 

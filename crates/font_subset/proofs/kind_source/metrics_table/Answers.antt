@@ -1,7 +1,7 @@
 use Rattle.std.proofs.Common.{◌≡◌, ℕ, List, [], length, Option, refl, ap, arith}
 use Rattle.std.specs.Option.{is_some, unwrap_or}
 use Rattle.font_theory.specs.Content.{glyph_count}
-use Rattle.font_theory.proofs.LeanEntryLemmas.{length-cleared}
+use Rattle.font_theory.proofs.EntryLemmas.{length-cleared}
 use Rattle.font_subset.proofs.KindSourceLemmas.{cleared_for, cleared_nowhere, or_empty}
 use Rattle.font_subset.proofs.kind_source.metrics_table.Goals as goal
 

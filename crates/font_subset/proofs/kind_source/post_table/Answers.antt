@@ -1,6 +1,6 @@
 use Rattle.std.proofs.Common.{ℕ, List, Option, length, ap, arith}
 use Rattle.sfnt_bytes.specs.declared.tag.TheConstants.{POST}
-use Rattle.font_theory.proofs.LeanCopiedLemmas.{length-thin_post}
+use Rattle.font_theory.proofs.PartedLemmas.{length-thin_post}
 use Rattle.font_subset.proofs.KindSourceLemmas.{thin_nowhere}
 use Rattle.font_subset.proofs.kind_source.post_table.Goals as goal
 

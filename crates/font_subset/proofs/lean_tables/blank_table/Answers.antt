@@ -1,5 +1,5 @@
 use Rattle.std.proofs.Common.{rules, ◌≡◌, ℕ, sym, ap, ◌∙◌}
-use Rattle.font_theory.specs.LeanCut.{blank}
+use Rattle.font_theory.specs.Parted.{blank}
 use Rattle.font_subset.proofs.LeanTableLemmas.{blank-none}
 use Rattle.font_subset.proofs.lean_tables.blank_table.Goals as goal
 

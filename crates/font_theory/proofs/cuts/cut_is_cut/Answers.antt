@@ -1,4 +1,4 @@
-use Rattle.font_theory.proofs.CutLemmas.{IsCut-cut, cut-cut, font-cut, content_of_all-cut}
+use Rattle.font_theory.proofs.CutLemmas.{IsCut-cut, cut-cut, cut-less, font-cut, content_of_all-cut}
 use Rattle.font_theory.proofs.cuts.cut_is_cut.Goals as goal
 
 pub returns : goal.returns
@@ -7,4 +7,5 @@ returns c = λ R law F h A X w small. (
   font-cut R law F h A X w small,
   content_of_all-cut R law F h A X w small,
   cut-cut R law F h A X w small,
+  cut-less R law F h A X w small,
 )

@@ -1,8 +1,10 @@
 use Rattle.std.proofs.Common.{map}
-use Rattle.codes.specs.Wanted.{member}
-use Rattle.fontcut_c.specs.Inside.{AreSetsTo}
+use Rattle.fontcut_c.specs.ManyCuts.{asked_sets}
+use Rattle.fontcut_c.specs.Inside.{AreSetsTo, cut_of_set, cut_opened}
 use Rattle.fontcut_c.proofs.many_cuts.sets_in.Given as goal
 
--- the sets so far, and those of the ranges that are left, are all
+-- the cuts for the sets so far, and those for what is left, are all
 abbrev pub invariant-loop-index : goal.invariant-loop-index
-invariant-loop-index l = AreSetsTo l.counts l.ranges l.index l.from (map member l.sets.items)
+invariant-loop-index l =
+    AreSetsTo (cut_opened l.font) (asked_sets l.request) l.index l.from l.glyph_from (map (cut_of_set l.font)
+    l.sets.items)

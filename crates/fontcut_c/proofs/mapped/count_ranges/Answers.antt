@@ -1,5 +1,5 @@
 use Rattle.std.proofs.Common.{length, arith}
-use Rattle.font_cut.specs.Fonts.{mapping_of}
+use Rattle.font_map.specs.Mapping.{mapping_of}
 use Rattle.commands.specs.Codes.{code_ranges}
 use Rattle.fontcut_c.proofs.MappedLemmas.{counted_more}
 use Rattle.fontcut_c.proofs.mapped.count_ranges.Goals as goal

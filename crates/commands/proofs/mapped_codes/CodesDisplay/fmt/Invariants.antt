@@ -1,7 +1,7 @@
 use Rattle.std.proofs.Common.{◌≡◌, ℕ, ◌-◌, List, ◌++◌}
 use Rattle.std.specs.List.{flat_map}
 use Rattle.std.specs.Fmt.{HasWritten, IsPlainFormatter}
-use Rattle.font_cut.specs.Fonts.{mapping_of}
+use Rattle.font_map.specs.Mapping.{mapping_of}
 use Rattle.commands.specs.Codes.{code_lines, code_ranges, range_line}
 use Rattle.commands.proofs.mapped_codes.CodesDisplay.fmt.Given as goal
 

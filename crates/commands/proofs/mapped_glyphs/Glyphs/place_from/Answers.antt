@@ -1,6 +1,6 @@
 use Rattle.std.proofs.Common.{rules, ◌≡◌, [], refl, subst}
 use Rattle.codes.specs.Runs.{IsRun, NoRun}
-use Rattle.font_cut.specs.Fonts.{map_of}
+use Rattle.font_file.specs.Font.{map_of}
 use Rattle.commands.specs.MappedGlyphs.{mapped_from}
 use Rattle.commands.proofs.GlyphsLemmas.{charted, none_mapped, place_of_run}
 use Rattle.commands.proofs.mapped_glyphs.Glyphs.place_from.Goals as goal

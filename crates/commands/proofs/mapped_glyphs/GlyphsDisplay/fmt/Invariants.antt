@@ -2,7 +2,7 @@ use Rattle.std.proofs.Common.{◌≡◌, ℕ, List, ◌++◌}
 use Rattle.std.specs.List.{flat_map}
 use Rattle.std.specs.Fmt.{HasWritten, IsPlainFormatter}
 use Rattle.std.specs.Option.{IfSome}
-use Rattle.font_cut.specs.Fonts.{map_of}
+use Rattle.font_file.specs.Font.{map_of}
 use Rattle.commands.specs.MappedGlyphs.{glyph_line, glyphs_text}
 use Rattle.commands.specs.Places.{IsPlace, codes_at}
 use Rattle.commands.proofs.GlyphsLemmas.{left_from}

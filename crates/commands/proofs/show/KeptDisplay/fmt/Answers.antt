@@ -1,7 +1,7 @@
 use Rattle.std.proofs.Common.{rules, ◌++◌}
 use Rattle.std.proofs.Output.{has_written_append, has_written_of_eq}
 use Rattle.font_subset.proofs.FontLemmas.{range_with_len-step}
-use Rattle.font_cut.specs.Fonts.{SLOTS}
+use Rattle.sfnt_bytes.specs.declared.tag.TheConstants.{SLOTS}
 use Rattle.commands.specs.Show.{kept_line}
 use Rattle.commands.proofs.LineLemmas.{flat_map-moves}
 use Rattle.commands.proofs.show.KeptDisplay.fmt.Goals as goal

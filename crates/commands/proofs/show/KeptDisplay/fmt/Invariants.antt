@@ -1,7 +1,7 @@
 use Rattle.std.proofs.Common.{◌≡◌, ℕ, ◌-◌, List, ◌++◌}
 use Rattle.std.specs.List.{flat_map, range_with_len}
 use Rattle.std.specs.Fmt.{HasWritten, IsPlainFormatter}
-use Rattle.font_cut.specs.Fonts.{SLOTS}
+use Rattle.sfnt_bytes.specs.declared.tag.TheConstants.{SLOTS}
 use Rattle.commands.specs.Show.{kept_line, kept_text}
 use Rattle.commands.proofs.show.KeptDisplay.fmt.Given as goal
 

@@ -1,7 +1,7 @@
 use Rattle.std.proofs.Common.{ap, ◌∙◌}
 use Rattle.font_subset.proofs.SourceLemmas.{found_as}
 use Rattle.font_join.specs.Union.{ThreeTables, replaced}
-use Rattle.font_join.proofs.LeanTableLemmas.{Tables, looked_up}
+use Rattle.font_join.proofs.ThreeTableLemmas.{Tables, looked_up}
 use Rattle.font_join.proofs.blanked.BlankedSource.copied.Goals as goal
 
 pub returns-clause-table : goal.returns-clause-table

@@ -1,6 +1,6 @@
 use Rattle.std.proofs.Common.{sym, ◌∙◌}
 use Rattle.font_join.specs.KindInside.{blanks_in}
-use Rattle.font_join.proofs.LeanTableLemmas.{Tables, count_of_replaced}
+use Rattle.font_join.proofs.ThreeTableLemmas.{Tables, count_of_replaced}
 use Rattle.font_join.proofs.blanked.BlankedSource.glyph_count.Goals as goal
 
 pub returns : goal.returns

@@ -1,4 +1,4 @@
-use Rattle.font_join.proofs.LeanTableLemmas.{components_blanked, writable_blanked}
+use Rattle.font_join.proofs.ThreeTableLemmas.{components_blanked, writable_blanked}
 use Rattle.font_join.proofs.blanked.BlankedSource.recall_laws.Goals as goal
 
 pub returns-clause-writable : goal.returns-clause-writable

@@ -1,6 +1,6 @@
 use Rattle.std.proofs.Common.{ap, ◌∙◌}
 use Rattle.font_join.specs.Union.{ThreeTables}
-use Rattle.font_join.proofs.LeanTableLemmas.{looked_up, replaced_copied, replaced_gvar, replaced_hmtx, replaced_vmtx}
+use Rattle.font_join.proofs.ThreeTableLemmas.{looked_up, replaced_copied, replaced_gvar, replaced_hmtx, replaced_vmtx}
 use Rattle.font_join.proofs.glyph_tables.GlyphTables.or_copied.Goals as goal
 
 pub returns-then-slot-eq-HMTX-clause-table : goal.returns-then-slot-eq-HMTX-clause-table

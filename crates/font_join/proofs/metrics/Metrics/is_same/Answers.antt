@@ -1,8 +1,8 @@
 use Rattle.std.proofs.Common.{◌≡◌, ◌&&◌, ℕ, Bool, List, true, false, ap, sym, ◌∙◌}
 use Rattle.std.specs.Str.{bytes_eq}
-use Rattle.font_theory.specs.LeanCut.{metric_bytes}
+use Rattle.font_theory.specs.Parted.{metric_bytes}
 use Rattle.font_join.specs.KindInside.{metrics_by}
-use Rattle.font_join.proofs.LeanTableLemmas.{metrics_same}
+use Rattle.font_join.proofs.ThreeTableLemmas.{metrics_same}
 use Rattle.font_join.proofs.metrics.Metrics.is_same.Goals as goal
 
 pub returns-then-is_same : goal.returns-then-is_same

@@ -1,4 +1,4 @@
-use Rattle.font_join.proofs.LeanTableLemmas.{metrics_of_tables}
+use Rattle.font_join.proofs.ThreeTableLemmas.{metrics_of_tables}
 use Rattle.font_join.proofs.metrics.Metrics.of.Goals as goal
 
 pub returns : goal.returns

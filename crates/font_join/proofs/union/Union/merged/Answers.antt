@@ -1,5 +1,4 @@
-use Rattle.std.specs.List.{range_with_len}
-use Rattle.std.proofs.Common.{◌≡◌, ◌≤◌, ℕ, List, find, length, None, Some, sym, ap, ◌∙◌, refl, subst}
+use Rattle.std.proofs.Common.{◌≤◌, ℕ, List, Some, length, sym, ap, ◌∙◌, subst}
 use Rattle.std.specs.Option.{option_map}
 use Rattle.sfnt_bytes.specs.declared.directory.TheConstants.{MAX_FILE}
 use Rattle.sfnt_bytes.specs.declared.tag.TheConstants.{GVAR}
@@ -14,16 +13,15 @@ use Rattle.font_theory.specs.declared.Difference.TheVariants.{AtGlyph}
 use Rattle.font_theory.proofs.CutLemmas.{is_cut-of}
 use Rattle.font_theory.proofs.KindLemmas.{kind_is}
 use Rattle.map_union.specs.RunLists.{map_in}
-use Rattle.font_join.specs.Inside.{AreTaken, IsAddRefusal}
-use Rattle.font_join.specs.KindInside.{HasFineGvar, IsGrown, SpellsIn, laid_over, least_of, united_gvar, values_told}
-use Rattle.font_join.specs.Union.{Held, content_in, is_other, listed_outline}
+use Rattle.font_join.specs.Inside.{IsAddRefusal}
+use Rattle.font_join.specs.KindInside.{HasFineGvar, IsGrown, SpellsIn}
+use Rattle.font_join.specs.Union.{Held, content_in}
+use Rattle.font_join.specs.declared.join_error.JoinError.TheVariants.{DifferentGlyph, NoMemory}
 use Rattle.font_join.specs.declared.join_error.Which.TheVariants.{Second}
 use Rattle.font_join.proofs.JoinLemmas.{form_whole}
 use Rattle.font_join.proofs.AddFaultLemmas.{difference_fault}
-use Rattle.font_join.proofs.LeanGlyphLemmas.{least_none}
-use Rattle.font_join.proofs.MergeLemmas.{agree_of, compatible, count_early, fine_file, fine_union, form_of, none_of}
-use Rattle.font_join.proofs.MergeLemmas.{spells_file, spells_merged, taken_merged, told_of, union_merged}
-use Rattle.font_join.specs.declared.join_error.JoinError.TheVariants.{DifferentGlyph, NoMemory}
+use Rattle.font_join.proofs.MergeLemmas.{agree_of, compatible, count_early, fine_file, fine_union, form_of, grown_of}
+use Rattle.font_join.proofs.MergeLemmas.{spells_file, told_of, union_of_all}
 use Rattle.font_subset.proofs.CutLemmas.{passed_on}
 use Rattle.font_join.proofs.union.Union.merged.Goals as goal
 
@@ -65,26 +63,19 @@ returns-in-Some g c = subst (λ (v : Held). (K : Content) → SpellsIn v.kind (c
       outlines = c.self.inside.outlines;
       own = c.self.inside.own;
     } in
-    let y : List ℕ = c.args.file.1 in
-    let same : c.args.file.0 ≡ u.kind = c.requires.same ∙ sym (ap (λ (v : Held). v.kind) c.self.view_is) in
-    let form : IsCut (format_of u.kind) y = form_of u c.args.self c.self.view_is y c.requires.form in
-    let count : c.glyph_count-count.result ≡ glyph_count_of u.tables = c.glyph_count-count.ensures.count
-    ∙ ap glyph_count_of (c.tables.ensures.tables ∙ c.font.ensures.font) in
-    let differs : c.take-other.result
-    ≡ find (is_other (listed_outline u.outlines) (content (font_as u.kind y) everything).outline)
-    (range_with_len 0 c.glyph_count-count.result) =
-    subst (λ (k : Kind). c.take-other.result
-    ≡ find (is_other (listed_outline u.outlines) (content (font_as k y) everything).outline)
-    (range_with_len 0 c.glyph_count-count.result)) same c.take-other.ensures.differs in
-    let measured : c.other_values-values.result ≡ values_told c.args.self.kind (content_in c.args.self)
-    (content (font_as u.kind y) everything) =
-    subst (λ (k : Kind). c.other_values-values.result ≡ values_told c.args.self.kind (content_in c.args.self)
-    (content (font_as k y) everything)) same c.other_values-values.ensures in
-    difference_fault (format_of u.kind) K y (form_whole (format_of u.kind) Second y form.accepted
-    (is_cut-of (format_of u.kind) (kind_is u.kind).law y form)) (Some (AtGlyph c.in-Some.g))
-    (sym (told_of u c.args.self c.self.view_is y c.requires.form c.requires.early K spells c.glyph_count-count.result
-    count c.take-other.result c.other_values-values.result differs measured
-    ∙ ap (option_map AtGlyph) (sym c.least.ensures ∙ c.in-Some.is))))
+    let form : IsCut (format_of u.kind) c.args.file.1 = form_of u c.args.self c.self.view_is c.args.file.0
+    c.requires.same c.args.file.1 c.requires.form
+    c.requires.early c.glyph_count-count.result
+    (c.glyph_count-count.ensures.count ∙ ap glyph_count_of (c.tables.ensures.tables ∙ c.font.ensures.font))
+    c.take-other.result c.other_parts-parts.result c.take-other.ensures.differs c.other_parts-parts.ensures K spells in
+    let told = told_of u c.args.self c.self.view_is c.args.file.0 c.requires.same c.args.file.1 c.requires.form
+    c.requires.early c.glyph_count-count.result
+    (c.glyph_count-count.ensures.count ∙ ap glyph_count_of (c.tables.ensures.tables ∙ c.font.ensures.font))
+    c.take-other.result c.other_parts-parts.result c.take-other.ensures.differs c.other_parts-parts.ensures K spells in
+    difference_fault (format_of u.kind) K c.args.file.1 (form_whole (format_of u.kind) Second c.args.file.1
+    form.accepted
+    (is_cut-of (format_of u.kind) (kind_is u.kind).law c.args.file.1 form)) (Some (AtGlyph c.in-Some.g))
+    (sym (told ∙ ap (option_map AtGlyph) (sym c.least.ensures ∙ c.in-Some.is))))
 
 pub with-requires-clause-agree : goal.with-requires-clause-agree
 with-requires-clause-agree g c =
@@ -95,30 +86,21 @@ with-requires-clause-agree g c =
       outlines = c.self.inside.outlines;
       own = c.self.inside.own;
     } in
-    let y : List ℕ = c.args.file.1 in
-    let same : c.args.file.0 ≡ u.kind = c.requires.same ∙ sym (ap (λ (v : Held). v.kind) c.self.view_is) in
-    let form : IsCut (format_of u.kind) y = form_of u c.args.self c.self.view_is y c.requires.form in
-    let count : c.glyph_count-count.result ≡ glyph_count_of u.tables = c.glyph_count-count.ensures.count
-    ∙ ap glyph_count_of (c.tables.ensures.tables ∙ c.font.ensures.font) in
-    let differs : c.take-other.result
-    ≡ find (is_other (listed_outline u.outlines) (content (font_as u.kind y) everything).outline)
-    (range_with_len 0 c.glyph_count-count.result) =
-    subst (λ (k : Kind). c.take-other.result
-    ≡ find (is_other (listed_outline u.outlines) (content (font_as k y) everything).outline)
-    (range_with_len 0 c.glyph_count-count.result)) same c.take-other.ensures.differs in
-    let measured : c.other_values-values.result ≡ values_told c.args.self.kind (content_in c.args.self)
-    (content (font_as u.kind y) everything) =
-    subst (λ (k : Kind). c.other_values-values.result ≡ values_told c.args.self.kind (content_in c.args.self)
-    (content (font_as k y) everything)) same c.other_values-values.ensures in
     let K : Content = c.self.invariant.whole in
     let spells : SpellsIn u.kind (content_in u) K = c.self.invariant.spells in
-    let least : least_of c.other_values-values.result c.take-other.result ≡ None = sym c.least.ensures
-    ∙ c.in_default.is in
-    let agree : Agree K (content_of_all (format_of u.kind) y) =
-    agree_of u c.args.self c.self.view_is y c.requires.form c.requires.early K spells c.glyph_count-count.result count
-    c.take-other.result c.other_values-values.result differs measured least in
+    let form : IsCut (format_of u.kind) c.args.file.1 = form_of u c.args.self c.self.view_is c.args.file.0
+    c.requires.same c.args.file.1 c.requires.form
+    c.requires.early c.glyph_count-count.result
+    (c.glyph_count-count.ensures.count ∙ ap glyph_count_of (c.tables.ensures.tables ∙ c.font.ensures.font))
+    c.take-other.result c.other_parts-parts.result c.take-other.ensures.differs c.other_parts-parts.ensures K spells in
+    let agree : Agree K (content_of_all (format_of u.kind) c.args.file.1) = agree_of u c.args.self c.self.view_is
+    c.args.file.0 c.requires.same c.args.file.1 c.requires.form
+    c.requires.early c.glyph_count-count.result
+    (c.glyph_count-count.ensures.count ∙ ap glyph_count_of (c.tables.ensures.tables ∙ c.font.ensures.font))
+    c.take-other.result c.other_parts-parts.result c.take-other.ensures.differs c.other_parts-parts.ensures K spells
+    (sym c.least.ensures ∙ c.in_default.is) in
     subst (λ (m : ℕ → ℕ). AreCompatible (map_in u.runs) m) (sym c.in_ok-runs.ensures.spelled_map)
-    (compatible u y K spells form agree)
+    (compatible u c.args.file.1 K spells form agree)
 
 pub invariant_of-result : goal.invariant_of-result
 invariant_of-result g c =
@@ -129,44 +111,14 @@ invariant_of-result g c =
       outlines = c.self.inside.outlines;
       own = c.self.inside.own;
     } in
-    let y : List ℕ = c.args.file.1 in
-    let same : c.args.file.0 ≡ u.kind = c.requires.same ∙ sym (ap (λ (v : Held). v.kind) c.self.view_is) in
-    let form : IsCut (format_of u.kind) y = form_of u c.args.self c.self.view_is y c.requires.form in
-    let count : c.glyph_count-count.result ≡ glyph_count_of u.tables = c.glyph_count-count.ensures.count
-    ∙ ap glyph_count_of (c.tables.ensures.tables ∙ c.font.ensures.font) in
-    let differs : c.take-other.result
-    ≡ find (is_other (listed_outline u.outlines) (content (font_as u.kind y) everything).outline)
-    (range_with_len 0 c.glyph_count-count.result) =
-    subst (λ (k : Kind). c.take-other.result
-    ≡ find (is_other (listed_outline u.outlines) (content (font_as k y) everything).outline)
-    (range_with_len 0 c.glyph_count-count.result)) same c.take-other.ensures.differs in
-    let measured : c.other_values-values.result ≡ values_told c.args.self.kind (content_in c.args.self)
-    (content (font_as u.kind y) everything) =
-    subst (λ (k : Kind). c.other_values-values.result ≡ values_told c.args.self.kind (content_in c.args.self)
-    (content (font_as k y) everything)) same c.other_values-values.ensures in
-    let K : Content = c.self.invariant.whole in
-    let spells : SpellsIn u.kind (content_in u) K = c.self.invariant.spells in
-    let least : least_of c.other_values-values.result c.take-other.result ≡ None = sym c.least.ensures
-    ∙ c.in_default.is in
-    let agree : Agree K (content_of_all (format_of u.kind) y) =
-    agree_of u c.args.self c.self.view_is y c.requires.form c.requires.early K spells c.glyph_count-count.result count
-    c.take-other.result c.other_values-values.result differs measured least in
-    let D : Content = content (font_as u.kind y) everything in
-    let are : AreTaken u.outlines c.take-other.new.self D.outline c.glyph_count-count.result =
-    subst (λ (k : Kind). AreTaken u.outlines c.take-other.new.self (content (font_as k y) everything).outline
-    c.glyph_count-count.result) same
-    (c.take-other.ensures.taken (least_none c.other_values-values.result c.take-other.result least)) in
-    let taken = taken_merged u y K spells form agree c.take-other.new.self c.glyph_count-count.result count
-    c.self.invariant.count are in
-    let maps : map_in c.in_ok-map.map ≡ united (map_in u.runs) D.map = c.in_ok-map.ensures
-    ∙ ap (united (map_in u.runs)) c.in_ok-runs.ensures.spelled_map in
-    let gvar : option_map (λ v. v.items) c.in_ok-gvar.gvar ≡ united_gvar (content_in u) D =
-    c.in_ok-gvar.ensures.table ∙ (λ i. united_gvar (content_in (sym c.self.view_is i))
-    (content (font_as (same i) y) everything)) in
-    let over : c.laid_over-own.result ≡ laid_over D.copied u.own (united_gvar (content_in u) D) =
-    c.laid_over-own.ensures ∙ (λ i. laid_over (tables_as (same i) y) u.own (gvar i)) in
-    union_merged u y K spells form agree c.in_ok-map.map c.take-other.new.self c.laid_over-own.result maps taken over
-    c.self.inside.blanks c.self.invariant are.count
+    union_of_all u c.args.self c.self.view_is c.args.file.0 c.requires.same c.args.file.1 c.requires.form
+    c.requires.early c.glyph_count-count.result
+    (c.glyph_count-count.ensures.count ∙ ap glyph_count_of (c.tables.ensures.tables ∙ c.font.ensures.font))
+    c.take-other.result c.other_parts-parts.result c.take-other.ensures.differs c.other_parts-parts.ensures (sym
+    c.least.ensures ∙ c.in_default.is) c.in_ok-map.map c.take-other.new.self c.laid_over-own.result
+    (option_map (λ v. v.items) c.in_ok-gvar.gvar) c.self.invariant.count c.take-other.ensures.taken
+    (c.in_ok-map.ensures ∙ ap (united (map_in u.runs)) c.in_ok-runs.ensures.spelled_map) c.in_ok-gvar.ensures.table
+    c.laid_over-own.ensures c.self.invariant.whole c.self.invariant.spells c.self.inside.blanks c.self.invariant
 
 pub returns : goal.returns
 returns g c = subst (λ (v : Held). (K : Content) → SpellsIn v.kind (content_in v) K
@@ -184,47 +136,14 @@ returns g c = subst (λ (v : Held). (K : Content) → SpellsIn v.kind (content_i
       outlines = c.self.inside.outlines;
       own = c.self.inside.own;
     } in
-    let y : List ℕ = c.args.file.1 in
-    let same : c.args.file.0 ≡ u.kind = c.requires.same ∙ sym (ap (λ (v : Held). v.kind) c.self.view_is) in
-    let form : IsCut (format_of u.kind) y = form_of u c.args.self c.self.view_is y c.requires.form in
-    let count : c.glyph_count-count.result ≡ glyph_count_of u.tables = c.glyph_count-count.ensures.count
-    ∙ ap glyph_count_of (c.tables.ensures.tables ∙ c.font.ensures.font) in
-    let differs : c.take-other.result
-    ≡ find (is_other (listed_outline u.outlines) (content (font_as u.kind y) everything).outline)
-    (range_with_len 0 c.glyph_count-count.result) =
-    subst (λ (k : Kind). c.take-other.result
-    ≡ find (is_other (listed_outline u.outlines) (content (font_as k y) everything).outline)
-    (range_with_len 0 c.glyph_count-count.result)) same c.take-other.ensures.differs in
-    let measured : c.other_values-values.result ≡ values_told c.args.self.kind (content_in c.args.self)
-    (content (font_as u.kind y) everything) =
-    subst (λ (k : Kind). c.other_values-values.result ≡ values_told c.args.self.kind (content_in c.args.self)
-    (content (font_as k y) everything)) same c.other_values-values.ensures in
-    let least : least_of c.other_values-values.result c.take-other.result ≡ None = sym c.least.ensures
-    ∙ c.in_default.is in
-    let agree : Agree K (content_of_all (format_of u.kind) y) =
-    agree_of u c.args.self c.self.view_is y c.requires.form c.requires.early K spells c.glyph_count-count.result count
-    c.take-other.result c.other_values-values.result differs measured least in
-    let D : Content = content (font_as u.kind y) everything in
-    let are : AreTaken u.outlines c.take-other.new.self D.outline c.glyph_count-count.result =
-    subst (λ (k : Kind). AreTaken u.outlines c.take-other.new.self (content (font_as k y) everything).outline
-    c.glyph_count-count.result) same
-    (c.take-other.ensures.taken (least_none c.other_values-values.result c.take-other.result least)) in
-    let taken = taken_merged u y K spells form agree c.take-other.new.self c.glyph_count-count.result count
-    c.self.invariant.count are in
-    let maps : map_in c.in_ok-map.map ≡ united (map_in u.runs) D.map = c.in_ok-map.ensures
-    ∙ ap (united (map_in u.runs)) c.in_ok-runs.ensures.spelled_map in
-    let gvar : option_map (λ v. v.items) c.in_ok-gvar.gvar ≡ united_gvar (content_in u) D =
-    c.in_ok-gvar.ensures.table ∙ (λ i. united_gvar (content_in (sym c.self.view_is i))
-    (content (font_as (same i) y) everything)) in
-    let over : c.laid_over-own.result ≡ laid_over D.copied u.own (united_gvar (content_in u) D) =
-    c.laid_over-own.ensures ∙ (λ i. laid_over (tables_as (same i) y) u.own (gvar i)) in
-    record {
-      kind_is = refl;
-      spells = spells_merged u y K spells form agree c.in_ok-map.map c.take-other.new.self c.laid_over-own.result maps
-          taken over;
-      none = none_of u c.args.self c.self.view_is y c.requires.form c.requires.early K spells c.glyph_count-count.result
-          count c.take-other.result c.other_values-values.result differs measured least;
-    })
+    grown_of u c.args.self c.self.view_is c.args.file.0 c.requires.same c.args.file.1 c.requires.form
+    c.requires.early c.glyph_count-count.result
+    (c.glyph_count-count.ensures.count ∙ ap glyph_count_of (c.tables.ensures.tables ∙ c.font.ensures.font))
+    c.take-other.result c.other_parts-parts.result c.take-other.ensures.differs c.other_parts-parts.ensures (sym
+    c.least.ensures ∙ c.in_default.is) c.in_ok-map.map c.take-other.new.self c.laid_over-own.result
+    (option_map (λ v. v.items) c.in_ok-gvar.gvar) c.self.invariant.count c.take-other.ensures.taken
+    (c.in_ok-map.ensures ∙ ap (united (map_in u.runs)) c.in_ok-runs.ensures.spelled_map) c.in_ok-gvar.ensures.table
+    c.laid_over-own.ensures K spells)
 
 pub returns-in_err-runs : goal.returns-in_err-runs
 returns-in_err-runs g c = λ K spells. passed_on _ _ c.from_residual-in_err-runs.result NoMemory

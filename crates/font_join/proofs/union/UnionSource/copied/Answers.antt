@@ -1,31 +1,29 @@
-use Rattle.std.proofs.Common.{◌≡◌, ◌≢◌, inl, inr, ap, sym, ◌∙◌}
-use Rattle.font_theory.specs.Kinds.{tables_as}
-use Rattle.font_theory.specs.declared.kinds.Kind.TheVariants.{Full}
-use Rattle.font_subset.proofs.FormLemmas.{layout_other, lean_other, variable_other}
+use Rattle.std.proofs.Common.{◌≡◌, ap, false, true, ◌∙◌}
+use Rattle.font_theory.specs.Kinds.{divides_tables, tables_as}
 use Rattle.font_subset.proofs.SourceLemmas.{found_as, found_at}
 use Rattle.font_join.specs.Union.{Held, replaced}
-use Rattle.font_join.proofs.LeanTableLemmas.{looked_up}
-use Rattle.font_join.proofs.MergeLemmas.{full_copied, own_tables}
+use Rattle.font_join.proofs.ThreeTableLemmas.{Tables, looked_up}
+use Rattle.font_join.proofs.MergeLemmas.{first_tables, is_divided, own_tables}
 use Rattle.font_join.proofs.union.UnionSource.copied.Goals as goal
 
-pub returns-in-Full-clause-table : goal.returns-in-Full-clause-table
-returns-in-Full-clause-table g c =
+pub returns-then-divides_tables-clause-table : goal.returns-then-divides_tables-clause-table
+returns-then-divides_tables-clause-table g c =
     let u : Held = c.args.self.now in
-    let full : u.kind ≡ Full = sym (c.kind.ensures.kind ∙ ap (λ (v : Held). v.kind) c.self.view_is) ∙ c.in-Full.is in
-    found_at (λ b. b.now) c.copied.result _ _ (ap (λ (v : Held). tables_as v.kind v.tables c.args.slot) c.self.view_is
-    ∙ full_copied u.kind (tables_as u.kind u.tables) u.own c.args.slot full) c.copied.ensures.table
-
-pub returns-in-Lean-clause-table : goal.returns-in-Lean-clause-table
-returns-in-Lean-clause-table g c =
-    let u : Held = c.args.self.now in
-    let other : c.kind.result ≢ Full = elim c.in-Lean.is [
-      | inl e ↦ lean_other c.kind.result e
-      | inr w ↦ elim w [ inl e ↦ layout_other c.kind.result e | inr e ↦ variable_other c.kind.result e ]
-    ] in
-    let kind : u.kind ≢ Full = λ e. other (c.kind.ensures.kind ∙ ap (λ (v : Held). v.kind) c.self.view_is ∙ e) in
+    let some : divides_tables u.kind ≡ true =
+    is_divided _ u c.self.view_is c.kind.result true c.kind.ensures.kind c.if-divides_tables.ensures in
     found_as (λ b. b.now) c.or_copied.result _
     (c.or_copied.ensures.table (tables_as u.kind u.tables)
-    (looked_up (λ b. b.now) c.copied-in-Lean.result _ c.copied-in-Lean.ensures.table
+    (looked_up (λ b. b.now) c.copied-copied.result _ c.copied-copied.ensures.table
     ∙ ap (λ (v : Held). tables_as v.kind v.tables c.args.slot) c.self.view_is)
     ∙ ap (λ (v : Held). replaced (tables_as u.kind u.tables) v.own c.args.slot) c.self.view_is
-    ∙ own_tables u.kind (tables_as u.kind u.tables) u.own c.args.slot kind)
+    ∙ ap (λ (t : Tables). t c.args.slot) (own_tables u.kind (tables_as u.kind u.tables) u.own some))
+
+pub returns-clause-table : goal.returns-clause-table
+returns-clause-table g c =
+    let u : Held = c.args.self.now in
+    let none : divides_tables u.kind ≡ false =
+    is_divided _ u c.self.view_is c.kind.result false c.kind.ensures.kind c.if-divides_tables.ensures in
+    found_at (λ b. b.now) c.copied-copied.result _ _
+    (ap (λ (v : Held). tables_as v.kind v.tables c.args.slot) c.self.view_is
+    ∙ ap (λ (t : Tables). t c.args.slot) (first_tables u.kind (tables_as u.kind u.tables) u.own none))
+    c.copied-copied.ensures.table

@@ -1,17 +1,16 @@
-use Rattle.std.proofs.Common.{rules, ◌≡◌, ℕ, ◌+◌, List, [], ◌∷◌, ◌++◌, ap, ◌∙◌, subst, sym}
+use Rattle.std.proofs.Common.{true, rules, ◌≡◌, ℕ, ◌+◌, List, [], ◌∷◌, ◌++◌, ap, ◌∙◌, subst, sym}
 use Rattle.codes.specs.CharacterMap.{IsCharacterMap, restricted}
 use Rattle.font_map.specs.Mapping.{mapping_of}
 use Rattle.codes.specs.Runs.{IsNext, IsPiece, IsRun, NoRun, groups_from}
 use Rattle.codes.specs.declared.runs.Run.{Run}
 use Rattle.font_file.specs.Font.{map_of}
-use Rattle.font_theory.specs.Content.{everything}
 use Rattle.map_union.proofs.RunListLemmas.{groups_go_on}
 use Rattle.map_union.proofs.RunListLemmas.{groups_all}
 use Rattle.font_subset.proofs.selection.Charted.runs.Goals as goal
 
 pub loop-ahead-preserved : goal.loop-ahead-preserved
 loop-ahead-preserved g c =
-    let M : ℕ → ℕ = restricted everything (map_of c.args.self.now) in
+    let M : ℕ → ℕ = restricted (λ _. true) (map_of c.args.self.now) in
     let same : mapping_of c.self.inside.chart.0 c.self.inside.chart.1 ≡ M =
     ap (λ (v : List ℕ × ℕ). mapping_of v.0 v.1) c.self.invariant.0 ∙ ap map_of c.self.view_is in
     let map : IsCharacterMap M = c.known_map.ensures in
@@ -32,7 +31,7 @@ loop-ahead-preserved g c =
 
 pub returns : goal.returns
 returns g c =
-    let M : ℕ → ℕ = restricted everything (map_of c.args.self.now) in
+    let M : ℕ → ℕ = restricted (λ _. true) (map_of c.args.self.now) in
     let none : NoRun M c.loop-ahead.from =
     subst (IsNext M c.loop-ahead.from) c.in_default.is c.loop-ahead.invariant.next in
     let all = groups_all M c.loop-ahead.from c.loop-ahead.runs.items c.known_map.ensures c.loop-ahead.invariant.done

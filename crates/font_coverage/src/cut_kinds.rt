@@ -1,0 +1,65 @@
+//! The kinds of cuts that a font is.
+use font_file::Font;
+use font_subset::{CutError, CutForm, FontOfKind, FontToCut, OpenError, cut_of_kind, form_of_kind};
+use font_theory::Kind;
+use sfnt_bytes::NoMemory;
+use std::alloc::Global;
+
+/// Returns whether a font is a cut of a kind.
+///
+/// # Errors
+/// `NoMemory` where memory is refused, `Refused` where the font is refused for cuts of the kind.
+pub fn is_cut_of(alloc: Global, kind: Kind, font: &Font<'_>) -> Result<bool, OpenError> {
+    match FontOfKind::open(alloc, kind, font) {
+        Ok(opened) => match form_of_kind(alloc, &opened) {
+            Ok(form) => Ok(!matches!(form, CutForm::Not)),
+            Err(NoMemory) => Err(OpenError::NoMemory),
+        },
+        Err(error) => Err(error),
+    }
+}
+
+// Returns whether a font that was opened for lean cuts is its own lean cut for all codes and for no glyphs.
+fn is_its_own(alloc: Global, opened: &FontToCut<'_, '_>, file: &[u8]) -> Result<bool, NoMemory> {
+    match cut_of_kind(alloc, opened, None, Some(&[])) {
+        Ok(made) => Ok(made.as_slice() == file),
+        Err(CutError::NoMemory) => Err(NoMemory),
+        Err(CutError::TooLarge(_)) => Ok(false),
+    }
+}
+
+// Returns whether a font is a lean cut for codes alone.
+fn is_lean_for_codes(alloc: Global, font: &Font<'_>) -> Result<bool, NoMemory> {
+    match FontToCut::open(alloc, Kind::Lean, false, font) {
+        Ok(opened) => is_its_own(alloc, &opened, font.tables().directory().file()),
+        Err(OpenError::NoMemory) => Err(NoMemory),
+        Err(OpenError::Refused(_)) => Ok(false),
+    }
+}
+
+// Returns the kinds of cuts in the order in which a font is looked at for them. A lean cut for codes has the form of a
+// full one too. Where the font has no names of glyphs, a full cut has the form of a lean one: that for all glyphs that
+// have metrics.
+fn kinds_in_turn(alloc: Global, font: &Font<'_>) -> Result<[Kind; 4], NoMemory> {
+    if is_lean_for_codes(alloc, font)? {
+        Ok([Kind::Lean, Kind::Full, Kind::Layout, Kind::Variable])
+    } else {
+        Ok([Kind::Full, Kind::Lean, Kind::Layout, Kind::Variable])
+    }
+}
+
+/// Returns the kind of a font that is a cut. Where the font has no table of layout, a lean cut has the form of a layout
+/// cut too, and a layout cut of a font without variations has that of a variable one: the first kind is returned.
+///
+/// # Errors
+/// `NoMemory` where memory is refused.
+pub fn cut_kind(alloc: Global, font: &Font<'_>) -> Result<Option<Kind>, NoMemory> {
+    for kind in kinds_in_turn(alloc, font)? {
+        match is_cut_of(alloc, kind, font) {
+            Ok(true) => return Ok(Some(kind)),
+            Err(OpenError::NoMemory) => return Err(NoMemory),
+            Ok(false) | Err(OpenError::Refused(_)) => {}
+        }
+    }
+    Ok(None)
+}

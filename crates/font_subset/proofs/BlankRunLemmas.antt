@@ -1,0 +1,156 @@
+-- Runs of glyphs that are not there.
+use Rattle.std.proofs.Common.{◌≡◌, ℕ, zero, suc, ◌+◌, ◌-◌, ◌*◌, ◌<◌, ◌≤◌, Bool, true, false, ◌&&◌, ◌||◌, inl}
+use Rattle.std.proofs.Common.{inr, nat_eq, nat_lt}
+use Rattle.std.proofs.Common.{List, None, [], ◌∷◌, drop, get_or, length, slice_range, refl, sym, ◌∙◌, ap, arith}
+use Rattle.std.proofs.Common.{unwrap_or}
+use Rattle.std.proofs.lemmas.Bool.{cases_eq, cases_lt, eq-eqb, le-leb, le-ltb, lt-leb, lt-ltb, ne_eqb}
+use Rattle.std.proofs.lemmas.List.{get_or-drop, get_or-take, length-take}
+use Rattle.sfnt_bytes.specs.Directory.{kept_tag, table_of}
+use Rattle.sfnt_bytes.specs.declared.tag.TheConstants.{LOCA}
+use Rattle.font_tables.specs.Fields.{glyph_count_of, loca_form_of}
+use Rattle.font_tables.specs.Outlines.{offset_at, outline_of}
+use Rattle.font_tables.specs.Refusals.{table_fault}
+use Rattle.font_tables.specs.Tables.{glyf_of, loca_of, loca_tag, table_or_empty}
+use Rattle.font_tables.proofs.TableLemmas.{has_outline}
+use Rattle.font_theory.specs.Parted.{bare, metric_bytes}
+use Rattle.font_subset.specs.Inside.{AreNumbered, is_between}
+use Rattle.font_subset.proofs.PresenceLemmas.{bearing_bytes, numbered_none, pair_bytes, some_of_four}
+
+-- `loca` of a file
+pub loca_is : (file : List ℕ) → unwrap_or (table_of file (kept_tag LOCA)) [] ≡ loca_of file
+unfolding kept_tag table_or_empty loca_tag
+loca_is file = refl
+
+-- offsets do not fall
+module _ (file : List ℕ) (sound : table_fault file ≡ None) where
+  rises : (g : ℕ) → g < glyph_count_of file
+      → offset_at (loca_form_of file) (loca_of file) g ≤ offset_at (loca_form_of file) (loca_of file) (g + 1)
+  rises g low = (has_outline file (loca_of file) (glyf_of file) (loca_form_of file) g sound refl refl refl low).ordered
+
+  climbs : (a n : ℕ) → a + n ≤ glyph_count_of file
+      → offset_at (loca_form_of file) (loca_of file) a ≤ offset_at (loca_form_of file) (loca_of file) (a + n)
+  climbs a zero within =
+      let e : a + 0 ≡ a = omega arith in
+      let same = ap (λ (m : ℕ). offset_at (loca_form_of file) (loca_of file) m) e in
+      omega (arith, same)
+  climbs a (suc n) within =
+      let first = climbs a n (omega (arith, within)) in
+      let next = rises (a + n) (omega (arith, within)) in
+      let e : a + n + 1 ≡ a + suc n = omega arith in
+      let same = ap (λ (m : ℕ). offset_at (loca_form_of file) (loca_of file) m) e in
+      omega (arith, first, next, same)
+
+  pub no_outlines : (a b : ℕ) → b ≤ glyph_count_of file
+      → offset_at (loca_form_of file) (loca_of file) a ≡ offset_at (loca_form_of file) (loca_of file) b
+      → (g : ℕ) → a ≤ g → g < b → length (outline_of file g) ≡ 0
+  unfolding outline_of
+  no_outlines a b within same g low high =
+      let before : a + (g - a) ≡ g = omega (arith, low) in
+      let after : g + 1 + (b - g - 1) ≡ b = omega (arith, high) in
+      let up = climbs a (g - a) (omega (arith, before, high, within)) in
+      let on = climbs (g + 1) (b - g - 1) (omega (arith, after, within)) in
+      let x = ap (λ (m : ℕ). offset_at (loca_form_of file) (loca_of file) m) before in
+      let y = ap (λ (m : ℕ). offset_at (loca_form_of file) (loca_of file) m) after in
+      omega (
+        arith,
+        up,
+        on,
+        x,
+        y,
+        same,
+        length-take (offset_at (loca_form_of file) (loca_of file) (g + 1)
+            - offset_at (loca_form_of file) (loca_of file) g)
+            (drop (offset_at (loca_form_of file) (loca_of file) g) (glyf_of file)),
+      )
+
+-- a byte of a slice of zeros
+zero_byte : (t : List ℕ) (a b i : ℕ) → ((k : ℕ) → get_or (slice_range t a b) k 0 ≡ 0) → a ≤ i → i < b
+    → get_or t i 0 ≡ 0
+zero_byte t a b i zeros low high =
+    let e : i ≡ a + (i - a) = omega (arith, low) in
+    let f : i - a < b - a = omega (arith, low, high) in
+    ap (λ (m : ℕ). get_or t m 0) e ∙ sym (get_or-drop a t (i - a) 0) ∙ sym (get_or-take (b - a) (drop a t) (i - a) 0 f)
+    ∙ zeros (i - a)
+
+-- a glyph in a run of pairs, or of bearings, that are all 0
+module _ (k : ℕ) (t : List ℕ) (from to g : ℕ) (some : 0 < k) (low : from ≤ g) (high : g < to) where
+  pub zero_pair : to < k → ((i : ℕ) → get_or (slice_range t (4 * from) (4 * to)) i 0 ≡ 0)
+      → nat_lt 0 (length (bare (metric_bytes k t g))) ≡ false
+  zero_pair pairs zeros =
+      let x = zero_byte t (4 * from) (4 * to) (4 * g) zeros (omega (arith, low)) (omega (arith, high)) in
+      let y = zero_byte t (4 * from) (4 * to) (4 * g + 1) zeros (omega (arith, low)) (omega (arith, high)) in
+      let z = zero_byte t (4 * from) (4 * to) (4 * g + 2) zeros (omega (arith, low)) (omega (arith, high)) in
+      let w = zero_byte t (4 * from) (4 * to) (4 * g + 3) zeros (omega (arith, low)) (omega (arith, high)) in
+      ap (λ (b : List ℕ). nat_lt 0 (length (bare b))) (pair_bytes k t g some (omega (arith, pairs, high)))
+      ∙ (λ i. nat_lt 0 (length (bare (x i ∷ y i ∷ z i ∷ w i ∷ [])))) ∙ sym (some_of_four 0 0 0 0)
+
+  pub zero_bearing : k ≤ from + 1 → ((i : ℕ) → get_or (slice_range t (2 * (k + from)) (2 * (k + to))) i 0 ≡ 0)
+      → nat_lt 0 (length (bare (metric_bytes k t g))) ≡ false
+  zero_bearing late zeros =
+      let x =
+      zero_byte t (2 * (k + from)) (2 * (k + to)) (2 * (k + g)) zeros
+      (omega (arith, low)) (omega (arith, high)) in
+      let y = zero_byte t (2 * (k + from)) (2 * (k + to)) (2 * (k + g) + 1) zeros (omega (arith, low))
+      (omega (arith, high)) in
+      ap (λ (b : List ℕ). nat_lt 0 (length (bare b))) (bearing_bytes k t g some (omega (arith, late, low)))
+      ∙ (λ i. nat_lt 0 (length (bare (x i ∷ y i ∷ 0 ∷ 0 ∷ [])))) ∙ sym (some_of_four 0 0 0 0)
+
+-- numbers from one on, below another
+pub between_none : (low h : ℕ) → is_between low low h ≡ false
+between_none low h = elim (cases_lt h low) [
+  | inl below ↦ let x = lt-leb low h below in (λ i. x i && nat_lt h low)
+  | inr past ↦ let x = le-leb low h past in let y = le-ltb h low past in (λ i. x i && y i)
+]
+
+pub between_more : (low g h : ℕ) → low ≤ g → is_between low (g + 1) h ≡ (is_between low g h || nat_eq g h)
+between_more low g h order = elim (cases_lt h low) [
+  | inl below ↦
+      let x = lt-leb low h below in let y = ne_eqb g h (λ e. omega (arith, e, below, order)) in
+      (λ i. x i && nat_lt h (g + 1)) ∙ sym (λ i. (x i && nat_lt h g) || y i)
+  | inr past ↦
+      let x = le-leb low h past in
+      elim (cases_lt h g) [
+        | inl before ↦
+            let y = lt-ltb h g before in let z = lt-ltb h (g + 1) (omega (arith, before)) in
+            (λ i. x i && z i) ∙ sym (λ i. (x i && y i) || nat_eq g h)
+        | inr after ↦
+            let y = le-ltb h g after in
+            elim (cases_eq g h) [
+              | inl e ↦
+                  let w = eq-eqb g h e in let z = lt-ltb h (g + 1) (omega (arith, e)) in
+                  (λ i. x i && z i) ∙ sym (λ i. (x i && y i) || w i)
+              | inr d ↦
+                  let w = ne_eqb g h d in let late : g + 1 ≤ h = omega (arith, after, d) in
+                  let z = le-ltb h (g + 1) late in
+                  (λ i. x i && z i) ∙ sym (λ i. (x i && y i) || w i)
+            ]
+      ]
+]
+
+pub below_more : (low high h : ℕ) → low ≤ high → nat_lt h high ≡ (nat_lt h low || is_between low high h)
+below_more low high h order = elim (cases_lt h low) [
+  | inl below ↦
+      let y = lt-ltb h low below in let z = lt-ltb h high (omega (arith, below, order)) in
+      z ∙ sym (λ i. y i || is_between low high h)
+  | inr past ↦
+      let x = le-leb low h past in let y = le-ltb h low past in
+      sym (λ i. y i || (x i && nat_lt h high))
+]
+
+-- where none is there nothing is marked
+pub none_between : (there : ℕ → Bool) (low high : ℕ) (marks : List Bool)
+    → ((g : ℕ) → low ≤ g → g < high → there g ≡ false) → AreNumbered there (is_between low high) marks marks
+none_between there low high marks none = numbered_none there (is_between low high) marks (λ g.
+    elim (cases_lt g low) [
+      | inl below ↦ let x = lt-leb low g below in (λ i. (x i && nat_lt g high) && there g)
+      | inr past ↦ elim (cases_lt g high) [
+        | inl inside ↦ (λ i. is_between low high g && none g past inside i) ∙ nothing (is_between low high g)
+        | inr after ↦
+            let x = le-leb low g past in let y = le-ltb g high after in
+            (λ i. (x i && y i) && there g)
+      ]
+    ])
+  where
+    nothing : (b : Bool) → (b && false) ≡ false
+    nothing true = refl
+    nothing false = refl

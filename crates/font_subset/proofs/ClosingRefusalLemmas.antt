@@ -1,0 +1,158 @@
+-- Why a font is refused for cuts that are closed under links: a `GSUB` that cannot be read comes before a bad `gvar`.
+use Rattle.std.proofs.Common.{◌≡◌, ◌≢◌, ℕ, Bool, true, false, List, [], ◌∷◌, length, Option, None, Some, refl, sym}
+use Rattle.std.proofs.Common.{◌∙◌, ap}
+use Rattle.std.proofs.Common.{option_map, if◌then◌else◌, unwrap_or}
+use Rattle.std.specs.Option.{is_some, option_or}
+use Rattle.sfnt_bytes.specs.Directory.{slot_tag, table_of}
+use Rattle.sfnt_bytes.specs.Lines.{first_of_lines, when}
+use Rattle.sfnt_bytes.specs.Refusals.{tag_lines}
+use Rattle.sfnt_bytes.specs.declared.directory.DirError.{DirError}
+use Rattle.sfnt_bytes.specs.declared.tag.TheConstants.{GSUB}
+use Rattle.font_file.specs.Font.{font_fault}
+use Rattle.font_file.specs.declared.font_error.FontError.{FontError}
+use Rattle.font_file.specs.declared.font_error.FontError.TheVariants.{BadLayout, BadVariations, Directory}
+use Rattle.font_theory.specs.Closed.{is_bad_layout_in}
+use Rattle.font_theory.specs.Content.{is_bad_variations_in}
+use Rattle.font_theory.specs.Kinds.{fault_by, fault_of, full_settings, gsub_as, layout_settings, lean_settings}
+use Rattle.font_theory.specs.Kinds.{settings}
+use Rattle.font_theory.specs.Kinds.{tables_as, variable_settings}
+use Rattle.font_theory.specs.Links.{is_bad_layout}
+use Rattle.font_theory.specs.declared.kinds.Kind.{Kind}
+use Rattle.font_theory.specs.declared.kinds.Kind.TheVariants.{Full, Layout, Lean, Variable}
+use Rattle.font_theory.proofs.KindLemmas.{kind_is}
+use Rattle.font_theory.proofs.LinkLemmas.{is_bad_variations_in-none}
+use Rattle.font_subset.specs.Inside.{AreLinksToFollow, tags_fault}
+use Rattle.font_subset.specs.OpenedFont.{IsCuttingRefusal, IsOpenRefusal, closing_fault, cutting_fault}
+use Rattle.font_subset.specs.declared.open_error.OpenError.{OpenError}
+use Rattle.font_subset.specs.declared.open_error.OpenError.TheVariants.{NoMemory, Refused}
+
+-- the refusals of a font, of its directory, of `GSUB` and of `gvar`, with and without that of `GSUB`
+first_fine : (f d : Option FontError) (b v : Bool) → option_or f (first_of_lines (d ∷ when v BadVariations ∷ [])) ≡ None
+    → first_of_lines (f ∷ d ∷ when b BadLayout ∷ when v BadVariations ∷ []) ≡ when b BadLayout
+first_fine (Some e) d b v h = cc
+first_fine None (Some e) b v h = cc
+first_fine None None true true h = cc
+first_fine None None false true h = cc
+first_fine None None true false h = refl
+first_fine None None false false h = refl
+
+first_refused : (f d : Option FontError) (b v : Bool) (error : FontError)
+    → option_or f (first_of_lines (d ∷ when v BadVariations ∷ [])) ≡ Some error → error ≢ BadVariations
+    → first_of_lines (f ∷ d ∷ when b BadLayout ∷ when v BadVariations ∷ []) ≡ Some error
+first_refused (Some e) d b v error h n = h
+first_refused None (Some e) b v error h n = h
+first_refused None None b true error h n = absurd (n (let e : BadVariations ≡ error = cc in sym e))
+first_refused None None b false error h n = cc
+
+by_gvar : (f : Option FontError) (t : Option DirError) (v : Bool) → f ≡ None
+    → option_or f (first_of_lines (option_map Directory t ∷ when v BadVariations ∷ [])) ≡ Some BadVariations
+    → (t ≡ None) × (v ≡ true)
+by_gvar (Some e) t v none h = cc
+by_gvar None (Some x) v none h = cc
+by_gvar None None true none h = (refl, refl)
+by_gvar None None false none h = cc
+
+-- a font that is accepted for its kind is refused by its `GSUB` alone
+pub closing_by_gsub : (kind : Kind) (file : List ℕ) (bad : Bool) → fault_of kind file ≡ None
+    → is_bad_layout_in (tables_as kind file) ≡ bad → closing_fault kind file ≡ when bad BadLayout
+unfolding fault_by closing_fault
+closing_by_gsub kind file bad accepted is =
+    first_fine (font_fault file) (option_map Directory (first_of_lines (tag_lines (settings kind).tags file)))
+    (is_bad_layout_in (tables_as kind file)) (is_bad_variations_in (tables_as kind file)) accepted
+    ∙ ap (λ b. when b BadLayout) is
+
+-- a font that was opened is not refused
+pub opened_fine : (kind : Kind) (file : List ℕ) (links : Option (List (List ℕ))) → fault_of kind file ≡ None
+    → AreLinksToFollow kind file links → cutting_fault (is_some links) kind file ≡ None
+opened_fine kind file None accepted are = accepted
+opened_fine kind file (Some links) accepted are = closing_by_gsub kind file false accepted are.0
+
+-- what refuses it for its kind, but for a bad `gvar`, comes before
+pub closing_refused : (kind : Kind) (file : List ℕ) (error : FontError) → fault_of kind file ≡ Some error
+    → error ≢ BadVariations → closing_fault kind file ≡ Some error
+unfolding fault_by closing_fault
+closing_refused kind file error refused other =
+    first_refused (font_fault file) (option_map Directory (first_of_lines (tag_lines (settings kind).tags file)))
+    (is_bad_layout_in (tables_as kind file)) (is_bad_variations_in (tables_as kind file)) error refused other
+
+-- what is refused as a font is refused for each kind, whether cuts are closed or not
+pub font_refused : (closes : Bool) (kind : Kind) (file : List ℕ) (error : FontError) → font_fault file ≡ Some error
+    → cutting_fault closes kind file ≡ Some error
+unfolding closing_fault
+font_refused true kind file error refused =
+    ap (λ (f : Option FontError). first_of_lines (f
+    ∷ option_map Directory (first_of_lines (tag_lines (settings kind).tags file))
+    ∷ when (is_bad_layout_in (tables_as kind file)) BadLayout
+    ∷ when (is_bad_variations_in (tables_as kind file)) BadVariations ∷ [])) refused
+font_refused false kind file error refused = (kind_is kind).refused file error refused
+
+-- variable cuts alone have a `gvar`
+only_variable : (kind : Kind) (file : List ℕ) → is_bad_variations_in (tables_as kind file) ≡ true → kind ≡ Variable
+unfolding full_settings lean_settings layout_settings
+only_variable Full file bad = let fine = is_bad_variations_in-none (tables_as Full file) refl in cc
+only_variable Lean file bad = let fine = is_bad_variations_in-none (tables_as Lean file) refl in cc
+only_variable Layout file bad = let fine = is_bad_variations_in-none (tables_as Layout file) refl in cc
+only_variable Variable file bad = refl
+
+module _ (kind : Kind) (file : List ℕ) (accepted : font_fault file ≡ None)
+    (refused : fault_of kind file ≡ Some BadVariations) where
+  parts : (first_of_lines (tag_lines (settings kind).tags file)
+      ≡ None) × (is_bad_variations_in (tables_as kind file) ≡ true)
+  unfolding fault_by
+  parts = by_gvar (font_fault file) (first_of_lines (tag_lines (settings kind).tags file))
+      (is_bad_variations_in (tables_as kind file)) accepted refused
+
+  kind_is_variable : kind ≡ Variable
+  kind_is_variable = only_variable kind file parts.1
+
+  pub inside_of_variable : tags_fault Variable file ≡ None
+  inside_of_variable = ap (λ (k : Kind). tags_fault k file) (sym kind_is_variable) ∙ parts.0
+
+  pub closing_of_variable : (bad : Bool) → bad ≡ is_bad_layout_in (tables_as Variable file)
+      → closing_fault kind file ≡ Some (if bad then BadLayout else BadVariations)
+  unfolding closing_fault
+  closing_of_variable bad is =
+      (λ i. first_of_lines (accepted i ∷ option_map Directory (parts.0 i)
+      ∷ when (is_bad_layout_in (tables_as (kind_is_variable i) file)) BadLayout ∷ when (parts.1 i) BadVariations ∷ []))
+      ∙ (λ i. first_of_lines (when (sym is i) BadLayout ∷ Some BadVariations ∷ []))
+      ∙ either bad
+    where
+      either : (b : Bool) → first_of_lines (when b BadLayout ∷ Some BadVariations ∷ [])
+          ≡ Some (if b then BadLayout else BadVariations)
+      either true = refl
+      either false = refl
+
+-- full and lean cuts keep no `GSUB`
+pub layout_kept : (kind : Kind) (file gsub : List ℕ) → gsub ≡ gsub_as kind file → length gsub ≢ 0
+    → (kind ≢ Full) × (kind ≢ Lean)
+unfolding full_settings lean_settings
+layout_kept Full file gsub is some = absurd (some (ap (λ (b : List ℕ). length b) is))
+layout_kept Lean file gsub is some = absurd (some (ap (λ (b : List ℕ). length b) is))
+layout_kept Layout file gsub is some = (λ e. let n : Layout ≡ Full = e in cc, λ e. let n : Layout ≡ Lean = e in cc)
+layout_kept Variable file gsub is some = (
+  λ e. let n : Variable ≡ Full = e in cc,
+  λ e. let n : Variable
+      ≡ Lean = e in cc,
+)
+
+-- what refuses a font for its kind refuses it for cuts that are not closed
+pub open_refused : (kind : Kind) (file : List ℕ) (error : OpenError) → IsOpenRefusal kind file error
+    → IsCuttingRefusal false kind file error
+open_refused kind file NoMemory h = (
+  λ e. let n : Layout ≡ Full = sym h
+      ∙ e in cc,
+  λ e. let n : Layout ≡ Lean = sym h ∙ e in cc,
+)
+open_refused kind file (Refused error) h = h
+
+-- the bytes of `GSUB` of a font for variable cuts
+pub bad_gsub_of : (file gsub : List ℕ) (bad : Bool) → table_of file (slot_tag GSUB) ≡ Some gsub
+    → is_bad_layout gsub ≡ bad
+    → is_bad_layout_in (tables_as Variable file) ≡ bad
+unfolding is_bad_layout_in variable_settings
+bad_gsub_of file gsub bad there is = ap (λ (o : Option (List ℕ)). is_bad_layout (unwrap_or o [])) there ∙ is
+
+pub no_bad_gsub : (file : List ℕ) → table_of file (slot_tag GSUB) ≡ None
+    → is_bad_layout_in (tables_as Variable file) ≡ false
+unfolding is_bad_layout_in variable_settings is_bad_layout
+no_bad_gsub file none = ap (λ (o : Option (List ℕ)). is_bad_layout (unwrap_or o [])) none

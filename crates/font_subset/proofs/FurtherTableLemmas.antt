@@ -1,0 +1,178 @@
+-- What is read of the tables of layout and of variations of a font.
+use Rattle.std.proofs.Common.{◌≡◌, ℕ, zero, suc, ◌+◌, ◌-◌, ◌<◌, ◌≤◌, Bool, true, false, cond, nat_le, List, []}
+use Rattle.std.proofs.Common.{◌∷◌, get_or}
+use Rattle.std.proofs.Common.{Option, None, Some, refl, sym, ◌∙◌, ap, arith}
+use Rattle.std.specs.Option.{option_map, option_map_or, option_or}
+use Rattle.std.proofs.lemmas.Bool.{lt-leb, ne_eqb}
+use Rattle.sfnt_bytes.specs.Directory.{is_layout_slot, slot_tag, table_of}
+use Rattle.sfnt_bytes.specs.Lines.{first_of_lines, when}
+use Rattle.sfnt_bytes.specs.Refusals.{is_outside, layout_directory_fault, tag_lines}
+use Rattle.sfnt_bytes.specs.declared.directory.DirError.{DirError}
+use Rattle.sfnt_bytes.specs.declared.tag.TheConstants.{ALL_SLOTS, FIRST_VARIATION, FVAR, GVAR, LAYOUT_AND_VARIATIONS}
+use Rattle.sfnt_bytes.specs.declared.tag.TheConstants.{SLOTS}
+use Rattle.sfnt_bytes.proofs.LineLemmas.{find-none_at}
+use Rattle.sfnt_bytes.proofs.RefusalLemmas.{layout_not_outside, tags_inside}
+use Rattle.font_tables.specs.Fields.{glyph_count_of}
+use Rattle.font_variations.specs.Gvar.{is_bad_variations}
+use Rattle.font_file.specs.Font.{font_fault}
+use Rattle.font_file.specs.declared.font_error.FontError.TheVariants.{BadVariations, Directory}
+use Rattle.font_theory.specs.Content.{is_bad_variations_in, is_never_copied}
+use Rattle.font_theory.specs.Kinds.{fault_by, fault_of, full_settings, layout_settings, lean_settings, read_by}
+use Rattle.font_theory.specs.Kinds.{tables_as, variable_settings}
+use Rattle.font_theory.specs.Kinds.Reading.{absent, as_it_is, unvarying}
+use Rattle.font_theory.specs.Links.{fixed}
+use Rattle.font_theory.specs.declared.kinds.Kind.{Kind}
+use Rattle.font_theory.specs.declared.kinds.Kind.TheVariants.{Full, Layout, Lean, Variable}
+use Rattle.font_theory.proofs.LinkLemmas.{is_bad_variations_in-none, layout-copied}
+use Rattle.font_subset.specs.Inside.{IsOpened, IsRead, fixed_read, slots_of, tags_fault}
+use Rattle.font_subset.specs.KeptGlyphs.{AreVariationsIn}
+use Rattle.font_subset.proofs.SourceLemmas.{count_as, full_accepted, lean_accepted, unread}
+
+-- cuts that read none of these tables, and cuts that read some
+pub plain_accepted : (kind : Kind) (file : List ℕ) → slots_of kind ≡ SLOTS → font_fault file ≡ None
+    → fault_of kind file ≡ None
+plain_accepted Full file plain accepted = full_accepted file accepted
+plain_accepted Lean file plain accepted = lean_accepted file accepted
+plain_accepted Layout file plain accepted = absurd (omega (arith, plain))
+plain_accepted Variable file plain accepted = absurd (omega (arith, plain))
+
+pub plain_read : (kind : Kind) (file : List ℕ) → slots_of kind ≡ SLOTS → IsRead kind file None
+unfolding full_settings lean_settings
+plain_read Full file plain = record { inside = refl; fixed_is = refl }
+plain_read Lean file plain = record { inside = refl; fixed_is = refl }
+plain_read Layout file plain = absurd (omega (arith, plain))
+plain_read Variable file plain = absurd (omega (arith, plain))
+
+-- a table of layout without what varies
+pub layout_table : (file : List ℕ) (slot : ℕ) → is_layout_slot slot ≡ true
+    → tables_as Layout file slot ≡ option_map (fixed slot) (table_of file (slot_tag slot))
+unfolding layout_settings
+layout_table file slot h =
+    let none = layout-copied slot h in
+    λ i. read_by (cond (none i) absent (cond (h i) unvarying as_it_is)) slot (table_of file (slot_tag slot))
+
+-- a table that is read as it is
+variable_table : (file : List ℕ) (slot : ℕ) → SLOTS ≤ slot → slot < ALL_SLOTS
+    → table_of file (slot_tag slot) ≡ tables_as Variable file slot
+unfolding variable_settings
+variable_table file slot from to =
+    let x = ne_eqb slot 1 (λ e. omega arith) in
+    let y = ne_eqb slot 5 (λ e. omega arith) in
+    let z = ne_eqb slot 6 (λ e. omega arith) in
+    let w = ne_eqb slot 9 (λ e. omega arith) in
+    let last : nat_le ALL_SLOTS slot ≡ false = lt-leb ALL_SLOTS slot to in
+    let copied : is_never_copied slot ≡ false = rw (x, y, z, w) last in
+    sym (ap (λ b. read_by (cond b absent as_it_is) slot (table_of file (slot_tag slot))) copied)
+
+pub whole_table : (kind : Kind) (file : List ℕ) (slot : ℕ) → None ≡ fixed_read kind file → SLOTS ≤ slot
+    → slot < slots_of kind → table_of file (slot_tag slot) ≡ tables_as kind file slot
+whole_table Full file slot none from to = absurd (omega (arith, from, to))
+whole_table Lean file slot none from to = absurd (omega (arith, from, to))
+whole_table Layout file slot none from to = cc
+whole_table Variable file slot none from to = variable_table file slot from to
+
+pub varying_table : (kind : Kind) (file : List ℕ) (slot : ℕ) → FIRST_VARIATION ≤ slot → slot < slots_of kind
+    → table_of file (slot_tag slot) ≡ tables_as kind file slot
+varying_table Full file slot from to = absurd (omega (arith, from, to))
+varying_table Lean file slot from to = absurd (omega (arith, from, to))
+varying_table Layout file slot from to = absurd (omega (arith, from, to))
+varying_table Variable file slot from to = variable_table file slot (omega (arith, from)) to
+
+-- no table that is read lies outside
+module _ (file : List ℕ) (inside : first_of_lines (tag_lines LAYOUT_AND_VARIATIONS file) ≡ None) where
+  no_tag_outside : (place : ℕ) → place < 13 → is_outside file (get_or LAYOUT_AND_VARIATIONS place (record { 0 = [] }))
+      ≡ false
+  no_tag_outside place low =
+      find-none_at (is_outside file) LAYOUT_AND_VARIATIONS place (record { 0 = [] })
+      (tags_inside LAYOUT_AND_VARIATIONS file inside) low
+
+  later_place : (k : ℕ) → k < 7 → is_outside file (slot_tag (k + 22)) ≡ false
+  unfolding slot_tag
+  later_place zero low = no_tag_outside 5 (omega arith)
+  later_place (suc zero) low = no_tag_outside 6 (omega arith)
+  later_place (suc (suc zero)) low = no_tag_outside 7 (omega arith)
+  later_place (suc (suc (suc zero))) low = no_tag_outside 8 (omega arith)
+  later_place (suc (suc (suc (suc zero)))) low = no_tag_outside 9 (omega arith)
+  later_place (suc (suc (suc (suc (suc zero))))) low = no_tag_outside 10 (omega arith)
+  later_place (suc (suc (suc (suc (suc (suc zero)))))) low = no_tag_outside 11 (omega arith)
+  later_place (suc (suc (suc (suc (suc (suc (suc k))))))) low = absurd (omega (arith, low))
+
+  by_place : (k : ℕ) → k < 13 → is_outside file (slot_tag (k + 16)) ≡ false
+  unfolding slot_tag
+  by_place zero low = no_tag_outside 0 (omega arith)
+  by_place (suc zero) low = no_tag_outside 1 (omega arith)
+  by_place (suc (suc zero)) low = no_tag_outside 2 (omega arith)
+  by_place (suc (suc (suc zero))) low = no_tag_outside 3 (omega arith)
+  by_place (suc (suc (suc (suc zero)))) low = no_tag_outside 12 (omega arith)
+  by_place (suc (suc (suc (suc (suc zero))))) low = no_tag_outside 4 (omega arith)
+  by_place (suc (suc (suc (suc (suc (suc k)))))) low =
+      let e : suc (suc (suc (suc (suc (suc k))))) + 16 ≡ k + 22 = omega arith in
+      ap (λ (s : ℕ). is_outside file (slot_tag s)) e ∙ later_place k (omega (arith, low))
+
+  variable_not_outside : (slot : ℕ) → SLOTS ≤ slot → slot < ALL_SLOTS → is_outside file (slot_tag slot) ≡ false
+  variable_not_outside slot from to =
+      let e : slot - 16 + 16 ≡ slot = omega (arith, from) in
+      ap (λ (s : ℕ). is_outside file (slot_tag s)) (sym e) ∙ by_place (slot - 16) (omega (arith, from, to))
+
+pub not_outside : (kind : Kind) (file : List ℕ) (slot : ℕ) → tags_fault kind file ≡ None → SLOTS ≤ slot
+    → slot < slots_of kind → is_outside file (slot_tag slot) ≡ false
+unfolding layout_settings variable_settings layout_directory_fault
+not_outside Full file slot inside from to = absurd (omega (arith, from, to))
+not_outside Lean file slot inside from to = absurd (omega (arith, from, to))
+not_outside Layout file slot inside from to = layout_not_outside file slot inside from to
+not_outside Variable file slot inside from to = variable_not_outside file inside slot from to
+
+-- a refusal by the directory is that of the font
+pub tags_refused : (kind : Kind) (file : List ℕ) (error : DirError) → font_fault file ≡ None
+    → tags_fault kind file ≡ Some error → fault_of kind file ≡ Some (Directory error)
+unfolding fault_by
+tags_refused kind file error accepted refused =
+    λ i. option_or (accepted i) (first_of_lines (option_map Directory (refused i)
+    ∷ when (is_bad_variations_in (tables_as kind file)) BadVariations ∷ []))
+
+-- then the one by `gvar`
+pub tables_fault : (kind : Kind) (file : List ℕ) → font_fault file ≡ None → tags_fault kind file ≡ None
+    → (bad : Bool) → is_bad_variations_in (tables_as kind file) ≡ bad → fault_of kind file ≡ when bad BadVariations
+unfolding fault_by
+tables_fault kind file accepted inside bad varying =
+    (λ i. option_or (accepted i) (first_of_lines (option_map Directory (inside i) ∷ when (varying i) BadVariations ∷
+    [])))
+    ∙ end bad
+  where
+    end : (b : Bool) → first_of_lines (when b BadVariations ∷ []) ≡ when b BadVariations
+    end true = refl
+    end false = refl
+
+-- `gvar` is bad where what is read of it is
+pub bad_gvar_of : (kind : Kind) (file gvar : List ℕ) (fvar : Option (List ℕ)) (n : ℕ) (bad : Bool)
+    → Some gvar ≡ tables_as kind file GVAR → fvar ≡ tables_as kind file FVAR → n ≡ glyph_count_of file
+    → is_bad_variations gvar fvar n ≡ bad → is_bad_variations_in (tables_as kind file) ≡ bad
+unfolding is_bad_variations_in
+bad_gvar_of kind file gvar fvar n bad there axes count is =
+    (λ i. option_map_or (λ t. is_bad_variations t (sym axes i) ((sym (count_as kind file) ∙ sym count) i))
+    (sym there i) false) ∙ is
+
+pub no_bad_gvar : (kind : Kind) (file : List ℕ) → tables_as kind file GVAR ≡ None
+    → is_bad_variations_in (tables_as kind file) ≡ false
+no_bad_gvar kind file none = is_bad_variations_in-none (tables_as kind file) none
+
+-- what is read of `gvar`
+pub read_gvar : (kind : Kind) (file gvar : List ℕ) (n : ℕ) (opened : List ℕ × ℕ)
+    → Some gvar ≡ tables_as kind file GVAR → n ≡ glyph_count_of file → opened ≡ (gvar, n)
+    → AreVariationsIn kind file (Some opened)
+read_gvar kind file gvar n opened there count is =
+    ap Some (is ∙ ap (λ (m : ℕ). (gvar, m)) count)
+    ∙ ap (option_map (λ (t : List ℕ). (t, glyph_count_of file))) there
+
+pub read_no_gvar : (kind : Kind) (file : List ℕ) → tables_as kind file GVAR ≡ None → AreVariationsIn kind file None
+read_no_gvar kind file none = sym (ap (option_map (λ (t : List ℕ). (t, glyph_count_of file))) none)
+
+pub unread_gvar : (kind : Kind) (file : List ℕ) → slots_of kind ≤ GVAR → tables_as kind file GVAR ≡ None
+unread_gvar kind file far = unread kind file GVAR (omega arith) far
+
+pub plain_opened : (kind : Kind) (file : List ℕ) → slots_of kind ≡ SLOTS → font_fault file ≡ None
+    → IsOpened kind file None
+plain_opened kind file plain accepted = record {
+  accepted = plain_accepted kind file plain accepted;
+  variations_are = read_no_gvar kind file (unread_gvar kind file (omega (arith, plain)));
+}

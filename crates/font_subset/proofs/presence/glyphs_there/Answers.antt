@@ -1,0 +1,12 @@
+use Rattle.std.proofs.Common.{◌∙◌, ℕ, List, Some, ap, sym}
+use Rattle.font_theory.specs.Kinds.{font_as}
+use Rattle.font_theory.specs.declared.kinds.Kind.{Kind}
+use Rattle.font_subset.specs.KeptGlyphs.{glyphs_wanted}
+use Rattle.font_subset.proofs.PresenceLemmas.{none_there}
+use Rattle.font_subset.proofs.presence.glyphs_there.Goals as goal
+
+pub returns-in-Full : goal.returns-in-Full
+returns-in-Full g c = λ h.
+    ap (λ (l : List ℕ). glyphs_wanted (Some l) h) c.new.ensures.items
+    ∙ sym (ap (λ (k : Kind). (font_as k c.args.font.now.1).there h) (sym c.kind.ensures.kind ∙ c.in-Full.is)
+    ∙ none_there c.args.font.now.1 h)

@@ -1,0 +1,12 @@
+use Rattle.std.proofs.Common.{ap, option_copied, subst, ◌∙◌, sym}
+use Rattle.font_subset.specs.Inside.{IsOpenedFor}
+use Rattle.font_subset.proofs.SourceLemmas.{Held}
+use Rattle.font_subset.proofs.SourceLemmas.{full_further}
+use Rattle.font_subset.proofs.selection.Selection.further.Goals as goal
+
+pub returns-in-None-clause-table : goal.returns-in-None-clause-table
+returns-in-None-clause-table g c =
+    let full = subst (λ o. IsOpenedFor c.self.inside.kind c.self.inside.charted (option_copied o)) c.in-None.is
+    c.self.invariant.opened_for in
+    full_further c.args.self.now.0 c.args.self.now.1.0 c.args.slot (sym (ap (λ (v : Held). v.0) c.self.view_is) ∙ full)
+    c.requires

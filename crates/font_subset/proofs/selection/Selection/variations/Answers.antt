@@ -1,0 +1,11 @@
+use Rattle.std.proofs.Common.{ap, option_copied, subst, ◌∙◌, sym}
+use Rattle.font_subset.specs.Inside.{IsOpenedFor}
+use Rattle.font_subset.proofs.SourceLemmas.{Held}
+use Rattle.font_subset.proofs.SourceLemmas.{variations_full}
+use Rattle.font_subset.proofs.selection.Selection.variations.Goals as goal
+
+pub returns-in-None : goal.returns-in-None
+returns-in-None g c =
+    let full = subst (λ o. IsOpenedFor c.self.inside.kind c.self.inside.charted (option_copied o)) c.in-None.is
+    c.self.invariant.opened_for in
+    variations_full c.args.self.now.0 c.args.self.now.1.0 (sym (ap (λ (v : Held). v.0) c.self.view_is) ∙ full)

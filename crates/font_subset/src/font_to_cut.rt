@@ -1,0 +1,346 @@
+//! What is wanted, closed under the links of `GSUB`: all glyphs that a shaper may put for those that are wanted. No cut
+//! follows links, so whoever wants cuts of text in whatever order closes what is wanted first. OpenType 1.9, GSUB.
+ghost use Rattle.std.specs.Prelude.{◌≡◌, ◌≢◌, ◌<◌, ◌&&◌, ◌||◌, ℕ, [], false, true, length, nat_eq, nat_lt, None, Some, IfErr, IfOk, IfSome, MatchOption, MatchResult, OnErr, OnOk, option_copied};
+ghost use Rattle.std.specs.Option.{option_map};
+ghost use Rattle.font_glyph.specs.Marks.{has};
+ghost use Rattle.font_tables.specs.Fields.{glyph_count_of};
+ghost use Rattle.font_theory.specs.Closed.{is_bad_layout_in};
+ghost use Rattle.font_theory.specs.Kinds.{fault_of, gsub_as, tables_as};
+ghost use Rattle.font_theory.specs.Links.{is_bad_layout};
+ghost use Rattle.font_theory.specs.declared.kinds.Kind.TheVariants.{Variable as VariableKind};
+ghost use Rattle.font_subset.specs.CutOfKind.{closed_of, cut_as, cut_in, keeps_links};
+ghost use Rattle.font_subset.specs.KeptGlyphs.{asked, glyphs_wanted, numbers_in, wanted_in};
+ghost use Rattle.font_subset.specs.Inside.{AreClosedMarks, AreLinksOf, AreNumbered, tags_fault};
+ghost use Rattle.font_subset.specs.OpenedFont.{IsCuttingRefusal, IsOpenRefusal, closing_fault, cutting_fault};
+
+use crate::accepted::recall_accepted;
+use crate::font_of_kind::FontOfKind;
+use crate::further_tables::table_of;
+use crate::glyph_lists::listed_marks;
+use crate::open_error::OpenError;
+use crate::selection::marked_seeds;
+use font_file::{Font, FontError};
+use font_glyph::{Marks, follow};
+use font_layout::{Layout, Links};
+use font_map::Wanted;
+use font_theory::Kind;
+use sfnt_bytes::{GSUB, NoMemory};
+use std::alloc::{Allocator, Global};
+use std::marker::Model;
+
+// Lists the links of a `GSUB`, or returns none where it cannot be read.
+#[tactic(auto, unfolding(font_theory::specs::Links::is_bad_layout))]
+fn read_links<A: Allocator + Copy>(alloc: A, gsub: &[u8]) -> Result<Option<Links<A>>, NoMemory>
+    ensures links { IfOk result (λ o. MatchOption o (is_bad_layout gsub.now ≡ true)
+        (λ listed. (is_bad_layout gsub.now ≡ false) × AreLinksOf gsub.now listed)) }
+    ensures memory { IfErr result (λ _. length gsub.now ≢ 0) }
+{
+    if gsub.is_empty() {
+        return Ok(Some(Links::none(alloc)));
+    }
+    match Layout::open(gsub) {
+        Ok(layout) => {
+            let listed = Links::of(alloc, &layout)?;
+            Ok(Some(listed))
+        }
+        Err(_) => Ok(None),
+    }
+}
+
+// Returns the bytes of `GSUB` as cuts of the kind read it, none where there is no such table.
+fn gsub_of<'f, A: Allocator>(font: &'f FontOfKind<'_, '_, A>) -> &'f [u8]
+    ensures { result.now ≡ gsub_as font.entry.now.0 font.entry.now.1 }
+{
+    match font.copied(GSUB) {
+        Some(gsub) => gsub,
+        None => &[],
+    }
+}
+
+// Returns the marks with those of some numbers that are below a count.
+fn with_glyphs<A: Allocator>(mut marks: Marks<A>, count: u16, glyphs: &[u16]) -> Marks<A>
+    requires { length marks ≡ count }
+    ensures { AreNumbered (λ g. nat_lt g count) (glyphs_wanted (Some glyphs.now)) marks result }
+{
+    for g in glyphs {
+        mark_below(&mut marks, count, *g);
+    }
+    marks
+}
+
+// Marks a number where it is below a count.
+fn mark_below<A: Allocator>(marks: &mut Marks<A>, count: u16, g: u16)
+    requires { length marks.old ≡ count }
+    ensures { AreNumbered (λ h. nat_lt h count) (nat_eq g) marks.old marks.new }
+{
+    if g < count {
+        marks.set(g);
+    }
+}
+
+// Marks the glyphs of what is wanted, closed under links.
+fn mark_closed<A: Allocator + Copy>(
+    alloc: A,
+    font: &FontOfKind<'_, '_, A>,
+    links: &Links<A>,
+    codes: Option<&Wanted<A>>,
+    glyphs: &[u16],
+    count: u16,
+) -> Result<Marks<A>, NoMemory>
+    requires links { AreLinksOf (gsub_as font.now.0 font.now.1) links.now }
+    requires count { count ≡ glyph_count_of font.now.1 }
+    ensures { IfOk result (AreClosedMarks font.now.0 font.now.1
+        (wanted_in (asked (option_copied codes.entry) (Some glyphs.now)))) }
+{
+    let seeds = marked_seeds(alloc, font.font(), codes)?;
+    let starts = with_glyphs(seeds, count, glyphs);
+    let marks = follow(alloc, links, &starts, count)?;
+    Ok(marks)
+}
+
+// Lists the glyphs of what is wanted, closed under links.
+fn closed_glyphs<A: Allocator + Copy>(
+    alloc: A,
+    font: &FontOfKind<'_, '_, A>,
+    links: &Links<A>,
+    codes: Option<&Wanted<A>>,
+    glyphs: &[u16],
+) -> Result<Vec<u16, A>, NoMemory>
+    requires { AreLinksOf (gsub_as font.now.0 font.now.1) links.now }
+    ensures { IfOk result (λ listed. listed.items ≡ numbers_in (closed_of font.now.0 font.now.1
+        (wanted_in (asked (option_copied codes.entry) (Some glyphs.now)))).glyphs (glyph_count_of font.now.1)) }
+{
+    let count = font.font().tables().glyph_count();
+    let marks = mark_closed(alloc, font, links, codes, glyphs, count)?;
+    let listed = listed_marks(alloc, &marks, count)?;
+    Ok(listed)
+}
+
+// Returns the numbers of a slice in a vector.
+fn copied_numbers<A: Allocator>(alloc: A, numbers: &[u16]) -> Result<Vec<u16, A>, NoMemory>
+    ensures { IfOk result (λ copied. copied.items ≡ numbers.now) }
+{
+    let mut copied = Vec::new(alloc);
+    if copied.extend_from_slice(numbers).is_err() {
+        return Err(NoMemory);
+    }
+    Ok(copied)
+}
+
+/// Returns whether cuts of a kind keep the tables of layout, whose links lead from glyph to glyph: so their cuts for text in
+/// whatever order have to be closed under links.
+pub fn keeps_layout(kind: Kind) -> bool
+    ensures { result ≡ keeps_links kind }
+{
+    match kind {
+        Kind::Full | Kind::Lean => false,
+        Kind::Layout | Kind::Variable => true,
+    }
+}
+
+// Tells whether the `GSUB` of a font cannot be read, whose tables of layout and of variations stand once at most and lie
+// within the file.
+#[tactic(auto, unfolding(font_theory::specs::Links::is_bad_layout))]
+fn has_bad_gsub(font: &Font<'_>) -> bool
+    requires { tags_fault VariableKind font.now ≡ None }
+    ensures { result ≡ is_bad_layout_in (tables_as VariableKind font.now) }
+{
+    match table_of(Kind::Variable, font, GSUB) {
+        Some(gsub) => is_bad_gsub(gsub),
+        None => false,
+    }
+}
+
+// Tells whether a `GSUB` cannot be read.
+#[tactic(auto, unfolding(font_theory::specs::Links::is_bad_layout))]
+fn is_bad_gsub(gsub: &[u8]) -> bool
+    ensures { result ≡ is_bad_layout gsub.now }
+{
+    !gsub.is_empty() && Layout::open(gsub).is_err()
+}
+
+// Returns why a font is refused for cuts that are closed under links, where it is refused for cuts of its kind. A `GSUB`
+// that cannot be read comes before a bad `gvar`, which `FontOfKind::open` meets without having read links.
+fn first_refusal(kind: Kind, font: &Font<'_>, error: FontError) -> FontError
+    requires { fault_of kind font.now ≡ Some error }
+    ensures { closing_fault kind font.now ≡ Some result }
+{
+    recall_accepted(font);
+    match error {
+        FontError::BadVariations => {
+            if has_bad_gsub(font) {
+                FontError::BadLayout
+            } else {
+                FontError::BadVariations
+            }
+        }
+        _ => error,
+    }
+}
+
+// Returns the same of a font that was not opened.
+fn closing_refusal(kind: Kind, font: &Font<'_>, error: OpenError) -> OpenError
+    requires { IsOpenRefusal kind font.now error }
+    ensures { IsCuttingRefusal true kind font.now result }
+{
+    match error {
+        OpenError::NoMemory => OpenError::NoMemory,
+        OpenError::Refused(error) => OpenError::Refused(first_refusal(kind, font, error)),
+    }
+}
+
+/// A font that was opened for cuts of a kind, which may serve many. Its cuts are closed under the links of its `GSUB`, which
+/// were read then, or have just what is wanted and its components.
+pub struct FontToCut<'f, 'a, A: Allocator = Global> {
+    font: FontOfKind<'f, 'a, A>,
+    // The links, where cuts are closed under these. In full and lean cuts, which keep no tables of layout, there are none.
+    links: Option<Links<A>>,
+}
+
+// Its value is the kind, the file of the font, and whether cuts are closed under links.
+impl<'f, 'a, A: Allocator> Model for FontToCut<'f, 'a, A> {
+    ghost use Rattle.std.specs.Prelude.{Bool, ℕ, List, is_some};
+    ghost use Rattle.font_theory.specs.declared.kinds.Kind.{Kind};
+    ghost use Rattle.font_subset.specs.Inside.{AreLinksToFollow};
+
+    ghost Value = { Kind × (List ℕ × Bool) };
+
+    ghost view = { λ f. (f.font.0, (f.font.1, is_some f.links)) };
+
+    ghost invariant = { λ f. AreLinksToFollow f.font.0 f.font.1 f.links };
+}
+
+// Written out: a derived drop is proved anew wherever a value is let go, with all that is known of the value.
+impl<'f, 'a, A: Allocator> Drop for FontToCut<'f, 'a, A> {
+    fn drop(self) {
+        let FontToCut {
+            font: _font,
+            links: _links,
+        } = self;
+    }
+}
+
+impl<'f, 'a, A: Allocator> FontToCut<'f, 'a, A> {
+    /// Returns the font as it was opened for the kind.
+    pub fn font(&self) -> &FontOfKind<'f, 'a, A>
+        ensures font { result.now ≡ (self.now.0, self.now.1.0) }
+
+        // What opening the font has shown.
+        ensures accepted { fault_of self.now.0 self.now.1.0 ≡ None }
+        ensures sound { cutting_fault self.now.1.1 self.now.0 self.now.1.0 ≡ None }
+    {
+        let _kind = self.font.kind();
+        &self.font
+    }
+}
+
+impl<'f, 'a, A: Allocator + Copy> FontToCut<'f, 'a, A> {
+    /// Opens an accepted font for cuts of a kind, which are closed under links or not. Links are read for layout and
+    /// variable cuts that are to be closed, and a `GSUB` that cannot be read refuses these alone.
+    ///
+    /// # Errors
+    ///
+    /// `NoMemory` where memory is refused, of layout and variable cuts alone, and `Refused` with the first refusal that
+    /// applies: that of `GSUB` comes before that of `gvar`.
+    pub fn open(
+        alloc: A,
+        kind: Kind,
+        closes: bool,
+        font: &'f Font<'a>,
+    ) -> Result<FontToCut<'f, 'a, A>, OpenError>
+        ensures exact { MatchResult result (λ opened. opened ≡ (kind, (font.entry.now, closes)))
+            (IsCuttingRefusal closes kind font.entry.now) }
+        ensures sound { IfOk result (λ _. cutting_fault closes kind font.entry.now ≡ None) }
+    {
+        if !closes {
+            let font = FontOfKind::open(alloc, kind, font)?;
+            return Ok(FontToCut { font, links: None });
+        }
+        match FontOfKind::open(alloc, kind, font) {
+            Ok(opened) => FontToCut::with_links(alloc, opened),
+            Err(error) => Err(closing_refusal(kind, font, error)),
+        }
+    }
+
+    // Reads the links of a font that was opened for cuts of a kind.
+    fn with_links(alloc: A, font: FontOfKind<'f, 'a, A>) -> Result<FontToCut<'f, 'a, A>, OpenError>
+        ensures exact { MatchResult result (λ opened. opened ≡ (font.entry.0, (font.entry.1, true)))
+            (IsCuttingRefusal true font.entry.0 font.entry.1) }
+        ensures sound { IfOk result (λ _. cutting_fault true font.entry.0 font.entry.1 ≡ None) }
+    {
+        let _kind = font.kind();
+        let listed = read_links(alloc, gsub_of(&font))?;
+        match listed {
+            Some(links) => Ok(FontToCut {
+                font,
+                links: Some(links),
+            }),
+            None => Err(OpenError::Refused(FontError::BadLayout)),
+        }
+    }
+
+    /// Lists the glyphs of what is wanted, closed under links, ascending: those that chains of links lead to from .notdef, from the
+    /// glyphs of the wanted codes, or of all where no set is given, and from the given glyphs, also over numbers that are
+    /// no glyphs. Given numbers that are no glyphs are let go.
+    ///
+    /// # Errors
+    ///
+    /// `NoMemory` where memory is refused.
+    pub fn closure(
+        &self,
+        alloc: A,
+        codes: Option<&Wanted<A>>,
+        glyphs: &[u16],
+    ) -> Result<Vec<u16, A>, NoMemory>
+        requires { self.now.1.1 ≡ true }
+        ensures { IfOk result (λ listed. listed.items ≡ numbers_in (closed_of self.now.0 self.now.1.0
+            (wanted_in (asked (option_copied codes.entry) (Some glyphs.now)))).glyphs (glyph_count_of self.now.1.0)) }
+    {
+        match &self.links {
+            Some(links) => closed_glyphs(alloc, &self.font, links, codes, glyphs),
+            None => Ok(Vec::new(alloc)),
+        }
+    }
+
+    /// Lists the glyphs that a cut of the font has to be asked for, beside the wanted codes or all where no set is given:
+    /// the given ones, or none given for all, and what links lead to where the font was opened for cuts that are closed.
+    ///
+    /// # Errors
+    ///
+    /// `NoMemory` where memory is refused.
+    pub fn numbers(
+        &self,
+        alloc: A,
+        codes: Option<&Wanted<A>>,
+        glyphs: Option<&[u16]>,
+    ) -> Result<Option<Vec<u16, A>>, NoMemory>
+        ensures { IfOk result (λ listed. cut_in self.now.0 self.now.1.0
+            (wanted_in (asked (option_copied codes.entry) (option_map (λ v. v.items) listed)))
+            ≡ cut_as self.now (wanted_in (asked (option_copied codes.entry) (option_copied glyphs.entry)))) }
+    {
+        let _opened = self.font();
+        let Some(glyphs) = glyphs else {
+            return Ok(None);
+        };
+        match &self.links {
+            Some(links) => {
+                let listed = closed_glyphs(alloc, &self.font, links, codes, glyphs)?;
+                Ok(Some(listed))
+            }
+            None => {
+                let listed = copied_numbers(alloc, glyphs)?;
+                Ok(Some(listed))
+            }
+        }
+    }
+}
+
+/// Returns the numbers of a vector, where there is one.
+pub fn numbers_of<A: Allocator>(listed: &Option<Vec<u16, A>>) -> Option<&[u16]>
+    ensures { option_copied result ≡ option_map (λ v. v.items) listed.now }
+{
+    match listed {
+        Some(numbers) => Some(numbers.as_slice()),
+        None => None,
+    }
+}

@@ -1,8 +1,0 @@
-use Rattle.std.proofs.Common.{refl}
-use Rattle.sfnt_bytes.specs.Directory.{slot_tag}
-use Rattle.font_theory.proofs.TagLemmas.{slot_tag-kept}
-use Rattle.font_theory.proofs.layout_cuts.layout_slots_are.Goals as goal
-
-pub returns : goal.returns
-unfolding slot_tag
-returns c = (refl, refl, refl, refl, refl, slot_tag-kept)
