@@ -10,6 +10,7 @@
     shaped = fontcut.cut(font, "Hello", kind="layout")
     varying = fontcut.cut(font, "Hello", kind="variable")
     latin = fontcut.cut(font, fontcut.ranges("U+20-7E, U+4??"))
+    drawn = fontcut.cut(font, "", gids=[43, 72], kind="lean")   # these glyphs, and what they are composed of
 
     numbers = fontcut.glyphs(font, "Hello")     # [43, 72, 79, 79, 82] in DejaVu Sans: a glyph for each character
     fontcut.advances(font, numbers)             # their advance widths, in font units
@@ -36,6 +37,15 @@ by 5 or 6 for one of these tables, and by 28 if gvar cannot be read.
 `kind` is the kind of a cut: `"full"` (the default), `"lean"`, `"layout"` or `"variable"`. `lean=True` is short for
 `kind="lean"`.
 
+`gids` asks for glyphs by their numbers, beside characters or without any: `[43, 72]`, `range(3, 9)`, what `glyphs` or a
+shaper returns, or `"all"`. They are for lean, layout and variable cuts. `fontcut.ranges("all")` with `gids="all"` asks
+for what the word `everything` of the program does.
+
+With `layout_closure=False` a layout or variable cut is exact, and smaller: it does not keep what GSUB may substitute
+for what is wanted. With the glyph numbers of a shaped text it shapes the text that it was made for. Other text may
+vanish in it, without a fallback font: a glyph that GSUB substitutes and the cut lacks is blank. `closure` returns the
+glyphs that other cuts keep.
+
 The library is the file that the variable FONTCUT_LIBRARY names. If that is not set, it is `libfontcut.so.0` beside
 this file, as in a wheel, two folders above, as after `./install`, or where the system looks for libraries. All calls
 are safe on all bytes, keep no state, and let other threads run while they work.
@@ -51,7 +61,8 @@ import re
 import warnings
 from enum import Enum
 from mmap import mmap
-from typing import TYPE_CHECKING, Callable, Iterable, Iterator, List, NamedTuple, Optional, Sequence, Tuple, Union, cast
+from typing import (TYPE_CHECKING, Callable, Iterable, Iterator, List, Literal, NamedTuple, Optional, Sequence, Tuple,
+                    Union, cast)
 
 from fontcut_needed import needed as needed
 
@@ -62,17 +73,20 @@ __version__ = "0.11.0"
 
 Bytes = Union[bytes, bytearray, memoryview, mmap]
 Codes = Union[str, Iterable[Union[int, Tuple[int, int]]]]
+Gids = Union[Literal["all"], Iterable[int]]
 
-__all__ += ["Font", "FontcutError", "FontcutWarning", "Info", "LibraryMissing", "NoGlyph", "advances", "glyphs", "info",
-            "metrics", "missing", "ranges", "slices"]
+__all__ += ["Font", "FontcutError", "FontcutWarning", "Info", "LibraryMissing", "NoGlyph", "advances", "closure",
+            "glyphs", "info", "kept_glyphs", "metrics", "missing", "ranges", "slices"]
 
 # Written by tools/write_refusals from include/refusals.txt:
 _NO_MEMORY, _TOO_LARGE, _NOTHING_TO_JOIN = 16, 18, 24
 _OF_TAGS, _OF_NUMBERS = (5, 6, 7, 21), (12, 15, 17, 22, 23)
 # End of what tools/write_refusals writes.
-_SMALL_ROOM, _NO_GLYPH = 100, 102
-_LAST_CODE, _NO_GLYPH_OF_ANY = 0x10FFFF, 0xFFFF
+_SMALL_ROOM, _NO_GLYPH, _NO_NUMBERS = 100, 102, 104
+_LAST_CODE, _MOST_GLYPHS = 0x10FFFF, 0xFFFF
 _KINDS = {"full": 0, "lean": 1, "layout": 2, "variable": 3}
+# The kinds whose cuts keep GSUB.
+_WITH_LINKS = (_KINDS["layout"], _KINDS["variable"])
 
 
 class Range(NamedTuple):
@@ -125,7 +139,7 @@ class LibraryMissing(FontcutError, OSError):
 class NoGlyph(FontcutError, ValueError):
     """A glyph number was given that the font does not have.
 
-    index  its position in the list that was given, from 0
+    index  its position in the list that was given, from 0; for `slices` in the lists of all sets, one after another
     glyph  the number
     """
 
@@ -203,8 +217,14 @@ _CALLS = {"check": _FILE, "subset_size": _KIND + _FILE + _RANGES, "subset": _KIN
           "cuts": _KIND + _FILE + _RANGES + _LIST + _ROOM + _LIST, "cut_form": _KIND + _FILE,
           "belongs": _KIND + _FILE + _FILE,
           "join": [ctypes.c_uint32, ctypes.POINTER(_Bytes), ctypes.c_size_t] + _ROOM, "codes": _FILE + _RANGES,
+          "subset_glyphs_size": _KIND + _FILE + _RANGES + _LIST,
+          "subset_glyphs": _KIND + _FILE + _RANGES + _LIST + _ROOM,
+          "cuts_glyphs": _KIND + _FILE + _RANGES + _LIST + _LIST + _LIST + _ROOM + _LIST,
+          "closure": _KIND + _FILE + _RANGES + _LIST + _ROOM, "kept": _KIND + _FILE + _ROOM,
           "glyphs": _FILE + _LIST + _ROOM, "metrics": _FILE + _LIST + _ROOM,
           "subset_size_checked": _KIND + _FILE + _RANGES, "subset_checked": _KIND + _FILE + _RANGES + _ROOM,
+          "subset_glyphs_size_checked": _KIND + _FILE + _RANGES + _LIST,
+          "subset_glyphs_checked": _KIND + _FILE + _RANGES + _LIST + _ROOM,
           "glyphs_checked": _FILE + _LIST + _ROOM, "metrics_checked": _FILE + _LIST + _ROOM,
           "info": _FILE + [ctypes.POINTER(_Info)],
           "refusal_text": [_Answer] + _ROOM}
@@ -240,9 +260,10 @@ def _library() -> ctypes.CDLL:
 
 
 class _File:
-    """The bytes of a file where they stand, without a copy where the object allows that."""
+    """The bytes of a file where they stand, without a copy where the object allows that; and whether it is tested."""
 
     def __init__(self, data: Union[Bytes, Font]):
+        self.is_tested = isinstance(data, Font)
         if isinstance(data, Font):
             data = data.data
         if isinstance(data, (str, os.PathLike)):
@@ -370,8 +391,46 @@ def _code_points(given: object) -> List[int]:
     return numbers
 
 
+def _gids(font: Union[Bytes, Font], given: Optional[Gids]) -> List[int]:
+    """The glyph numbers that are asked for."""
+    if given is None:
+        return []
+    if not isinstance(given, str):
+        return _numbers(given, "glyph")
+    if given != "all":
+        raise TypeError(f"{given!r} is no list of glyphs: give their numbers, or 'all'")
+    return list(range(info(font).glyph_count))
+
+
+def _gids_of_sets(font: Union[Bytes, Font], given: Optional[Iterable[Optional[Gids]]], count: int) -> List[List[int]]:
+    """The glyph numbers that are asked for, of so many sets."""
+    if given is None:
+        return [[]] * count
+    if isinstance(given, str):
+        raise TypeError("gids of sets are given as a list of them, and not as one str")
+    lists = [_gids(font, one) for one in _items(given, "set")]  # type: ignore[arg-type]
+    if len(lists) != count:
+        raise ValueError(f"gids are given for {len(lists)} sets, and there are {count}")
+    return lists
+
+
 def _in_c(ranges: Sequence[Range]) -> ctypes.Array[_Range]:
     return (_Range * max(1, len(ranges)))(*[_Range(*one) for one in ranges])
+
+
+def _glyphs_in_c(numbers: Sequence[int]) -> ctypes.Array[ctypes.c_uint16]:
+    # A font has 65,535 glyphs at most, so that the last of 16 bits stands for all numbers that are none of any font.
+    known = [one if 0 <= one < _MOST_GLYPHS else _MOST_GLYPHS for one in numbers]
+    return (ctypes.c_uint16 * max(1, len(numbers)))(*known)
+
+
+def _taken(answer: _Answer, numbers: Sequence[int], before: int = 0) -> _Answer:
+    """The answer of a call that was given glyph numbers, and so many before these; raises if it does not take them."""
+    if answer.status == _NO_GLYPH:
+        raise NoGlyph(before + answer.detail, numbers[answer.detail])
+    if answer.status == _NO_NUMBERS:
+        raise ValueError("full cuts are for characters alone: lean, layout and variable cuts take gids")
+    return answer
 
 
 def check(font: Bytes) -> None:
@@ -382,7 +441,8 @@ def check(font: Bytes) -> None:
 
 class Font:
     """An accepted font, which is tested once. `cut`, `cut_size`, `glyphs`, `metrics` and the calls that use them take
-    it instead of the bytes, and do not test it again. Every other call takes it too.
+    it instead of the bytes, and do not test it again. Every other call takes it too. `closure` tests it, and so do
+    layout and variable cuts with `gids` that are not exact.
 
     `data` has its bytes: those that were given, or a copy if these could change. Raises `Refused`."""
 
@@ -393,9 +453,9 @@ class Font:
         check(self.data)
 
 
-def _call(name: str, font: Union[Bytes, Font]) -> Callable[..., _Answer]:
+def _call(name: str, file: _File) -> Callable[..., _Answer]:
     """A call of the library, or that of its name for a font which was tested before."""
-    call = getattr(_library(), f"fontcut_{name}_checked" if isinstance(font, Font) else f"fontcut_{name}")
+    call = getattr(_library(), f"fontcut_{name}_checked" if file.is_tested else f"fontcut_{name}")
     return cast(Callable[..., _Answer], call)
 
 
@@ -410,24 +470,77 @@ def _kind(kind: Optional[str], lean: bool) -> int:
     return _KINDS[kind]
 
 
-def cut_size(font: Union[Bytes, Font], wanted: Codes, *, lean: bool = False, kind: Optional[str] = None) -> int:
-    """The length in bytes of the cut of a font for the wanted characters, of a kind. The cut is not made."""
-    file, ranges = _File(font), _ranges(wanted)
-    answer = _call("subset_size", font)(_kind(kind, lean), file.at, file.length, _in_c(ranges), len(ranges))
-    return _done(answer).size
+def _closed(file: _File, kind: int, ranges: Sequence[Range], numbers: Sequence[int], before: int = 0) -> List[int]:
+    """The closure of what is wanted of a font, where so many numbers stand before these in all that were given."""
+    out = (ctypes.c_uint16 * _MOST_GLYPHS)()
+    answer = _library().fontcut_closure(kind, file.at, file.length, _in_c(ranges), len(ranges), _glyphs_in_c(numbers),
+                                        len(numbers), out, len(out))
+    return out[:_done(_taken(answer, numbers, before)).size]
 
 
-def cut(font: Union[Bytes, Font], wanted: Codes, *, lean: bool = False, kind: Optional[str] = None) -> bytes:
-    """The cut of a font for the wanted characters, of a kind. Characters that the font does not map are ignored.
+def _exact(file: _File, kind: int, wanted: Sequence[Sequence[Range]], numbers: Sequence[Sequence[int]],
+           closes: bool) -> Optional[Sequence[Sequence[int]]]:
+    """The glyphs of which exact cuts for sets are made; or None for sets of characters alone whose cuts are closed, for
+    which the library has calls."""
+    if closes and not any(numbers):
+        return None
+    if not closes or kind not in _WITH_LINKS:
+        return numbers
+    before = itertools.accumulate(map(len, numbers), initial=0)
+    return [_closed(file, kind, *one) for one in zip(wanted, numbers, before)]
 
-    Raises `Refused` if the font is refused or the cut would be too large; `ValueError` for what is not a range."""
-    file, ranges = _File(font), _ranges(wanted)
-    given, call, number = _in_c(ranges), _call("subset", font), _kind(kind, lean)
 
-    def made(room: _Room, size: int) -> _Answer:
-        return call(number, file.at, file.length, given, len(ranges), room, size)
+def _cutting(ending: str, file: _File, kind: int, ranges: Sequence[Range], numbers: Sequence[int],
+             closes: bool) -> Callable[..., _Answer]:
+    """The call whose name has this ending and which cuts a font for what is wanted, but for its room."""
+    exact, given = _exact(file, kind, [ranges], [numbers], closes), _in_c(ranges)
+    if exact is None:
+        plain = _call(f"subset{ending}", file)
+        return lambda *room: plain(kind, file.at, file.length, given, len(ranges), *room)
+    asked, call = exact[0], _call(f"subset_glyphs{ending}", file)
+    glyphs = _glyphs_in_c(asked)
+    return lambda *room: _taken(call(kind, file.at, file.length, given, len(ranges), glyphs, len(asked), *room), asked)
 
+
+def cut_size(font: Union[Bytes, Font], wanted: Codes, *, lean: bool = False, kind: Optional[str] = None,
+             gids: Optional[Gids] = None, layout_closure: bool = True) -> int:
+    """The length in bytes of the cut that `cut` makes. The cut is not made. Raises what `cut` raises."""
+    file, ranges, number = _File(font), _ranges(wanted), _kind(kind, lean)
+    return _done(_cutting("_size", file, number, ranges, _gids(font, gids), layout_closure)()).size
+
+
+def cut(font: Union[Bytes, Font], wanted: Codes, *, lean: bool = False, kind: Optional[str] = None,
+        gids: Optional[Gids] = None, layout_closure: bool = True) -> bytes:
+    """The cut of a font for the wanted characters and for the glyphs with the numbers `gids`, of a kind. Characters
+    that the font does not map are ignored. A full cut is for characters alone.
+
+    A layout or variable cut also keeps each glyph that GSUB may substitute for what is wanted. With
+    `layout_closure=False` it does not, and is exact: with the glyph numbers of a shaped text it shapes the text that it
+    was made for; other text may vanish in it, without a fallback font.
+
+    Raises `Refused` if the font is refused or the cut would be too large; `NoGlyph` if the font has no glyph of one of
+    the numbers; `ValueError` for what is not a range, and for a full cut with `gids`."""
+    file, ranges, number = _File(font), _ranges(wanted), _kind(kind, lean)
+    made = _cutting("", file, number, ranges, _gids(font, gids), layout_closure)
     return _written(file.length + 4096, made)
+
+
+def closure(font: Union[Bytes, Font], wanted: Codes, gids: Gids = (), *, kind: str = "layout") -> List[int]:
+    """The glyphs that a shaper may put for text of the wanted characters and glyphs, ascending: .notdef, the glyphs of
+    the characters, those of `gids`, and what GSUB leads to from these. Full and lean cuts have no GSUB to follow.
+
+    These as `gids`, with the same characters, make an exact cut that serves text of these characters in any order and
+    with any features: the one that `cut` makes with `layout_closure`. Raises `Refused` and `NoGlyph`, as `cut` does."""
+    return _closed(_File(font), _kind(kind, False), _ranges(wanted), _gids(font, gids))
+
+
+def kept_glyphs(font: Union[Bytes, Font], *, kind: str = "full") -> List[int]:
+    """The glyphs that a file keeps as a cut of a kind, ascending: .notdef, the glyphs of its characters, in all but
+    full cuts those that have an outline, metrics or variation data, and the components of all these. A lean, layout or
+    variable cut is the exact cut of its font for these and for its `codes`. Raises `Refused`."""
+    file, out = _File(font), (ctypes.c_uint16 * _MOST_GLYPHS)()
+    answer = _library().fontcut_kept(_kind(kind, False), file.at, file.length, out, len(out))
+    return out[:_done(answer).size]
 
 
 def join(cuts: Sequence[Bytes], *, lean: bool = False, kind: Optional[str] = None) -> bytes:
@@ -444,28 +557,47 @@ def join(cuts: Sequence[Bytes], *, lean: bool = False, kind: Optional[str] = Non
     return _written(sum(one.length for one in files) + 4096, made, several=True)
 
 
-def slices(font: Union[Bytes, Font], sets: Iterable[Codes], *, lean: bool = False,
-           kind: Optional[str] = None) -> List[bytes]:
+def _counts_in_c(lists: Sequence[Sequence[object]]) -> ctypes.Array[ctypes.c_uint64]:
+    return (ctypes.c_uint64 * max(1, len(lists)))(*map(len, lists))
+
+
+def _cutting_sets(file: _File, kind: int, wanted: Sequence[Sequence[Range]],
+                  exact: Optional[Sequence[Sequence[int]]]) -> Callable[..., _Answer]:
+    """The call that cuts a font for many sets, but for its room."""
+    ranges, count, counts = [one for each in wanted for one in each], len(wanted), _counts_in_c(wanted)
+    given, library = _in_c(ranges), _library()
+    if exact is None:
+        return lambda *room: cast(_Answer, library.fontcut_cuts(
+            kind, file.at, file.length, given, len(ranges), counts, count, *room))
+    numbers, glyph_counts = [one for each in exact for one in each], _counts_in_c(exact)
+    glyphs = _glyphs_in_c(numbers)
+    return lambda *room: _taken(library.fontcut_cuts_glyphs(
+        kind, file.at, file.length, given, len(ranges), counts, count, glyphs, len(numbers), glyph_counts, count,
+        *room), numbers)
+
+
+def slices(font: Union[Bytes, Font], sets: Iterable[Codes], *, lean: bool = False, kind: Optional[str] = None,
+           gids: Optional[Iterable[Optional[Gids]]] = None, layout_closure: bool = True) -> List[bytes]:
     """The cuts of a font for many sets of wanted characters, of a kind: what `cut` makes for each set, in the order of
-    the sets. The font is tested once for all of them.
+    the sets. `gids` has the wanted glyphs of each set, in the same order, or None for a set that has none. The font is
+    tested once for all of them; layout and variable cuts with `gids` that are not exact test it once more for each set.
 
     Raises what `cut` raises."""
     if isinstance(sets, str):
         raise TypeError("sets are given as a list of them, and not as one str")
     file, wanted = _File(font), list(map(_ranges, _items(sets, "set")))  # type: ignore[arg-type]
-    ranges, count = [one for each in wanted for one in each], len(wanted)
-    given, room_for_sizes, number = _in_c(ranges), ctypes.c_uint64 * max(1, count), _kind(kind, lean)
-    counts, sizes = room_for_sizes(*map(len, wanted)), room_for_sizes()
+    number, lists = _kind(kind, lean), _gids_of_sets(font, gids, len(wanted))
+    room_for_sizes = ctypes.c_uint64 * max(1, len(wanted))
+    sizes = room_for_sizes()
+    call = _cutting_sets(file, number, wanted, _exact(file, number, wanted, lists, layout_closure))
 
     def made(room: _Room, size: int) -> _Answer:
-        answer = _library().fontcut_cuts(number, file.at, file.length, given, len(ranges), counts, count, room, size,
-                                         sizes, count)
-        return cast(_Answer, answer)
+        return call(room, size, sizes, len(wanted))
 
     # A guess would seldom serve: each cut repeats the tables that it copies, and the font alone says how long they are. So
     # the first call has no room. It measures the cuts, and the second one has room for just all of them.
     out, _ = _filled(0, made)
-    ends = itertools.accumulate(sizes[:count])
+    ends = itertools.accumulate(sizes[:len(wanted)])
     return [ctypes.string_at(ctypes.byref(out, end - size), size) for end, size in zip(ends, sizes)]
 
 
@@ -539,7 +671,7 @@ def glyphs(font: Union[Bytes, Font], wanted: Union[str, Iterable[int]]) -> List[
     numbers = _characters(wanted) if isinstance(wanted, str) else _code_points(wanted)
     count = len(numbers)
     given, out = (ctypes.c_uint32 * max(1, count))(*numbers), (ctypes.c_uint16 * max(1, count))()
-    _done(_call("glyphs", font)(file.at, file.length, given, count, out, count))
+    _done(_call("glyphs", file)(file.at, file.length, given, count, out, count))
     return out[:count]
 
 
@@ -549,14 +681,9 @@ def metrics(font: Union[Bytes, Font], glyphs: Iterable[int]) -> List[Tuple[int, 
     Raises `NoGlyph` if the font has no glyph of a number."""
     file, numbers = _File(font), _numbers(glyphs, "glyph")
     count = len(numbers)
-    # A font has 65,535 glyphs at most, so that the last of 16 bits stands for all numbers that are none of any font.
-    known = [one if 0 <= one < _NO_GLYPH_OF_ANY else _NO_GLYPH_OF_ANY for one in numbers]
-    given = (ctypes.c_uint16 * max(1, count))(*known)
     out = (_Metric * max(1, count))()
-    answer = _call("metrics", font)(file.at, file.length, given, count, out, count)
-    if answer.status == _NO_GLYPH:
-        raise NoGlyph(answer.detail, numbers[answer.detail])
-    _done(answer)
+    answer = _call("metrics", file)(file.at, file.length, _glyphs_in_c(numbers), count, out, count)
+    _done(_taken(answer, numbers))
     return [(one.advance, one.bearing) for one in out[:count]]
 
 

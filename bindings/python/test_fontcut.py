@@ -2,6 +2,7 @@
 
     FONTCUT_LIBRARY=.../libfontcut.so.0.11.0 python3 bindings/python/test_fontcut.py
 """
+import functools
 import mmap
 import os
 import pickle
@@ -12,17 +13,21 @@ import tempfile
 import threading
 import unittest
 import warnings
-from typing import Any, Callable, Dict, Iterable, List, Optional, Tuple
+from typing import Any, Callable, Dict, Iterable, List, Optional, Tuple, Union
 
 sys.dont_write_bytecode = True
 HERE = os.path.dirname(os.path.abspath(__file__))
 sys.path[:0] = [HERE, os.path.join(HERE, "..", "..", "tests", "lib")]
 import font_cutting
 import font_reading
+import glyph_cutting
+from glyph_cutting import Wanted
+from layout_making import coverage, gsub_of_one, letters, ligature, ligatures, with_sets
 import lean_cutting
 import variable_cutting
 import variable_making
 from worked_cuts import BASE6, LEAN_CUT_OF_AACUTE
+from worked_variations import VARIED
 import fontcut
 
 # Lists of ranges, as they stand in a file of `--codes-file`, and the codes that they name; and lists that are refused.
@@ -52,7 +57,11 @@ FVAR = variable_making.fvar(variable_making.WEIGHT)
 GVAR = variable_making.gvar([b"\1", b"\2\3", b"", b"\4\5\6", b"", b"\7"], [b"\x40\0"])
 WITH_GVAR = font_cutting.assembled({**font_reading.tables_of(WITH_GSUB), b"fvar": FVAR, b"gvar": GVAR})
 
+# A font of ten glyphs, of which U+0041 to U+0046 are mapped to 1 to 6, and 7 is composed of 8. GSUB puts 9 for 1 and 2.
+LINKED = letters({b"GSUB": gsub_of_one(4, with_sets(coverage(1), ligatures(ligature(9, 2))))})
+
 LETTERS, ACCENTED, ALL = ([(0x41, 0x42)], [(0xC1, 0xC1)], [(0x41, 0x42), (0xC1, 0xC1)])
+Given = Union[fontcut.Bytes, fontcut.Font]
 SETS: List[List[Tuple[int, int]]] = [LETTERS, ACCENTED, ALL, []]
 
 
@@ -158,7 +167,8 @@ class Cutting(unittest.TestCase):
     def test_text_that_looks_like_ranges(self) -> None:
         """It is taken as characters, and whoever calls is warned, at the line of the call."""
         calls: List[Callable[[bytes, str], object]] = [
-            fontcut.cut, fontcut.cut_size, fontcut.missing, lambda font, text: fontcut.slices(font, [text])]
+            fontcut.cut, fontcut.cut_size, fontcut.missing, fontcut.closure,
+            lambda font, text: fontcut.slices(font, [text])]
         for text in ("U+41-5A", "u+41", "U+41, U+4??", " U+41-U+5A;\n", "unicode-range: U+41;"):
             for call in calls:
                 with self.assertWarnsRegex(fontcut.FontcutWarning, r"is taken as characters: .* fontcut\.ranges\(") as told:
@@ -179,7 +189,7 @@ class Cutting(unittest.TestCase):
 
     def test_what_is_no_set_of_characters(self) -> None:
         """Each is named by its place, with what is wrong about it."""
-        calls: List[Callable[[bytes, Any], object]] = [fontcut.cut, fontcut.cut_size, fontcut.missing]
+        calls: List[Callable[[bytes, Any], object]] = [fontcut.cut, fontcut.cut_size, fontcut.missing, fontcut.closure]
         for wanted, error, text in (
             ([(65, 66, 90)], ValueError, r"item 0 is \(65, 66, 90\), which is no range"),
             (["A", "B"], TypeError, r"item 0 is 'A', .* characters are given as one str"),
@@ -207,6 +217,194 @@ class Cutting(unittest.TestCase):
                 fonts: List[fontcut.Bytes] = [bytearray(BASE6), memoryview(BASE6), memoryview(bytearray(BASE6)), mapped]
                 for font in fonts:
                     self.assertEqual(fontcut.cut(font, ALL), cut)
+
+
+def slice_of(gids: Any, kind: str) -> List[bytes]:
+    """The cuts for two sets, of which the second one has glyphs."""
+    return fontcut.slices(LINKED, ["A", "B"], gids=[None, gids], kind=kind)
+
+
+def calls_by_number(*kinds: str) -> List[Callable[..., object]]:
+    """The calls that take glyph numbers, as `gids`."""
+    calls: List[Callable[..., object]] = []
+    for kind in kinds:
+        calls += [functools.partial(fontcut.cut, LINKED, "A", kind=kind),
+                  functools.partial(fontcut.cut, fontcut.Font(LINKED), "A", kind=kind),
+                  functools.partial(fontcut.cut, LINKED, "A", kind=kind, layout_closure=False),
+                  functools.partial(fontcut.cut_size, LINKED, "A", kind=kind),
+                  functools.partial(slice_of, kind=kind)]
+    return calls
+
+
+class CuttingByNumber(unittest.TestCase):
+    def assert_cuts(self, font: bytes, kind: glyph_cutting.CutKind, wanted: Wanted, closes: bool) -> None:
+        """Each call that cuts a font for what is wanted makes what the second reading does."""
+        codes, gids = list(wanted.codes), sorted(wanted.glyphs)
+        cut = kind.closed_cut(font, wanted) if closes else kind.cut(font, wanted)
+        words: Dict[str, Any] = {"kind": kind.name, "layout_closure": closes}
+        fonts: List[Given] = [font, bytearray(font), fontcut.Font(font)]
+        for given in fonts:
+            for one in (gids, iter(gids), set(gids), gids[::-1] + gids):
+                self.assertEqual(fontcut.cut(given, codes, gids=one, **words), cut)
+            self.assertEqual(fontcut.cut_size(given, codes, gids=gids, **words), len(cut))
+            self.assertEqual(fontcut.slices(given, [codes, codes], gids=[gids, iter(gids)], **words), [cut, cut])
+            self.assertEqual(fontcut.slices(given, ["", codes], gids=iter([None, gids]), **words),
+                             [fontcut.cut(font, "", **words), cut])
+
+    def test_cuts_for_glyphs_are_those_of_the_second_reading(self) -> None:
+        sets: List[List[Tuple[int, int]]] = [[], [(0x41, 0x41)], [(0x42, 0x46)]]
+        lists: List[List[int]] = [[], [0], [2], [5, 3]]
+        for font in (BASE6, LINKED, letters(VARIED)):
+            for kind in glyph_cutting.KINDS:
+                for codes in sets:
+                    for gids in lists:
+                        for closes in (False, True):
+                            self.assert_cuts(font, kind, Wanted(codes, frozenset(gids)), closes)
+
+    def test_a_component_and_a_ligature(self) -> None:
+        """A glyph that is kept by its number brings its components, and what GSUB leads to where the cut is closed."""
+        self.assertEqual(fontcut.kept_glyphs(fontcut.cut(LINKED, "", gids=[7], kind="lean"), kind="lean"), [0, 7, 8])
+        rows: List[Tuple[str, List[int], List[int], List[int]]] = [
+            ("", [], [0], [0]), ("A", [], [0, 1], [0, 1, 9]), ("", [1], [0, 1], [0, 1, 9]),
+            ("B", [9], [0, 2, 9], [0, 2, 9]), ("BC", [7], [0, 2, 3, 7, 8], [0, 2, 3, 7, 8])]
+        for wanted, gids, exact, closed in rows:
+            for closes, kept in ((False, exact), (True, closed)):
+                cut = fontcut.cut(LINKED, wanted, gids=gids, kind="layout", layout_closure=closes)
+                self.assertEqual(fontcut.kept_glyphs(cut, kind="layout"), kept)
+
+    def test_closures(self) -> None:
+        rows: List[Tuple[str, List[int], str, List[int]]] = [
+            ("", [], "layout", [0]), ("A", [], "layout", [0, 1, 9]), ("BA", [], "variable", [0, 1, 2, 9]),
+            ("", [7, 1, 1], "layout", [0, 1, 7, 9]), ("C", [4], "layout", [0, 3, 4]), ("A", [], "lean", [0, 1]),
+            ("A", [3], "full", [0, 1, 3])]
+        for wanted, gids, kind, closed in rows:
+            self.assertEqual(fontcut.closure(LINKED, wanted, gids, kind=kind), closed)
+            self.assertEqual(fontcut.closure(fontcut.Font(LINKED), wanted, iter(gids), kind=kind), closed)
+        self.assertEqual(fontcut.closure(LINKED, "A"), [0, 1, 9])
+        for font in (LINKED, letters(VARIED)):
+            for kind in ("layout", "variable"):
+                closed = fontcut.closure(font, "AE", [2], kind=kind)
+                self.assertEqual(fontcut.cut(font, "AE", gids=closed, kind=kind, layout_closure=False),
+                                 fontcut.cut(font, "AE", gids=[2], kind=kind))
+                self.assertEqual(fontcut.closure(font, "AE", closed, kind=kind), closed)
+
+    def test_without_numbers(self) -> None:
+        """Cuts without glyph numbers are those for characters; full and lean cuts have no closure."""
+        for kind in ("full", "lean", "layout", "variable"):
+            cut = fontcut.cut(LINKED, "AB", kind=kind)
+            nothing: List[Any] = [None, [], (), range(0)]
+            for gids in nothing:
+                self.assertEqual(fontcut.cut(LINKED, "AB", gids=gids, kind=kind), cut)
+                self.assertEqual(fontcut.slices(LINKED, ["AB"], gids=[gids], kind=kind), [cut])
+            exact = fontcut.cut(LINKED, "AB", kind=kind, layout_closure=False)
+            self.assertEqual(exact == cut, kind in ("full", "lean"))
+            self.assertEqual(fontcut.cut_size(LINKED, "AB", kind=kind, layout_closure=False), len(exact))
+            self.assertEqual(fontcut.slices(LINKED, ["AB"], kind=kind, layout_closure=False), [exact])
+
+    def test_everything(self) -> None:
+        """A font with everything of it is a cut of itself."""
+        for font in (LINKED, letters(VARIED)):
+            for kind in glyph_cutting.KINDS:
+                cut = kind.cut(font, glyph_cutting.EVERYTHING)
+                for closes in (False, True):
+                    words: Dict[str, Any] = {"kind": kind.name, "layout_closure": closes}
+                    self.assertEqual(fontcut.cut(font, fontcut.ranges("all"), gids="all", **words), cut)
+                    self.assertEqual(fontcut.cut(fontcut.Font(cut), fontcut.ranges("all"), gids="all", **words), cut)
+                    self.assertEqual(fontcut.slices(font, [fontcut.ranges("all")], gids=["all"], **words), [cut])
+                self.assertEqual(fontcut.kept_glyphs(cut, kind=kind.name), list(range(10)))
+        self.assertEqual(fontcut.closure(LINKED, "", "all"), list(range(10)))
+
+    def test_joins_of_cuts_for_glyphs(self) -> None:
+        for kind in glyph_cutting.KINDS:
+            sets = [Wanted([(0x41, 0x41)], frozenset([7])), Wanted([], frozenset([2])), Wanted([(0x44, 0x45)])]
+            cuts = [fontcut.cut(LINKED, list(one.codes), gids=one.glyphs, kind=kind.name, layout_closure=False)
+                    for one in sets]
+            self.assertEqual(fontcut.join(cuts, kind=kind.name), kind.cut(LINKED, glyph_cutting.either(*sets)))
+            for cut, one in zip(cuts, sets):
+                self.assertTrue(fontcut.belongs(cut, LINKED, kind=kind.name))
+                self.assertEqual(fontcut.kept_glyphs(cut, kind=kind.name), sorted(kind.kept(LINKED, one)))
+
+    def test_what_a_file_keeps(self) -> None:
+        for font in (BASE6, LINKED, letters(VARIED)):
+            for kind in glyph_cutting.KINDS:
+                self.assertEqual(fontcut.kept_glyphs(font, kind=kind.name), sorted(kind.keeps(font)))
+                self.assertEqual(fontcut.kept_glyphs(fontcut.Font(font), kind=kind.name), sorted(kind.keeps(font)))
+        self.assertEqual(fontcut.kept_glyphs(fontcut.cut(BASE6, ACCENTED)), [0, 1, 2, 3])
+        self.assertEqual(fontcut.kept_glyphs(LINKED), [0, 1, 2, 3, 4, 5, 6])
+
+    def test_full_cuts_are_for_characters_alone(self) -> None:
+        for call in calls_by_number("full"):
+            for gids in ([0], [10], range(3), "all"):
+                with self.assertRaisesRegex(ValueError, "full cuts are for characters alone"):
+                    call(gids=gids)
+            call(gids=[])
+            call(gids=None)
+
+    def test_a_number_that_is_no_glyph(self) -> None:
+        calls = calls_by_number("lean", "layout", "variable")
+        calls.append(functools.partial(fontcut.closure, LINKED, "A"))
+        for call in calls:
+            for gids, index in (([10], 0), ([0, 9, -1, 10], 2), ([65535], 0), ([5, 65536, 10], 1), ([10, 1 << 80], 0)):
+                with self.assertRaises(fontcut.NoGlyph) as caught:
+                    call(gids=gids)
+                self.assertEqual((caught.exception.index, caught.exception.glyph), (index, gids[index]))
+        for closes in (False, True):
+            with self.assertRaises(fontcut.NoGlyph) as caught:
+                fontcut.slices(LINKED, ["A", "", "B"], gids=[[1, 2], None, [3, 10]], kind="layout",
+                               layout_closure=closes)
+            self.assertEqual((caught.exception.index, caught.exception.glyph), (3, 10))
+
+    def test_what_is_no_list_of_glyphs(self) -> None:
+        calls = calls_by_number("full", "lean", "layout")
+        calls.append(functools.partial(fontcut.closure, LINKED, "A"))
+        for gids, text in (
+            ("5", "'5' is no list of glyphs"), ("ALL", "'ALL' is no list of glyphs"), (7, "7 is no list of glyphs"),
+            (b"all", "bytes are no list of glyphs"), (["A"], "item 0 is 'A', which is no glyph"),
+            ([1, True], "item 1 is True"), ([1.0], r"item 0 is 1\.0"), ([None], "item 0 is None"),
+            ([(1, 2)], r"item 0 is \(1, 2\)"),
+        ):
+            for call in calls:
+                with self.assertRaisesRegex(TypeError, text):
+                    call(gids=gids)
+
+    def test_what_is_no_list_of_glyphs_for_sets(self) -> None:
+        wrong: Any
+        for wrong, error, text in (
+            ("all", TypeError, "not as one str"), ([1, 2], TypeError, "1 is no list of glyphs"),
+            (7, TypeError, "7 is no list of sets"), ([[1]], ValueError, "for 1 sets, and there are 2"),
+            ([[], [], [1]], ValueError, "for 3 sets, and there are 2"),
+        ):
+            with self.assertRaisesRegex(error, text):
+                fontcut.slices(LINKED, ["A", "B"], gids=wrong, kind="lean")
+
+    def test_unknown_kinds(self) -> None:
+        with self.assertRaises(ValueError):
+            fontcut.closure(LINKED, "A", kind="thin")
+        with self.assertRaises(ValueError):
+            fontcut.kept_glyphs(LINKED, kind="thin")
+
+    def test_refused_fonts(self) -> None:
+        """A GSUB that cannot be read is refused where its links are followed."""
+        bad = letters({b"GSUB": b"\0\2" + bytes(8)})
+        refused: List[Callable[[], object]]
+        for kind in ("layout", "variable"):
+            refused = [
+                lambda: fontcut.cut(bad, "A", gids=[2], kind=kind), lambda: fontcut.closure(bad, "A", kind=kind),
+                lambda: fontcut.slices(bad, ["A"], gids=[[2]], kind=kind)]
+            for call in refused:
+                with self.assertRaises(fontcut.Refused) as caught:
+                    call()
+                self.assertEqual((caught.exception.number, caught.exception.text), (27, "bad layout"))
+            exact = fontcut.cut(bad, "A", gids=[2], kind=kind, layout_closure=False)
+            self.assertEqual(fontcut.kept_glyphs(exact, kind=kind), [0, 1, 2])
+        for font, number in ((b"", 2), (b"ttcf" + bytes(8), 3)):
+            refused = [
+                lambda: fontcut.cut(font, "", gids="all", kind="lean"), lambda: fontcut.closure(font, "", [9]),
+                lambda: fontcut.cut(font, "", gids=[9], kind="lean"), lambda: fontcut.kept_glyphs(font)]
+            for call in refused:
+                with self.assertRaises(fontcut.Refused) as caught:
+                    call()
+                self.assertEqual(caught.exception.number, number)
 
 
 class Joining(unittest.TestCase):
