@@ -305,12 +305,12 @@ def _done(answer: _Answer, several: bool = False) -> _Answer:
 
 def _number(one: object, place: int, what: str) -> int:
     """A number that was given, of Python or of a library of numbers."""
-    if isinstance(one, str):
+    if isinstance(one, str) and what != "glyph":
         how = "characters are given as one str" if len(one) == 1 else "range words are read by ranges"
         raise TypeError(f"item {place} is {one!r}, which is no {what}: {how}")
     if isinstance(one, bool) or not hasattr(one, "__index__"):
         raise TypeError(f"item {place} is {one!r}, which is no {what}")
-    return operator.index(one)  # type: ignore[arg-type]
+    return operator.index(one)
 
 
 def _characters(text: str) -> List[int]:

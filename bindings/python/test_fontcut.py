@@ -359,7 +359,7 @@ class CuttingByNumber(unittest.TestCase):
         calls.append(functools.partial(fontcut.closure, LINKED, "A"))
         for gids, text in (
             ("5", "'5' is no list of glyphs"), ("ALL", "'ALL' is no list of glyphs"), (7, "7 is no list of glyphs"),
-            (b"all", "bytes are no list of glyphs"), (["A"], "item 0 is 'A', which is no glyph"),
+            (b"all", "bytes are no list of glyphs"), (["A"], "item 0 is 'A', which is no glyph$"),
             ([1, True], "item 1 is True"), ([1.0], r"item 0 is 1\.0"), ([None], "item 0 is None"),
             ([(1, 2)], r"item 0 is \(1, 2\)"),
         ):
