@@ -23,12 +23,14 @@ Glyphs keep their numbers. If a font or a list of cuts is refused, the call rais
 text and the argument of the refusal. Arguments of a wrong form raise `TypeError` or `ValueError`. If memory runs out,
 the call raises `MemoryError`. The first call loads the library, and raises `LibraryMissing` if there is none.
 
-A lean cut has zero metrics for glyphs that it does not keep, and no glyph names. It is never longer than the full cut,
-and is itself a cut. Lean cuts join with lean cuts: `fontcut.join([lean, other_lean], lean=True)`.
+A lean cut has zero metrics for glyphs that it does not keep, and no glyph names. It is never longer than the full cut.
+Lean cuts join with lean cuts: `fontcut.join([lean, other_lean], lean=True)`. One for characters alone is itself a full
+cut.
 
 A layout cut is a lean cut with the layout tables (BASE, GDEF, GPOS, GSUB and kern, without their parts for variable
 fonts), and with each glyph that GSUB may substitute for those of its characters. Layout cuts join with layout cuts. A
-call for them reads these tables: it refuses a font by 5 or 6 for one of them, and by 27 if GSUB cannot be read.
+call for them reads these tables: it refuses a font by 5 or 6 for one of them. `cut` and `slices` refuse one by 27 if
+GSUB cannot be read.
 
 A variable cut is a layout cut that keeps variations: the layout tables are whole, and it has fvar, avar, cvar, HVAR,
 MVAR, STAT and VVAR, and gvar for its glyphs. Variable cuts join with variable cuts. A call for them also refuses a font
@@ -116,7 +118,8 @@ class Info(NamedTuple):
 
 
 class Form(Enum):
-    """Whether a font is a cut, and in which form. A lean cut is also a current one: `LEAN` says both."""
+    """Whether a font is a cut, and in which form. A lean cut for characters alone is also a current one: `LEAN` says
+    both."""
 
     NO_CUT = 0
     CURRENT = 1
@@ -544,8 +547,8 @@ def kept_glyphs(font: Union[Bytes, Font], *, kind: str = "full") -> List[int]:
 
 
 def join(cuts: Sequence[Bytes], *, lean: bool = False, kind: Optional[str] = None) -> bytes:
-    """The join of cuts of one font, of a kind: the cut of that font for the characters of all of them, whatever their
-    order is.
+    """The join of cuts of one font, of a kind: the cut of that font for the characters and the glyphs of all of them,
+    whatever their order is.
 
     Raises `Refused`, with the index of the file, if one is not a cut, or not a cut of the same font as those before."""
     files, number = [_File(one) for one in cuts], _kind(kind, lean)
@@ -624,23 +627,23 @@ def _form(font: Bytes, lean: bool, kind: Optional[str] = None) -> Form:
 
 
 def form(font: Bytes) -> Form:
-    """Whether a font is a cut, and in which form: `LEAN` for a lean cut, which is also a current cut. For this a
-    current cut is read twice. `is_cut` tests for one kind only, and for layout and variable cuts: with tables of layout
-    or of variations they are neither."""
+    """Whether a font is a cut, and in which form: `LEAN` for a lean cut, for characters alone or for glyph numbers too.
+    For this all but old cuts are read twice. `is_cut` tests for one kind only, and for layout and variable cuts: with
+    tables of layout or of variations they are neither."""
     found = _form(font, lean=False)
-    if found is Form.CURRENT and is_cut(font, lean=True):
+    if found is not Form.OLD and is_cut(font, lean=True):
         return Form.LEAN
     return found
 
 
 def is_cut(font: Bytes, *, lean: bool = False, kind: Optional[str] = None) -> bool:
-    """Whether a font is a cut of a kind, in the current form. A lean cut is a full cut too."""
+    """Whether a font is a cut of a kind, in the current form. A lean cut for characters alone is a full cut too."""
     return _form(font, lean, kind) is Form.CURRENT
 
 
 def belongs(cut: Bytes, font: Union[Bytes, Font], *, lean: bool = False, kind: Optional[str] = None) -> bool:
-    """Whether a file is a cut of a font for some characters, of a kind; a full cut may be in either form. Raises
-    `Refused` if one of the two is refused: file 0 is the cut, and file 1 the font."""
+    """Whether a file is a cut of a font for some characters and glyphs, of a kind; a full cut may be in either form.
+    Raises `Refused` if one of the two is refused: file 0 is the cut, and file 1 the font."""
     first, second = _File(cut), _File(font)
     answer = _library().fontcut_belongs(_kind(kind, lean), first.at, first.length, second.at, second.length)
     return _done(answer, several=True).detail == 1

@@ -48,6 +48,9 @@ NO_RANGES = ["ALL", "U+", "U+41-", "-41", "U+0000041", "0000041", "U+42-41", "U+
              "??????", "U+1100??", "4???????", "?-41", "**", "U+U+41", "unicode-range", "x unicode-range:41",
              "xunicode-range:41", "U+41\x0cU+42", "\u00e9", "41-5A-61", "unicode-range :41", "\ufeff\ufeff41", "U+41 36 1g01"]
 
+# The font of six glyphs with a `post` of version 1.0, whose names of glyphs a lean cut does not have.
+NAMED = font_cutting.assembled({**font_reading.tables_of(BASE6), b"post": struct.pack(">I", 0x10000) + bytes(28)})
+
 # A GSUB of version 1.0 without scripts, features and lookups, and a font that has it.
 GSUB_OF_NOTHING = struct.pack(">8H", 1, 0, 10, 12, 14, 0, 0, 0)
 WITH_GSUB = font_cutting.assembled({**font_reading.tables_of(BASE6), b"GSUB": GSUB_OF_NOTHING})
@@ -422,7 +425,7 @@ class Joining(unittest.TestCase):
         for cuts in ([letters, accented], [accented, letters, both], [letters, letters, accented]):
             self.assertEqual(fontcut.join(cuts, lean=True), both)
         with self.assertRaises(fontcut.Refused) as caught:
-            fontcut.join([letters, self.accented], lean=True)
+            fontcut.join([fontcut.cut(NAMED, LETTERS, lean=True), fontcut.cut(NAMED, ACCENTED)], lean=True)
         self.assertEqual((caught.exception.number, caught.exception.file), (20, 1))
 
     def test_layout_joins_agree_in_each_order(self) -> None:
@@ -468,15 +471,15 @@ class Joining(unittest.TestCase):
 
 class Asking(unittest.TestCase):
     def test_forms_and_codes(self) -> None:
-        cut = fontcut.cut(BASE6, ALL)
-        fontcut.check(BASE6)
-        self.assertIs(fontcut.form(BASE6), fontcut.Form.NO_CUT)
+        cut = fontcut.cut(NAMED, ALL)
+        fontcut.check(NAMED)
+        self.assertIs(fontcut.form(NAMED), fontcut.Form.NO_CUT)
         self.assertIs(fontcut.form(cut), fontcut.Form.CURRENT)
         self.assertTrue(fontcut.is_cut(cut))
         self.assertFalse(fontcut.is_cut(cut, lean=True))
-        self.assertTrue(fontcut.belongs(cut, BASE6))
-        self.assertFalse(fontcut.belongs(cut, BASE6, lean=True))
-        self.assertFalse(fontcut.belongs(BASE6, cut))
+        self.assertTrue(fontcut.belongs(cut, NAMED))
+        self.assertFalse(fontcut.belongs(cut, NAMED, lean=True))
+        self.assertFalse(fontcut.belongs(NAMED, cut))
         self.assertEqual(fontcut.codes(cut), [(0x41, 0x42), (0xC1, 0xC1)])
 
     def test_lean_cuts_are_told(self) -> None:
@@ -487,6 +490,12 @@ class Asking(unittest.TestCase):
         self.assertTrue(fontcut.belongs(lean, BASE6, lean=True))
         self.assertFalse(fontcut.belongs(lean, BASE6))
         self.assertEqual(fontcut.cut(fontcut.cut(BASE6, ACCENTED), ACCENTED, lean=True), lean)
+        by_number = fontcut.cut(BASE6, LETTERS, lean=True, gids=[3])
+        self.assertIs(fontcut.form(by_number), fontcut.Form.LEAN)
+        self.assertFalse(fontcut.is_cut(by_number))
+        self.assertTrue(fontcut.is_cut(by_number, lean=True))
+        # A full cut has the metrics of all glyphs, and so has a lean cut for these glyphs, if there are no names.
+        self.assertIs(fontcut.form(fontcut.cut(BASE6, LETTERS)), fontcut.Form.LEAN)
 
     def test_layout_cuts_are_told(self) -> None:
         cut = fontcut.cut(WITH_GSUB, ACCENTED, kind="layout")
@@ -505,32 +514,29 @@ class Asking(unittest.TestCase):
         self.assertFalse(fontcut.belongs(cut, WITH_GVAR, kind="layout"))
         self.assertIs(fontcut.form(cut), fontcut.Form.NO_CUT)
 
-    def assert_refused(self, good: bytes, bad: bytes, kind: str, number: int, text: str) -> None:
-        """Each call for cuts of a kind refuses a file, after a font that is none."""
-        calls: List[Tuple[Callable[[], object], Optional[int]]] = [
-            (lambda: fontcut.cut(bad, ALL, kind=kind), None),
-            (lambda: fontcut.is_cut(bad, kind=kind), None),
-            (lambda: fontcut.slices(bad, [ALL], kind=kind), None),
-            (lambda: fontcut.belongs(bad, good, kind=kind), 0),
-            (lambda: fontcut.belongs(good, bad, kind=kind), 1),
-            (lambda: fontcut.join([fontcut.cut(good, ALL, kind=kind), bad], kind=kind), 1)]
+    def assert_refused(self, calls: List[Tuple[Callable[[], object], Optional[int]]], number: int, text: str) -> None:
+        """Each call refuses a file, which is of this index among those that it was given."""
         for call, file in calls:
             with self.assertRaises(fontcut.Refused) as caught:
                 call()
             refused = caught.exception
             self.assertEqual((refused.number, refused.text, refused.argument, refused.file),
                              (number, text, None, file))
-        with self.assertRaises(fontcut.Refused) as caught:
-            fontcut.belongs(bad, b"", kind=kind)
-        self.assertEqual((caught.exception.number, caught.exception.file), (2, 1))
 
     def test_refused_tables_of_layout(self) -> None:
-        """They are refused for layout and variable cuts alone."""
+        """They are refused for layout and variable cuts alone, and by calls that follow the links of GSUB."""
         bad = WITH_GSUB.replace(GSUB_OF_NOTHING, b"\0\2" + GSUB_OF_NOTHING[2:])
         fontcut.check(bad)
         self.assertEqual(fontcut.cut(bad, ALL), fontcut.cut(BASE6, ALL))
         for kind in ("layout", "variable"):
-            self.assert_refused(WITH_GSUB, bad, kind, 27, "bad layout")
+            self.assert_refused([(lambda: fontcut.cut(bad, ALL, kind=kind), None),
+                                 (lambda: fontcut.cut_size(bad, ALL, kind=kind), None),
+                                 (lambda: fontcut.slices(bad, [ALL], kind=kind), None)], 27, "bad layout")
+            exact = fontcut.cut(bad, ALL, kind=kind, layout_closure=False)
+            self.assertTrue(fontcut.is_cut(exact, kind=kind))
+            self.assertTrue(fontcut.belongs(exact, bad, kind=kind))
+            self.assertEqual(fontcut.join([exact, exact], kind=kind), exact)
+            self.assertFalse(fontcut.is_cut(bad, kind=kind))
 
     def test_refused_tables_of_variations(self) -> None:
         """They are refused for variable cuts alone."""
@@ -538,7 +544,17 @@ class Asking(unittest.TestCase):
         fontcut.check(bad)
         for kind in ("full", "lean", "layout"):
             self.assertEqual(fontcut.cut(bad, ALL, kind=kind), fontcut.cut(WITH_GVAR, ALL, kind=kind))
-        self.assert_refused(WITH_GVAR, bad, "variable", 28, "bad variations")
+        good = fontcut.cut(WITH_GVAR, ALL, kind="variable")
+        self.assert_refused([(lambda: fontcut.cut(bad, ALL, kind="variable"), None),
+                             (lambda: fontcut.slices(bad, [ALL], kind="variable"), None),
+                             (lambda: fontcut.kept_glyphs(bad, kind="variable"), None),
+                             (lambda: fontcut.is_cut(bad, kind="variable"), None),
+                             (lambda: fontcut.belongs(bad, WITH_GVAR, kind="variable"), 0),
+                             (lambda: fontcut.belongs(WITH_GVAR, bad, kind="variable"), 1),
+                             (lambda: fontcut.join([good, bad], kind="variable"), 1)], 28, "bad variations")
+        with self.assertRaises(fontcut.Refused) as caught:
+            fontcut.belongs(bad, b"", kind="variable")
+        self.assertEqual((caught.exception.number, caught.exception.file), (2, 1))
 
     def test_old_names(self) -> None:
         cut = fontcut.cut(BASE6, LETTERS)
