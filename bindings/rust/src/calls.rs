@@ -31,6 +31,7 @@ pub(crate) const NOTHING_TO_JOIN: u32 = 24;
 // End of what tools/write_refusals writes.
 pub(crate) const SMALL_ROOM: u32 = 100;
 pub(crate) const NO_GLYPH: u32 = 102;
+pub(crate) const NO_NUMBERS: u32 = 104;
 
 extern "C" {
     pub(crate) fn fontcut_check(font: *const u8, font_length: usize) -> Answer;
@@ -62,6 +63,61 @@ extern "C" {
         room: usize,
         sizes: *mut u64,
         sizes_length: usize,
+    ) -> Answer;
+    pub(crate) fn fontcut_subset_glyphs_size_checked(
+        kind: u32,
+        font: *const u8,
+        font_length: usize,
+        ranges: *const Range,
+        range_count: usize,
+        glyphs: *const u16,
+        glyph_count: usize,
+    ) -> Answer;
+    pub(crate) fn fontcut_subset_glyphs_checked(
+        kind: u32,
+        font: *const u8,
+        font_length: usize,
+        ranges: *const Range,
+        range_count: usize,
+        glyphs: *const u16,
+        glyph_count: usize,
+        out: *mut u8,
+        room: usize,
+    ) -> Answer;
+    pub(crate) fn fontcut_cuts_glyphs(
+        kind: u32,
+        font: *const u8,
+        font_length: usize,
+        ranges: *const Range,
+        range_count: usize,
+        counts: *const u64,
+        set_count: usize,
+        glyphs: *const u16,
+        glyph_count: usize,
+        glyph_counts: *const u64,
+        glyph_counts_length: usize,
+        out: *mut u8,
+        room: usize,
+        sizes: *mut u64,
+        sizes_length: usize,
+    ) -> Answer;
+    pub(crate) fn fontcut_closure(
+        kind: u32,
+        font: *const u8,
+        font_length: usize,
+        ranges: *const Range,
+        range_count: usize,
+        glyphs: *const u16,
+        glyph_count: usize,
+        out: *mut u16,
+        room: usize,
+    ) -> Answer;
+    pub(crate) fn fontcut_kept(
+        kind: u32,
+        font: *const u8,
+        font_length: usize,
+        out: *mut u16,
+        room: usize,
     ) -> Answer;
     pub(crate) fn fontcut_cut_form(kind: u32, font: *const u8, font_length: usize) -> Answer;
     pub(crate) fn fontcut_belongs(

@@ -1,5 +1,7 @@
 //! Refusals.
-use crate::calls::{fontcut_refusal_text, Answer, DONE, NOTHING_TO_JOIN, NO_MEMORY};
+use crate::calls::{
+    fontcut_refusal_text, Answer, DONE, NOTHING_TO_JOIN, NO_GLYPH, NO_MEMORY, NO_NUMBERS,
+};
 use std::fmt;
 
 /// What a refusal is about.
@@ -33,7 +35,8 @@ pub struct Error {
 }
 
 impl Error {
-    /// The number of the refusal, as `fontcut` prints it and docs/FORMAT.md lists it.
+    /// The number of the refusal, as `fontcut` prints it and docs/FORMAT.md lists it; or 102 or 104, where glyphs are wanted
+    /// that the font or the kind of cuts does not have.
     #[must_use]
     pub fn number(&self) -> u32 {
         self.number
@@ -62,6 +65,25 @@ impl Error {
             number: answer.status,
             text: text_of(answer),
             argument: argument_of(answer),
+            file: None,
+        }
+    }
+
+    /// The error of a call that was given these glyphs.
+    pub(crate) fn of_glyphs(answer: Answer, glyphs: &[u16]) -> Error {
+        let (text, argument) = match answer.status {
+            NO_GLYPH => {
+                let glyph = glyphs[answer.detail as usize];
+                let argument = Argument::Number(u32::from(glyph));
+                (format!("no glyph {glyph}"), argument)
+            }
+            NO_NUMBERS => ("no glyphs by number in full cuts".into(), Argument::File),
+            _ => return Error::of_one_file(answer),
+        };
+        Error {
+            number: answer.status,
+            text,
+            argument,
             file: None,
         }
     }

@@ -26,11 +26,13 @@
 mod calls;
 mod cut;
 mod error;
+mod exact;
 mod numbers;
 mod ranges;
 
 pub use cut::Cut;
 pub use error::{Argument, Error};
+pub use exact::Wanted;
 pub use numbers::{Info, Metric, NoGlyph};
 pub use ranges::Ranges;
 
@@ -47,13 +49,13 @@ pub enum Kind {
     /// for variable fonts), and with each glyph that `GSUB` may put for those of the wanted characters.
     ///
     /// A call for them reads these tables, and refuses a font that is accepted as such: by 5 or 6 for one of them, and
-    /// by 27 where `GSUB` cannot be read.
+    /// by 27 where links of `GSUB` are to be followed and it cannot be read.
     Layout = 2,
     /// Variable cuts: layout cuts that keep variations, with the tables of layout whole, with `fvar`, `avar`, `cvar`,
     /// `HVAR`, `MVAR`, `STAT` and `VVAR`, and with `gvar` for the glyphs that are kept.
     ///
     /// A call for them reads these tables too, and refuses a font that is accepted as such: by 5 or 6 for one of them,
-    /// by 27 where `GSUB` cannot be read, and by 28 where `gvar` cannot be.
+    /// by 27 as layout cuts are, and by 28 where `gvar` cannot be read.
     Variable = 3,
 }
 
@@ -90,7 +92,9 @@ impl<'a> Font<'a> {
         self.bytes
     }
 
-    /// The cut of a kind for the wanted characters. Those that the font does not map are passed over.
+    /// The cut of a kind for the wanted characters. Those that the font does not map are passed over. Layout and variable
+    /// cuts have each glyph that `GSUB` may put for them, for text of these characters in any order; [`Font::exact_cut`]
+    /// has just what is asked for.
     ///
     /// # Errors
     ///
@@ -173,14 +177,8 @@ impl<'a> Font<'a> {
                 )
             })
         };
-        let made = made.map_err(Error::of_one_file)?;
-        let mut rest = made.as_slice();
-        let cuts = sizes.into_iter().map(|size| {
-            let (cut, others) = rest.split_at(length(size));
-            rest = others;
-            Cut::new(kind, cut.to_vec())
-        });
-        Ok(cuts.collect())
+        made.map(|made| split(kind, sizes, &made))
+            .map_err(Error::of_one_file)
     }
 
     /// How many bytes the cut of a kind for the wanted characters has. No cut is made.
@@ -224,7 +222,7 @@ impl<'a> Font<'a> {
     ///
     /// # Errors
     ///
-    /// 16 where memory is refused. Of [`Kind::Layout`] also 5, 6 and 27, and of [`Kind::Variable`] 5, 6, 27 and 28.
+    /// 16 where memory is refused. Of [`Kind::Layout`] also 5 and 6, and of [`Kind::Variable`] 5, 6 and 28.
     pub fn form(&self, kind: Kind) -> Result<Option<Form>, Error> {
         // SAFETY: the place and the length are those of a slice, which the call reads.
         let answer =
@@ -236,12 +234,12 @@ impl<'a> Font<'a> {
         })
     }
 
-    /// Whether this font is a cut of another one, of a kind, for some characters.
+    /// Whether this font is a cut of another one, of a kind, for some characters and glyphs.
     ///
     /// # Errors
     ///
-    /// 16 where memory is refused. Of [`Kind::Layout`] also 5, 6 and 27, and of [`Kind::Variable`] 5, 6, 27 and 28,
-    /// with 0 as the file for this font, and 1 for the other one.
+    /// 16 where memory is refused. Of [`Kind::Layout`] also 5 and 6, and of [`Kind::Variable`] 5, 6 and 28, with 0 as the
+    /// file for this font, and 1 for the other one.
     pub fn is_cut_of(&self, kind: Kind, font: &Font<'_>) -> Result<bool, Error> {
         // SAFETY: the places and lengths are those of slices, which the call reads.
         let answer = unsafe {
@@ -383,15 +381,15 @@ pub fn version() -> (u8, u8, u8) {
     (first, second, third)
 }
 
-/// The join of cuts of one font, of a kind: that font's cut for the characters of all of them, in whatever order they
-/// come.
+/// The join of cuts of one font, of a kind: that font's cut for the characters and the glyphs of all of them, in whatever
+/// order they come.
 ///
 /// # Errors
 ///
-/// The first refusal that applies, with the index of the file: 1 to 14 and 17 where it is no font that is accepted, 5, 6
-/// and 27 for its tables of layout, of [`Kind::Layout`] and [`Kind::Variable`] alone, 28 for its `gvar`, of the latter
-/// alone, 20 where it is no cut of the kind, 21 to 23 where it is no cut of the font of those before it, 18 where the
-/// join would be too large for a file, 24 where there is no file, 16 where memory is refused.
+/// The first refusal that applies, with the index of the file: 1 to 14 and 17 where it is no font that is accepted, 5 and
+/// 6 for its tables of layout, of [`Kind::Layout`] and [`Kind::Variable`] alone, 28 for its `gvar`, of the latter alone,
+/// 20 where it is no cut of the kind, 21 to 23 where it is no cut of the font of those before it, 18 where the join would
+/// be too large for a file, 24 where there is no file, 16 where memory is refused.
 pub fn join<I>(kind: Kind, cuts: I) -> Result<Cut, Error>
 where
     I: IntoIterator,
@@ -411,6 +409,17 @@ where
     };
     made.map(|bytes| Cut::new(kind, bytes))
         .map_err(Error::of_several_files)
+}
+
+/// The cuts of these sizes, which lie end to end.
+fn split(kind: Kind, sizes: Vec<u64>, made: &[u8]) -> Vec<Cut> {
+    let mut rest = made;
+    let cuts = sizes.into_iter().map(|size| {
+        let (cut, others) = rest.split_at(length(size));
+        rest = others;
+        Cut::new(kind, cut.to_vec())
+    });
+    cuts.collect()
 }
 
 fn bytes_of(file: &[u8]) -> Bytes {

@@ -1,5 +1,5 @@
 //! The calls over DejaVu Sans, where it is there: cuts of all kinds, their forms, joins and refusals.
-use fontcut::{join, version, Argument, Error, Font, Form, Kind, NoGlyph, Ranges};
+use fontcut::{join, version, Argument, Error, Font, Form, Kind, NoGlyph, Ranges, Wanted};
 
 const DEJAVU: &str = "/usr/share/fonts/truetype/dejavu/DejaVuSans.ttf";
 
@@ -119,6 +119,111 @@ fn layout_cuts_have_the_tables_of_layout() -> Result<(), Error> {
     assert_eq!(
         font.cut(Kind::Variable, &letters("fi"))?.into_bytes(),
         cut.into_bytes()
+    );
+    Ok(())
+}
+
+/// The kinds of cuts that are for glyphs by number, too.
+const BY_NUMBER: [Kind; 3] = [Kind::Lean, Kind::Layout, Kind::Variable];
+
+fn wanted(text: &str, glyphs: &[u16]) -> Wanted {
+    let (codes, glyphs) = (letters(text), glyphs.to_vec());
+    Wanted { codes, glyphs }
+}
+
+#[test]
+fn cuts_for_glyphs() -> Result<(), Error> {
+    let file = match dejavu() {
+        Some(file) => file,
+        None => return Ok(()),
+    };
+    let font = Font::new(&file)?;
+    let (some, more) = (wanted("fi", &[700, 36, 36]), wanted("", &[68]));
+    for kind in BY_NUMBER {
+        let cuts = font.exact_cuts(kind, [&some, &more, &some])?;
+        let one = font.exact_cut(kind, &some)?;
+        assert_eq!(
+            cuts,
+            [one.clone(), font.exact_cut(kind, &more)?, one.clone()]
+        );
+        assert_eq!(font.exact_cut_size(kind, &some)?, one.len() as u64);
+        assert_eq!(font.exact_cuts(kind, [])?, []);
+        let both = wanted("if", &[68, 36, 700]);
+        assert_eq!(join(kind, &cuts)?, font.exact_cut(kind, &both)?);
+        assert_eq!(one.font().form(kind)?, Some(Form::Current));
+        assert!(one.font().is_cut_of(kind, &font)?);
+        assert_eq!(one.font().codes()?, letters("fi"));
+        let kept = one.font().kept_glyphs(kind)?;
+        assert!([0, 36, 700].iter().all(|glyph| kept.contains(glyph)));
+        assert_eq!(font.exact_cut(kind, &wanted("fi", &kept))?, one);
+    }
+    Ok(())
+}
+
+#[test]
+fn closures_and_everything() -> Result<(), Error> {
+    let file = match dejavu() {
+        Some(file) => file,
+        None => return Ok(()),
+    };
+    let font = Font::new(&file)?;
+    for kind in BY_NUMBER {
+        let closed = font.closure(kind, &wanted("fi", &[]))?;
+        let cut = font.cut(kind, &letters("fi"))?;
+        assert_eq!(font.exact_cut(kind, &wanted("fi", &closed))?, cut);
+        assert_eq!(font.closure(kind, &wanted("fi", &closed))?, closed);
+        let ligature = font.glyphs(['\u{FB01}'])[0];
+        assert_eq!(closed.contains(&ligature), kind != Kind::Lean);
+        let all = font.exact_cut(kind, &font.everything())?;
+        assert_eq!(all, all.font().exact_cut(kind, &all.font().everything())?);
+        assert_eq!(all.font().codes()?, font.codes()?);
+    }
+    assert_eq!(font.closure(Kind::Full, &wanted("", &[9]))?, [0, 9]);
+    let full = font.cut(Kind::Full, &letters("A"))?;
+    assert_eq!(full.font().kept_glyphs(Kind::Full)?, [0, 36]);
+    Ok(())
+}
+
+#[test]
+fn glyphs_that_are_refused() -> Result<(), Error> {
+    let file = match dejavu() {
+        Some(file) => file,
+        None => return Ok(()),
+    };
+    let font = Font::new(&file)?;
+    let count = font.info().glyph_count;
+    let (good, bad) = (wanted("A", &[9]), wanted("A", &[9, count, u16::MAX]));
+    for kind in BY_NUMBER {
+        for refused in [
+            font.exact_cut(kind, &bad).unwrap_err(),
+            font.exact_cut_size(kind, &bad).unwrap_err(),
+            font.exact_cuts(kind, [&good, &bad]).unwrap_err(),
+            font.closure(kind, &bad).unwrap_err(),
+        ] {
+            assert_eq!(
+                (refused.number(), refused.to_string(), refused.argument()),
+                (
+                    102,
+                    format!("no glyph {count}"),
+                    Argument::Number(u32::from(count))
+                )
+            );
+        }
+    }
+    for refused in [
+        font.exact_cut(Kind::Full, &good).unwrap_err(),
+        font.exact_cut_size(Kind::Full, &bad).unwrap_err(),
+        font.exact_cuts(Kind::Full, [&good]).unwrap_err(),
+    ] {
+        assert_eq!(
+            (refused.number(), refused.text(), refused.file()),
+            (104, "no glyphs by number in full cuts", None)
+        );
+    }
+    let characters = wanted("A", &[]);
+    assert_eq!(
+        font.exact_cut(Kind::Full, &characters)?,
+        font.cut(Kind::Full, &characters.codes)?
     );
     Ok(())
 }
