@@ -7,6 +7,13 @@
  *                                     a set is the word + and its ranges; +N gives it a count that is N larger than that;
  *                                     PLACES is a number of sizes, or - for just as many as there are sets; OUT gets the
  *                                     sizes, as numbers of 64 bits, and then the cuts
+ *     exact_size KIND FONT GLYPHS RANGES..
+ *     exact_cut KIND FONT OUT ROOM GLYPHS RANGES..
+ *     exact_cuts KIND FONT OUT ROOM PLACES GLYPHS COUNTS SETS..
+ *                                     the same for glyphs too; GLYPHS and COUNTS are files of numbers of 16 and 64 bits
+ *     closure KIND FONT OUT ROOM GLYPHS RANGES..
+ *                                     OUT gets numbers of 16 bits; ROOM is a number of glyphs
+ *     kept KIND FONT OUT ROOM         the same
  *     form KIND FONT
  *     belongs KIND CUT FONT
  *     join KIND OUT ROOM FILES..
@@ -144,61 +151,107 @@ static int is_accepted(file font)
     return fontcut_check(font.at, font.length).status == FONTCUT_DONE;
 }
 
-static void do_size(int is_first, char **words, int count)
-{
+/* What is wanted of a font: the codes of ranges, or where there is a list of glyphs these codes and glyphs alone. */
+typedef struct request {
+    uint32_t kind;
+    file font;
     fontcut_range ranges[WORDS];
-    uint32_t kind = kind_of(words[1]);
-    file font = read_file(words[2]);
-    size_t given = ranges_of(words + 3, count - 3, ranges);
-    fontcut_answer answer = fontcut_subset_size(kind, font.at, font.length, ranges, given);
-    if (is_first && is_accepted(font) &&
-        !is_same(answer, fontcut_subset_size_checked(kind, font.at, font.length, ranges, given)))
+    size_t count;
+    file list;
+    const uint16_t *glyphs;
+    size_t glyph_count;
+} request;
+
+/* Reads a kind, a font, the path of a list of glyphs or NULL, and ranges. */
+static void read_request(request *asked, const char *kind, const char *font, const char *list, char **words, int count)
+{
+    const file none = {NULL, 0};
+    asked->kind = kind_of(kind);
+    asked->font = read_file(font);
+    asked->list = list ? read_file(list) : none;
+    asked->glyphs = (const uint16_t *)(const void *)asked->list.at;
+    asked->glyph_count = asked->list.length / sizeof(uint16_t);
+    asked->count = ranges_of(words, count, asked->ranges);
+}
+
+static void free_request(request *asked)
+{
+    free(asked->font.at);
+    free(asked->list.at);
+}
+
+static fontcut_answer size_for(const request *asked, int is_checked)
+{
+    const file font = asked->font;
+    if (asked->glyphs)
+        return (is_checked ? fontcut_subset_glyphs_size_checked : fontcut_subset_glyphs_size)(
+            asked->kind, font.at, font.length, asked->ranges, asked->count, asked->glyphs, asked->glyph_count);
+    return (is_checked ? fontcut_subset_size_checked : fontcut_subset_size)(asked->kind, font.at, font.length,
+                                                                            asked->ranges, asked->count);
+}
+
+static fontcut_answer cut_for(const request *asked, int is_checked, uint8_t *out, size_t room)
+{
+    const file font = asked->font;
+    if (asked->glyphs)
+        return (is_checked ? fontcut_subset_glyphs_checked : fontcut_subset_glyphs)(
+            asked->kind, font.at, font.length, asked->ranges, asked->count, asked->glyphs, asked->glyph_count, out,
+            room);
+    return (is_checked ? fontcut_subset_checked : fontcut_subset)(asked->kind, font.at, font.length, asked->ranges,
+                                                                  asked->count, out, room);
+}
+
+/* Whether there is a deprecated call of the same meaning. */
+static int has_old(const request *asked)
+{
+    return asked->kind == FONTCUT_FULL && !asked->glyphs;
+}
+
+static void do_size(int is_first, const request *asked)
+{
+    const file font = asked->font;
+    fontcut_answer answer = size_for(asked, 0);
+    if (is_first && is_accepted(font) && !is_same(answer, size_for(asked, 1)))
         printf("otherwise checked ");
-    say_both(is_first, answer, kind ? answer : fontcut_cut_size(font.at, font.length, ranges, given));
-    free(font.at);
+    say_both(is_first, answer,
+             has_old(asked) ? fontcut_cut_size(font.at, font.length, asked->ranges, asked->count) : answer);
 }
 
 /* Whether the deprecated call answers and writes the same. */
-static int is_old_cut_same(file font, const fontcut_range *ranges, size_t given, fontcut_answer answer,
-                           const uint8_t *out, size_t room)
+static int is_old_cut_same(const request *asked, fontcut_answer answer, const uint8_t *out, size_t room)
 {
+    const file font = asked->font;
     uint8_t *other = guarded(room);
-    int same = is_same(answer, fontcut_cut(font.at, font.length, ranges, given, other, room)) &&
+    int same = is_same(answer, fontcut_cut(font.at, font.length, asked->ranges, asked->count, other, room)) &&
                !memcmp(out - GUARD, other - GUARD, room + 2 * GUARD);
     free(other - GUARD);
     return same;
 }
 
 /* Whether the call for a font that was checked answers and writes the same. */
-static int is_checked_cut_same(uint32_t kind, file font, const fontcut_range *ranges, size_t given,
-                               fontcut_answer answer, const uint8_t *out, size_t room)
+static int is_checked_cut_same(const request *asked, fontcut_answer answer, const uint8_t *out, size_t room)
 {
     uint8_t *other = guarded(room);
-    int same = is_same(answer, fontcut_subset_checked(kind, font.at, font.length, ranges, given, other, room)) &&
+    int same = is_same(answer, cut_for(asked, 1, other, room)) &&
                !memcmp(out - GUARD, other - GUARD, room + 2 * GUARD);
     free(other - GUARD);
     return same;
 }
 
-static void do_cut(int is_first, char **words, int count)
+static void do_cut(int is_first, const request *asked, const char *path, const char *word)
 {
-    fontcut_range ranges[WORDS];
-    uint32_t kind = kind_of(words[1]);
-    file font = read_file(words[2]);
-    size_t given = ranges_of(words + 5, count - 5, ranges);
-    size_t room = room_of(words[4], fontcut_subset_size(kind, font.at, font.length, ranges, given).size);
+    size_t room = room_of(word, size_for(asked, 0).size);
     uint8_t *out = guarded(room);
-    fontcut_answer answer = fontcut_subset(kind, font.at, font.length, ranges, given, out, room);
+    fontcut_answer answer = cut_for(asked, 0, out, room);
     size_t written = answer.status ? 0 : (size_t)answer.size;
-    if (is_first && kind == FONTCUT_FULL && !is_old_cut_same(font, ranges, given, answer, out, room))
+    if (is_first && has_old(asked) && !is_old_cut_same(asked, answer, out, room))
         printf("otherwise ");
-    if (is_first && is_accepted(font) && !is_checked_cut_same(kind, font, ranges, given, answer, out, room))
+    if (is_first && is_accepted(asked->font) && !is_checked_cut_same(asked, answer, out, room))
         printf("otherwise checked ");
     say(is_first, answer, is_untouched(out, written, room));
     if (is_first)
-        write_file(words[3], out, written);
+        write_file(path, out, written);
     free(out - GUARD);
-    free(font.at);
 }
 
 /* Reads sets, as many as are returned: their ranges and how many each of them has. Ranges before the first set are of
@@ -219,23 +272,51 @@ static size_t sets_of(char **words, int count, fontcut_range *ranges, size_t *gi
     return sets;
 }
 
-static void do_cuts(int is_first, char **words, int count)
-{
+/* What is wanted of a font by many sets: their ranges, and where there is a list of glyphs these too and alone. */
+typedef struct requests {
+    uint32_t kind;
+    file font;
     fontcut_range ranges[WORDS];
     uint64_t counts[WORDS];
-    uint32_t kind = kind_of(words[1]);
-    file font = read_file(words[2]);
-    size_t given, sets = sets_of(words + 6, count - 6, ranges, &given, counts);
-    size_t places = (size_t)room_of(words[5], sets), told = places * sizeof(uint64_t), room, written;
+    size_t given, sets;
+    file list, list_counts;
+} requests;
+
+/* Reads a kind, a font, the paths of a list of glyphs and of their counts, or NULL, and sets. */
+static void read_requests(requests *asked, char **words, const char *list, const char *list_counts, char **sets,
+                          int count)
+{
+    const file none = {NULL, 0};
+    asked->kind = kind_of(words[1]);
+    asked->font = read_file(words[2]);
+    asked->list = list ? read_file(list) : none;
+    asked->list_counts = list ? read_file(list_counts) : none;
+    asked->sets = sets_of(sets, count, asked->ranges, &asked->given, asked->counts);
+}
+
+static fontcut_answer cuts_for(const requests *asked, uint8_t *out, size_t room, uint8_t *sizes, size_t places)
+{
+    const file font = asked->font, list = asked->list, list_counts = asked->list_counts;
+    uint64_t *told = (uint64_t *)(void *)sizes;
+    if (list.at)
+        return fontcut_cuts_glyphs(asked->kind, font.at, font.length, asked->ranges, asked->given, asked->counts,
+                                   asked->sets, (const uint16_t *)(const void *)list.at,
+                                   list.length / sizeof(uint16_t), (const uint64_t *)(const void *)list_counts.at,
+                                   list_counts.length / sizeof(uint64_t), out, room, told, places);
+    return fontcut_cuts(asked->kind, font.at, font.length, asked->ranges, asked->given, asked->counts, asked->sets, out,
+                        room, told, places);
+}
+
+static void do_cuts(int is_first, const requests *asked, char **words)
+{
+    size_t places = (size_t)room_of(words[5], asked->sets), told = places * sizeof(uint64_t), room, written;
     uint8_t *sizes = guarded(told), *out = guarded(0), *both;
-    fontcut_answer answer = fontcut_cuts(kind, font.at, font.length, ranges, given, counts, sets, out, 0,
-                                         (uint64_t *)(void *)sizes, places);
+    fontcut_answer answer = cuts_for(asked, out, 0, sizes, places);
     int is_whole = is_untouched(out, 0, 0) && is_untouched(sizes, 0, told);
     free(out - GUARD);
     room = room_of(words[4], answer.size);
     out = guarded(room);
-    answer = fontcut_cuts(kind, font.at, font.length, ranges, given, counts, sets, out, room, (uint64_t *)(void *)sizes,
-                          places);
+    answer = cuts_for(asked, out, room, sizes, places);
     written = answer.status ? 0 : (size_t)answer.size;
     told = answer.status ? 0 : told;
     is_whole = is_whole && is_untouched(out, written, room) && is_untouched(sizes, told, places * sizeof(uint64_t));
@@ -248,7 +329,18 @@ static void do_cuts(int is_first, char **words, int count)
     free(both);
     free(out - GUARD);
     free(sizes - GUARD);
-    free(font.at);
+}
+
+static void do_requests(int is_first, char **words, int count)
+{
+    int is_exact = words[0][0] == 'e', begin = is_exact ? 8 : 6;
+    requests *asked = (requests *)got(sizeof *asked);
+    read_requests(asked, words, is_exact ? words[6] : NULL, is_exact ? words[7] : NULL, words + begin, count - begin);
+    do_cuts(is_first, asked, words);
+    free(asked->font.at);
+    free(asked->list.at);
+    free(asked->list_counts.at);
+    free(asked);
 }
 
 static void do_form(int is_first, char **words)
@@ -393,6 +485,46 @@ static void do_info(int is_first, char **words)
     free(font.at);
 }
 
+static void do_closure(int is_first, const request *asked, const char *path, const char *word)
+{
+    const file font = asked->font;
+    size_t room = (size_t)strtoull(word, NULL, 10);
+    uint8_t *out = guarded(room * sizeof(uint16_t));
+    fontcut_answer answer = fontcut_closure(asked->kind, font.at, font.length, asked->ranges, asked->count,
+                                            asked->glyphs, asked->glyph_count, (uint16_t *)(void *)out, room);
+    say_filled(is_first, answer, path, out, sizeof(uint16_t), room);
+    free(out - GUARD);
+}
+
+static void do_kept(int is_first, char **words)
+{
+    file font = read_file(words[2]);
+    size_t room = (size_t)strtoull(words[4], NULL, 10);
+    uint8_t *out = guarded(room * sizeof(uint16_t));
+    fontcut_answer answer = fontcut_kept(kind_of(words[1]), font.at, font.length, (uint16_t *)(void *)out, room);
+    say_filled(is_first, answer, words[3], out, sizeof(uint16_t), room);
+    free(out - GUARD);
+    free(font.at);
+}
+
+/* What a line asks for whose words end in ranges of one set, before which some have a list of glyphs. */
+static void do_request(int is_first, char **words, int count)
+{
+    int is_size = !strcmp(words[0], "size") || !strcmp(words[0], "exact_size");
+    int is_closure = !strcmp(words[0], "closure"), is_exact = is_closure || words[0][0] == 'e';
+    int begin = (is_size ? 3 : 5) + is_exact;
+    request *asked = (request *)got(sizeof *asked);
+    read_request(asked, words[1], words[2], is_exact ? words[begin - 1] : NULL, words + begin, count - begin);
+    if (is_size)
+        do_size(is_first, asked);
+    else if (is_closure)
+        do_closure(is_first, asked, words[3], words[4]);
+    else
+        do_cut(is_first, asked, words[3], words[4]);
+    free_request(asked);
+    free(asked);
+}
+
 /* An address at which nothing is, for areas of no bytes of any type. */
 static uint64_t no_bytes[1];
 
@@ -407,6 +539,7 @@ static int answers_of_cuts(uint32_t kind, file font, int is_null, fontcut_answer
     uint8_t *none = (uint8_t *)address(is_null);
     const fontcut_range *ranges = (const fontcut_range *)address(is_null);
     uint64_t *numbers = (uint64_t *)address(is_null);
+    uint16_t *glyphs = (uint16_t *)address(is_null);
     fontcut_bytes cut;
     cut.at = font.at;
     cut.length = font.length;
@@ -424,7 +557,11 @@ static int answers_of_cuts(uint32_t kind, file font, int is_null, fontcut_answer
     answers[11] = fontcut_is_cut(none, 0);
     answers[12] = fontcut_is_cut_of(none, 0, none, 0);
     answers[13] = fontcut_join_all((const fontcut_bytes *)address(is_null), 0, none, 0);
-    return 14;
+    answers[14] = fontcut_subset_glyphs_size(kind, font.at, font.length, ranges, 0, glyphs, 0);
+    answers[15] = fontcut_subset_glyphs(kind, font.at, font.length, ranges, 0, glyphs, 0, none, 0);
+    answers[16] = fontcut_cuts_glyphs(kind, font.at, font.length, ranges, 0, numbers, 0, glyphs, 0, numbers, 0, none, 0,
+                                      numbers, 0);
+    return 17;
 }
 
 /* The same of the calls that look something up, and of those for fonts that were checked where the font is accepted. */
@@ -442,20 +579,24 @@ static int answers_of_lookups(uint32_t kind, file font, int is_null, fontcut_ans
     answers[3] = fontcut_metrics(font.at, font.length, glyphs, 0, metrics, 0);
     answers[4] = fontcut_info(none, 0, &info);
     answers[5] = fontcut_refusal_text(answers[0], none, 0);
+    answers[6] = fontcut_closure(kind, font.at, font.length, ranges, 0, glyphs, 0, glyphs, 0);
+    answers[7] = fontcut_kept(kind, font.at, font.length, glyphs, 0);
     if (!is_accepted(font))
-        return 6;
-    answers[6] = fontcut_subset_size_checked(kind, font.at, font.length, ranges, 0);
-    answers[7] = fontcut_subset_checked(kind, font.at, font.length, ranges, 0, none, 0);
-    answers[8] = fontcut_glyphs_checked(font.at, font.length, codes, 0, glyphs, 0);
-    answers[9] = fontcut_metrics_checked(font.at, font.length, glyphs, 0, metrics, 0);
-    return 10;
+        return 8;
+    answers[8] = fontcut_subset_size_checked(kind, font.at, font.length, ranges, 0);
+    answers[9] = fontcut_subset_checked(kind, font.at, font.length, ranges, 0, none, 0);
+    answers[10] = fontcut_glyphs_checked(font.at, font.length, codes, 0, glyphs, 0);
+    answers[11] = fontcut_metrics_checked(font.at, font.length, glyphs, 0, metrics, 0);
+    answers[12] = fontcut_subset_glyphs_size_checked(kind, font.at, font.length, ranges, 0, glyphs, 0);
+    answers[13] = fontcut_subset_glyphs_checked(kind, font.at, font.length, ranges, 0, glyphs, 0, none, 0);
+    return 14;
 }
 
 static void do_nothing(int is_first, char **words)
 {
     uint32_t kind = kind_of(words[1]);
     file font = read_file(words[2]);
-    fontcut_answer of_address[24], of_null[24];
+    fontcut_answer of_address[32], of_null[32];
     int i, count = answers_of_cuts(kind, font, 0, of_address);
     count += answers_of_lookups(kind, font, 0, of_address + count);
     answers_of_lookups(kind, font, 1, of_null + answers_of_cuts(kind, font, 1, of_null));
@@ -511,12 +652,13 @@ static void do_check(int is_first, char **words)
 
 static void do_line(int is_first, char **words, int count)
 {
-    if (!strcmp(words[0], "size"))
-        do_size(is_first, words, count);
-    else if (!strcmp(words[0], "cut"))
-        do_cut(is_first, words, count);
-    else if (!strcmp(words[0], "cuts"))
-        do_cuts(is_first, words, count);
+    if (!strcmp(words[0], "size") || !strcmp(words[0], "cut") || !strcmp(words[0], "exact_size") ||
+        !strcmp(words[0], "exact_cut") || !strcmp(words[0], "closure"))
+        do_request(is_first, words, count);
+    else if (!strcmp(words[0], "cuts") || !strcmp(words[0], "exact_cuts"))
+        do_requests(is_first, words, count);
+    else if (!strcmp(words[0], "kept"))
+        do_kept(is_first, words);
     else if (!strcmp(words[0], "join"))
         do_join(is_first, words, count);
     else if (!strcmp(words[0], "codes"))

@@ -51,11 +51,41 @@ static const uint16_t GLYPHS[] = {2, 0, 1};
 static const char *const NAMES[] = {
     OF_KINDS_OF("subset_size"), OF_KINDS_OF("subset"), OF_KINDS_OF("cuts"), OF_KINDS_OF("belongs"),
     OF_KINDS_OF("cut_form"), OF_KINDS_OF("join"), OF_KINDS_OF("subset_size_checked"), OF_KINDS_OF("subset_checked"),
+    OF_KINDS_OF("subset_glyphs_size"), OF_KINDS_OF("subset_glyphs"), OF_KINDS_OF("cuts_glyphs"),
+    OF_KINDS_OF("subset_glyphs_size_checked"), OF_KINDS_OF("subset_glyphs_checked"), OF_KINDS_OF("closure"),
+    OF_KINDS_OF("kept"),
     "cut_size",    "cut",              "is_cut",             "codes",   "is_cut_of",    "join_all",
     "check",       "glyphs",           "metrics",            "info",    "refusal_text",
     "glyphs_checked", "metrics_checked",
 };
-enum { CALLS = sizeof NAMES / sizeof *NAMES, OF_KINDS = 8 * KINDS };
+enum { CALLS = sizeof NAMES / sizeof *NAMES, BY_NUMBER = 8 * KINDS, OF_KINDS = BY_NUMBER + 7 * KINDS };
+
+/* A call of a kind for glyphs by number, of which full cuts are given none. */
+static fontcut_answer do_call_by_number(int call)
+{
+    const uint32_t kind = (uint32_t)(call % KINDS);
+    const fontcut_bytes font = files[0];
+    const size_t glyphs = kind == FONTCUT_FULL ? 0 : 3;
+    const uint64_t counts[1] = {glyphs};
+    uint16_t *numbers = (uint16_t *)(void *)room;
+    switch (call / KINDS) {
+    case 0:
+        return fontcut_subset_glyphs_size(kind, font.at, font.length, RANGES, 3, GLYPHS, glyphs);
+    case 1:
+        return fontcut_subset_glyphs(kind, font.at, font.length, RANGES, 3, GLYPHS, glyphs, room, ROOM);
+    case 2:
+        return fontcut_cuts_glyphs(kind, font.at, font.length, RANGES, 3, COUNTS, SETS, GLYPHS, glyphs, counts, 1, room,
+                                   ROOM, sizes, SETS);
+    case 3:
+        return fontcut_subset_glyphs_size_checked(kind, font.at, font.length, RANGES, 3, GLYPHS, glyphs);
+    case 4:
+        return fontcut_subset_glyphs_checked(kind, font.at, font.length, RANGES, 3, GLYPHS, glyphs, room, ROOM);
+    case 5:
+        return fontcut_closure(kind, font.at, font.length, RANGES, 3, GLYPHS, 3, numbers, ROOM / sizeof(uint16_t));
+    default:
+        return fontcut_kept(kind, font.at, font.length, numbers, ROOM / sizeof(uint16_t));
+    }
+}
 
 /* A call of a kind, over a cut of that kind. */
 static fontcut_answer do_call_of_kind(int call)
@@ -90,8 +120,10 @@ static fontcut_answer do_call(int call)
     fontcut_answer told = {FONTCUT_BAD_GLYPH, 7, 0, 0};
     fontcut_bytes cuts[2];
     cuts[0] = cuts[1] = cut;
-    if (call < OF_KINDS)
+    if (call < BY_NUMBER)
         return do_call_of_kind(call);
+    if (call < OF_KINDS)
+        return do_call_by_number(call - BY_NUMBER);
     switch (call - OF_KINDS) {
     case 0:
         return fontcut_cut_size(font.at, font.length, RANGES, 3);
