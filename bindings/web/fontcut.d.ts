@@ -22,7 +22,21 @@ export interface Characters {
     unicodes?: readonly Code[] | Iterable<Code> | string;
 }
 
-export type Wanted = Characters & OfKind;
+/** Glyphs by their numbers, or all of the font, in all but full cuts. */
+export interface Glyphs {
+    gids?: Iterable<number> | 'all';
+}
+
+/**
+ * Whether layout and variable cuts have each glyph that GSUB may substitute for what is wanted: so if nothing is said.
+ * With `false` a cut is exact: with the glyph numbers of a shaped text it shapes the text that it was made for, and is
+ * smaller. Other text may vanish in it, without a fallback font.
+ */
+export interface Closing {
+    layoutClosure?: boolean;
+}
+
+export type Wanted = Characters & Glyphs & Closing & OfKind;
 
 /** A font or a list of cuts is refused, with the number and the text that `fontcut` prints; 16 is out of memory. */
 export class FontcutError extends Error {
@@ -73,19 +87,30 @@ export function version(): string;
 
 /** @throws FontcutError where the font is not accepted */
 export function check(font: Bytes | Font): void;
-/** The cut of a font for the wanted characters. Those that the font does not map are passed over. */
+/** The cut of a font for the wanted characters and glyphs. Characters that the font does not map are passed over. */
 export function subset(font: Bytes | Font, wanted: Wanted): Uint8Array;
 /** The length in bytes of the cut that `subset` makes. */
 export function subsetSize(font: Bytes | Font, wanted: Wanted): number;
-/** The cuts of a font for many sets of characters, in their order. */
+/** The cuts of a font for many sets of characters and glyphs, in their order. */
 export function cuts(
-    font: Bytes | Font, sets: readonly Characters[] | Iterable<Characters>, options?: OfKind,
+    font: Bytes | Font, sets: readonly (Characters & Glyphs)[] | Iterable<Characters & Glyphs>,
+    options?: Closing & OfKind,
 ): Uint8Array[];
-/** The join of cuts of one font, all of one kind: that font's cut for the characters of all of them. */
+/**
+ * The glyphs that a shaper may put for text of the wanted characters and glyphs, ascending: .notdef, the glyphs of the
+ * characters, the given ones, and what GSUB leads to from these. The kind is 'layout' if none is given.
+ */
+export function closure(font: Bytes | Font, wanted: Characters & Glyphs & OfKind): Uint16Array;
+/**
+ * The glyphs that a file keeps as a cut of a kind, ascending: .notdef, the glyphs of its characters, in all but full
+ * cuts those that have an outline, metrics or variation data, and the components of all these.
+ */
+export function keptGlyphs(font: Bytes | Font, options?: OfKind): Uint16Array;
+/** The join of cuts of one font, all of one kind: that font's cut for the characters and glyphs of all of them. */
 export function join(cuts: Iterable<Bytes | Font>, options?: OfKind): Uint8Array;
 /** In which form a font is a cut: 'old' is the first profile of the format. */
 export function cutForm(font: Bytes | Font, options?: OfKind): 'none' | 'current' | 'old';
-/** Whether a file is a cut of a font for some characters. */
+/** Whether a file is a cut of a font for some characters and glyphs. */
 export function belongs(cut: Bytes | Font, font: Bytes | Font, options?: OfKind): boolean;
 /** The code points that a font maps, as ranges in ascending order. */
 export function codes(font: Bytes | Font): [first: number, last: number][];

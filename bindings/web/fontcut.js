@@ -4,17 +4,19 @@
 //     await init();                                                   // or init(url), init(bytes), init(module)
 //     const cut = subset(font, { text: 'Hello', kind: 'lean' });      // a Uint8Array
 //     const both = join([cut, other], { kind: 'lean' });              // the cut for the characters of both
+//     const drawn = subset(font, { gids: [43, 72], kind: 'lean' });   // glyphs by their numbers
 //
 // A font is an ArrayBuffer or a view of one. Calls are synchronous: a worker keeps a long one off the page's thread.
 // Each call copies what it reads into the module's memory, and frees all that it took when it returns or throws.
 
 const LAST_CODE = 0x10FFFF;
-const NO_GLYPH_OF_ANY = 0xFFFF; // a font has 65,535 glyphs at most
+const MOST_GLYPHS = 0xFFFF; // of a font: no glyph has this number
 const KINDS = ['full', 'lean', 'layout', 'variable'];
+const WITH_LINKS = [2, 3]; // the kinds whose cuts keep GSUB
 const FORMS = ['none', 'current', 'old'];
 
 // Statuses of include/fontcut.h, and those whose detail is a tag or a number.
-const DONE = 0, SMALL_ROOM = 100, NO_GLYPH = 102;
+const DONE = 0, SMALL_ROOM = 100, NO_GLYPH = 102, NO_NUMBERS = 104;
 // Written by tools/write_refusals from include/refusals.txt:
 const NO_MEMORY = 16, TOO_LARGE = 18, NOTHING_TO_JOIN = 24;
 const OF_TAGS = [5, 6, 7, 21], OF_NUMBERS = [12, 15, 17, 22, 23, NO_GLYPH];
@@ -191,7 +193,8 @@ class Areas {
         if (status === NO_MEMORY) {
             throw new FontcutError(status, 'no memory');
         }
-        const text = status === NO_GLYPH ? `no such glyph at ${detail}` : this.#textOfLast();
+        const texts = { [NO_GLYPH]: `no such glyph at ${detail}`, [NO_NUMBERS]: 'no glyphs by number in full cuts' };
+        const text = texts[status] ?? this.#textOfLast();
         const file = isOfSeveral && status !== NOTHING_TO_JOIN ? step : undefined;
         throw new FontcutError(status, text, argumentOf(answer), file);
     }
@@ -256,9 +259,9 @@ function rangeOfWord(word) {
     throw new RangeError(`fontcut: bad word ${word}: a range is written U+41, U+41-5A, U+4?? or all`);
 }
 
-function pairsOf({ text, unicodes }) {
-    if (text === undefined && unicodes === undefined) {
-        throw new TypeError('fontcut: say what is wanted by text or unicodes');
+function pairsOf({ text, unicodes, gids }) {
+    if (text === undefined && unicodes === undefined && gids === undefined) {
+        throw new TypeError('fontcut: say what is wanted by text, unicodes or gids');
     }
     const isWords = typeof unicodes === 'string';
     const pairs = isWords ? unicodes.split(/[\s,]+/).filter(Boolean).map(rangeOfWord) : [...unicodes ?? []];
@@ -303,6 +306,45 @@ function integersOf(list, what) {
 // A Font was tested when it was made, so the calls that do not test it again are called.
 const untested = (name, font) => font instanceof Font ? `${name}_checked` : name;
 
+// Glyph numbers as C takes them: what is no glyph of any font is none of this one either.
+function glyphNumbersOf(list) {
+    return integersOf(list, 'glyph').map((one) => 0 <= one && one < MOST_GLYPHS ? one : MOST_GLYPHS);
+}
+
+function gidsOf(font, { gids = [] }) {
+    return gids === 'all' ? Array.from({ length: info(font).glyphCount }, (_, i) => i) : glyphNumbersOf(gids);
+}
+
+// Whether cuts keep what GSUB may put, which they do where nothing is said.
+const isClosedCut = ({ layoutClosure = true } = {}) => layoutClosure;
+
+// The closure of the ranges that `given` ends with and of glyphs, where so many others stand before these in all lists.
+function closed(areas, given, gids, before = 0) {
+    const list = areas.numbers(Uint16Array, gids);
+    const make = (...room) => {
+        const answer = areas.answer('closure', ...given, ...list, ...room);
+        return answer.status === NO_GLYPH ? { ...answer, detail: before + answer.detail } : answer;
+    };
+    return new Uint16Array(areas.written(MOST_GLYPHS, 2, make).buffer);
+}
+
+// The call that cuts a font for what is wanted, and what it is given before its room. The call for characters alone
+// follows GSUB, and the other one keeps just the glyphs that it is given: so GSUB is followed before.
+function cutting(areas, font, { kind, ranges, gids, isClosed }) {
+    const given = [kind, ...areas.file(font), ...areas.numbers(Uint32Array, ranges, 2)];
+    if (isClosed && !gids.length) {
+        return { name: 'subset', given };
+    }
+    const exact = isClosed && WITH_LINKS.includes(kind) ? closed(areas, given, gids) : gids;
+    return { name: 'subset_glyphs', given: [...given, ...areas.numbers(Uint16Array, exact)] };
+}
+
+// What is wanted of a font, with the options of its cut.
+function requestOf(font, wanted) {
+    const ranges = rangesOf(wanted), kind = kindOf(wanted);
+    return { kind, ranges, gids: gidsOf(font, wanted), isClosed: isClosedCut(wanted) };
+}
+
 /** The version of the module, such as '0.11.0'. */
 export function version() {
     const number = exportsOf().fontcut_version();
@@ -316,39 +358,86 @@ export function check(font) {
 
 /** The length in bytes of the cut that `subset` makes. None is made. */
 export function subsetSize(font, wanted) {
-    const ranges = rangesOf(wanted), kind = kindOf(wanted);
+    const request = requestOf(font, wanted);
     return within((areas) => {
-        const given = [kind, ...areas.file(font), ...areas.numbers(Uint32Array, ranges, 2)];
-        return areas.done(areas.answer(untested('subset_size', font), ...given)).size;
+        const { name, given } = cutting(areas, font, request);
+        return areas.done(areas.answer(untested(`${name}_size`, font), ...given)).size;
     });
 }
 
-/** The cut of a font for the wanted characters. Those that the font does not map are passed over. */
+/** The cut of a font for the wanted characters and glyphs. Characters that the font does not map are passed over. */
 export function subset(font, wanted) {
-    const ranges = rangesOf(wanted), kind = kindOf(wanted);
+    const request = requestOf(font, wanted);
     return within((areas) => {
-        const given = [kind, ...areas.file(font), ...areas.numbers(Uint32Array, ranges, 2)];
+        const { name, given } = cutting(areas, font, request);
         // The room is just what the cut needs. The call that measures it tests the font, so the next one need not.
-        const { size } = areas.done(areas.answer(untested('subset_size', font), ...given));
-        return areas.written(size, 1, (...room) => areas.answer('subset_checked', ...given, ...room));
+        const { size } = areas.done(areas.answer(untested(`${name}_size`, font), ...given));
+        return areas.written(size, 1, (...room) => areas.answer(`${name}_checked`, ...given, ...room));
     });
 }
 
-/** The cuts of a font for many sets of characters, in their order. The font is looked through once for all of them. */
+// How many items each of some lists has, as a call takes it.
+const countsOf = (areas, lists, each = 1) =>
+    areas.numbers(BigUint64Array, lists.map((one) => BigInt(one.length / each)));
+
+// The glyphs of each set, closed under GSUB.
+function closedSets(areas, start, ranges, gids) {
+    let before = 0;
+    return ranges.map((codes, i) => {
+        const numbers = closed(areas, [...start, ...areas.numbers(Uint32Array, codes, 2)], gids[i], before);
+        before += gids[i].length;
+        return [...numbers];
+    });
+}
+
+// The call that cuts a font for many sets, and what it is given before its room, as `cutting` has it.
+function cuttingSets(areas, font, { kind, ranges, gids, isClosed }) {
+    const start = [kind, ...areas.file(font)];
+    const given = [...start, ...areas.numbers(Uint32Array, ranges.flat(), 2), ...countsOf(areas, ranges, 2)];
+    if (isClosed && !gids.flat().length) {
+        return { name: 'cuts', given };
+    }
+    const exact = isClosed && WITH_LINKS.includes(kind) ? closedSets(areas, start, ranges, gids) : gids;
+    const numbers = [...areas.numbers(Uint16Array, exact.flat()), ...countsOf(areas, exact)];
+    return { name: 'cuts_glyphs', given: [...given, ...numbers] };
+}
+
+/**
+ * The cuts of a font for many sets of characters and glyphs, in their order. The font is looked through once for all of
+ * them, and once more for each set if there are glyph numbers whose substitutes are kept too.
+ */
 export function cuts(font, sets, options) {
-    const kind = kindOf(options), ranges = Array.from(sets, rangesOf);
+    const kind = kindOf(options), wanted = Array.from(sets), ranges = wanted.map(rangesOf);
+    const gids = wanted.map((one) => gidsOf(font, one));
     return within((areas) => {
-        const given = [kind, ...areas.file(font), ...areas.numbers(Uint32Array, ranges.flat(), 2),
-            ...areas.numbers(BigUint64Array, ranges.map((one) => BigInt(one.length / 2)))];
+        const { name, given } = cuttingSets(areas, font, { kind, ranges, gids, isClosed: isClosedCut(options) });
         const sizes = areas.numbers(BigUint64Array, ranges.map(() => 0n));
-        const all = areas.written(0, 1, (...room) => areas.answer('cuts', ...given, ...room, ...sizes));
+        const all = areas.written(0, 1, (...room) => areas.answer(name, ...given, ...room, ...sizes));
         const lengths = areas.view(sizes[0], 8 * ranges.length);
         let end = 0;
         return ranges.map((_, i) => all.slice(end, end += Number(lengths.getBigUint64(8 * i, true))));
     });
 }
 
-/** The join of cuts of one font, all of one kind: that font's cut for the characters of all of them. */
+/** The glyphs that a shaper may put for text of the wanted characters and glyphs, ascending. */
+export function closure(font, wanted) {
+    const ranges = rangesOf(wanted), kind = kindOf({ kind: wanted.kind ?? 'layout' }), gids = gidsOf(font, wanted);
+    return within((areas) => {
+        const given = [kind, ...areas.file(font), ...areas.numbers(Uint32Array, ranges, 2)];
+        return closed(areas, given, gids);
+    });
+}
+
+/** The glyphs that a file keeps as a cut of a kind, ascending. */
+export function keptGlyphs(font, options) {
+    const kind = kindOf(options);
+    return new Uint16Array(within((areas) => {
+        const file = areas.file(font);
+        return areas.written(MOST_GLYPHS, 2, (...room) => areas.answer('kept', kind, ...file, ...room));
+    }).buffer);
+}
+
+/** The join of cuts of one font, all of one kind: that font's cut for the characters and glyphs of all of them. */
 export function join(files, options) {
     const kind = kindOf(options), given = Array.from(files);
     return within((areas) => {
@@ -382,11 +471,10 @@ export function glyphs(font, wanted) {
 
 /** The advance width and the left side bearing of each glyph, in font units. */
 export function metrics(font, glyphNumbers) {
-    const given = integersOf(glyphNumbers, 'glyph');
-    const known = given.map((one) => 0 <= one && one < NO_GLYPH_OF_ANY ? one : NO_GLYPH_OF_ANY);
+    const given = glyphNumbersOf(glyphNumbers);
     const view = new DataView(within((areas) => {
-        const [file, list] = [areas.file(font), areas.numbers(Uint16Array, known)];
-        return areas.written(known.length, 4, (...room) =>
+        const [file, list] = [areas.file(font), areas.numbers(Uint16Array, given)];
+        return areas.written(given.length, 4, (...room) =>
             areas.answer(untested('metrics', font), ...file, ...list, ...room));
     }).buffer);
     return given.map((_, i) => ({ advance: view.getUint16(4 * i, true), bearing: view.getInt16(4 * i + 2, true) }));
@@ -412,7 +500,7 @@ export function cutForm(font, options) {
     return within((areas) => FORMS[areas.done(areas.answer('cut_form', kind, ...areas.file(font))).detail]);
 }
 
-/** Whether a file is a cut of a kind of a font, for some characters. */
+/** Whether a file is a cut of a kind of a font, for some characters and glyphs. */
 export function belongs(cut, font, options) {
     const kind = kindOf(options);
     return within((areas) => {

@@ -102,6 +102,27 @@ def cuts_of(cases: Cases, name: str, font: bytes, kind: str, chance: random.Rand
     return parts[0]
 
 
+def cuts_by_number(cases: Cases, name: str, font: bytes, kind: str) -> None:
+    """Cuts of a font for characters and glyph numbers, exact and closed ones, their closures, and the glyphs that a cut
+    keeps; and numbers that are refused."""
+    library, count = cases.library, cases.library.info(font).glyph_count
+    lists: list[list[int]] = [[], spread([(0, count - 1)], 100), [count - 1, 0, 0], [0, count], [0, -1, 65536]]
+    for gids in lists:
+        for closes in True, False:
+            for call, made in ("subset", lambda *words, **of: digest(library.cut(*words, **of))), \
+                    ("subsetSize", library.cut_size):
+                cases.add(call, [name], lambda: made(font, "fi", gids=gids, kind=kind, layout_closure=closes),
+                          text="fi", gids=gids, kind=kind, layoutClosure=closes)
+            cases.add("cuts", [name], lambda: list(map(digest, library.slices(
+                font, ["a", "fi", ""], gids=[[3, 4], None, gids], kind=kind, layout_closure=closes))),
+                sets=[{"text": "a", "gids": [3, 4]}, {"text": "fi"}, {"gids": gids}], kind=kind, layoutClosure=closes)
+        cases.add("closure", [name], lambda: library.closure(font, "fi", gids, kind=kind),
+                  text="fi", gids=gids, kind=kind)
+    exact = library.cut(font, "fi", gids=[count - 1], kind=kind)
+    for file, data in (name, font), (cases.put(exact), exact):
+        cases.add("keptGlyphs", [file], lambda: library.kept_glyphs(data, kind=kind), kind=kind)
+
+
 def broken(font: bytes, chance: random.Random) -> Iterator[bytes]:
     """Broken files of a font."""
     yield from (b"", font[:11], font[:100], font[:-1], font[:len(font) // 2], b"ttcf" + font[4:], b"OTTO" + font[4:])
@@ -121,6 +142,11 @@ def of_broken(cases: Cases, data: bytes, good: tuple[str, bytes]) -> None:
     cases.add("info", [name], lambda: list(library.info(data)))
     for kind in KINDS:
         cases.add("subset", [name], lambda: digest(library.cut(data, "Hello", kind=kind)), text="Hello", kind=kind)
+        cases.add("keptGlyphs", [name], lambda: library.kept_glyphs(data, kind=kind), kind=kind)
+    for kind in "lean", "layout", "variable":
+        cases.add("subset", [name], lambda: digest(library.cut(data, "", gids=[1, 2], kind=kind)),
+                  gids=[1, 2], kind=kind)
+    cases.add("closure", [name], lambda: library.closure(data, "AB", [1]), text="AB", gids=[1])
     cases.add("join", [good[0], name], lambda: digest(library.join([good[1], data], lean=True)), kind="lean")
     cases.add("belongs", [name, good[0]], lambda: library.belongs(data, good[1], lean=True), kind="lean")
 
@@ -134,6 +160,8 @@ def make(folder: str, library: ModuleType, fonts: Iterable[str], small: bytes) -
         name = cases.put(font)
         numbers_of(cases, name, font)
         leans.append({kind: cuts_of(cases, name, font, kind, chance) for kind in KINDS}["lean"])
+        for kind in KINDS[1:]:
+            cuts_by_number(cases, name, font, kind)
     good = cases.put(leans[-1]), leans[-1]
     for base in small, leans[-1]:
         for data in broken(base, chance):

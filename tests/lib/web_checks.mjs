@@ -68,6 +68,35 @@ const checks = {
         assert.throws(() => fontcut.metrics(bytes, [0, 65536]), wanted);
     },
 
+    'glyphs by their numbers': () => {
+        const gids = [...fontcut.glyphs(bytes, 'Hello')], set = new Set(gids), kind = 'lean';
+        const wanted = fontcut.subset(bytes, { gids, text: '', kind });
+        for (const given of [{ gids }, { gids: set }, { gids: Uint16Array.from(gids) }, { gids, unicodes: [] }]) {
+            assert.deepEqual(fontcut.subset(bytes, { ...given, kind }), wanted);
+        }
+        assert.deepEqual([...fontcut.keptGlyphs(wanted, { kind })], [0, ...set].sort((one, other) => one - other));
+        for (const kind of ['lean', 'layout', 'variable']) {
+            const text = 'fi', cut = fontcut.subset(bytes, { text, kind }), gids = fontcut.closure(bytes, { text, kind });
+            assert.deepEqual(fontcut.subset(bytes, { text, gids, kind, layoutClosure: false }), cut);
+            const all = fontcut.subset(bytes, { unicodes: 'all', gids: 'all', kind });
+            assert.deepEqual(fontcut.subset(all, { unicodes: 'all', gids: 'all', kind }), all);
+            assert.deepEqual(fontcut.cuts(bytes, [{ unicodes: 'all', gids: 'all' }], { kind }), [all]);
+        }
+        const closed = fontcut.closure(bytes, { text: 'fi', kind: 'layout' });
+        assert.deepEqual(fontcut.closure(bytes, { text: 'fi' }), closed);
+        for (const wrong of [[0.5], ['1'], 'ALL', [null]]) {
+            assert.throws(() => fontcut.subset(bytes, { gids: wrong, kind: 'lean' }), TypeError);
+        }
+        const refused = { number: 104, text: 'no glyphs by number in full cuts' };
+        for (const given of [[3], 'all']) {
+            assert.throws(() => fontcut.subset(bytes, { text: 'a', gids: given }), refused);
+            assert.throws(() => fontcut.subsetSize(bytes, { text: 'a', gids: given }), refused);
+            assert.throws(() => fontcut.cuts(bytes, [{ text: 'a', gids: given }]), refused);
+        }
+        assert.deepEqual(fontcut.subset(bytes, { text: 'a', gids: [] }), fontcut.subset(bytes, { text: 'a' }));
+        assert.equal(fontcut.memory().inUse, 0);
+    },
+
     'a part of a buffer is taken as a font': () => {
         const room = new Uint8Array(bytes.length + 7);
         room.set(bytes, 5);

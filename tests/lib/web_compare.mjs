@@ -19,6 +19,8 @@ const callsOf = (fontcut) => ({
     subset: ([font], given) => digestOf(fontcut.subset(font, given)),
     subsetSize: ([font], given) => fontcut.subsetSize(font, given),
     cuts: ([font], { sets, ...given }) => Promise.all(fontcut.cuts(font, sets, given).map(digestOf)),
+    closure: ([font], given) => [...fontcut.closure(font, given)],
+    keptGlyphs: ([font], given) => [...fontcut.keptGlyphs(font, given)],
     join: (files, given) => digestOf(fontcut.join(files, given)),
 });
 
