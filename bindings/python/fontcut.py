@@ -44,9 +44,9 @@ shaper returns, or `"all"`. They are for lean, layout and variable cuts. `fontcu
 for what the word `everything` of the program does.
 
 With `layout_closure=False` a layout or variable cut is exact, and smaller: it does not keep what GSUB may substitute
-for what is wanted. With the glyph numbers of a shaped text it shapes the text that it was made for. Other text may
-vanish in it, without a fallback font: a glyph that GSUB substitutes and the cut lacks is blank. `closure` returns the
-glyphs that other cuts keep.
+for what is wanted. With the glyph numbers of a shaped text, and the characters that `needed` returns for it, it shapes
+the text that it was made for. Other text may vanish in it, without a fallback font: a glyph that GSUB substitutes and
+the cut lacks is blank. `closure` returns the glyphs that other cuts keep.
 
 The library is the file that the variable FONTCUT_LIBRARY names. If that is not set, it is `libfontcut.so.0` beside
 this file, as in a wheel, two folders above, as after `./install`, or where the system looks for libraries. All calls
@@ -518,8 +518,9 @@ def cut(font: Union[Bytes, Font], wanted: Codes, *, lean: bool = False, kind: Op
     that the font does not map are ignored. A full cut is for characters alone.
 
     A layout or variable cut also keeps each glyph that GSUB may substitute for what is wanted. With
-    `layout_closure=False` it does not, and is exact: with the glyph numbers of a shaped text it shapes the text that it
-    was made for; other text may vanish in it, without a fallback font.
+    `layout_closure=False` it does not, and is exact: with the glyph numbers of a shaped text, and the characters that
+    `needed` returns for it, it shapes the text that it was made for; other text may vanish in it, without a fallback
+    font.
 
     Raises `Refused` if the font is refused or the cut would be too large; `NoGlyph` if the font has no glyph of one of
     the numbers; `ValueError` for what is not a range, and for a full cut with `gids`."""

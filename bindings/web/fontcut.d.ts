@@ -29,8 +29,8 @@ export interface Glyphs {
 
 /**
  * Whether layout and variable cuts have each glyph that GSUB may substitute for what is wanted: so if nothing is said.
- * With `false` a cut is exact: with the glyph numbers of a shaped text it shapes the text that it was made for, and is
- * smaller. Other text may vanish in it, without a fallback font.
+ * With `false` a cut is exact, and smaller: with the glyph numbers of a shaped text, and the characters that `needed`
+ * returns for it, it shapes the text that it was made for. Other text may vanish in it, without a fallback font.
  */
 export interface Closing {
     layoutClosure?: boolean;

@@ -35,8 +35,8 @@ pub struct Error {
 }
 
 impl Error {
-    /// The number of the refusal, as `fontcut` prints it and docs/FORMAT.md lists it; or 102 or 104, where glyphs are wanted
-    /// that the font or the kind of cuts does not have.
+    /// The number of the refusal, as `fontcut` prints it and docs/FORMAT.md lists it; or 102 or 104, where glyphs are
+    /// wanted that the font or the kind of cuts does not have.
     #[must_use]
     pub fn number(&self) -> u32 {
         self.number

@@ -33,15 +33,16 @@ impl Font<'_> {
     /// The cut of a kind for just what is wanted, and the components of that. Characters that the font does not map are
     /// passed over.
     ///
-    /// Whoever has shaped a text has its glyphs: with these the cut shapes the text that it was made for, and is smaller
-    /// than that of [`Font::cut`], which has each glyph that `GSUB` may put. **Other text may vanish in it**, without a
-    /// fallback font: a glyph that `GSUB` puts and the cut lacks is blank. [`Font::closure`] gives the glyphs that serve
-    /// other text. Such cuts join with all others of their kind.
+    /// Whoever has shaped a text has its glyphs: with these, and with the characters that docs/FORMAT.md says a text
+    /// needs, the cut shapes the text that it was made for, and is smaller than that of [`Font::cut`], which has each
+    /// glyph that `GSUB` may put. **Other text may vanish in it**, without a fallback font: a glyph that `GSUB` puts
+    /// and the cut lacks is blank. [`Font::closure`] gives the glyphs that serve other text. Such cuts join with all
+    /// others of their kind.
     ///
     /// # Errors
     ///
-    /// 104 where glyphs are wanted of [`Kind::Full`], whose cuts are for characters alone, and 102 where the font has no
-    /// glyph of a number. 16 where memory is refused, and 18 where the cut would be too large for a file. Of
+    /// 104 where glyphs are wanted of [`Kind::Full`], whose cuts are for characters alone, and 102 where the font has
+    /// no glyph of a number. 16 where memory is refused, and 18 where the cut would be too large for a file. Of
     /// [`Kind::Layout`] also 5 and 6, and of [`Kind::Variable`] 5, 6 and 28.
     ///
     /// ```
@@ -154,13 +155,14 @@ impl Font<'_> {
             .map_err(|answer| Error::of_glyphs(answer, &glyphs))
     }
 
-    /// The glyphs that a shaper may put for text of the wanted characters and glyphs, ascending: `.notdef`, the glyphs of
-    /// the characters, the given ones, and what `GSUB` leads to from these. Full and lean cuts have no `GSUB` to follow.
+    /// The glyphs that a shaper may put for text of the wanted characters and glyphs, ascending: `.notdef`, the glyphs
+    /// of the characters, the given ones, and what `GSUB` leads to from these. Full and lean cuts have no `GSUB` to
+    /// follow.
     ///
     /// # Errors
     ///
-    /// 102 where the font has no glyph of a number, and 16 where memory is refused. Of [`Kind::Layout`] also 5, 6 and 27,
-    /// and of [`Kind::Variable`] 5, 6, 27 and 28.
+    /// 102 where the font has no glyph of a number, and 16 where memory is refused. Of [`Kind::Layout`] also 5, 6 and
+    /// 27, and of [`Kind::Variable`] 5, 6, 27 and 28.
     ///
     /// ```
     /// # fn main() -> Result<(), Box<dyn std::error::Error>> {
@@ -178,8 +180,8 @@ impl Font<'_> {
     /// ```
     pub fn closure(&self, kind: Kind, wanted: &Wanted) -> Result<Vec<u16>, Error> {
         let (font, ranges, glyphs) = (self.bytes, wanted.codes.as_slice(), &wanted.glyphs);
-        // SAFETY: the places and lengths are those of slices; the call writes to its room alone, which is a vector's own,
-        // and to the front of it as many glyphs as it says.
+        // SAFETY: the places and lengths are those of slices; the call writes to its room alone, which is a vector's
+        // own, and to the front of it as many glyphs as it says.
         let closed = unsafe {
             filled(MOST_GLYPHS, |out, room| {
                 calls::fontcut_closure(
@@ -198,9 +200,9 @@ impl Font<'_> {
         closed.map_err(|answer| Error::of_glyphs(answer, glyphs))
     }
 
-    /// The glyphs that the font keeps as a cut of a kind, ascending: `.notdef`, the glyphs of its characters, in all but
-    /// full cuts those that have an outline, metrics or variation data, and the components of all these. A lean, layout or
-    /// variable cut is the exact cut of its font for these and for its [`Font::codes`].
+    /// The glyphs that the font keeps as a cut of a kind, ascending: `.notdef`, the glyphs of its characters, in all
+    /// but full cuts those that have an outline, metrics or variation data, and the components of all these. A lean,
+    /// layout or variable cut is the exact cut of its font for these and for its [`Font::codes`].
     ///
     /// # Errors
     ///

@@ -92,9 +92,9 @@ impl<'a> Font<'a> {
         self.bytes
     }
 
-    /// The cut of a kind for the wanted characters. Those that the font does not map are passed over. Layout and variable
-    /// cuts have each glyph that `GSUB` may put for them, for text of these characters in any order; [`Font::exact_cut`]
-    /// has just what is asked for.
+    /// The cut of a kind for the wanted characters. Those that the font does not map are passed over. Layout and
+    /// variable cuts have each glyph that `GSUB` may put for them, for text of these characters in any order;
+    /// [`Font::exact_cut`] has just what is asked for.
     ///
     /// # Errors
     ///
@@ -238,8 +238,8 @@ impl<'a> Font<'a> {
     ///
     /// # Errors
     ///
-    /// 16 where memory is refused. Of [`Kind::Layout`] also 5 and 6, and of [`Kind::Variable`] 5, 6 and 28, with 0 as the
-    /// file for this font, and 1 for the other one.
+    /// 16 where memory is refused. Of [`Kind::Layout`] also 5 and 6, and of [`Kind::Variable`] 5, 6 and 28, with 0 as
+    /// the file for this font, and 1 for the other one.
     pub fn is_cut_of(&self, kind: Kind, font: &Font<'_>) -> Result<bool, Error> {
         // SAFETY: the places and lengths are those of slices, which the call reads.
         let answer = unsafe {
@@ -381,15 +381,15 @@ pub fn version() -> (u8, u8, u8) {
     (first, second, third)
 }
 
-/// The join of cuts of one font, of a kind: that font's cut for the characters and the glyphs of all of them, in whatever
-/// order they come.
+/// The join of cuts of one font, of a kind: that font's cut for the characters and the glyphs of all of them, in
+/// whatever order they come.
 ///
 /// # Errors
 ///
-/// The first refusal that applies, with the index of the file: 1 to 14 and 17 where it is no font that is accepted, 5 and
-/// 6 for its tables of layout, of [`Kind::Layout`] and [`Kind::Variable`] alone, 28 for its `gvar`, of the latter alone,
-/// 20 where it is no cut of the kind, 21 to 23 where it is no cut of the font of those before it, 18 where the join would
-/// be too large for a file, 24 where there is no file, 16 where memory is refused.
+/// The first refusal that applies, with the index of the file: 1 to 14 and 17 where it is no font that is accepted, 5
+/// and 6 for its tables of layout, of [`Kind::Layout`] and [`Kind::Variable`] alone, 28 for its `gvar`, of the latter
+/// alone, 20 where it is no cut of the kind, 21 to 23 where it is no cut of the font of those before it, 18 where the
+/// join would be too large for a file, 24 where there is no file, 16 where memory is refused.
 pub fn join<I>(kind: Kind, cuts: I) -> Result<Cut, Error>
 where
     I: IntoIterator,
