@@ -5,6 +5,9 @@
 _fontcut_web_options() {
     case $1 in
     '') echo '--version --help' ;;
+    prepare)
+        echo '--languages --scripts --unicodes --pages --features --no-hinting --instance --names --kern --json --help'
+        ;;
     slice) echo '--out --slices --lean --layout --variable --full --woff2 --css --display --json --help' ;;
     text) echo '--lean --layout --variable --full --text --strict --json --help' ;;
     *) echo '--lean --layout --variable --full --help' ;;
@@ -21,6 +24,11 @@ _fontcut_web_files() {
     done
 }
 
+# Whether a word is an option that has a value.
+_fontcut_web_has_value() {
+    [[ $1 == --@(out|slices|display|text|languages|scripts|unicodes|pages|features|instance|names|kern) ]]
+}
+
 # Proposes what may follow an option.
 _fontcut_web_value() {
     case $1 in
@@ -30,6 +38,13 @@ _fontcut_web_value() {
             compgen -W 'latin latin-ext vietnamese greek greek-ext cyrillic cyrillic-ext web equal:' -- "$2"
             compgen -f -- "$2"
         )
+        ;;
+    --names) mapfile -t COMPREPLY < <(compgen -W 'keep least' -- "$2") ;;
+    --kern) mapfile -t COMPREPLY < <(compgen -W 'auto keep drop' -- "$2") ;;
+    --features) mapfile -t COMPREPLY < <(compgen -W 'default all' -- "$2") ;;
+    --pages)
+        mapfile -t COMPREPLY < <(_fontcut_web_files "$2" '[hH][tT][mM]' '[hH][tT][mM][lL]')
+        compopt -o filenames 2>/dev/null
         ;;
     --out) mapfile -t COMPREPLY < <(compgen -d -- "$2") ;;
     esac
@@ -46,7 +61,7 @@ _fontcut_web() {
             :
         elif [ -n "$option" ]; then
             option=''
-        elif [[ $word == --@(out|slices|display|text) ]]; then
+        elif _fontcut_web_has_value "$word"; then
             option=$word
         elif [[ $word != -?* ]] && [ -z "$command" ]; then
             command=$word
@@ -59,10 +74,12 @@ _fontcut_web() {
     elif [[ $word == -* ]]; then
         mapfile -t COMPREPLY < <(compgen -W "$(_fontcut_web_options "$command")" -- "$word")
     elif [ -z "$command" ]; then
-        mapfile -t COMPREPLY < <(compgen -W 'slice text decode' -- "$word")
+        mapfile -t COMPREPLY < <(compgen -W 'prepare slice text decode' -- "$word")
     else
         case $command in
-        text) mapfile -t COMPREPLY < <(_fontcut_web_files "$word" '[tT][tT][fF]' '[hH][tT][mM]' '[hH][tT][mM][lL]') ;;
+        prepare | text)
+            mapfile -t COMPREPLY < <(_fontcut_web_files "$word" '[tT][tT][fF]' '[hH][tT][mM]' '[hH][tT][mM][lL]')
+            ;;
         decode) mapfile -t COMPREPLY < <(_fontcut_web_files "$word" '[tT][tT][fF]' '[wW][oO][fF][fF]*') ;;
         *) mapfile -t COMPREPLY < <(_fontcut_web_files "$word" '[tT][tT][fF]') ;;
         esac

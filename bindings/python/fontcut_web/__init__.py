@@ -1,11 +1,12 @@
-"""Fonts for the web: slices with a style sheet, cuts for the text of pages, and unpacked WOFF files.
+"""Fonts for the web: prepared fonts, slices with a style sheet, cuts for the text of pages, and unpacked WOFF files.
 
+    fontcut-web prepare FONT OUT --languages LIST              a font for the languages of a site, which is cut then
     fontcut-web slice FONT.. --out DIR --slices FILE|PRESET    a cut for each slice; --woff2 and --css for a site
     fontcut-web text PAGE.html.. FONT OUT                      a cut for the characters that pages show
     fontcut-web decode FILE OUT                                the font of a WOFF or WOFF2 file
 
-`python3 -m fontcut_web` runs the same command. `fontcut` makes the cuts; fontTools reads the names of fonts, and
-writes and reads WOFF2.
+`python3 -m fontcut_web` runs the same command. `fontcut` makes the cuts; fontTools prepares fonts, reads their
+names, and writes and reads WOFF2.
 
 Exit status: 0 done; 1 a file is refused, or out of memory; 2 usage error; 3 a file cannot be read or written, or a
 package that is needed is not installed."""

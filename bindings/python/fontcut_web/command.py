@@ -3,23 +3,20 @@ from __future__ import annotations
 
 import argparse
 import contextlib
-import importlib
 import json
 import os
 import sys
-from types import ModuleType
-from typing import List, Optional, Sequence, Set
+from typing import Optional, Sequence
 
 import fontcut
 from fontcut_output import CommandParser, Progress, print_line, read, reason, write
 
-from . import pages
-from .common import Missing, Refused, UsageError, need
-from .sets import MOST_EQUAL, PRESETS, WEB, asked, range_words
+from . import texts
+from .common import SHAPED, Missing, Refused, UsageError, need, part
+from .sets import MOST_EQUAL, PRESETS, WEB, asked
 
 INSTALL = "pip install 'fontcut[web]'"
 _RAW = argparse.RawDescriptionHelpFormatter
-_SHAPED = "layout", "variable"
 _DISPLAYS = "auto", "block", "swap", "fallback", "optional"
 _CUT_KINDS = """\
 Cuts are lean, for text that is drawn glyph by glyph. With --layout they also have the layout tables, for kerning,
@@ -27,8 +24,10 @@ ligatures and scripts that are shaped. With --variable they are layout cuts that
 cuts have its default instance. With --full they have the metrics and names of all glyphs."""
 
 _WHAT = """\
-Fonts for the web, cut by fontcut: slices with a style sheet, cuts for the text of pages, and unpacked WOFF files.
+Fonts for the web, cut by fontcut: prepared fonts, slices with a style sheet, cuts for the text of pages, and unpacked
+WOFF files.
 
+  fontcut-web prepare Sans.ttf small.ttf --languages de,fr
   fontcut-web slice Sans.ttf Sans-Bold.ttf --out site --slices web --woff2 --css
   fontcut-web text index.html about.html Sans.ttf sans.woff2
   fontcut-web decode sans.woff2 sans.ttf --lean
@@ -62,6 +61,23 @@ adds is not known (content, list numbers, text-transform): add it with --text. W
 also has the characters that a shaper takes for these, as with fontcut subset --layout.
 """
 
+_PREPARE = """\
+Writes a font to OUT that has only what a site needs of FONT, and OUT.json, which says how it was made. Cuts of OUT are
+much smaller than cuts of FONT, and they join with each other. They do not join with cuts of FONT, or of a font that
+was prepared otherwise. Glyphs keep their numbers. The same options make the same file.
+
+What it is prepared for adds up:
+  --languages LIST     the characters of languages by Unicode's CLDR, as de,fr,sr-Latn, with punctuation, currencies
+                       and what a shaper takes for them
+  --scripts LIST       the characters of FONT that are of scripts, as Latn,Deva, with the same
+  --unicodes LIST      ranges of characters, and nothing else
+  --pages PAGE..       the characters that HTML pages show, with what a shaper takes for them: the smallest font, which
+                       has no room for other text. These words come last, or before another option.
+
+If hb-shape is installed, texts of these characters, and the lines of the pages, have to be shaped as FONT shapes them;
+otherwise nothing is written.
+"""
+
 _DECODE = """\
 Writes the font in a WOFF or WOFF2 file to OUT. fontcut itself does not read such files.
 
@@ -71,15 +87,9 @@ kind join with each other, and not with cuts that were never packed.
 """
 
 
-def _part(name: str) -> ModuleType:
-    """A module of the package that stands over fontTools."""
-    need("fontTools")
-    return importlib.import_module(f".{name}", __package__)
-
-
 def _run_slice(given: argparse.Namespace) -> None:
     need("fontTools", *["brotli"] if given.woff2 else [])
-    slicing = _part("slicing")
+    slicing = part("slicing")
     how = slicing.How(given.kind, given.woff2, given.css, given.display)
     wanted = asked(given.slices)
     if not wanted:
@@ -91,76 +101,10 @@ def _run_slice(given: argparse.Namespace) -> None:
         print_line(json.dumps(told, indent=2))
 
 
-def _page_texts(paths: Sequence[str]) -> List[str]:
-    """The texts that the pages show."""
-    texts: List[str] = []
-    for path in paths:
-        data = read(path)
-        try:
-            texts.append(pages.text_of(data))
-        except Refused as refusal:
-            raise Refused(f"{path}: {refusal}") from refusal
-    return texts
-
-
-def _accepted(path: str) -> fontcut.Font:
-    """The font in a file."""
-    try:
-        return fontcut.Font(read(path))
-    except fontcut.Refused as refusal:
-        hint = ": fontcut-web decode unpacks WOFF files" if refusal.number == 2 else ""
-        raise Refused(f"{path}: {refusal}{hint}") from refusal
-
-
-def _mapped(font: fontcut.Font, letters: Set[str]) -> List[int]:
-    """The code points of the characters that a font maps, in ascending order."""
-    codes = sorted(map(ord, letters))
-    absent = set(fontcut.missing(font, codes))
-    return [code for code in codes if code not in absent]
-
-
-def _cut(path: str, font: fontcut.Font, codes: Sequence[int], kind: str) -> bytes:
-    """The cut of a font, which a file holds, for code points."""
-    try:
-        return fontcut.cut(font, codes, kind=kind)
-    except fontcut.Refused as refusal:
-        raise Refused(f"{path}: {refusal}") from refusal
-
-
-def _run_text(given: argparse.Namespace) -> None:
-    if len(given.files) < 3:
-        raise UsageError("text needs one page at least, and then FONT and OUT")
-    *paths, source, out = given.files
-    if out.lower().endswith((".html", ".htm", ".xhtml")):
-        raise UsageError(f"{out} would be replaced by a font: FONT and OUT come last")
-    is_packed = out.lower().endswith(".woff2")
-    need(*["fontTools", "brotli"] if is_packed else [])
-    texts = _page_texts(paths)
-    letters = pages.shown("".join(texts)) | set(given.text)
-    codes = sorted(map(ord, letters))
-    font = _accepted(source)
-    lacking = fontcut.missing(font, codes)
-    if lacking:
-        said = f"{source} lacks {len(lacking)} of {len(codes)} characters: {range_words(lacking)}"
-        if given.strict:
-            raise Refused(said)
-        if not given.json:
-            print(f"fontcut-web: {said}", file=sys.stderr)
-    if given.kind in _SHAPED:
-        letters |= pages.shown("".join(map(fontcut.needed, [*texts, given.text])))
-    kept = _mapped(font, letters)
-    data = _cut(source, font, kept, given.kind)
-    data = _part("woff").packed(data) if is_packed else data
-    write(out, data)
-    if given.json:
-        print_line(json.dumps({"file": out, "bytes": len(data), "characters": len(kept),
-                               "unicode_range": range_words(kept), "lacking": range_words(lacking)}, indent=2))
-
-
 def _run_decode(given: argparse.Namespace) -> None:
     data = read(given.file)
     try:
-        font = _part("woff").unpacked(data)
+        font = part("woff").unpacked(data)
         if given.kind:
             font = fontcut.cut(font, fontcut.codes(font), kind=given.kind)
         name = _name_of(font)
@@ -175,7 +119,7 @@ def _name_of(font: bytes) -> Optional[str]:
     form = fontcut.form(font)
     names = {fontcut.Form.LEAN: "a lean cut", fontcut.Form.CURRENT: "a cut", fontcut.Form.OLD: "an old cut"}
     if form is fontcut.Form.NO_CUT:
-        return next((f"a {kind} cut" for kind in _SHAPED if _is_cut(font, kind)), None)
+        return next((f"a {kind} cut" for kind in SHAPED if _is_cut(font, kind)), None)
     return names.get(form)
 
 
@@ -234,7 +178,36 @@ def _add_text(commands: argparse._SubParsersAction[CommandParser]) -> None:
     command.add_argument("--text", metavar="TEXT", default="", help="more characters to keep")
     command.add_argument("--strict", action="store_true", help="write nothing if the font lacks a character")
     command.add_argument("--json", action="store_true", help="print what was written")
-    command.set_defaults(run=_run_text)
+    command.set_defaults(run=texts.run)
+
+
+def _run_prepare(given: argparse.Namespace) -> None:
+    part("prepare").run(given)
+
+
+def _add_prepare(commands: argparse._SubParsersAction[CommandParser]) -> None:
+    command = commands.add_parser(
+        "prepare", help="make a font smaller for a site, before it is cut", description=_PREPARE, formatter_class=_RAW,
+        epilog=_STATUS,
+        usage="fontcut-web prepare FONT OUT [--languages LIST] [--scripts LIST] [--unicodes LIST] [--features LIST]\n"
+              "                           [--no-hinting] [--instance LIST] [--names WHICH] [--kern WHEN] [--json]\n"
+              "                           [--pages PAGE..]")
+    command.add_argument("font", metavar="FONT")
+    command.add_argument("out", metavar="OUT")
+    for name in "languages", "scripts", "unicodes":
+        command.add_argument(f"--{name}", metavar="LIST", help=argparse.SUPPRESS)
+    command.add_argument("--pages", metavar="PAGE", nargs="+", action="extend", help=argparse.SUPPRESS)
+    command.add_argument("--features", metavar="LIST", default="default",
+                         help="the features of OpenType that stay: default, all, or tags as in default,smcp (default)")
+    command.add_argument("--no-hinting", action="store_true", help="drop the instructions of glyphs")
+    command.add_argument("--instance", metavar="LIST", help="limit axes of a variable font, as in wght=400:700,"
+                                                            "wdth=100,opsz=drop, where drop is the default value")
+    command.add_argument("--names", choices=("keep", "least"), default="keep",
+                         help="keep all names of the font, or in English alone those that systems need (keep)")
+    command.add_argument("--kern", choices=("auto", "keep", "drop"), default="auto",
+                         help="keep the table kern: auto keeps it where GPOS has no kerning for a script (auto)")
+    command.add_argument("--json", action="store_true", help="print OUT.json, and not what was dropped")
+    command.set_defaults(run=_run_prepare)
 
 
 def _add_decode(commands: argparse._SubParsersAction[CommandParser]) -> None:
@@ -253,7 +226,7 @@ def _parser() -> argparse.ArgumentParser:
     parser = argparse.ArgumentParser(prog="fontcut-web", description=_WHAT, formatter_class=_RAW, epilog=_STATUS)
     parser.add_argument("--version", action="version", version=f"fontcut-web {fontcut.__version__}")
     commands = parser.add_subparsers(dest="command", required=True, metavar="COMMAND", parser_class=CommandParser)
-    for add in _add_slice, _add_text, _add_decode:
+    for add in _add_prepare, _add_slice, _add_text, _add_decode:
         add(commands)
     return parser
 

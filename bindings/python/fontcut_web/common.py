@@ -1,11 +1,17 @@
 """What the modules of the package share: errors, and the packages that a command needs."""
 from __future__ import annotations
 
+import importlib
 from importlib.util import find_spec
+from types import ModuleType
 from typing import Dict, List, Sequence, Tuple
 
 # The modules that a package may be imported as. fontTools takes either of those for Brotli.
 _MODULES: Dict[str, Tuple[str, ...]] = {"fontTools": ("fontTools",), "brotli": ("brotli", "brotlicffi")}
+
+
+# Kinds of cuts that have the layout tables.
+SHAPED = "layout", "variable"
 
 
 class Refused(Exception):
@@ -28,3 +34,9 @@ def need(*packages: str) -> None:
     lacking: List[str] = [package for package in packages if not any(map(find_spec, _MODULES[package]))]
     if lacking:
         raise Missing(lacking)
+
+
+def part(name: str) -> ModuleType:
+    """A module of the package that stands over fontTools."""
+    need("fontTools")
+    return importlib.import_module(f".{name}", __package__)

@@ -1,17 +1,27 @@
-"""The characters that pages of HTML show."""
+"""What pages of HTML show, and what they say of how it is shaped."""
 from __future__ import annotations
 
 import codecs
 import re
 import unicodedata
 from html.parser import HTMLParser
-from typing import List, Optional, Set, Tuple
+from typing import Dict, List, Mapping, NamedTuple, Optional, Set, Tuple
 
 from .common import Refused
 
 # Elements whose text is not shown, and attributes whose values are.
 _SILENT = "script", "style"
 _SHOWN = "alt", "placeholder", "title", "value"
+# Elements that are parts of a line, so that a word may go on across their ends.
+_INLINE = frozenset("""a abbr acronym b bdi bdo big cite code data del dfn em font i ins kbd label mark q rp rt ruby s
+    samp small span strike strong sub sup time tt u var wbr""".split())
+# Types of scripts that run, and of fields that readers write to.
+_RUNNING = "", "module", "text/javascript", "application/javascript"
+_WRITTEN = "", "text", "search", "email", "url", "tel", "password", "number", "date"
+# What stands between words, beside the ends of lines.
+_CONTROLS = re.compile("[\0-\x09\x0b-\x20\x7f-\x9f]+")
+# What browsers add to elements: numbers of lists, and quotation marks.
+_MADE = {"ol": "\n0123456789.\n", "q": "\n\u201c\u201d\u2018\u2019\u201e\u201a\xab\xbb\u2039\u203a\n"}
 _CHARSET = re.compile(rb"<meta[^>]+charset\s*=\s*[\"']?\s*([\w.:-]+)", re.I)
 _MARKS = {codecs.BOM_UTF8: "utf-8-sig", codecs.BOM_UTF16_LE: "utf-16", codecs.BOM_UTF16_BE: "utf-16"}
 # What browsers take these names for (Encoding Standard, 4.2).
@@ -20,30 +30,84 @@ _BROWSERS = {"iso8859-1": "windows-1252", "ascii": "windows-1252", "utf-16": "ut
 _SOFT_HYPHEN, _HYPHENS, _BLANKS = "\u00ad", "-\u2010", set("\t\n\f\r")
 
 
+def lines_of(text: str) -> List[str]:
+    """The lines of a text that show something, each once, with blanks as they are shown and no control characters."""
+    lines = (" ".join(filter(None, _CONTROLS.split(line))) for line in text.split("\n"))
+    return list(dict.fromkeys(filter(None, lines)))
+
+
+class Page(NamedTuple):
+    """What is read of a page: the text that it shows; the same by its blocks, each with blanks as they are shown; the
+    languages that it names; its style sheets, and the addresses of others; whether it has a part from right to left;
+    which scripts and fields it has that write other text."""
+
+    text: str
+    blocks: List[str]
+    languages: List[str]
+    styles: List[str]
+    links: List[str]
+    is_turned: bool
+    writers: List[str]
+
+
 class _Reader(HTMLParser):
-    """Collects the text of a page, in which entities are resolved."""
+    """Collects the text of a page, in which entities are resolved, and what shapes it."""
 
     def __init__(self) -> None:
         super().__init__(convert_charrefs=True)
         self.texts: List[str] = []
         self.silent: Optional[str] = None
+        self.running: List[str] = []
+        self.found: Dict[str, List[str]] = {"languages": [], "styles": [], "links": [], "writers": []}
+        self.is_turned = False
 
     def handle_starttag(self, tag: str, attrs: List[Tuple[str, Optional[str]]]) -> None:
-        is_hidden = tag == "input" and ("hidden" in [(value or "").lower() for name, value in attrs if name == "type"])
-        self.texts += [value for name, value in attrs if name in _SHOWN and value and not is_hidden]
+        given = {name: value or "" for name, value in attrs}
+        is_hidden = tag == "input" and given.get("type", "").lower() == "hidden"
+        shown = [value for name, value in attrs if name in _SHOWN and value and not is_hidden]
+        self.texts += shown
+        self.running += [*(f"\n{text}\n" for text in shown), *([] if tag in _INLINE else ["\n"])]
         if tag in _SILENT:
             self.silent = tag
+        self._find(tag, given)
+
+    def _find(self, tag: str, given: Mapping[str, str]) -> None:
+        """Collects what a tag says of how text is shaped."""
+        found = self.found
+        found["languages"] += [given[name].strip() for name in ("lang", "xml:lang") if given.get(name, "").strip()]
+        found["styles"] += [f"a {{ {given['style']} }}"] if "style" in given else []
+        if tag == "link" and "stylesheet" in given.get("rel", "").lower().split() and "href" in given:
+            found["links"].append(given["href"])
+        if tag == "meta" and given.get("http-equiv", "").lower() == "content-language":
+            found["languages"] += filter(None, map(str.strip, given.get("content", "").split(",")))
+        self.is_turned |= tag == "bdo" or given.get("dir", "").lower() == "rtl"
+        if tag == "script" and given.get("type", "").lower() in _RUNNING or any(name[:2] == "on" for name in given):
+            found["writers"].append("scripts")
+        if tag in ("textarea", "select") or tag == "input" and given.get("type", "").lower() in _WRITTEN:
+            found["writers"].append("fields")
+        self.running.append(_MADE.get(tag, ""))
 
     def handle_endtag(self, tag: str) -> None:
+        if tag not in _INLINE:
+            self.running.append("\n")
         if tag == self.silent:
             self.silent = None
 
     def handle_data(self, data: str) -> None:
         if self.silent is None:
             self.texts.append(data)
+            self.running.append(re.sub("[ \t\n\f\r]+", " ", data))
+        elif self.silent == "style":
+            self.found["styles"].append(data)
+
+    def page(self) -> Page:
+        """What was read."""
+        found = {name: list(dict.fromkeys(values)) for name, values in self.found.items()}
+        return Page("".join(self.texts), lines_of("".join(self.running)), found["languages"], found["styles"],
+                    found["links"], self.is_turned, found["writers"])
 
 
-def _decoded(data: bytes) -> str:
+def decoded(data: bytes) -> str:
     """The text of a page, in the encoding that a mark at its front or a meta element names, or in UTF-8."""
     named = _CHARSET.search(data[:1024])
     name = named[1].decode("ascii", "replace") if named else "utf-8"
@@ -57,17 +121,16 @@ def _decoded(data: bytes) -> str:
         raise Refused(f"it is not in {name}: {error}") from error
 
 
-def text_of(data: bytes) -> str:
-    """The text that a page shows, with titles, alternative texts and the values of fields. What a style sheet or a
-    script adds is not known. Raises `Refused` for a page whose encoding is not known, or is another than it says."""
+def page_of(data: bytes) -> Page:
+    """What is read of a page. Raises `Refused` for a page whose encoding is not known, or is another than it says."""
     reader = _Reader()
     try:
-        reader.feed(_decoded(data))
+        reader.feed(decoded(data))
         reader.close()
     except AssertionError as error:
         # The parser of Python knows no way on from some markup that is malformed.
         raise Refused(f"it is malformed: {error}") from error
-    return "".join(reader.texts)
+    return reader.page()
 
 
 def shown(text: str) -> Set[str]:

@@ -1,0 +1,204 @@
+"""The command `fontcut-web prepare`: a font for the characters of a site, of which all cuts are made."""
+from __future__ import annotations
+
+import argparse
+import contextlib
+import hashlib
+import json
+import os
+import sys
+import tempfile
+from typing import Dict, Iterator, List, Mapping, NamedTuple, Optional, Sequence, Set, Tuple
+
+import fontcut
+from fontcut_output import print_line, write
+
+from . import characters, preparing, shaping
+from .common import Refused, UsageError
+from .inputs import accepted, mapped, read_pages
+from .preparing import How, Limit, Prepared
+from .sets import range_words
+from .shaping import Setting, place_of
+
+_KINDS = "full", "lean", "layout", "variable"
+# By how many units an instance of fontTools may differ from what HarfBuzz makes of the variable font: each rounds other
+# sums.
+_ROUNDED = 2
+# How many lines of pages are tried at most.
+_MOST_LINES = 2000
+
+
+class Wanted(NamedTuple):
+    """What a font is prepared for: the characters of it, those that it lacks, and texts to try it with."""
+
+    codes: List[int]
+    lacking: List[int]
+    texts: List[str]
+
+
+def _listed(words: Optional[str]) -> List[str]:
+    """The words of a list with commas."""
+    return [word for word in (words or "").split(",") if word.strip()]
+
+
+def _unicodes(words: Optional[str], font: fontcut.Font) -> Set[str]:
+    """The characters of a font that ranges name, without any that a shaper takes for them."""
+    try:
+        ranges = fontcut.ranges(words or "")
+    except ValueError as error:
+        raise UsageError(f"--unicodes: {error}") from error
+    known = (code for first, last in fontcut.codes(font) for code in range(first, last + 1))
+    if ranges == fontcut.ranges("all"):
+        return set(map(chr, known))
+    return {chr(code) for first, last in ranges for code in range(first, last + 1) if not 0xD800 <= code <= 0xDFFF}
+
+
+def _wanted(given: argparse.Namespace, font: fontcut.Font) -> Wanted:
+    """What a command line asks a font to be prepared for."""
+    if not any((given.languages, given.scripts, given.unicodes, given.pages)):
+        raise UsageError("name what the font is prepared for: --languages, --scripts, --unicodes or --pages")
+    pages = read_pages(given.pages or [])
+    letters = characters.of_texts([page.text for page in pages]) | _unicodes(given.unicodes, font)
+    letters |= characters.of_languages(_listed(given.languages)) if given.languages else set()
+    letters |= characters.of_scripts(_listed(given.scripts), font) if given.scripts else set()
+    codes = mapped(font, letters)
+    if not codes:
+        raise Refused(f"{given.font}: it maps no character that is wanted")
+    kept = set(map(chr, codes))
+    lines = list(dict.fromkeys(block for page in pages for block in page.blocks))[:_MOST_LINES]
+    return Wanted(codes, sorted(set(map(ord, letters)) - set(codes)), [*lines, *_samples(font, kept)])
+
+
+def _samples(font: fontcut.Font, kept: Set[str]) -> List[str]:
+    """Texts of kept characters that take no character of the font that is not kept."""
+    texts = characters.samples(kept)
+    taken = [set(fontcut.needed(text)) - kept for text in texts]
+    others = set(map(chr, mapped(font, set().union(*taken))))
+    return [text for text, some in zip(texts, taken) if not some & others and text.strip()]
+
+
+def _refusals(data: bytes) -> Dict[str, str]:
+    """Of which kinds no cut can be made of a font, and why."""
+    found: Dict[str, str] = {}
+    for kind in _KINDS:
+        try:
+            fontcut.cut_size(data, [], kind=kind)
+        except fontcut.Refused as refusal:
+            found[kind] = str(refusal)
+    return found
+
+
+def _check_kinds(path: str, font: fontcut.Font, made: bytes) -> None:
+    """Raises `Refused` where a kind of cuts can be made of a font and not of the prepared one."""
+    before = _refusals(font.data)
+    for kind, refusal in _refusals(made).items():
+        if kind not in before:
+            raise Refused(f"{path}: prepared, it is refused for {kind} cuts: {refusal}")
+        print(f"fontcut-web: {path}: no {kind} cuts can be made of it: {refusal}", file=sys.stderr)
+
+
+def _places(one: Prepared, limits: Mapping[str, Limit]) -> Iterator[Tuple[Dict[str, float], Dict[str, float]]]:
+    """Places of the axes that a font had, and the same places of those that it has now: the default one, and the ends
+    of all axes."""
+    pinned = {tag: one.before.axes[tag][1] if limit is None else limit for tag, limit in limits.items()
+              if not isinstance(limit, tuple)}
+    for end in (1, 0, 2) if one.after.axes else (1,):
+        now = {tag: values[end] for tag, values in one.after.axes.items()}
+        yield {**pinned, **now}, now
+
+
+def _off(one: Prepared, how: How) -> Tuple[str, ...]:
+    """The features that shapers use without being asked and a prepared font no longer has, as they are turned off."""
+    gone = set() if how.features is None else set(preparing.default_features()) - set(how.features)
+    gone |= {"kern"} if how.kern == "drop" else set()
+    had = {*one.before.features, *(["kern"] if "kern" in one.before.tables else [])}
+    return tuple(f"-{tag}" for tag in sorted(gone & had))
+
+
+def _check_shapes(path: str, one: Prepared, how: How, texts: Sequence[str]) -> None:
+    """Raises `Refused` where texts are shaped otherwise by the prepared font, but for features that were dropped."""
+    off, most = _off(one, how), _ROUNDED if how.limits else 0
+    with tempfile.TemporaryDirectory() as folder:
+        made = shaping.held_as_file(folder, "prepared.ttf", one.data)
+        for before, now in _places(one, how.limits):
+            settings = Setting(features=off, place=place_of(before)), Setting(features=off, place=place_of(now))
+            text = shaping.difference((path, made), texts, settings, most)
+            if text is not None:
+                raise Refused(f"{path}: prepared, it would shape {text!r} otherwise")
+
+
+def _check_out(given: argparse.Namespace) -> None:
+    """Raises `UsageError` for an OUT that cannot be meant."""
+    out = given.out
+    if out.lower().endswith((".woff", ".woff2")):
+        raise UsageError(f"{out}: cuts are made of OUT, which is no WOFF file")
+    if out.lower().endswith((".html", ".htm", ".xhtml")):
+        raise UsageError(f"{out} would be replaced by a font: FONT and OUT come before --pages")
+    with contextlib.suppress(OSError):
+        if os.path.samefile(given.font, out):
+            raise UsageError(f"{out} is FONT, which has more than the prepared font: name another file")
+    if os.path.exists(out) and not os.path.isfile(out):
+        raise UsageError(f"{out} is no file: OUT.json is written beside OUT")
+
+
+def _again(given: argparse.Namespace, codes: Sequence[int]) -> List[str]:
+    """The options that make the same font again, whatever becomes of pages and tables of languages."""
+    words = [f"--unicodes={range_words(codes)}", f"--features={given.features}", f"--names={given.names}",
+             f"--kern={given.kern}"]
+    return [*words, *(["--no-hinting"] if given.no_hinting else []),
+            *([f"--instance={given.instance}"] if given.instance else [])]
+
+
+def _record(given: argparse.Namespace, font: fontcut.Font, wanted: Wanted, one: Prepared) -> Dict[str, object]:
+    """What is kept beside OUT."""
+    names = "languages", "scripts", "unicodes", "pages"
+    asked = {name: getattr(given, name) for name in names if getattr(given, name)}
+    return {
+        "font": {"file": os.path.basename(given.font), "bytes": len(font.data), "sha256": _digest(font.data)},
+        "out": {"file": os.path.basename(given.out), "bytes": len(one.data), "sha256": _digest(one.data)},
+        "prepared_for": asked, "lacking": range_words(wanted.lacking), "options": _again(given, wanted.codes),
+        "said": list(preparing.dropped(one)),
+        "versions": {"fontcut-web": fontcut.__version__, "fontTools": preparing.VERSION}}
+
+
+def _digest(data: bytes) -> str:
+    return hashlib.sha256(data).hexdigest()
+
+
+def _say(given: argparse.Namespace, wanted: Wanted, how: How, one: Prepared) -> None:
+    """Says on standard error what was dropped, and what the font lacks."""
+    lines = list(preparing.dropped(one))
+    if wanted.lacking:
+        lines.append(f"{given.font} lacks {len(wanted.lacking)} of "
+                     f"{len(wanted.lacking) + len(wanted.codes)} characters: {range_words(wanted.lacking)}")
+    unknown = sorted(set(how.features or []) - set(one.before.features) - set(preparing.default_features()))
+    if unknown:
+        lines.append(f"{given.font} has no feature {', '.join(unknown)}")
+    if not shaping.is_there():
+        lines.append(f"it was not seen whether it shapes texts as {given.font} does: {shaping.INSTALL}")
+    for line in lines:
+        print(f"fontcut-web: {line}", file=sys.stderr)
+
+
+def run(given: argparse.Namespace) -> None:
+    """Prepares a font."""
+    _check_out(given)
+    limits = preparing.limits_of(given.instance) if given.instance else {}
+    features = preparing.features_of(given.features)
+    font = accepted(given.font)
+    wanted = _wanted(given, font)
+    how = How(wanted.codes, features, not given.no_hinting, limits, given.names, given.kern)
+    try:
+        one = preparing.prepared(font.data, how, sorted(characters.scripts_of(map(chr, wanted.codes))))
+    except Refused as refusal:
+        raise Refused(f"{given.font}: {refusal}") from refusal
+    _check_kinds(given.font, font, one.data)
+    if shaping.is_there():
+        _check_shapes(given.font, one, how, wanted.texts)
+    record = json.dumps(_record(given, font, wanted, one), indent=2, ensure_ascii=True) + "\n"
+    write(given.out, one.data)
+    write(f"{given.out}.json", record.encode())
+    if given.json:
+        print_line(record.rstrip())
+    else:
+        _say(given, wanted, how, one)

@@ -1,0 +1,99 @@
+"""Texts are shaped by HarfBuzz, by its program `hb-shape`."""
+from __future__ import annotations
+
+import os
+import re
+import shutil
+import subprocess
+import tempfile
+from typing import List, Mapping, NamedTuple, Optional, Sequence, Set, Tuple
+
+from .common import Refused
+
+PROGRAM = "hb-shape"
+INSTALL = "apt install libharfbuzz-bin"
+# Texts are not in the language of whoever runs this.
+_NO_LANGUAGE = {**os.environ, "LC_ALL": "C"}
+# A glyph as hb-shape prints it: its number, its cluster, its offsets and its advances, some of which may be left out.
+_GLYPH = re.compile(r"(\d+)=(\d+)(?:@(-?\d+),(-?\d+))?(?:\+(-?\d+)(?:,(-?\d+))?)?")
+
+
+class Setting(NamedTuple):
+    """How texts are shaped: in a language, in a direction (`ltr`, `rtl`, `ttb`), with features that are on or off as
+    hb-shape reads them, at a place of the axes, and in a script. What is empty is as the text has it."""
+
+    language: str = ""
+    direction: str = ""
+    features: Tuple[str, ...] = ()
+    place: Tuple[Tuple[str, float], ...] = ()
+    script: str = ""
+
+    def words(self) -> List[str]:
+        """The setting as the words of a command line."""
+        named = {"language": self.language, "direction": self.direction, "script": self.script,
+                 "features": ",".join(self.features),
+                 "variations": ",".join(f"{tag}={value:g}" for tag, value in self.place)}
+        return [f"--{name}={value}" for name, value in named.items() if value]
+
+
+def is_there() -> bool:
+    """Whether texts can be shaped here."""
+    return shutil.which(PROGRAM) is not None
+
+
+def _run(path: str, texts: Sequence[str], words: Sequence[str]) -> List[str]:
+    """What hb-shape prints of each text. No text is empty, or has an end of a line."""
+    with tempfile.NamedTemporaryFile(suffix=".txt") as lines:
+        lines.write("".join(f"{text}\n" for text in texts).encode("utf-8", "replace"))
+        lines.flush()
+        ran = subprocess.run([PROGRAM, "--shapers=ot", "--no-glyph-names", *words, f"--text-file={lines.name}", path],
+                             stdin=subprocess.DEVNULL, capture_output=True, check=False, env=_NO_LANGUAGE)
+    told = ran.stdout.decode("ascii", "replace").splitlines()
+    if ran.returncode or len(told) != len(texts):
+        said = " ".join(ran.stderr.decode("utf-8", "replace").split()) or f"it printed {len(told)} lines"
+        raise Refused(f"{path}: {PROGRAM} cannot shape {len(texts)} texts: {said}")
+    return told
+
+
+def glyphs(path: str, texts: Sequence[str], setting: Setting) -> Set[int]:
+    """The numbers of the glyphs that texts are shaped into by the font in a file."""
+    told = _run(path, texts, ["--no-clusters", "--no-positions", *setting.words()]) if texts else []
+    return set(map(int, re.findall(r"\d+", " ".join(told))))
+
+
+def _numbers(line: str) -> List[Tuple[int, ...]]:
+    """The numbers of each glyph of a line: the glyph's own, its cluster, then offsets and advances."""
+    return [tuple(int(number or 0) for number in found) for found in _GLYPH.findall(line)]
+
+
+def _is_near(one: str, other: str, most: int) -> bool:
+    """Whether two lines have the same glyphs and clusters, and offsets and advances that are off by so many units at
+    most."""
+    pairs = list(zip(_numbers(one), _numbers(other)))
+    return len(_numbers(one)) == len(_numbers(other)) and all(
+        first[:2] == second[:2] and max(abs(left - right) for left, right in zip(first[2:], second[2:])) <= most
+        for first, second in pairs)
+
+
+def difference(paths: Tuple[str, str], texts: Sequence[str], settings: Tuple[Setting, Setting],
+               most: int = 0) -> Optional[str]:
+    """The first of the texts that the fonts in two files shape otherwise, each by its own setting, or None. Offsets and
+    advances may be off by so many units."""
+    if not texts:
+        return None
+    told = [_run(path, texts, setting.words()) for path, setting in zip(paths, settings)]
+    return next((text for text, one, other in zip(texts, *told) if one != other and not _is_near(one, other, most)),
+                None)
+
+
+def place_of(values: Mapping[str, float]) -> Tuple[Tuple[str, float], ...]:
+    """A place of axes as a setting has it."""
+    return tuple(sorted(values.items()))
+
+
+def held_as_file(folder: str, name: str, data: bytes) -> str:
+    """The path of a file in a folder that has these bytes, which hb-shape reads."""
+    path = os.path.join(folder, name)
+    with open(path, "wb") as out:
+        out.write(data)
+    return path
