@@ -9,7 +9,7 @@ _fontcut_web_options() {
         echo '--languages --scripts --unicodes --pages --features --no-hinting --instance --names --kern --json --help'
         ;;
     slice) echo '--out --slices --lean --layout --variable --full --woff2 --css --display --json --help' ;;
-    text) echo '--lean --layout --variable --full --text --strict --json --help' ;;
+    text) echo '--lean --layout --variable --full --text --shaped --features --check --strict --json --help' ;;
     *) echo '--lean --layout --variable --full --help' ;;
     esac
 }

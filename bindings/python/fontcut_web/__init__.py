@@ -9,7 +9,7 @@
 names, and writes and reads WOFF2.
 
 Exit status: 0 done; 1 a file is refused, or out of memory; 2 usage error; 3 a file cannot be read or written, or a
-package that is needed is not installed."""
+package or a program that is needed is not installed."""
 from .command import main
 
 __all__ = ["main"]

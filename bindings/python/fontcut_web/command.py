@@ -12,7 +12,7 @@ import fontcut
 from fontcut_output import CommandParser, Progress, print_line, read, reason, write
 
 from . import texts
-from .common import SHAPED, Missing, Refused, UsageError, need, part
+from .common import SHAPED, Missing, MissingProgram, Refused, UsageError, need, part
 from .sets import MOST_EQUAL, PRESETS, WEB, asked
 
 INSTALL = "pip install 'fontcut[web]'"
@@ -35,7 +35,7 @@ WOFF files.
 
 _STATUS = """\
 Exit status: 0 done; 1 a file is refused, or out of memory; 2 usage error; 3 a file cannot be read or written, or a
-package that is needed is not installed.
+package or a program that is needed is not installed.
 """
 
 _SLICE = f"""\
@@ -59,6 +59,13 @@ Writes the cut of FONT for the characters that HTML pages show to OUT: their tex
 the attributes alt, placeholder, title and value. If OUT ends in .woff2, it is WOFF2. What a style sheet or a script
 adds is not known (content, list numbers, text-transform): add it with --text. With --layout or --variable the cut
 also has the characters that a shaper takes for these, as with fontcut subset --layout.
+
+With --shaped, hb-shape of HarfBuzz shapes the text, and the cut has just the glyphs that come: it is exact, and much
+smaller. Lines, words and all pieces of words are shaped, with and without ligatures, in each language that a page
+names, in both directions where a part goes from right to left, and with the features that its style sheets turn on.
+Text that is not in the pages may vanish, and no other font steps in: text that scripts or readers write, and what
+style sheets on other hosts add. It is said which pages have such. --check draws each page in Chromium, with FONT and
+with the cut; if a pixel differs, nothing is written.
 """
 
 _PREPARE = """\
@@ -171,11 +178,15 @@ def _add_text(commands: argparse._SubParsersAction[CommandParser]) -> None:
         "text", help="cut a font for the characters that pages show", description=f"{_TEXT}\n{_CUT_KINDS}\n",
         formatter_class=_RAW, epilog=_STATUS,
         usage="fontcut-web text PAGE.. FONT OUT [--lean | --layout | --variable | --full] [--text TEXT]\n"
-              "                        [--strict] [--json]")
+              "                        [--shaped] [--features LIST] [--check] [--strict] [--json]")
     command.add_argument("files", metavar="PAGE.. FONT OUT", nargs="+", help=argparse.SUPPRESS)
-    _kinds(command, "lean", lean="write a lean cut (the default)", layout="write a layout cut",
+    _kinds(command, None, lean="write a lean cut (the default)", layout="write a layout cut (the default of --shaped)",
            variable="write a variable cut", full="write a full cut")
     command.add_argument("--text", metavar="TEXT", default="", help="more characters to keep")
+    command.add_argument("--shaped", action="store_true", help="write an exact cut: of just the glyphs of the text")
+    command.add_argument("--features", metavar="LIST", action="append",
+                         help="with --shaped, shape with these features too, as smcp,onum or salt=2; may be repeated")
+    command.add_argument("--check", action="store_true", help="write nothing if Chromium draws a page otherwise")
     command.add_argument("--strict", action="store_true", help="write nothing if the font lacks a character")
     command.add_argument("--json", action="store_true", help="print what was written")
     command.set_defaults(run=texts.run)
@@ -245,7 +256,7 @@ def main(words: Optional[Sequence[str]] = None, install: str = INSTALL) -> int:
     given = _parser().parse_args(words)
     try:
         given.run(given)
-    except (Missing, Refused, UsageError, fontcut.Refused, MemoryError, OSError) as error:
+    except (Missing, MissingProgram, Refused, UsageError, fontcut.Refused, MemoryError, OSError) as error:
         return _status(error, install)
     except KeyboardInterrupt:
         # The line of progress is gone, and no file is half written.

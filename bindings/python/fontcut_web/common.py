@@ -29,6 +29,13 @@ class Missing(Exception):
         super().__init__(" and ".join(packages))
 
 
+class MissingProgram(Exception):
+    """A program that is needed is not installed."""
+
+    def __init__(self, program: str, install: str):
+        super().__init__(f"needs {program}: {install}")
+
+
 def need(*packages: str) -> None:
     """Raises `Missing`, with all packages that are not there."""
     lacking: List[str] = [package for package in packages if not any(map(find_spec, _MODULES[package]))]
