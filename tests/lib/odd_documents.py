@@ -2,8 +2,9 @@
 bytes, and small files that ask for much."""
 from __future__ import annotations
 
+import re
 import zlib
-from typing import TYPE_CHECKING, Callable, Iterable, Sequence
+from typing import TYPE_CHECKING, Callable, Iterable, Optional, Sequence
 
 import pikepdf
 from pikepdf import Array, Dictionary, Name, Object, Pdf, Stream, String
@@ -114,6 +115,41 @@ def odd_bytes(path: str, font: bytes, embed: Embed, text: str) -> None:
     fonts[Object.parse(b"/F#E9")] = used.font
     body = b"BT /F#E9 30 Tf 20 300 Td " + used.show(text) + b" Tj ET"
     pdf.pages.append(pikepdf.Page(page_with(pdf, body, Dictionary(Font=fonts))))
+    pdf.save(path)
+
+
+def mapped_numbers(path: str, font: bytes, embed: Embed, text: str, add: int) -> None:
+    """A whole font whose numbers are by so much above the glyphs to which a stream maps them, and run downwards on the
+    second page."""
+    pdf = Pdf.new()
+    used = embed(pdf, font, text)
+    whole(pdf, used, font)
+    inner = used.font.DescendantFonts[0]
+    inner.CIDToGIDMap = Stream(pdf, b"".join(max(0, number - add).to_bytes(2, "big") for number in range(0x1000)))
+    inner.W = Array([part if at % 2 else int(part) + add for at, part in enumerate(inner.W)])
+    rows = re.sub(rb"<(....)> <", lambda row: b"<%04X> <" % (int(row[1], 16) + add), used.font.ToUnicode.read_bytes())
+    used.font.ToUnicode = Stream(pdf, rows)
+    shown = b"<" + b"".join(b"%04X" % (used.glyphs[letter] + add) for letter in text) + b">"
+    downwards = Dictionary(dict(used.font.items()))
+    downwards.Encoding = Name("/Identity-V")
+    for made in used.font, pdf.make_indirect(downwards):
+        body = b"BT /F 12 Tf 150 390 Td " + shown + b" Tj ET"
+        pdf.pages.append(pikepdf.Page(page_with(pdf, body, Dictionary(Font=Dictionary(F=made)))))
+    pdf.save(path)
+
+
+def simple(path: str, font: bytes, embed: Embed, text: bytes, encoding: Optional[Object], flags: int) -> None:
+    """A whole font of which each byte of a text is a character."""
+    pdf = Pdf.new()
+    descriptor = embed(pdf, font, "A").font.DescendantFonts[0].FontDescriptor
+    descriptor.FontFile2, descriptor.Flags = Stream(pdf, font, Length1=len(font)), flags
+    made = Dictionary(Type=Name.Font, Subtype=Name.TrueType, BaseFont=descriptor.FontName, FontDescriptor=descriptor,
+                      FirstChar=0, LastChar=255, Widths=Array([600] * 256))
+    if encoding is not None:
+        made.Encoding = encoding
+    body = b"BT /F 12 Tf 14 TL 20 380 Td " + b" ".join(
+        b"<" + text[at:at + 20].hex().encode() + b"> Tj T*" for at in range(0, len(text), 20)) + b" ET"
+    pdf.pages.append(pikepdf.Page(page_with(pdf, body, Dictionary(Font=Dictionary(F=pdf.make_indirect(made))))))
     pdf.save(path)
 
 

@@ -3,15 +3,18 @@
     import fontcut_pdf
     used = fontcut_pdf.embed(pdf, font, "Hello")       # for a page's resources: used.font
     content = b"BT /F 12 Tf " + used.show("Hello") + b" Tj ET"
+    used = fontcut_pdf.embed(pdf, font, glyphs={43: "H", 1354: "ffi"})     # of shaped text, with the text of each
+    content = b"BT /F 12 Tf " + used.show_glyphs([43, 1354]) + b" Tj ET"
 
-    fontcut-pdf shrink [--report] IN OUT               whole fonts become lean cuts for what the pages show
+    fontcut-pdf shrink [--report] IN OUT               fonts become lean cuts for the glyphs that the pages show
     fontcut-pdf merge [--report] -o OUT FILES..        the pages of all files; fonts that join become one font
     fontcut-pdf fonts FILE                             lists the embedded fonts
 
 `python3 -m fontcut_pdf` runs the same command. pikepdf reads and writes the files. A font qualifies if it is a
-composite font that is used by glyph numbers: a Type 0 font with the encoding Identity-H, over a CIDFontType2 whose
-CIDToGIDMap is Identity. With such a font the text of a page is glyph numbers, and every cut keeps these, so no page
-changes. All other fonts stay as they are.
+composite font that is used by glyph numbers: a Type 0 font with the encoding Identity-H or Identity-V, over a
+CIDFontType2. With such a font the text of a page is glyph numbers, or numbers that CIDToGIDMap maps to these, and every
+cut keeps them, so no page changes. `shrink` also cuts simple TrueType fonts with a standard encoding. All other fonts
+stay as they are, and so do subsets in which another program has numbered the glyphs anew.
 
 OUT is replaced atomically. Exit status: 0 done; 1 a file is refused, and nothing was written; 2 usage error; 3 a file
 cannot be read or written. A file is refused if it is damaged or encrypted, has no embedded font, or would take more

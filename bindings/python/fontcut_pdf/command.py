@@ -50,15 +50,18 @@ atomically.
 """
 
 _SHRINK = """\
-Whole fonts that are used by glyph numbers (Type 0, Identity-H) become lean cuts for what the pages show; the pages
-stay the same. If that is not certain, a font stays as it is, and is named. If OUT would not be smaller, it is a copy
-of IN, and the fonts are reported as kept. A signed file is refused.
+Fonts become lean cuts for the glyphs that the pages show, with only the tables that a PDF file needs; the pages stay
+the same. This is done to whole fonts, and to subsets whose glyphs have kept their numbers: of composite fonts that are
+used by glyph numbers (Identity-H or Identity-V), and of simple TrueType fonts with a standard encoding, which keep
+their cmap and post. Subsets with glyph numbers of their own stay as they are. If it is not certain what a font shows,
+it stays as it is, and is named. If OUT would not be smaller, it is a copy of IN, and the fonts are reported as kept. A
+signed file is refused.
 """
 
 _MERGE = f"""\
 Writes the pages of all FILES to OUT, in order. Fonts that are cuts of one font become one font; other fonts that
 are byte for byte the same are stored once. Without -o the first of FILES is OUT, and refused if it is a PDF file
-already.
+already. Simple fonts do not join.
 
 Kept: pages with everything that belongs to them, including annotations and links to pages of their file; and
 bookmarks (outlines), below an entry with the name of each file.

@@ -1,4 +1,5 @@
-"""Lean cuts in PDF files: how fonts are written (ISO 32000-1, 9.7 to 9.10), and fonts embedded for a text."""
+"""Lean cuts in PDF files: how fonts are written (ISO 32000-1, 9.7 to 9.10), and fonts embedded for a text or for
+glyphs."""
 from __future__ import annotations
 
 import hashlib
@@ -7,35 +8,18 @@ import struct
 import zlib
 from collections import Counter
 from dataclasses import dataclass
-from typing import Dict, List, Mapping, Optional, Tuple
+from typing import Dict, FrozenSet, Iterable, List, Mapping, Optional, Sequence, Tuple
 
 import fontcut
 from pikepdf import Array, Dictionary, Name, Object, Pdf, Stream, String
 
 from .common import Number
-
-
-def _table(font: bytes, tag: bytes) -> bytes:
-    """A table of an accepted font, and no bytes where there is none."""
-    for at in range(12, 12 + 16 * struct.unpack_from(">H", font, 4)[0], 16):
-        name, _, offset, length = struct.unpack_from(">4s3I", font, at)
-        if name == tag:
-            return font[offset:offset + length]
-    return b""
-
-
-def codes_by_glyph(font: bytes) -> Dict[int, List[int]]:
-    """The characters that a font maps to each glyph, in ascending order."""
-    codes = [code for first, last in fontcut.codes(font) for code in range(first, last + 1)]
-    found: Dict[int, List[int]] = {}
-    for code, glyph in zip(codes, fontcut.glyphs(font, codes)):
-        found.setdefault(glyph, []).append(code)
-    return found
+from .tables import prepared, tables_of
 
 
 def postscript_name(font: bytes) -> str:
     """The name of a font for PostScript, name 6 of `name` (OpenType 1.9, name)."""
-    table = _table(font, b"name")
+    table = tables_of(font).get(b"name", b"")
     if len(table) >= 6:
         count, storage = struct.unpack_from(">2H", table, 2)
         for at in range(6, min(6 + 12 * count, len(table) - 11), 12):
@@ -49,10 +33,10 @@ def postscript_name(font: bytes) -> str:
 def tagged(name: str, program: bytes) -> Name:
     """A name with a subset tag (ISO 32000-1, 9.6.4), which is made from the bytes of the program."""
     tag = "".join(chr(ord("A") + byte % 26) for byte in hashlib.sha256(program).digest()[:6])
-    return Name(f"/{tag}+{re.sub(r'[^!-~]|[][()<>{}/%#]', '', _without_tag(name)) or 'Font'}")
+    return Name(f"/{tag}+{re.sub(r'[^!-~]|[][()<>{}/%#]', '', without_tag(name)) or 'Font'}")
 
 
-def _without_tag(name: str) -> str:
+def without_tag(name: str) -> str:
     """A name of a font without its subset tag."""
     return re.sub(r"^/?([A-Z]{6}\+)?", "", name)
 
@@ -112,9 +96,10 @@ def composite_font(pdf: Pdf, name: Name, descendant: Object, to_unicode: Optiona
     return pdf.make_indirect(made)
 
 
-def _descriptor(pdf: Pdf, cut: bytes, name: Name) -> Object:
-    """The descriptor of a cut (ISO 32000-1, 9.8), from `head`, `hhea`, `OS/2` and `post`."""
-    info, os2, post = fontcut.info(cut), _table(cut, b"OS/2"), _table(cut, b"post")
+def _descriptor(pdf: Pdf, font: bytes, cut: bytes, name: Name) -> Object:
+    """The descriptor of a cut (ISO 32000-1, 9.8), from `head`, `hhea`, `OS/2` and `post` of its font."""
+    info, tables = fontcut.info(font), tables_of(font)
+    os2, post = tables.get(b"OS/2", b""), tables.get(b"post", b"")
     units = max(1, info.units_per_em)
     ascent, descent, *box = (round(1000 * value / units) for value in (
         info.ascender, info.descender, info.x_min, info.y_min, info.x_max, info.y_max))
@@ -137,11 +122,13 @@ class Embedded:
     """A font in a PDF file.
 
     font      the Type 0 font, for the Font dictionary of a page's resources
-    glyphs    the glyph of each character
+    glyphs    the glyph of each character of the text for which it was embedded
+    numbers   the glyphs for which it was embedded
     """
 
     font: Object
     glyphs: Dict[str, int]
+    numbers: FrozenSet[int]
 
     def show(self, text: str) -> bytes:
         """The string that shows a text, as it stands before `Tj` in a content stream. Raises `ValueError` for a
@@ -149,25 +136,46 @@ class Embedded:
         lacking = [letter for letter in text if letter not in self.glyphs]
         if lacking:
             raise ValueError(f"not embedded: U+{ord(lacking[0]):04X}")
-        return b"<" + b"".join(b"%04X" % self.glyphs[letter] for letter in text) + b">"
+        return self.show_glyphs(self.glyphs[letter] for letter in text)
+
+    def show_glyphs(self, glyphs: Iterable[int]) -> bytes:
+        """The string that shows glyphs, as it stands before `Tj`, or within the array before `TJ`. Raises `ValueError`
+        for a glyph for which the font was not embedded."""
+        shown = list(glyphs)
+        lacking = [glyph for glyph in shown if glyph not in self.numbers]
+        if lacking:
+            raise ValueError(f"not embedded: glyph {lacking[0]}")
+        return b"<" + b"".join(b"%04X" % glyph for glyph in shown) + b">"
 
 
-def embed(pdf: Pdf, font: bytes, text: str) -> Embedded:
-    """Embeds the lean cut of a font for the characters of a text.
-
-    Where the font has one glyph for two of the characters, a program that reads the text of a page finds the first of
-    them by its code. Raises `ValueError` for a character that the font lacks, and `fontcut.Refused` for a font that is
-    refused."""
-    codes = sorted(set(map(ord, text)))
-    cut = fontcut.cut(font, codes, lean=True)
-    glyphs = dict(zip(codes, fontcut.glyphs(cut, codes)))
+def _mapped(font: bytes, codes: Sequence[int]) -> Dict[int, int]:
+    """The glyph of each character. Raises `ValueError` for a character that the font lacks."""
+    glyphs = dict(zip(codes, fontcut.glyphs(font, codes)))
     lacking = [code for code, glyph in glyphs.items() if glyph == 0]
     if lacking:
         raise ValueError(f"the font lacks U+{lacking[0]:04X}")
-    units, kept = max(1, fontcut.info(cut).units_per_em), sorted(set(glyphs.values()))
+    return glyphs
+
+
+def embed(pdf: Pdf, font: bytes, text: str = "", *, glyphs: Optional[Mapping[int, str]] = None) -> Embedded:
+    """Embeds the lean cut of a font for the characters of a text, or for the glyphs of a text that was shaped.
+
+    `glyphs` has the text of each glyph, as programs read it from a page: one character, several for a ligature, or ""
+    for a glyph that adds nothing to the text, such as the second one of a letter. With glyphs alone the program has no
+    character, and only the tables that a PDF file needs. Cuts with characters and cuts without them join in a merge.
+
+    Where the font has one glyph for two of the characters, a program that reads the text of a page finds the first of
+    them by its code. Raises `ValueError` for a character or a glyph that the font lacks, and `fontcut.Refused` for a
+    font that is refused."""
+    fontcut.check(font)
+    shaped, codes = dict(glyphs or {}), sorted(set(map(ord, text)))
+    cut = fontcut.cut(font if codes else prepared(font), codes, kind="lean", gids=list(shaped))
+    mapped = _mapped(font, codes)
+    units, kept = max(1, fontcut.info(cut).units_per_em), sorted({*mapped.values(), *shaped})
     widths = {glyph: round(1000 * width / units) for glyph, width in zip(kept, fontcut.advances(cut, kept))}
-    texts = {glyph: chr(code).encode("utf-16-be") for code, glyph in reversed(glyphs.items())}
-    name = tagged(postscript_name(cut), cut)
-    inner = descendant_font(pdf, name, _descriptor(pdf, cut, name), widths)
+    texts = {glyph: chr(code).encode("utf-16-be") for code, glyph in reversed(mapped.items())}
+    texts.update((glyph, told.encode("utf-16-be")) for glyph, told in shaped.items() if told)
+    name = tagged(postscript_name(font), cut)
+    inner = descendant_font(pdf, name, _descriptor(pdf, font, cut, name), widths)
     made = composite_font(pdf, name, inner, to_unicode(pdf, texts))
-    return Embedded(made, {chr(code): glyph for code, glyph in glyphs.items()})
+    return Embedded(made, {chr(code): glyph for code, glyph in mapped.items()}, frozenset(kept))

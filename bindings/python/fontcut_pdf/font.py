@@ -2,10 +2,11 @@
 from __future__ import annotations
 
 import hashlib
+import re
 import struct
 from dataclasses import dataclass, field
 from functools import cached_property
-from typing import Dict, FrozenSet, Iterable, Iterator, List, Optional, Sequence, Set, Tuple
+from typing import Dict, Iterable, Iterator, List, Optional, Sequence, Set, Tuple
 
 import fontcut
 import pikepdf
@@ -13,11 +14,14 @@ from pikepdf import Array, Dictionary, Name, Object, Pdf, Stream, String
 
 from .common import Id, Number, Refused, Unclear, copied, is_written, place
 from .content import strictly
-from .embedding import codes_by_glyph
-from .streams import MOST_OF_PROGRAM, MOST_OF_TEXTS, check_length, raw, read, unpacked
+from .simple import Subtables, glyphs_of_bytes, subtables_of
+from .streams import MOST_OF_MAP, MOST_OF_PROGRAM, MOST_OF_TEXTS, check_length, raw, read, unpacked
+from .tables import DRAWN, prepared, tables_of
 
 # How many widths and texts, and bytes of text that is shown again, are looked at in one file.
 MOST_WORK = 5_000_000
+# The flag of a font whose characters are not those of Latin letters (ISO 32000-1, 9.8.2).
+_SYMBOLIC = 4
 # How many texts one ToUnicode may state: twice what there are glyphs.
 _MOST_STATED = 2 * 0x10000
 
@@ -52,7 +56,8 @@ class Program:
 
     stream    where it stands
     size      its length in bytes
-    kind      `lean cut`, `cut`, `no cut` for another font that is accepted, or why it is none of these
+    kind      `lean cut`, `lean cut for PDF` for one of a prepared font, `cut`, `no cut` for another font that is
+              accepted, as it is or prepared, or why it is none of these
     """
 
     def __init__(self, stream: Stream):
@@ -63,23 +68,46 @@ class Program:
         except Unclear:
             self.size, self.kind = int(stream.get("/Length1", 0)), "refused: too large"
 
+    @property
+    def is_lean(self) -> bool:
+        """Whether it is a lean cut."""
+        return self.kind in ("lean cut", _PREPARED)
+
     def read(self) -> bytes:
         """Its bytes."""
         return unpacked(self.stream)
 
     @cached_property
-    def lean(self) -> Tuple[bytes, FrozenSet[int]]:
-        """The lean cut that a cut comes to, and the glyphs that its characters have."""
+    def lean(self) -> bytes:
+        """The lean cut that a cut comes to."""
         cut = self.read()
-        lean = cut if self.kind == "lean cut" else fontcut.cut(cut, fontcut.codes(cut), lean=True)
-        return lean, frozenset(codes_by_glyph(cut))
+        return cut if self.is_lean else fontcut.cut(cut, fontcut.codes(cut), lean=True)
+
+    @cached_property
+    def subtables(self) -> Optional[Subtables]:
+        """What its cmap has for the bytes of simple fonts."""
+        return subtables_of(self.read())
+
+
+_PREPARED = "lean cut for PDF"
 
 
 def _kind(data: bytes) -> str:
     try:
-        return {fontcut.Form.LEAN: "lean cut", fontcut.Form.NO_CUT: "no cut"}.get(fontcut.form(data), "cut")
+        if fontcut.is_cut(data, kind="lean"):
+            return _PREPARED if set(tables_of(data)) <= {*DRAWN, b"cmap"} else "lean cut"
+        return "no cut" if fontcut.form(data) is fontcut.Form.NO_CUT else "cut"
     except fontcut.Refused as refusal:
-        return f"refused: {refusal.text}"
+        return "no cut" if _is_accepted_prepared(data) else f"refused: {refusal.text}"
+
+
+def _is_accepted_prepared(data: bytes) -> bool:
+    """Whether a program is accepted without the tables that a PDF file does not need, of which it may have none."""
+    try:
+        fontcut.check(prepared(data))
+    except (fontcut.Refused, struct.error, ValueError):
+        return False
+    return True
 
 
 class Programs:
@@ -127,6 +155,11 @@ class Font:
         return str(name.unparse()[1:].decode()) if isinstance(name, Name) else "?"
 
     @property
+    def is_subset(self) -> bool:
+        """Whether its name says that it is a subset (ISO 32000-1, 9.6.4). Some programs name whole fonts so."""
+        return re.match(r"[A-Z]{6}\+", self.name) is not None
+
+    @property
     def descendant(self) -> Object:
         """The CIDFont of a composite font, and a simple font itself."""
         if self.object.get("/Subtype") == Name.Type0:
@@ -153,12 +186,33 @@ class Font:
         return self.program.kind if "/FontFile2" in self.descriptor else "no TrueType font"
 
     @property
+    def is_cut(self) -> bool:
+        """Whether its program is a cut."""
+        return "/FontFile2" in self.descriptor and (self.program.is_lean or self.program.kind == "cut")
+
+    @property
+    def map(self) -> Object:
+        """The map from its numbers to the glyphs of its program: a stream, or the name Identity."""
+        return self.descendant.get("/CIDToGIDMap", Name.Identity)
+
+    @property
     def is_by_glyph(self) -> bool:
-        """Whether its strings are glyph numbers of a TrueType program."""
-        return (self.object.get("/Subtype") == Name.Type0 and self.object.get("/Encoding") == Name("/Identity-H")
+        """Whether its strings are glyph numbers of a TrueType program, or numbers that a stream maps to these."""
+        return (self.object.get("/Subtype") == Name.Type0
+                and self.object.get("/Encoding") in (Name("/Identity-H"), Name("/Identity-V"))
                 and self.descendant.get("/Subtype") == Name.CIDFontType2
-                and self.descendant.get("/CIDToGIDMap", Name.Identity) == Name.Identity
-                and "/FontFile2" in self.descriptor)
+                and (self.map == Name.Identity or isinstance(self.map, Stream)) and "/FontFile2" in self.descriptor)
+
+    @property
+    def is_simple(self) -> bool:
+        """Whether its strings are bytes, for which viewers look in a TrueType program."""
+        return self.object.get("/Subtype") == Name.TrueType and "/FontFile2" in self.descriptor
+
+    @property
+    def is_plain(self) -> bool:
+        """Whether such a font has nothing but glyph numbers from left to right, so that its dictionaries can be made
+        anew."""
+        return bool(self.object.get("/Encoding") == Name("/Identity-H") and self.map == Name.Identity)
 
     @property
     def is_of_no_collection(self) -> bool:
@@ -168,8 +222,8 @@ class Font:
         return isinstance(system, Dictionary) and (system.get("/Registry"), system.get("/Ordering")) == (
             String("Adobe"), String("Identity"))
 
-    def glyphs(self) -> Dict[int, int]:
-        """The first page that shows each glyph, of a font by glyph numbers."""
+    def numbers(self) -> Dict[int, int]:
+        """The first page that shows each number, of a font by glyph numbers."""
         found: Dict[int, int] = {}
         for page, strings in self.shown.values():
             odd = [len(string) for string in strings if len(string) % 2]
@@ -179,6 +233,33 @@ class Font:
             # Pages come in their order, and what no page shows comes last.
             found.update(dict.fromkeys(set(struct.unpack(f">{len(text) // 2}H", text)).difference(found), page))
         return found
+
+    def glyphs(self) -> Dict[int, int]:
+        """The first page that shows each glyph, of a font by glyph numbers (ISO 32000-1, 9.7.4.2), and of a simple one
+        each that viewers may find."""
+        if self.is_simple:
+            return self._glyphs_of_bytes()
+        numbers = self.numbers()
+        if not isinstance(self.map, Stream):
+            return numbers
+        with strictly(self.pdf):
+            data = read("CIDToGIDMap", self.map, MOST_OF_MAP)
+        self.reading.spend(len(data) // 2)
+        mapped = struct.unpack(f">{len(data) // 2}H", data[:len(data) // 2 * 2])
+        found: Dict[int, int] = {}
+        for number, page in numbers.items():
+            # Behind the end of the map some programs draw .notdef, and others the glyph of that number.
+            found.setdefault(mapped[number] if number < len(mapped) else number, page)
+        return found
+
+    def _glyphs_of_bytes(self) -> Dict[int, int]:
+        shown: Dict[int, int] = {}
+        for page, strings in self.shown.values():
+            shown.update(dict.fromkeys(set(b"".join(strings)).difference(shown), page))
+        flags = self.descriptor.get("/Flags")
+        if not isinstance(flags, int):
+            raise Unclear("its descriptor has no Flags")
+        return glyphs_of_bytes(self.object, bool(flags & _SYMBOLIC), self.program.subtables, shown)
 
     def widths(self, glyphs: Iterable[int]) -> Dict[int, Number]:
         """The widths that W has, and of each of these glyphs (ISO 32000-1, 9.7.4.3)."""

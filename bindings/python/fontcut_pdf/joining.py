@@ -1,19 +1,21 @@
 """Fonts of a PDF file whose programs are cuts of one font become one font, of their join."""
 from __future__ import annotations
 
-from dataclasses import dataclass
-from typing import Callable, Dict, Iterator, List, Mapping, Optional, Sequence, Tuple, TypeVar
+from dataclasses import dataclass, field, replace
+from functools import cached_property
+from typing import Callable, Dict, FrozenSet, Iterator, List, Mapping, Optional, Sequence, Set, Tuple, TypeVar
 
 import fontcut
-from pikepdf import Array, Name, Pdf
+from pikepdf import Array, Name, Pdf, Stream
 
 from .common import Number, Outcome, Unclear, place
 from .content import strictly
-from .embedding import composite_font, descendant_font, postscript_name, program_stream, tagged, to_unicode
+from .embedding import composite_font, descendant_font, program_stream, tagged, to_unicode, without_tag
 from .font import Font
-from .shrinking import described, put
+from .shrinking import described, put, replace_program
 from .survey import stays, surveyed
-from .versions import different_item, different_table, kept, shared
+from .tables import prepared
+from .versions import different_item, different_table, drawn, kept, shared
 
 _Key = TypeVar("_Key")
 _Value = TypeVar("_Value")
@@ -26,35 +28,45 @@ class _Member:
     """A font that can be joined.
 
     cut       the lean cut that its program is, or comes to
-    box       that of its descriptor
+    shown     the first page that shows each glyph
+    box       that of its descriptor, if it is plain, and so are these:
     widths    of the glyphs that W has or that are shown
     texts     of the glyphs that ToUnicode has or that are shown; None where ToUnicode was not understood
     """
 
     font: Font
     cut: bytes
-    box: List[Number]
-    widths: Dict[int, Number]
-    texts: Optional[Dict[int, Optional[bytes]]]
+    shown: Dict[int, int]
+    box: List[Number] = field(default_factory=list)
+    widths: Dict[int, Number] = field(default_factory=dict)
+    texts: Optional[Dict[int, Optional[bytes]]] = None
+
+    @cached_property
+    def kept(self) -> FrozenSet[int]:
+        """The glyphs that its cut keeps."""
+        return frozenset(fontcut.kept_glyphs(self.cut, kind="lean"))
+
+    @cached_property
+    def tables(self) -> Dict[str, bytes]:
+        """A digest of what a join wants to be the same in each table."""
+        return shared(self.cut)
 
 
-def _member(font: Font) -> _Member:
-    """What is joined of a font. Raises `Unclear` where it has to stay as it is."""
+def _member(font: Font, by: str) -> _Member:
+    """What is joined of a font of a file that some program wrote. Raises `Unclear` where it has to stay as it is."""
     kind = font.kind
     if not font.is_by_glyph:
         raise Unclear(f"{kind}, and not by glyph numbers")
-    if kind not in ("lean cut", "cut"):
-        raise Unclear(kind)
-    if not font.is_of_no_collection:
-        raise Unclear("its CIDSystemInfo is not Adobe-Identity")
+    if not font.is_cut:
+        raise Unclear(f"{kind}, written{by}" if kind == "no cut" and by else kind)
     if font.unclear:
         raise Unclear(font.unclear)
-    (lean, mapped), shown = font.program.lean, font.glyphs()
-    for glyph, page in sorted(shown.items()):
-        # Another cut may have that glyph, so that a join would draw it.
-        if glyph and glyph not in mapped:
-            raise Unclear(f"{place(page)} shows glyph {glyph}, which no character of the cut has")
-    return _Member(font, lean, font.box(), font.widths(shown), font.texts(shown))
+    lean, shown = font.program.lean, font.glyphs()
+    if not font.is_plain:
+        return _Member(font, lean, shown)
+    if not font.is_of_no_collection:
+        raise Unclear("its CIDSystemInfo is not Adobe-Identity")
+    return _Member(font, lean, shown, font.box(), font.widths(shown), font.texts(shown))
 
 
 def _agree(one: Mapping[_Key, _Value], other: Mapping[_Key, _Value]) -> bool:
@@ -86,11 +98,22 @@ def _box(members: Sequence[_Member]) -> Array:
 
 
 def _unite(members: Sequence[_Member], joined: bytes) -> Name:
-    """Puts one font in the place of some. Where fonts have other widths for one glyph, each has its own CIDFont, and
-    where they have other texts, each its own Type 0 font, all of them over the one program."""
+    """Puts the join in the place of the programs of some fonts. Those that are plain become one font."""
+    first, plain = members[0].font, [member for member in members if member.font.is_plain]
+    name, program = tagged(first.name, joined), program_stream(first.pdf, joined)
+    if plain:
+        _unite_plain(plain, name, program)
+    for member in members:
+        if not member.font.is_plain:
+            replace_program(member.font, name, program)
+    return name
+
+
+def _unite_plain(members: Sequence[_Member], name: Name, program: Stream) -> None:
+    """Puts one font over a program in the place of some. Where fonts have other widths for one glyph, each has its own
+    CIDFont, and where they have other texts, each its own Type 0 font."""
     first = members[0].font
-    pdf, name = first.pdf, tagged(first.name, joined)
-    descriptor = described(first, name, program_stream(pdf, joined), _box(members))
+    pdf, descriptor = first.pdf, described(first, name, program, _box(members))
     for widths, alike in _classes(members, lambda member: member.widths):
         descendant = descendant_font(pdf, name, descriptor, widths or {})
         for texts, same in _classes(alike, lambda member: member.texts):
@@ -98,7 +121,6 @@ def _unite(members: Sequence[_Member], joined: bytes) -> Name:
             made = composite_font(pdf, name, descendant, stated)
             for member in same:
                 put(member.font, made)
-    return name
 
 
 def _joined(members: Sequence[_Member]) -> Tuple[bytes, List[_Member], List[Tuple[_Member, str]]]:
@@ -146,14 +168,42 @@ def _unite_alike(members: Sequence[_Member], why: Optional[str]) -> Iterator[Out
         yield from _united(alike, why or (different_item(first, items or {}) if number else None))
 
 
-def _unite_all(members: Sequence[_Member]) -> Iterator[Outcome]:
-    """Unites what joins among fonts of one name. Fonts whose tables differ are told apart by digests of these."""
-    alike: Dict[Tuple[Tuple[str, bytes], ...], List[_Member]] = {}
+def _prepared(member: _Member) -> _Member:
+    """A font over the cut of its prepared font, for the same glyphs."""
+    return replace(member, cut=fontcut.cut(prepared(member.cut), [], kind="lean", gids="all"))
+
+
+def _apart(members: Sequence[_Member]) -> Tuple[List[_Member], List[Outcome]]:
+    """The fonts of some that may join, and the others. Where a page shows a glyph that is blank in the cut, and another
+    cut has it, a join would draw it."""
+    joining, others = [], []
+    every: Set[int] = set().union(*(member.kept for member in members))
     for member in members:
-        alike.setdefault(tuple(sorted(shared(member.cut).items())), []).append(member)
-    first = dict(next(iter(alike)))
+        glyph = min((glyph for glyph in member.shown if glyph in every and glyph not in member.kept), default=None)
+        if glyph is None:
+            joining.append(member)
+        else:
+            said = f"{place(member.shown[glyph])} shows glyph {glyph}, which its cut lacks and another one has"
+            others.append(stays(member.font, f"stays as it is: {said}"))
+    return joining, others
+
+
+def _unite_all(members: Sequence[_Member]) -> Iterator[Outcome]:
+    """Unites what joins among fonts. Those that are drawn by other tables are told apart by digests of these. Where
+    only tables differ that a PDF file does not need, as between cuts with names and without them, cuts of the prepared
+    font join."""
+    alike: Dict[Tuple[Tuple[str, bytes], ...], List[_Member]] = {}
+    first: Dict[str, Dict[str, bytes]] = {}
+    for member in members:
+        alike.setdefault(drawn(member.tables), []).append(member)
     for tables, some in alike.items():
-        yield from _unite_alike(some, different_table(first, dict(tables)))
+        if any(member.tables != some[0].tables for member in some):
+            some = list(map(_prepared, some))
+        joining, others = _apart(some)
+        yield from others
+        if joining:
+            of_name = first.setdefault(without_tag(joining[0].font.name), dict(tables))
+            yield from _unite_alike(joining, different_table(of_name, dict(tables)))
 
 
 def _share_programs(fonts: Sequence[Font]) -> None:
@@ -164,22 +214,19 @@ def _share_programs(fonts: Sequence[Font]) -> None:
             font.descriptor[font.key] = font.program.stream
 
 
-def join_fonts(pdf: Pdf) -> List[Outcome]:
+def join_fonts(pdf: Pdf, producer_of: Callable[[int], str] = lambda page: "") -> List[Outcome]:
     """Fonts by glyph numbers whose programs are cuts of one font become one font, of their join; and of other
-    programs, whole fonts among them, those that are the same bytes stand in the file once. Raises `Refused` where
-    there is no embedded font."""
+    programs, whole fonts among them, those that are the same bytes stand in the file once. `producer_of` has the words
+    that say who wrote a page. Raises `Refused` where there is no embedded font."""
     outcomes: List[Outcome] = []
-    groups: Dict[str, List[_Member]] = {}
-    fonts = surveyed(pdf, lambda font: font.is_by_glyph and font.kind in ("lean cut", "cut"))
+    members: List[_Member] = []
+    fonts = surveyed(pdf, lambda font: font.is_by_glyph and font.is_cut)
     _share_programs(fonts)
     for font in fonts:
         try:
             with strictly(pdf):
-                member = _member(font)
+                members.append(_member(font, producer_of(font.page)))
         except Unclear as error:
             outcomes.append(stays(font, f"stays as it is: {error}"))
-        else:
-            groups.setdefault(postscript_name(member.cut), []).append(member)
-    for members in groups.values():
-        outcomes += _unite_all(members)
+    outcomes += _unite_all(members)
     return sorted(outcomes, key=lambda outcome: (outcome.page, outcome.name))

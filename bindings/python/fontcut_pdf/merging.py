@@ -11,7 +11,7 @@ from .common import Outcome, Refused, dictionaries, values
 from .drawing import annotations_of, pages_of
 from .joining import join_fonts
 from .outlines import Source, add_outline
-from .survey import NO_FONT, refusing
+from .survey import NO_FONT, producer, refusing
 
 
 def _may_hide(thing: Object) -> bool:
@@ -147,8 +147,9 @@ def merge(sources: Sequence[Pdf], titles: Optional[Sequence[str]] = None) -> Tup
     for number, one in enumerate(added):
         with _refusing_file(number), refusing():
             _lead_links(one)
+    names = list(map(producer, sources))
     with _refusing_page(sources, first):
-        outcomes = join_fonts(pdf)
+        outcomes = join_fonts(pdf, lambda page: names[bisect_right(first, page - 1) - 1] if page else "")
     _refuse_without_fonts(first, outcomes)
     add_outline(pdf, added)
     return pdf, outcomes

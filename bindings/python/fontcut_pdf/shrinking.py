@@ -1,4 +1,4 @@
-"""Whole fonts of a PDF file become their lean cuts for what is shown."""
+"""Fonts of a PDF file become their lean cuts for what is shown."""
 from __future__ import annotations
 
 from typing import Dict, List, Optional, Sequence, Set, Tuple
@@ -6,10 +6,16 @@ from typing import Dict, List, Optional, Sequence, Set, Tuple
 import fontcut
 from pikepdf import Array, Name, Object, Pdf, Stream
 
-from .common import Id, Outcome, Refused, Unclear, copied, dictionaries, parts, place
-from .embedding import codes_by_glyph, program_stream, tagged
+from .common import Id, Outcome, Refused, Unclear, copied, dictionaries, parts
+from .content import strictly
+from .embedding import program_stream, tagged
 from .font import Font, Program
-from .survey import refusing, stays, surveyed
+from .survey import producer, refusing, stays, surveyed
+from .tables import assembled, prepared, tables_of
+
+
+class _Same(Unclear):
+    """A program has no more than what is shown."""
 
 
 def described(font: Font, name: Name, program: Stream, box: Optional[Array] = None) -> Object:
@@ -27,43 +33,70 @@ def put(font: Font, made: Object) -> None:
         holder[key] = made
 
 
-def _wanted(font: Font, codes: Dict[int, List[int]]) -> List[int]:
-    """The characters for which a cut of a program has each glyph that is shown, by those that its font maps to each. Of
-    several that have one glyph it is the one that ToUnicode has, and else the first."""
-    texts = font.texts(()) or {}
-    wanted = []
-    for glyph, page in sorted(font.glyphs().items()):
-        if glyph and glyph not in codes:
-            raise Unclear(f"{place(page)} shows glyph {glyph}, which no character has")
-        told = [code for code in codes.get(glyph, ()) if chr(code).encode("utf-16-be", "surrogatepass")
-                == texts.get(glyph)]
-        wanted += told or codes.get(glyph, [])[:1]
-    return wanted
+def replace_program(font: Font, name: Name, program: Stream) -> None:
+    """Puts a font over another program in the place of one that is the same otherwise."""
+    descriptor, made = described(font, name, program), copied(font.object)
+    made.BaseFont = name
+    if font.is_simple:
+        made.FontDescriptor = descriptor
+    else:
+        descendant = copied(font.descendant)
+        descendant.BaseFont, descendant.FontDescriptor = name, descriptor
+        made.DescendantFonts = Array([font.pdf.make_indirect(descendant)])
+    put(font, font.pdf.make_indirect(made))
 
 
 def _cut(group: Sequence[Font]) -> bytes:
-    """The lean cut for what is shown in fonts of one program."""
+    """The lean cut for the glyphs that are shown in fonts of one program."""
     unclear = next((font.unclear for font in group if font.unclear), None)
     if unclear:
         raise Unclear(unclear)
+    shown = {glyph for font in group for glyph in font.glyphs()}
+    try:
+        program = fontcut.Font(prepared(group[0].program.read()))
+        count = fontcut.info(program).glyph_count
+        # A number that is no glyph draws nothing, with any program.
+        return fontcut.cut(program, [], kind="lean", gids=[glyph for glyph in sorted(shown) if glyph < count])
+    except fontcut.Refused as refusal:
+        raise Unclear(refusal.text) from refusal
+
+
+def _with_names(cut: bytes, program: bytes) -> bytes:
+    """A cut with the tables of its font in which viewers look for the glyphs of a simple font."""
+    names = {tag: data for tag, data in tables_of(program).items() if tag in (b"cmap", b"post")}
+    return assembled({**tables_of(cut), **names})
+
+
+def _is_renumbered(font: Font, cut: bytes) -> bool:
+    """Whether a program is what another program made of a font, with glyph numbers of its own: it is named as a subset,
+    and its cut keeps all of its glyphs. Where glyphs kept their numbers, some that nothing shows are among them."""
+    count = fontcut.info(cut).glyph_count
+    return font.program.kind == "no cut" and font.is_subset and len(fontcut.kept_glyphs(cut, kind="lean")) == count
+
+
+def _made(group: Sequence[Font]) -> bytes:
+    """The program that takes the place of that of some fonts. Raises `Unclear` where there is none."""
+    cut = _cut(group)
+    if _is_renumbered(group[0], cut):
+        raise _Same(f"a renumbered subset{producer(group[0].pdf)}, whose glyphs are all shown")
     program = group[0].program.read()
-    codes = codes_by_glyph(program)
-    return fontcut.cut(program, sorted({code for font in group for code in _wanted(font, codes)}), lean=True)
+    made = _with_names(cut, program) if any(font.is_simple for font in group) else cut
+    if made == program:
+        raise _Same(f"{group[0].kind}, whose glyphs are all shown")
+    return made
 
 
 def _shrink(group: Sequence[Font]) -> List[Outcome]:
     """Fonts of one program become fonts of its lean cut."""
     try:
-        cut = _cut(group)
+        with strictly(group[0].pdf):
+            made = _made(group)
     except Unclear as error:
-        return [stays(font, f"stays as it is: {error}", True) for font in group]
-    stream = program_stream(group[0].pdf, cut)
+        return [stays(font, f"stays as it is: {error}", not isinstance(error, _Same)) for font in group]
+    stream = program_stream(group[0].pdf, made)
     for font in group:
-        name, descendant, made = tagged(font.name, cut), copied(font.descendant), copied(font.object)
-        descendant.BaseFont, descendant.FontDescriptor = name, described(font, name, stream)
-        made.BaseFont, made.DescendantFonts = name, Array([font.pdf.make_indirect(descendant)])
-        put(font, font.pdf.make_indirect(made))
-    return [Outcome(font.page, font.name, font.program.size, len(cut), "shrunk") for font in group]
+        replace_program(font, tagged(font.name, made), stream)
+    return [Outcome(font.page, font.name, font.program.size, len(made), "shrunk") for font in group]
 
 
 def _reached(pdf: Pdf) -> Set[Id]:
@@ -95,14 +128,15 @@ def _still_needed(pdf: Pdf, shrunk: List[Tuple[List[Font], List[Outcome]]]) -> L
 
 
 def _is_asked(font: Font) -> bool:
-    return font.is_by_glyph and font.kind in ("no cut", "cut")
+    return (font.is_by_glyph or font.is_simple) and (font.is_cut or font.kind == "no cut")
 
 
 def shrink(pdf: Pdf) -> List[Outcome]:
-    """Each font by glyph numbers becomes its lean cut for the characters that the pages show, where it is a whole font
-    or a cut that is not lean. It stays as it is where a page shows a glyph of it that no character has, such as a
-    ligature, and where something else needs its program too. Raises `Refused` where there is no embedded font, or a
-    signature."""
+    """Each font by glyph numbers becomes its lean cut for the glyphs that the pages show, with only the tables that a
+    PDF file needs: whole fonts, cuts, and subsets in which glyphs kept their numbers. A simple font becomes that with
+    the tables in which viewers look for its glyphs. A font stays as it is where it has no other glyphs, where it is not
+    certain which are shown, and where something else needs its program too. Raises `Refused` where there is no embedded
+    font, or a signature."""
     outcomes: List[Outcome] = []
     groups: Dict[Program, List[Font]] = {}
     _refuse_signed(pdf)
@@ -110,7 +144,7 @@ def shrink(pdf: Pdf) -> List[Outcome]:
         if _is_asked(font):
             groups.setdefault(font.program, []).append(font)
         else:
-            how = "" if font.is_by_glyph else ", and not by glyph numbers"
+            how = "" if font.is_by_glyph or font.is_simple else ", and not by glyph numbers"
             outcomes.append(stays(font, f"stays as it is: {font.kind}{how}"))
     shrunk: List[Tuple[List[Font], List[Outcome]]] = []
     for group in groups.values():

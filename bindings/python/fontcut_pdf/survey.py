@@ -4,7 +4,7 @@ from __future__ import annotations
 from contextlib import contextmanager
 from typing import Callable, Dict, Iterator, List, Set, Tuple
 
-from pikepdf import Dictionary, Name, Object, Pdf, Stream
+from pikepdf import Dictionary, Name, Object, Pdf, Stream, String
 
 from .common import MALFORMED, Id, Outcome, Refused, Unclear, line, names_in, place, values
 from .content import Shown, shown, streams_of
@@ -12,6 +12,8 @@ from .drawing import Drawing, Node, pages_of, reached
 from .font import Font, Programs, Reading
 
 NO_FONT = "it has no embedded font"
+# How many letters of the name of a program are told.
+_MOST_OF_NAME = 60
 
 
 class Survey:
@@ -163,10 +165,20 @@ def surveyed(pdf: Pdf, is_asked: Callable[[Font], bool]) -> List[Font]:
 
 
 def fonts(pdf: Pdf) -> List[Outcome]:
-    """The embedded fonts of a file, and what the program of each is: `lean cut`, `cut`, `no cut` for a whole font and
-    for what another program made of one, `refused` and why, or `no TrueType font`. Raises `Refused` where there is no
-    embedded font."""
+    """The embedded fonts of a file, and what the program of each is: `lean cut`, `lean cut for PDF` where it has only
+    the tables that a PDF file needs, `cut`, `no cut` for a whole font and for what another program made of one,
+    `refused` and why, or `no TrueType font`. Raises `Refused` where there is no embedded font."""
     return [stays(font, font.kind) for font in surveyed(pdf, lambda font: False)]
+
+
+def producer(pdf: Pdf) -> str:
+    """Which program wrote a file (ISO 32000-1, 14.3.3), as words that follow a font; nothing where the file does not
+    say it."""
+    info = pdf.trailer.get("/Info")
+    told = info.get("/Producer") if isinstance(info, Dictionary) else None
+    name = " ".join(str(told).split()) if isinstance(told, String) else ""
+    shown = "".join(letter if letter.isprintable() else "?" for letter in name[:_MOST_OF_NAME])
+    return f" by {shown}" if shown else ""
 
 
 def stays(font: Font, said: str, expected: bool = False) -> Outcome:

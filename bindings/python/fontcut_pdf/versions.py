@@ -6,18 +6,14 @@ import hashlib
 import struct
 from typing import Dict, Iterator, Mapping, Optional, Tuple, Union
 
-from .embedding import codes_by_glyph
+import fontcut
+
+from .tables import DRAWN, tables_of
 
 # What a cut keeps: (CODE, a character) with its glyph, and (GLYPH, a glyph) with its metrics and its outline.
 CODE, GLYPH = 0, 1
 Kept = Dict[Tuple[int, int], Union[int, bytes]]
 _MADE = b"cmap", b"glyf", b"loca"
-
-
-def _tables(cut: bytes) -> Dict[bytes, bytes]:
-    """The tables of an accepted font."""
-    rows = struct.iter_unpack(">4s3I", cut[12:12 + 16 * struct.unpack_from(">H", cut, 4)[0]])
-    return {tag: cut[offset:offset + length] for tag, _, offset, length in rows}
 
 
 def _pairs(tables: Mapping[bytes, bytes], header: bytes) -> int:
@@ -28,7 +24,7 @@ def _pairs(tables: Mapping[bytes, bytes], header: bytes) -> int:
 def shared(cut: bytes) -> Dict[str, bytes]:
     """A digest for each table of a lean cut, of what a join wants to be the same in all files: of `head` all but its
     sum, and of metrics what is of no single glyph."""
-    tables = _tables(cut)
+    tables = tables_of(cut)
     found: Dict[str, bytes] = {}
     glyphs = struct.unpack_from(">H", tables[b"maxp"], 4)[0]
     for tag, data in tables.items():
@@ -40,6 +36,11 @@ def shared(cut: bytes) -> Dict[str, bytes]:
         if tag not in _MADE:
             found[tag.decode("latin-1")] = hashlib.sha256(data).digest()
     return found
+
+
+def drawn(digests: Mapping[str, bytes]) -> Tuple[Tuple[str, bytes], ...]:
+    """Of digests those of the tables that draw glyphs, ascending."""
+    return tuple(sorted((tag, digest) for tag, digest in digests.items() if tag.encode("latin-1") in DRAWN))
 
 
 def different_table(one: Mapping[str, bytes], other: Mapping[str, bytes]) -> Optional[str]:
@@ -59,15 +60,11 @@ def _outlines(tables: Mapping[bytes, bytes]) -> Iterator[Tuple[int, bytes]]:
 
 
 def kept(cut: bytes) -> Kept:
-    """What a lean cut keeps: the glyph of each character, and the metrics and outline of each glyph that has a
-    character or an outline."""
-    by_glyph = codes_by_glyph(cut)
-    found: Kept = {}
-    for glyph, codes in by_glyph.items():
-        found.update(((CODE, code), glyph) for code in codes)
-    for glyph, data in _outlines(_tables(cut)):
-        if glyph in by_glyph or len(data) > 4:
-            found[GLYPH, glyph] = data
+    """What a lean cut keeps: the glyph of each character, and the metrics and the outline of each glyph."""
+    codes = [code for first, last in fontcut.codes(cut) for code in range(first, last + 1)]
+    found: Kept = {(CODE, code): glyph for code, glyph in zip(codes, fontcut.glyphs(cut, codes))}
+    records = dict(_outlines(tables_of(cut)))
+    found.update(((GLYPH, glyph), records[glyph]) for glyph in fontcut.kept_glyphs(cut, kind="lean"))
     return found
 
 
