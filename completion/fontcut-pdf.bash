@@ -37,11 +37,14 @@ _fontcut_pdf() {
     if [[ $word == -* ]] && [ -z "$option" ]; then
         mapfile -t COMPREPLY < <(compgen -W "$(_fontcut_pdf_options "$command")" -- "$word")
     elif [ -z "$command" ]; then
-        mapfile -t COMPREPLY < <(compgen -W 'shrink merge fonts' -- "$word")
+        mapfile -t COMPREPLY < <(compgen -W 'shrink merge fonts extract' -- "$word")
     elif [ "$command" = merge ] || { [ "$command" = shrink ] && [ "$number" -le 2 ]; } ||
-        { [ "$command" = fonts ] && [ "$number" = 1 ]; }; then
+        { [[ $command == fonts || $command == extract ]] && [ "$number" = 1 ]; }; then
         mapfile -t COMPREPLY < <(compgen -f -X '!*.[pP][dD][fF]' -- "$word"; compgen -d -- "$word")
         # This fails outside a completion.
+        compopt -o filenames 2>/dev/null
+    elif [ "$command" = extract ] && [ "$number" = 2 ]; then
+        mapfile -t COMPREPLY < <(compgen -d -- "$word")
         compopt -o filenames 2>/dev/null
     fi
 }

@@ -9,6 +9,7 @@
     fontcut-pdf shrink [--report] IN OUT               fonts become lean cuts for the glyphs that the pages show
     fontcut-pdf merge [--report] -o OUT FILES..        the pages of all files; fonts that join become one font
     fontcut-pdf fonts FILE                             lists the embedded fonts
+    fontcut-pdf extract FILE FOLDER                    writes the lean cuts as font files
 
 `python3 -m fontcut_pdf` runs the same command. pikepdf reads and writes the files. A font qualifies if it is a
 composite font that is used by glyph numbers: a Type 0 font with the encoding Identity-H or Identity-V, over a
@@ -24,10 +25,12 @@ memory runs out. `fontcut-pdf --help` has the limits.
 from .command import main
 from .common import Outcome, Refused
 from .embedding import Embedded, embed
+from .extracting import extract
 from .files import opened
 from .joining import join_fonts
 from .merging import merge
 from .shrinking import shrink
 from .survey import fonts
 
-__all__ = ["Embedded", "Outcome", "Refused", "embed", "fonts", "join_fonts", "main", "merge", "opened", "shrink"]
+__all__ = ["Embedded", "Outcome", "Refused", "embed", "extract", "fonts", "join_fonts", "main", "merge", "opened",
+           "shrink"]

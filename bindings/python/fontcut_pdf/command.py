@@ -7,7 +7,7 @@ import logging
 import os
 import sys
 from contextlib import ExitStack, contextmanager
-from typing import Iterator, List, Optional, Sequence, Tuple
+from typing import Any, Iterator, List, Optional, Sequence, Tuple
 
 import fontcut
 import pikepdf
@@ -16,6 +16,7 @@ from pikepdf import Pdf
 
 from .common import Outcome, Refused, line, place
 from .drawing import DEEPEST
+from .extracting import extract
 from .files import opened
 from .font import MOST_WORK
 from .joining import MOST_CLASSES
@@ -66,6 +67,13 @@ already. Simple fonts do not join.
 Kept: pages with everything that belongs to them, including annotations and links to pages of their file; and
 bookmarks (outlines), below an entry with the name of each file.
 Not kept: {_NOT_KEPT}"""
+
+
+_EXTRACT = """\
+Writes each lean cut that FILE has embedded to a file in FOLDER, named like the font, and prints its name. Files of
+these names are replaced. Those that shrink and merge write, which `fonts` calls lean cuts for PDF, join with each
+other; the others join with the lean cuts of fontcut.
+"""
 
 
 def _saved(pdf: Pdf, **how: object) -> bytes:
@@ -144,6 +152,16 @@ def _run_fonts(given: argparse.Namespace) -> None:
             print_line(f"{place(outcome.page)}: {outcome.name}: {outcome.before} bytes: {outcome.said}")
 
 
+def _run_extract(given: argparse.Namespace) -> None:
+    with _named([given.file]), opened(given.file) as pdf:
+        found = extract(pdf)
+    os.makedirs(given.folder, exist_ok=True)
+    for name, cut in found:
+        path = os.path.join(given.folder, name)
+        write(path, cut)
+        print_line(f"{path}: {len(cut)} bytes")
+
+
 @contextmanager
 def _named(paths: Sequence[str]) -> Iterator[None]:
     """Within it, a refusal names its file, or all files together where none of them is refused by itself."""
@@ -160,6 +178,20 @@ def _is_pdf(path: str) -> bool:
         return False
     with open(path, "rb") as file:
         return b"%PDF-" in file.read(1024)
+
+
+def _add_listings(commands: Any) -> None:
+    """Adds the commands that write no PDF file."""
+    raw = argparse.RawDescriptionHelpFormatter
+    command = commands.add_parser("fonts", help="list the embedded fonts", epilog=_LIMITS, formatter_class=raw,
+                                  description="Lists the embedded fonts, their bytes, and whether each is a lean cut.")
+    command.add_argument("file", metavar="FILE")
+    command.set_defaults(run=_run_fonts)
+    command = commands.add_parser("extract", help="write the lean cuts as font files", epilog=_LIMITS,
+                                  formatter_class=raw, description=_EXTRACT)
+    command.add_argument("file", metavar="FILE")
+    command.add_argument("folder", metavar="FOLDER")
+    command.set_defaults(run=_run_extract)
 
 
 def _parser() -> argparse.ArgumentParser:
@@ -182,10 +214,7 @@ def _parser() -> argparse.ArgumentParser:
     command.add_argument("files", metavar="FILES", nargs="+")
     command.add_argument("--report", action="store_true", help="say what became of each font")
     command.set_defaults(run=_run_merge)
-    command = commands.add_parser("fonts", help="list the embedded fonts", epilog=_LIMITS, formatter_class=raw,
-                                  description="Lists the embedded fonts, their bytes, and whether each is a lean cut.")
-    command.add_argument("file", metavar="FILE")
-    command.set_defaults(run=_run_fonts)
+    _add_listings(commands)
     return parser
 
 
