@@ -62,7 +62,7 @@ also has the characters that a shaper takes for these, as with fontcut subset --
 
 With --shaped, hb-shape of HarfBuzz shapes the text, and the cut has just the glyphs that come: it is exact, and much
 smaller. Lines, words and all pieces of words are shaped, with and without ligatures, in each language that a page
-names, in both directions where a part goes from right to left, and with the features that its style sheets turn on.
+names, in the directions that they may have, and with the features that its style sheets turn on.
 Text that is not in the pages may vanish, and no other font steps in: text that scripts or readers write, and what
 style sheets on other hosts add. It is said which pages have such. --check draws each page in Chromium, with FONT and
 with the cut; if a pixel differs, nothing is written.

@@ -38,15 +38,15 @@ def lines_of(text: str) -> List[str]:
 
 class Page(NamedTuple):
     """What is read of a page: the text that it shows; the same by its blocks, each with blanks as they are shown; the
-    languages that it names; its style sheets, and the addresses of others; whether it has a part from right to left;
-    which scripts and fields it has that write other text."""
+    languages that it names; its style sheets, and the addresses of others; `rtl` if a part goes from right to left, and
+    `override` if one does whatever its letters are; which scripts and fields it has that write other text."""
 
     text: str
     blocks: List[str]
     languages: List[str]
     styles: List[str]
     links: List[str]
-    is_turned: bool
+    directions: Set[str]
     writers: List[str]
 
 
@@ -59,7 +59,7 @@ class _Reader(HTMLParser):
         self.silent: Optional[str] = None
         self.running: List[str] = []
         self.found: Dict[str, List[str]] = {"languages": [], "styles": [], "links": [], "writers": []}
-        self.is_turned = False
+        self.directions: Set[str] = set()
 
     def handle_starttag(self, tag: str, attrs: List[Tuple[str, Optional[str]]]) -> None:
         given = {name: value or "" for name, value in attrs}
@@ -80,7 +80,7 @@ class _Reader(HTMLParser):
             found["links"].append(given["href"])
         if tag == "meta" and given.get("http-equiv", "").lower() == "content-language":
             found["languages"] += filter(None, map(str.strip, given.get("content", "").split(",")))
-        self.is_turned |= tag == "bdo" or given.get("dir", "").lower() == "rtl"
+        self.directions |= {"override"} if tag == "bdo" else {given.get("dir", "").lower()} & {"rtl"}
         if tag == "script" and given.get("type", "").lower() in _RUNNING or any(name[:2] == "on" for name in given):
             found["writers"].append("scripts")
         if tag in ("textarea", "select") or tag == "input" and given.get("type", "").lower() in _WRITTEN:
@@ -104,7 +104,7 @@ class _Reader(HTMLParser):
         """What was read."""
         found = {name: list(dict.fromkeys(values)) for name, values in self.found.items()}
         return Page("".join(self.texts), lines_of("".join(self.running)), found["languages"], found["styles"],
-                    found["links"], self.is_turned, found["writers"])
+                    found["links"], self.directions, found["writers"])
 
 
 def decoded(data: bytes) -> str:

@@ -17,7 +17,8 @@ from .shaping import Setting, place_of
 from .styles import Features, Styles, cased, sheets_of, styles_of
 
 # All pieces of a word of so many characters are shaped. Of a longer one, which scripts without blanks have, these are
-# its pieces of so few characters, its beginnings and its ends.
+# its pieces of so few characters at most, and from each character on one of as many as a whole word has: where a word
+# is split changes no glyph that is farther away.
 _WHOLE, _PIECE = 64, 16
 # Of so many features that style sheets turn on, each two are tried together.
 _MOST_PAIRED = 8
@@ -36,7 +37,7 @@ class Shown(NamedTuple):
     text: str
     blocks: List[str]
     languages: List[str]
-    directions: List[str]
+    directions: Set[str]
     features: List[Features]
     unknown: List[str]
 
@@ -54,7 +55,7 @@ def shown_by(page: Page, path: str, more: Sequence[Features], text: str = "") ->
 def letters_of(page: Shown) -> Set[str]:
     """The characters of what a page shows, and those that a shaper takes for them in its directions."""
     found = set(page.text) | set(fontcut.needed(page.text))
-    if "rtl" in page.directions:
+    if page.directions & {"rtl", "override"}:
         # Beside a letter from right to left, those that mirror others are needed.
         found |= set(fontcut.needed(f"{page.text}\n{_TURNED}")) - {_TURNED}
     if "ttb" in page.directions:
@@ -69,11 +70,17 @@ def _upright() -> Dict[int, str]:
     return {form: chr(int(parts[1], 16)) for form, parts in forms.items() if parts[:1] == ["<vertical>"]}
 
 
-def _directions(page: Page, styles: Styles, blocks: Sequence[str]) -> List[str]:
-    """The directions that text is shaped in: its own, unless some of it may be turned."""
+def _directions(page: Page, styles: Styles, blocks: Sequence[str]) -> Set[str]:
+    """The directions of a page, as its style sheets and its letters have them too."""
     classes = set(map(properties.bidirectional, "".join(blocks)))
-    is_turned = page.is_turned or not classes.isdisjoint(("R", "AL"))
-    return sorted(styles.directions | ({"ltr", "rtl"} if is_turned else set())) or [""]
+    return page.directions | styles.directions | (set() if classes.isdisjoint(("R", "AL")) else {"rtl"})
+
+
+def _shaped_in(directions: Set[str], is_of_any: bool) -> List[str]:
+    """The directions that text is shaped in on a page of such directions: letters have their own, if nothing overrides
+    it, and text without letters may have either."""
+    is_turned = "override" in directions or is_of_any and "rtl" in directions
+    return sorted({*(("ltr", "rtl") if is_turned else ("",)), *(directions & {"ttb"})})
 
 
 def _unknown(page: Page, path: str, styles: Styles, lost: Sequence[str]) -> Iterator[str]:
@@ -88,13 +95,12 @@ def _unknown(page: Page, path: str, styles: Styles, lost: Sequence[str]) -> Iter
 
 
 def _pieces(word: str) -> Iterator[str]:
-    """The pieces of a word: all of them, or of a very long one the short ones, its beginnings and its ends."""
+    """The pieces of a word. Of a long one these are short, or one for each character."""
     count = len(word)
     for first in range(count):
         most = count if count <= _WHOLE else min(first + _PIECE, count)
         yield from (word[first:last] for last in range(first + 1, most + 1))
-        yield word[first:]
-        yield word[:first + 1]
+        yield word[first:first + _WHOLE]
 
 
 def _runs(text: str) -> Iterator[str]:
@@ -163,12 +169,13 @@ def _scripts(text: str) -> Set[str]:
     return set(map(properties.script, text)) - set(_COMMON)
 
 
-def _settings(page: Shown, scripts: Iterable[str], known: Set[str], places: Sequence[Tuple[Tuple[str, float], ...]]
+def _settings(page: Shown, scripts: Sequence[str], known: Set[str], places: Sequence[Tuple[Tuple[str, float], ...]]
               ) -> Iterator[Setting]:
-    """The settings in which the texts of a page are shaped."""
-    sets = _combined(page.features, known)
+    """The settings in which texts of a page are shaped, which are of one of these scripts, or of their own where there
+    is no list."""
+    sets, directions = _combined(page.features, known), _shaped_in(page.directions, bool(scripts))
     for language, direction, script, features, place in itertools.product(
-            page.languages, page.directions, scripts, sets, places):
+            page.languages, directions, scripts or [""], sets, places):
         yield Setting(language, direction, features, place, script)
 
 
@@ -176,11 +183,11 @@ def _taken_of(path: str, page: Shown, known: Set[str], places: Sequence[Tuple[Tu
     """The glyphs that a page takes of the font in a file."""
     texts, found = strings(page.blocks), set()  # type: List[str], Set[int]
     scripts = {text: _scripts(text) for text in texts}
-    of_any = [text for text in texts if not scripts[text]]
-    for some, named in (([text for text in texts if scripts[text]], [""]),
-                        (of_any, ["", *sorted(set().union(*scripts.values()))])):
-        for setting in _settings(page, named, known, places):
-            found |= shaping.glyphs(path, some, setting)
+    of_some, of_any = ([text for text in texts if bool(scripts[text]) == has_letters] for has_letters in (True, False))
+    for setting in _settings(page, [], known, places):
+        found |= shaping.glyphs(path, of_some, setting)
+    for setting in _settings(page, ["", *sorted(set().union(*scripts.values()))], known, places):
+        found |= shaping.glyphs(path, of_any, setting)
     return found
 
 

@@ -43,8 +43,8 @@ _CAPITALS = frozenset("small-caps all-small-caps petite-caps all-petite-caps uni
 
 
 class Styles(NamedTuple):
-    """What style sheets say: the features of each rule, the cases that text is changed to, text that is added,
-    directions beside that of the text, and what could not be read."""
+    """What style sheets say: the features of each rule, the cases that text is changed to, text that is added, the
+    directions of text, as a page has them and `ttb` for vertical lines, and what could not be read."""
 
     features: List[Features]
     cases: List[str]
@@ -121,9 +121,11 @@ def _texts(name: str, value: str) -> Iterator[str]:
 
 def _directions(name: str, value: str) -> Set[str]:
     """Directions that a declaration gives to text."""
-    if name in ("direction", "unicode-bidi"):
-        return {"ltr", "rtl"}
-    return {"ltr", "ttb"} if name == "writing-mode" and not value.lower().startswith("horizontal") else set()
+    value = value.strip().lower()
+    found = {("direction", "rtl"): "rtl", ("unicode-bidi", "bidi-override"): "override",
+             ("unicode-bidi", "isolate-override"): "override"}.get((name, value), "")
+    is_vertical = name == "writing-mode" and not value.startswith("horizontal")
+    return {"ttb"} if is_vertical else {found} - {""}
 
 
 def _unread(name: str, value: str) -> Iterator[str]:
