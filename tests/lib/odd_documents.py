@@ -1,5 +1,5 @@
-"""PDF files for `tests/documents_pdf` that few programs write: streams with several resources, hidden pages, names of any
-bytes, and small files that ask for much."""
+"""PDF files for `tests/documents_pdf` that few programs write: streams with several resources, hidden pages, names of
+any bytes, numbers that a stream maps to glyphs, simple fonts, and small files that ask for much."""
 from __future__ import annotations
 
 import re

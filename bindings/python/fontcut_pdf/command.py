@@ -71,8 +71,8 @@ Not kept: {_NOT_KEPT}"""
 
 _EXTRACT = """\
 Writes each lean cut that FILE has embedded to a file in FOLDER, named like the font, and prints its name. Files of
-these names are replaced. Those that shrink and merge write, which `fonts` calls lean cuts for PDF, join with each
-other; the others join with the lean cuts of fontcut.
+these names are replaced. Those that `fonts` calls lean cuts for PDF join with each other, and the others with the lean
+cuts of fontcut.
 """
 
 
