@@ -126,7 +126,7 @@ typedef enum fontcut_status {
     FONTCUT_NOT_A_CUT = 20,          /* the file is a font, but no cut; step: its index */
     FONTCUT_DIFFERENT_TABLE = 21,    /* the files differ in a table; detail: the tag */
     FONTCUT_DIFFERENT_MAPPING = 22,  /* they map a code to two glyphs; detail: the least such code */
-    FONTCUT_DIFFERENT_GLYPH = 23,    /* they have two outlines of a glyph; detail: the least such glyph */
+    FONTCUT_DIFFERENT_GLYPH = 23,    /* a glyph that both keep differs; detail: the least such glyph */
     FONTCUT_NOTHING_TO_JOIN = 24,    /* there is no file */
     FONTCUT_BAD_LAYOUT = 27,         /* GSUB cannot be read, which is asked where its links are followed alone */
     FONTCUT_BAD_VARIATIONS = 28,     /* gvar cannot be read, which is asked for variable cuts alone */

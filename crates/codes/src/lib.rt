@@ -5,6 +5,7 @@
 
 mod code_points;
 mod code_range;
+mod laws;
 mod ranges;
 mod runs;
 mod search;
@@ -13,6 +14,7 @@ mod word;
 
 pub use crate::code_points::{CODES, LAST_CODE};
 pub use crate::code_range::CodeRange;
+pub use crate::laws::code_points_are;
 pub use crate::runs::{Pieces, Run, clip, mapped_count, next_run, run_of};
 pub use crate::search::{ANYWHERE, Ends, first_reaching};
 pub use crate::wanted::{Wanted, WantedError};

@@ -185,8 +185,10 @@ pub(crate) const LAYOUT_SLICES: &str = "Writes layout cuts, as subset --layout d
 pub(crate) const VARIABLE_SLICES: &str = "Writes variable cuts, as subset --variable does";
 
 pub(crate) const AFTER_SLICE: &str = "\
-A line of the file of slices: latin U+20-7E,U+A0-FF. The font is tested once for all slices. A rule lists
-the codes of its slice that the font maps; a slice without any has no rule, and is named on standard error.
+A line of the file of slices: latin U+20-7E,U+A0-FF. In lean, layout and variable cuts the words gid5 and
+gid7-9 keep glyphs by their numbers. The font is tested once for all slices. A rule lists the codes of its
+slice that the font maps; a slice without any has no rule, and is named on standard error if it has no glyph
+numbers either.
 
 Examples:
   fontcut slice font.ttf slices --slices slices.txt --lean

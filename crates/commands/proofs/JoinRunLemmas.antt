@@ -2,7 +2,8 @@
 use Rattle.std.proofs.Common.{true, ◌≡◌, ◌∙◌, ℕ, List, [], Option, ap, length, refl, subst, sym}
 use Rattle.font_theory.specs.Content.{Wanted}
 use Rattle.font_theory.specs.Cut.{Format}
-use Rattle.font_join.specs.JoinList.{IsAllJoined, IsAllRefusal, IsForSizeInto, IsForSizeOf, StopsJoin}
+use Rattle.font_join.specs.JoinList.{AllRefusalIsRight, IsAllJoined, IsAllRefusal, IsForSizeInto, IsForSizeOf}
+use Rattle.font_join.specs.JoinList.{StopsJoin}
 use Rattle.streams.specs.Outlet as outlets
 use Rattle.font_join.specs.declared.join_error.JoinAllIntoError.{JoinAllIntoError}
 use Rattle.font_join.specs.declared.join_error.JoinAllIntoError.TheVariants.{NotJoined, WriteFault}
@@ -11,7 +12,7 @@ use Rattle.font_join.specs.declared.join_error.JoinAllError.TheVariants.{At, Not
 use Rattle.font_join.specs.declared.join_error.JoinError.TheVariants.{DifferentGlyph, DifferentMapping, DifferentTable}
 use Rattle.font_join.specs.declared.join_error.JoinError.TheVariants.{Font, NoMemory, NotACut, TooLarge}
 use Rattle.streams.specs.declared.outlet.Outlet.{Outlet}
-use Rattle.commands.specs.JoinRun.{AreGot, AreSpent, JoinStops, OnlySize, ReadStops}
+use Rattle.commands.specs.JoinRun.{AreGot, AreSpent, IsRightlyRefused, JoinStops, OnlySize, ReadStops}
 use Rattle.commands.specs.Run.{of_join_error, of_join_into_error}
 use Rattle.streams.specs.declared.inlet.Inlet.{Inlet}
 use Rattle.commands.specs.declared.run_error.RunError.{RunError}
@@ -93,3 +94,35 @@ pub finish_stopped : {R W : Type 0} (format : Format) (remaining : R → Option 
     → JoinStops format remaining contents old new o p (runs.Write count)
 finish_stopped format remaining contents old new o m p files spent got fresh z joined sent flushed count is broken =
     (spent, broken, sym is, (files, got, (z, joined, sends_all contents o m p z fresh sent flushed count is)))
+
+-- a refusal of the join says what it should; no other error says anything of the files
+pub rightly_refused : {R : Type 0} (format : Format) (remaining : R → Option (List ℕ)) (old : List (Inlet R))
+    (files : List (List ℕ)) → AreGot remaining old files → (error : JoinAllError) → AllRefusalIsRight format files error
+    → IsRightlyRefused format remaining old (of_join_error error)
+rightly_refused format remaining old files got NothingToJoin r = (files, got, r)
+rightly_refused format remaining old files got (At step NoMemory) r = tt
+rightly_refused format remaining old files got (At step (TooLarge size)) r = (files, got, r)
+rightly_refused format remaining old files got (At step (Font which error)) r = (files, got, r)
+rightly_refused format remaining old files got (At step (NotACut which)) r = (files, got, r)
+rightly_refused format remaining old files got (At step (DifferentTable tag)) r = (files, got, r)
+rightly_refused format remaining old files got (At step (DifferentMapping code)) r = (files, got, r)
+rightly_refused format remaining old files got (At step (DifferentGlyph g)) r = (files, got, r)
+
+pub into_rightly_refused : {R : Type 0} (format : Format) (remaining : R → Option (List ℕ)) (old : List (Inlet R))
+    (files : List (List ℕ)) → AreGot remaining old files → (error : JoinAllIntoError) → ((e : JoinAllError)
+    → error ≡ NotJoined e → AllRefusalIsRight format files e)
+    → IsRightlyRefused format remaining old (of_join_into_error error)
+into_rightly_refused format remaining old files got (NotJoined error) right =
+    rightly_refused format remaining old files got error (right error refl)
+into_rightly_refused format remaining old files got (WriteFault written) right = tt
+
+pub read_refused : {R : Type 0} (format : Format) (remaining : R → Option (List ℕ)) (old new : List (Inlet R))
+    (error : RunError) → ReadStops remaining old new error → IsRightlyRefused format remaining old error
+read_refused format remaining old new (runs.Read count) stops = tt
+read_refused format remaining old new runs.Memory stops = tt
+read_refused format remaining old new (runs.Write count) stops = absurd stops
+read_refused format remaining old new (runs.Font error) stops = absurd stops
+read_refused format remaining old new (runs.OneOf which error) stops = absurd stops
+read_refused format remaining old new (runs.NoGlyph number) stops = absurd stops
+read_refused format remaining old new (runs.TooLarge size) stops = absurd stops
+read_refused format remaining old new (runs.Join error) stops = absurd stops

@@ -111,9 +111,10 @@ module _ (r : Request) where
   file_stops remaining contents i j o p file whole came (Join error) stops = absurd stops
 
   -- the cut of a file that came, which was sent
-  pub file_sent : {R W : Type 0} (remaining : R → Option (List ℕ)) (contents : W → Option (List ℕ)) (i j : Inlet R)
-      (o p : Outlet W) (file : List ℕ) → inlet_fresh_of j ≡ false → inlet_broken_of j ≡ false → Came remaining i file
-      → (result : Result ℕ RunError) → SendsCut contents r file o p result
+  pub file_sent : {R W : Type 0} {held : W → List ℕ} (remaining : R → Option (List ℕ))
+      (contents : W → Option (List ℕ)) (i j : Inlet R) (o p : Outlet W) (file : List ℕ) → inlet_fresh_of j ≡ false
+      → inlet_broken_of j ≡ false → Came remaining i file
+      → (result : Result ℕ RunError) → SendsCut contents held r file o p result
       → SendsText remaining contents Has made (RefusesCutIn r remaining i) i j o p result
   file_sent remaining contents i j o p file spent whole came (Ok size) sends =
       record {
@@ -134,9 +135,9 @@ module _ (r : Request) where
       }
 
   -- its size
-  pub file_size : {R W : Type 0} (remaining : R → Option (List ℕ)) (contents : W → Option (List ℕ)) (i : Inlet R)
-      (o p : Outlet W) (file : List ℕ) → Came remaining i file
-      → (result : Result ℕ RunError) → SendsCut contents r file o p result
+  pub file_size : {R W : Type 0} {held : W → List ℕ} (remaining : R → Option (List ℕ))
+      (contents : W → Option (List ℕ)) (i : Inlet R) (o p : Outlet W) (file : List ℕ) → Came remaining i file
+      → (result : Result ℕ RunError) → SendsCut contents held r file o p result
       → IfOk result (λ size. (size ≤ MAX_FILE) × got remaining i (λ f. size ≡ length (made f)))
   file_size remaining contents i o p file came (Ok size) sends = (
     subst (λ (n : ℕ). n ≤ MAX_FILE) (sym sends.size) sends.has.1,
@@ -145,9 +146,9 @@ module _ (r : Request) where
   file_size remaining contents i o p file came (Err error) sends = tt
 
   -- a call that ends with an error: what is said of the call follows from what is said of the error
-  pub cut_err : {W : Type 0} (contents : W → Option (List ℕ)) (file : List ℕ) (o p : Outlet W)
+  pub cut_err : {W : Type 0} {held : W → List ℕ} (contents : W → Option (List ℕ)) (file : List ℕ) (o p : Outlet W)
       (result : Result ℕ RunError) (error : RunError) → IsErrAnd result (λ e. e ≡ error)
-      → CutStops contents r file o p error → SendsCut contents r file o p result
+      → CutStops contents r file o p error → SendsCut contents held r file o p result
   cut_err contents file o p (Ok size) error is stops = absurd is
   cut_err contents file o p (Err e) error is stops =
       record {

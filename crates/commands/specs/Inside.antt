@@ -4,7 +4,7 @@ use Rattle.std.specs.Prelude.{take}
 use Rattle.font_subset.specs.CutOfFont.{IsTooLarge}
 use Rattle.font_file.specs.Font.{font_fault}
 use Rattle.streams.specs.declared.outlet.Outlet.{Outlet}
-use Rattle.streams.specs.Outlet.{WentOut, broken_of, flushed_of, written_of}
+use Rattle.streams.specs.Outlet.{IsFlushed, WentOut, broken_of, written_of}
 use Rattle.commands.specs.Run.{HasCutIn, Request, cut_for, fault_for, stray_number}
 use Rattle.commands.specs.declared.run_error.RunError.{RunError}
 use Rattle.commands.specs.declared.run_error.RunError.TheVariants.{Font, Join, Memory, NoGlyph, OneOf, Read, TooLarge}
@@ -32,12 +32,12 @@ CutStops contents r file o p (OneOf which error) = ⊥
 CutStops contents r file o p (Join error) = ⊥
 
 -- how a call that sends the cut of a file leaves its outlet, from o to p
-pub record SendsCut {W : Type 0} (contents : W → Option (List ℕ)) (r : Request) (file : List ℕ)
+pub record SendsCut {W : Type 0} (contents : W → Option (List ℕ)) (held : W → List ℕ) (r : Request) (file : List ℕ)
     (o p : Outlet W) (result : Result ℕ RunError) : Type 0 where
   pub has : OnOk result (HasCutIn r file)
   pub sent : OnOk result (WentOut contents o p (cut_for r file))
   pub unbroken : OnOk result (broken_of p ≡ false)
-  pub flushed : OnOk result (flushed_of p ≡ true)
+  pub flushed : OnOk result (IsFlushed held p)
   pub size : IfOk result (λ size. size ≡ length (cut_for r file))
   pub error : IfErr result (CutStops contents r file o p)
 

@@ -5,7 +5,7 @@ use Rattle.std.specs.List.{AllWithin, slice_get}
 use Rattle.font_theory.specs.Content.{Wanted}
 use Rattle.font_theory.specs.Cut.{Format, cut}
 use Rattle.font_theory.specs.Tree.{file_at, union_below}
-use Rattle.font_join.specs.JoinList.{AreCuts, IsAllJoined, IsAllRefusal}
+use Rattle.font_join.specs.JoinList.{AllRefusalIsRight, AreCuts, IsAllJoined, IsAllRefusal, IsLeastOf}
 use Rattle.font_join.specs.Join.{IsForSize}
 use Rattle.streams.specs.Outlet as outlets
 use Rattle.font_join.specs.declared.join_error.JoinAllError.TheVariants.{At, NothingToJoin}
@@ -95,6 +95,19 @@ abbrev pub SendsJoin : {R W : Type 0} (format : Format) (remaining : R → Optio
 SendsJoin format remaining contents i o p size =
     OfGot remaining i (λ files. (z : List ℕ) × IsAllJoined format files z × (size ≡ length z)
     × outlets.WentOut contents o p z)
+
+-- the least file of which all that came from the readers are cuts went out, and has this number of bytes
+abbrev pub SendsLeast : {R W : Type 0} (format : Format) (remaining : R → Option (List ℕ))
+    (contents : W → Option (List ℕ)) (i : List (Inlet R)) (o p : Outlet W) → ℕ → Type 0
+SendsLeast format remaining contents i o p size =
+    OfGot remaining i (λ files. (z : List ℕ) × IsLeastOf format files z × (size ≡ length z)
+    × outlets.WentOut contents o p z)
+
+-- what came from the readers is refused, and that says what it should
+abbrev pub IsRightlyRefused : {R : Type 0} → Format → (R → Option (List ℕ)) → List (Inlet R) → RunError → Type 0
+IsRightlyRefused format remaining list (Join error) =
+    OfGot remaining list (λ files. AllRefusalIsRight format files error)
+IsRightlyRefused format remaining list _ = Unit {0}
 
 -- what came from the readers, whatever it is, are cuts of F for some sets, none of them too large
 abbrev pub GotCuts : {R : Type 0} → Format → (R → Option (List ℕ)) → List (Inlet R) → List ℕ →

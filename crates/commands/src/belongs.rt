@@ -1,6 +1,6 @@
 //! `belongs`: whether a file is a cut of a font.
 ghost use Rattle.std.specs.Prelude.{◌≡◌, None, IfErr, IfOk, MatchResult, OnOk, false, true};
-ghost use Rattle.streams.specs.Outlet.{WentOut, broken_of, flushed_of, fresh_of};
+ghost use Rattle.streams.specs.Outlet.{IsFlushed, WentOut, broken_of, fresh_of};
 ghost use Rattle.font_theory.specs.declared.kinds.Kind.{Kind};
 ghost use Rattle.font_theory.specs.Kinds.{fault_of};
 ghost use Rattle.commands.specs.Belongs.{Answers, BelongsStops, IsUnanswered, IsUnopened, answer_text, got_both, of_unopened};
@@ -13,8 +13,8 @@ use font_join::Which;
 use font_subset::{FontOfKind, OpenError, belongs};
 use font_theory::Kind;
 use std::alloc::Allocator;
-use std::io::{Read, Write};
-use streams::{Inlet, Outlet};
+use std::io::Read;
+use streams::{Flushes, Inlet, Outlet};
 
 // Opens one of two files, or returns why that one is refused as a font.
 fn opened_as(which: Which, file: &[u8]) -> Result<Font<'_>, RunError>
@@ -122,7 +122,7 @@ fn answer(belongs: bool) -> &'static str
 /// `Read` where a reader fails: its inlet is broken, and a font is not read after a cut that was not.
 /// `Memory` where memory is refused, `OneOf` where a file is refused as a font, the cut being looked at
 /// first: then nothing was sent. `Write` where the writer fails.
-pub fn run_belongs<R: Read, W: Write, A: Allocator + Copy>(
+pub fn run_belongs<R: Read, W: Flushes, A: Allocator + Copy>(
     alloc: A,
     kind: Kind,
     cut: &mut Inlet<R>,
@@ -138,7 +138,7 @@ pub fn run_belongs<R: Read, W: Write, A: Allocator + Copy>(
         (λ x y. Answers kind x y answer)) }
     ensures sent { IfOk result (λ answer. WentOut W.contents outlet.old outlet.new (answer_text answer)) }
     ensures whole { OnOk result (IsSpent cut.new × IsSpent font.new × (broken_of outlet.new ≡ false)) }
-    ensures flushed { OnOk result (flushed_of outlet.new ≡ true) }
+    ensures flushed { OnOk result (IsFlushed W.held outlet.new) }
 
     ensures error { IfErr result
         (BelongsStops kind R.remaining W.contents cut.old cut.new font.old font.new

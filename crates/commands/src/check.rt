@@ -5,7 +5,7 @@ ghost use Rattle.sfnt_bytes.specs.Findings.{findings_of};
 ghost use Rattle.font_file.specs.Font.{font_fault};
 ghost use Rattle.commands.specs.Check.{check_text, finding_line, read_findings, report_text, shown_findings};
 ghost use Rattle.streams.specs.Inlet.{inlet_fresh_of};
-ghost use Rattle.streams.specs.Outlet.{flushed_of, fresh_of};
+ghost use Rattle.streams.specs.Outlet.{IsFlushed, fresh_of};
 ghost use Rattle.commands.specs.Run.{AnyFile, RefusesNone, SendsText, got};
 
 use crate::run_error::{RunError, send};
@@ -13,8 +13,8 @@ use font_file::{Font, FontError};
 use sfnt_bytes::{Directory, Finding};
 use std::alloc::{AllocError, Allocator};
 use std::fmt;
-use std::io::{Read, Write};
-use streams::{Inlet, Outlet};
+use std::io::Read;
+use streams::{Flushes, Inlet, Outlet};
 
 // A line for each finding.
 #[derive(Clone, Copy)]
@@ -95,7 +95,7 @@ impl<A: Allocator> fmt::Display for Report<A> {
 /// `Read` where the reader fails, `Memory` where memory is refused: then nothing was sent. `Write` where
 /// the writer fails.
 #[tactic(auto, using(crate::proofs::CheckLemmas::read_findings_accepted), unfolding(crate::specs::Check::check_text))]
-pub fn run_check<R: Read, W: Write, A: Allocator + Copy>(
+pub fn run_check<R: Read, W: Flushes, A: Allocator + Copy>(
     alloc: A,
     inlet: &mut Inlet<R>,
     outlet: &mut Outlet<W>,
@@ -105,7 +105,7 @@ pub fn run_check<R: Read, W: Write, A: Allocator + Copy>(
     // `check` reports a refused file on the outlet; it is not an error of the run.
     ensures sent { SendsText R.remaining W.contents AnyFile check_text RefusesNone
         inlet.old inlet.new outlet.old outlet.new result }
-    ensures flushed { OnOk result (flushed_of outlet.new ≡ true) }
+    ensures flushed { OnOk result (IsFlushed W.held outlet.new) }
     ensures answer { IfOk result (λ clean. got R.remaining inlet.old
         (λ file. IsTrue clean ↔ (font_fault file ≡ None) × (findings_of file ≡ []))) }
 {

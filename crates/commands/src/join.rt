@@ -6,15 +6,15 @@ ghost use Rattle.font_theory.specs.declared.kinds.Kind.TheVariants.{Full};
 ghost use Rattle.sfnt_bytes.specs.declared.directory.TheConstants.{MAX_FILE};
 ghost use Rattle.font_theory.specs.Kinds.{format_of};
 ghost use Rattle.font_theory.specs.Tree.{union_below};
-ghost use Rattle.streams.specs.Outlet.{WentOut, broken_of, flushed_of, fresh_of};
-ghost use Rattle.commands.specs.JoinRun.{AreFresh, AreGot, AreSpent, GotCuts, JoinStops, OnlySize, ReadStops, SendsJoin};
+ghost use Rattle.streams.specs.Outlet.{IsFlushed, WentOut, broken_of, fresh_of};
+ghost use Rattle.commands.specs.JoinRun.{AreFresh, AreGot, AreSpent, GotCuts, IsRightlyRefused, JoinStops, OnlySize, ReadStops, SendsJoin, SendsLeast};
 
 use crate::run_error::RunError;
 use font_join::join_all_of_kind_into;
 use font_theory::Kind;
 use std::alloc::Allocator;
-use std::io::{Read, Write};
-use streams::{Inlet, Outlet};
+use std::io::Read;
+use streams::{Flushes, Inlet, Outlet};
 
 // Reads each inlet to its end, in order. Where a reader fails, its inlet is broken, and no other.
 fn read_each<R: Read, A: Allocator + Copy>(
@@ -43,7 +43,7 @@ fn read_each<R: Read, A: Allocator + Copy>(
 /// `Read` where a reader fails: its inlet is broken, and no other. `Memory` where memory is refused, and
 /// `Join` with the first step that is refused, a size that is too large among them. Nothing was sent in
 /// these cases. `Write` where the writer fails.
-pub fn run_join_of_kind<R: Read, W: Write, A: Allocator + Copy>(
+pub fn run_join_of_kind<R: Read, W: Flushes, A: Allocator + Copy>(
     alloc: A,
     kind: Kind,
     inlets: &mut [Inlet<R>],
@@ -56,11 +56,14 @@ pub fn run_join_of_kind<R: Read, W: Write, A: Allocator + Copy>(
         (SendsJoin (format_of kind) R.remaining W.contents inlets.old outlet.old outlet.new) }
     ensures small { IfOk result (λ size. size ≤ MAX_FILE) }
     ensures whole { OnOk result (AreSpent inlets.new × (broken_of outlet.new ≡ false)) }
-    ensures flushed { OnOk result (flushed_of outlet.new ≡ true) }
+    ensures flushed { OnOk result (IsFlushed W.held outlet.new) }
     ensures cuts { (F : List ℕ) (A : ℕ → Wanted) → GotCuts (format_of kind) R.remaining inlets.old F A →
         MatchResult result (λ size. let z = cut_in kind F (union_below A (length inlets.old)) in
         (size ≡ length z) × WentOut W.contents outlet.old outlet.new z)
         (OnlySize (format_of kind) F A (length inlets.old)) }
+    ensures upper { IfOk result
+        (SendsLeast (format_of kind) R.remaining W.contents inlets.old outlet.old outlet.new) }
+    ensures refused { IfErr result (IsRightlyRefused (format_of kind) R.remaining inlets.old) }
 
     ensures error { IfErr result
         (JoinStops (format_of kind) R.remaining W.contents inlets.old inlets.new outlet.old outlet.new) }
@@ -78,7 +81,7 @@ pub fn run_join_of_kind<R: Read, W: Write, A: Allocator + Copy>(
 /// `Read` where a reader fails: its inlet is broken, and no other. `Memory` where memory is refused, and
 /// `Join` with the first step that is refused, a size that is too large among them. Nothing was sent in
 /// these cases. `Write` where the writer fails.
-pub fn run_join<R: Read, W: Write, A: Allocator + Copy>(
+pub fn run_join<R: Read, W: Flushes, A: Allocator + Copy>(
     alloc: A,
     inlets: &mut [Inlet<R>],
     outlet: &mut Outlet<W>,
@@ -90,11 +93,14 @@ pub fn run_join<R: Read, W: Write, A: Allocator + Copy>(
         (SendsJoin (format_of Full) R.remaining W.contents inlets.old outlet.old outlet.new) }
     ensures small { IfOk result (λ size. size ≤ MAX_FILE) }
     ensures whole { OnOk result (AreSpent inlets.new × (broken_of outlet.new ≡ false)) }
-    ensures flushed { OnOk result (flushed_of outlet.new ≡ true) }
+    ensures flushed { OnOk result (IsFlushed W.held outlet.new) }
     ensures cuts { (F : List ℕ) (A : ℕ → Wanted) → GotCuts (format_of Full) R.remaining inlets.old F A →
         MatchResult result (λ size. let z = cut_in Full F (union_below A (length inlets.old)) in
         (size ≡ length z) × WentOut W.contents outlet.old outlet.new z)
         (OnlySize (format_of Full) F A (length inlets.old)) }
+    ensures upper { IfOk result
+        (SendsLeast (format_of Full) R.remaining W.contents inlets.old outlet.old outlet.new) }
+    ensures refused { IfErr result (IsRightlyRefused (format_of Full) R.remaining inlets.old) }
 
     ensures error { IfErr result
         (JoinStops (format_of Full) R.remaining W.contents inlets.old inlets.new outlet.old outlet.new) }

@@ -3,7 +3,7 @@ ghost use Rattle.std.specs.Prelude.{◌≡◌, ◌+◌, ◌≤◌, ◌∷◌, �
 ghost use Rattle.codes.specs.CharacterMap.{IsCharacterMap};
 ghost use Rattle.codes.specs.declared.code_points.TheConstants.{LAST_CODE};
 ghost use Rattle.font_map.specs.Mapping.{mapping_of};
-ghost use Rattle.streams.specs.Outlet.{flushed_of, fresh_of};
+ghost use Rattle.streams.specs.Outlet.{IsFlushed, fresh_of};
 ghost use Rattle.commands.specs.Codes.{CodesLaws, code_lines, code_ranges, codes_text};
 ghost use Rattle.streams.specs.Inlet.{inlet_fresh_of};
 ghost use Rattle.commands.specs.Inside.{RefusesText};
@@ -16,8 +16,8 @@ use font_file::Font;
 use font_map::Chart;
 use std::alloc::{Allocator, Global};
 use std::fmt;
-use std::io::{Read, Write};
-use streams::{Inlet, Outlet};
+use std::io::Read;
+use streams::{Flushes, Inlet, Outlet};
 
 // The mapped codes of a font, by the chart of its mapping, which is quick to walk in whatever order its
 // subtable stands.
@@ -81,7 +81,7 @@ fn codes_of_file<A: Allocator + Copy>(alloc: A, file: &[u8]) -> Result<String<A>
 /// # Errors
 /// `Read` where the reader fails, `Memory` where memory is refused, `Font` where the font is: then
 /// nothing was sent. `Write` where the writer fails.
-pub fn run_codes<R: Read, W: Write, A: Allocator + Copy>(
+pub fn run_codes<R: Read, W: Flushes, A: Allocator + Copy>(
     alloc: A,
     inlet: &mut Inlet<R>,
     outlet: &mut Outlet<W>,
@@ -90,7 +90,7 @@ pub fn run_codes<R: Read, W: Write, A: Allocator + Copy>(
     requires outlet { fresh_of outlet.old ≡ true }
     ensures sent { SendsText R.remaining W.contents IsAccepted codes_text (RefusesFont R.remaining inlet.old)
         inlet.old inlet.new outlet.old outlet.new result }
-    ensures flushed { OnOk result (flushed_of outlet.new ≡ true) }
+    ensures flushed { OnOk result (IsFlushed W.held outlet.new) }
 {
     let file = inlet.read_all(alloc)?;
     let text = codes_of_file(alloc, &file)?;

@@ -6,7 +6,7 @@ ghost use Rattle.codes.specs.Wanted.{IsBadRange};
 ghost use Rattle.codes.specs.Word.{IsWord, code_word};
 ghost use Rattle.font_file.specs.Font.{font_fault, map_of};
 ghost use Rattle.streams.specs.Inlet.{inlet_fresh_of};
-ghost use Rattle.streams.specs.Outlet.{flushed_of, fresh_of};
+ghost use Rattle.streams.specs.Outlet.{IsFlushed, fresh_of};
 ghost use Rattle.commands.specs.MappedGlyphs.{glyph_line, glyph_text, glyphs_text, mapped_from};
 ghost use Rattle.commands.specs.Places.{IsPlace, IsPlaceFrom};
 ghost use Rattle.commands.specs.Inside.{RefusesText};
@@ -18,9 +18,9 @@ use font_file::Font;
 use font_map::Chart;
 use std::alloc::{Allocator, Global};
 use std::fmt;
-use std::io::{Read, Write};
+use std::io::Read;
 use std::marker::Model;
-use streams::{Inlet, Outlet};
+use streams::{Flushes, Inlet, Outlet};
 
 // A code, its glyph, and how far that advances, which are printed as a line.
 #[derive(Clone, Copy)]
@@ -141,7 +141,7 @@ fn glyphs_of_file<A: Allocator + Copy>(alloc: A, file: &[u8]) -> Result<String<A
 /// # Errors
 /// `Read` where the reader fails, `Memory` where memory is refused, `Font` where the font is: then
 /// nothing was sent. `Write` where the writer fails.
-pub fn run_glyphs<R: Read, W: Write, A: Allocator + Copy>(
+pub fn run_glyphs<R: Read, W: Flushes, A: Allocator + Copy>(
     alloc: A,
     inlet: &mut Inlet<R>,
     outlet: &mut Outlet<W>,
@@ -150,7 +150,7 @@ pub fn run_glyphs<R: Read, W: Write, A: Allocator + Copy>(
     requires outlet { fresh_of outlet.old ≡ true }
     ensures sent { SendsText R.remaining W.contents IsAccepted glyphs_text (RefusesFont R.remaining inlet.old)
         inlet.old inlet.new outlet.old outlet.new result }
-    ensures flushed { OnOk result (flushed_of outlet.new ≡ true) }
+    ensures flushed { OnOk result (IsFlushed W.held outlet.new) }
 {
     let file = inlet.read_all(alloc)?;
     let text = glyphs_of_file(alloc, &file)?;

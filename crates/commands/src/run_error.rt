@@ -1,6 +1,6 @@
 //! What the runs share: their error, and how they send what they have made.
 ghost use Rattle.std.specs.Prelude.{◌≡◌, false, true, take, IfErr, OnErr, OnOk};
-ghost use Rattle.streams.specs.Outlet.{WentOut, broken_of, flushed_of, fresh_of, written_of};
+ghost use Rattle.streams.specs.Outlet.{IsFlushed, WentOut, broken_of, fresh_of, written_of};
 ghost use Rattle.commands.specs.Run.{of_cut_error, of_join_error, of_join_into_error, of_open_error, of_read_error, run_error_number};
 ghost use Rattle.commands.specs.declared.run_error.RunError.TheVariants.{Font, Memory, Write};
 
@@ -9,8 +9,7 @@ use font_join::{JoinAllError, JoinAllIntoError, JoinError, Which};
 use font_subset::{CutIntoError, OpenError};
 use sfnt_bytes::{NoMemory, numbers};
 use std::alloc::AllocError;
-use std::io;
-use streams::{Outlet, ReadError, WriteFault};
+use streams::{Flushes, Outlet, ReadError, WriteFault};
 use thiserror::Error;
 
 /// The number of the refusal of a number that is no glyph, which is its status for C too.
@@ -156,11 +155,11 @@ impl From<JoinAllIntoError> for RunError {
 }
 
 /// Sends all of `bytes`, and flushes.
-pub(crate) fn send<W: io::Write>(outlet: &mut Outlet<W>, bytes: &[u8]) -> Result<(), WriteFault>
+pub(crate) fn send<W: Flushes>(outlet: &mut Outlet<W>, bytes: &[u8]) -> Result<(), WriteFault>
     requires { fresh_of outlet.old ≡ true }
     ensures ok { OnOk result (WentOut W.contents outlet.old outlet.new bytes.now) }
     ensures whole { OnOk result (broken_of outlet.new ≡ false) }
-    ensures flushed { OnOk result (flushed_of outlet.new ≡ true) }
+    ensures flushed { OnOk result (IsFlushed W.held outlet.new) }
     ensures broken { OnErr result (broken_of outlet.new ≡ true) }
     ensures count { IfErr result (λ fault. fault.written ≡ written_of outlet.new) }
     ensures prefix { IfErr result

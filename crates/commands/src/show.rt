@@ -6,7 +6,7 @@ ghost use Rattle.font_tables.specs.Fields.{glyph_count_of};
 ghost use Rattle.codes.specs.CharacterMap.{mapped_codes};
 ghost use Rattle.font_map.specs.Mapping.{mapping_of};
 ghost use Rattle.streams.specs.Inlet.{inlet_fresh_of};
-ghost use Rattle.streams.specs.Outlet.{flushed_of, fresh_of};
+ghost use Rattle.streams.specs.Outlet.{IsFlushed, fresh_of};
 ghost use Rattle.commands.specs.Inside.{RefusesText};
 ghost use Rattle.commands.specs.Run.{IsAccepted, RefusesFont, SendsText};
 ghost use Rattle.commands.specs.Show.{cut_text, dropped_line, dropped_text, font_text, kept_line, kept_table_line, kept_text, mapped_text, numbers_text, show_text};
@@ -19,8 +19,8 @@ use font_tables::{LocaForm, Tables};
 use sfnt_bytes::{Directory, Entry, KEPT, NoMemory, SLOTS, Tag};
 use std::alloc::Allocator;
 use std::fmt;
-use std::io::{Read, Write};
-use streams::{Inlet, Outlet};
+use std::io::Read;
+use streams::{Flushes, Inlet, Outlet};
 
 // The line of a kept table, where there is one.
 #[derive(Clone, Copy)]
@@ -219,7 +219,7 @@ fn shown_file<A: Allocator + Copy>(alloc: A, file: &[u8]) -> Result<String<A>, R
 /// # Errors
 /// `Read` where the reader fails, `Memory` where memory is refused, `Font` where the font is: then
 /// nothing was sent. `Write` where the writer fails.
-pub fn run_show<R: Read, W: Write, A: Allocator + Copy>(
+pub fn run_show<R: Read, W: Flushes, A: Allocator + Copy>(
     alloc: A,
     inlet: &mut Inlet<R>,
     outlet: &mut Outlet<W>,
@@ -228,7 +228,7 @@ pub fn run_show<R: Read, W: Write, A: Allocator + Copy>(
     requires outlet { fresh_of outlet.old ≡ true }
     ensures sent { SendsText R.remaining W.contents IsAccepted show_text (RefusesFont R.remaining inlet.old)
         inlet.old inlet.new outlet.old outlet.new result }
-    ensures flushed { OnOk result (flushed_of outlet.new ≡ true) }
+    ensures flushed { OnOk result (IsFlushed W.held outlet.new) }
 {
     let file = inlet.read_all(alloc)?;
     let text = shown_file(alloc, &file)?;

@@ -5,7 +5,7 @@ ghost use Rattle.font_subset.specs.CutOfFont.{cut_of};
 ghost use Rattle.sfnt_bytes.specs.declared.directory.TheConstants.{MAX_FILE};
 ghost use Rattle.font_file.specs.Font.{font_fault};
 ghost use Rattle.codes.specs.Wanted.{member};
-ghost use Rattle.streams.specs.Outlet.{flushed_of, fresh_of};
+ghost use Rattle.streams.specs.Outlet.{IsFlushed, fresh_of};
 ghost use Rattle.streams.specs.Inlet.{inlet_fresh_of};
 ghost use Rattle.commands.specs.Inside.{SendsCut};
 ghost use Rattle.commands.specs.Run.{HasCut, HasCutIn, RefusesCut, RefusesCutIn, SendsText, codes_request, cut_for, got, requested, stray_number};
@@ -17,12 +17,12 @@ use font_file::Font;
 use font_subset::{FontToCut, cut_of_kind_into, keeps_layout};
 use font_theory::Kind;
 use std::alloc::Allocator;
-use std::io::{Read, Write};
-use streams::{Inlet, Outlet};
+use std::io::Read;
+use streams::{Flushes, Inlet, Outlet};
 
 // Sends the cut of a font that was opened for what is asked, flushes, and returns its size. It owns nothing, nor do the
 // two below own more than they open: of what a function owns it is proved at each `?` that it can be let go.
-fn send_of_opened<W: Write, A: Allocator + Copy>(
+fn send_of_opened<W: Flushes, A: Allocator + Copy>(
     alloc: A,
     font: &FontToCut<'_, '_, A>,
     request: &CutRequest<'_, A>,
@@ -31,7 +31,7 @@ fn send_of_opened<W: Write, A: Allocator + Copy>(
     requires fresh { fresh_of outlet.old ≡ true }
     requires opened { font.now ≡ (request.now.kind, (font.now.1.0, request.now.closes)) }
     requires known { stray_number font.now.1.0 (option_copied request.now.glyphs) ≡ None }
-    ensures { SendsCut W.contents (requested request.now) font.now.1.0 outlet.old outlet.new result }
+    ensures { SendsCut W.contents W.held (requested request.now) font.now.1.0 outlet.old outlet.new result }
 {
     let _opened = font.font();
     let size = cut_of_kind_into(alloc, font, Some(request.codes), request.glyphs, outlet)?;
@@ -63,7 +63,7 @@ fn stray_in(font: &Font<'_>, numbers: Option<&[u16]>) -> Option<u16>
 }
 
 // The same of an accepted font, which is opened for what is asked first.
-fn send_of_font<W: Write, A: Allocator + Copy>(
+fn send_of_font<W: Flushes, A: Allocator + Copy>(
     alloc: A,
     font: &Font<'_>,
     request: &CutRequest<'_, A>,
@@ -71,7 +71,7 @@ fn send_of_font<W: Write, A: Allocator + Copy>(
 ) -> Result<u64, RunError>
     requires fresh { fresh_of outlet.old ≡ true }
     requires accepted { font_fault font.now ≡ None }
-    ensures { SendsCut W.contents (requested request.now) font.now outlet.old outlet.new result }
+    ensures { SendsCut W.contents W.held (requested request.now) font.now outlet.old outlet.new result }
 {
     if let Some(number) = stray_in(font, request.glyphs) {
         return Err(RunError::NoGlyph(number));
@@ -81,14 +81,14 @@ fn send_of_font<W: Write, A: Allocator + Copy>(
 }
 
 // The same of a file, which is opened as a font first.
-fn send_of_file<W: Write, A: Allocator + Copy>(
+fn send_of_file<W: Flushes, A: Allocator + Copy>(
     alloc: A,
     file: &[u8],
     request: &CutRequest<'_, A>,
     outlet: &mut Outlet<W>,
 ) -> Result<u64, RunError>
     requires { fresh_of outlet.old ≡ true }
-    ensures { SendsCut W.contents (requested request.now) file.now outlet.old outlet.new result }
+    ensures { SendsCut W.contents W.held (requested request.now) file.now outlet.old outlet.new result }
 {
     let font = Font::open(file)?;
     send_of_font(alloc, &font, request, outlet)
@@ -102,7 +102,7 @@ fn send_of_file<W: Write, A: Allocator + Copy>(
 /// number that is no glyph of the font, and `TooLarge` where its cut has more bytes than a file may have: then nothing was
 /// sent. `Write` where the writer fails. A number is looked at after the font as such, and before what cuts of the kind
 /// read of it besides.
-pub fn run_subset_of_request<R: Read, W: Write, A: Allocator + Copy>(
+pub fn run_subset_of_request<R: Read, W: Flushes, A: Allocator + Copy>(
     alloc: A,
     request: &CutRequest<'_, A>,
     inlet: &mut Inlet<R>,
@@ -113,7 +113,7 @@ pub fn run_subset_of_request<R: Read, W: Write, A: Allocator + Copy>(
     ensures sent { SendsText R.remaining W.contents (HasCutIn (requested request.now)) (cut_for (requested request.now))
         (RefusesCutIn (requested request.now) R.remaining inlet.old)
         inlet.old inlet.new outlet.old outlet.new result }
-    ensures flushed { OnOk result (flushed_of outlet.new ≡ true) }
+    ensures flushed { OnOk result (IsFlushed W.held outlet.new) }
     ensures size { IfOk result (λ size. (size ≤ MAX_FILE) × got R.remaining inlet.old
         (λ file. size ≡ length (cut_for (requested request.now) file))) }
 {
@@ -129,7 +129,7 @@ pub fn run_subset_of_request<R: Read, W: Write, A: Allocator + Copy>(
 /// `Read` where the reader fails, `Memory` where memory is refused, `Font` where the font is, and
 /// `TooLarge` where its cut has more bytes than a file may have: then nothing was sent. `Write` where
 /// the writer fails.
-pub fn run_subset_of_kind<R: Read, W: Write, A: Allocator + Copy>(
+pub fn run_subset_of_kind<R: Read, W: Flushes, A: Allocator + Copy>(
     alloc: A,
     kind: Kind,
     inlet: &mut Inlet<R>,
@@ -141,7 +141,7 @@ pub fn run_subset_of_kind<R: Read, W: Write, A: Allocator + Copy>(
     ensures sent { let r = codes_request kind (member wanted.now) in
         SendsText R.remaining W.contents (HasCutIn r) (cut_for r) (RefusesCutIn r R.remaining inlet.old)
         inlet.old inlet.new outlet.old outlet.new result }
-    ensures flushed { OnOk result (flushed_of outlet.new ≡ true) }
+    ensures flushed { OnOk result (IsFlushed W.held outlet.new) }
     ensures size { IfOk result (λ size. (size ≤ MAX_FILE) × got R.remaining inlet.old
         (λ file. size ≡ length (cut_for (codes_request kind (member wanted.now)) file))) }
 {
@@ -162,7 +162,7 @@ pub fn run_subset_of_kind<R: Read, W: Write, A: Allocator + Copy>(
 /// `Read` where the reader fails, `Memory` where memory is refused, `Font` where the font is, and
 /// `TooLarge` where its cut has more bytes than a file may have: then nothing was sent. `Write` where
 /// the writer fails.
-pub fn run_subset<R: Read, W: Write, A: Allocator + Copy>(
+pub fn run_subset<R: Read, W: Flushes, A: Allocator + Copy>(
     alloc: A,
     inlet: &mut Inlet<R>,
     wanted: &Wanted<A>,
@@ -174,7 +174,7 @@ pub fn run_subset<R: Read, W: Write, A: Allocator + Copy>(
         (λ file. cut_of file (member wanted.now))
         (RefusesCut R.remaining inlet.old (member wanted.now))
         inlet.old inlet.new outlet.old outlet.new result }
-    ensures flushed { OnOk result (flushed_of outlet.new ≡ true) }
+    ensures flushed { OnOk result (IsFlushed W.held outlet.new) }
     ensures size { IfOk result (λ size. (size ≤ MAX_FILE) × got R.remaining inlet.old
         (λ file. size ≡ length (cut_of file (member wanted.now)))) }
 {

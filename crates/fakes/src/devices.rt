@@ -3,6 +3,7 @@
 use std::alloc::Global;
 use std::io;
 use std::io::{ErrorKind, Read, Write};
+use streams::Flushes;
 
 /// Which call fails. The first call of a sort has the number 1.
 #[derive(Clone, Copy, Debug, PartialEq, Eq)]
@@ -121,6 +122,16 @@ impl Write for Narrow {
             }
             _ => Ok(()),
         }
+    }
+}
+
+impl Flushes for Narrow {
+    ghost use Rattle.std.specs.Prelude.{[]};
+
+    ghost held = { λ _. [] };
+
+    fn flush_held(&mut self) -> io::Result<()> {
+        self.flush()
     }
 }
 

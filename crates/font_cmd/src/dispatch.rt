@@ -20,9 +20,9 @@ use font_theory::Kind;
 use program_files::{HeldFiles, Reason, System};
 use std::alloc::{AllocError, Global};
 use std::io::{Read, Write};
-use streams::{Inlet, Outlet};
+use streams::{Flushes, Inlet, Outlet};
 
-fn check<'a, F: HeldFiles, I: Read + Copy + Drop, O, W: Write>(
+fn check<'a, F: HeldFiles, I: Read + Copy + Drop, O, W: Flushes>(
     system: &System<'a, F, I, O>,
     font: &'a str,
     out: &mut Outlet<W>,
@@ -33,7 +33,7 @@ fn check<'a, F: HeldFiles, I: Read + Copy + Drop, O, W: Write>(
     answered(font, run_check(system.alloc, &mut inlet, out))
 }
 
-fn codes<'a, F: HeldFiles, I: Read + Copy + Drop, O, W: Write>(
+fn codes<'a, F: HeldFiles, I: Read + Copy + Drop, O, W: Flushes>(
     system: &System<'a, F, I, O>,
     font: &'a str,
     with_glyphs: bool,
@@ -79,7 +79,7 @@ fn font_without<'a, F: HeldFiles, I: Read + Copy + Drop, O>(
 }
 
 // Does what `belongs` asks for of a font without some of its tables. Both files are held in memory.
-fn belongs_without<'a, F: HeldFiles, I: Read + Copy + Drop, O, W: Write>(
+fn belongs_without<'a, F: HeldFiles, I: Read + Copy + Drop, O, W: Flushes>(
     system: &System<'a, F, I, O>,
     kind: Kind,
     line: &Belongs<'a>,
@@ -94,7 +94,7 @@ fn belongs_without<'a, F: HeldFiles, I: Read + Copy + Drop, O, W: Write>(
     belonged(line, line.cut, is_cut)
 }
 
-fn belongs<'a, F: HeldFiles, I: Read + Copy + Drop, O, W: Write>(
+fn belongs<'a, F: HeldFiles, I: Read + Copy + Drop, O, W: Flushes>(
     system: &System<'a, F, I, O>,
     kind: Kind,
     line: &Belongs<'a>,
@@ -116,7 +116,7 @@ fn belongs<'a, F: HeldFiles, I: Read + Copy + Drop, O, W: Write>(
     belonged(line, unread, is_cut)
 }
 
-fn demo<W: Write>(alloc: Global, out: &mut Outlet<W>) -> Result<Outcome, Fault<'static>>
+fn demo<W: Flushes>(alloc: Global, out: &mut Outlet<W>) -> Result<Outcome, Fault<'static>>
     requires { fresh_of out.old ≡ true }
 {
     match demo_text(alloc) {
@@ -136,7 +136,7 @@ fn kind_asked(kind: CutKind) -> Kind {
 }
 
 // Does what a line asks for.
-fn done<'a, F: HeldFiles, I: Read + Copy + Drop, O: Write + Copy + Drop, W: Write>(
+fn done<'a, F: HeldFiles, I: Read + Copy + Drop, O: Write + Copy + Drop, W: Flushes>(
     system: &System<'a, F, I, O>,
     line: &Line<'a>,
     out: &mut Outlet<W>,
@@ -168,7 +168,7 @@ fn seen_of<F: HeldFiles, I, O>(
 }
 
 // Does what a line asks for, and answers the status.
-fn run_line<'a, F: HeldFiles, I: Read + Copy + Drop, O: Write + Copy + Drop, W: Write, V: Write>(
+fn run_line<'a, F: HeldFiles, I: Read + Copy + Drop, O: Write + Copy + Drop, W: Flushes, V: Write>(
     system: &System<'a, F, I, O>,
     line: &Line<'a>,
     out: &mut Outlet<W>,
@@ -191,7 +191,7 @@ fn run_line<'a, F: HeldFiles, I: Read + Copy + Drop, O: Write + Copy + Drop, W: 
 }
 
 // Prints help or the version, and answers the status.
-fn help<F, I, O, W: Write, V: Write>(
+fn help<F, I, O, W: Flushes, V: Write>(
     system: &System<'_, F, I, O>,
     verbosity: Verbosity,
     text: &str,
@@ -227,7 +227,7 @@ where
     F: HeldFiles,
     I: Read + Copy + Drop,
     O: Write + Copy + Drop,
-    W: Write,
+    W: Flushes,
     V: Write,
     requires out { fresh_of out.old ≡ true }
     requires err { fresh_of err.old ≡ true }
@@ -255,7 +255,7 @@ where
 /// Does what the arguments of a command line ask for, as [`run_on_system`] does, with the standard input and
 /// the standard output of a program, and returns the status. What is wrong, and what `--report` says, goes to
 /// `err`, but for the system's reasons where `out` cannot be written.
-pub fn run_words<W: Write, V: Write>(
+pub fn run_words<W: Flushes, V: Write>(
     rt: &HostRuntime,
     alloc: Global,
     words: &[String],

@@ -7,7 +7,7 @@ use crate::report::{Fault, no_memory};
 use commands::RunError;
 use std::alloc::{AllocError, Global};
 use std::io::Write;
-use streams::Outlet;
+use streams::{Flushes, Outlet};
 
 /// The name in the place of a path where a report cannot be written.
 pub(crate) const STANDARD_OUTPUT: &str = "standard output";
@@ -99,7 +99,7 @@ pub(crate) fn report<V: Write>(
 ///
 /// # Errors
 /// `Unwritten` where that fails.
-pub(crate) fn print<W: Write>(out: &mut Outlet<W>, text: &str) -> Result<Outcome, Fault<'static>>
+pub(crate) fn print<W: Flushes>(out: &mut Outlet<W>, text: &str) -> Result<Outcome, Fault<'static>>
     requires { fresh_of out.old ≡ true }
 {
     if out.put(text.as_bytes()).is_err() || out.finish().is_err() {
@@ -112,7 +112,7 @@ pub(crate) fn print<W: Write>(out: &mut Outlet<W>, text: &str) -> Result<Outcome
 ///
 /// # Errors
 /// `Unwritten` where that fails, or has failed before.
-pub(crate) fn print_more<W: Write>(
+pub(crate) fn print_more<W: Flushes>(
     out: &mut Outlet<W>,
     text: &str,
 ) -> Result<Outcome, Fault<'static>> {

@@ -1,6 +1,7 @@
 //! The outlet to OUT, a file or standard output.
-ghost use Rattle.std.specs.Prelude.{◌≡◌, IfOk, true};
-ghost use Rattle.streams.specs.Outlet.{fresh_of};
+ghost use Rattle.std.specs.Prelude.{◌≡◌, IfOk, [], true};
+ghost use Rattle.std.specs.Io.Buffered.{writer_buffer};
+ghost use Rattle.streams.specs.Outlet.{fresh_of, writer_of};
 
 use crate::report::Fault;
 use command_line::STANDARD;
@@ -46,7 +47,7 @@ pub(crate) fn packed_out(path: &str, is_forced: bool) -> Result<(), Fault<'_>> {
     }
 }
 
-/// Moves the finished file to OUT. Its outlet was flushed.
+/// Moves the finished file to OUT. Its outlet was flushed: its writer holds no byte back.
 ///
 /// # Errors
 /// `Unwritten` where the system refuses that.
@@ -54,7 +55,9 @@ pub(crate) fn placed<'a, 'p, F: HeldFiles, I, O: Write + Copy + Drop>(
     system: &System<'a, F, I, O>,
     outlet: Outlet<OutWriter<'a, F, O>>,
     path: &'p str,
-) -> Result<(), Fault<'p>> {
+) -> Result<(), Fault<'p>>
+    requires { writer_buffer (writer_of outlet).inner ≡ [] }
+{
     match outlet.into_inner().place() {
         Ok(()) => Ok(()),
         Err(error) => {

@@ -16,8 +16,8 @@ use font_texts::add_variations;
 use font_theory::Kind;
 use program_files::{HeldFiles, System};
 use std::alloc::{AllocError, Global};
-use std::io::{Read, Write};
-use streams::{Inlet, Outlet};
+use std::io::Read;
+use streams::{Flushes, Inlet, Outlet};
 
 // The kinds of cuts that are not full, and what lines call them.
 const KINDS: [(&str, Kind); 3] = [
@@ -70,7 +70,7 @@ fn more_text(alloc: Global, font: &Font<'_>) -> Result<String, AllocError> {
 
 // Shows the font of a file, and then what else is said of it, for which the memory was asked for before the first line is
 // printed.
-fn show_and_more<'a, W: Write>(
+fn show_and_more<'a, W: Flushes>(
     alloc: Global,
     path: &'a str,
     file: &[u8],
@@ -85,7 +85,7 @@ fn show_and_more<'a, W: Write>(
 }
 
 // Shows the font that is held in a file, and says more of it.
-fn show_file<'a, W: Write>(
+fn show_file<'a, W: Flushes>(
     alloc: Global,
     path: &'a str,
     file: &[u8],
@@ -103,7 +103,7 @@ fn show_file<'a, W: Write>(
 }
 
 // Reads a font, shows it, and says more of it.
-fn show_read<'a, R: Read, W: Write>(
+fn show_read<'a, R: Read, W: Flushes>(
     alloc: Global,
     path: &'a str,
     inlet: &mut Inlet<R>,
@@ -125,7 +125,7 @@ fn show_read<'a, R: Read, W: Write>(
 ///
 /// # Errors
 /// The first fault.
-pub(crate) fn show<'a, F: HeldFiles, I: Read + Copy + Drop, O, W: Write>(
+pub(crate) fn show<'a, F: HeldFiles, I: Read + Copy + Drop, O, W: Flushes>(
     system: &System<'a, F, I, O>,
     font: &'a str,
     verbosity: Verbosity,

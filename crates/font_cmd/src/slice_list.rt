@@ -1,4 +1,4 @@
-//! Files of slices: in each line the name of a slice and the list of its codes. This project's own.
+//! Files of slices: in each line the name of a slice and the list of its codes and glyph numbers. This project's own.
 use crate::report::{Fault, LONGEST_LINE, no_memory};
 use sfnt_bytes::MAX_FILE;
 use std::alloc::Global;
@@ -15,10 +15,14 @@ const LONGEST_NAME: usize = 200;
 // A byte order mark, which is no part of the first line.
 const MARK: char = '\u{FEFF}';
 
-/// A slice: the name of its file, but for `.ttf`, and its codes.
+// What a word of glyph numbers begins with.
+const GLYPHS: &str = "gid";
+
+/// A slice: the name of its file, but for `.ttf`, its codes, and the glyphs that it keeps by their numbers.
 pub(crate) struct Slice<'t> {
     pub(crate) name: &'t str,
     pub(crate) codes: CodeSet,
+    pub(crate) glyphs: CodeSet,
 }
 
 // Written out: a derived drop is proved anew wherever a value is let go, with all that is known of the value.
@@ -27,15 +31,20 @@ impl Drop for Slice<'_> {
         let Slice {
             name: _,
             codes: _codes,
+            glyphs: _glyphs,
         } = self;
     }
 }
 
 impl<'t> Slice<'t> {
-    /// Returns its name and its codes.
-    pub(crate) fn into_parts(self) -> (&'t str, CodeSet) {
-        let Slice { name, codes } = self;
-        (name, codes)
+    /// Returns its name, its codes and its glyphs.
+    pub(crate) fn into_parts(self) -> (&'t str, CodeSet, CodeSet) {
+        let Slice {
+            name,
+            codes,
+            glyphs,
+        } = self;
+        (name, codes, glyphs)
     }
 }
 
@@ -67,19 +76,62 @@ fn name_twice<'a>(alloc: Global, path: &'a str, line: u64, name: &str) -> Fault<
     }
 }
 
-// Returns the codes of the list in a line.
-fn codes_of_list<'a>(
+// Adds the codes of the list in a line.
+fn add_codes<'a>(
     alloc: Global,
     path: &'a str,
     line: u64,
     list: &str,
-) -> Result<CodeSet, Fault<'a>> {
-    let mut codes = CodeSet::new(alloc);
-    match add_listed(alloc, &mut list.as_bytes(), FileKind::List, &mut codes) {
-        Ok(()) => Ok(codes),
+    codes: &mut CodeSet,
+) -> Result<(), Fault<'a>> {
+    match add_listed(alloc, &mut list.as_bytes(), FileKind::List, codes) {
+        Ok(()) => Ok(()),
         Err(FileFault::BadLine { word, .. }) => Err(Fault::BadLine { path, line, word }),
         Err(_) => Err(no_memory()),
     }
+}
+
+// Adds the glyphs of a number in a line, or of a range of numbers.
+fn add_numbers<'a>(
+    alloc: Global,
+    path: &'a str,
+    line: u64,
+    word: &str,
+    glyphs: &mut CodeSet,
+) -> Result<(), Fault<'a>> {
+    let place = Some((path, line));
+    match add_listed(alloc, &mut word.as_bytes(), FileKind::Numbers, glyphs) {
+        Ok(()) => Ok(()),
+        Err(FileFault::BadLine { word, .. }) => Err(Fault::BadNumber { place, word }),
+        Err(_) => Err(no_memory()),
+    }
+}
+
+// Tells whether a letter stands between the words of a list.
+fn separates(letter: char) -> bool {
+    matches!(letter, ' ' | '\t' | '\r' | ',' | ';')
+}
+
+// Adds the codes and glyphs of the list in a line. A list without glyphs is read at once, and else word by word.
+fn add_list<'a>(
+    alloc: Global,
+    path: &'a str,
+    line: u64,
+    list: &str,
+    slice: &mut Slice<'_>,
+) -> Result<(), Fault<'a>> {
+    if !list.contains(GLYPHS) {
+        return add_codes(alloc, path, line, list, &mut slice.codes);
+    }
+    for word in list.split(separates) {
+        match word.strip_prefix(GLYPHS) {
+            Some(numbers) if !numbers.is_empty() => {
+                add_numbers(alloc, path, line, numbers, &mut slice.glyphs)?
+            }
+            _ => add_codes(alloc, path, line, word, &mut slice.codes)?,
+        }
+    }
+    Ok(())
 }
 
 // Returns the slice of a line, which has none where it is empty or a comment.
@@ -102,8 +154,13 @@ fn slice_of<'t, 'a>(
     if !is_name(name) {
         return Err(bad_name(alloc, path, line, name));
     }
-    let codes = codes_of_list(alloc, path, line, list)?;
-    Ok(Some(Slice { name, codes }))
+    let mut slice = Slice {
+        name,
+        codes: CodeSet::new(alloc),
+        glyphs: CodeSet::new(alloc),
+    };
+    add_list(alloc, path, line, list, &mut slice)?;
+    Ok(Some(slice))
 }
 
 // Returns the number of the line of a byte, counted from one.
@@ -239,8 +296,9 @@ impl<'t> Slices<'t> {
 /// Returns the slices of a file, whose path and bytes these are.
 ///
 /// # Errors
-/// `BadLine` with the first line that is not UTF-8 or has a word that names no range, `BadName` with the first one
-/// whose name is none, `NameTwice` with the first one whose name an earlier one has, `Refused` where memory is.
+/// `BadLine` with the first line that is not UTF-8 or has a word that names no range, `BadNumber` with the first one
+/// that has a bad glyph number, `BadName` with the first one whose name is none, `NameTwice` with the first one whose
+/// name an earlier one has, `Refused` where memory is.
 pub(crate) fn slices_of<'t, 'a>(
     alloc: Global,
     path: &'a str,

@@ -1,4 +1,4 @@
-//! The command `slice`: cuts of one font for several sets of characters, each in a file of its own.
+//! The command `slice`: cuts of one font for several sets of characters and glyphs, each in a file of its own.
 ghost use Rattle.std.specs.Prelude.{◌≡◌, true};
 ghost use Rattle.streams.specs.Outlet.{fresh_of};
 
@@ -8,6 +8,7 @@ use crate::outcome::{Outcome, print};
 use crate::output::{before_packed, outlet, placed};
 use crate::report::{Fault, no_memory};
 use crate::slice_list::{Slice, read_lines, slices_of};
+use crate::wanted_glyphs::{first_past, listed};
 use codes::Wanted;
 use command_line::Slices;
 use commands::RunError;
@@ -20,21 +21,22 @@ use program_files::{HeldFiles, System};
 use std::alloc::{AllocError, Global};
 use std::fs;
 use std::io::{ErrorKind, Read, Write};
-use streams::Outlet;
+use streams::{Flushes, Outlet};
 use wanted_characters::CodeSet;
 
 // What is said first where a strict line is not done.
 const UNWRITTEN: &str = "fontcut: nothing was written: the font maps no character of some slices\n";
 
-// Writes the cut of a font for the wanted codes to the file at a path.
+// Writes the cut of a font for the wanted codes and glyphs to the file at a path.
 fn write_cut<'p, F: HeldFiles, I, O: Write + Copy + Drop>(
     system: &System<'_, F, I, O>,
     font: &FontToCut<'_, '_>,
     wanted: &Wanted,
+    glyphs: &[u16],
     path: &'p str,
 ) -> Result<(), Fault<'p>> {
     let mut outlet = outlet(system, path)?;
-    let sent = cut_of_kind_into(system.alloc, font, Some(wanted), Some(&[]), &mut outlet);
+    let sent = cut_of_kind_into(system.alloc, font, Some(wanted), Some(glyphs), &mut outlet);
     sent.map_err(|error| Fault::of_run(path, path, RunError::from(error)))?;
     if outlet.finish().is_err() {
         return Err(Fault::Unwritten(path));
@@ -66,10 +68,11 @@ fn write_slice<'a, F: HeldFiles, I, O: Write + Copy + Drop>(
     slice: Slice<'_>,
 ) -> Result<(), Fault<'a>> {
     let alloc = system.alloc;
-    let (name, codes) = slice.into_parts();
+    let (name, codes, glyphs) = slice.into_parts();
     let path = slice_path(alloc, line.folder, name)?;
+    let numbers = listed(alloc, &glyphs)?;
     let wanted = codes.into_wanted(alloc)?;
-    match write_cut(system, font, &wanted, path.as_str()) {
+    match write_cut(system, font, &wanted, &numbers, path.as_str()) {
         Ok(()) => Ok(()),
         Err(fault) => Err(fault_in_folder(alloc, path.as_str(), fault)),
     }
@@ -79,7 +82,7 @@ fn write_slice<'a, F: HeldFiles, I, O: Write + Copy + Drop>(
 struct Said {
     // The rules of a style sheet for them.
     rules: String,
-    // A line for each of which the font maps nothing.
+    // A line for each that has no glyph numbers, and of which the font maps nothing.
     unmapped: String,
 }
 
@@ -113,6 +116,9 @@ impl Said {
         slice: &Slice<'_>,
     ) -> Result<(), AllocError> {
         let ranges = mapped_ranges(alloc, mapped, slice)?;
+        if ranges.is_empty() && !slice.glyphs.is_empty() {
+            return Ok(());
+        }
         if ranges.is_empty() {
             let name = ShownWord(slice.name);
             write!(
@@ -146,7 +152,11 @@ impl Said {
     }
 
     // Prints the rules for slices that are written, and returns what else is said of them.
-    fn told<W: Write>(self, is_quiet: bool, out: &mut Outlet<W>) -> Result<Outcome, Fault<'static>>
+    fn told<W: Flushes>(
+        self,
+        is_quiet: bool,
+        out: &mut Outlet<W>,
+    ) -> Result<Outcome, Fault<'static>>
         requires { fresh_of out.old ≡ true }
     {
         let Said { rules, unmapped } = self;
@@ -165,6 +175,16 @@ impl Said {
         }
         Ok(Outcome::saying(false, text))
     }
+}
+
+// Returns the first glyph number of the slices that is no glyph of a font of so many glyphs.
+fn first_stray(alloc: Global, count: u16, slices: &[Slice<'_>]) -> Result<Option<u16>, AllocError> {
+    for slice in slices {
+        if let Some(number) = first_past(alloc, count, &slice.glyphs)? {
+            return Ok(Some(number));
+        }
+    }
+    Ok(None)
 }
 
 // Makes a folder where there is none.
@@ -211,7 +231,7 @@ fn write_cuts<'a, F: HeldFiles, I, O: Write + Copy + Drop>(
 }
 
 // Writes the files of slices of an accepted font, and prints the rules for them.
-fn slice_font<'a, F: HeldFiles, I, O: Write + Copy + Drop, W: Write>(
+fn slice_font<'a, F: HeldFiles, I, O: Write + Copy + Drop, W: Flushes>(
     system: &System<'a, F, I, O>,
     kind: Kind,
     line: &Slices<'a>,
@@ -221,6 +241,9 @@ fn slice_font<'a, F: HeldFiles, I, O: Write + Copy + Drop, W: Write>(
 ) -> Result<Outcome, Fault<'a>>
     requires { fresh_of out.old ≡ true }
 {
+    if let Some(number) = first_stray(system.alloc, font.tables().glyph_count(), &slices)? {
+        return Err(Fault::of_run(line.font, line.folder, RunError::NoGlyph(number)));
+    }
     let said = Said::of(system.alloc, font, line.family, &slices)?;
     if line.is_strict && !said.unmapped.is_empty() {
         return Ok(said.unwritten(system.alloc, line.is_quiet)?);
@@ -230,7 +253,7 @@ fn slice_font<'a, F: HeldFiles, I, O: Write + Copy + Drop, W: Write>(
 }
 
 // Writes the files of slices of a font, whose file this is, and prints the rules for them.
-fn slice_file<'a, F: HeldFiles, I, O: Write + Copy + Drop, W: Write>(
+fn slice_file<'a, F: HeldFiles, I, O: Write + Copy + Drop, W: Flushes>(
     system: &System<'a, F, I, O>,
     kind: Kind,
     line: &Slices<'a>,
@@ -265,7 +288,7 @@ fn file_of<'a, F: HeldFiles, I: Read + Copy + Drop, O>(
 }
 
 // Does what a line asks for with the slices of a file, whose lines these are.
-fn slice_listed<'a, F: HeldFiles, I: Read + Copy + Drop, O: Write + Copy + Drop, W: Write>(
+fn slice_listed<'a, F: HeldFiles, I: Read + Copy + Drop, O: Write + Copy + Drop, W: Flushes>(
     system: &System<'a, F, I, O>,
     kind: Kind,
     line: &Slices<'a>,
@@ -275,6 +298,9 @@ fn slice_listed<'a, F: HeldFiles, I: Read + Copy + Drop, O: Write + Copy + Drop,
     requires { fresh_of out.old ≡ true }
 {
     let slices = slices_of(system.alloc, line.slices, list)?;
+    if kind == Kind::Full && slices.iter().any(|slice| !slice.glyphs.is_empty()) {
+        return Err(Fault::NumbersOfFull);
+    }
     let file = file_of(system, line)?;
     slice_file(system, kind, line, &file, slices, out)
 }
@@ -284,7 +310,7 @@ fn slice_listed<'a, F: HeldFiles, I: Read + Copy + Drop, O: Write + Copy + Drop,
 ///
 /// # Errors
 /// The first fault. The files of the slices before it are written.
-pub(crate) fn slice<'a, F: HeldFiles, I: Read + Copy + Drop, O: Write + Copy + Drop, W: Write>(
+pub(crate) fn slice<'a, F: HeldFiles, I: Read + Copy + Drop, O: Write + Copy + Drop, W: Flushes>(
     system: &System<'a, F, I, O>,
     kind: Kind,
     line: &Slices<'a>,

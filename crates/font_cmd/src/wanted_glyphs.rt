@@ -1,4 +1,4 @@
-//! The glyphs that a line of `subset` keeps by their numbers.
+//! The glyphs that a line of `subset` or of a file of slices keeps by their numbers.
 use crate::report::{Fault, no_memory};
 use command_line::Subset;
 use std::alloc::{AllocError, Global};
@@ -58,4 +58,22 @@ pub(crate) fn listed(alloc: Global, glyphs: &CodeSet) -> Result<Vec<u16>, AllocE
         push_range(&mut numbers, first, last)?;
     }
     Ok(numbers)
+}
+
+/// Returns the first number of a set that is not below a count.
+///
+/// # Errors
+/// `AllocError` where memory is refused.
+pub(crate) fn first_past(
+    alloc: Global,
+    count: u16,
+    glyphs: &CodeSet,
+) -> Result<Option<u16>, AllocError> {
+    let count = u32::from(count);
+    for (first, last) in glyphs.ranges(alloc)? {
+        if count <= last {
+            return Ok(u16::try_from(first.max(count)).ok());
+        }
+    }
+    Ok(None)
 }

@@ -1,5 +1,5 @@
 -- What chains of links lead to, and that rounds over the numbers below a limit find it.
-use Rattle.std.proofs.Common.{◌≡◌, ℕ, zero, suc, ◌<◌, ◌⊎◌, Bool, true, ◌&&◌, nat_eq, inl, inr, List, [], ◌∷◌, subst}
+use Rattle.std.proofs.Common.{◌≡◌, ℕ, zero, suc, ◌<◌, ◌⊎◌, Bool, true, ◌&&◌, nat_eq, inl, inr, List, [], ◌∷◌}
 use Rattle.std.proofs.Common.{arith}
 use Rattle.std.specs.Bool.{Decides}
 use Rattle.std.specs.List.{Contains, list_any}
@@ -53,13 +53,6 @@ Linked-split links limit all s t either g (start h) = elim (either g h) [
 ]
 Linked-split links limit all s t either g (link {s = x} r low c) =
     elim (Linked-split links limit all s t either x r) [ inl h ↦ inl (link h low c) | inr h ↦ inr (link h low c) ]
-
--- where there are no links, only the seeds are led to
-pub Linked-alone : (links : ℕ → List ℕ) (limit : ℕ) (seeds : ℕ → Bool) → ((s : ℕ) → links s ≡ []) → (g : ℕ)
-    → Linked links seeds limit g → seeds g ≡ true
-Linked-alone links limit seeds none g (start h) = h
-Linked-alone links limit seeds none g (link {s = x} r low c) = let no : Contains [] g =
-    subst (λ (l : List ℕ). Contains l g) (none x) c in absurd (omega (arith, no.1))
 
 module _ (links : ℕ → List ℕ) (seeds : ℕ → Bool) (limit : ℕ) where
   abbrev leads : ℕ → ℕ → Bool

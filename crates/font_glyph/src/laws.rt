@@ -1,5 +1,8 @@
-//! The laws of components and of what they reach: the contract of each function is the law.
+//! The laws of components and of what they reach, and how many numbers links have: the contract of each function is the
+//! law.
+ghost use Rattle.std.specs.Prelude.{◌≡◌};
 ghost use Rattle.font_glyph.specs.Laws.{BytesBehindRecord, ComponentsAreComputed, LinkedIsComputed, LinkedIsLeast, OneComponentList, ReachIsLeast, ReachOfUnion, ReachedIsReach};
+ghost use Rattle.font_glyph.specs.declared.linked.TheConstants.{NUMBERS};
 
 /// A record has at most one list of components.
 pub fn one_component_list()
@@ -43,4 +46,9 @@ pub fn linked_is_computed()
 /// each set that has these.
 pub fn linked_is_least()
     ensures { LinkedIsLeast }
+{}
+
+/// Links lead from and to this many numbers: each uint16 is one.
+pub fn link_numbers_are()
+    ensures { NUMBERS ≡ 65536 }
 {}

@@ -5,6 +5,7 @@ pub mod FirstLemmas
 pub mod GlyphDataLemmas
 pub mod JoinLemmas
 pub mod JoinListLemmas
+pub mod LeastListLemmas
 pub mod MergeLemmas
 pub mod OutlineListLemmas
 pub mod OwnTableLemmas

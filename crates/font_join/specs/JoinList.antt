@@ -1,13 +1,15 @@
 -- What the joins of a list of files in turn answer, this project's own, over the format of the cuts that are
 -- joined.
-use Rattle.std.specs.Prelude.{◌≡◌, ℕ, zero, suc, ◌<◌, ◌≤◌, true, List, [], length, take, Option, None, Result}
+use Rattle.std.specs.Prelude.{◌≡◌, ◌≢◌, ℕ, zero, suc, ◌<◌, ◌≤◌, true, List, [], length, take, Option, None, Result}
 use Rattle.std.specs.Prelude.{IfOk, MatchResult}
+use Rattle.sfnt_bytes.specs.declared.directory.DirError.TheVariants.{FileTooLarge}
 use Rattle.sfnt_bytes.specs.declared.directory.TheConstants.{MAX_FILE}
 use Rattle.font_file.specs.Font.{font_fault}
+use Rattle.font_file.specs.declared.font_error.FontError.TheVariants.{Directory}
 use Rattle.font_theory.specs.Content.{Wanted, content}
-use Rattle.font_theory.specs.Cut.{Format, IsCurrent, IsCut, Writes, cut, renewed}
+use Rattle.font_theory.specs.Cut.{Format, IsCurrent, IsCut, Under, Writes, cut, renewed}
 use Rattle.font_theory.specs.Tree.{Differs, IsOver, IsSmall, JoinTree, Value, cuts, file_at, grown, union_below}
-use Rattle.font_join.specs.Join.{IsForSize, IsJoin, IsJoinRefusal}
+use Rattle.font_join.specs.Join.{IsForSize, IsJoin, IsJoinRefusal, RefusalIsRight}
 use Rattle.streams.specs.Outlet.{WentOut, broken_of, written_of}
 use Rattle.streams.specs.declared.outlet.Outlet.{Outlet}
 use Rattle.font_join.specs.declared.join_error.JoinAllIntoError.{JoinAllIntoError}
@@ -16,6 +18,7 @@ use Rattle.font_join.specs.declared.join_error.JoinAllError.{JoinAllError}
 use Rattle.font_join.specs.declared.join_error.JoinAllError.TheVariants.{At, NothingToJoin}
 use Rattle.font_join.specs.declared.join_error.JoinError.{JoinError}
 use Rattle.font_join.specs.declared.join_error.JoinError.TheVariants.{DifferentGlyph, DifferentMapping, DifferentTable}
+use Rattle.font_join.specs.declared.join_error.JoinError.TheVariants.{Font, NoMemory, TooLarge}
 
 -- v is what k joins in turn come to, the first of them being that of the first file with itself
 abbrev pub Stands : Format → List (List ℕ) → ℕ → List ℕ → Type 0
@@ -38,6 +41,31 @@ IsAllRefusal R files (At step error) = IsRefusedAt R files step error
 pub record IsAllJoined (R : Format) (files : List (List ℕ)) (z : List ℕ) : Type 0 where
   pub some : 0 < length files
   pub stands : Stands R files (length files) z
+
+-- all files of a list are cuts of F
+abbrev pub AreUnder : Format → List (List ℕ) → List ℕ → Type 0
+AreUnder R files F = (k : ℕ) → k < length files → Under R (file_at files k) F
+
+-- z is current, all files are cuts of it, and it is a cut of each file of which all are cuts
+pub record IsLeastOf (R : Format) (files : List (List ℕ)) (z : List ℕ) : Type 0 where
+  pub cut_form : IsCurrent R z
+  pub above : AreUnder R files z
+  pub least : (F : List ℕ) → AreUnder R files F → Under R z F
+
+-- what the refusal of a step says: all files are cuts of no file, or what stands before the step agrees with its file,
+-- and their join is too large
+abbrev pub StepRefusalIsRight : Format → List (List ℕ) → ℕ → JoinError → Type 0
+StepRefusalIsRight R files step NoMemory = Unit {0}
+StepRefusalIsRight R files step (Font which error) =
+    error ≢ Directory FileTooLarge → (F : List ℕ) → AreUnder R files F → ⊥
+StepRefusalIsRight R files step (TooLarge size) =
+    (before : List ℕ) × Stands R files step before × RefusalIsRight R before (file_at files step) (TooLarge size)
+StepRefusalIsRight R files step _ = (F : List ℕ) → AreUnder R files F → ⊥
+
+-- what the refusal of a list says
+abbrev pub AllRefusalIsRight : Format → List (List ℕ) → JoinAllError → Type 0
+AllRefusalIsRight R files NothingToJoin = files ≡ []
+AllRefusalIsRight R files (At step error) = StepRefusalIsRight R files step error
 
 -- a file is the first one of a list, and accepted
 pub record IsFirst (files : List (List ℕ)) (x : List ℕ) : Type 0 where

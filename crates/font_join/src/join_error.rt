@@ -43,9 +43,10 @@ pub enum JoinError {
     DifferentTable(Tag),
     /// Both files map this code, the least such one, to two glyphs.
     DifferentMapping(u32),
-    /// Both files keep this glyph, the least such one, with two outlines.
+    /// Both files keep this glyph, the least such one, and it differs: its outline, or what cuts of the kind have of it
+    /// besides.
     DifferentGlyph(u16),
-    /// The joined file would have this number of bytes, more than [`MAX_FILE`](crate::MAX_FILE).
+    /// The joined file would have this number of bytes, more than [`MAX_FILE`](sfnt_bytes::MAX_FILE).
     TooLarge(u64),
     /// Memory was refused.
     NoMemory,

@@ -4,7 +4,7 @@ ghost use Rattle.sfnt_bytes.specs.declared.directory.TheConstants.{MAX_FILE};
 ghost use Rattle.font_theory.specs.Cut.{Format};
 ghost use Rattle.font_theory.specs.File.{current_writing, file};
 ghost use Rattle.streams.specs.Outlet.{HasSent, broken_of, fresh_of, writer_of};
-ghost use Rattle.font_join.specs.JoinList.{EveryTreeDiffers, IsAllJoined, IsAllRefusal, IsFirst, IsForSizeInto, IsForSizeOf, IsSentAs, JoinLaws, SendsAll, StopsJoin};
+ghost use Rattle.font_join.specs.JoinList.{AllRefusalIsRight, EveryTreeDiffers, IsAllJoined, IsAllRefusal, IsFirst, IsForSizeInto, IsForSizeOf, IsLeastOf, IsSentAs, JoinLaws, SendsAll, StopsJoin};
 ghost use Rattle.font_join.specs.Union.{content_in};
 ghost use Rattle.font_theory.specs.declared.kinds.Kind.TheVariants.{Full};
 ghost use Rattle.font_theory.specs.Kinds.{format_of};
@@ -72,6 +72,10 @@ pub fn join_all_of_kind<A: Allocator + Copy>(
         JoinLaws (format_of kind) bytes result (λ z v. v.items ≡ z) (IsForSizeOf (format_of kind)) }
     ensures clash { let bytes = map (λ v. v.items) files.now in
         IfErr result (EveryTreeDiffers (format_of kind) bytes) }
+    ensures upper { let bytes = map (λ v. v.items) files.now in
+        IfOk result (λ z. IsLeastOf (format_of kind) bytes z.items) }
+    ensures refused { let bytes = map (λ v. v.items) files.now in
+        IfErr result (AllRefusalIsRight (format_of kind) bytes) }
 {
     join_in_turn(alloc, kind, files)
 }
@@ -105,6 +109,10 @@ pub fn join_all<A: Allocator + Copy>(
         JoinLaws (format_of Full) bytes result (λ z v. v.items ≡ z) (IsForSizeOf (format_of Full)) }
     ensures clash { let bytes = map (λ v. v.items) files.now in
         IfErr result (EveryTreeDiffers (format_of Full) bytes) }
+    ensures upper { let bytes = map (λ v. v.items) files.now in
+        IfOk result (λ z. IsLeastOf (format_of Full) bytes z.items) }
+    ensures refused { let bytes = map (λ v. v.items) files.now in
+        IfErr result (AllRefusalIsRight (format_of Full) bytes) }
 {
     join_all_of_kind(alloc, Kind::Full, files)
 }
@@ -140,6 +148,10 @@ pub fn union_of_files<'f, 'a, A: Allocator + Copy>(
         (file current_writing (content_in union)))
         (IsAllRefusal (format_of kind) bytes) }
     ensures small { IfOk result (λ union. length (file current_writing (content_in union)) ≤ MAX_FILE) }
+    ensures upper { let bytes = map (λ f. f.now) files.now in
+        IfOk result (λ union. IsLeastOf (format_of kind) bytes (file current_writing (content_in union))) }
+    ensures refused { let bytes = map (λ f. f.now) files.now in
+        IfErr result (AllRefusalIsRight (format_of kind) bytes) }
 {
     union_of_all(alloc, kind, first, files)
 }
@@ -192,6 +204,14 @@ pub fn join_all_of_kind_into<A: Allocator + Copy, W: Write>(
     ensures clash { let bytes = map (λ v. v.items) files.now in
         (error : JoinAllError) → result ≡ Err (NotJoined error)
         → EveryTreeDiffers (format_of kind) bytes error }
+
+    // What went out is the least file of which all files are cuts, and a refusal says that there is none.
+    ensures upper { let bytes = map (λ v. v.items) files.now in
+        IfOk result (λ size. (z : List ℕ) × IsSentAs W.contents out.old out.new z size
+        × IsLeastOf (format_of kind) bytes z) }
+    ensures refused { let bytes = map (λ v. v.items) files.now in
+        (error : JoinAllError) → result ≡ Err (NotJoined error)
+        → AllRefusalIsRight (format_of kind) bytes error }
 {
     send_in_turn(alloc, kind, files, out)
 }
@@ -226,6 +246,14 @@ pub fn join_all_into<A: Allocator + Copy, W: Write>(
         JoinLaws (format_of Full) bytes result (IsSentAs W.contents out.old out.new) (IsForSizeInto (format_of Full)) }
     ensures clash { let bytes = map (λ v. v.items) files.now in
         (error : JoinAllError) → result ≡ Err (NotJoined error) → EveryTreeDiffers (format_of Full) bytes error }
+
+    // What went out is the least file of which all files are cuts, and a refusal says that there is none.
+    ensures upper { let bytes = map (λ v. v.items) files.now in
+        IfOk result (λ size. (z : List ℕ) × IsSentAs W.contents out.old out.new z size
+        × IsLeastOf (format_of Full) bytes z) }
+    ensures refused { let bytes = map (λ v. v.items) files.now in
+        (error : JoinAllError) → result ≡ Err (NotJoined error)
+        → AllRefusalIsRight (format_of Full) bytes error }
 {
     join_all_of_kind_into(alloc, Kind::Full, files, out)
 }

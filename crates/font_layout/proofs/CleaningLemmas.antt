@@ -113,14 +113,6 @@ fixed-fixed slot table =
       | inr not_is ↦ rw (not_is, not_is) refl
     ]
 
-pub length-fixed : (slot : ℕ) (table : List ℕ) → length (fixed slot table) ≡ length table
-unfolding fixed
-length-fixed slot table =
-    elim (cases_Bool (has_field slot table)) [
-      | inl is ↦ rw is (length-with_zeros (field_at slot) table)
-      | inr not_is ↦ rw not_is refl
-    ]
-
 -- by whether a table has the field
 pub fixed-not : (slot : ℕ) (table : List ℕ) → has_field slot table ≡ false → fixed slot table ≡ table
 unfolding fixed

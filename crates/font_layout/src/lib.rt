@@ -18,7 +18,9 @@ mod tally;
 mod walk;
 
 pub use crate::cleaning::fixed_table;
-pub use crate::laws::{leads_are_links, leads_are_listed, worked_links, worked_refusals};
+pub use crate::laws::{
+    leads_are_links, leads_are_listed, step_limit_is, worked_links, worked_refusals,
+};
 pub use crate::layout::{BadLayout, Layout, STEP_LIMIT};
 pub use crate::links::Links;
 pub use crate::step::Link;

@@ -1,9 +1,9 @@
 -- Runs of glyphs that are not there.
 use Rattle.std.proofs.Common.{◌≡◌, ℕ, zero, suc, ◌+◌, ◌-◌, ◌*◌, ◌<◌, ◌≤◌, Bool, true, false, ◌&&◌, ◌||◌, inl}
-use Rattle.std.proofs.Common.{inr, nat_eq, nat_lt}
+use Rattle.std.proofs.Common.{inr, nat_lt}
 use Rattle.std.proofs.Common.{List, None, [], ◌∷◌, drop, get_or, length, slice_range, refl, sym, ◌∙◌, ap, arith}
 use Rattle.std.proofs.Common.{unwrap_or}
-use Rattle.std.proofs.lemmas.Bool.{cases_eq, cases_lt, eq-eqb, le-leb, le-ltb, lt-leb, lt-ltb, ne_eqb}
+use Rattle.std.proofs.lemmas.Bool.{cases_lt, le-leb, le-ltb, lt-leb, lt-ltb}
 use Rattle.std.proofs.lemmas.List.{get_or-drop, get_or-take, length-take}
 use Rattle.sfnt_bytes.specs.Directory.{kept_tag, table_of}
 use Rattle.sfnt_bytes.specs.declared.tag.TheConstants.{LOCA}
@@ -94,38 +94,6 @@ module _ (k : ℕ) (t : List ℕ) (from to g : ℕ) (some : 0 < k) (low : from �
       (omega (arith, high)) in
       ap (λ (b : List ℕ). nat_lt 0 (length (bare b))) (bearing_bytes k t g some (omega (arith, late, low)))
       ∙ (λ i. nat_lt 0 (length (bare (x i ∷ y i ∷ 0 ∷ 0 ∷ [])))) ∙ sym (some_of_four 0 0 0 0)
-
--- numbers from one on, below another
-pub between_none : (low h : ℕ) → is_between low low h ≡ false
-between_none low h = elim (cases_lt h low) [
-  | inl below ↦ let x = lt-leb low h below in (λ i. x i && nat_lt h low)
-  | inr past ↦ let x = le-leb low h past in let y = le-ltb h low past in (λ i. x i && y i)
-]
-
-pub between_more : (low g h : ℕ) → low ≤ g → is_between low (g + 1) h ≡ (is_between low g h || nat_eq g h)
-between_more low g h order = elim (cases_lt h low) [
-  | inl below ↦
-      let x = lt-leb low h below in let y = ne_eqb g h (λ e. omega (arith, e, below, order)) in
-      (λ i. x i && nat_lt h (g + 1)) ∙ sym (λ i. (x i && nat_lt h g) || y i)
-  | inr past ↦
-      let x = le-leb low h past in
-      elim (cases_lt h g) [
-        | inl before ↦
-            let y = lt-ltb h g before in let z = lt-ltb h (g + 1) (omega (arith, before)) in
-            (λ i. x i && z i) ∙ sym (λ i. (x i && y i) || nat_eq g h)
-        | inr after ↦
-            let y = le-ltb h g after in
-            elim (cases_eq g h) [
-              | inl e ↦
-                  let w = eq-eqb g h e in let z = lt-ltb h (g + 1) (omega (arith, e)) in
-                  (λ i. x i && z i) ∙ sym (λ i. (x i && y i) || w i)
-              | inr d ↦
-                  let w = ne_eqb g h d in let late : g + 1 ≤ h = omega (arith, after, d) in
-                  let z = le-ltb h (g + 1) late in
-                  (λ i. x i && z i) ∙ sym (λ i. (x i && y i) || w i)
-            ]
-      ]
-]
 
 pub below_more : (low high h : ℕ) → low ≤ high → nat_lt h high ≡ (nat_lt h low || is_between low high h)
 below_more low high h order = elim (cases_lt h low) [

@@ -22,9 +22,7 @@ use Rattle.font_theory.specs.declared.kinds.Kind.TheVariants.{Full, Layout, Lean
 use Rattle.font_theory.proofs.KindLemmas.{kind_is}
 use Rattle.font_theory.proofs.LinkLemmas.{is_bad_variations_in-none}
 use Rattle.font_subset.specs.Inside.{AreLinksToFollow, tags_fault}
-use Rattle.font_subset.specs.OpenedFont.{IsCuttingRefusal, IsOpenRefusal, closing_fault, cutting_fault}
-use Rattle.font_subset.specs.declared.open_error.OpenError.{OpenError}
-use Rattle.font_subset.specs.declared.open_error.OpenError.TheVariants.{NoMemory, Refused}
+use Rattle.font_subset.specs.OpenedFont.{closing_fault, cutting_fault}
 
 -- the refusals of a font, of its directory, of `GSUB` and of `gvar`, with and without that of `GSUB`
 first_fine : (f d : Option FontError) (b v : Bool) → option_or f (first_of_lines (d ∷ when v BadVariations ∷ [])) ≡ None
@@ -134,16 +132,6 @@ layout_kept Variable file gsub is some = (
   λ e. let n : Variable
       ≡ Lean = e in cc,
 )
-
--- what refuses a font for its kind refuses it for cuts that are not closed
-pub open_refused : (kind : Kind) (file : List ℕ) (error : OpenError) → IsOpenRefusal kind file error
-    → IsCuttingRefusal false kind file error
-open_refused kind file NoMemory h = (
-  λ e. let n : Layout ≡ Full = sym h
-      ∙ e in cc,
-  λ e. let n : Layout ≡ Lean = sym h ∙ e in cc,
-)
-open_refused kind file (Refused error) h = h
 
 -- the bytes of `GSUB` of a font for variable cuts
 pub bad_gsub_of : (file gsub : List ℕ) (bad : Bool) → table_of file (slot_tag GSUB) ≡ Some gsub

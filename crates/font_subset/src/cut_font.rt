@@ -30,7 +30,7 @@ pub enum CutError {
     /// Memory was refused.
     #[error("no memory")]
     NoMemory,
-    /// The cut would have this number of bytes, more than [`MAX_FILE`](crate::MAX_FILE).
+    /// The cut would have this number of bytes, more than [`MAX_FILE`](sfnt_bytes::MAX_FILE).
     #[error("too large {0}")]
     TooLarge(u64),
 }
@@ -53,7 +53,7 @@ pub enum CutIntoError {
     /// Memory was refused. Nothing was sent.
     #[error("no memory")]
     NoMemory,
-    /// The cut would have this number of bytes, more than [`MAX_FILE`](crate::MAX_FILE). Nothing was sent.
+    /// The cut would have this number of bytes, more than [`MAX_FILE`](sfnt_bytes::MAX_FILE). Nothing was sent.
     #[error("too large {0}")]
     TooLarge(u64),
     /// A write failed after this number of bytes.
@@ -210,7 +210,7 @@ pub fn cut_of_kind<A: Allocator + Copy>(
 /// # Errors
 ///
 /// `NoMemory` where memory is refused, and `TooLarge` where the cut would have more than
-/// [`MAX_FILE`](crate::MAX_FILE) bytes.
+/// [`MAX_FILE`](sfnt_bytes::MAX_FILE) bytes.
 ///
 /// # Example
 ///

@@ -27,7 +27,7 @@ use sfnt_bytes::NoMemory;
 use std::alloc::Allocator;
 
 /// Returns the form in which a font's file is its own cut of the font's kind for all codes, as [`cut_form`] does for
-/// full cuts. A lean or layout cut is always current.
+/// full cuts. A cut of another kind is always current.
 ///
 /// # Errors
 ///
@@ -173,8 +173,9 @@ fn is_cut_for<A: Allocator + Copy>(
     bytes: &[u8],
 ) -> Result<bool, NoMemory>
     requires { length bytes.now ≤ MAX_FILE }
-    ensures { IfOk result (λ b. IsTrue b ↔ Writes (format_of font.now.0) (content ((format_of font.now.0).font font.now.1)
-        (wanted_in (asked (Some codes.now) (Some glyphs.now)))) bytes.now) }
+    ensures { IfOk result (λ b. IsTrue b ↔ Writes (format_of font.now.0)
+        (content ((format_of font.now.0).font font.now.1) (wanted_in (asked (Some codes.now) (Some glyphs.now))))
+        bytes.now) }
 {
     let source = CutOfKind::new(alloc, font, Some(codes), Some(glyphs))?;
     Ok(is_written(font.kind(), &source, bytes))
@@ -187,8 +188,8 @@ fn is_cut_for_own<A: Allocator + Copy>(
     cut: &FontOfKind<'_, '_, A>,
     font: &FontOfKind<'_, '_, A>,
 ) -> Result<bool, NoMemory>
-    ensures { IfOk result (λ b. IsTrue b ↔ Writes (format_of font.now.0) (content ((format_of font.now.0).font font.now.1)
-        (own_of cut.now.0 cut.now.1)) cut.now.1) }
+    ensures { IfOk result (λ b. IsTrue b ↔ Writes (format_of font.now.0)
+        (content ((format_of font.now.0).font font.now.1) (own_of cut.now.0 cut.now.1)) cut.now.1) }
 {
     let codes = mapped_set(alloc, cut.font())?;
     let glyphs = glyphs_there(alloc, cut)?;

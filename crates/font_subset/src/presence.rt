@@ -39,7 +39,8 @@ fn has_pair(table: &[u8], at: usize) -> bool
 // Tells whether one of the two bytes at a place is not 0.
 fn has_bearing(table: &[u8], at: usize) -> bool
     requires { at + 2 ≤ length table.now }
-    ensures { result ≡ nat_lt 0 (length (bare (slice_index table.now at ∷ slice_index table.now (at + 1) ∷ 0 ∷ 0 ∷ []))) }
+    ensures { result ≡ nat_lt 0 (length (bare (slice_index table.now at ∷ slice_index table.now (at + 1)
+        ∷ 0 ∷ 0 ∷ []))) }
 {
     be16(table, at) != 0
 }

@@ -125,7 +125,7 @@ same_glyph K L g a b h ea eb =
     ((bytes_eq-Decides a b).0 (not-false _ w.0), x.0, apart-tells (K.there g) (L.there g) x.1)
 
 -- parts in each slot
-slot_parted : (slot : ℕ) → slot < 29 → slot < PARTED
+slot_parted : (slot : ℕ) → slot < ALL_SLOTS → slot < PARTED
 unfolding PARTED
 slot_parted slot low = low
 
@@ -189,8 +189,8 @@ glyph_same K L g h parts there = go (K.outline g) (L.outline g) refl refl
         || (part_same K L g (parts a b x y) i || apart-same (K.there g) (L.there g) (there a b x y) i)
 
 -- the slots that a cut makes anew
-never_past : (slot : ℕ) → 29 ≤ slot → is_never_copied slot ≡ true
-never_past slot past = or_right _ _ (le-leb 29 slot past)
+never_past : (slot : ℕ) → ALL_SLOTS ≤ slot → is_never_copied slot ≡ true
+never_past slot past = or_right _ _ (le-leb ALL_SLOTS slot past)
 
 module _ (K L : Content) (okK : IsClosedContent K) (okL : IsClosedContent L) where
   both_none : (slot : ℕ) → is_never_copied slot ≡ true → K.copied slot ≡ L.copied slot
@@ -204,7 +204,7 @@ module _ (K L : Content) (okK : IsClosedContent K) (okL : IsClosedContent L) whe
       × (find (is_different_glyph K L) (range_with_len 0 (glyph_count K.copied)) ≡ None) = line_of-none _ _ _ h in
       record {
         head = same_head K L (first_slot-none (is_different_table K L) 6 w.0 (omega arith));
-        copied = λ slot. elim (cases_lt slot 29) [
+        copied = λ slot. elim (cases_lt slot ALL_SLOTS) [
           | inl low ↦ elim (cases_eq slot 6) [
             | inl e ↦ both_none slot (subst (λ (x : ℕ). is_never_copied x ≡ true) (sym e) refl)
             | inr other ↦ same_table K L slot other (first_slot-none (is_different_table K L) slot w.0 low)
@@ -224,7 +224,7 @@ module _ (K L : Content) (okK : IsClosedContent K) (okL : IsClosedContent L) whe
             IsKept-below (read_back K) everything okK.font g (some-held K okK g a ea) in
             let same = same_glyph K L g a b (find-none (is_different_glyph K L) (glyph_count K.copied) g w.2 low) ea eb
             in
-            elim (cases_lt slot 29) [
+            elim (cases_lt slot ALL_SLOTS) [
               | inl few ↦ same_part K L g slot same.1 (slot_parted slot few)
               | inr past ↦
                   okK.font.unparted slot g (never_past slot past)

@@ -18,7 +18,7 @@ use Rattle.sfnt_bytes.specs.declared.directory.DirError.TheVariants.{NotTrueType
 use Rattle.sfnt_bytes.specs.declared.directory.TheConstants.{MAX_FILE}
 use Rattle.sfnt_bytes.specs.declared.records.Entry.{Entry}
 use Rattle.sfnt_bytes.specs.declared.tag.Tag.{Tag}
-use Rattle.sfnt_bytes.specs.declared.tag.TheConstants.{KEPT}
+use Rattle.sfnt_bytes.specs.declared.tag.TheConstants.{ALL_SLOTS, KEPT}
 use Rattle.codes.proofs.OrderLemmas.{find_none}
 use Rattle.font_theory.specs.Bytes.{padded}
 use Rattle.font_theory.specs.Content.{Content}
@@ -48,7 +48,7 @@ module _ (writing : Writing) (K : Content) (head : List ℕ) where
       (omega arith) (rest at)
   climb-slot low k n at (Some b) le rest = (le, rest (at + length (padded b)))
 
-  pub climb-slots : (k n low at : ℕ) → k + n ≤ 29 → (0 < n → low ≤ tag_number (place_tag k))
+  pub climb-slots : (k n low at : ℕ) → k + n ≤ ALL_SLOTS → (0 < n → low ≤ tag_number (place_tag k))
       → Climb low (entries_at at (tables_from writing K head k n))
   climb-slots k zero low at few le = tt
   climb-slots k (suc n) low at few le =

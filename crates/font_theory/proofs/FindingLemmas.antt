@@ -6,6 +6,7 @@ use Rattle.std.specs.Option.{option_map_or}
 use Rattle.std.proofs.lemmas.Bool.{cases_eq, eq-eqb, le-leb, ne_eqb}
 use Rattle.std.proofs.lemmas.List.{length-replicate}
 use Rattle.std.proofs.lemmas.Slice.Eq.{bytes_eq-Decides}
+use Rattle.sfnt_bytes.specs.declared.tag.TheConstants.{ALL_SLOTS}
 use Rattle.sfnt_bytes.specs.Directory.{is_within, records_of, slot_at, slot_tag, table_count}
 use Rattle.sfnt_bytes.specs.Findings.{entry_findings, findings_of, has_file_sum, has_search_fields, has_wrong_file_sum}
 use Rattle.sfnt_bytes.specs.Findings.{is_ascending, is_padded, padding_of, table_sum}
@@ -104,7 +105,8 @@ module _ (writing : Writing) (K : Content) (ok : IsWritable K) where
       let same = length-with_adjustment (adjustment_in writing K) K.head (omega arith) in
       omega arith
 
-  summed-slot : (place : ℕ) (b : List ℕ) → place < 29 → bytes_in_slot writing K (last_head writing K) (slot_at place)
+  summed-slot : (place : ℕ) (b : List ℕ) → place < ALL_SLOTS
+      → bytes_in_slot writing K (last_head writing K) (slot_at place)
       ≡ Some b → IsSummed (table_with (slot_at place) b)
   unfolding bytes_in_slot
   summed-slot place b low is =
@@ -136,7 +138,8 @@ module _ (writing : Writing) (K : Content) (ok : IsWritable K) where
       ∙ length-entries_at (12 + 16 * length tables) tables in
       subst (λ (b : List ℕ). flat_map (entry_findings b) (records_of b) ≡ []) (sym (file-is writing K))
       (nothing_found (file_of tables) tables (records_of (file_of tables)) same (all_placed tables are)
-      (each_slot writing K (last_head writing K) IsSummed 0 29 (λ place b from to e. summed-slot place b (omega arith)
+      (each_slot writing K (last_head writing K) IsSummed 0 ALL_SLOTS (λ place b from to e. summed-slot place b
+      (omega arith)
       e)))
 
   has_file_sum-file : has_file_sum (file writing K) (head_at writing K + 8) ≡ true

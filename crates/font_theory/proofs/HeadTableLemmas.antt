@@ -7,6 +7,7 @@ use Rattle.std.proofs.lemmas.Bool.{cond_both, eqb-false, ne_eqb}
 use Rattle.std.proofs.lemmas.List.{append_assoc, drop_at, get_or_append_left, length-append, length-drop}
 use Rattle.std.proofs.lemmas.List.{length-take-le, take-append-drop, take_at}
 use Rattle.std.proofs.lemmas.List.Concat.{flat_map-append}
+use Rattle.sfnt_bytes.specs.declared.tag.TheConstants.{ALL_SLOTS}
 use Rattle.sfnt_bytes.specs.Directory.{has_tag, kept_tag, records_of, slot_at, slot_tag, table_entry}
 use Rattle.sfnt_bytes.specs.Findings.{padding_of}
 use Rattle.sfnt_bytes.specs.Lines.{said_lines}
@@ -133,7 +134,7 @@ module _ (writing : Writing) (K : Content) where
   unfolding bytes_in_slot
   same_slot head slot other = let f = ne_eqb slot 6 other in rw f refl
 
-  same_lines : (head : List ℕ) (k n : ℕ) → k + n ≤ 29 → (18 < k) ⊎ (k + n ≤ 18)
+  same_lines : (head : List ℕ) (k n : ℕ) → k + n ≤ ALL_SLOTS → (18 < k) ⊎ (k + n ≤ 18)
       → map (table_at_place writing K head) (range_with_len k n) ≡ map (table_at_place writing K K.head)
       (range_with_len k n)
   same_lines head k zero few out = refl
@@ -148,7 +149,8 @@ module _ (writing : Writing) (K : Content) where
   head_slot head = refl
 
   -- `head` in their midst
-  pub split_at_head : (head : List ℕ) → tables_from writing K head 0 29 ≡ before_head ++ table_with 6 head ∷ behind_head
+  pub split_at_head : (head : List ℕ)
+      → tables_from writing K head 0 ALL_SLOTS ≡ before_head ++ table_with 6 head ∷ behind_head
   split_at_head head =
       tables_from-split writing K head 0 18 11
       ∙ ap (λ (l : List Table). tables_from writing K head 0 18 ++ l) (head_slot head)
@@ -224,14 +226,15 @@ module _ (writing : Writing) (K : Content) where
         ∙ sym (append_assoc (header ++ records) (bodies_of before_head) rest)
 
     -- either `head` leaves the records
-    pub same_count : length (last_tables writing K) ≡ length (tables_from writing K K.head 0 29)
+    pub same_count : length (last_tables writing K) ≡ length (tables_from writing K K.head 0 ALL_SLOTS)
     same_count =
         ap (λ (l : List Table). length l) (split_at_head (last_head writing K))
         ∙ length-append before_head (table_with 6 (last_head writing K) ∷ behind_head)
         ∙ sym (length-append before_head (table_with 6 K.head ∷ behind_head))
         ∙ ap (λ (l : List Table). length l) (sym (split_at_head K.head))
 
-    same_records : (at : ℕ) → entries_at at (last_tables writing K) ≡ entries_at at (tables_from writing K K.head 0 29)
+    same_records : (at : ℕ)
+        → entries_at at (last_tables writing K) ≡ entries_at at (tables_from writing K K.head 0 ALL_SLOTS)
     same_records at =
         let long = ok.head_size in
         let same = length-with_adjustment (adjustment_in writing K) K.head (omega arith) in
@@ -241,15 +244,16 @@ module _ (writing : Writing) (K : Content) where
         ∙ ap (entries_at at) (sym (split_at_head K.head))
 
     pub all_records : entries_at (12 + 16 * length (last_tables writing K)) (last_tables writing K)
-        ≡ entries_at (12 + 16 * length (tables_from writing K K.head 0 29)) (tables_from writing K K.head 0 29)
+        ≡ entries_at (12 + 16 * length (tables_from writing K K.head 0 ALL_SLOTS))
+        (tables_from writing K K.head 0 ALL_SLOTS)
     all_records =
         same_records (12 + 16 * length (last_tables writing K))
-        ∙ ap (λ (n : ℕ). entries_at (12 + 16 * n) (tables_from writing K K.head 0 29)) same_count
+        ∙ ap (λ (n : ℕ). entries_at (12 + 16 * n) (tables_from writing K K.head 0 ALL_SLOTS)) same_count
 
     other_split : file_with writing K K.head ≡ before_bytes ++ (padded K.head ++ bodies_of behind_head)
     unfolding file_of
     other_split =
-        let tables = tables_from writing K K.head 0 29 in
+        let tables = tables_from writing K K.head 0 ALL_SLOTS in
         let header = header_bytes (length tables) in
         let records = flat_map entry_bytes (entries_at (12 + 16 * length tables) tables) in
         let rest = padded K.head ++ bodies_of behind_head in

@@ -14,7 +14,7 @@ use Rattle.sfnt_bytes.specs.Refusals.{is_duplicate, is_outside, tag_lines}
 use Rattle.sfnt_bytes.specs.declared.directory.DirError.TheVariants.{DuplicateTable, TableOutOfFile}
 use Rattle.sfnt_bytes.specs.declared.directory.TheConstants.{MAX_FILE}
 use Rattle.sfnt_bytes.specs.declared.tag.Tag.{Tag}
-use Rattle.sfnt_bytes.specs.declared.tag.TheConstants.{GVAR, HMTX, LAYOUT, LAYOUT_AND_VARIATIONS, POST, VMTX}
+use Rattle.sfnt_bytes.specs.declared.tag.TheConstants.{ALL_SLOTS, GVAR, HMTX, LAYOUT, LAYOUT_AND_VARIATIONS, POST, VMTX}
 use Rattle.sfnt_bytes.proofs.LineLemmas.{find-none_at, first_of_lines-none_at, option_map-none}
 use Rattle.sfnt_bytes.proofs.RefusalLemmas.{tags_inside, tags_single}
 use Rattle.codes.specs.CharacterMap.{restricted}
@@ -598,21 +598,22 @@ total-more f g k zero h = omega arith
 total-more f g k (suc n) h = omega (arith, h k, total-more f g (k + 1) n h)
 
 module _ (c d : ℕ → Option (List ℕ)) (each : (slot : ℕ) → IsNoLonger (c slot) (d slot)) where
-  count-all : length (said_lines (map c (range_with_len 0 29))) ≡ length (said_lines (map d (range_with_len 0 29)))
+  count-all : length (said_lines (map c (range_with_len 0 ALL_SLOTS)))
+      ≡ length (said_lines (map d (range_with_len 0 ALL_SLOTS)))
   count-all =
-      length-said_lines-total c 0 29
-      ∙ ap (λ f. total f 0 29) (fun_ext (λ slot. count-same (c slot) (d slot) (each slot)))
-      ∙ sym (length-said_lines-total d 0 29)
+      length-said_lines-total c 0 ALL_SLOTS
+      ∙ ap (λ f. total f 0 ALL_SLOTS) (fun_ext (λ slot. count-same (c slot) (d slot) (each slot)))
+      ∙ sym (length-said_lines-total d 0 ALL_SLOTS)
 
-  bytes-all : sum (map (λ slot. padded_length (c slot)) (range_with_len 0 29))
-      ≤ sum (map (λ slot. padded_length (d slot)) (range_with_len 0 29))
+  bytes-all : sum (map (λ slot. padded_length (c slot)) (range_with_len 0 ALL_SLOTS))
+      ≤ sum (map (λ slot. padded_length (d slot)) (range_with_len 0 ALL_SLOTS))
   bytes-all =
-      let a = sum-map (λ slot. padded_length (c slot)) 0 29 in
-      let b = sum-map (λ slot. padded_length (d slot)) 0 29 in
-      let more = total-more (λ slot. padded_length (c slot)) (λ slot. padded_length (d slot)) 0 29
+      let a = sum-map (λ slot. padded_length (c slot)) 0 ALL_SLOTS in
+      let b = sum-map (λ slot. padded_length (d slot)) 0 ALL_SLOTS in
+      let more = total-more (λ slot. padded_length (c slot)) (λ slot. padded_length (d slot)) 0 ALL_SLOTS
       (λ slot. bytes-more (c slot) (d slot) (each slot)) in
-      subst (λ (x : ℕ). x ≤ sum (map (λ slot. padded_length (d slot)) (range_with_len 0 29))) (sym a)
-      (subst (λ (x : ℕ). total (λ slot. padded_length (c slot)) 0 29 ≤ x) (sym b) more)
+      subst (λ (x : ℕ). x ≤ sum (map (λ slot. padded_length (d slot)) (range_with_len 0 ALL_SLOTS))) (sym a)
+      (subst (λ (x : ℕ). total (λ slot. padded_length (c slot)) 0 ALL_SLOTS ≤ x) (sym b) more)
 
 module _ (F : Font) (ok : IsFont F) (A : Wanted) where
   abbrev R : Content

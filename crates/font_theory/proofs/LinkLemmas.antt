@@ -1,29 +1,16 @@
 -- What the theory asks of links: there are none without `GSUB`, and `GSUB` alone says what they are.
 use Rattle.std.proofs.Common.{◌≡◌, ℕ, ◌<◌, ◌≤◌, true, false, nat_le, nat_lt, inl, inr}
-use Rattle.std.proofs.Common.{List, [], refl, ◌∙◌, ap, arith, Option, Some, None, option_map, unwrap_or}
+use Rattle.std.proofs.Common.{List, refl, ap, arith, Option, Some, None, option_map}
 use Rattle.std.proofs.lemmas.Bool.{and_parts, both_ways, false_from_ne_true, le-leb, leb-true, lt-leb, ltb-true, ne_eqb}
 use Rattle.std.proofs.lemmas.Bool.{leb-false, or_cases, or_left, or_parts, or_right}
 use Rattle.std.specs.Option.{option_map_or}
-use Rattle.std.proofs.Math.Path.{fun_ext}
 use Rattle.sfnt_bytes.specs.Directory.{is_layout_slot}
-use Rattle.sfnt_bytes.specs.declared.tag.TheConstants.{ALL_SLOTS, FIRST_VARIATION, FVAR, GSUB, GVAR}
+use Rattle.sfnt_bytes.specs.declared.tag.TheConstants.{ALL_SLOTS, FIRST_VARIATION, FVAR, GVAR}
 use Rattle.font_variations.specs.Gvar.{is_bad_variations}
-use Rattle.font_theory.specs.Content.{IsPlain, glyph_count, is_bad_variations_in, is_made}
-use Rattle.font_theory.specs.Closed.{is_bad_layout_in, links_in}
-use Rattle.font_theory.specs.Content.{is_never_copied, is_never_in_layout, table_in_slot}
-use Rattle.font_layout.specs.Layout.{kept_in, leads_of, links, links_in as table_links_in}
-use Rattle.font_layout.specs.Steps.{lookup_list, steps_in}
+use Rattle.font_theory.specs.Content.{glyph_count, is_bad_variations_in, is_made}
+use Rattle.font_theory.specs.Content.{is_never_copied, is_never_in_layout}
 use Rattle.font_layout.proofs.CleaningLemmas.{fixed-fixed}
-use Rattle.font_theory.specs.Links.{fixed, is_bad_layout}
-
--- the facts that the reader of GSUB gives
-links-nothing : (g : ℕ) → links [] g ≡ []
-unfolding links leads_of kept_in table_links_in steps_in lookup_list
-links-nothing g = refl
-
-is_bad_layout-nothing : is_bad_layout [] ≡ false
-unfolding is_bad_layout
-is_bad_layout-nothing = refl
+use Rattle.font_theory.specs.Links.{fixed}
 
 pub fixed-map : (slot : ℕ) (o : Option (List ℕ)) → option_map (fixed slot) (option_map (fixed slot) o)
     ≡ option_map (fixed slot) o
@@ -37,29 +24,6 @@ layout-made slot h = or_right _ (nat_le 16 slot) (and_parts (nat_le 16 slot) (na
 -- the same of copied tables
 abbrev Tables : Type 0
 Tables = ℕ → Option (List ℕ)
-
-pub links_in-none : (c : Tables) → table_in_slot c GSUB ≡ [] → (g : ℕ) → links_in c g ≡ []
-unfolding links_in
-links_in-none c none g = ap (λ (b : List ℕ). links b g) none ∙ links-nothing g
-
-pub links_in-absent : (c : Tables) → c GSUB ≡ None → (g : ℕ) → links_in c g ≡ []
-links_in-absent c absent = links_in-none c (ap (λ (o : Option (List ℕ)). unwrap_or o []) absent)
-
-pub gsub-plain : (c : Tables) → IsPlain c → c GSUB ≡ None
-gsub-plain c plain = plain GSUB refl
-
-pub is_bad_layout_in-none : (c : Tables) → table_in_slot c GSUB ≡ [] → is_bad_layout_in c ≡ false
-unfolding is_bad_layout_in
-is_bad_layout_in-none c none = ap is_bad_layout none ∙ is_bad_layout-nothing
-
-pub links_in-same : (c d : Tables) → table_in_slot d GSUB ≡ table_in_slot c GSUB → links_in d ≡ links_in c
-unfolding links_in
-links_in-same c d same = fun_ext (λ g. ap (λ (b : List ℕ). links b g) same)
-
-pub is_bad_layout_in-same : (c d : Tables) → table_in_slot d GSUB ≡ table_in_slot c GSUB
-    → is_bad_layout_in d ≡ is_bad_layout_in c
-unfolding is_bad_layout_in
-is_bad_layout_in-same c d same = ap is_bad_layout same
 
 -- without `gvar` none is bad, and `gvar`, `fvar` and the number of glyphs alone say whether it is
 pub is_bad_variations_in-none : (c : Tables) → c GVAR ≡ None → is_bad_variations_in c ≡ false
@@ -80,9 +44,9 @@ layout-copied slot h =
 
 -- what no cut copies, a layout cut does not copy, and what that does not copy a plain one does not
 pub never-layout : (slot : ℕ) → is_never_copied slot ≡ true → is_never_in_layout slot ≡ true
-never-layout slot h = elim (or_cases _ (nat_le 29 slot) h) [
+never-layout slot h = elim (or_cases _ (nat_le ALL_SLOTS slot) h) [
   | inl one ↦ or_left _ (nat_le 21 slot) one
-  | inr past ↦ let far = leb-true 29 slot past in or_right _ (nat_le 21 slot) (le-leb 21 slot (omega arith))
+  | inr past ↦ let far = leb-true ALL_SLOTS slot past in or_right _ (nat_le 21 slot) (le-leb 21 slot (omega arith))
 ]
 
 pub never-in_plain : (slot : ℕ) → is_never_in_layout slot ≡ true → is_made slot ≡ true

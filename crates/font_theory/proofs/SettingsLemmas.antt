@@ -10,7 +10,7 @@ use Rattle.sfnt_bytes.specs.Lines.{first_of_lines, when}
 use Rattle.sfnt_bytes.specs.Refusals.{tag_lines}
 use Rattle.sfnt_bytes.specs.declared.directory.DirError.TheVariants.{DuplicateTable, FileTooLarge, TableOutOfFile}
 use Rattle.sfnt_bytes.specs.declared.directory.TheConstants.{MAX_FILE}
-use Rattle.sfnt_bytes.specs.declared.tag.TheConstants.{SLOTS}
+use Rattle.sfnt_bytes.specs.declared.tag.TheConstants.{ALL_SLOTS, SLOTS}
 use Rattle.sfnt_bytes.proofs.LineLemmas.{first_of_lines-none_at, when-none}
 use Rattle.font_file.specs.Font.{font_fault}
 use Rattle.font_file.specs.declared.font_error.FontError.{FontError}
@@ -55,7 +55,7 @@ read_by-again unvarying slot o = fixed-map slot o
 -- a table that a cut makes anew is never copied
 made-never : (slot : ℕ) → is_made slot ≡ true → slot < SLOTS → is_never_copied slot ≡ true
 made-never slot made low = elim (or_cases _ (nat_le SLOTS slot) made) [
-  | inl one ↦ or_left _ (nat_le 29 slot) one
+  | inl one ↦ or_left _ (nat_le ALL_SLOTS slot) one
   | inr past ↦ let far = leb-true SLOTS slot past in absurd (omega arith)
 ]
 

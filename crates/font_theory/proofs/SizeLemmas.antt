@@ -5,6 +5,7 @@ use Rattle.std.specs.List.{concat, range_with_len}
 use Rattle.std.proofs.lemmas.Bool.{cases_eq, ne_eqb}
 use Rattle.std.proofs.lemmas.List.{length-append}
 use Rattle.std.proofs.lemmas.List.Sums.{sum_by-cons}
+use Rattle.sfnt_bytes.specs.declared.tag.TheConstants.{ALL_SLOTS}
 use Rattle.sfnt_bytes.specs.Findings.{padding_of}
 use Rattle.sfnt_bytes.specs.Lines.{said_lines}
 use Rattle.font_theory.specs.Bytes.{padded}
@@ -82,7 +83,7 @@ module _ (writing : Writing) (K : Content) (head : List ℕ) where
 abbrev extra : ℕ → ℕ → ℕ → ℕ → ℕ → ℕ
 extra a b c d slot = cond (nat_eq slot 1) a (cond (nat_eq slot 5) b (cond (nat_eq slot 6) c (cond (nat_eq slot 9) d 0)))
 
-total-extra : (a b c d : ℕ) → total (extra a b c d) 0 29 ≡ a + b + c + d
+total-extra : (a b c d : ℕ) → total (extra a b c d) 0 ALL_SLOTS ≡ a + b + c + d
 total-extra a b c d = omega arith
 
 -- a measure of a slot is that of the copied table, or of one of the four
@@ -123,14 +124,14 @@ is_measured writing K head m slot ok none =
     ]
 
 -- the places have all slots
-total-places : (h : ℕ → ℕ) → total (λ place. h (slot_at place)) 0 29 ≡ total h 0 29
+total-places : (h : ℕ → ℕ) → total (λ place. h (slot_at place)) 0 ALL_SLOTS ≡ total h 0 ALL_SLOTS
 unfolding slot_at
 total-places h = omega arith
 
 -- all slots
 total-slots : (writing : Writing) (K : Content) (head : List ℕ) (m : Option (List ℕ) → ℕ) → IsWritable K → m None ≡ 0
-    → total (λ place. m (bytes_in_slot writing K head (slot_at place))) 0 29
-    ≡ total (λ slot. m (K.copied slot)) 0 29 + (m (Some (cmap_bytes writing (groups_of_content K)))
+    → total (λ place. m (bytes_in_slot writing K head (slot_at place))) 0 ALL_SLOTS
+    ≡ total (λ slot. m (K.copied slot)) 0 ALL_SLOTS + (m (Some (cmap_bytes writing (groups_of_content K)))
     + m (Some (glyf_bytes writing (outlines_of K))) + m (Some head) + m (Some (loca_bytes (outlines_of K))))
 total-slots writing K head m ok none =
     let a = m (Some (cmap_bytes writing (groups_of_content K))) in
@@ -138,27 +139,27 @@ total-slots writing K head m ok none =
     let c = m (Some head) in
     let d = m (Some (loca_bytes (outlines_of K))) in
     total-places (λ slot. m (bytes_in_slot writing K head slot))
-    ∙ total-add (λ slot. m (bytes_in_slot writing K head slot)) (λ slot. m (K.copied slot)) (extra a b c d) 0 29
+    ∙ total-add (λ slot. m (bytes_in_slot writing K head slot)) (λ slot. m (K.copied slot)) (extra a b c d) 0 ALL_SLOTS
     (λ slot. is_measured writing K head m slot ok none)
-    ∙ ap (λ (n : ℕ). total (λ slot. m (K.copied slot)) 0 29 + n) (total-extra a b c d)
+    ∙ ap (λ (n : ℕ). total (λ slot. m (K.copied slot)) 0 ALL_SLOTS + n) (total-extra a b c d)
 
 -- how many tables are written
 pub length-last_tables : (writing : Writing) (K : Content) → IsWritable K → length (last_tables writing K) ≡ 4
-    + length (said_lines (map K.copied (range_with_len 0 29)))
+    + length (said_lines (map K.copied (range_with_len 0 ALL_SLOTS)))
 length-last_tables writing K ok =
-    let all = length-tables writing K (last_head writing K) 0 29 in
-    let copied = length-said_lines-total K.copied 0 29 in
+    let all = length-tables writing K (last_head writing K) 0 ALL_SLOTS in
+    let copied = length-said_lines-total K.copied 0 ALL_SLOTS in
     let parts = total-slots writing K (last_head writing K) one_of ok refl in
     omega (arith, all, copied, parts)
 
 pub length-last_bodies : (writing : Writing) (K : Content) → IsWritable K → length (bodies_of (last_tables writing K))
-    ≡ sum (map (λ slot. padded_length (K.copied slot)) (range_with_len 0 29))
+    ≡ sum (map (λ slot. padded_length (K.copied slot)) (range_with_len 0 ALL_SLOTS))
     + (length (padded (cmap_bytes writing (groups_of_content K))) + length (padded (glyf_bytes writing (outlines_of K)))
     + length (padded K.head) + length (padded (loca_bytes (outlines_of K))))
 length-last_bodies writing K ok =
     let long = ok.head_size in
-    let all = length-bodies writing K (last_head writing K) 0 29 in
-    let copied = sum-map (λ slot. padded_length (K.copied slot)) 0 29 in
+    let all = length-bodies writing K (last_head writing K) 0 ALL_SLOTS in
+    let copied = sum-map (λ slot. padded_length (K.copied slot)) 0 ALL_SLOTS in
     let parts = total-slots writing K (last_head writing K) padded_length ok refl in
     let same = length-with_adjustment (adjustment_in writing K) K.head (omega arith) in
     let head : length (padded (last_head writing K)) ≡ length (padded K.head) =

@@ -3,6 +3,7 @@ use Rattle.std.proofs.Common.{◌≡◌, ◌≢◌, ℕ, zero, suc, ◌+◌, ◌
 use Rattle.std.proofs.Common.{length, map, refl, sym, ap, subst, ◌∙◌, arith, Option, Some, None, option_map, inl, inr}
 use Rattle.std.specs.List.{range_with_len}
 use Rattle.std.proofs.lemmas.Bool.{cases_eq, eq-eqb, ne_eqb}
+use Rattle.sfnt_bytes.specs.declared.tag.TheConstants.{ALL_SLOTS}
 use Rattle.sfnt_bytes.specs.Directory.{slot_at, slot_tag}
 use Rattle.sfnt_bytes.specs.Lines.{said_lines}
 use Rattle.sfnt_bytes.specs.Tag.{same_tag}
@@ -40,7 +41,7 @@ module _ (writing : Writing) (K : Content) (head : List ℕ) where
   bytes_at = bytes_in_slot writing K head
 
   -- and nowhere else
-  pub found_nowhere : (place k n : ℕ) → place < 29 → k + n ≤ 29 → (place < k) ⊎ (k + n ≤ place)
+  pub found_nowhere : (place k n : ℕ) → place < ALL_SLOTS → k + n ≤ ALL_SLOTS → (place < k) ⊎ (k + n ≤ place)
       → find (is_of (slot_at place)) (tables_from writing K head k n) ≡ None
   found_nowhere place k zero low few out = refl
   found_nowhere place k (suc n) low few out =
@@ -54,7 +55,7 @@ module _ (writing : Writing) (K : Content) (head : List ℕ) where
       ∙ ne_eqb k place other) ∙ found_nowhere place (k + 1) n low (omega arith) next
 
   -- the table at a place is found under its tag
-  pub found_at_place : (place k n : ℕ) → place < 29 → k + n ≤ 29 → k ≤ place → place < k + n
+  pub found_at_place : (place k n : ℕ) → place < ALL_SLOTS → k + n ≤ ALL_SLOTS → k ≤ place → place < k + n
       → find (is_of (slot_at place)) (tables_from writing K head k n) ≡ table_at_place writing K head place
   found_at_place place k zero low few from to = absurd (omega arith)
   found_at_place place k (suc n) low few from to =
@@ -72,13 +73,13 @@ module _ (writing : Writing) (K : Content) (head : List ℕ) where
       ]
 
   -- and so that in a slot
-  pub found_in_slot : (slot : ℕ) → slot < 29 → find (is_of slot) (tables_from writing K head 0 29)
+  pub found_in_slot : (slot : ℕ) → slot < ALL_SLOTS → find (is_of slot) (tables_from writing K head 0 ALL_SLOTS)
       ≡ table_in writing K head slot
   found_in_slot slot low =
       let inside = place_of-low slot low in
-      subst (λ (s : ℕ). find (is_of s) (tables_from writing K head 0 29) ≡ table_in writing K head s)
+      subst (λ (s : ℕ). find (is_of s) (tables_from writing K head 0 ALL_SLOTS) ≡ table_in writing K head s)
       (slot_at-place_of slot low)
-      (found_at_place (place_of slot) 0 29 inside (omega arith) (omega arith) (omega arith))
+      (found_at_place (place_of slot) 0 ALL_SLOTS inside (omega arith) (omega arith) (omega arith))
 
   -- what holds of the table of each slot holds of all tables
   pub each_slot : (P : Table → Type 0) (k n : ℕ) → ((place : ℕ) (b : List ℕ) → k ≤ place → place < k + n
@@ -137,7 +138,7 @@ module _ (writing : Writing) (K : Content) (head : List ℕ) where
   own slot n = map (table_in writing K head) (range_with_len slot n)
 
   -- without tables of layout and of variations, those that stand at the places are those of the slots, in their order
-  pub tables_from-plain : IsPlain K.copied → tables_from writing K head 0 29
+  pub tables_from-plain : IsPlain K.copied → tables_from writing K head 0 ALL_SLOTS
       ≡ said_lines (map (table_in writing K head) (range_with_len 0 16))
   unfolding slot_at bytes_in_slot
   tables_from-plain plain =
@@ -157,14 +158,15 @@ module _ (writing : Writing) (K : Content) (head : List ℕ) where
       ∙ skip (own 0 9) (own 9 7)
 
   -- a directory can be written of them
-  pub are_tables : AreTables (tables_from writing K head 0 29)
+  pub are_tables : AreTables (tables_from writing K head 0 ALL_SLOTS)
   unfolding bytes_in_slot
   are_tables =
-      let few = length-said_lines (map (table_at_place writing K head) (range_with_len 0 29)) in
+      let few = length-said_lines (map (table_at_place writing K head) (range_with_len 0 ALL_SLOTS)) in
       record {
-        some = not_empty (tables_from writing K head 0 29) (found_in_slot 5 (omega arith));
+        some = not_empty (tables_from writing K head 0 ALL_SLOTS) (found_in_slot 5 (omega arith));
         few = omega arith;
-        tags = each_slot (λ table. HasFour table.tag) 0 29 (λ place b from to e. length-place_tag place (omega arith));
+        tags = each_slot (λ table. HasFour table.tag) 0 ALL_SLOTS (λ place b from to e. length-place_tag place
+            (omega arith));
       }
     where
       not_empty : (tables : List Table) → find (is_of 5) tables ≡ table_in writing K head 5 → 1 ≤ length tables

@@ -3,6 +3,7 @@ use Rattle.std.proofs.Common.{◌≡◌, ℕ, suc, ◌+◌, ◌*◌, ◌/◌, �
 use Rattle.std.proofs.Common.{length}
 use Rattle.std.proofs.Common.{refl, sym, ◌∙◌, arith}
 use Rattle.std.proofs.lemmas.Bool.{agree_below_at, eqb-true, lt-ltb, ltb-true}
+use Rattle.sfnt_bytes.specs.declared.tag.TheConstants.{ALL_SLOTS}
 use Rattle.sfnt_bytes.specs.Directory.{kept_tag, slot_at, slot_tag}
 use Rattle.sfnt_bytes.specs.declared.tag.Tag.{Tag}
 use Rattle.sfnt_bytes.specs.Tag.{same_tag, tag_number}
@@ -13,21 +14,23 @@ use Rattle.font_tables.specs.Tables.{named}
 abbrev pub place_tag : ℕ → Tag
 place_tag place = slot_tag (slot_at place)
 
-pub length-place_tag : (place : ℕ) → place < 29 → length (place_tag place).0 ≡ 4
+pub length-place_tag : (place : ℕ) → place < ALL_SLOTS → length (place_tag place).0 ≡ 4
 unfolding kept_tag slot_at slot_tag
 length-place_tag place low =
-    eqb-true _ 4 (agree_below_at (λ i. eqb (length (place_tag i).0) 4) (λ _. true) 29 place refl low)
+    eqb-true _ 4 (agree_below_at (λ i. eqb (length (place_tag i).0) 4) (λ _. true) ALL_SLOTS place refl low)
 
-pub place_tag-ascends : (place : ℕ) → suc place < 29 → tag_number (place_tag place) < tag_number (place_tag (suc place))
+pub place_tag-ascends : (place : ℕ) → suc place < ALL_SLOTS
+    → tag_number (place_tag place) < tag_number (place_tag (suc place))
 unfolding kept_tag slot_at slot_tag u32_at
 place_tag-ascends place low =
     ltb-true _ _ (agree_below_at (λ i. ltb (tag_number (place_tag i)) (tag_number (place_tag (suc i)))) (λ _. true) 28
     place refl (omega arith))
 
-pub same_tag-head : (place : ℕ) → place < 29 → same_tag (place_tag place) (named (codes "head")) ≡ eqb (slot_at place) 6
+pub same_tag-head : (place : ℕ) → place < ALL_SLOTS
+    → same_tag (place_tag place) (named (codes "head")) ≡ eqb (slot_at place) 6
 unfolding kept_tag slot_at slot_tag
 same_tag-head place low = agree_below_at (λ i. same_tag (place_tag i) (named (codes "head"))) (λ i. eqb (slot_at i) 6)
-    29 place refl low
+    ALL_SLOTS place refl low
 
 -- two places in one number
 pair_same : (pair : ℕ) → pair < 841 → same_tag (place_tag (pair / 29)) (place_tag (pair % 29))
@@ -36,7 +39,8 @@ unfolding kept_tag slot_at slot_tag
 pair_same pair low = agree_below_at (λ i. same_tag (place_tag (i / 29)) (place_tag (i % 29)))
     (λ i. eqb (i / 29) (i % 29)) 841 pair refl low
 
-pub same_tag-places : (place other : ℕ) → place < 29 → other < 29 → same_tag (place_tag place) (place_tag other)
+pub same_tag-places : (place other : ℕ) → place < ALL_SLOTS → other < ALL_SLOTS
+    → same_tag (place_tag place) (place_tag other)
     ≡ eqb place other
 same_tag-places place other low below =
     let pair = 29 * place + other in
@@ -46,9 +50,9 @@ same_tag-places place other low below =
     ∙ (λ i. eqb (first i) (second i))
 
 -- `head` stands at one place
-pub slot_at-head : (place : ℕ) → place < 29 → eqb (slot_at place) 6 ≡ eqb place 18
+pub slot_at-head : (place : ℕ) → place < ALL_SLOTS → eqb (slot_at place) 6 ≡ eqb place 18
 unfolding slot_at
-slot_at-head place low = agree_below_at (λ i. eqb (slot_at i) 6) (λ i. eqb i 18) 29 place refl low
+slot_at-head place low = agree_below_at (λ i. eqb (slot_at i) 6) (λ i. eqb i 18) ALL_SLOTS place refl low
 
 -- the places of the slots
 abbrev places : List ℕ
@@ -59,13 +63,14 @@ places = 6 ∷ 10 ∷ 12 ∷ 13 ∷ 15 ∷ 16 ∷ 18 ∷ 19 ∷ 20 ∷ 22 ∷ 23
 abbrev pub place_of : ℕ → ℕ
 place_of slot = get_or places slot 0
 
-pub slot_at-place_of : (slot : ℕ) → slot < 29 → slot_at (place_of slot) ≡ slot
+pub slot_at-place_of : (slot : ℕ) → slot < ALL_SLOTS → slot_at (place_of slot) ≡ slot
 unfolding slot_at
 slot_at-place_of slot low =
-    eqb-true _ _ (agree_below_at (λ i. eqb (slot_at (place_of i)) i) (λ _. true) 29 slot refl low)
+    eqb-true _ _ (agree_below_at (λ i. eqb (slot_at (place_of i)) i) (λ _. true) ALL_SLOTS slot refl low)
 
-pub place_of-low : (slot : ℕ) → slot < 29 → place_of slot < 29
-place_of-low slot low = ltb-true _ _ (agree_below_at (λ i. ltb (place_of i) 29) (λ _. true) 29 slot refl low)
+pub place_of-low : (slot : ℕ) → slot < ALL_SLOTS → place_of slot < ALL_SLOTS
+place_of-low slot low = ltb-true _ _ (agree_below_at (λ i. ltb (place_of i) ALL_SLOTS)
+    (λ _. true) ALL_SLOTS slot refl low)
 
 -- and the tag of a slot of a plain cut
 pub slot_tag-kept : (slot : ℕ) → slot < 16 → slot_tag slot ≡ kept_tag slot

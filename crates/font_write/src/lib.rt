@@ -2,6 +2,7 @@
 #![tactic(auto)]
 
 mod bytes;
+mod laws;
 mod made;
 mod made_cmap;
 mod made_glyf;
@@ -17,6 +18,7 @@ mod vec_sink;
 mod whole_file;
 mod writer;
 
+pub use crate::laws::table_limit_is;
 pub use crate::made::{Made, made_in};
 pub use crate::plan::{Measure, Plan, plan_of};
 pub use crate::same::{Same, is_file_of};

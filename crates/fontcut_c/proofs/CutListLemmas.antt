@@ -1,6 +1,6 @@
 -- The files of what the cuts for many sets are made of are these cuts, and what was answered of the files is
 -- answered of the cuts.
-use Rattle.std.proofs.Common.{◌≡◌, ℕ, suc, ◌+◌, ◌<◌, ◌≤◌, ◌&&◌, inl, inr, Bool, List, [], ◌∷◌, ◌++◌, drop, get_or}
+use Rattle.std.proofs.Common.{◌≡◌, ℕ, suc, ◌+◌, ◌<◌, ◌&&◌, inl, inr, Bool, List, [], ◌∷◌, ◌++◌, drop, get_or}
 use Rattle.std.proofs.Common.{length, map, sum, take}
 use Rattle.std.proofs.Common.{None, Some, Result, MatchResult, option_map, refl, ap, sym, subst, ◌∙◌, arith}
 use Rattle.std.proofs.Common.{append_assoc}
@@ -40,10 +40,6 @@ count_left counts n from total left = elim (cases_lt n (length counts)) [
       let also = ap (λ (l : List ℕ). sum l) (drop_of_length-le counts {i = n + 1} (omega arith)) in
       omega (arith, none, gone, also, left)
 ]
-
-pub count_fits : (counts : List ℕ) (n from total : ℕ) → from + sum (drop n counts) ≡ total
-    → from + get_or counts n 0 ≤ total
-count_fits counts n from total left = let e = count_left counts n from total left in omega (arith, e)
 
 -- the first n sets, and one more
 module _ (cut : Request → List ℕ) (sets : Sets) (n from glyph_from : ℕ) (made : List (List ℕ)) (low : n

@@ -7,5 +7,6 @@ mod InfoLemmas
 mod JoiningLemmas
 mod MappedLemmas
 mod PairLemmas
+mod RangeLemmas
 mod RowLemmas
 mod StepLemmas

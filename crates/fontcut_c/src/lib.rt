@@ -353,7 +353,7 @@ pub extern "C" fn fontcut_cuts_glyphs(
 }
 
 /// Says in which form a font is a cut of the kind that the number names: `detail` is 0 where it is none, 1
-/// where it is current and 2 where it is an old one, which no lean or layout cut is. Status 101 where the number names
+/// where it is current and 2 where it is an old one, which only a full cut can be. Status 101 where the number names
 /// no kind, which is asked before all else.
 #[unsafe(no_mangle)]
 pub extern "C" fn fontcut_cut_form(alloc: Global, kind: u32, font: &[u8]) -> Answer

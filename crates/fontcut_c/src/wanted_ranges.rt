@@ -1,5 +1,6 @@
 //! Ranges of codes, and the set that they want.
 ghost use Rattle.std.specs.Prelude.{◌≡◌, ◌<◌, ℕ, MatchOption, IfOk};
+ghost use Rattle.std.specs.List.Sorted.{IsPermutation};
 ghost use Rattle.codes.specs.Wanted.{member};
 ghost use Rattle.fontcut_c.specs.Cutting.{AreGood, IsFirstBad, wanted_by};
 
@@ -20,8 +21,8 @@ pub(crate) fn first_bad(ranges: &[CodeRange]) -> Option<usize>
     None
 }
 
-/// Returns the codes of ranges of which none is bad.
-pub(crate) fn wanted_of(alloc: Global, ranges: &[CodeRange]) -> Result<Wanted, NoMemory>
+// Returns the codes of ranges of which none is bad, each added after those before it.
+fn added(alloc: Global, ranges: &[CodeRange]) -> Result<Wanted, NoMemory>
     ensures { IfOk result (λ wanted. member wanted ≡ wanted_by ranges.now) }
 {
     let mut wanted = Wanted::new(alloc);
@@ -32,4 +33,33 @@ pub(crate) fn wanted_of(alloc: Global, ranges: &[CodeRange]) -> Result<Wanted, N
         }
     }
     Ok(wanted)
+}
+
+// Tells whether each range begins where the one before it does, or later.
+fn ascends(ranges: &[CodeRange]) -> bool {
+    ranges.windows(2).all(|pair| pair[0].first <= pair[1].first)
+}
+
+// Returns the ranges in the order in which they begin.
+fn sorted(alloc: Global, ranges: &[CodeRange]) -> Result<Vec<CodeRange>, NoMemory>
+    ensures { IfOk result (λ sorted. IsPermutation ranges.now sorted.items) }
+{
+    let mut sorted = Vec::new(alloc);
+    if sorted.extend_from_slice(ranges).is_err() {
+        return Err(NoMemory);
+    }
+    sorted.sort_unstable_by_key(|range| range.first);
+    Ok(sorted)
+}
+
+/// Returns the codes of ranges of which none is bad. They are added in the order in which they begin: a range in front of
+/// many others moves all of them.
+pub(crate) fn wanted_of(alloc: Global, ranges: &[CodeRange]) -> Result<Wanted, NoMemory>
+    ensures { IfOk result (λ wanted. member wanted ≡ wanted_by ranges.now) }
+{
+    if ascends(ranges) {
+        return added(alloc, ranges);
+    }
+    let sorted = sorted(alloc, ranges)?;
+    added(alloc, &sorted)
 }

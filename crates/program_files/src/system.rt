@@ -3,6 +3,7 @@ use std::alloc::Global;
 use std::cell::Cell;
 use std::io;
 use std::io::{Read, Write};
+use streams::Flushes;
 
 /// The number of the system's last error, where a file could not be read or written.
 #[derive(Drop)]
@@ -71,6 +72,18 @@ impl<T: Write> Write for KeepsReason<'_, T> {
     fn flush(&mut self) -> io::Result<()> {
         let reason = self.reason;
         self.inner.flush().map_err(|error| reason.keep(error))
+    }
+}
+
+/// It holds back what the writer below holds back.
+impl<T: Flushes> Flushes for KeepsReason<'_, T> {
+    ghost held = { λ writer. T.held writer.inner };
+
+    fn flush_held(&mut self) -> io::Result<()> {
+        match self.inner.flush_held() {
+            Ok(()) => Ok(()),
+            Err(error) => Err(self.reason.keep(error)),
+        }
     }
 }
 

@@ -67,10 +67,6 @@ pub layout_inside : (file : List ℕ) → layout_directory_fault file ≡ None �
 unfolding layout_directory_fault
 layout_inside file no_fault = tags_inside LAYOUT file no_fault
 
-pub layout_single : (file : List ℕ) → layout_directory_fault file ≡ None → find (is_duplicate file) LAYOUT ≡ None
-unfolding layout_directory_fault
-layout_single file no_fault = tags_single LAYOUT file no_fault
-
 pub layout_slot_tag : (slot : ℕ) → SLOTS ≤ slot → slot < FIRST_VARIATION
     → get_or LAYOUT (slot - SLOTS) (record { 0 = [] }) ≡ slot_tag slot
 unfolding slot_tag

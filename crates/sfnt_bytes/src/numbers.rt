@@ -66,7 +66,7 @@ pub const DIFFERENT_TABLE: u8 = 21;
 /// Files to be joined map one code to two glyphs.
 pub const DIFFERENT_MAPPING: u8 = 22;
 
-/// Files to be joined have two outlines of one glyph.
+/// Files to be joined keep a glyph that differs: its outline, or what cuts of their kind have of it besides.
 pub const DIFFERENT_GLYPH: u8 = 23;
 
 /// There is no file to be joined.
@@ -81,5 +81,5 @@ pub const BAD_WORD: u8 = 26;
 /// `GSUB` cannot be read, which is asked for layout cuts alone.
 pub const BAD_LAYOUT: u8 = 27;
 
-/// `gvar` cannot be read, which is asked for cuts that keep variations alone. No call makes them yet.
+/// `gvar` cannot be read, which is asked for variable cuts alone.
 pub const BAD_VARIATIONS: u8 = 28;

@@ -1,5 +1,6 @@
 -- What a clause reads of an `Outlet`, this project's own.
-use Rattle.std.specs.Prelude.{◌≡◌, ℕ, ◌+◌, Bool, ◌&&◌, List, ◌++◌, length, ◌==◌, not, Option, IsSomeAnd, codes, decimal}
+use Rattle.std.specs.Prelude.{◌≡◌, ℕ, ◌+◌, Bool, ◌&&◌, List, [], ◌++◌, length, ◌==◌, not, true, Option}
+use Rattle.std.specs.Prelude.{IsSomeAnd, codes, decimal}
 use Rattle.std.specs.Io.KnownBytes.{Appends}
 use Rattle.streams.specs.declared.outlet.Outlet.{Outlet}
 use Rattle.streams.specs.declared.outlet.WriteFault.{WriteFault}
@@ -15,6 +16,10 @@ broken_of outlet = outlet.broken
 -- `outlet.is_flushed()`: the writer was flushed after the last byte that it took
 abbrev pub flushed_of : {W : Type 0} → Outlet W → Bool
 flushed_of outlet = outlet.flushed
+
+-- the outlet was flushed, and its writer holds none of the bytes back that it took
+abbrev pub IsFlushed : {W : Type 0} → (W → List ℕ) → Outlet W → Type 0
+IsFlushed held outlet = (outlet.flushed ≡ true) × (held outlet.writer ≡ [])
 
 -- `outlet.is_fresh()`: nothing was sent, and nothing has failed
 abbrev pub fresh_of : {W : Type 0} → Outlet W → Bool

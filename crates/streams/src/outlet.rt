@@ -1,8 +1,9 @@
 //! A writer that counts the bytes it took, and stays broken after its first failure.
 ghost use Rattle.std.specs.Prelude.{◌≡◌, ℕ, ◌++◌, List, IsSome, ◌+◌, ◌-◌, ◌^◌, ◌<◌, [], take, false, true, length, IfErr, OnErr, OnOk, Some};
 ghost use Rattle.sfnt_bytes.specs.declared.numbers.TheConstants.{WRITE_FAULT};
-ghost use Rattle.streams.specs.Outlet.{HasSent, WentOut, broken_of, flushed_of, fresh_of, write_fault_text, writer_of, written_of};
+ghost use Rattle.streams.specs.Outlet.{HasSent, IsFlushed, WentOut, broken_of, flushed_of, fresh_of, write_fault_text, writer_of, written_of};
 
+use crate::flushes::Flushes;
 use sfnt_bytes::numbers;
 use std::error::Error;
 use std::fmt;
@@ -128,7 +129,16 @@ impl<W: Write> Outlet<W> {
         Ok(())
     }
 
-    /// Flushes the writer, which sends no byte.
+    /// Returns the writer as it stands, without a flush.
+    pub fn into_inner(self) -> W
+        ensures { result ≡ writer_of self }
+    {
+        self.writer
+    }
+}
+
+impl<W: Flushes> Outlet<W> {
+    /// Flushes the writer, which sends no byte anew: nothing that it took is held back afterwards.
     ///
     /// # Errors
     /// `WriteFault` where the flush fails; the outlet is broken.
@@ -136,11 +146,11 @@ impl<W: Write> Outlet<W> {
         requires { broken_of self.old ≡ false }
         ensures sends { WentOut W.contents self.old self.new [] }
         ensures unbroken { OnOk result (broken_of self.new ≡ false) }
-        ensures flushed { OnOk result (flushed_of self.new ≡ true) }
+        ensures flushed { OnOk result (IsFlushed W.held self.new) }
         ensures broken { OnErr result (broken_of self.new ≡ true) }
         ensures count { IfErr result (λ fault. fault.written ≡ written_of self.new) }
     {
-        match self.writer.flush() {
+        match self.writer.flush_held() {
             Ok(()) => {
                 self.flushed = true;
                 Ok(())
@@ -152,12 +162,5 @@ impl<W: Write> Outlet<W> {
                 })
             }
         }
-    }
-
-    /// Returns the writer as it stands, without a flush.
-    pub fn into_inner(self) -> W
-        ensures { result ≡ writer_of self }
-    {
-        self.writer
     }
 }

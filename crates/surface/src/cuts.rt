@@ -9,6 +9,7 @@ use font_cut::{
 };
 use std::alloc::Global;
 use std::io::Write;
+use streams::Flushes;
 
 /// Opens a font, and looks a glyph up.
 ///
@@ -128,7 +129,7 @@ pub fn joins(alloc: Global, x: &[u8], y: &[u8], files: &[Vec<u8>]) -> Result<Vec
 ///
 /// # Errors
 /// That of the write.
-pub fn outlet<W: Write + Drop>(writer: W, b: &[u8]) -> Result<W, WriteFault> {
+pub fn outlet<W: Flushes + Drop>(writer: W, b: &[u8]) -> Result<W, WriteFault> {
     let mut outlet: Outlet<W> = Outlet::new(writer);
     let put: Result<(), WriteFault> = outlet.put(b);
     put?;

@@ -8,6 +8,7 @@ use font_cmd::{Inlet, ReadError, RunError, run_check, run_join, run_show, run_su
 use font_cut::{Outlet, Wanted};
 use std::alloc::Global;
 use std::io::{Read, Write};
+use streams::Flushes;
 
 /// Reads an inlet to its end.
 ///
@@ -24,7 +25,7 @@ pub fn inlet<R: Read + Drop>(alloc: Global, reader: R) -> Result<Vec<u8>, ReadEr
 ///
 /// # Errors
 /// That of the check.
-pub fn checked<R: Read, W: Write>(
+pub fn checked<R: Read, W: Flushes>(
     alloc: Global,
     inlet: &mut Inlet<R>,
     out: &mut Outlet<W>,
@@ -40,7 +41,7 @@ pub fn checked<R: Read, W: Write>(
 ///
 /// # Errors
 /// That of the call.
-pub fn shown<R: Read, W: Write>(
+pub fn shown<R: Read, W: Flushes>(
     alloc: Global,
     inlet: &mut Inlet<R>,
     out: &mut Outlet<W>,
@@ -56,7 +57,7 @@ pub fn shown<R: Read, W: Write>(
 ///
 /// # Errors
 /// That of the cut.
-pub fn cut_of_inlet<R: Read, W: Write>(
+pub fn cut_of_inlet<R: Read, W: Flushes>(
     alloc: Global,
     inlet: &mut Inlet<R>,
     wanted: &Wanted,
@@ -73,7 +74,7 @@ pub fn cut_of_inlet<R: Read, W: Write>(
 ///
 /// # Errors
 /// That of the join.
-pub fn join_of_files<R: Read, W: Write>(
+pub fn join_of_files<R: Read, W: Flushes>(
     alloc: Global,
     inlets: &mut [Inlet<R>],
     out: &mut Outlet<W>,
@@ -86,7 +87,7 @@ pub fn join_of_files<R: Read, W: Write>(
 }
 
 /// Does what the arguments of a command line ask for.
-pub fn program_of_words<W: Write, V: Write>(
+pub fn program_of_words<W: Flushes, V: Write>(
     rt: &HostRuntime,
     alloc: Global,
     words: &[String],

@@ -4,7 +4,10 @@ use Rattle.font_theory.specs.Kinds.{format_of}
 use Rattle.font_theory.specs.Tree.{union_below}
 use Rattle.font_join.specs.JoinList.{AreCuts, IsSentAs}
 use Rattle.commands.specs.JoinRun.{AreGot}
-use Rattle.commands.proofs.JoinRunLemmas.{finish_stopped, into_stopped, only_size_into, read_stopped}
+use Rattle.font_join.proofs.LeastListLemmas.{least_of_all}
+use Rattle.font_theory.proofs.KindLemmas.{kind_is}
+use Rattle.commands.proofs.JoinRunLemmas.{finish_stopped, into_rightly_refused, into_stopped, only_size_into}
+use Rattle.commands.proofs.JoinRunLemmas.{read_refused, read_stopped}
 use Rattle.commands.proofs.RunLemmas.{sends_end}
 use Rattle.commands.proofs.join.run_join_of_kind.Goals as goal
 
@@ -73,3 +76,33 @@ returns-clause-sent g c =
             c.join_all_of_kind_into.new.out c.finish.new.self sent.file sent.sent.sends c.finish.ensures.sends,
       ),
     )
+
+pub returns-clause-upper : goal.returns-clause-upper
+returns-clause-upper g c =
+    let same = ap (map (λ v. v.items)) c.deref.ensures.value in
+    let got = subst (AreGot g.R.Read.remaining c.args.inlets.now) (sym same) c.in_ok-files.ensures.got in
+    let sent = c.in_ok-size.ensures.exact in (
+      _,
+      got,
+      (
+        sent.file,
+        least_of_all (kind_is c.args.kind) _ sent.file sent.joined,
+        sent.sent.size_is,
+        sends_end g.W.Write.contents c.args.outlet.now
+            c.join_all_of_kind_into.new.out c.finish.new.self sent.file sent.sent.sends c.finish.ensures.sends,
+      ),
+    )
+
+pub returns-in_err-size-clause-refused : goal.returns-in_err-size-clause-refused
+returns-in_err-size-clause-refused g c =
+    let same = ap (map (λ v. v.items)) c.deref.ensures.value in
+    let got = subst (AreGot g.R.Read.remaining c.args.inlets.now) (sym same) c.in_ok-files.ensures.got in
+    let right = into_rightly_refused (format_of c.args.kind) g.R.Read.remaining c.args.inlets.now _ got
+    c.in_err-size.field-0.0 (λ e is. c.in_err-size.ensures.refused e (search (rules, is))) in
+    search (rules, right)
+
+pub returns-in_err-files-clause-refused : goal.returns-in_err-files-clause-refused
+returns-in_err-files-clause-refused g c =
+    let right = read_refused (format_of c.args.kind) g.R.Read.remaining c.args.inlets.now c.read_each.new.inlets
+    c.in_err-files.field-0.0 c.in_err-files.ensures.stops in
+    search (rules, right)

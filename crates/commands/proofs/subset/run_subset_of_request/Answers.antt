@@ -18,7 +18,7 @@ returns-in_err-file-clause-sent g c =
 pub returns-clause-sent : goal.returns-clause-sent
 returns-clause-sent g c =
     let r = requested c.args.request.now in
-    let sends = subst (λ (f : List ℕ). SendsCut g.W.Write.contents r f c.args.outlet.now
+    let sends = subst (λ (f : List ℕ). SendsCut g.W.Write.contents g.W.Flushes.held r f c.args.outlet.now
     c.send_of_file.new.outlet c.send_of_file.result) c.deref.ensures.value c.send_of_file.ensures in
     file_sent r g.R.Read.remaining g.W.Write.contents c.args.inlet.now c.read_all.new.self
     c.args.outlet.now c.send_of_file.new.outlet c.in_ok-file.file.items c.in_ok-file.ensures.spent
@@ -27,7 +27,7 @@ returns-clause-sent g c =
 pub returns-clause-size : goal.returns-clause-size
 returns-clause-size g c =
     let r = requested c.args.request.now in
-    let sends = subst (λ (f : List ℕ). SendsCut g.W.Write.contents r f c.args.outlet.now
+    let sends = subst (λ (f : List ℕ). SendsCut g.W.Write.contents g.W.Flushes.held r f c.args.outlet.now
     c.send_of_file.new.outlet c.send_of_file.result) c.deref.ensures.value c.send_of_file.ensures in
     file_size r g.R.Read.remaining g.W.Write.contents c.args.inlet.now c.args.outlet.now
     c.send_of_file.new.outlet c.in_ok-file.file.items c.in_ok-file.ensures.got c.send_of_file.result sends

@@ -15,5 +15,6 @@ returns-in_err-font g c =
 
 pub returns : goal.returns
 returns g c =
-    subst (λ (f : List ℕ). SendsCut g.W.Write.contents (requested c.args.request.now) f c.args.outlet.now
+    subst (λ (f : List ℕ). SendsCut g.W.Write.contents g.W.Flushes.held
+    (requested c.args.request.now) f c.args.outlet.now
     c.send_of_font.new.outlet c.send_of_font.result) c.in_ok-font.ensures.0 c.send_of_font.ensures

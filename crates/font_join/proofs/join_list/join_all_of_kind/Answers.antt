@@ -4,6 +4,7 @@ use Rattle.font_join.specs.JoinList.{IsForSizeOf}
 use Rattle.font_theory.specs.Kinds.{format_of}
 use Rattle.font_theory.proofs.KindLemmas.{kind_is}
 use Rattle.font_join.proofs.JoinListLemmas.{clash_differs, cuts_refused_in_turn, laws_of_join, small_joined}
+use Rattle.font_join.proofs.LeastListLemmas.{least_of_all, true_refusal_of_all}
 use Rattle.font_join.proofs.join_list.join_all_of_kind.Goals as goal
 
 pub returns-clause-small : goal.returns-clause-small
@@ -25,3 +26,15 @@ returns-clause-clash g c =
     let bytes = map (λ v. v.items) c.args.files.now in
     MatchResult-weaker c.join_in_turn.result c.join_in_turn.ensures (λ z all. tt)
     (λ e r forms t over few d. clash_differs (kind_is c.args.kind) bytes e r d forms t over few)
+
+pub returns-clause-upper : goal.returns-clause-upper
+returns-clause-upper g c =
+    let bytes = map (λ v. v.items) c.args.files.now in
+    MatchResult-weaker c.join_in_turn.result c.join_in_turn.ensures
+    (λ z all. least_of_all (kind_is c.args.kind) bytes z.items all) (λ e r. tt)
+
+pub returns-clause-refused : goal.returns-clause-refused
+returns-clause-refused g c =
+    let bytes = map (λ v. v.items) c.args.files.now in
+    MatchResult-weaker c.join_in_turn.result c.join_in_turn.ensures (λ z all. tt)
+    (λ e r. true_refusal_of_all (kind_is c.args.kind) bytes e r)

@@ -1,5 +1,6 @@
 use Rattle.sfnt_bytes.specs.Directory.{slot_at}
 use Rattle.std.proofs.Common.{◌≡◌, ℕ, length, sym, ap, subst, ◌∙◌, arith, length-append}
+use Rattle.sfnt_bytes.specs.declared.tag.TheConstants.{ALL_SLOTS}
 use Rattle.sfnt_bytes.specs.Sums.{checksum_of}
 use Rattle.font_theory.specs.Bytes.{padded}
 use Rattle.font_theory.specs.File.{Writing, writing_of, header_bytes}
@@ -91,7 +92,7 @@ pub returns : goal.returns
 returns g c =
     let writing : Writing = writing_of c.args.profile in
     let K = g.S.Source.content_of c.args.source.now in
-    let all : c.loop-place.place ≡ 29 = omega arith in
+    let all : c.loop-place.place ≡ ALL_SLOTS = omega arith in
     sum_end writing K (checksum_of (header_bytes c.args.count)) c.loop-place.sum c.recall_laws.ensures.writable
     (ap (λ (n : ℕ). checksum_of (header_bytes n)) c.requires.count)
     (subst (λ (n : ℕ). IsSum writing K n (checksum_of (header_bytes c.args.count)) c.loop-place.sum) all

@@ -1,6 +1,7 @@
 use Rattle.sfnt_bytes.specs.Directory.{slot_at}
 use Rattle.std.proofs.Common.{◌≡◌, ℕ, ◌+◌, ◌*◌, length, length-append, ap, subst, ◌∙◌, arith}
 use Rattle.std.specs.Option.{option_map_or}
+use Rattle.sfnt_bytes.specs.declared.tag.TheConstants.{ALL_SLOTS}
 use Rattle.font_theory.specs.Bytes.{padded}
 use Rattle.font_theory.specs.Content.{Content}
 use Rattle.font_theory.specs.File.{Writing, file, writing_of}
@@ -44,8 +45,8 @@ pub returns : goal.returns
 returns g c =
     let writing : Writing = writing_of c.args.profile in
     let K : Content = g.S.Source.content_of c.args.source.now in
-    let all : c.loop-place.place ≡ 29 = omega arith in
-    let exact : c.loop-place.bytes ≡ 12 + 16 * count_to writing K 29 + length (bodies_to writing K 29) =
+    let all : c.loop-place.place ≡ ALL_SLOTS = omega arith in
+    let exact : c.loop-place.bytes ≡ 12 + 16 * count_to writing K ALL_SLOTS + length (bodies_to writing K ALL_SLOTS) =
     subst (λ (n : ℕ). c.loop-place.bytes ≡ 12 + 16 * count_to writing K n + length (bodies_to writing K n)) all
     c.loop-place.invariant.exact in
     let written : c.loop-place.bytes ≡ length (file writing K) = omega (arith, exact, length_file writing K) in

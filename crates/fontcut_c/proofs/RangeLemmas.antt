@@ -1,0 +1,31 @@
+-- Ranges want the same codes in whatever order they come.
+use Rattle.std.proofs.Common.{◌≡◌, ℕ, Bool, true, false, ◌||◌, List, [], ◌∷◌, ap, refl, sym, ◌∙◌}
+use Rattle.std.specs.List.{list_any}
+use Rattle.std.proofs.Math.Path.{fun_ext}
+use Rattle.std.specs.List.Sorted.{IsPermutation}
+use Rattle.std.proofs.lemmas.List.Sorted.{list_any-IsPermutation}
+use Rattle.codes.specs.Wanted.{codes_between, either, no_codes}
+use Rattle.codes.specs.declared.code_range.CodeRange.{CodeRange}
+use Rattle.fontcut_c.specs.Cutting.{wanted_by, with_ranges}
+
+or_turned : (a r b : Bool) → (a || (r || b)) ≡ ((r || a) || b)
+or_turned true true b = refl
+or_turned true false b = refl
+or_turned false true b = refl
+or_turned false false b = refl
+
+-- the codes of ranges are those of a set, and those that one of the ranges has
+with_ranges-any : (base : ℕ → Bool) (ranges : List CodeRange) (c : ℕ) → with_ranges base ranges c
+    ≡ (list_any (λ range. codes_between range.first range.last c) ranges || base c)
+with_ranges-any base [] c = refl
+with_ranges-any base (range ∷ ranges) c =
+    with_ranges-any (either (codes_between range.first range.last) base) ranges c
+    ∙ or_turned (list_any (λ other. codes_between other.first other.last c) ranges)
+    (codes_between range.first range.last c) (base c)
+
+pub wanted_by_sorted : (xs ys : List CodeRange) → IsPermutation xs ys → wanted_by ys ≡ wanted_by xs
+wanted_by_sorted xs ys same =
+    fun_ext (λ c. with_ranges-any no_codes ys c
+    ∙ ap (λ b. b || no_codes c)
+    (sym (list_any-IsPermutation (λ range. codes_between range.first range.last c) xs ys same))
+    ∙ sym (with_ranges-any no_codes xs c))
