@@ -1,7 +1,20 @@
 """The characters of languages: letters, marks, digits, punctuation and signs of currency.
 
-Written by tools/write_languages from Unicode's CLDR, as ICU 72.1 has it. Copyright 1991-2022 Unicode, Inc.; see
-https://www.unicode.org/license.txt."""
+Written by tools/write_languages from Unicode's CLDR, as ICU 72.1 has it."""
+# Copyright 1991-2022 Unicode, Inc., https://www.unicode.org/license.txt:
+#
+# Permission is hereby granted, free of charge, to any person obtaining a copy of this software and associated
+# documentation files (the "Software"), to deal in the Software without restriction, including without limitation the
+# rights to use, copy, modify, merge, publish, distribute, sublicense, and/or sell copies of the Software, and to permit
+# persons to whom the Software is furnished to do so, subject to the following conditions:
+#
+# The above copyright notice and this permission notice shall be included in all copies or substantial portions of the
+# Software.
+#
+# THE SOFTWARE IS PROVIDED "AS IS", WITHOUT WARRANTY OF ANY KIND, EXPRESS OR IMPLIED, INCLUDING BUT NOT LIMITED TO THE
+# WARRANTIES OF MERCHANTABILITY, FITNESS FOR A PARTICULAR PURPOSE AND NONINFRINGEMENT. IN NO EVENT SHALL THE AUTHORS OR
+# COPYRIGHT HOLDERS BE LIABLE FOR ANY CLAIM, DAMAGES OR OTHER LIABILITY, WHETHER IN AN ACTION OF CONTRACT, TORT OR
+# OTHERWISE, ARISING FROM, OUT OF OR IN CONNECTION WITH THE SOFTWARE OR THE USE OR OTHER DEALINGS IN THE SOFTWARE.
 
 # What every language has. The rows below have the others.
 EVERY = "20-7E A0 A3 A5 A7 A9 AB AD AE B0 B1 B4 B7 BB D7 2010-2014 2018-201A 201C-201E 2020-2022 2026 2030 " \
