@@ -37,15 +37,20 @@ fn is_lean_for_codes(alloc: Global, font: &Font<'_>) -> Result<bool, NoMemory> {
     }
 }
 
-// Returns the kinds of cuts in the order in which a font is looked at for them. A lean cut for codes has the form of a
-// full one too. Where the font has no names of glyphs, a full cut has the form of a lean one: that for all glyphs that
-// have metrics.
-fn kinds_in_turn(alloc: Global, font: &Font<'_>) -> Result<[Kind; 4], NoMemory> {
-    if is_lean_for_codes(alloc, font)? {
-        Ok([Kind::Lean, Kind::Full, Kind::Layout, Kind::Variable])
-    } else {
-        Ok([Kind::Full, Kind::Lean, Kind::Layout, Kind::Variable])
+// Returns whether a font is a cut of a kind. One that is refused for such cuts is none.
+fn has_form(alloc: Global, kind: Kind, font: &Font<'_>) -> Result<bool, NoMemory> {
+    match is_cut_of(alloc, kind, font) {
+        Ok(is_cut) => Ok(is_cut),
+        Err(OpenError::NoMemory) => Err(NoMemory),
+        Err(OpenError::Refused(_)) => Ok(false),
     }
+}
+
+// Returns whether a font is a full cut rather than a lean one. A lean cut for codes has the form of a full one too. Where
+// the font has no names of glyphs, a full cut has the form of a lean one: that for all glyphs that have metrics. A cut is
+// made to tell them apart, and none for a font of one form alone.
+fn is_rather_full(alloc: Global, font: &Font<'_>, is_lean: bool) -> Result<bool, NoMemory> {
+    Ok(has_form(alloc, Kind::Full, font)? && !(is_lean && is_lean_for_codes(alloc, font)?))
 }
 
 /// Returns the kind of a font that is a cut. Where the font has no table of layout, a lean cut has the form of a layout
@@ -54,11 +59,16 @@ fn kinds_in_turn(alloc: Global, font: &Font<'_>) -> Result<[Kind; 4], NoMemory> 
 /// # Errors
 /// `NoMemory` where memory is refused.
 pub fn cut_kind(alloc: Global, font: &Font<'_>) -> Result<Option<Kind>, NoMemory> {
-    for kind in kinds_in_turn(alloc, font)? {
-        match is_cut_of(alloc, kind, font) {
-            Ok(true) => return Ok(Some(kind)),
-            Err(OpenError::NoMemory) => return Err(NoMemory),
-            Ok(false) | Err(OpenError::Refused(_)) => {}
+    let is_lean = has_form(alloc, Kind::Lean, font)?;
+    if is_rather_full(alloc, font, is_lean)? {
+        return Ok(Some(Kind::Full));
+    }
+    if is_lean {
+        return Ok(Some(Kind::Lean));
+    }
+    for kind in [Kind::Layout, Kind::Variable] {
+        if has_form(alloc, kind, font)? {
+            return Ok(Some(kind));
         }
     }
     Ok(None)
