@@ -187,8 +187,8 @@ pub fn is_of_variations(tag: Tag) -> bool {
     )
 }
 
-// Returns whether cuts of a kind keep a table that full cuts drop.
-fn keeps_table(kind: Kind, tag: Tag) -> bool {
+/// Returns whether cuts of a kind keep a table that full cuts drop.
+pub(crate) fn keeps_table(kind: Kind, tag: Tag) -> bool {
     let varies = kind == Kind::Variable && is_of_variations(tag);
     varies || keeps_layout(kind) && is_of_layout(tag)
 }

@@ -1,4 +1,5 @@
 //! The kinds of cuts that a font is.
+use crate::coverage_lines::keeps_table;
 use font_file::Font;
 use font_subset::{CutError, CutForm, FontOfKind, FontToCut, OpenError, cut_of_kind, form_of_kind};
 use font_theory::Kind;
@@ -53,6 +54,17 @@ fn is_rather_full(alloc: Global, font: &Font<'_>, is_lean: bool) -> Result<bool,
     Ok(has_form(alloc, Kind::Full, font)? && !(is_lean && is_lean_for_codes(alloc, font)?))
 }
 
+// Returns whether a font has a table that cuts of a kind keep and full ones drop. Without one it is a cut of the kind
+// exactly if it is a lean one.
+fn has_more(kind: Kind, font: &Font<'_>) -> bool {
+    for entry in font.tables().directory().dropped() {
+        if keeps_table(kind, entry.tag) {
+            return true;
+        }
+    }
+    false
+}
+
 /// Returns the kind of a font that is a cut. Where the font has no table of layout, a lean cut has the form of a layout
 /// cut too, and a layout cut of a font without variations has that of a variable one: the first kind is returned.
 ///
@@ -67,7 +79,7 @@ pub fn cut_kind(alloc: Global, font: &Font<'_>) -> Result<Option<Kind>, NoMemory
         return Ok(Some(Kind::Lean));
     }
     for kind in [Kind::Layout, Kind::Variable] {
-        if has_form(alloc, kind, font)? {
+        if has_more(kind, font) && has_form(alloc, kind, font)? {
             return Ok(Some(kind));
         }
     }
