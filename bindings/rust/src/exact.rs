@@ -1,6 +1,6 @@
 //! Cuts for characters and for glyphs by their numbers.
 use crate::calls::{self, filled, DONE};
-use crate::{split, Cut, Error, Font, Kind, Ranges};
+use crate::{end_to_end, split, Cut, Error, Font, Kind, Ranges};
 
 /// How many glyphs a font has at most.
 const MOST_GLYPHS: usize = u16::MAX as usize;
@@ -119,14 +119,9 @@ impl Font<'_> {
     where
         I: IntoIterator<Item = &'s Wanted>,
     {
-        let (mut ranges, mut counts) = (Vec::new(), Vec::new());
-        let (mut glyphs, mut glyph_counts) = (Vec::new(), Vec::new());
-        for set in sets {
-            ranges.extend_from_slice(set.codes.as_slice());
-            counts.push(set.codes.as_slice().len() as u64);
-            glyphs.extend_from_slice(&set.glyphs);
-            glyph_counts.push(set.glyphs.len() as u64);
-        }
+        let sets: Vec<&Wanted> = sets.into_iter().collect();
+        let (ranges, counts) = end_to_end(sets.iter().map(|set| set.codes.as_slice()));
+        let (glyphs, glyph_counts) = end_to_end(sets.iter().map(|set| set.glyphs.as_slice()));
         let (font, mut sizes) = (self.bytes, vec![0; counts.len()]);
         let (places, place_count) = (sizes.as_mut_ptr(), sizes.len());
         // SAFETY: as in `cuts`; the numbers and their counts are those of vectors.

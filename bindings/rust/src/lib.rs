@@ -149,11 +149,7 @@ impl<'a> Font<'a> {
     where
         I: IntoIterator<Item = &'s Ranges>,
     {
-        let (mut ranges, mut counts) = (Vec::new(), Vec::new());
-        for set in sets {
-            ranges.extend_from_slice(set.as_slice());
-            counts.push(set.as_slice().len() as u64);
-        }
+        let (ranges, counts) = end_to_end(sets.into_iter().map(Ranges::as_slice));
         let (font, mut sizes) = (self.bytes, vec![0; counts.len()]);
         let (places, place_count) = (sizes.as_mut_ptr(), sizes.len());
         // How long the cuts are cannot be guessed, for each repeats the tables that it copies: the first call has no room
@@ -409,6 +405,16 @@ where
     };
     made.map(|bytes| Cut::new(kind, bytes))
         .map_err(Error::of_several_files)
+}
+
+/// The items of lists, end to end, and how many each list has.
+fn end_to_end<'l, T: Copy + 'l>(lists: impl Iterator<Item = &'l [T]>) -> (Vec<T>, Vec<u64>) {
+    let (mut items, mut counts) = (Vec::new(), Vec::new());
+    for list in lists {
+        items.extend_from_slice(list);
+        counts.push(list.len() as u64);
+    }
+    (items, counts)
 }
 
 /// The cuts of these sizes, which lie end to end.
