@@ -3,6 +3,7 @@ ghost use Rattle.std.specs.Prelude.{◌≡◌, ◌≢◌, ◌<◌, ◌≤◌, �
 ghost use Rattle.std.specs.List.{range_with_len};
 ghost use Rattle.sfnt_bytes.specs.declared.directory.TheConstants.{MAX_FILE};
 ghost use Rattle.font_glyph.specs.RecordMap.{union_of};
+ghost use Rattle.font_tables.specs.Fields.{glyph_count_of};
 ghost use Rattle.font_theory.specs.Content.{content, everything};
 ghost use Rattle.font_theory.specs.Cut.{IsCut};
 ghost use Rattle.font_theory.specs.Kinds.{font_as, format_of};
@@ -52,6 +53,23 @@ impl<'a, A: Allocator + Copy> Outlines<'a, A> {
     {
         let outlines = vec![in alloc; None; count as usize].map_err(|_| NoMemory)?;
         Ok(Outlines { outlines, bytes: 0 })
+    }
+
+    /// Returns the outlines of a file in cut form.
+    pub(crate) fn of_file<B: Allocator>(
+        alloc: A,
+        file: &Listed<'_, 'a, B>,
+    ) -> Result<Outlines<'a, A>, NoMemory>
+        requires { IsCut (format_of file.now.0) file.now.1 }
+        ensures count { IfOk result (λ outlines. length outlines ≡ glyph_count_of file.now.1) }
+        ensures outlines { IfOk result (λ outlines. (g : ℕ) → listed_outline outlines g
+            ≡ (content (font_as file.now.0 file.now.1) everything).outline g) }
+    {
+        let count = file.glyph_count();
+        let mut outlines = Outlines::new(alloc, count)?;
+        // There is nothing yet that the outlines could differ from.
+        let _other = outlines.take(file, count);
+        Ok(outlines)
     }
 }
 

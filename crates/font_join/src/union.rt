@@ -257,10 +257,7 @@ impl<'f, 'a, A: Allocator + Copy> Union<'f, 'a, A> {
         let file = Listed::new(alloc, &opened, Which::First)?;
         let own = GlyphTables::own(alloc, kind, &file)?;
         let blanks = GlyphTables::blank_for_kind(alloc, kind, &file)?;
-        let count = file.glyph_count();
-        let mut outlines = Outlines::new(alloc, count)?;
-        // There is nothing yet that its outlines could differ from.
-        let _other = outlines.take(&file, count);
+        let outlines = Outlines::of_file(alloc, &file)?;
         let runs = file.into_runs(alloc)?;
         Ok(Union {
             first: opened,
