@@ -293,7 +293,8 @@ fontcut_answer fontcut_codes(const uint8_t *font, size_t font_length, fontcut_ra
 
 /* Writes for each code, in their order, the glyph to which the font maps it to the front of `out`, and 0 where it maps
  * it to none, as it does each number above 0x10FFFF; size: how many glyphs they are, as many as there are codes. `room`
- * is in glyphs. It asks for no memory. Statuses: those of fontcut_check, 100. */
+ * is in glyphs. It needs no memory; for many codes of a font whose subtable is out of order it asks for some, and is
+ * slower without. Statuses: those of fontcut_check, 100. */
 fontcut_answer fontcut_glyphs(const uint8_t *font, size_t font_length, const uint32_t *codes, size_t code_count,
                               uint16_t *out, size_t room);
 

@@ -1,25 +1,53 @@
 //! The glyphs to which a font maps codes, written to the caller's room. OpenType 1.9, cmap: Character to Glyph Index
 //! Mapping Table.
-ghost use Rattle.std.specs.Prelude.{◌≡◌, ◌≤◌, ◌++◌, MatchResult, None, drop, length};
-ghost use Rattle.font_file.specs.Font.{font_fault};
+ghost use Rattle.std.specs.Prelude.{◌≡◌, ◌≤◌, ◌++◌, IfSome, MatchResult, None, drop, length};
+ghost use Rattle.font_file.specs.Font.{cmap_of, font_fault, map_of};
+ghost use Rattle.font_tables.specs.Fields.{glyph_count_of};
 ghost use Rattle.fontcut_c.specs.Glyphs.{AreGlyphsInRoom, RefusesGlyphs, glyphs_of};
 
 use crate::refusal::Refusal;
 use font_file::Font;
+use font_map::Chart;
+use std::alloc::Global;
+
+// For fewer codes than these a chart takes longer to make than looking each code up in a subtable out of order.
+const MANY_CODES: usize = 64;
+
+// Returns a chart of a font's mapping for this many codes, if there is memory for one.
+fn chart_for<'a>(alloc: Global, font: &'a Font<'_>, count: usize) -> Option<Chart<'a>>
+    ensures { IfSome result (λ chart. chart ≡ (cmap_of font.now, glyph_count_of font.now)) }
+{
+    if count < MANY_CODES {
+        return None;
+    }
+    Chart::of(alloc, font.mapping()).ok()
+}
+
+// Returns the glyph of a code, by the chart if there is one.
+fn glyph_by(font: &Font<'_>, chart: &Option<Chart<'_>>, code: u32) -> u16
+    requires { IfSome chart.now (λ chart. chart ≡ (cmap_of font.now, glyph_count_of font.now)) }
+    ensures { result ≡ map_of font.now code }
+{
+    match chart {
+        Some(chart) => chart.glyph(code),
+        None => font.glyph(code),
+    }
+}
 
 // Writes the glyph of each code to the front of room that has a place for each.
 #[tactic(auto, using(crate::proofs::RowLemmas::row_more, crate::proofs::RowLemmas::row_all))]
-fn put_glyphs(font: &Font<'_>, codes: &[u32], out: &mut [u16])
-    requires { length codes.now ≤ length out.old }
+fn put_glyphs(font: &Font<'_>, chart: &Option<Chart<'_>>, codes: &[u32], out: &mut [u16])
+    requires same { IfSome chart.now (λ chart. chart ≡ (cmap_of font.now, glyph_count_of font.now)) }
+    requires room { length codes.now ≤ length out.old }
     ensures { out.new ≡ glyphs_of font.now codes.now ++ drop (length codes.now) out.old }
 {
     for index in 0..codes.len() {
-        out[index] = font.glyph(codes[index]);
+        out[index] = glyph_by(font, chart, codes[index]);
     }
 }
 
 // Writes the glyph of each code to the front of room, and returns how many they are.
-fn glyphs_in(font: &Font<'_>, codes: &[u32], out: &mut [u16]) -> Result<u64, Refusal>
+fn glyphs_in(alloc: Global, font: &Font<'_>, codes: &[u32], out: &mut [u16]) -> Result<u64, Refusal>
     requires { font_fault font.now ≡ None }
     ensures { MatchResult result (AreGlyphsInRoom font.now codes.now out.old out.new)
         (λ refusal. (out.new ≡ out.old) × RefusesGlyphs font.now codes.now (length out.old) refusal) }
@@ -27,24 +55,36 @@ fn glyphs_in(font: &Font<'_>, codes: &[u32], out: &mut [u16]) -> Result<u64, Ref
     if out.len() < codes.len() {
         return Err(Refusal::SmallRoom(codes.len() as u64));
     }
-    put_glyphs(font, codes, out);
+    let chart = chart_for(alloc, font, codes.len());
+    put_glyphs(font, &chart, codes, out);
     Ok(codes.len() as u64)
 }
 
 /// Writes the glyph of each code to the front of room, 0 where the font maps it to none, and returns how many
-/// they are. It asks for no memory.
-pub(crate) fn glyphs_to(file: &[u8], codes: &[u32], out: &mut [u16]) -> Result<u64, Refusal>
+/// they are. Where the subtable is out of order and the codes are many, it asks for memory for a list of all glyphs, and
+/// looks each code up by itself if there is none.
+pub(crate) fn glyphs_to(
+    alloc: Global,
+    file: &[u8],
+    codes: &[u32],
+    out: &mut [u16],
+) -> Result<u64, Refusal>
     ensures { MatchResult result (AreGlyphsInRoom file.now codes.now out.old out.new)
         (λ refusal. (out.new ≡ out.old) × RefusesGlyphs file.now codes.now (length out.old) refusal) }
 {
-    glyphs_in(&Font::open(file)?, codes, out)
+    glyphs_in(alloc, &Font::open(file)?, codes, out)
 }
 
 /// Does the same for a font that is accepted, which is not tested again.
-pub(crate) fn checked_glyphs_to(file: &[u8], codes: &[u32], out: &mut [u16]) -> Result<u64, Refusal>
+pub(crate) fn checked_glyphs_to(
+    alloc: Global,
+    file: &[u8],
+    codes: &[u32],
+    out: &mut [u16],
+) -> Result<u64, Refusal>
     requires { font_fault file.now ≡ None }
     ensures { MatchResult result (AreGlyphsInRoom file.now codes.now out.old out.new)
         (λ refusal. (out.new ≡ out.old) × RefusesGlyphs file.now codes.now (length out.old) refusal) }
 {
-    glyphs_in(&Font::open_checked(file), codes, out)
+    glyphs_in(alloc, &Font::open_checked(file), codes, out)
 }

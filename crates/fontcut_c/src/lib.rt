@@ -453,14 +453,20 @@ pub extern "C" fn fontcut_codes(alloc: Global, font: &[u8], out: &mut [CodeRange
 }
 
 /// Writes the glyph of each code to the front of `out`, 0 where the font maps it to none. `size` counts glyphs. A
-/// refusal leaves `out` as it was. It asks for no memory.
+/// refusal leaves `out` as it was. It needs no memory. For 64 codes and more of a font whose subtable is out of order it
+/// asks for some, and is slower without.
 #[unsafe(no_mangle)]
-pub extern "C" fn fontcut_glyphs(font: &[u8], codes: &[u32], out: &mut [u16]) -> Answer
+pub extern "C" fn fontcut_glyphs(
+    alloc: Global,
+    font: &[u8],
+    codes: &[u32],
+    out: &mut [u16],
+) -> Answer
     ensures exact { AnswersGlyphs font.now codes.now out.old out.new result }
     ensures done { result.status ≡ 0 → IsInRoom (glyphs_of font.now codes.now) out.old out.new result.size }
     ensures untouched { result.status ≢ 0 → out.new ≡ out.old }
 {
-    answered(glyphs_to(font, codes, out))
+    answered(glyphs_to(alloc, font, codes, out))
 }
 
 /// Writes the glyphs that a shaper may put for text to the front of `out`, ascending: those that chains of links of `GSUB`
@@ -527,13 +533,18 @@ pub extern "C" fn fontcut_metrics(font: &[u8], glyphs: &[u16], out: &mut [Metric
 /// Does what [`fontcut_glyphs`] does, with a font that [`fontcut_check`] has accepted: these bytes, or others that are
 /// the same. The font is not tested again.
 #[unsafe(no_mangle)]
-pub extern "C" fn fontcut_glyphs_checked(font: &[u8], codes: &[u32], out: &mut [u16]) -> Answer
+pub extern "C" fn fontcut_glyphs_checked(
+    alloc: Global,
+    font: &[u8],
+    codes: &[u32],
+    out: &mut [u16],
+) -> Answer
     requires { font_fault font.now ≡ None }
     ensures exact { AnswersGlyphs font.now codes.now out.old out.new result }
     ensures done { result.status ≡ 0 → IsInRoom (glyphs_of font.now codes.now) out.old out.new result.size }
     ensures untouched { result.status ≢ 0 → out.new ≡ out.old }
 {
-    answered(checked_glyphs_to(font, codes, out))
+    answered(checked_glyphs_to(alloc, font, codes, out))
 }
 
 /// Does what [`fontcut_metrics`] does, with a font that [`fontcut_check`] has accepted: these bytes, or others that are
