@@ -46,8 +46,9 @@ invariant_of-result g c =
     (union_first file.0 file.1 form c.of_runs.result c.in_ok-outlines.outlines c.in_ok-own.own
     (c.of_runs.ensures ∙ c.in_ok-runs.ensures.spelled_map) c.in_ok-outlines.ensures.outlines copies
     c.in_ok-blanks.blanks
-    (subst (λ (v : Kind × List ℕ). HasBlanks v.0 (content (font_as file.0 file.1) everything).copied c.in_ok-blanks.blanks)
-    kind c.in_ok-blanks.ensures) c.in_ok-outlines.ensures.count)
+    (subst (λ (v : Kind × List ℕ).
+    HasBlanks v.0 (content (font_as file.0 file.1) everything).copied c.in_ok-blanks.blanks) kind
+    c.in_ok-blanks.ensures) c.in_ok-outlines.ensures.count)
 
 pub returns : goal.returns
 returns g c =
