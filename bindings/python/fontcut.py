@@ -18,7 +18,8 @@
 
 A font is any object with bytes: `bytes`, `bytearray`, a `memoryview`, an `mmap`. The characters are a `str`, or code
 points and ranges of them, both ends included: `[0x20, (0x41, 0x5A)]`, `range(0x41, 0x5B)`, `ranges("U+20, U+41-5A")`.
-A `str` always means its characters; if it looks like ranges, as "U+41-5A" does, there is a `FontcutWarning`.
+A `str` always means its characters; if it looks like ranges, as "U+41-5A" does, there is a `FontcutWarning`. For layout
+and variable cuts it also means the characters that `needed` returns for it, as for the program, unless `exactly=True`.
 Glyphs keep their numbers. If a font or a list of cuts is refused, the call raises `Refused`, which has the number, the
 text and the argument of the refusal. Arguments of a wrong form raise `TypeError` or `ValueError`. If memory runs out,
 the call raises `MemoryError`. The first call loads the library, and raises `LibraryMissing` if there is none.
@@ -44,7 +45,7 @@ shaper returns, or `"all"`. They are for lean, layout and variable cuts. `fontcu
 for what the word `everything` of the program does.
 
 With `layout_closure=False` a layout or variable cut is exact, and smaller: it does not keep what GSUB may substitute
-for what is wanted. With the glyph numbers of a shaped text, and the characters that `needed` returns for it, it shapes
+for what is wanted. With the text and the glyph numbers that a shaper gives for it, it shapes
 the text that it was made for. Other text may vanish in it, without a fallback font: a glyph that GSUB substitutes and
 the cut lacks is blank. `closure` returns the glyphs that other cuts keep.
 
@@ -162,11 +163,11 @@ class Refused(FontcutError):
     number    the number of the refusal, as `fontcut` prints it
     text      its text, such as `bad loca at 7`
     argument  what it is about: a tag as `str`, or an index, glyph, code or size; None if it is about the whole file
-    file      the index of the refused file, if several were given
+    file      the index of the refused file, from 0, if several were given; the message counts from 1, as the program does
     """
 
     def __init__(self, number: int, text: str, argument: Union[None, int, str], file: Optional[int]):
-        super().__init__(text if file is None else f"file {file}: {text}")
+        super().__init__(text if file is None else f"file {file + 1}: {text}")
         self.number = number
         self.text = text
         self.argument = argument
@@ -354,7 +355,7 @@ def _warn_of_ranges(text: str) -> None:
     if _LOOKS_LIKE_RANGES.fullmatch(text):
         shown = text if len(text) <= 40 else text[:40] + ".."
         warnings.warn(f"{shown!r} is taken as characters: for its ranges write fontcut.ranges({shown!r})", FontcutWarning,
-                      stacklevel=5)
+                      stacklevel=6)
 
 
 def _pairs(wanted: Codes) -> List[Tuple[int, int]]:
@@ -378,6 +379,15 @@ def _ranges(wanted: Codes) -> List[Range]:
         else:
             merged.append(Range(first, last))
     return merged
+
+
+def _wanted(wanted: Codes, kind: int = 0, exactly: bool = True) -> List[Range]:
+    """What is wanted for a cut of a kind. A text that will be shaped brings what a shaper takes for it, unless it is
+    wanted exactly."""
+    ranges = _ranges(wanted)
+    if exactly or kind not in _WITH_LINKS or not isinstance(wanted, str):
+        return ranges
+    return _ranges(list(map(ord, needed(wanted))))
 
 
 def _numbers(given: object, what: str) -> List[int]:
@@ -506,16 +516,20 @@ def _cutting(ending: str, file: _File, kind: int, ranges: Sequence[Range], numbe
 
 
 def cut_size(font: Union[Bytes, Font], wanted: Codes, *, lean: bool = False, kind: Optional[str] = None,
-             gids: Optional[Gids] = None, layout_closure: bool = True) -> int:
+             gids: Optional[Gids] = None, layout_closure: bool = True, exactly: bool = False) -> int:
     """The length in bytes of the cut that `cut` makes. The cut is not made. Raises what `cut` raises."""
-    file, ranges, number = _File(font), _ranges(wanted), _kind(kind, lean)
+    file, number = _File(font), _kind(kind, lean)
+    ranges = _wanted(wanted, number, exactly)
     return _done(_cutting("_size", file, number, ranges, _gids(font, gids), layout_closure)()).size
 
 
 def cut(font: Union[Bytes, Font], wanted: Codes, *, lean: bool = False, kind: Optional[str] = None,
-        gids: Optional[Gids] = None, layout_closure: bool = True) -> bytes:
+        gids: Optional[Gids] = None, layout_closure: bool = True, exactly: bool = False) -> bytes:
     """The cut of a font for the wanted characters and for the glyphs with the numbers `gids`, of a kind. Characters
     that the font does not map are ignored. A full cut is for characters alone.
+
+    For a `str`, a layout or variable cut has all characters that `needed` returns for it, as `fontcut subset --text` has;
+    with `exactly=True` it has those of the text alone.
 
     A layout or variable cut also keeps each glyph that GSUB may substitute for what is wanted. With
     `layout_closure=False` it does not, and is exact: with the glyph numbers of a shaped text, and the characters that
@@ -524,18 +538,22 @@ def cut(font: Union[Bytes, Font], wanted: Codes, *, lean: bool = False, kind: Op
 
     Raises `Refused` if the font is refused or the cut would be too large; `NoGlyph` if the font has no glyph of one of
     the numbers; `ValueError` for what is not a range, and for a full cut with `gids`."""
-    file, ranges, number = _File(font), _ranges(wanted), _kind(kind, lean)
+    file, number = _File(font), _kind(kind, lean)
+    ranges = _wanted(wanted, number, exactly)
     made = _cutting("", file, number, ranges, _gids(font, gids), layout_closure)
     return _written(file.length + 4096, made)
 
 
-def closure(font: Union[Bytes, Font], wanted: Codes, gids: Gids = (), *, kind: str = "layout") -> List[int]:
+def closure(font: Union[Bytes, Font], wanted: Codes, gids: Gids = (), *, kind: str = "layout",
+            exactly: bool = False) -> List[int]:
     """The glyphs that a shaper may put for text of the wanted characters and glyphs, ascending: .notdef, the glyphs of
-    the characters, those of `gids`, and what GSUB leads to from these. Full and lean cuts have no GSUB to follow.
+    the characters, those of `gids`, and what GSUB leads to from these. Full and lean cuts have no GSUB to follow. A `str`
+    means the characters that it means for `cut`.
 
     These as `gids`, with the same characters, make an exact cut that serves text of these characters in any order and
     with any features: the one that `cut` makes with `layout_closure`. Raises `Refused` and `NoGlyph`, as `cut` does."""
-    return _closed(_File(font), _kind(kind, False), _ranges(wanted), _gids(font, gids))
+    number = _kind(kind, False)
+    return _closed(_File(font), number, _wanted(wanted, number, exactly), _gids(font, gids))
 
 
 def kept_glyphs(font: Union[Bytes, Font], *, kind: str = "full") -> List[int]:
@@ -581,7 +599,8 @@ def _cutting_sets(file: _File, kind: int, wanted: Sequence[Sequence[Range]],
 
 
 def slices(font: Union[Bytes, Font], sets: Iterable[Codes], *, lean: bool = False, kind: Optional[str] = None,
-           gids: Optional[Iterable[Optional[Gids]]] = None, layout_closure: bool = True) -> List[bytes]:
+           gids: Optional[Iterable[Optional[Gids]]] = None, layout_closure: bool = True,
+           exactly: bool = False) -> List[bytes]:
     """The cuts of a font for many sets of wanted characters, of a kind: what `cut` makes for each set, in the order of
     the sets. `gids` has the wanted glyphs of each set, in the same order, or None for a set that has none. The font is
     tested once for all of them; layout and variable cuts with `gids` that are not exact test it once more for each set.
@@ -589,8 +608,10 @@ def slices(font: Union[Bytes, Font], sets: Iterable[Codes], *, lean: bool = Fals
     Raises what `cut` raises."""
     if isinstance(sets, str):
         raise TypeError("sets are given as a list of them, and not as one str")
-    file, wanted = _File(font), list(map(_ranges, _items(sets, "set")))  # type: ignore[arg-type]
-    number, lists = _kind(kind, lean), _gids_of_sets(font, gids, len(wanted))
+    file, number = _File(font), _kind(kind, lean)
+    one_wanted = functools.partial(_wanted, kind=number, exactly=exactly)
+    wanted = list(map(one_wanted, _items(sets, "set")))
+    lists = _gids_of_sets(font, gids, len(wanted))
     room_for_sizes = ctypes.c_uint64 * max(1, len(wanted))
     sizes = room_for_sizes()
     call = _cutting_sets(file, number, wanted, _exact(file, number, wanted, lists, layout_closure))
@@ -705,7 +726,7 @@ def info(font: Union[Bytes, Font]) -> Info:
 
 def missing(font: Union[Bytes, Font], text: Codes) -> List[int]:
     """The code points of a text, or of code points and ranges, that the font does not map: ascending, each once."""
-    wanted = [code for first, last in _ranges(text) for code in range(first, last + 1)]
+    wanted = [code for first, last in _wanted(text) for code in range(first, last + 1)]
     return [code for code, glyph in zip(wanted, glyphs(font, wanted)) if glyph == 0]
 
 

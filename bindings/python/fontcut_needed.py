@@ -63,7 +63,8 @@ def _ranges(listed: str) -> Iterator[range]:
 
 
 @functools.lru_cache(maxsize=None)
-def _using_joiners() -> FrozenSet[str]:
+def using_joiners() -> FrozenSet[str]:
+    """The characters that joiners are used with."""
     return frozenset(chr(code) for codes in _ranges(_USING_JOINERS) for code in codes)
 
 
@@ -121,7 +122,7 @@ def needed(text: str) -> str:
     added.update(*(_PUT_IN[letter] for letter in found & _PUT_IN.keys()))
     if any(unicodedata.category(letter).startswith("M") for letter in found):
         added.add(_DOTTED_CIRCLE)
-    if not found.isdisjoint(_using_joiners()):
+    if not found.isdisjoint(using_joiners()):
         added.update(_JOINERS)
     if any(unicodedata.bidirectional(letter) in ("R", "AL") for letter in found):
         added.update(_mirrored()[letter] for letter in found & _mirrored().keys())

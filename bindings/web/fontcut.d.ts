@@ -16,7 +16,10 @@ export interface OfKind {
     kind?: Kind;
 }
 
-/** The characters of a text, code points and ranges (or range words: 'U+20-7E, U+4??'), or both. */
+/**
+ * The characters of a text, code points and ranges (or range words: 'U+20-7E, U+4??'), or both. In layout and variable
+ * cuts a text brings all characters that `needed` returns for it, unless `exactly` is asked for.
+ */
 export interface Characters {
     text?: string;
     unicodes?: readonly Code[] | Iterable<Code> | string;
@@ -36,7 +39,12 @@ export interface Closing {
     layoutClosure?: boolean;
 }
 
-export type Wanted = Characters & Glyphs & Closing & OfKind;
+/** Whether a text stands for its own characters alone: so in full and lean cuts, and if it is asked for. */
+export interface Exactly {
+    exactly?: boolean;
+}
+
+export type Wanted = Characters & Glyphs & Closing & Exactly & OfKind;
 
 /** A font or a list of cuts is refused, with the number and the text that `fontcut` prints; 16 is out of memory. */
 export class FontcutError extends Error {
@@ -44,7 +52,7 @@ export class FontcutError extends Error {
     readonly text: string;
     /** What it is about: a tag as text, or an index, glyph, code or size. */
     readonly argument?: string | number;
-    /** Of several files the index of the one that is refused. */
+    /** Of several files the index of the one that is refused, from 0; the message counts from 1. */
     readonly file?: number;
 }
 
@@ -94,13 +102,13 @@ export function subsetSize(font: Bytes | Font, wanted: Wanted): number;
 /** The cuts of a font for many sets of characters and glyphs, in their order. */
 export function cuts(
     font: Bytes | Font, sets: readonly (Characters & Glyphs)[] | Iterable<Characters & Glyphs>,
-    options?: Closing & OfKind,
+    options?: Closing & Exactly & OfKind,
 ): Uint8Array[];
 /**
  * The glyphs that a shaper may put for text of the wanted characters and glyphs, ascending: .notdef, the glyphs of the
  * characters, the given ones, and what GSUB leads to from these. The kind is 'layout' if none is given.
  */
-export function closure(font: Bytes | Font, wanted: Characters & Glyphs & OfKind): Uint16Array;
+export function closure(font: Bytes | Font, wanted: Characters & Glyphs & Exactly & OfKind): Uint16Array;
 /**
  * The glyphs that a file keeps as a cut of a kind, ascending: .notdef, the glyphs of its characters, in all but full
  * cuts those that have an outline, metrics or variation data, and the components of all these.
@@ -112,6 +120,13 @@ export function join(cuts: Iterable<Bytes | Font>, options?: OfKind): Uint8Array
 export function cutForm(font: Bytes | Font, options?: OfKind): 'none' | 'current' | 'old';
 /** Whether a file is a cut of a font for some characters and glyphs. */
 export function belongs(cut: Bytes | Font, font: Bytes | Font, options?: OfKind): boolean;
+/**
+ * The code points that a list of ranges names, as ranges in ascending order that do not touch. It takes what the program
+ * takes from `--codes-file`: U+41, U+41-5A, U+4??, all, a `unicode-range` of CSS, and comments after #.
+ *
+ * @throws RangeError for any other word
+ */
+export function ranges(words: string): [first: number, last: number][];
 /** The code points that a font maps, as ranges in ascending order. */
 export function codes(font: Bytes | Font): [first: number, last: number][];
 /** The glyph of each character of a text, or of each code point, 0 where there is none. */

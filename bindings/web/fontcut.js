@@ -9,6 +9,8 @@
 // A font is an ArrayBuffer or a view of one. Calls are synchronous: a worker keeps a long one off the page's thread.
 // Each call copies what it reads into the module's memory, and frees all that it took when it returns or throws.
 
+import { needed } from './needed.js';
+
 const LAST_CODE = 0x10FFFF;
 const MOST_GLYPHS = 0xFFFF; // of a font: no glyph has this number
 const KINDS = ['full', 'lean', 'layout', 'variable'];
@@ -27,7 +29,7 @@ const BYTES_OF_ANSWER = 24, BYTES_OF_INFO = 16, LONGEST_TEXT = 64;
 /** A font or a list of cuts is refused, or memory is: `number` and `text` are those that `fontcut` prints. */
 export class FontcutError extends Error {
     constructor(number, text, argument, file) {
-        super(file === undefined ? text : `file ${file}: ${text}`);
+        super(file === undefined ? text : `file ${file + 1}: ${text}`);
         this.name = 'FontcutError';
         this.number = number;
         this.text = text;
@@ -253,24 +255,39 @@ function rangeOfWord(word) {
         const digits = word.replace(/^U\+/i, '');
         return [parseInt(digits.replaceAll('?', '0'), 16), parseInt(digits.replaceAll('?', 'F'), 16)];
     }
-    if (word === 'all') {
+    if (word === 'all' || word === '*') {
         return [0, LAST_CODE];
     }
     throw new RangeError(`fontcut: bad word ${word}: a range is written U+41, U+41-5A, U+4?? or all`);
 }
 
-function pairsOf({ text, unicodes, gids }) {
+// A line that `fontcut codes --glyphs` prints: a code, the number of its glyph and an advance width.
+const COLUMNS = /^[ \t\r,;]*(U\+[0-9A-F]{1,6})[ \t\r,;]+[0-9]{1,5}[ \t\r,;]+[0-9]{1,5}[ \t\r,;]*$/i;
+
+// The words of a list: what `--codes-file` of the program reads, with comments, and as CSS has it.
+function wordsOf(list) {
+    const lines = list.replace(/^\uFEFF/, '').replace(/#.*/g, '').replace(/(^|[\s,;])(unicode-range:)+/g, '$1 ').split('\n');
+    return lines.flatMap((line) => COLUMNS.exec(line)?.[1] ?? line.split(/[\s,;]+/)).filter(Boolean);
+}
+
+// The characters that a text stands for: in cuts that are to be shaped, those that a shaper takes for it too.
+function lettersOf(text, { kind, exactly = false }) {
+    const own = charactersOf(text);
+    return WITH_LINKS.includes(kind) && !exactly ? charactersOf(needed(text)) : own;
+}
+
+function pairsOf({ text, unicodes, gids }, how) {
     if (text === undefined && unicodes === undefined && gids === undefined) {
         throw new TypeError('fontcut: say what is wanted by text, unicodes or gids');
     }
     const isWords = typeof unicodes === 'string';
-    const pairs = isWords ? unicodes.split(/[\s,]+/).filter(Boolean).map(rangeOfWord) : [...unicodes ?? []];
-    return [...pairs, ...new Set(charactersOf(text ?? ''))].map((one) => typeof one === 'number' ? [one, one] : one);
+    const pairs = isWords ? wordsOf(unicodes).map(rangeOfWord) : [...unicodes ?? []];
+    return [...pairs, ...new Set(lettersOf(text ?? '', how))].map((one) => typeof one === 'number' ? [one, one] : one);
 }
 
 // The wanted codes as first, last, first, last and so on, ascending, no range touching another.
-function rangesOf(wanted) {
-    const pairs = pairsOf(wanted), merged = [];
+function rangesOf(wanted, how) {
+    const pairs = pairsOf(wanted, how), merged = [];
     for (const [first, last] of pairs) {
         if (!(Number.isInteger(first) && Number.isInteger(last) && 0 <= first && first <= last && last <= LAST_CODE)) {
             throw new RangeError(`fontcut: not a range of code points: ${first} to ${last}`);
@@ -284,6 +301,13 @@ function rangesOf(wanted) {
         }
     }
     return merged;
+}
+
+const pairsIn = (numbers) => Array.from({ length: numbers.length / 2 }, (_, i) => [numbers[2 * i], numbers[2 * i + 1]]);
+
+/** The code points that a list of ranges names, as pairs of the first and the last of a range, ascending. */
+export function ranges(words) {
+    return pairsIn(rangesOf({ unicodes: String(words) }, {}));
 }
 
 function kindOf({ kind = 'full' } = {}) {
@@ -341,7 +365,7 @@ function cutting(areas, font, { kind, ranges, gids, isClosed }) {
 
 // What is wanted of a font, with the options of its cut.
 function requestOf(font, wanted) {
-    const ranges = rangesOf(wanted), kind = kindOf(wanted);
+    const kind = kindOf(wanted), ranges = rangesOf(wanted, { kind, exactly: wanted.exactly });
     return { kind, ranges, gids: gidsOf(font, wanted), isClosed: isClosedCut(wanted) };
 }
 
@@ -407,7 +431,8 @@ function cuttingSets(areas, font, { kind, ranges, gids, isClosed }) {
  * them, and once more for each set if there are glyph numbers whose substitutes are kept too.
  */
 export function cuts(font, sets, options) {
-    const kind = kindOf(options), wanted = Array.from(sets), ranges = wanted.map(rangesOf);
+    const kind = kindOf(options), wanted = Array.from(sets);
+    const ranges = wanted.map((one) => rangesOf(one, { kind, exactly: options?.exactly }));
     const gids = wanted.map((one) => gidsOf(font, one));
     return within((areas) => {
         const { name, given } = cuttingSets(areas, font, { kind, ranges, gids, isClosed: isClosedCut(options) });
@@ -421,7 +446,8 @@ export function cuts(font, sets, options) {
 
 /** The glyphs that a shaper may put for text of the wanted characters and glyphs, ascending. */
 export function closure(font, wanted) {
-    const ranges = rangesOf(wanted), kind = kindOf({ kind: wanted.kind ?? 'layout' }), gids = gidsOf(font, wanted);
+    const kind = kindOf({ kind: wanted.kind ?? 'layout' }), gids = gidsOf(font, wanted);
+    const ranges = rangesOf(wanted, { kind, exactly: wanted.exactly });
     return within((areas) => {
         const given = [kind, ...areas.file(font), ...areas.numbers(Uint32Array, ranges, 2)];
         return closed(areas, given, gids);
@@ -454,7 +480,7 @@ export function codes(font) {
         const file = areas.file(font);
         return areas.written(1024, 8, (...room) => areas.answer('codes', ...file, ...room));
     }).buffer);
-    return Array.from({ length: numbers.length / 2 }, (_, i) => [numbers[2 * i], numbers[2 * i + 1]]);
+    return pairsIn(numbers);
 }
 
 /** The glyph of each character of a text, or of each code point, 0 where there is none. */

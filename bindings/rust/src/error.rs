@@ -128,7 +128,7 @@ fn text_of(answer: Answer) -> String {
 impl fmt::Display for Error {
     fn fmt(&self, f: &mut fmt::Formatter<'_>) -> fmt::Result {
         match self.file {
-            Some(file) => write!(f, "file {file}: {}", self.text),
+            Some(file) => write!(f, "file {}: {}", file.saturating_add(1), self.text),
             None => f.write_str(&self.text),
         }
     }

@@ -27,12 +27,15 @@ mod calls;
 mod cut;
 mod error;
 mod exact;
+mod needed;
+mod needed_tables;
 mod numbers;
 mod ranges;
 
 pub use cut::Cut;
 pub use error::{Argument, Error};
 pub use exact::Wanted;
+pub use needed::needed;
 pub use numbers::{Info, Metric, NoGlyph};
 pub use ranges::Ranges;
 

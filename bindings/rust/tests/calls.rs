@@ -92,7 +92,7 @@ fn a_lean_cut_joins_with_lean_cuts_alone() -> Result<(), Error> {
         (refused.number(), refused.text(), refused.file()),
         (20, "not a cut: second", Some(1))
     );
-    assert_eq!(refused.to_string(), "file 1: not a cut: second");
+    assert_eq!(refused.to_string(), "file 2: not a cut: second");
     let refused = join(Kind::Full, [&lean, &full]).unwrap_err();
     assert_eq!(
         (refused.number(), refused.argument()),

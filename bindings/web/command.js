@@ -1,0 +1,272 @@
+#!/usr/bin/env node
+// The commands of the program that node has, with its words, its bytes and its exit statuses.
+import { randomBytes } from 'node:crypto';
+import { closeSync, existsSync, openSync, readFileSync, realpathSync, renameSync, rmSync, statSync, writeFileSync,
+    writeSync } from 'node:fs';
+import { dirname, join as pathOf } from 'node:path';
+import { parseArgs } from 'node:util';
+import { belongs, check, codes, FontcutError, glyphs, init, join, metrics, ranges, subset, version }
+    from './fontcut.js';
+import { needed } from './needed.js';
+
+const HELP = `fontcut in node: subsets that keep glyph ids, and their joins
+
+  fontcut subset FONT OUT [--lean | --layout | --variable] [--text TEXT] [--text-file FILE] [--unicodes LIST]
+                          [--codes-file FILE] [--gids LIST] [--exactly] [--no-layout-closure] [WORDS..]
+  fontcut join [--lean | --layout | --variable] -o OUT FILES..
+  fontcut belongs CUT FONT [--lean | --layout | --variable]
+  fontcut check FONT
+  fontcut codes FONT [--glyphs]
+
+The words are those of the program, which has more of them: so say its manual page and its help. FONT and OUT may be -,
+for standard input and output. check prints no findings here, only whether the font is accepted.
+
+Exit status: 0 done; 1 a font is refused, belongs says no, or out of memory; 2 usage error; 3 a file cannot be read or
+written.
+`;
+const FLAG = { type: 'boolean' }, LIST = { type: 'string', multiple: true };
+const KINDS = { lean: FLAG, layout: FLAG, variable: FLAG };
+const SHAPED = ['layout', 'variable'];
+const NO_GLYPH = 102;
+const COMMANDS = {
+    subset: {
+        run: runSubset, options: {
+            ...KINDS, text: LIST, 'text-file': LIST, unicodes: LIST, 'codes-file': LIST, gids: LIST, exactly: FLAG,
+            'no-layout-closure': FLAG, force: FLAG, quiet: FLAG,
+        },
+    },
+    join: { run: runJoin, options: { ...KINDS, output: { type: 'string', short: 'o' }, force: FLAG, quiet: FLAG } },
+    belongs: { run: runBelongs, options: { ...KINDS, quiet: FLAG } },
+    check: { run: runCheck, options: { quiet: FLAG } },
+    codes: { run: runCodes, options: { glyphs: FLAG, quiet: FLAG } },
+};
+
+// What ends the command: a line for standard error, and the exit status.
+class Failed extends Error {
+    constructor(status, text) {
+        super(text);
+        this.status = status;
+    }
+}
+
+const reasonOf = (error) => ({ ENOENT: 'No such file or directory', EISDIR: 'Is a directory',
+    EACCES: 'Permission denied' })[error.code] ?? error.message;
+
+function read(path) {
+    try {
+        return readFileSync(path === '-' ? 0 : path);
+    } catch (error) {
+        throw new Failed(3, `${path}: ${reasonOf(error)}`);
+    }
+}
+
+// Replaces a file when all of its bytes are written. Devices, pipes and folders stay what they are.
+function write(path, data) {
+    try {
+        if (path === '-' || existsSync(path) && !statSync(path).isFile()) {
+            writeAll(path === '-' ? 1 : openSync(path, 'w'), data);
+            return;
+        }
+        const place = existsSync(path) ? realpathSync(path) : path;
+        const mode = existsSync(place) ? statSync(place).mode : 0o666;
+        const made = pathOf(dirname(place), `.fontcut-${randomBytes(6).toString('hex')}`);
+        try {
+            writeFileSync(made, data, { flag: 'wx', mode });
+            renameSync(made, place);
+        } catch (error) {
+            rmSync(made, { force: true });
+            throw error;
+        }
+    } catch (error) {
+        throw new Failed(3, `${path}: ${reasonOf(error)}`);
+    }
+}
+
+function writeAll(file, data) {
+    for (let at = 0; at < data.length;) {
+        at += writeSync(file, data, at);
+    }
+    if (file !== 1) {
+        closeSync(file);
+    }
+}
+
+const print = (text) => writeAll(1, Buffer.from(text));
+
+function kindOf(given) {
+    const kinds = Object.keys(KINDS).filter((kind) => given[kind]);
+    if (kinds.length > 1) {
+        throw new Failed(2, `--${kinds[0]} and --${kinds[1]} are two kinds of cuts`);
+    }
+    return kinds[0] ?? 'full';
+}
+
+function text(data, path) {
+    try {
+        return new TextDecoder('utf-8', { fatal: true }).decode(data);
+    } catch {
+        throw new Failed(2, `${path}: not UTF-8`);
+    }
+}
+
+// The codes of the texts of a line. Each text by itself brings what a shaper takes for it.
+function codesOfTexts(given, kind) {
+    const files = (given['text-file'] ?? []).map((path) => text(read(path), path).replace(/\p{Cc}/gu, ''));
+    const brings = SHAPED.includes(kind) && !given.exactly ? needed : (one) => one;
+    return [...given.text ?? [], ...files].flatMap((one) => Array.from(brings(one), (letter) => letter.codePointAt(0)));
+}
+
+function codesOfLists(given, words) {
+    const bad = words.find((word) => !/^(all|everything|U\+[0-9A-F]{1,6}(-(U\+)?[0-9A-F]{1,6})?)$/i.test(word));
+    if (bad !== undefined) {
+        throw new Failed(2, `bad word ${bad}: write U+41, U+41-5A or all, and texts with --text`);
+    }
+    const files = (given['codes-file'] ?? []).map((path) => text(read(path), path));
+    const lists = [...words.map((word) => word === 'everything' ? 'all' : word), ...given.unicodes ?? [], ...files];
+    return lists.flatMap((list) => ranges(list));
+}
+
+// Glyph numbers of lists, such as 5,7-9,0x1F.
+function gidsOf(lists) {
+    return lists.join(' ').split(/[\s,;]+/).filter(Boolean).flatMap((word) => {
+        const [, first, last = first] = /^(0x[0-9a-f]+|\d+)(?:-(0x[0-9a-f]+|\d+))?$/i.exec(word) ?? [];
+        const [from, to] = [Number(first), Number(last)];
+        if (!(from <= to && to <= 0xFFFF)) {
+            throw new Failed(2, `bad glyph number ${word}`);
+        }
+        return Array.from({ length: to - from + 1 }, (_, i) => from + i);
+    });
+}
+
+function runSubset(given, [font, out, ...words]) {
+    if (font === undefined || out === undefined) {
+        throw new Failed(2, 'subset takes FONT and OUT');
+    }
+    const isNamed = words.length || ['text', 'text-file', 'unicodes', 'codes-file', 'gids'].some((name) => given[name]);
+    if (!isNamed) {
+        throw new Failed(2, 'name characters: --text TEXT, --unicodes LIST or words such as U+41-5A');
+    }
+    checkName(given, out);
+    const kind = kindOf(given), isAll = words.includes('everything');
+    if (kind === 'full' && (isAll || given.gids)) {
+        throw new Failed(2, 'glyphs by their numbers are for --lean, --layout and --variable');
+    }
+    const unicodes = [...codesOfTexts(given, kind), ...codesOfLists(given, words)];
+    const gids = isAll ? 'all' : gidsOf(given.gids ?? []);
+    write(out, cutOf(read(font), { unicodes, gids, kind, layoutClosure: !given['no-layout-closure'] }));
+}
+
+// A cut. A glyph that the font does not have is named by its number, and not by its place in the list.
+function cutOf(font, wanted) {
+    try {
+        return subset(font, wanted);
+    } catch (error) {
+        const isGlyph = error instanceof FontcutError && error.number === NO_GLYPH;
+        throw isGlyph ? new Failed(1, `refused ${NO_GLYPH} no glyph ${wanted.gids[error.argument]}`) : error;
+    }
+}
+
+// A name of a file that would be packed is probably a mistake.
+function checkName(given, out) {
+    if (/\.woff2?$/i.test(out) && !given.force) {
+        throw new Failed(2, `${out}: the output is a TrueType file: --force writes it there`);
+    }
+}
+
+function runJoin(given, words) {
+    const [out, ...files] = given.output === undefined ? words : [given.output, ...words];
+    if (out === undefined || !files.length) {
+        throw new Failed(2, 'join takes OUT and FILES');
+    }
+    if (given.output === undefined && files.length === 1 && files[0] !== out && existsSync(out)) {
+        throw new Failed(2, `${out} would be replaced by one file: write join -o ${out} ${files[0]}`);
+    }
+    checkName(given, out);
+    const kind = kindOf(given);
+    write(out, join(files.map(read), { kind }));
+}
+
+function runBelongs(given, words) {
+    if (words.length !== 2) {
+        throw new Failed(2, 'belongs takes CUT and FONT');
+    }
+    const [cut, font] = words.map(read), answer = belongs(cut, font, { kind: kindOf(given) });
+    print(answer ? 'yes\n' : 'no\n');
+    return answer ? 0 : 1;
+}
+
+function runCheck(_, words) {
+    if (words.length !== 1) {
+        throw new Failed(2, 'check takes FONT');
+    }
+    try {
+        check(read(words[0]));
+    } catch (error) {
+        if (!(error instanceof FontcutError)) {
+            throw error;
+        }
+        print(`refused ${error.number} ${error.text}\n`);
+        return 1;
+    }
+    print('accepted\n');
+    return 0;
+}
+
+const hexOf = (code) => code.toString(16).toUpperCase();
+
+function runCodes(given, words) {
+    if (words.length !== 1) {
+        throw new Failed(2, 'codes takes FONT');
+    }
+    const font = read(words[0]), pairs = codes(font);
+    if (!given.glyphs) {
+        print(pairs.map(([first, last]) => `U+${hexOf(first)}${first === last ? '' : `-${hexOf(last)}`}\n`).join(''));
+        return;
+    }
+    const all = pairs.flatMap(([first, last]) => Array.from({ length: last - first + 1 }, (_, i) => first + i));
+    const numbers = glyphs(font, all), widths = metrics(font, numbers);
+    print(all.map((code, i) => `U+${hexOf(code)} ${numbers[i]} ${widths[i].advance}\n`).join(''));
+}
+
+// The exit status of a line, after what it says.
+async function statusOf([name, ...words]) {
+    if (name === undefined || ['--help', '-h', 'help'].includes(name)) {
+        print(HELP);
+        return 0;
+    }
+    await init();
+    if (['--version', '-V'].includes(name)) {
+        print(`fontcut ${version()}\n`);
+        return 0;
+    }
+    if (!Object.hasOwn(COMMANDS, name)) {
+        throw new Failed(2, `no command ${name}: node has ${Object.keys(COMMANDS).join(', ')}`);
+    }
+    const { run, options } = COMMANDS[name];
+    const { values, positionals } = parseArgs({ args: words, options, allowPositionals: true });
+    return run(values, positionals) ?? 0;
+}
+
+// What is said of an error, and the exit status for it.
+function told(error) {
+    if (error instanceof FontcutError) {
+        const file = error.file === undefined ? '' : `file ${error.file + 1}: `;
+        return [1, `${file}refused ${error.number} ${error.text}`];
+    }
+    if (error instanceof Failed) {
+        return [error.status, error.message];
+    }
+    const isOfWords = error instanceof RangeError || String(error.code).startsWith('ERR_PARSE_ARGS');
+    if (!isOfWords) {
+        throw error;
+    }
+    return [2, error.message.replace(/^fontcut: /, '')];
+}
+
+try {
+    process.exitCode = await statusOf(process.argv.slice(2));
+} catch (error) {
+    const [status, line] = told(error);
+    process.stderr.write(`fontcut: ${line}\n`);
+    process.exitCode = status;
+}

@@ -1,0 +1,160 @@
+// Answers requests for cuts of fonts, in node: what GrowingFont asks for.
+//
+//     import { createServer } from 'node:http';
+//     import { cutHandler, listener } from 'fontcut/server';
+//     const handle = await cutHandler({ 'Naskh.ttf': await readFile('Naskh.ttf') });     // a Request in, a Response out
+//     createServer(listener(handle)).listen(8000);
+//
+//     GET /Naskh.ttf?unicodes=U+20-7E,U+4??        the cut of that font for these code points
+//     GET /Naskh.ttf?text=Hello                    for these characters
+//     GET /Naskh.ttf?unicodes=20-7E&kind=lean      the lean cut, with kind=layout or kind=variable the cut of that kind
+//
+// examples/server answers the same. The bytes of the font, the kind and the set determine an answer, so its ETag is made
+// from these, and caches may keep it forever: a font that changes gets another name.
+import { createHash } from 'node:crypto';
+import { promisify } from 'node:util';
+import { brotliCompress, constants } from 'node:zlib';
+import { check, Font, FontcutError, init, ranges, subset } from './fontcut.js';
+import { needed } from './needed.js';
+
+const LONGEST_QUERY = 8000; // characters
+const KINDS = ['full', 'lean', 'layout', 'variable'], SHAPED = ['layout', 'variable'];
+const NO_MEMORY = 16;
+const HEADERS = {
+    'Cache-Control': 'public, max-age=31536000, immutable', 'Content-Type': 'font/ttf',
+    'Access-Control-Allow-Origin': '*', Vary: 'Accept-Encoding',
+};
+const QUALITY = 5; // of Brotli; higher ones take many times as long for a few hundredths of the bytes
+
+const compressed = promisify(brotliCompress);
+const digestOf = (data) => createHash('sha256').update(data).digest('hex');
+
+// An answer that is no cut.
+class Answer extends Error {
+    constructor(status, text) {
+        super(text);
+        this.status = status;
+    }
+}
+
+// The kind of cut that a query asks for. `lean=1` is an older way to ask for `kind=lean`.
+function kindOf(asked) {
+    const isLean = asked.get('lean') === '1', kind = asked.get('kind') ?? (isLean ? 'lean' : 'full');
+    if (!KINDS.includes(kind) || isLean && kind !== 'lean') {
+        throw new Answer(400, 'kind is full, lean, layout or variable, and with lean=1 it is lean');
+    }
+    return kind;
+}
+
+// The set that a query asks for, and of which kind the cut is to be.
+function wantedBy(query) {
+    if (query.length > LONGEST_QUERY) {
+        throw new Answer(414, `a query has ${LONGEST_QUERY} characters at most`);
+    }
+    const asked = new URLSearchParams(query), names = [...asked.keys()];
+    const isKnown = names.every((name) => ['unicodes', 'text', 'kind', 'lean'].includes(name));
+    if (!isKnown || !asked.has('unicodes') && !asked.has('text')) {
+        throw new Answer(400, 'a query has unicodes or text, and may have kind');
+    }
+    const kind = kindOf(asked);
+    // A plus sign that is not written as %2B stands for a blank.
+    const lists = asked.getAll('unicodes').map((list) => list.replace(/(^|[\s,;:-])(U) (?=[0-9A-F?])/gi, '$1$2+'));
+    const texts = asked.getAll('text').map((text) => SHAPED.includes(kind) ? needed(text) : text);
+    const letters = Array.from(texts.join(''), (letter) => `U+${letter.codePointAt(0).toString(16)}`);
+    try {
+        return { kind, wanted: ranges([...lists, ...letters].join(' ')) };
+    } catch (error) {
+        throw new Answer(400, error.message.replace('fontcut: ', ''));
+    }
+}
+
+// The cut, from a font that was tested once.
+function made(font, wanted, kind) {
+    try {
+        return subset(font, { unicodes: wanted, kind });
+    } catch (error) {
+        if (!(error instanceof FontcutError)) {
+            throw error;
+        }
+        throw error.number === NO_MEMORY ? new Answer(503, 'no memory')
+            : new Answer(502, `the cut is refused: ${error.text}`);
+    }
+}
+
+// A font that is served: its digest, and the font itself or why it is refused.
+function opened(data) {
+    const bytes = ArrayBuffer.isView(data) ? new Uint8Array(data.buffer, data.byteOffset, data.byteLength)
+        : new Uint8Array(data);
+    try {
+        check(bytes);
+        return { digest: digestOf(bytes), font: new Font(bytes) };
+    } catch (error) {
+        if (!(error instanceof FontcutError)) {
+            throw error;
+        }
+        return { digest: digestOf(bytes), refusal: error.text };
+    }
+}
+
+async function answered(fonts, request) {
+    if (!['GET', 'HEAD'].includes(request.method)) {
+        throw new Answer(405, 'GET and HEAD are answered');
+    }
+    const url = new URL(request.url);
+    const font = fonts.get(decodeURIComponent(url.pathname.slice(url.pathname.lastIndexOf('/') + 1)));
+    if (!font) {
+        throw new Answer(404, 'there is no such font');
+    }
+    const { kind, wanted } = wantedBy(url.search.slice(1));
+    if (font.refusal) {
+        throw new Answer(502, `the font is refused: ${font.refusal}`);
+    }
+    const tag = `"${digestOf(`${font.digest} ${kind} ${wanted.join(' ')}`)}"`;
+    if ((request.headers.get('If-None-Match') ?? '').includes(tag)) {
+        return new Response(null, { status: 304, headers: { ...HEADERS, ETag: tag } });
+    }
+    const cut = made(font.font, wanted, kind);
+    if (!/(^|,)\s*br\s*(;\s*q=(?!0(\.0*)?\s*(,|$))|,|$)/.test(request.headers.get('Accept-Encoding') ?? '')) {
+        return new Response(cut, { headers: { ...HEADERS, ETag: tag, 'Content-Length': String(cut.length) } });
+    }
+    const params = { [constants.BROTLI_PARAM_QUALITY]: QUALITY };
+    const packed = await compressed(cut, { params });
+    // A strong tag would say that these are the bytes of the cut.
+    const headers = { ...HEADERS, ETag: `W/${tag}`, 'Content-Encoding': 'br', 'Content-Length': String(packed.length) };
+    return new Response(packed, { headers });
+}
+
+/** Answers a Request for a cut of one of the fonts, which are bytes by the names of their URLs. */
+export async function cutHandler(fonts) {
+    await init();
+    const served = new Map(Object.entries(fonts).map(([name, data]) => [name, opened(data)]));
+    return async (request) => {
+        let answer;
+        try {
+            answer = await answered(served, request);
+        } catch (error) {
+            const isBad = error instanceof URIError, status = isBad ? 400 : error.status;
+            if (!status) {
+                throw error;
+            }
+            const headers = { 'Content-Type': 'text/plain; charset=utf-8', 'Cache-Control': 'no-store' };
+            answer = new Response(`${isBad ? 'bad query' : error.message}\n`, { status, headers });
+        }
+        return request.method === 'HEAD' ? new Response(null, answer) : answer;
+    };
+}
+
+/** What `createServer` of node:http takes, for a function that answers a Request. */
+export function listener(handle) {
+    return async (incoming, outgoing) => {
+        try {
+            const url = new URL(incoming.url, `http://${incoming.headers.host ?? 'localhost'}`);
+            const headers = Object.entries(incoming.headers).map(([name, value]) => [name, String(value)]);
+            const answer = await handle(new Request(url, { method: incoming.method, headers }));
+            outgoing.writeHead(answer.status, Object.fromEntries(answer.headers));
+            outgoing.end(Buffer.from(await answer.arrayBuffer()));
+        } catch {
+            outgoing.writeHead(outgoing.headersSent ? 200 : 400).end();
+        }
+    };
+}
