@@ -2,11 +2,13 @@
 """Serves the pages of this folder on loopback, with the package for browsers and cuts of fonts by examples/server.
 
 In a checkout the package and the library for C are built if they are not built yet. `--package` names the folder of
-an existing package, and the variable FONTCUT_LIBRARY an existing library.
+an existing package, and the variable FONTCUT_LIBRARY an existing library. Cuts are compressed by Brotli, and later ones
+with an earlier cut as a dictionary, by what this Python has of the two; what it lacks is said at the start.
 """
 from __future__ import annotations
 
 import argparse
+import importlib.util
 import mimetypes
 import os
 import signal
@@ -16,7 +18,7 @@ import sys
 import tempfile
 import wsgiref.simple_server
 import wsgiref.util
-from typing import TYPE_CHECKING, Iterable, List
+from typing import TYPE_CHECKING, Any, Iterable, List, Tuple
 
 if TYPE_CHECKING:
     from wsgiref.types import StartResponse, WSGIApplication, WSGIEnvironment
@@ -25,6 +27,11 @@ HERE = os.path.dirname(os.path.realpath(__file__))
 TOP = os.path.dirname(os.path.dirname(HERE))
 FONTS = {"/usr/share/fonts/truetype/lxgw-wenkai/LXGWWenKai-Regular.ttf": "fonts-lxgw-wenkai",
          "/usr/share/fonts/truetype/noto/NotoNaskhArabic-Regular.ttf": "fonts-noto-core"}
+
+
+# The modules that compress cuts, Debian's packages that have them, and what happens without.
+COMPRESSING = [("brotli", "python3-brotli", "the first cut of a page is sent uncompressed"),
+               ("zstandard", "python3-zstandard", "no cut is compressed with an earlier one as a dictionary")]
 
 
 class Server(socketserver.ThreadingMixIn, wsgiref.simple_server.WSGIServer):
@@ -59,6 +66,35 @@ def cuts_of(folder: str) -> WSGIApplication:
     return app.Application(folder)
 
 
+def say_what_lacks() -> None:
+    """Names the modules that compress cuts and that this Python does not have."""
+    for module, package, loss in COMPRESSING:
+        if not importlib.util.find_spec(module):
+            print(f"{sys.executable} has no module {module}: {loss}; Debian's package {package} has it", file=sys.stderr)
+
+
+def compressed(environ: WSGIEnvironment, start_response: StartResponse, cuts: WSGIApplication) -> Iterable[bytes]:
+    """The answer of an application, compressed by Brotli where the browser takes that and it is not compressed yet."""
+    if not importlib.util.find_spec("brotli") or "br" not in environ.get("HTTP_ACCEPT_ENCODING", ""):
+        return cuts(environ, start_response)
+    said: List[Tuple[str, List[Tuple[str, str]]]] = []
+
+    def keep(status: str, headers: List[Tuple[str, str]], *_: Any) -> Any:
+        said.append((status, headers))
+
+    body = b"".join(cuts(environ, keep))
+    status, headers = said[0]
+    if status.startswith("200") and body and "Content-Encoding" not in dict(headers):
+        import brotli
+        body = brotli.compress(body, quality=5)
+        tag = dict(headers)["ETag"]
+        headers = [(name, value) for name, value in headers if name not in ("Content-Length", "ETag")]
+        # A strong tag would say that these are the bytes of the cut.
+        headers += [("Content-Encoding", "br"), ("Content-Length", str(len(body))), ("ETag", f"W/{tag}")]
+    start_response(status, headers)
+    return [body]
+
+
 class Site:
     """The WSGI application: cuts below /fonts, the package below /package, and the pages."""
 
@@ -70,7 +106,7 @@ class Site:
         folder, _, name = environ["PATH_INFO"].lstrip("/").rpartition("/")
         if folder == "fonts":
             wsgiref.util.shift_path_info(environ)
-            return self.cuts(environ, start_response)
+            return compressed(environ, start_response, self.cuts)
         path = os.path.join(self.folders.get(folder, os.devnull), name or "index.html")
         if not os.path.isfile(path):
             start_response("404 Not Found", [("Content-Type", "text/plain")])
@@ -86,6 +122,7 @@ def main() -> None:
     parser.add_argument("--port", type=int, default=8000, help="8000 by default; 0 takes any free one")
     parser.add_argument("--package", help="the folder of the package for browsers")
     words = parser.parse_args()
+    say_what_lacks()
     mimetypes.add_type("text/javascript", ".js")
     mimetypes.add_type("application/wasm", ".wasm")
     package = words.package or os.path.dirname(built("bindings", "web", "build")[0])
