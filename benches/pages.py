@@ -9,7 +9,7 @@ from typing import Iterator, NamedTuple, Optional
 from checks import DEJAVU, NOTO, PROGRAM, run, skip
 from cut_sizes import mapped_codes
 from fontcut_needed import needed
-from fontcut_web.sets import PRESETS
+from fontcut_web import presets
 from measure import DROPPED, HB_SUBSET, Bench, Font, need
 from shaping_texts import TEXTS
 from timing import Called, Timed, calls_in_turn, compiled_calls, put_ranges
@@ -61,7 +61,7 @@ def codes_of(name: str, path: str) -> list[int]:
     if name.endswith(ALL):
         return mapped_codes(Font(name, path, 0, 0))
     if name == SLICE:
-        words = [word.partition("-") for word in PRESETS["latin"].replace("U+", "").split(", ")]
+        words = [word.partition("-") for word in presets.web()["latin"].replace("U+", "").split()]
         return [code for first, _, last in words for code in range(int(first, 16), int(last or first, 16) + 1)]
     texts = [text for text in TEXTS if text.startswith(TEXTS_OF[name])]
     need(f"{name}: the texts of the page are there", len(texts) == len(TEXTS_OF[name]))

@@ -8,8 +8,12 @@ _fontcut_web_options() {
     prepare)
         echo '--languages --scripts --unicodes --pages --features --no-hinting --instance --names --kern --json --help'
         ;;
-    slice) echo '--out --slices --lean --layout --variable --full --woff2 --css --display --json --help' ;;
-    text) echo '--lean --layout --variable --full --text --shaped --features --check --strict --json --help' ;;
+    slice)
+        echo '--out --slices --order --lean --layout --variable --full --woff2 --css --display --strict --quiet --json --help'
+        ;;
+    slices) echo '--font --order --help' ;;
+    icons) echo '--out --codepoints --lean --variable --json --help' ;;
+    text) echo '--lean --layout --variable --full --text --shaped --features --check --strict --quiet --json --help' ;;
     *) echo '--lean --layout --variable --full --help' ;;
     esac
 }
@@ -24,21 +28,26 @@ _fontcut_web_files() {
     done
 }
 
+# Prints presets of slices, and files.
+_fontcut_web_presets() {
+    local presets='latin latin-ext vietnamese greek greek-ext cyrillic cyrillic-ext web'
+    presets="$presets chinese-simplified chinese-traditional japanese korean auto equal: pages:"
+    compgen -W "$presets" -- "$1"
+    compgen -f -- "$1"
+}
+
 # Whether a word is an option that has a value.
 _fontcut_web_has_value() {
-    [[ $1 == --@(out|slices|display|text|languages|scripts|unicodes|pages|features|instance|names|kern) ]]
+    [[ $1 == --@(out|slices|order|font|codepoints|display|text|languages|scripts|unicodes|pages|features|instance|names|kern) ]]
 }
 
 # Proposes what may follow an option.
 _fontcut_web_value() {
     case $1 in
     --display) mapfile -t COMPREPLY < <(compgen -W 'auto block swap fallback optional' -- "$2") ;;
-    --slices)
-        mapfile -t COMPREPLY < <(
-            compgen -W 'latin latin-ext vietnamese greek greek-ext cyrillic cyrillic-ext web equal:' -- "$2"
-            compgen -f -- "$2"
-        )
-        ;;
+    --slices) mapfile -t COMPREPLY < <(_fontcut_web_presets "$2") ;;
+    --order | --codepoints) mapfile -t COMPREPLY < <(compgen -f -- "$2") ;;
+    --font) mapfile -t COMPREPLY < <(_fontcut_web_files "$2" '[tT][tT][fF]') ;;
     --names) mapfile -t COMPREPLY < <(compgen -W 'keep least' -- "$2") ;;
     --kern) mapfile -t COMPREPLY < <(compgen -W 'auto keep drop' -- "$2") ;;
     --features) mapfile -t COMPREPLY < <(compgen -W 'default all' -- "$2") ;;
@@ -74,12 +83,13 @@ _fontcut_web() {
     elif [[ $word == -* ]]; then
         mapfile -t COMPREPLY < <(compgen -W "$(_fontcut_web_options "$command")" -- "$word")
     elif [ -z "$command" ]; then
-        mapfile -t COMPREPLY < <(compgen -W 'prepare slice text decode' -- "$word")
+        mapfile -t COMPREPLY < <(compgen -W 'prepare slice slices text icons decode' -- "$word")
     else
         case $command in
         prepare | text)
             mapfile -t COMPREPLY < <(_fontcut_web_files "$word" '[tT][tT][fF]' '[hH][tT][mM]' '[hH][tT][mM][lL]')
             ;;
+        slices) mapfile -t COMPREPLY < <(_fontcut_web_presets "$word") ;;
         decode) mapfile -t COMPREPLY < <(_fontcut_web_files "$word" '[tT][tT][fF]' '[wW][oO][fF][fF]*') ;;
         *) mapfile -t COMPREPLY < <(_fontcut_web_files "$word" '[tT][tT][fF]') ;;
         esac

@@ -20,6 +20,8 @@ HERE = os.path.dirname(os.path.abspath(__file__))
 MODULE, COMMANDS = "fontcut", "wheel_commands"
 SHARED = "fontcut_needed", "fontcut_output"
 PACKAGES = "fontcut_pdf", "fontcut_web"
+# Data of a package: presets of slices.
+LISTS = "fontcut_web/lists"
 LIBRARY, PROGRAM = "fontcut/libfontcut.so.0", "fontcut/bin/fontcut"
 # No installer knows a platform of an older C library by its number.
 OLDEST = 17
@@ -120,10 +122,10 @@ def packages() -> Dict[str, bytes]:
     held[f"{MODULE}/__init__.py"] = text_of(f"{MODULE}.py").encode()
     held[f"{MODULE}/{COMMANDS}.py"] = text_of(f"{COMMANDS}.py").encode()
     held.update({f"{name}.py": text_of(f"{name}.py").encode() for name in SHARED})
-    for package in PACKAGES:
-        for name in os.listdir(os.path.join(HERE, package)):
-            if name.endswith(".py"):
-                held[f"{package}/{name}"] = text_of(os.path.join(package, name)).encode()
+    for folder in (*PACKAGES, LISTS):
+        for name in os.listdir(os.path.join(HERE, folder)):
+            if name.endswith((".py", ".txt", ".json")):
+                held[f"{folder}/{name}"] = text_of(os.path.join(folder, name)).encode()
     return held
 
 

@@ -319,7 +319,7 @@ def by_debians_python(system: System) -> None:
          system.run("fontcut-web", "--version"))
     same("the package for Python: fontcut-web without fontTools", (
         3, b"", b"fontcut-web: needs fontTools: apt install python3-fonttools python3-brotli\n"),
-        system.run("fontcut-web", "slice", FONT, "--out", "/site", "--slices", "web"))
+        system.run("fontcut-web", "slice", FONT, "--out", "/site", "--slices", "web", "--quiet"))
 
 
 def by_packages(system: System, dist: str, wanted: Mapping[str, Optional[bytes]]) -> None:

@@ -11,9 +11,10 @@ from typing import Optional, Sequence
 import fontcut
 from fontcut_output import CommandParser, Progress, print_line, read, reason, write
 
-from . import texts
+from . import texts, use
 from .common import SHAPED, Missing, MissingProgram, Refused, UsageError, need, part
-from .sets import MOST_EQUAL, PRESETS, WEB, asked
+from .presets import PARTS, SIZES, languages, web
+from .sets import AUTO, MOST_EQUAL, WEB
 
 INSTALL = "pip install 'fontcut[web]'"
 _RAW = argparse.RawDescriptionHelpFormatter
@@ -29,7 +30,9 @@ WOFF files.
 
   fontcut-web prepare Sans.ttf small.ttf --languages de,fr
   fontcut-web slice Sans.ttf Sans-Bold.ttf --out site --slices web --woff2 --css
+  fontcut-web slices japanese >japanese.txt
   fontcut-web text index.html about.html Sans.ttf sans.woff2
+  fontcut-web icons Icons.ttf home settings search --out site
   fontcut-web decode sans.woff2 sans.ttf --lean
 """
 
@@ -38,6 +41,16 @@ Exit status: 0 done; 1 a file is refused, or out of memory; 2 usage error; 3 a f
 package or a program that is needed is not installed.
 """
 
+_PRESETS = f"""\
+  {', '.join(web())}
+                     the subsets of Google Fonts of these names
+  {WEB}                all of them
+  arabic, devanagari, thai ..
+                     a script, by its name in Unicode, with what shapers take for it, digits and punctuation
+  {', '.join(languages())}
+                     a slice of signs, and {PARTS} slices of characters by their use
+  {AUTO}               the presets of all scripts of FONT, and a slice of what is left"""
+
 _SLICE = f"""\
 Writes a cut of each FONT for each slice to DIR, as FONT-SLICE.ttf. A browser loads a slice when a page has one
 of its characters. A character is only in the first slice that names it; a slice of which the font maps no
@@ -45,13 +58,28 @@ character is not written.
 
 SLICES is a preset, or a file with a name and ranges in each line, as fontcut slice reads it. The option may be
 repeated, and then adds slices. The presets are
-  {', '.join(PRESETS)}
-                     the subsets of Google Fonts of these names
-  {WEB}                all of them
+{_PRESETS}
   equal:COUNT        COUNT slices of equal size of what is left; at most {MOST_EQUAL}
+  pages:COUNT        the same, of the characters by how often they stand in pages: the FONTs that end in .html, .htm,
+                     .xhtml or .txt
+The characters of a language are in the order of their use by Unicode's Unihan. With :{SIZES[0]}, the default, a page
+loads 5 to 12 slices, most of them small; with :{SIZES[1]}, as in {languages()[0]}:{SIZES[1]}, 5 to 7 larger ones.
+--order FILE puts the characters of a text first, in their order there. In any order a page loads ten times the bytes
+of a cut for its text, or more: for text that is known, fontcut-web text is better.
+
+The scripts of FONT of which no character is in a slice are named, and with --strict nothing is written then.
 
 To a browser, slices are separate fonts: there is no kerning and no shaping across them. If that matters, put the
 characters of a script into one slice.
+"""
+
+_SLICES = f"""\
+Prints the slices of presets and files, for fontcut slice --slices: a name and ranges in each line. A character is only
+in the first slice that names it. SLICES are, as for fontcut-web slice, files or presets:
+{_PRESETS}
+  equal:COUNT        COUNT slices of equal size of what is left
+
+auto and equal are for a font. Without --font, the sizes of slices by use count characters that a font may lack.
 """
 
 _TEXT = """\
@@ -66,6 +94,15 @@ names, in the directions that they may have, and with the features that its styl
 Text that is not in the pages may vanish, and no other font steps in: text that scripts or readers write, and what
 style sheets on other hosts add. It is said which pages have such. --check draws each page in Chromium, with FONT and
 with the cut; if a pixel differs, nothing is written.
+"""
+
+_ICONS = """\
+Writes the cut of FONT for the icons of these names to DIR, as it is and as WOFF2, with icons.css, in which each has a
+class, as icon-home, and icons.html, which shows them.
+
+Names are those of the ligatures of FONT, of its table post, or of a file of code points: that of --codepoints, or the
+one beside FONT that has its name and the ending .codepoints, as MaterialIcons-Regular.codepoints. Its lines have a name
+and a code, as home e88a. A name that is not there is refused, with the nearest ones.
 """
 
 _PREPARE = """\
@@ -97,15 +134,16 @@ kind join with each other, and not with cuts that were never packed.
 def _run_slice(given: argparse.Namespace) -> None:
     need("fontTools", *["brotli"] if given.woff2 else [])
     slicing = part("slicing")
-    how = slicing.How(given.kind, given.woff2, given.css, given.display)
-    wanted = asked(given.slices)
-    if not wanted:
-        raise UsageError("the list names no slice")
+    how = slicing.How(given.kind, given.woff2, given.css, given.display, given.strict)
+    paths, wanted = use.fonts_and_slices(given)
     with Progress("fontcut-web") as progress:
-        progress.say(f"reading {len(given.fonts)} fonts")
-        told = slicing.write_slices(slicing.opened(given.fonts, wanted, how), given.out, how, progress)
+        progress.say(f"reading {len(paths)} fonts")
+        fonts = slicing.opened(paths, wanted, how)
+        told = slicing.write_slices(fonts, given.out, how, progress)
     if given.json:
         print_line(json.dumps(told, indent=2))
+    for line in [] if given.json or given.quiet else [line for font in fonts for line in font.notices]:
+        print(f"fontcut-web: {line}", file=sys.stderr)
 
 
 def _run_decode(given: argparse.Namespace) -> None:
@@ -158,10 +196,11 @@ def _add_slice(commands: argparse._SubParsersAction[CommandParser]) -> None:
         "slice", help="cut fonts in slices, with a style sheet", description=f"{_SLICE}\n{_CUT_KINDS}\n",
         formatter_class=_RAW, epilog=_STATUS,
         usage="fontcut-web slice FONT.. --out DIR --slices SLICES [--lean | --layout | --variable | --full]\n"
-              "                         [--woff2] [--css] [--display VALUE] [--json]")
+              "                         [--order FILE] [--woff2] [--css] [--display VALUE] [--strict] [--quiet] [--json]")
     command.add_argument("fonts", metavar="FONT", nargs="+")
     command.add_argument("--out", metavar="DIR", required=True, help="the folder that the files go to")
     command.add_argument("--slices", metavar="SLICES", action="append", required=True, help="a preset or a file")
+    _add_order(command)
     _kinds(command, "lean", lean="write lean cuts (the default)", layout="write layout cuts",
            variable="write variable cuts, whose rules have ranges", full="write full cuts")
     command.add_argument("--woff2", action="store_true", help="write FONT-SLICE.woff2 too, which browsers load")
@@ -169,8 +208,24 @@ def _add_slice(commands: argparse._SubParsersAction[CommandParser]) -> None:
                                                             "fonts and preloads the first slice")
     command.add_argument("--display", metavar="VALUE", choices=_DISPLAYS, default="swap",
                          help=f"font-display in the style sheet: {', '.join(_DISPLAYS)} (swap)")
+    command.add_argument("--strict", action="store_true", help="write nothing if a script of a FONT is in no slice")
+    command.add_argument("--quiet", action="store_true", help="do not say what the files lack of a FONT")
     command.add_argument("--json", action="store_true", help="print what was written")
     command.set_defaults(run=_run_slice)
+
+
+def _add_order(command: argparse.ArgumentParser) -> None:
+    command.add_argument("--order", metavar="FILE", help="a text whose characters come first, in their order there")
+
+
+def _add_slices(commands: argparse._SubParsersAction[CommandParser]) -> None:
+    command = commands.add_parser(
+        "slices", help="print slices as fontcut slice reads them", description=_SLICES, formatter_class=_RAW,
+        epilog=_STATUS, usage="fontcut-web slices SLICES.. [--font FONT] [--order FILE]")
+    command.add_argument("slices", metavar="SLICES", nargs="+")
+    command.add_argument("--font", metavar="FONT", help="print the characters of FONT alone")
+    _add_order(command)
+    command.set_defaults(run=use.run)
 
 
 def _add_text(commands: argparse._SubParsersAction[CommandParser]) -> None:
@@ -178,7 +233,7 @@ def _add_text(commands: argparse._SubParsersAction[CommandParser]) -> None:
         "text", help="cut a font for the characters that pages show", description=f"{_TEXT}\n{_CUT_KINDS}\n",
         formatter_class=_RAW, epilog=_STATUS,
         usage="fontcut-web text PAGE.. FONT OUT [--lean | --layout | --variable | --full] [--text TEXT]\n"
-              "                        [--shaped] [--features LIST] [--check] [--strict] [--json]")
+              "                        [--shaped] [--features LIST] [--check] [--strict] [--quiet] [--json]")
     command.add_argument("files", metavar="PAGE.. FONT OUT", nargs="+", help=argparse.SUPPRESS)
     _kinds(command, None, lean="write a lean cut (the default)", layout="write a layout cut (the default of --shaped)",
            variable="write a variable cut", full="write a full cut")
@@ -188,8 +243,28 @@ def _add_text(commands: argparse._SubParsersAction[CommandParser]) -> None:
                          help="with --shaped, shape with these features too, as smcp,onum or salt=2; may be repeated")
     command.add_argument("--check", action="store_true", help="write nothing if Chromium draws a page otherwise")
     command.add_argument("--strict", action="store_true", help="write nothing if the font lacks a character")
+    command.add_argument("--quiet", action="store_true", help="do not say what the font or its cut lacks")
     command.add_argument("--json", action="store_true", help="print what was written")
     command.set_defaults(run=texts.run)
+
+
+def _run_icons(given: argparse.Namespace) -> None:
+    need("fontTools", "brotli")
+    part("icons").run(given)
+
+
+def _add_icons(commands: argparse._SubParsersAction[CommandParser]) -> None:
+    command = commands.add_parser(
+        "icons", help="cut an icon font for some icons, with classes for them", description=_ICONS, formatter_class=_RAW,
+        epilog=_STATUS,
+        usage="fontcut-web icons FONT NAME.. --out DIR [--codepoints FILE] [--lean | --variable] [--json]")
+    command.add_argument("font", metavar="FONT")
+    command.add_argument("names", metavar="NAME", nargs="+")
+    command.add_argument("--out", metavar="DIR", required=True, help="the folder that the files go to")
+    command.add_argument("--codepoints", metavar="FILE", help="names and codes of icons")
+    _kinds(command, "lean", lean="write a lean cut (the default)", variable="write a variable cut, which keeps the axes")
+    command.add_argument("--json", action="store_true", help="print what was written")
+    command.set_defaults(run=_run_icons)
 
 
 def _run_prepare(given: argparse.Namespace) -> None:
@@ -237,7 +312,7 @@ def _parser() -> argparse.ArgumentParser:
     parser = argparse.ArgumentParser(prog="fontcut-web", description=_WHAT, formatter_class=_RAW, epilog=_STATUS)
     parser.add_argument("--version", action="version", version=f"fontcut-web {fontcut.__version__}")
     commands = parser.add_subparsers(dest="command", required=True, metavar="COMMAND", parser_class=CommandParser)
-    for add in _add_prepare, _add_slice, _add_text, _add_decode:
+    for add in _add_prepare, _add_slice, _add_slices, _add_text, _add_icons, _add_decode:
         add(commands)
     return parser
 

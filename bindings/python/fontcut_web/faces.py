@@ -10,7 +10,7 @@ from fontTools.misc.textTools import Tag
 from fontTools.ttLib import TTFont, TTLibError
 
 # What fontTools raises where a table is malformed.
-_MALFORMED = (TTLibError, struct.error, AssertionError, AttributeError, IndexError, KeyError, OverflowError, TypeError,
+MALFORMED = (TTLibError, struct.error, AssertionError, AttributeError, IndexError, KeyError, OverflowError, TypeError,
               ValueError)
 # The widths that usWidthClass stands for, from 1 on (CSS Fonts 4, 2.5).
 _WIDTHS = "50%", "62.5%", "75%", "87.5%", "100%", "112.5%", "125%", "150%", "200%"
@@ -56,7 +56,7 @@ def _axes(font: TTFont) -> Dict[str, Tuple[float, float]]:
     """The least and the greatest value of each axis."""
     try:
         axes = font["fvar"].axes if "fvar" in font else []
-    except _MALFORMED:
+    except MALFORMED:
         axes = []
     return {str(axis.axisTag): (axis.minValue, axis.maxValue) for axis in axes}
 
@@ -70,7 +70,7 @@ def _range(least: float, most: float, unit: str) -> str:
 def _family(font: TTFont) -> str:
     try:
         return font["name"].getBestFamilyName() or ""
-    except _MALFORMED:
+    except MALFORMED:
         return ""
 
 
@@ -78,7 +78,7 @@ def _number(font: TTFont, table: str, key: str, otherwise: int) -> int:
     """A number of a table, or another one where the table is not there, or is malformed."""
     try:
         return int(getattr(font[Tag(table)], key))
-    except _MALFORMED:
+    except MALFORMED:
         return otherwise
 
 

@@ -1,48 +1,31 @@
-"""The slices that are asked for: presets, the lines of a file, and as many characters each."""
+"""The slices that are asked for: presets, the lines of a file, and slices by how often characters are used."""
 from __future__ import annotations
 
+import importlib
 import re
 from bisect import bisect_right
 from collections import Counter
-from typing import Dict, Iterable, Iterator, List, NamedTuple, Sequence, Tuple, Union
+from typing import Dict, Iterable, Iterator, List, NamedTuple, Sequence, Set, Union
 
 import fontcut
 from fontcut_output import read
 
+from . import presets
 from .common import UsageError
 
-# The subsets of Google Fonts by their names there, in the order in which a character of two of them is given to one.
-PRESETS: Dict[str, str] = {
-    "latin": "U+0-FF, U+131, U+152-153, U+2BB-2BC, U+2C6, U+2DA, U+2DC, U+304, U+308, U+329, U+2000-206F, U+20AC, "
-             "U+2122, U+2191, U+2193, U+2212, U+2215, U+FEFF, U+FFFD",
-    "latin-ext": "U+100-2BA, U+2BD-2C5, U+2C7-2CC, U+2CE-2D7, U+2DD-2FF, U+1D00-1DBF, U+1E00-1E9F, U+1EF2-1EFF, "
-                 "U+20A0-20AB, U+20AD-20C0, U+2113, U+2C60-2C7F, U+A720-A7FF",
-    "vietnamese": "U+102-103, U+110-111, U+128-129, U+168-169, U+1A0-1A1, U+1AF-1B0, U+300-301, U+303-304, U+308-309, "
-                  "U+323, U+329, U+1EA0-1EF9, U+20AB",
-    "greek": "U+370-377, U+37A-37F, U+384-38A, U+38C, U+38E-3A1, U+3A3-3FF",
-    "greek-ext": "U+1F00-1FFF",
-    "cyrillic": "U+301, U+400-45F, U+490-491, U+4B0-4B1, U+2116",
-    "cyrillic-ext": "U+460-52F, U+1C80-1C8A, U+20B4, U+2DE0-2DFF, U+A640-A69F, U+FE2E-FE2F",
-}
-# All presets.
-WEB = "web"
+# All subsets of Google Fonts, and the presets of all scripts that a font has.
+WEB, AUTO = "web", "auto"
 MOST_EQUAL = 9999
-_EQUAL = re.compile(r"equal:([1-9][0-9]*)")
+_EQUAL = re.compile(r"(equal|pages):([1-9][0-9]*)")
 # A name that a file can have in each folder and in a style sheet, as the program has it.
 _NAME = re.compile(r"[A-Za-z0-9][A-Za-z0-9._-]*")
-
-
-class Listed(NamedTuple):
-    """A slice of these ranges, which are in ascending order."""
-
-    name: str
-    ranges: List[fontcut.Range]
-
-
-class Equal(NamedTuple):
-    """As many slices of what is left, which have as many characters each."""
-
-    parts: int
+# The scripts of which a preset has another name, and how many of a language's first characters tell that a font is of it.
+_OF_WEB = {"latin": ("latin", "latin-ext", "vietnamese"), "greek": ("greek", "greek-ext"),
+           "cyrillic": ("cyrillic", "cyrillic-ext")}
+_OF_LANGUAGES = "han", "hangul", "hiragana", "katakana", "bopomofo"
+_TELLING = 2000
+# The last slice of `auto`: what is of no script.
+_OTHERS = "others"
 
 
 class Slice(NamedTuple):
@@ -52,30 +35,157 @@ class Slice(NamedTuple):
     codes: List[int]
 
 
-Asked = Union[Listed, Equal]
+class Listed(NamedTuple):
+    """A slice of these ranges, which are in ascending order."""
+
+    name: str
+    ranges: List[fontcut.Range]
+
+    def names(self) -> List[str]:
+        return [self.name]
+
+    def slices(self, left: Sequence[int]) -> List[Slice]:
+        """The slice of those of the characters that stand in the ranges."""
+        firsts = [one.first for one in self.ranges]
+        places = ((code, bisect_right(firsts, code) - 1) for code in left)
+        return [Slice(self.name, [code for code, place in places if place >= 0 and code <= self.ranges[place].last])]
 
 
-def asked(words: Sequence[str]) -> List[Asked]:
-    """The slices that presets and files name. Raises `UsageError` for a list that names no slices, or two of one
-    name, and `OSError` for a file that cannot be read."""
-    found = [one for word in words for one in _named(word)]
-    name, count = Counter(name for one in found for name in _names(one)).most_common(1)[0] if found else ("", 0)
+class Equal(NamedTuple):
+    """As many slices of what is left, which have as many characters each: in an order, and then by their codes."""
+
+    parts: int
+    order: Sequence[int] = ()
+
+    def names(self) -> List[str]:
+        return _numbered("", self.parts)
+
+    def slices(self, left: Sequence[int]) -> List[Slice]:
+        """The slices of all characters."""
+        return _divided(self.names(), _by_use(left, self.order), [], self.parts)
+
+
+class Ranked(NamedTuple):
+    """A slice of the signs of a language, and slices of its characters by their use, which may be in another order."""
+
+    name: str
+    size: str
+    order: Sequence[int] = ()
+
+    def names(self) -> List[str]:
+        return [self.name, *_numbered(f"{self.name}-", presets.PARTS)]
+
+    def slices(self, left: Sequence[int]) -> List[Slice]:
+        """The slices of those of the characters that are signs, or are in the order of the language."""
+        known = presets.language(self.name)
+        signs = Listed(self.name, known.signs).slices(left)
+        own = set(known.order).intersection(left).difference(signs[0].codes)
+        sizes = known.sizes[self.size]
+        rest = max(0, len(own) - sum(sizes))
+        parts = min(presets.PARTS - len(sizes), -(-rest // presets.LEAST))
+        return signs + _divided(self.names()[1:], _by_use(own, [*self.order, *known.order]), sizes, parts)
+
+
+class Auto(NamedTuple):
+    """The presets of the scripts of the characters, in the order of the presets, but for those of some names."""
+
+    order: Sequence[int]
+    taken: Sequence[str]
+
+    def names(self) -> List[str]:
+        return [_OTHERS]
+
+    def slices(self, left: Sequence[int]) -> List[Slice]:
+        """The slices of all characters."""
+        found = set(scripts_of(left))
+        words = [name for script, names in _OF_WEB.items() if script in found for name in names]
+        words += [_language_of(set(left))] if found & set(_OF_LANGUAGES) else []
+        words += [script for script in presets.scripts() if script in found]
+        wanted = [_preset(word, self.order) for word in words if word not in self.taken]
+        return divided(left, [*wanted, Listed(_OTHERS, fontcut.ranges("all"))])
+
+
+Asked = Union[Listed, Equal, Ranked, Auto]
+
+
+def _numbered(front: str, count: int) -> List[str]:
+    """Names with numbers from 1, which have as many digits each."""
+    width = len(str(count))
+    return [f"{front}{number:0{width}}" for number in range(1, count + 1)]
+
+
+def _by_use(codes: Iterable[int], order: Sequence[int]) -> List[int]:
+    """Codes in an order, and then those that it lacks, by their codes."""
+    ranks: Dict[int, int] = {}
+    for rank, code in enumerate(order):
+        ranks.setdefault(code, rank)
+    return sorted(codes, key=lambda code: (ranks.get(code, len(order)), code))
+
+
+def _divided(names: Sequence[str], codes: Sequence[int], sizes: Sequence[int], parts: int) -> List[Slice]:
+    """The slices of codes that have these sizes, and then as many of the same size."""
+    ends = [sum(sizes[:count]) for count in range(len(sizes) + 1)]
+    rest = max(0, len(codes) - ends[-1])
+    ends += [ends[-1] + rest * part // parts for part in range(1, parts + 1)]
+    return [Slice(name, sorted(codes[first:last])) for name, first, last in zip(names, ends, ends[1:])]
+
+
+def scripts_of(codes: Iterable[int]) -> Dict[str, int]:
+    """How many of the characters are of each script: its name as a preset has it. Others are of none."""
+    # Lists are printed without fontTools too.
+    properties = importlib.import_module("fontTools.unicodedata")
+    counts = Counter(properties.script(chr(code)) for code in codes)
+    return {properties.script_name(script).lower().replace(" ", "-"): count
+            for script, count in sorted(counts.items()) if script not in ("Zyyy", "Zinh", "Zzzz")}
+
+
+def _language_of(codes: Set[int]) -> str:
+    """The language of whose first characters a font has most, the first of those of which it has as many."""
+    counts = {name: len(codes.intersection(presets.language(name).order[:_TELLING])) for name in presets.languages()}
+    return max(counts, key=lambda name: counts[name])
+
+
+def asked(words: Sequence[str], order: Sequence[int] = (), counted: Sequence[int] = ()) -> List[Asked]:
+    """The slices that presets and files name, in an order of the user's, and in one that is counted on pages. Raises
+    `UsageError` for a list that names no slices, or two of one name, and `OSError` for a file that cannot be read."""
+    found = [one for word in words for one in _named(word, order, counted)]
+    names = [name for one in found for name in one.names()]
+    name, count = Counter(names).most_common(1)[0] if found else ("", 0)
     if count > 1:
         raise UsageError(f"two slices have the name {name}")
-    return found
+    return [one._replace(taken=names) if isinstance(one, Auto) else one for one in found]
 
 
-def _named(word: str) -> Iterator[Asked]:
+def _named(word: str, order: Sequence[int], counted: Sequence[int]) -> Iterator[Asked]:
     equal = _EQUAL.fullmatch(word)
-    if equal and int(equal[1]) <= MOST_EQUAL:
-        yield Equal(int(equal[1]))
-    elif word.startswith("equal:"):
-        raise UsageError(f"{word}: write equal:1 to equal:{MOST_EQUAL}")
-    elif word in PRESETS or word == WEB:
-        for name in PRESETS if word == WEB else [word]:
-            yield Listed(name, fontcut.ranges(PRESETS[name]))
+    kind = word.partition(":")[0]
+    if equal and int(equal[2]) <= MOST_EQUAL:
+        yield Equal(int(equal[2]), [*counted, *order] if kind == "pages" else order)
+    elif kind in ("equal", "pages") and kind != word:
+        raise UsageError(f"{word}: write {kind}:1 to {kind}:{MOST_EQUAL}")
+    elif word == AUTO:
+        yield Auto(order, ())
+    elif word == WEB or kind in known():
+        for name in presets.web() if word == WEB else [word]:
+            yield _preset(name, order)
     else:
         yield from _lines(word)
+
+
+def known() -> List[str]:
+    """The names of all presets of scripts and languages."""
+    return [*presets.web(), *presets.languages(), *presets.scripts()]
+
+
+def _preset(word: str, order: Sequence[int]) -> Asked:
+    """The slices of a preset that is known."""
+    name, _, size = word.partition(":")
+    if name in presets.languages() and (size or presets.FEW_BYTES) in presets.SIZES:
+        return Ranked(name, size or presets.FEW_BYTES, order)
+    if size:
+        sizes = " or ".join(f"{language}:{one}" for language in presets.languages()[:1] for one in presets.SIZES)
+        raise UsageError(f"{word}: sizes are for Chinese, Japanese and Korean: write {sizes}")
+    return Listed(name, fontcut.ranges({**presets.web(), **presets.scripts()}[name]))
 
 
 def _lines(path: str) -> Iterator[Listed]:
@@ -85,8 +195,9 @@ def _lines(path: str) -> Iterator[Listed]:
     except UnicodeDecodeError as error:
         raise UsageError(f"{path}: not UTF-8") from error
     except FileNotFoundError as error:
-        known = ", ".join([*PRESETS, WEB, "equal:COUNT"])
-        raise UsageError(f"{path}: there is no such file, and the presets are {known}") from error
+        names = ", ".join([*presets.web(), *presets.languages(), WEB, AUTO, "equal:COUNT", "pages:COUNT"])
+        raise UsageError(f"{path}: there is no such file, and the presets are {names}, and the names of scripts as "
+                         "arabic or devanagari") from error
     for number, line in enumerate(text.split("\n"), 1):
         name, _, words = line.partition("#")[0].replace("\t", " ").strip().partition(" ")
         if name and not _NAME.fullmatch(name):
@@ -98,38 +209,40 @@ def _lines(path: str) -> Iterator[Listed]:
                 raise UsageError(f"{path}: line {number}: {error}") from error
 
 
-def _names(one: Asked) -> List[str]:
-    if isinstance(one, Listed):
-        return [one.name]
-    width = len(str(one.parts))
-    return [f"{number:0{width}}" for number in range(1, one.parts + 1)]
+def codes_of(font: fontcut.Font) -> List[int]:
+    """The characters that a font maps, in ascending order."""
+    return [code for first, last in fontcut.codes(font) for code in range(first, last + 1)]
 
 
-def divided(font: fontcut.Font, wanted: Iterable[Asked]) -> List[Slice]:
-    """The slices of a font that have a character. A character is in the first slice that names it, and in no other,
+def named_codes(wanted: Iterable[Asked]) -> List[int]:
+    """The characters that slices name, in ascending order. Raises `UsageError` for slices that only a font has."""
+    found: Set[int] = set()
+    for one in wanted:
+        if isinstance(one, (Equal, Auto)):
+            raise UsageError("equal, pages and auto are for a font: name it by --font")
+        ranges = one.ranges if isinstance(one, Listed) else presets.language(one.name).signs
+        found.update(code for first, last in ranges for code in range(first, last + 1))
+        found.update(presets.language(one.name).order if isinstance(one, Ranked) else ())
+    return sorted(found)
+
+
+def divided(codes: Sequence[int], wanted: Iterable[Asked]) -> List[Slice]:
+    """The slices that have some of the characters. A character is in the first slice that names it, and in no other,
     so that a browser loads it once."""
-    left = [code for first, last in fontcut.codes(font) for code in range(first, last + 1)]
+    left = list(codes)
     found: List[Slice] = []
     for one in wanted:
-        if isinstance(one, Listed):
-            inside, left = _parted(left, one.ranges)
-            found.append(Slice(one.name, inside))
-        else:
-            ends = [len(left) * part // one.parts for part in range(one.parts + 1)]
-            found += [Slice(name, left[first:last]) for name, first, last in zip(_names(one), ends, ends[1:])]
-            left = []
-    return [one for one in found if one.codes]
+        made = one.slices(left)
+        found += [each for each in made if each.codes]
+        inside = {code for each in made for code in each.codes}
+        left = [code for code in left if code not in inside]
+    return found
 
 
-def _parted(codes: Iterable[int], ranges: Sequence[fontcut.Range]) -> Tuple[List[int], List[int]]:
-    """The codes that stand in ranges, and the others."""
-    firsts = [one.first for one in ranges]
-    inside: List[int] = []
-    others: List[int] = []
-    for code in codes:
-        place = bisect_right(firsts, code) - 1
-        (inside if place >= 0 and code <= ranges[place].last else others).append(code)
-    return inside, others
+def unsliced(codes: Sequence[int], slices: Iterable[Slice]) -> Dict[str, int]:
+    """The scripts of which no character is in a slice, and how many characters of each there are."""
+    inside = scripts_of(code for one in slices for code in one.codes)
+    return {script: count for script, count in scripts_of(codes).items() if script not in inside}
 
 
 def range_words(codes: Iterable[int]) -> str:

@@ -42,13 +42,13 @@ def string(text: str) -> str:
     return '"' + re.sub(r"[\0-\x1f\x7f<]", lambda found: f"\\{ord(found[0]):x} ", escaped) + '"'
 
 
-def _declarations(face: Face) -> List[str]:
+def declarations(face: Face) -> List[str]:
     """What rules and pages say of a font."""
     lines = [f"font-family: {string(face.family)};", f"font-style: {face.style};", f"font-weight: {face.weight};"]
     return lines + ([] if face.stretch == "100%" else [f"font-stretch: {face.stretch};"])
 
 
-def _block(selector: str, declarations: Iterable[str]) -> str:
+def block(selector: str, declarations: Iterable[str]) -> str:
     return "".join([f"{selector} {{\n", *(f"  {line}\n" for line in declarations), "}\n"])
 
 
@@ -57,8 +57,8 @@ def style_sheet(fonts: Sequence[Styled], display: str) -> str:
     rules = ['@charset "utf-8";\n']
     for font in fonts:
         for placed in font.placed:
-            rules.append(_block("@font-face", [
-                *_declarations(font.face), f"font-display: {display};",
+            rules.append(block("@font-face", [
+                *declarations(font.face), f"font-display: {display};",
                 f'src: url("{quote(placed.file)}") format("{_FORMATS[placed.ending]}");',
                 f"unicode-range: {range_words(placed.slice.codes)};"]))
     return "".join(rules)
@@ -89,7 +89,7 @@ def _shown(number: int, font: Styled) -> Iterator[str]:
 
 def page(fonts: Sequence[Styled], sheet: str) -> str:
     """A page that shows letters of the slices of each font."""
-    classes = [_block(f".font-{number}", _declarations(font.shown)) for number, font in enumerate(fonts, 1)]
+    classes = [block(f".font-{number}", declarations(font.shown)) for number, font in enumerate(fonts, 1)]
     return "".join([
         '<!DOCTYPE html>\n<html lang="en">\n<head>\n<meta charset="utf-8">\n<title>Fonts in slices</title>\n',
         *(f"{line}\n" for line in preloads(fonts)),

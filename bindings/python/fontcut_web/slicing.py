@@ -3,16 +3,17 @@ from __future__ import annotations
 
 import os
 from contextlib import contextmanager
-from typing import Dict, Iterator, List, NamedTuple, Optional, Sequence, Set, Tuple
+from typing import Dict, Iterator, List, Mapping, NamedTuple, Optional, Sequence, Set, Tuple
 
 import fontcut
 from fontcut_output import Progress, read, write
 
 from .common import Refused
 from .faces import Face, face_of, varying
-from .sets import Asked, Slice, divided, range_words
+from .notices import dropped
+from .sets import Asked, Slice, codes_of, divided, range_words, unsliced
 from .sheet import Placed, Styled, page, preloads, style_sheet
-from .woff import WOFF, WOFF2, packed
+from .woff import WOFF, WOFF2, compressed_size, packed
 
 SHEET, PAGE = "fonts.css", "index.html"
 # How many slices are cut by one call, which holds all of them in memory.
@@ -21,7 +22,9 @@ _AT_ONCE = 16
 
 class Font(NamedTuple):
     """A font that is accepted, with the slices that are wanted of it. `face` is what the style sheet says of it,
-    `shown` the face of its default instance, and `base` begins the names of the files."""
+    `shown` the face of its default instance, `base` begins the names of the files, and `unsliced` has the scripts of
+    which no character is in a slice, with how many characters the font has of each. `notices` are the lines that are said
+    of all this, and of what the cuts drop."""
 
     path: str
     font: fontcut.Font
@@ -29,6 +32,8 @@ class Font(NamedTuple):
     shown: Face
     slices: List[Slice]
     base: str
+    unsliced: Dict[str, int]
+    notices: List[str]
 
 
 class Written(NamedTuple):
@@ -46,6 +51,7 @@ class How(NamedTuple):
     woff2: bool = False
     css: bool = False
     display: str = "swap"
+    strict: bool = False
 
 
 @contextmanager
@@ -93,14 +99,26 @@ def opened(paths: Sequence[str], asked: Sequence[Asked], how: How) -> List[Font]
         font = accepted(path, how.kind)
         shown = face_of(font.data, os.path.splitext(os.path.basename(path))[0])
         face = varying(font.data, shown) if how.kind == "variable" else shown
-        slices = divided(font, asked)
+        codes = codes_of(font)
+        slices = divided(codes, asked)
         if not slices:
             raise Refused(f"{path}: it maps no character of these slices")
+        lost = unsliced(codes, slices)
+        if lost and how.strict:
+            raise Refused(lost_words(path, lost))
         if how.css and face in seen:
             raise Refused(f"{path}: it has the family, style, weight and width of {seen[face]}: {face}")
         seen[face] = path
-        found.append(Font(path, font, face, shown, slices, _base(path, slices, taken)))
+        notices = [lost_words(path, lost)] if lost else []
+        notices += dropped(path, font.data, (code for one in slices for code in one.codes), how.kind)
+        found.append(Font(path, font, face, shown, slices, _base(path, slices, taken), lost, notices))
     return found
+
+
+def lost_words(path: str, lost: Mapping[str, int]) -> str:
+    """What is said of the scripts of a font of which no character is in a slice."""
+    scripts = ", ".join(f"{script} ({count} characters)" for script, count in lost.items())
+    return f"{path}: no slice has {scripts}: add the slices of these names, or auto"
 
 
 def _put(folder: str, name: str, data: bytes) -> Tuple[str, int]:
@@ -141,9 +159,11 @@ def write_slices(fonts: Sequence[Font], folder: str, how: How, progress: Progres
         styled = [Styled(font.face, font.shown, [Placed(one.slice, (one.woff2 or one.cut)[0]) for one in made])
                   for font, made in zip(fonts, written)]
         # The style sheet names files that are all there, and the page names the style sheet.
-        _put(folder, SHEET, style_sheet(styled, how.display).encode())
+        sheet = style_sheet(styled, how.display).encode()
+        _put(folder, SHEET, sheet)
         _put(folder, PAGE, page(styled, SHEET).encode())
-        told.update(css=SHEET, page=PAGE, preload=preloads(styled))
+        told.update(css=SHEET, css_bytes=len(sheet), css_brotli_bytes=compressed_size(sheet), page=PAGE,
+                    preload=preloads(styled))
     return told
 
 
@@ -153,4 +173,4 @@ def _told(font: Font, made: Sequence[Written]) -> Dict[str, object]:
         row = {"name": one.slice.name, "file": one.cut[0], "bytes": one.cut[1], "characters": len(one.slice.codes),
                "unicode_range": range_words(one.slice.codes)}
         rows.append({**row, **({"woff2": one.woff2[0], "woff2_bytes": one.woff2[1]} if one.woff2 else {})})
-    return {"font": font.path, **font.face._asdict(), "slices": rows}
+    return {"font": font.path, **font.face._asdict(), "slices": rows, "in_no_slice": font.unsliced, "notices": font.notices}

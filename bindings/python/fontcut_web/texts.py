@@ -2,6 +2,7 @@
 from __future__ import annotations
 
 import argparse
+import contextlib
 import json
 import sys
 from typing import Dict, List, NamedTuple, Sequence
@@ -10,7 +11,7 @@ import fontcut
 from fontcut_output import print_line, write
 
 from . import pages
-from .common import SHAPED, Refused, UsageError, need, part
+from .common import SHAPED, Missing, Refused, UsageError, need, part
 from .inputs import accepted, mapped, read_pages
 from .sets import range_words
 
@@ -68,9 +69,17 @@ def _lacking(given: argparse.Namespace, source: str, font: fontcut.Font, read: S
         said = f"{source} lacks {len(lacking)} of {len(codes)} characters: {range_words(lacking)}"
         if given.strict:
             raise Refused(said)
-        if not given.json:
+        if not given.json and not given.quiet:
             print(f"fontcut-web: {said}", file=sys.stderr)
     return lacking
+
+
+def _dropped(given: argparse.Namespace, source: str, font: fontcut.Font, cut: Cut) -> List[str]:
+    """What is said of what the cut drops, where fontTools is there to know it."""
+    with contextlib.suppress(Missing):
+        lines: List[str] = part("notices").dropped(source, font.data, cut.codes, given.kind)
+        return lines
+    return []
 
 
 def run(given: argparse.Namespace) -> None:
@@ -91,9 +100,10 @@ def run(given: argparse.Namespace) -> None:
     if given.check:
         part("drawn").check(paths, font.data, data)
     write(out, data)
+    notices = _dropped(given, source, font, cut)
     if given.json:
         print_line(json.dumps({"file": out, "bytes": len(data), "characters": len(cut.codes),
-                               "unicode_range": range_words(cut.codes), "lacking": range_words(lacking), **cut.told},
-                              indent=2))
-    for line in [] if given.json else cut.said:
+                               "unicode_range": range_words(cut.codes), "lacking": range_words(lacking),
+                               "notices": notices, **cut.told}, indent=2))
+    for line in [] if given.json or given.quiet else [*cut.said, *notices]:
         print(f"fontcut-web: {line}", file=sys.stderr)

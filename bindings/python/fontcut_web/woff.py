@@ -4,6 +4,7 @@ from __future__ import annotations
 import io
 import struct
 import zlib
+from typing import Optional
 
 from fontTools.ttLib import TTFont, TTLibError, woff2
 
@@ -23,6 +24,11 @@ def packed(data: bytes) -> bytes:
     made = io.BytesIO()
     woff2.compress(io.BytesIO(data), made)
     return made.getvalue()
+
+
+def compressed_size(data: bytes) -> Optional[int]:
+    """How many bytes of a text a browser loads that takes Brotli, or None where Brotli is not installed."""
+    return len(woff2.brotli.compress(data)) if woff2.haveBrotli else None
 
 
 def unpacked(data: bytes) -> bytes:

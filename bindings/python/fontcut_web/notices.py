@@ -1,0 +1,42 @@
+"""What a cut of a kind drops though its text needs it: the shaping of scripts, and the axes of a variable font."""
+from __future__ import annotations
+
+import io
+from typing import Iterable, List, Set
+
+from fontcut_needed import using_joiners
+from fontTools import unicodedata as properties
+from fontTools.ttLib import TTFont
+
+from .common import SHAPED
+from .faces import MALFORMED
+
+_DEFAULT = "DFLT"
+
+
+def _listed(opened: TTFont) -> Set[str]:
+    """The tags of the scripts that the layout tables of a font list."""
+    lists = [opened[tag].table.ScriptList for tag in ("GSUB", "GPOS") if tag in opened]
+    return {record.ScriptTag for one in lists if one for record in one.ScriptRecord}
+
+
+def _shaped(opened: TTFont, codes: Iterable[int]) -> List[str]:
+    """The names of the scripts of characters whose letters join or change places, and that a font shapes."""
+    tags, joining = _listed(opened), using_joiners()
+    scripts = {properties.script(chr(code)) for code in codes if chr(code) in joining}
+    found = [script for script in sorted(scripts - {"Zyyy", "Zinh", "Zzzz"})
+             if tags & {_DEFAULT, *properties.ot_tags_from_script(script)}]
+    return list(map(properties.script_name, found))
+
+
+def dropped(name: str, font: bytes, codes: Iterable[int], kind: str) -> List[str]:
+    """The lines that are said of a cut of a font for some characters, of a kind."""
+    try:
+        opened = TTFont(io.BytesIO(font), lazy=True)
+        scripts = [] if kind in SHAPED else _shaped(opened, codes)
+        axes = [axis.axisTag for axis in opened["fvar"].axes] if "fvar" in opened and kind != "variable" else []
+    except MALFORMED:
+        # A table that fontTools does not read shapes nothing and has no axes.
+        return []
+    said = [f"{name} shapes {', '.join(scripts)}, which a {kind} cut drops: add --layout"] if scripts else []
+    return said + ([f"{name} varies {', '.join(axes)}: add --variable, or --quiet"] if axes else [])
