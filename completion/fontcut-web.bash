@@ -9,11 +9,14 @@ _fontcut_web_options() {
         echo '--languages --scripts --unicodes --pages --features --no-hinting --instance --names --kern --json --help'
         ;;
     slice)
-        echo '--out --slices --order --lean --layout --variable --full --woff2 --css --display --strict --quiet --json --help'
+        echo '--out --slices --order --lean --layout --variable --full --drop --woff2 --css --display --strict --quiet --json --help'
         ;;
     slices) echo '--font --order --help' ;;
     icons) echo '--out --codepoints --lean --variable --json --help' ;;
-    text) echo '--lean --layout --variable --full --text --shaped --features --check --strict --quiet --json --help' ;;
+    site) echo '--anew --check --json --help' ;;
+    text)
+        echo '--lean --layout --variable --full --text --shaped --features --check --css --display --strict --quiet --json --help'
+        ;;
     *) echo '--lean --layout --variable --full --help' ;;
     esac
 }
@@ -38,7 +41,7 @@ _fontcut_web_presets() {
 
 # Whether a word is an option that has a value.
 _fontcut_web_has_value() {
-    [[ $1 == --@(out|slices|order|font|codepoints|display|text|languages|scripts|unicodes|pages|features|instance|names|kern) ]]
+    [[ $1 == --@(out|slices|order|font|codepoints|display|drop|text|languages|scripts|unicodes|pages|features|instance|names|kern) ]]
 }
 
 # Proposes what may follow an option.
@@ -48,6 +51,7 @@ _fontcut_web_value() {
     --slices) mapfile -t COMPREPLY < <(_fontcut_web_presets "$2") ;;
     --order | --codepoints) mapfile -t COMPREPLY < <(compgen -f -- "$2") ;;
     --font) mapfile -t COMPREPLY < <(_fontcut_web_files "$2" '[tT][tT][fF]') ;;
+    --drop) mapfile -t COMPREPLY < <(compgen -W 'BASE GDEF GPOS GSUB kern' -- "$2") ;;
     --names) mapfile -t COMPREPLY < <(compgen -W 'keep least' -- "$2") ;;
     --kern) mapfile -t COMPREPLY < <(compgen -W 'auto keep drop' -- "$2") ;;
     --features) mapfile -t COMPREPLY < <(compgen -W 'default all' -- "$2") ;;
@@ -83,13 +87,14 @@ _fontcut_web() {
     elif [[ $word == -* ]]; then
         mapfile -t COMPREPLY < <(compgen -W "$(_fontcut_web_options "$command")" -- "$word")
     elif [ -z "$command" ]; then
-        mapfile -t COMPREPLY < <(compgen -W 'prepare slice slices text icons decode' -- "$word")
+        mapfile -t COMPREPLY < <(compgen -W 'prepare slice slices text icons site decode' -- "$word")
     else
         case $command in
         prepare | text)
             mapfile -t COMPREPLY < <(_fontcut_web_files "$word" '[tT][tT][fF]' '[hH][tT][mM]' '[hH][tT][mM][lL]')
             ;;
         slices) mapfile -t COMPREPLY < <(_fontcut_web_presets "$word") ;;
+        site) mapfile -t COMPREPLY < <(compgen -d -- "$word") ;;
         decode) mapfile -t COMPREPLY < <(_fontcut_web_files "$word" '[tT][tT][fF]' '[wW][oO][fF][fF]*') ;;
         *) mapfile -t COMPREPLY < <(_fontcut_web_files "$word" '[tT][tT][fF]') ;;
         esac

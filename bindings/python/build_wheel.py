@@ -106,13 +106,19 @@ def project() -> Project:
     return said
 
 
+def required(package: str, extra: str) -> str:
+    """The line of a package that an extra brings, which may be for some versions of Python alone (PEP 508)."""
+    name, _, condition = package.partition("; ")
+    return f"Requires-Dist: {name}; {f'{condition} and ' if condition else ''}extra == '{extra}'"
+
+
 def metadata(said: Project) -> str:
     """The file METADATA of the wheel."""
     lines = ["Metadata-Version: 2.1", f"Name: {said['name']}", f"Version: {said['version']}",
              f"Summary: {said['description']}", f"Requires-Python: {said['requires-python']}"]
     lines += [f"Classifier: {name}" for name in said["classifiers"]]
     for extra, packages in said["optional-dependencies"].items():
-        lines += [f"Provides-Extra: {extra}", *(f"Requires-Dist: {package}; extra == '{extra}'" for package in packages)]
+        lines += [f"Provides-Extra: {extra}", *(required(package, extra) for package in packages)]
     return "\n".join([*lines, "Description-Content-Type: text/markdown", "", text_of(said["readme"])])
 
 

@@ -1,8 +1,10 @@
-"""Fonts for the web: prepared fonts, slices with a style sheet, cuts for the text of pages, and unpacked WOFF files.
+"""Fonts for the web: prepared fonts, slices with a style sheet, cuts for the text of pages, the fonts of a site, and
+unpacked WOFF files.
 
     fontcut-web prepare FONT OUT --languages LIST              a font for the languages of a site, which is cut then
     fontcut-web slice FONT.. --out DIR --slices FILE|PRESET    a cut for each slice; --woff2 and --css for a site
     fontcut-web text PAGE.html.. FONT OUT                      a cut for the characters that pages show
+    fontcut-web site DIR                                       the fonts of all pages, made anew where these change
     fontcut-web decode FILE OUT                                the font of a WOFF or WOFF2 file
 
 `python3 -m fontcut_web` runs the same command. `fontcut` makes the cuts; fontTools prepares fonts, reads their

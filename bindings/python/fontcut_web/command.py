@@ -6,33 +6,33 @@ import contextlib
 import json
 import os
 import sys
-from typing import Optional, Sequence
+from typing import List, Optional, Sequence
 
 import fontcut
 from fontcut_output import CommandParser, Progress, print_line, read, reason, write
 
 from . import texts, use
-from .common import SHAPED, Missing, MissingProgram, Refused, UsageError, need, part
+from .common import DISPLAYS, LAYOUT_TABLES, SHAPED, Missing, MissingProgram, Refused, UsageError, need, part
 from .presets import PARTS, SIZES, languages, web
 from .sets import AUTO, MOST_EQUAL, WEB
 
 INSTALL = "pip install 'fontcut[web]'"
 _RAW = argparse.RawDescriptionHelpFormatter
-_DISPLAYS = "auto", "block", "swap", "fallback", "optional"
 _CUT_KINDS = """\
 Cuts are lean, for text that is drawn glyph by glyph. With --layout they also have the layout tables, for kerning,
 ligatures and scripts that are shaped. With --variable they are layout cuts that keep the variations of a font; other
 cuts have its default instance. With --full they have the metrics and names of all glyphs."""
 
 _WHAT = """\
-Fonts for the web, cut by fontcut: prepared fonts, slices with a style sheet, cuts for the text of pages, and unpacked
-WOFF files.
+Fonts for the web, cut by fontcut: prepared fonts, slices with a style sheet, cuts for the text of pages, the fonts of a
+site, and unpacked WOFF files.
 
   fontcut-web prepare Sans.ttf small.ttf --languages de,fr
   fontcut-web slice Sans.ttf Sans-Bold.ttf --out site --slices web --woff2 --css
   fontcut-web slices japanese >japanese.txt
   fontcut-web text index.html about.html Sans.ttf sans.woff2
   fontcut-web icons Icons.ttf home settings search --out site
+  fontcut-web site .
   fontcut-web decode sans.woff2 sans.ttf --lean
 """
 
@@ -122,6 +122,31 @@ If hb-shape is installed, texts of these characters, and the lines of the pages,
 otherwise nothing is written.
 """
 
+_SITE = """\
+Makes the fonts of the pages in DIR as DIR/fontcut.toml says, and writes them to DIR/fonts: each font is prepared once,
+cut for each page, joined for the pages of a section, and written as WOFF2, with a style sheet for each section, and
+site.json, which has the lines for the head of each page. It prints the bytes that each page loads, beside those of the
+whole fonts as WOFF2.
+
+Run again, it makes anew only what has changed. A page that brings new characters has them joined into the font of its
+section. If the prepared font lacks them, it is prepared anew, and all its files get new names. What was made is kept in
+DIR/.fontcut. A run that is killed leaves the old files as they are, and the next one goes on.
+
+  pages = ["**/*.html"]            # the pages, which is the default
+  closed = ["guestbook.html"]      # pages whose text is not known when they are published
+  exact = ["index.html"]           # pages whose text is, although they run scripts
+
+  [sections]
+  blog = ["blog/*.html"]           # pages that share a font; each other page has its own
+
+  [[font]]
+  file = "NotoSans-Regular.ttf"
+  pages = ["*.html", "blog/*"]     # the pages that show it; all, if none are named
+  languages = ["de", "fr"]         # prepare it for languages too, in which readers write
+
+The manual page has all settings.
+"""
+
 _DECODE = """\
 Writes the font in a WOFF or WOFF2 file to OUT. fontcut itself does not read such files.
 
@@ -131,10 +156,21 @@ kind join with each other, and not with cuts that were never packed.
 """
 
 
+def _dropped(given: argparse.Namespace) -> List[str]:
+    """The layout tables that fonts are cut without."""
+    tables = [tag.strip() for listed in given.drop or [] for tag in listed.split(",")]
+    if tables and given.kind not in SHAPED:
+        raise UsageError("--drop is for layout and variable cuts: others have no layout tables")
+    for tag in tables:
+        if tag not in LAYOUT_TABLES:
+            raise UsageError(f"--drop {tag}: the tables are {', '.join(LAYOUT_TABLES)}")
+    return tables
+
+
 def _run_slice(given: argparse.Namespace) -> None:
     need("fontTools", *["brotli"] if given.woff2 else [])
     slicing = part("slicing")
-    how = slicing.How(given.kind, given.woff2, given.css, given.display, given.strict)
+    how = slicing.How(given.kind, given.woff2, given.css, given.display, given.strict, _dropped(given))
     paths, wanted = use.fonts_and_slices(given)
     with Progress("fontcut-web") as progress:
         progress.say(f"reading {len(paths)} fonts")
@@ -191,23 +227,30 @@ def _kinds(command: argparse.ArgumentParser, default: Optional[str], **helps: st
     command.set_defaults(kind=default)
 
 
+def _display(command: argparse.ArgumentParser) -> None:
+    command.add_argument("--display", metavar="VALUE", choices=DISPLAYS, default="swap",
+                         help=f"font-display in the style sheet: {', '.join(DISPLAYS)} (swap)")
+
+
 def _add_slice(commands: argparse._SubParsersAction[CommandParser]) -> None:
     command = commands.add_parser(
         "slice", help="cut fonts in slices, with a style sheet", description=f"{_SLICE}\n{_CUT_KINDS}\n",
         formatter_class=_RAW, epilog=_STATUS,
         usage="fontcut-web slice FONT.. --out DIR --slices SLICES [--lean | --layout | --variable | --full]\n"
-              "                         [--order FILE] [--woff2] [--css] [--display VALUE] [--strict] [--quiet] [--json]")
+              "                         [--drop TABLES] [--order FILE] [--woff2] [--css] [--display VALUE] [--strict]\n"
+              "                         [--quiet] [--json]")
     command.add_argument("fonts", metavar="FONT", nargs="+")
     command.add_argument("--out", metavar="DIR", required=True, help="the folder that the files go to")
     command.add_argument("--slices", metavar="SLICES", action="append", required=True, help="a preset or a file")
     _add_order(command)
     _kinds(command, "lean", lean="write lean cuts (the default)", layout="write layout cuts",
            variable="write variable cuts, whose rules have ranges", full="write full cuts")
+    command.add_argument("--drop", metavar="TABLES", action="append",
+                         help="with --layout or --variable, cut fonts as if they lacked these layout tables, as GSUB,kern")
     command.add_argument("--woff2", action="store_true", help="write FONT-SLICE.woff2 too, which browsers load")
     command.add_argument("--css", action="store_true", help="write fonts.css, and index.html, a page that shows the "
                                                             "fonts and preloads the first slice")
-    command.add_argument("--display", metavar="VALUE", choices=_DISPLAYS, default="swap",
-                         help=f"font-display in the style sheet: {', '.join(_DISPLAYS)} (swap)")
+    _display(command)
     command.add_argument("--strict", action="store_true", help="write nothing if a script of a FONT is in no slice")
     command.add_argument("--quiet", action="store_true", help="do not say what the files lack of a FONT")
     command.add_argument("--json", action="store_true", help="print what was written")
@@ -233,7 +276,8 @@ def _add_text(commands: argparse._SubParsersAction[CommandParser]) -> None:
         "text", help="cut a font for the characters that pages show", description=f"{_TEXT}\n{_CUT_KINDS}\n",
         formatter_class=_RAW, epilog=_STATUS,
         usage="fontcut-web text PAGE.. FONT OUT [--lean | --layout | --variable | --full] [--text TEXT]\n"
-              "                        [--shaped] [--features LIST] [--check] [--strict] [--quiet] [--json]")
+              "                        [--shaped] [--features LIST] [--check] [--css] [--display VALUE] [--strict]\n"
+              "                        [--quiet] [--json]")
     command.add_argument("files", metavar="PAGE.. FONT OUT", nargs="+", help=argparse.SUPPRESS)
     _kinds(command, None, lean="write a lean cut (the default)", layout="write a layout cut (the default of --shaped)",
            variable="write a variable cut", full="write a full cut")
@@ -242,6 +286,8 @@ def _add_text(commands: argparse._SubParsersAction[CommandParser]) -> None:
     command.add_argument("--features", metavar="LIST", action="append",
                          help="with --shaped, shape with these features too, as smcp,onum or salt=2; may be repeated")
     command.add_argument("--check", action="store_true", help="write nothing if Chromium draws a page otherwise")
+    command.add_argument("--css", action="store_true", help="write OUT's style sheet, whose name ends in .css")
+    _display(command)
     command.add_argument("--strict", action="store_true", help="write nothing if the font lacks a character")
     command.add_argument("--quiet", action="store_true", help="do not say what the font or its cut lacks")
     command.add_argument("--json", action="store_true", help="print what was written")
@@ -296,6 +342,23 @@ def _add_prepare(commands: argparse._SubParsersAction[CommandParser]) -> None:
     command.set_defaults(run=_run_prepare)
 
 
+def _run_site(given: argparse.Namespace) -> None:
+    part("site").run(given)
+
+
+def _add_site(commands: argparse._SubParsersAction[CommandParser]) -> None:
+    command = commands.add_parser("site", help="make the fonts of all pages of a site", description=_SITE,
+                                  formatter_class=_RAW, epilog=_STATUS,
+                                  usage="fontcut-web site DIR [--anew] [--check] [--json]")
+    command.add_argument("folder", metavar="DIR", help="the folder of the site, with its settings and its pages")
+    command.add_argument("--anew", action="store_true", help="make all fonts anew, without characters that no page has "
+                                                             "any more")
+    command.add_argument("--check", action="store_true", help="replace nothing if Chromium draws a page otherwise with "
+                                                              "a font that is made anew")
+    command.add_argument("--json", action="store_true", help="print site.json, and no table")
+    command.set_defaults(run=_run_site)
+
+
 def _add_decode(commands: argparse._SubParsersAction[CommandParser]) -> None:
     command = commands.add_parser("decode", help="unpack a WOFF or WOFF2 file", description=_DECODE,
                                   formatter_class=_RAW, epilog=_STATUS,
@@ -312,7 +375,7 @@ def _parser() -> argparse.ArgumentParser:
     parser = argparse.ArgumentParser(prog="fontcut-web", description=_WHAT, formatter_class=_RAW, epilog=_STATUS)
     parser.add_argument("--version", action="version", version=f"fontcut-web {fontcut.__version__}")
     commands = parser.add_subparsers(dest="command", required=True, metavar="COMMAND", parser_class=CommandParser)
-    for add in _add_prepare, _add_slice, _add_slices, _add_text, _add_icons, _add_decode:
+    for add in _add_prepare, _add_slice, _add_slices, _add_text, _add_icons, _add_site, _add_decode:
         add(commands)
     return parser
 

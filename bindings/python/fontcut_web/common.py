@@ -6,12 +6,18 @@ from importlib.util import find_spec
 from types import ModuleType
 from typing import Dict, List, Sequence, Tuple
 
-# The modules that a package may be imported as. fontTools takes either of those for Brotli.
-_MODULES: Dict[str, Tuple[str, ...]] = {"fontTools": ("fontTools",), "brotli": ("brotli", "brotlicffi")}
+# The modules that a package may be imported as. fontTools takes either of those for Brotli; newer Pythons bring tomli
+# by another name.
+_MODULES: Dict[str, Tuple[str, ...]] = {"fontTools": ("fontTools",), "brotli": ("brotli", "brotlicffi"),
+                                       "tomli": ("tomllib", "tomli")}
 
-
-# Kinds of cuts that have the layout tables.
+# Kinds of cuts that have the layout tables, and these tables.
 SHAPED = "layout", "variable"
+LAYOUT_TABLES = "BASE", "GDEF", "GPOS", "GSUB", "kern"
+# The values of font-display (CSS Fonts 4).
+DISPLAYS = "auto", "block", "swap", "fallback", "optional"
+# What files of WOFF begin with.
+WOFF, WOFF2 = b"wOFF", b"wOF2"
 
 
 class Refused(Exception):

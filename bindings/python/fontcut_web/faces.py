@@ -52,6 +52,11 @@ def varying(data: bytes, face: Face) -> Face:
     return face
 
 
+def is_variable(data: bytes) -> bool:
+    """Whether a font has axes."""
+    return bool(_axes(TTFont(io.BytesIO(data), lazy=True)))
+
+
 def _axes(font: TTFont) -> Dict[str, Tuple[float, float]]:
     """The least and the greatest value of each axis."""
     try:

@@ -1,13 +1,16 @@
 """What commands read: pages and fonts."""
 from __future__ import annotations
 
-from typing import Iterable, List, Sequence
+import contextlib
+import os
+import tempfile
+from typing import Iterable, Iterator, List, Sequence
 
 import fontcut
-from fontcut_output import read
+from fontcut_output import read, write
 
 from . import pages
-from .common import Refused
+from .common import WOFF, WOFF2, Refused, part
 
 
 def read_pages(paths: Sequence[str]) -> List[pages.Page]:
@@ -22,13 +25,40 @@ def read_pages(paths: Sequence[str]) -> List[pages.Page]:
     return found
 
 
-def accepted(path: str) -> fontcut.Font:
-    """The font in a file."""
+@contextlib.contextmanager
+def refusing(path: str) -> Iterator[None]:
+    """Within it, a refusal names its file."""
     try:
-        return fontcut.Font(read(path))
-    except fontcut.Refused as refusal:
-        hint = ": fontcut-web decode unpacks WOFF files" if refusal.number == 2 else ""
-        raise Refused(f"{path}: {refusal}{hint}") from refusal
+        yield
+    except (fontcut.Refused, Refused) as refusal:
+        raise Refused(f"{path}: {refusal}") from refusal
+
+
+def font_of(path: str) -> bytes:
+    """The bytes of the font in a file, which may be a WOFF or WOFF2 file."""
+    data = read(path)
+    with refusing(path):
+        unpacked: bytes = part("woff").unpacked(data) if data[:4] in (WOFF, WOFF2) else data
+    return unpacked
+
+
+def accepted(path: str) -> fontcut.Font:
+    """The font in a file, which may be a WOFF or WOFF2 file."""
+    data = font_of(path)
+    with refusing(path):
+        return fontcut.Font(data)
+
+
+@contextlib.contextmanager
+def as_file(path: str, font: fontcut.Font) -> Iterator[str]:
+    """The path of a file of the font in a file: that file, or another one where it is packed."""
+    if read(path) == font.data:
+        yield path
+        return
+    with tempfile.TemporaryDirectory() as folder:
+        unpacked = os.path.join(folder, f"{os.path.basename(path)}.ttf")
+        write(unpacked, font.data)
+        yield unpacked
 
 
 def mapped(font: fontcut.Font, letters: Iterable[str]) -> List[int]:

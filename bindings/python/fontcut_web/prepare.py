@@ -11,11 +11,11 @@ import tempfile
 from typing import Dict, Iterator, List, Mapping, NamedTuple, Optional, Sequence, Set, Tuple
 
 import fontcut
-from fontcut_output import print_line, write
+from fontcut_output import print_line, read, write
 
 from . import characters, preparing, shaping
 from .common import Refused, UsageError
-from .inputs import accepted, mapped, read_pages
+from .inputs import accepted, as_file, mapped, read_pages
 from .preparing import How, Limit, Prepared
 from .sets import range_words
 from .shaping import Setting, place_of
@@ -64,9 +64,14 @@ def _wanted(given: argparse.Namespace, font: fontcut.Font) -> Wanted:
     codes = mapped(font, letters)
     if not codes:
         raise Refused(f"{given.font}: it maps no character that is wanted")
-    kept = set(map(chr, codes))
-    lines = list(dict.fromkeys(block for page in pages for block in page.blocks))[:_MOST_LINES]
-    return Wanted(codes, sorted(set(map(ord, letters)) - set(codes)), [*lines, *_samples(font, kept)])
+    return wanted_of(font, codes, letters, [page.blocks for page in pages])
+
+
+def wanted_of(font: fontcut.Font, codes: List[int], letters: Set[str], blocks: Sequence[Sequence[str]]) -> Wanted:
+    """What a font is prepared for, whose code points among these letters are those, with blocks of pages to try it
+    with."""
+    lines = list(dict.fromkeys(block for some in blocks for block in some))[:_MOST_LINES]
+    return Wanted(codes, sorted(set(map(ord, letters)) - set(codes)), [*lines, *_samples(font, set(map(chr, codes)))])
 
 
 def _samples(font: fontcut.Font, kept: Set[str]) -> List[str]:
@@ -115,14 +120,14 @@ def _off(one: Prepared, how: How) -> Tuple[str, ...]:
     return tuple(f"-{tag}" for tag in sorted(gone & had))
 
 
-def _check_shapes(path: str, one: Prepared, how: How, texts: Sequence[str]) -> None:
+def _check_shapes(path: str, font: fontcut.Font, one: Prepared, how: How, texts: Sequence[str]) -> None:
     """Raises `Refused` where texts are shaped otherwise by the prepared font, but for features that were dropped."""
     off, most = _off(one, how), _ROUNDED if how.limits else 0
-    with tempfile.TemporaryDirectory() as folder:
+    with tempfile.TemporaryDirectory() as folder, as_file(path, font) as whole:
         made = shaping.held_as_file(folder, "prepared.ttf", one.data)
         for before, now in _places(one, how.limits):
             settings = Setting(features=off, place=place_of(before)), Setting(features=off, place=place_of(now))
-            text = shaping.difference((path, made), texts, settings, most)
+            text = shaping.difference((whole, made), texts, settings, most)
             if text is not None:
                 raise Refused(f"{path}: prepared, it would shape {text!r} otherwise")
 
@@ -149,12 +154,12 @@ def _again(given: argparse.Namespace, codes: Sequence[int]) -> List[str]:
             *([f"--instance={given.instance}"] if given.instance else [])]
 
 
-def _record(given: argparse.Namespace, font: fontcut.Font, wanted: Wanted, one: Prepared) -> Dict[str, object]:
-    """What is kept beside OUT."""
+def _record(given: argparse.Namespace, whole: bytes, wanted: Wanted, one: Prepared) -> Dict[str, object]:
+    """What is kept beside OUT, of a file with these bytes."""
     names = "languages", "scripts", "unicodes", "pages"
     asked = {name: getattr(given, name) for name in names if getattr(given, name)}
     return {
-        "font": {"file": os.path.basename(given.font), "bytes": len(font.data), "sha256": _digest(font.data)},
+        "font": {"file": os.path.basename(given.font), "bytes": len(whole), "sha256": _digest(whole)},
         "out": {"file": os.path.basename(given.out), "bytes": len(one.data), "sha256": _digest(one.data)},
         "prepared_for": asked, "lacking": range_words(wanted.lacking), "options": _again(given, wanted.codes),
         "said": list(preparing.dropped(one)),
@@ -163,6 +168,19 @@ def _record(given: argparse.Namespace, font: fontcut.Font, wanted: Wanted, one: 
 
 def _digest(data: bytes) -> str:
     return hashlib.sha256(data).hexdigest()
+
+
+def made_of(path: str, font: fontcut.Font, wanted: Wanted, how: How) -> Prepared:
+    """A font that is prepared, and accepted for each kind of cuts for which the font in a file is; where texts can be
+    shaped, it shapes them as that font. Raises `Refused` otherwise."""
+    try:
+        one = preparing.prepared(font.data, how, sorted(characters.scripts_of(map(chr, wanted.codes))))
+    except Refused as refusal:
+        raise Refused(f"{path}: {refusal}") from refusal
+    _check_kinds(path, font, one.data)
+    if shaping.is_there():
+        _check_shapes(path, font, one, how, wanted.texts)
+    return one
 
 
 def _say(given: argparse.Namespace, wanted: Wanted, how: How, one: Prepared) -> None:
@@ -188,14 +206,8 @@ def run(given: argparse.Namespace) -> None:
     font = accepted(given.font)
     wanted = _wanted(given, font)
     how = How(wanted.codes, features, not given.no_hinting, limits, given.names, given.kern)
-    try:
-        one = preparing.prepared(font.data, how, sorted(characters.scripts_of(map(chr, wanted.codes))))
-    except Refused as refusal:
-        raise Refused(f"{given.font}: {refusal}") from refusal
-    _check_kinds(given.font, font, one.data)
-    if shaping.is_there():
-        _check_shapes(given.font, one, how, wanted.texts)
-    record = json.dumps(_record(given, font, wanted, one), indent=2, ensure_ascii=True) + "\n"
+    one = made_of(given.font, font, wanted, how)
+    record = json.dumps(_record(given, read(given.font), wanted, one), indent=2, ensure_ascii=True) + "\n"
     write(given.out, one.data)
     write(f"{given.out}.json", record.encode())
     if given.json:

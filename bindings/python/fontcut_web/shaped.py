@@ -11,6 +11,7 @@ from fontTools.ttLib import TTFont
 
 from . import shaping
 from .common import MissingProgram, Refused
+from .inputs import mapped
 from .pages import Page, lines_of, shown
 from .preparing import MALFORMED
 from .shaping import Setting, place_of
@@ -201,3 +202,19 @@ def taken(path: str, listed: Sequence[Shown], kind: str) -> Set[int]:
     except MALFORMED as error:
         raise Refused(f"{path}: fontTools cannot read it: {error or type(error).__name__}") from error
     return set().union(*(_taken_of(path, page, known, places) for page in listed))
+
+
+class Exact(NamedTuple):
+    """An exact cut, its characters, and how many glyphs its pages take."""
+
+    data: bytes
+    codes: List[int]
+    glyphs: int
+
+
+def exact_cut(path: str, font: fontcut.Font, listed: Sequence[Shown], kind: str) -> Exact:
+    """The cut of the font in a file, which is opened, for the glyphs that pages take, and for the characters that a
+    shaper takes for their text."""
+    glyphs = taken(path, listed, kind)
+    kept = mapped(font, set().union(*map(letters_of, listed)))
+    return Exact(fontcut.cut(font, kept, kind=kind, gids=sorted(glyphs), layout_closure=False), kept, len(glyphs))

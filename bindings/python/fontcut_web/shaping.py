@@ -41,6 +41,14 @@ def is_there() -> bool:
     return shutil.which(PROGRAM) is not None
 
 
+def version() -> str:
+    """What HarfBuzz says of its version, or an empty text where it is not there."""
+    if not is_there():
+        return ""
+    ran = subprocess.run([PROGRAM, "--version"], stdin=subprocess.DEVNULL, capture_output=True, check=False)
+    return " ".join(ran.stdout.decode("ascii", "replace").split())
+
+
 def _run(path: str, texts: Sequence[str], words: Sequence[str]) -> List[str]:
     """What hb-shape prints of each text. No text is empty, or has an end of a line."""
     with tempfile.NamedTemporaryFile(suffix=".txt") as lines:

@@ -64,10 +64,14 @@ def style_sheet(fonts: Sequence[Styled], display: str) -> str:
     return "".join(rules)
 
 
+def preload(placed: Placed, address: str) -> str:
+    """A line for the head of a page, by which a browser asks for a file at once that has this address."""
+    return f'<link rel="preload" as="font" type="{_TYPES[placed.ending]}" href="{address}" crossorigin>'
+
+
 def preloads(fonts: Sequence[Styled]) -> List[str]:
-    """A line for the head of a page for each font, by which a browser asks for the first slice at once."""
-    return [f'<link rel="preload" as="font" type="{_TYPES[first.ending]}" href="{quote(first.file)}" crossorigin>'
-            for first in (font.placed[0] for font in fonts)]
+    """Such a line for the first slice of each font, for a page beside it."""
+    return [preload(first, quote(first.file)) for first in (font.placed[0] for font in fonts)]
 
 
 def _letters(codes: Iterable[int]) -> str:

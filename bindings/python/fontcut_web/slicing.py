@@ -2,18 +2,18 @@
 from __future__ import annotations
 
 import os
-from contextlib import contextmanager
 from typing import Dict, Iterator, List, Mapping, NamedTuple, Optional, Sequence, Set, Tuple
 
 import fontcut
-from fontcut_output import Progress, read, write
+from fontcut_output import Progress, write
 
 from .common import Refused
 from .faces import Face, face_of, varying
+from .inputs import font_of, refusing
 from .notices import dropped
 from .sets import Asked, Slice, codes_of, divided, range_words, unsliced
 from .sheet import Placed, Styled, page, preloads, style_sheet
-from .woff import WOFF, WOFF2, compressed_size, packed
+from .woff import compressed_size, packed, without
 
 SHEET, PAGE = "fonts.css", "index.html"
 # How many slices are cut by one call, which holds all of them in memory.
@@ -45,35 +45,24 @@ class Written(NamedTuple):
 
 
 class How(NamedTuple):
-    """How slices are written: of which kind of cut, and what besides."""
+    """How slices are written: of which kind of cut, and what besides; and the tables that fonts are taken to lack."""
 
     kind: str = "lean"
     woff2: bool = False
     css: bool = False
     display: str = "swap"
     strict: bool = False
+    drop: Sequence[str] = ()
 
 
-@contextmanager
-def refusing(path: str) -> Iterator[None]:
-    """Within it, a refusal names its file."""
-    try:
-        yield
-    except (fontcut.Refused, Refused) as refusal:
-        raise Refused(f"{path}: {refusal}") from refusal
-
-
-def accepted(path: str, kind: str) -> fontcut.Font:
-    """The font in a file, of which cuts of a kind can be made. Raises `Refused`, with what to do about a file that is
-    packed."""
-    data = read(path)
+def accepted(path: str, how: How) -> fontcut.Font:
+    """The font in a file without the tables that are dropped, of which cuts can be made."""
+    data = font_of(path)
     with refusing(path):
-        if data[:4] in (WOFF, WOFF2):
-            raise Refused("it is a WOFF file: fontcut-web decode unpacks it")
-        font = fontcut.Font(data)
+        font = fontcut.Font(without(data, how.drop) if how.drop else data)
         # Tables of layout and of variations are refused for some kinds alone: here, and not when other fonts are
         # written already.
-        fontcut.cut_size(font, [], kind=kind)
+        fontcut.cut_size(font, [], kind=how.kind)
     return font
 
 
@@ -96,7 +85,7 @@ def opened(paths: Sequence[str], asked: Sequence[Asked], how: How) -> List[Font]
     taken: Set[str] = set()
     seen: Dict[Face, str] = {}
     for path in paths:
-        font = accepted(path, how.kind)
+        font = accepted(path, how)
         shown = face_of(font.data, os.path.splitext(os.path.basename(path))[0])
         face = varying(font.data, shown) if how.kind == "variable" else shown
         codes = codes_of(font)

@@ -4,6 +4,7 @@ from __future__ import annotations
 import argparse
 import contextlib
 import json
+import os
 import sys
 from typing import Dict, List, NamedTuple, Sequence
 
@@ -12,8 +13,8 @@ from fontcut_output import print_line, write
 
 from . import pages
 from .common import SHAPED, Missing, Refused, UsageError, need, part
-from .inputs import accepted, mapped, read_pages
-from .sets import range_words
+from .inputs import accepted, as_file, mapped, read_pages
+from .sets import Slice, range_words
 
 
 class Cut(NamedTuple):
@@ -41,11 +42,10 @@ def _exact(given: argparse.Namespace, font: fontcut.Font, paths: Sequence[str], 
     shaped, styles = part("shaped"), part("styles")
     more = styles.features_of(given.features or [])
     shown = [shaped.shown_by(page, path, more, given.text) for page, path in zip(read, paths)]
-    glyphs = shaped.taken(source, shown, given.kind)
-    kept = mapped(font, set().union(*map(shaped.letters_of, shown)))
-    data = fontcut.cut(font, kept, kind=given.kind, gids=sorted(glyphs), layout_closure=False)
+    with as_file(source, font) as path:
+        exact = shaped.exact_cut(path, font, shown, given.kind)
     unknown = [line for page in shown for line in page.unknown]
-    return Cut(data, kept, {"glyphs": len(glyphs), "unknown": unknown}, unknown)
+    return Cut(exact.data, exact.codes, {"glyphs": exact.glyphs, "unknown": unknown}, unknown)
 
 
 def _check_words(given: argparse.Namespace) -> None:
@@ -57,6 +57,8 @@ def _check_words(given: argparse.Namespace) -> None:
         raise UsageError(f"{out} would be replaced by a font: FONT and OUT come last")
     if given.shaped and given.kind not in (None, *SHAPED):
         raise UsageError(f"--shaped is for layout and variable cuts, and --{given.kind} asks for another kind")
+    if given.css and not out.endswith((".ttf", ".woff2")):
+        raise UsageError(f"{out}: a style sheet is for a file whose name ends in .ttf or .woff2")
     if given.features and not given.shaped:
         raise UsageError("--features is for --shaped: other cuts have the glyphs of all features of their characters")
 
@@ -82,13 +84,32 @@ def _dropped(given: argparse.Namespace, source: str, font: fontcut.Font, cut: Cu
     return []
 
 
+def _write_sheet(given: argparse.Namespace, font: fontcut.Font, source: str, codes: List[int]) -> Dict[str, object]:
+    """Writes a style sheet beside OUT, in which the cut is called what the font is; what is told of it."""
+    out: str = given.files[-1]
+    faces, sheet = part("faces"), part("sheet")
+    face = faces.face_of(font.data, os.path.splitext(os.path.basename(source))[0])
+    face = faces.varying(font.data, face) if given.kind == "variable" else face
+    placed = sheet.Placed(Slice(os.path.basename(out), codes), os.path.basename(out))
+    styled = [sheet.Styled(face, face, [placed])]
+    path = f"{os.path.splitext(out)[0]}.css"
+    write(path, sheet.style_sheet(styled, given.display).encode())
+    return {"css": path, "preload": sheet.preloads(styled)[0]}
+
+
+def _needed(given: argparse.Namespace) -> None:
+    """Raises `Missing` where a package is not there that the words take."""
+    is_packed = given.files[-1].lower().endswith(".woff2")
+    is_read = given.shaped or given.check or given.css
+    need(*["fontTools"] if is_packed or is_read else [], *["brotli"] if is_packed else [])
+
+
 def run(given: argparse.Namespace) -> None:
     """Writes a cut for the text of pages."""
     _check_words(given)
     given.kind = given.kind or ("layout" if given.shaped else "lean")
     *paths, source, out = given.files
-    is_packed = out.lower().endswith(".woff2")
-    need(*["fontTools"] if is_packed or given.shaped or given.check else [], *["brotli"] if is_packed else [])
+    _needed(given)
     read = read_pages(paths)
     font = accepted(source)
     lacking = _lacking(given, source, font, read)
@@ -96,14 +117,15 @@ def run(given: argparse.Namespace) -> None:
         cut = _exact(given, font, paths, source, read) if given.shaped else _closed(given, font, read)
     except fontcut.Refused as refusal:
         raise Refused(f"{source}: {refusal}") from refusal
-    data = part("woff").packed(cut.data) if is_packed else cut.data
+    data = part("woff").packed(cut.data) if out.lower().endswith(".woff2") else cut.data
     if given.check:
         part("drawn").check(paths, font.data, data)
     write(out, data)
     notices = _dropped(given, source, font, cut)
+    told = {**cut.told, **(_write_sheet(given, font, source, cut.codes) if given.css else {})}
     if given.json:
         print_line(json.dumps({"file": out, "bytes": len(data), "characters": len(cut.codes),
                                "unicode_range": range_words(cut.codes), "lacking": range_words(lacking),
-                               "notices": notices, **cut.told}, indent=2))
+                               "notices": notices, **told}, indent=2))
     for line in [] if given.json or given.quiet else [*cut.said, *notices]:
         print(f"fontcut-web: {line}", file=sys.stderr)

@@ -1,16 +1,15 @@
-"""WOFF2 is written, and WOFF and WOFF2 are read, by fontTools."""
+"""WOFF2 is written, WOFF and WOFF2 are read, and tables are dropped, by fontTools."""
 from __future__ import annotations
 
 import io
 import struct
 import zlib
-from typing import Optional
+from typing import Iterable, Optional
 
 from fontTools.ttLib import TTFont, TTLibError, woff2
 
-from .common import Refused, need
+from .common import WOFF, WOFF2, Refused, need
 
-WOFF, WOFF2 = b"wOFF", b"wOF2"
 # What fontcut takes at most, unpacked.
 MOST_UNPACKED = 128 << 20
 # What fontTools and what it calls raise where a file is malformed.
@@ -44,6 +43,16 @@ def unpacked(data: bytes) -> bytes:
         return _unpacked(data)
     except _MALFORMED as error:
         raise Refused(f"it is damaged: {' '.join(str(error).split()) or type(error).__name__}") from error
+
+
+def without(data: bytes, tags: Iterable[str]) -> bytes:
+    """A font as if it lacked some tables."""
+    font = TTFont(io.BytesIO(data), recalcBBoxes=False, recalcTimestamp=False, lazy=True)
+    for tag in set(tags).intersection(font.keys()):
+        del font[tag]
+    made = io.BytesIO()
+    font.save(made, reorderTables=None)
+    return made.getvalue()
 
 
 def _unpacked(data: bytes) -> bytes:

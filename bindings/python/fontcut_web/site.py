@@ -1,0 +1,124 @@
+"""The command `fontcut-web site`: the fonts of a site, which are made anew where something has changed."""
+from __future__ import annotations
+
+import argparse
+import os
+import sys
+from typing import Dict, Iterator, List, Mapping, Sequence, Set, Tuple
+
+import fontcut
+from fontcut_output import Progress, print_line
+
+from .common import Refused, need
+from .inputs import mapped
+from .sets import range_words
+from .site_fonts import Base, Run, based, programs, section_of
+from .site_pages import Modes, SitePage, modes_of, pages_of
+from .site_report import REPORT, Made, is_ours, lacking, lines, report, sheets
+from .site_settings import Settings, named, settings_of
+from .site_state import NOTHING, FontState, Place, State, held, put_text
+
+
+def _names(settings: Settings) -> List[str]:
+    """What the files of each font are called: as its own file, with a number where another has that name."""
+    found: List[str] = []
+    taken: Set[str] = set()
+    for font in settings.fonts:
+        stem = os.path.splitext(os.path.basename(font.file))[0]
+        name, number = stem, 1
+        while name.casefold() in taken:
+            number += 1
+            name = f"{stem}-{number}"
+        taken.add(name.casefold())
+        found.append(name)
+    return found
+
+
+def _bases(run: Run, settings: Settings, pages: Sequence[SitePage], before: State) -> List[Tuple[Base, List[SitePage]]]:
+    """The fonts that are prepared, each with its pages, which have characters of it."""
+    names = [page.name for page in pages]
+    found: List[Tuple[Base, List[SitePage]]] = []
+    for font, name in zip(settings.fonts, _names(settings)):
+        its = named(settings, os.path.basename(font.file), font.pages, names)
+        some = [page for page in pages if page.name in its]
+        base = based(run, font, name, some, before.fonts.get(name))
+        found.append((base, [page for page in some if mapped(base.font, page.letters)]))
+    return found
+
+
+def _made(run: Run, base: Base, pages: Sequence[SitePage], modes: Modes) -> List[Made]:
+    """The cuts of a font for its sections."""
+    found: List[Made] = []
+    for name in dict.fromkeys(page.section for page in pages):
+        state = section_of(run, base, name, [page for page in pages if page.section == name], modes)
+        old = base.state.sections.get(name)
+        cut = run.place.kept(run.place.work, state.cut) or b""
+        codes = [code for first, last in fontcut.codes(cut) for code in range(first, last + 1)]
+        found.append(Made(base.settings.file, name, base.face, codes, base.state.whole, state,
+                          old is None or old.woff2 != state.woff2))
+    return found
+
+
+def _check_ours(place: Place, before: State, names: Sequence[str]) -> None:
+    """Raises `Refused` where a file would be replaced that this command has not written."""
+    for name in names:
+        data = held(place.output, name)
+        if data is not None and name not in before.sheets and not is_ours(data):
+            raise Refused(f"{os.path.join(place.output, name)} is not written by fontcut-web site: move it away, or "
+                          "name another folder as out")
+
+
+def _told(modes: Modes, found: Sequence[Tuple[Base, List[SitePage]]], pages: Sequence[SitePage]) -> Iterator[str]:
+    """What is not known of pages, and which characters no font of theirs has."""
+    fonts: Dict[str, List[fontcut.Font]] = {page.name: [] for page in pages}
+    for base, some in found:
+        for page in some:
+            fonts[page.name].append(base.whole)
+    for page in pages:
+        if page.name not in modes.exact | modes.closed:
+            yield from (f"{line}: its cuts are closed, unless it is named as exact" for line in page.shown.unknown)
+    shown = [page for page in pages if fonts[page.name]]
+    yield from (f"{name}: no font of it has {range_words(codes)}" for name, codes in lacking(shown, fonts))
+
+
+def _write(place: Place, texts: Mapping[str, str], told: str, state: State) -> int:
+    """Replaces style sheets and the report, and then the state. How many style sheets have changed."""
+    changed = [put_text(place.output, name, text) for name, text in texts.items()]
+    put_text(place.output, REPORT, told)
+    place.keep(state)
+    return sum(changed)
+
+
+def _run(run: Run, settings: Settings, before: State) -> Tuple[str, List[str]]:
+    """Makes what has changed. The report, and what is said at the end."""
+    pages = pages_of(settings)
+    modes = modes_of(settings, pages)
+    found = _bases(run, settings, pages, before)
+    made = [_made(run, base, some, modes) for base, some in found]
+    every = [one for some in made for one in some]
+    texts = sheets(every, settings.display)
+    _check_ours(run.place, before, [*texts, REPORT])
+    fonts = {base.name: base.state._replace(sections={one.section: one.state for one in some})
+             for (base, _), some in zip(found, made)}
+    told = report(settings, pages, every)
+    changed = _write(run.place, texts, told, State(programs(), fonts, [*texts, REPORT]))
+    run.said.extend(_told(modes, found, pages))
+    count = sum(one.is_new for one in every)
+    return told, [f"made anew: {count} of {len(every)} fonts, {changed} of {len(texts)} style sheets"]
+
+
+def run(given: argparse.Namespace) -> None:
+    """Makes the fonts of a site."""
+    need("fontTools", "brotli", "tomli")
+    settings = settings_of(given.folder)
+    place, said = Place(settings.output, settings.work), []  # type: Place, List[str]
+    with place.held(), Progress("fontcut-web") as progress:
+        before = NOTHING if given.anew else place.state()
+        if before.programs and before.programs != programs():
+            said.append("all fonts are made anew: a program has another version")
+            before = NOTHING
+        told, last = _run(Run(place, said, given.check, progress), settings, before)
+    for line in said:
+        print(f"fontcut-web: {line}", file=sys.stderr)
+    for line in [told.rstrip()] if given.json else [*lines(told), *last]:
+        print_line(line)

@@ -1,0 +1,77 @@
+"""The pages of a site: what each shows, its section, and whether its cuts are exact or closed."""
+from __future__ import annotations
+
+import os
+from typing import List, NamedTuple, Sequence, Set
+from urllib.parse import unquote, urlsplit
+
+from . import shaped
+from .common import UsageError
+from .inputs import read_pages
+from .shaped import Shown
+from .site_settings import FontSettings, Settings, named, page_names, sections_of
+from .site_state import digest_of
+
+EXACT, CLOSED = "exact", "closed"
+
+
+class SitePage(NamedTuple):
+    """A page: its name, which is its path from the folder of the site; its section; its file; what it shows; the
+    characters of that, with those that a shaper takes for them; and a digest of all that its cuts depend on."""
+
+    name: str
+    section: str
+    path: str
+    shown: Shown
+    letters: Set[str]
+    digest: str
+
+
+class Modes(NamedTuple):
+    """The pages that the settings name as exact, and as closed."""
+
+    exact: Set[str]
+    closed: Set[str]
+
+    def of(self, page: SitePage, font: FontSettings) -> str:
+        """Whether the cut of a font for a page is exact or closed. If nothing is named, it is exact where all text is
+        known: not if readers write in this font, for whose languages it is prepared, or if the page has other text."""
+        if page.name in self.exact:
+            return EXACT
+        is_known = not page.shown.unknown and not font.languages
+        return EXACT if is_known and page.name not in self.closed else CLOSED
+
+
+def _is_own(settings: Settings, name: str, address: str) -> bool:
+    """Whether a page links a style sheet of the output, which says nothing of its text."""
+    path = unquote(urlsplit(address).path)
+    if settings.address and path.startswith(f"{urlsplit(settings.address).path.rstrip('/')}/"):
+        return True
+    found = os.path.normpath(os.path.join(os.path.dirname(name), path))
+    return found.startswith(f"{os.path.normpath(settings.out)}{os.sep}")
+
+
+def _page(settings: Settings, name: str, section: str) -> SitePage:
+    """What is read of a page."""
+    path = os.path.join(settings.folder, name)
+    page, = read_pages([path])
+    page = page._replace(links=[link for link in page.links if not _is_own(settings, name, link)])
+    shown = shaped.shown_by(page, path, [])
+    read = digest_of([shown.text, shown.blocks, shown.languages, sorted(shown.directions), shown.features])
+    return SitePage(name, section, path, shown, shaped.letters_of(shown), read)
+
+
+def pages_of(settings: Settings) -> List[SitePage]:
+    """The pages of a site, in order of their names."""
+    names = page_names(settings)
+    sections = sections_of(settings, names)
+    return [_page(settings, name, sections[name]) for name in names]
+
+
+def modes_of(settings: Settings, pages: Sequence[SitePage]) -> Modes:
+    """The pages that the settings name. Raises `UsageError` for one that is named as both."""
+    names = [page.name for page in pages]
+    modes = Modes(named(settings, EXACT, settings.exact, names), named(settings, CLOSED, settings.closed, names))
+    for name in sorted(modes.exact & modes.closed):
+        raise UsageError(f"{settings.path}: {name} is named as exact and as closed")
+    return modes

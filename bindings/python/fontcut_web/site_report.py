@@ -1,0 +1,106 @@
+"""What a site is told of its fonts: style sheets, lines for the heads of pages, and bytes beside those of whole
+fonts."""
+from __future__ import annotations
+
+import json
+import os
+from typing import Dict, Iterator, List, Mapping, NamedTuple, Sequence, Tuple
+from urllib.parse import quote
+
+import fontcut
+
+from .common import Refused
+from .faces import Face
+from .sets import Slice
+from .sheet import Placed, Styled, preload, style_sheet
+from .site_pages import SitePage
+from .site_settings import Settings
+from .site_state import SectionState
+
+REPORT = "site.json"
+# What each text that is written begins with, by which it is known.
+_WRITTEN = "Written by fontcut-web site."
+
+
+class Made(NamedTuple):
+    """The cut of a font for a section, the face and the characters that its rule has, the bytes of the whole font as
+    WOFF2, and whether it was made by this run."""
+
+    font: str
+    section: str
+    face: Face
+    codes: List[int]
+    whole: int
+    state: SectionState
+    is_new: bool
+
+
+def _sheet(section: str, made: Sequence[Made], display: str) -> str:
+    """The style sheet of a section. Raises `Refused` where two fonts of it cannot be told apart."""
+    faces: Dict[Face, str] = {}
+    for one in made:
+        other = faces.setdefault(one.face, one.font)
+        if other != one.font:
+            raise Refused(f"{one.font}: it has the family, style, weight and width of {other} on pages of {section}: "
+                          f"{one.face}")
+    styled = [Styled(one.face, one.face, [_placed(one)]) for one in made]
+    first, rules = style_sheet(styled, display).split("\n", 1)
+    return f"{first}\n/* {_WRITTEN} */\n{rules}"
+
+
+def _placed(one: Made) -> Placed:
+    """The file of a cut, as a style sheet names it."""
+    return Placed(Slice(one.section, one.codes), one.state.woff2.name)
+
+
+def sheets(made: Sequence[Made], display: str) -> Dict[str, str]:
+    """The style sheet of each section, by the name of its file."""
+    names = dict.fromkeys(one.section for one in made)
+    return {f"{name}.css": _sheet(name, [one for one in made if one.section == name], display) for name in names}
+
+
+def is_ours(text: bytes) -> bool:
+    """Whether a file was written by this command."""
+    return _WRITTEN.encode() in text[:200]
+
+
+def _address(settings: Settings, page: SitePage, name: str) -> str:
+    """How a page addresses a file of the output."""
+    if settings.address:
+        return f"{settings.address.rstrip('/')}/{quote(name)}"
+    path = os.path.relpath(os.path.join(settings.out, name), os.path.dirname(page.name) or os.curdir)
+    return quote(path.replace(os.sep, "/"))
+
+
+def _row(settings: Settings, page: SitePage, made: Sequence[Made]) -> Dict[str, object]:
+    """What is told of a page: lines for its head, and the bytes that it takes."""
+    rows = [{"font": one.font, "file": one.state.woff2.name, "bytes": one.state.woff2.size, "whole": one.whole,
+             "cut": one.state.pages[page.name].partition(":")[0]} for one in made]
+    head = [preload(_placed(one), _address(settings, page, one.state.woff2.name)) for one in made]
+    sheet = f'<link rel="stylesheet" href="{_address(settings, page, page.section + ".css")}">'
+    return {"section": page.section, "head": [*head, sheet] if made else [], "fonts": rows,
+            "bytes": sum(one.state.woff2.size for one in made), "whole": sum(one.whole for one in made)}
+
+
+def lacking(pages: Sequence[SitePage], fonts: Mapping[str, Sequence[fontcut.Font]]) -> Iterator[Tuple[str, List[int]]]:
+    """The pages that have characters which none of their fonts has, with these."""
+    for page in pages:
+        codes = sorted({ord(letter) for letter in page.shown.text if letter.isprintable()})
+        for font in fonts[page.name]:
+            codes = fontcut.missing(font, codes)
+        if codes:
+            yield page.name, codes
+
+
+def report(settings: Settings, pages: Sequence[SitePage], made: Sequence[Made]) -> str:
+    """What is told of the site, as JSON."""
+    rows = {page.name: _row(settings, page, [one for one in made if page.name in one.state.pages]) for page in pages}
+    return json.dumps({"made": _WRITTEN, "pages": rows}, indent=2, ensure_ascii=False) + "\n"
+
+
+def lines(told: str) -> Iterator[str]:
+    """The bytes of each page, beside those of the whole fonts."""
+    rows = json.loads(told)["pages"]
+    yield f"{'bytes':>11} {'whole fonts':>12}  page"
+    for name, row in rows.items():
+        yield f"{row['bytes']:>11,} {row['whole']:>12,}  {name}"
