@@ -18,7 +18,7 @@ use Rattle.font_subset.specs.declared.open_error.OpenError.TheVariants as open_e
 use Rattle.streams.specs.Outlet as outlets
 use Rattle.streams.specs.declared.outlet.Outlet.{Outlet}
 use Rattle.streams.specs.Inlet.{StopsAs, inlet_broken_of, inlet_fresh_of, reader_of}
-use Rattle.commands.specs.Inside.{CutStops, SendsCut}
+use Rattle.commands.specs.Run.{CutStops, SendsCut}
 use Rattle.commands.specs.Run.{HasCutIn, RefusesCutIn, Request, RunStops, SendsText, cut_for, fault_for, got}
 use Rattle.commands.specs.Run.{of_cut_error}
 use Rattle.commands.specs.Run.{of_open_error, of_read_error, stray_number}

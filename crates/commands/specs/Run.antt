@@ -1,6 +1,6 @@
 -- What a run is given, and how it leaves its inlet and its outlet, this project's own.
 use Rattle.std.specs.Prelude.{◌≡◌, ℕ, ◌+◌, ◌≤◌, Bool, false, true, length, nat_le, List, [], None, Option, IfErr}
-use Rattle.std.specs.Prelude.{IfSome}
+use Rattle.std.specs.Prelude.{IfOk, IfSome}
 use Rattle.std.specs.Prelude.{OnOk, Result, Some, option_copied, take}
 use Rattle.std.specs.List.{find}
 use Rattle.codes.specs.Wanted.{member}
@@ -160,6 +160,37 @@ RefusesCutIn r remaining inlet (Join error) = ⊥
 RefusesCutIn r remaining inlet (Read count) = ⊥
 RefusesCutIn r remaining inlet Memory = ⊥
 RefusesCutIn r remaining inlet (Write count) = ⊥
+
+-- why the cut of a file that is asked for is not sent, and how the outlet is left, from o to p
+abbrev pub CutStops : {W : Type 0} (contents : W → Option (List ℕ)) (r : Request) (file : List ℕ) (o p : Outlet W) →
+    RunError → Type 0
+-- nothing was sent
+CutStops contents r file o p Memory = p ≡ o
+-- the file is refused, a number is no glyph of it, or its cut is too large, and nothing was sent
+CutStops contents r file o p (Font error) =
+    (p ≡ o) × (fault_for r file ≡ Some error) × (font_fault file ≡ None → stray_number file r.numbers ≡ None)
+CutStops contents r file o p (NoGlyph number) =
+    (p ≡ o) × (font_fault file ≡ None) × (stray_number file r.numbers ≡ Some number)
+CutStops contents r file o p (TooLarge size) =
+    (p ≡ o) × (fault_for r file ≡ None) × (stray_number file r.numbers ≡ None) × IsTooLarge (cut_for r file) size
+-- there is a cut, the outlet is broken, and this number of bytes went out
+CutStops contents r file o p (Write count) =
+    (outlets.broken_of p ≡ true) × (outlets.written_of p ≡ count) × HasCutIn r file
+    × outlets.WentOut contents o p (take count (cut_for r file))
+-- nothing else stops it
+CutStops contents r file o p (Read count) = ⊥
+CutStops contents r file o p (OneOf which error) = ⊥
+CutStops contents r file o p (Join error) = ⊥
+
+-- how a call that sends the cut of a file leaves its outlet, from o to p
+pub record SendsCut {W : Type 0} (contents : W → Option (List ℕ)) (held : W → List ℕ) (r : Request) (file : List ℕ)
+    (o p : Outlet W) (result : Result ℕ RunError) : Type 0 where
+  pub has : OnOk result (HasCutIn r file)
+  pub sent : OnOk result (outlets.WentOut contents o p (cut_for r file))
+  pub unbroken : OnOk result (outlets.broken_of p ≡ false)
+  pub flushed : OnOk result (outlets.IsFlushed held p)
+  pub size : IfOk result (λ size. size ≡ length (cut_for r file))
+  pub error : IfErr result (CutStops contents r file o p)
 
 -- a file is refused as a font, or its cut is too large
 abbrev pub RefusesCut : {R : Type 0} → (R → Option (List ℕ)) → Inlet R → (ℕ → Bool) → RunError → Type 0

@@ -7,8 +7,7 @@ ghost use Rattle.font_file.specs.Font.{font_fault};
 ghost use Rattle.codes.specs.Wanted.{member};
 ghost use Rattle.streams.specs.Outlet.{IsFlushed, fresh_of};
 ghost use Rattle.streams.specs.Inlet.{inlet_fresh_of};
-ghost use Rattle.commands.specs.Inside.{SendsCut};
-ghost use Rattle.commands.specs.Run.{HasCut, HasCutIn, RefusesCut, RefusesCutIn, SendsText, codes_request, cut_for, got, requested, stray_number};
+ghost use Rattle.commands.specs.Run.{HasCut, HasCutIn, RefusesCut, RefusesCutIn, SendsCut, SendsText, codes_request, cut_for, got, requested, stray_number};
 
 use crate::cut_request::CutRequest;
 use crate::run_error::RunError;
@@ -20,8 +19,9 @@ use std::alloc::Allocator;
 use std::io::Read;
 use streams::{Flushes, Inlet, Outlet};
 
-// Sends the cut of a font that was opened for what is asked, flushes, and returns its size. It owns nothing, nor do the
-// two below own more than they open: of what a function owns it is proved at each `?` that it can be let go.
+// Sends the cut of a font that was opened for what is asked, flushes, and returns its size. It owns nothing, nor do
+// `run_subset_of_font` and `send_of_file` own more than they open: of what a function owns it is proved at each `?` that
+// it can be let go.
 fn send_of_opened<W: Flushes, A: Allocator + Copy>(
     alloc: A,
     font: &FontToCut<'_, '_, A>,
@@ -62,17 +62,24 @@ fn stray_in(font: &Font<'_>, numbers: Option<&[u16]>) -> Option<u16>
     }
 }
 
-// The same of an accepted font, which is opened for what is asked first.
-fn send_of_font<W: Flushes, A: Allocator + Copy>(
+/// Sends the cut of an opened font for what is asked, and returns the size of the cut in bytes.
+///
+/// # Errors
+///
+/// `NoGlyph` with the first number that is no glyph of the font, `Memory` where memory is refused, `Font` where the font is
+/// refused for cuts of the kind, and `TooLarge` where its cut has more bytes than a file may have: then nothing was sent.
+/// `Write` where the writer fails.
+pub fn run_subset_of_font<W: Flushes, A: Allocator + Copy>(
     alloc: A,
     font: &Font<'_>,
     request: &CutRequest<'_, A>,
     outlet: &mut Outlet<W>,
 ) -> Result<u64, RunError>
-    requires fresh { fresh_of outlet.old ≡ true }
-    requires accepted { font_fault font.now ≡ None }
+    requires { fresh_of outlet.old ≡ true }
     ensures { SendsCut W.contents W.held (requested request.now) font.now outlet.old outlet.new result }
 {
+    // Recalls that the font is accepted.
+    let _tables = font.tables();
     if let Some(number) = stray_in(font, request.glyphs) {
         return Err(RunError::NoGlyph(number));
     }
@@ -91,7 +98,7 @@ fn send_of_file<W: Flushes, A: Allocator + Copy>(
     ensures { SendsCut W.contents W.held (requested request.now) file.now outlet.old outlet.new result }
 {
     let font = Font::open(file)?;
-    send_of_font(alloc, &font, request, outlet)
+    run_subset_of_font(alloc, &font, request, outlet)
 }
 
 /// Reads a font to its end, sends its cut for what is asked, and returns the size of the cut in bytes.

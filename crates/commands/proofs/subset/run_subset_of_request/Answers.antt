@@ -1,5 +1,5 @@
 use Rattle.std.proofs.Common.{ℕ, List, subst}
-use Rattle.commands.specs.Inside.{SendsCut}
+use Rattle.commands.specs.Run.{SendsCut}
 use Rattle.commands.specs.Run.{HasCutIn, RefusesCutIn, cut_for, of_read_error, requested}
 use Rattle.commands.proofs.RunLemmas.{ends_err, file_sent, file_size, read_stops}
 use Rattle.commands.proofs.subset.run_subset_of_request.Goals as goal

@@ -1,5 +1,5 @@
 use Rattle.std.proofs.Common.{ℕ, List, subst}
-use Rattle.commands.specs.Inside.{SendsCut}
+use Rattle.commands.specs.Run.{SendsCut}
 use Rattle.commands.specs.Run.{requested}
 use Rattle.commands.specs.declared.run_error.RunError.TheVariants.{Font}
 use Rattle.commands.proofs.RunLemmas.{cut_err, font_stops}
@@ -17,4 +17,4 @@ pub returns : goal.returns
 returns g c =
     subst (λ (f : List ℕ). SendsCut g.W.Write.contents g.W.Flushes.held
     (requested c.args.request.now) f c.args.outlet.now
-    c.send_of_font.new.outlet c.send_of_font.result) c.in_ok-font.ensures.0 c.send_of_font.ensures
+    c.run_subset_of_font.new.outlet c.run_subset_of_font.result) c.in_ok-font.ensures.0 c.run_subset_of_font.ensures

@@ -1,7 +1,7 @@
 use Rattle.std.proofs.Common.{◌∙◌, sym}
 use Rattle.commands.specs.Run.{of_open_error, requested}
 use Rattle.commands.proofs.RunLemmas.{cut_err, open_stops}
-use Rattle.commands.proofs.subset.send_of_font.Goals as goal
+use Rattle.commands.proofs.subset.run_subset_of_font.Goals as goal
 
 pub returns-in_err-opened : goal.returns-in_err-opened
 returns-in_err-opened g c =
