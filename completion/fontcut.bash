@@ -6,7 +6,7 @@ _fontcut_options() {
     case $1 in
     '') echo '--verbose --quiet --version --help' ;;
     codes) echo '--glyphs --verbose --quiet --help' ;;
-    belongs) echo '--lean --layout --variable --drop --verbose --quiet --help' ;;
+    belongs) echo '--full --lean --layout --variable --drop --verbose --quiet --help' ;;
     subset)
         echo '--text --text-file --exactly --codes-file --unicodes --complete --exclude --exclude-file --gids'
         echo '--gids-file --report --strict --lean --layout --variable --no-layout-closure --drop --force'

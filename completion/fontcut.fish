@@ -10,7 +10,7 @@ function __fontcut_options
         case codes
             printf '%s\n' --glyphs --verbose --quiet --help
         case belongs
-            printf '%s\n' --lean --layout --variable --drop --verbose --quiet --help
+            printf '%s\n' --full --lean --layout --variable --drop --verbose --quiet --help
         case subset
             printf '%s\n' --text --text-file --exactly --codes-file --unicodes --complete --exclude --exclude-file --gids
             printf '%s\n' --gids-file --report --strict --lean --layout --variable --no-layout-closure --drop --force

@@ -6,7 +6,7 @@ mod subcommands;
 mod texts;
 
 use crate::peers::served;
-use crate::subcommands::{flag, join_command, subcommand, with_subcommands};
+use crate::subcommands::{Spelling, flag, join_command, subcommand, with_subcommands};
 use clap::error::ErrorKind;
 use clap::{Arg, ArgMatches, Command, Error};
 use std::alloc::{AllocError, Global};
@@ -25,6 +25,12 @@ const QUIET: &str = "--quiet";
 
 // What `clap` says before the option that it suggests for an unknown one.
 const SUGGESTION: &str = "  tip: a similar argument exists: '--";
+
+// What `clap` says of an option that it does not know: a line that is at fault again.
+const TO_PASS: &str = "\n  tip: to pass '";
+
+// The value of an option for all features of layout.
+const ALL_FEATURES: &str = "*";
 
 // How many letters a suggestion has in common with the unknown option at their beginnings.
 const ALIKE: usize = 3;
@@ -91,8 +97,8 @@ pub struct Belongs<'a> {
     pub cut: &'a str,
     /// The path of the font.
     pub font: &'a str,
-    /// The kind of cut that is asked for.
-    pub kind: CutKind,
+    /// The kind of cut that is asked for, where one is.
+    pub kind: Option<CutKind>,
     /// The names of the tables of layout that the cut does without.
     pub dropped: Vec<&'a str>,
 }
@@ -136,11 +142,11 @@ pub struct Subset<'a> {
     pub is_closed: bool,
     /// The names of the tables of layout that the cut does without.
     pub dropped: Vec<&'a str>,
-    /// Whether OUT may have the ending of a packed font.
+    /// Whether OUT may have the ending of a packed font, or be the font of which FONT is a cut.
     pub is_forced: bool,
-    /// Whether more is said: characters beside the codes of a report, scripts that the font shapes and a cut
-    /// without its tables of layout does not, and variations that the cut does not keep.
-    pub is_verbose: bool,
+    /// How much is said: with a verbose line characters beside the codes of a report, and all scripts that the font shapes
+    /// and the cut does not.
+    pub verbosity: Verbosity,
 }
 
 /// What `slice` asks for.
@@ -240,33 +246,40 @@ fn unexpected(text: &str) -> &str {
     rest.split_once("'").map_or("", |(option, _)| option)
 }
 
-// Returns what is said of a line that has an option of another subsetter: the text, and what serves in its place.
-fn with_peer(alloc: Global, text: String) -> Result<String, AllocError> {
-    let option = unexpected(text.as_str());
-    let Some(answer) = served(option) else {
+// Returns a text of `clap` without the tip to pass an unknown option as a word.
+fn without_tip(alloc: Global, text: String) -> Result<String, AllocError> {
+    let Some((before, tip)) = text.split_once(TO_PASS) else {
         return Ok(text);
     };
-    let mut said = String::from_str(alloc, text.as_str())?;
-    write!(said, "fontcut: {option}: {answer}\n")?;
-    Ok(said)
+    let (_, after) = tip.split_once("\n\n").unwrap_or((tip, ""));
+    let mut kept = String::from_str(alloc, before.trim_end())?;
+    kept.push_str("\n\n")?;
+    kept.push_str(after)?;
+    Ok(kept)
+}
+
+// Returns what is said of an option of another subsetter: what serves in its place.
+fn said_of_peer(alloc: Global, option: &str, answer: &str) -> Result<String, AllocError> {
+    format!(in alloc; "fontcut: {option}: {answer}\n")
 }
 
 // Returns what is said of a line at fault, of which this is the text of `clap`.
-fn said_of_fault(alloc: Global, text: String, is_quiet: bool) -> Result<String, AllocError> {
-    let text = without_suggestion(alloc, text)?;
-    if is_quiet {
-        return Ok(text);
+fn said_of_fault(alloc: Global, text: String) -> Result<String, AllocError> {
+    let option = unexpected(text.as_str());
+    if let Some(answer) = served(option) {
+        return said_of_peer(alloc, option, answer);
     }
-    with_peer(alloc, text)
+    let text = without_tip(alloc, text)?;
+    without_suggestion(alloc, text)
 }
 
 // Returns what an error of `clap` comes to, by which it also answers a call for help or the version.
-fn explained(alloc: Global, fault: &Error, is_quiet: bool) -> LineError {
+fn explained(alloc: Global, fault: &Error) -> LineError {
     if fault.kind() == ErrorKind::OutOfMemory {
         return LineError::NoMemory;
     }
     match fault.to_string(alloc) {
-        Ok(text) if fault.use_stderr() => match said_of_fault(alloc, text, is_quiet) {
+        Ok(text) if fault.use_stderr() => match said_of_fault(alloc, text) {
             Ok(text) => LineError::Words(text),
             Err(_) => LineError::NoMemory,
         },
@@ -297,6 +310,15 @@ fn cut_kind(matches: &ArgMatches<'_>) -> CutKind {
     }
 }
 
+// Returns the paths of files of words, which have two names.
+fn code_files<'a>(alloc: Global, matches: &ArgMatches<'a>) -> Result<Vec<&'a str>, AllocError> {
+    let mut paths = values_of(alloc, matches, "codes-file")?;
+    for path in matches.get_strs("unicodes-file").unwrap_or(&[]) {
+        paths.push(*path)?;
+    }
+    Ok(paths)
+}
+
 fn subset_task<'a>(
     alloc: Global,
     matches: &ArgMatches<'a>,
@@ -310,7 +332,7 @@ fn subset_task<'a>(
         out,
         texts: values_of(alloc, matches, "text")?,
         text_files: values_of(alloc, matches, "text-file")?,
-        code_files: values_of(alloc, matches, "codes-file")?,
+        code_files: code_files(alloc, matches)?,
         words: values_of(alloc, matches, "WORDS")?,
         lists: values_of(alloc, matches, "unicodes")?,
         completed: values_of(alloc, matches, "complete")?,
@@ -325,7 +347,7 @@ fn subset_task<'a>(
         is_closed: !matches.get_flag("no-layout-closure"),
         dropped: values_of(alloc, matches, "drop")?,
         is_forced: matches.get_flag("force"),
-        is_verbose: verbosity == Verbosity::Verbose,
+        verbosity,
     })))
 }
 
@@ -334,6 +356,15 @@ fn codes_task<'a>(matches: &ArgMatches<'a>) -> Option<Task<'a>> {
         font: matches.get_str("FONT")?,
         with_glyphs: matches.get_flag("glyphs"),
     })
+}
+
+// Returns the kind of cuts that a line of `belongs` asks for, where it names one.
+fn asked_kind(matches: &ArgMatches<'_>) -> Option<CutKind> {
+    let kind = cut_kind(matches);
+    if kind == CutKind::Full && !matches.get_flag("full") {
+        return None;
+    }
+    Some(kind)
 }
 
 fn belongs_task<'a>(
@@ -346,7 +377,7 @@ fn belongs_task<'a>(
     Ok(Some(Task::Belongs(Belongs {
         cut,
         font,
-        kind: cut_kind(matches),
+        kind: asked_kind(matches),
         dropped: values_of(alloc, matches, "drop")?,
     })))
 }
@@ -459,9 +490,16 @@ fn line_of<'a>(alloc: Global, matches: &ArgMatches<'a>) -> Result<Option<Line<'a
 
 // Returns what is found in a line by the one subcommand that its first word names. There is nothing where
 // it names none, or where the line is at fault or asks for help.
-fn matched_alone<'a>(alloc: Global, words: &'a [String]) -> Result<Option<ArgMatches<'a>>, Error> {
+fn matched_alone<'a>(
+    alloc: Global,
+    words: &'a [String],
+    spelling: Spelling,
+) -> Result<Option<ArgMatches<'a>>, Error> {
     let name = words.first().map_or("", |word| word.as_str());
-    let Some(alone) = subcommand(alloc, name)? else {
+    if spelling != Spelling::Own && name != "subset" {
+        return Ok(None);
+    }
+    let Some(alone) = subcommand(alloc, name, spelling)? else {
         return Ok(None);
     };
     match bare_command(alloc)?
@@ -474,16 +512,72 @@ fn matched_alone<'a>(alloc: Global, words: &'a [String]) -> Result<Option<ArgMat
     }
 }
 
-// All subcommands take longer to make than most lines to read, and only help and faults tell of them.
-fn parse_line<'a>(alloc: Global, words: &'a [String]) -> Result<Line<'a>, Error> {
-    let matches = match matched_alone(alloc, words)? {
-        Some(matches) => matches,
-        None => with_subcommands(alloc, bare_command(alloc)?)?.try_get_matches_from(words)?,
-    };
-    match line_of(alloc, &matches)? {
-        Some(line) => Ok(line),
+// Returns whether a word looks as if it named the output of `subset`.
+fn is_out_option(word: &str) -> bool {
+    let (name, _) = word.split_once('=').unwrap_or((word, ""));
+    name == "-o" || name == "--output-file" || name == "--output"
+}
+
+// Returns whether a word of a line does so.
+fn names_out(words: &[String]) -> bool {
+    words.iter().any(|word| is_out_option(word.as_str()))
+}
+
+// Returns how a line is spelled that is at fault, asks for help, or has an option before its command.
+fn spelling_of(words: &[String]) -> Spelling {
+    if names_out(words) {
+        Spelling::PeersWithOut
+    } else {
+        Spelling::Peers
+    }
+}
+
+// All subcommands take longer to make than most lines to read, and only help and faults tell of them; nor has an ordinary
+// line options of other subsetters.
+fn matches_of<'a>(alloc: Global, words: &'a [String]) -> Result<ArgMatches<'a>, Error> {
+    for spelling in [Spelling::Own, Spelling::Peers, Spelling::PeersWithOut] {
+        if let Some(matches) = matched_alone(alloc, words, spelling)? {
+            return Ok(matches);
+        }
+    }
+    with_subcommands(alloc, bare_command(alloc)?, spelling_of(words))?.try_get_matches_from(words)
+}
+
+// Returns the option of another subsetter that a line has and cuts of its kind do not serve.
+fn unserved(matches: &ArgMatches<'_>) -> Option<&'static str> {
+    let (_, inner) = matches.subcommand()?;
+    let kind = cut_kind(inner);
+    if kind != CutKind::Full && inner.get_count("glyph-names") != 0 {
+        return Some("--glyph-names");
+    }
+    if !inner.contains_id("layout-features") {
+        return None;
+    }
+    let keeps_layout = matches!(kind, CutKind::Layout | CutKind::Variable);
+    let features = inner.get_strs("layout-features").unwrap_or(&[]);
+    let is_of_all = !features.is_empty() && features.iter().all(|one| *one == ALL_FEATURES);
+    if keeps_layout && is_of_all {
+        return None;
+    }
+    Some("--layout-features")
+}
+
+// Returns what a line asks for, where it is not at fault by itself.
+fn parse_line<'a>(alloc: Global, words: &'a [String]) -> Result<Line<'a>, LineError> {
+    let matches = matches_of(alloc, words).map_err(|fault| explained(alloc, &fault))?;
+    if let Some(option) = unserved(&matches) {
+        let answer = served(option).unwrap_or("");
+        let said = said_of_peer(alloc, option, answer).map_err(|_| LineError::NoMemory)?;
+        return Err(LineError::Words(said));
+    }
+    match line_of(alloc, &matches) {
+        Ok(Some(line)) => Ok(line),
         // Each word that is required is there, so this is a line of `join` with one word.
-        None => Err(no_output(alloc)?),
+        Ok(None) => match no_output(alloc) {
+            Ok(fault) => Err(explained(alloc, &fault)),
+            Err(_) => Err(LineError::NoMemory),
+        },
+        Err(_) => Err(LineError::NoMemory),
     }
 }
 
@@ -516,15 +610,12 @@ pub fn is_quiet(words: &[String]) -> bool {
 /// Reads the arguments of a line, the program's own name not among them.
 ///
 /// # Errors
-/// `Help` and `Words` with the text of `clap`, and what serves in the place of an option of another subsetter;
+/// `Help` and `Words` with the text of `clap`, or with what serves in the place of an option of another subsetter;
 /// `InputTwice` where standard input is named more than once among the inputs; `NoMemory` where memory was refused.
 pub fn parse<'a>(alloc: Global, words: &'a [String]) -> Result<Line<'a>, LineError> {
-    match parse_line(alloc, words) {
-        Ok(line) if reads_input_twice(&line.task) => Err(LineError::InputTwice),
-        Ok(line) => Ok(line),
-        Err(fault) => {
-            let is_quiet = is_quiet(words);
-            Err(explained(alloc, &fault, is_quiet))
-        }
+    let line = parse_line(alloc, words)?;
+    if reads_input_twice(&line.task) {
+        return Err(LineError::InputTwice);
     }
+    Ok(line)
 }

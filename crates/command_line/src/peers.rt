@@ -1,15 +1,14 @@
-//! Options of other subsetters, and what serves in their place here: pyftsubset (fontTools) and hb-subset (HarfBuzz).
-//! The manual has the same table, and a test compares them.
+//! Options of other subsetters that have no counterpart here, and what serves in their place: pyftsubset (fontTools) and
+//! hb-subset (HarfBuzz). The manual has the same table but for
+//! `--glyph-names`, which full cuts take, and a test compares them.
 
 // Fonts are written in one form.
 const TRUE_TYPE: &str = "OUT is a TrueType file; woff2_compress makes a WOFF2 file of it";
 
-const OUT: &str = "OUT is the word after FONT; join takes -o OUT";
-
-const CODES_FILE: &str = "--codes-file FILE takes a file of ranges";
-
 const GLYPHS: &str =
     "nothing: subset chooses glyphs by characters, and by their numbers with --gids";
+
+const RECOMMENDED: &str = "nothing: a cut keeps glyph 0 and those that are asked for";
 
 const TABLES: &str = "nothing: which tables a cut keeps is fixed; fontcut show lists them";
 
@@ -20,58 +19,49 @@ const LAYOUT: &str = "--layout keeps the layout tables whole, and the glyphs tha
 const INSTANCE: &str =
     "nothing: a cut has the default, with --variable all; fontTools makes others";
 
-const NUMBERS: &str = "not needed: each glyph keeps its number";
-
-const HINTING: &str = "not needed: a cut keeps the hinting";
-
 const NO_HINTING: &str = "nothing: a cut keeps the hinting";
 
 const CFF: &str = "nothing: fonts with CFF outlines are refused";
 
-const NOTDEF: &str = "not needed: a cut keeps the glyph of characters that are not mapped";
+const CMAP: &str = "nothing: the cmap of a cut has one subtable, of format 12";
 
-const GLYPH_NAMES: &str = "not needed: a cut keeps the names of glyphs; --lean leaves them out";
+const GLYPH_NAMES: &str = "nothing: full cuts alone keep the names of glyphs";
 
 const NO_GLYPH_NAMES: &str = "--lean leaves out the names of glyphs";
 
 const NAMES: &str = "nothing: a cut keeps the table name as it is";
 
-const LACKING: &str = "not needed: --strict refuses what the font lacks, and nothing else does";
-
 const COLLECTION: &str = "nothing: collections are refused; fontTools takes a font out of one";
 
 // Each option, and what serves in its place.
-const PEERS: [(&str, &str); 33] = [
+const PEERS: [(&str, &str); 30] = [
     ("--flavor", TRUE_TYPE),
     ("--with-zopfli", TRUE_TYPE),
-    ("--output-file", OUT),
-    ("--output", OUT),
-    ("-o", OUT),
-    ("--unicodes-file", CODES_FILE),
     ("--glyphs", GLYPHS),
     ("--glyphs-file", GLYPHS),
+    ("--recommended-glyphs", RECOMMENDED),
     ("--drop-tables", DROP),
+    ("--drop-tables+", DROP),
+    ("--drop-tables-", DROP),
     ("--no-subset-tables", TABLES),
     ("--passthrough-tables", TABLES),
     ("--layout-features", LAYOUT),
+    ("--layout-features+", LAYOUT),
+    ("--layout-features-", LAYOUT),
     ("--layout-scripts", LAYOUT),
     ("--layout-closure", LAYOUT),
     ("--variations", INSTANCE),
     ("--instance", INSTANCE),
-    ("--retain-gids", NUMBERS),
-    ("--hinting", HINTING),
     ("--no-hinting", NO_HINTING),
     ("--desubroutinize", CFF),
-    ("--notdef-glyph", NOTDEF),
-    ("--notdef-outline", NOTDEF),
+    ("--legacy-cmap", CMAP),
+    ("--symbol-cmap", CMAP),
     ("--glyph-names", GLYPH_NAMES),
     ("--no-glyph-names", NO_GLYPH_NAMES),
     ("--name-IDs", NAMES),
     ("--name-languages", NAMES),
     ("--name-legacy", NAMES),
     ("--obfuscate-names", NAMES),
-    ("--ignore-missing-glyphs", LACKING),
-    ("--ignore-missing-unicodes", LACKING),
     ("--font-number", COLLECTION),
     ("--face-index", COLLECTION),
     ("--font-file", "FONT is the word after subset"),

@@ -9,6 +9,9 @@ const LAYOUT_TABLES: &[&str] = &["BASE", "GDEF", "GPOS", "GSUB", "kern"];
 // The options that keep the tables of layout, of which a line has one at most.
 const KEEPS_LAYOUT: &str = "keeps-layout";
 
+// The options for cuts that are not full.
+const OTHER_KINDS: &[&str] = &["lean", "layout", "variable"];
+
 // How an argument is given.
 #[derive(Clone, Copy)]
 enum Form {
@@ -20,6 +23,8 @@ enum Form {
     SomeWords,
     // An option without a value.
     Flag,
+    // An option without a value for full cuts, which are of no other kind.
+    Alone,
     // An option without a value for cuts that keep the tables of layout, which are no lean ones.
     KeepsLayout,
     // An option with a value of this name.
@@ -34,6 +39,25 @@ enum Form {
     Tables(&'static str),
     // An option with a value of this name that has a short form too.
     Short(&'static str, char),
+    // An option without a value, of which help says nothing.
+    Taken,
+    // An option whose value, if it has one, follows a sign of equality, of which help says nothing.
+    TakenChoice,
+    // An option with a value that may be repeated, of which help says nothing.
+    TakenValues,
+    // The output of `subset` as an option.
+    NamedOut,
+}
+
+/// How a line of `subset` is spelled.
+#[derive(Clone, Copy, Debug, PartialEq, Eq)]
+pub(crate) enum Spelling {
+    /// By the arguments that the help lists alone.
+    Own,
+    /// With options of other subsetters.
+    Peers,
+    /// With such options, and with an option for OUT, which is no word then.
+    PeersWithOut,
 }
 
 // An argument: what it is called, how it is given, and what the help says of it.
@@ -68,6 +92,7 @@ const OF_CODES: &[Argument] = &[
 const OF_BELONGS: &[Argument] = &[
     ("CUT", Form::Word, texts::CUT),
     ("FONT", Form::Word, texts::FONT),
+    ("full", Form::Alone, texts::FULL_CUT),
     ("lean", Form::Flag, texts::LEAN_CUT),
     ("layout", Form::KeepsLayout, texts::LAYOUT_CUT),
     ("variable", Form::KeepsLayout, texts::VARIABLE_CUT),
@@ -94,8 +119,23 @@ const OF_SUBSET: &[Argument] = &[
     ("variable", Form::KeepsLayout, texts::VARIABLE),
     ("no-layout-closure", Form::Flag, texts::NO_LAYOUT_CLOSURE),
     ("drop", Form::Tables("TABLES"), texts::DROP),
-    ("force", Form::Flag, texts::FORCE),
+    ("force", Form::Flag, texts::FORCE_SUBSET),
     ("WORDS", Form::Words, texts::WORDS),
+];
+
+// Options of other subsetters that `subset` takes: those that ask for what every cut has, or for what a cut of some
+// kinds has, and another name of one above.
+const OF_PEERS: &[Argument] = &[
+    ("retain-gids", Form::Taken, ""),
+    ("hinting", Form::Taken, ""),
+    ("notdef-glyph", Form::Taken, ""),
+    ("notdef-outline", Form::Taken, ""),
+    ("no-legacy-cmap", Form::Taken, ""),
+    ("ignore-missing-glyphs", Form::Taken, ""),
+    ("ignore-missing-unicodes", Form::Taken, ""),
+    ("glyph-names", Form::Taken, ""),
+    ("layout-features", Form::TakenChoice, ""),
+    ("unicodes-file", Form::TakenValues, ""),
 ];
 
 const OF_SLICE: &[Argument] = &[
@@ -168,6 +208,26 @@ fn of_tables<'a>(arg: Arg<'a>) -> Result<Arg<'a>, AllocError> {
         .conflicts_with("lean")
 }
 
+// Returns an argument as an option of which help says nothing.
+fn hidden<'a>(arg: Arg<'a>, long: &'a str, action: ArgAction) -> Arg<'a> {
+    arg.long(long).action(action).hide(true)
+}
+
+// Returns an argument as the option for OUT that other subsetters have.
+fn named_out<'a>(arg: Arg<'a>) -> Result<Arg<'a>, AllocError> {
+    option(arg, "output-file", "OUT")
+        .short('o')
+        .required(true)
+        .alias("output")
+}
+
+// Returns an argument as an option that may have a value.
+fn choice<'a>(arg: Arg<'a>, long: &'a str) -> Arg<'a> {
+    hidden(arg, long, ArgAction::Append)
+        .num_args(0..=1)
+        .require_equals(true)
+}
+
 // Returns an argument in the form in which it is given.
 fn in_form<'a>(arg: Arg<'a>, id: &'a str, form: Form) -> Result<Arg<'a>, AllocError> {
     match form {
@@ -175,6 +235,7 @@ fn in_form<'a>(arg: Arg<'a>, id: &'a str, form: Form) -> Result<Arg<'a>, AllocEr
         Form::Words => Ok(words(arg, 0)),
         Form::SomeWords => Ok(words(arg, 1).required(true)),
         Form::Flag => Ok(flag(arg, id)),
+        Form::Alone => flag(arg, id).conflicts_with_all(OTHER_KINDS),
         Form::KeepsLayout => keeping_layout(flag(arg, id)),
         Form::Value(value) => Ok(option(arg, id, value)),
         Form::Required(value) => Ok(option(arg, id, value).required(true)),
@@ -182,6 +243,19 @@ fn in_form<'a>(arg: Arg<'a>, id: &'a str, form: Form) -> Result<Arg<'a>, AllocEr
         Form::Texts(value) => Ok(repeated(arg, id, value).allow_hyphen_values(true)),
         Form::Tables(value) => of_tables(repeated(arg, id, value)),
         Form::Short(value, short) => Ok(option(arg, id, value).short(short)),
+        Form::Taken => Ok(hidden(arg, id, ArgAction::Count)),
+        Form::TakenChoice => Ok(choice(arg, id)),
+        Form::TakenValues => Ok(hidden(arg, id, ArgAction::Append)),
+        Form::NamedOut => named_out(arg),
+    }
+}
+
+// Returns the form of an argument of a line that is spelled in some way.
+fn form_in(spelling: Spelling, id: &str, form: Form) -> Form {
+    if spelling == Spelling::PeersWithOut && id == "OUT" {
+        Form::NamedOut
+    } else {
+        form
     }
 }
 
@@ -189,9 +263,11 @@ fn with_arguments<'a>(
     alloc: Global,
     command: Command<'a>,
     arguments: &[Argument],
+    spelling: Spelling,
 ) -> Result<Command<'a>, AllocError> {
     let mut whole = command;
     for &(id, form, help) in arguments {
+        let form = form_in(spelling, id, form);
         let arg = in_form(Arg::new(alloc, id).help(help), id, form)?;
         whole = whole.arg(arg)?;
     }
@@ -199,23 +275,35 @@ fn with_arguments<'a>(
 }
 
 // Returns a subcommand with its arguments.
-fn with_help<'a>(alloc: Global, row: Subcommand) -> Result<Command<'a>, AllocError> {
+fn with_help<'a>(
+    alloc: Global,
+    row: Subcommand,
+    spelling: Spelling,
+) -> Result<Command<'a>, AllocError> {
     let (name, about, after) = row;
     let command = Command::new(alloc, name).about(about).after_help(after);
-    with_arguments(alloc, command, arguments_of(name))
+    with_arguments(alloc, command, arguments_of(name), spelling)
 }
 
 /// Returns the subcommand `join`.
 pub(crate) fn join_command<'a>(alloc: Global) -> Result<Command<'a>, AllocError> {
-    Ok(with_help(alloc, JOIN)?.override_usage(texts::JOIN_USAGE))
+    Ok(with_help(alloc, JOIN, Spelling::Own)?.override_usage(texts::JOIN_USAGE))
 }
 
-// Returns a subcommand as the program has it.
-fn subcommand_of<'a>(alloc: Global, row: Subcommand) -> Result<Command<'a>, AllocError> {
+// Returns the subcommand of a row for lines that are spelled in some way.
+fn subcommand_of<'a>(
+    alloc: Global,
+    row: Subcommand,
+    spelling: Spelling,
+) -> Result<Command<'a>, AllocError> {
     if row.0 == "join" {
         return join_command(alloc);
     }
-    with_help(alloc, row)
+    if row.0 != "subset" || spelling == Spelling::Own {
+        return with_help(alloc, row, Spelling::Own);
+    }
+    let command = with_help(alloc, row, spelling)?;
+    with_arguments(alloc, command, OF_PEERS, spelling)
 }
 
 fn row_of(rows: &[Subcommand], name: &str) -> Option<Subcommand> {
@@ -228,9 +316,13 @@ fn row_of(rows: &[Subcommand], name: &str) -> Option<Subcommand> {
 }
 
 /// Returns the subcommand of a name, if there is one.
-pub(crate) fn subcommand<'a>(alloc: Global, name: &str) -> Result<Option<Command<'a>>, AllocError> {
+pub(crate) fn subcommand<'a>(
+    alloc: Global,
+    name: &str,
+    spelling: Spelling,
+) -> Result<Option<Command<'a>>, AllocError> {
     match row_of(&SUBCOMMANDS, name) {
-        Some(row) => Ok(Some(subcommand_of(alloc, row)?)),
+        Some(row) => Ok(Some(subcommand_of(alloc, row, spelling)?)),
         None => Ok(None),
     }
 }
@@ -239,10 +331,11 @@ pub(crate) fn subcommand<'a>(alloc: Global, name: &str) -> Result<Option<Command
 pub(crate) fn with_subcommands<'a>(
     alloc: Global,
     command: Command<'a>,
+    spelling: Spelling,
 ) -> Result<Command<'a>, AllocError> {
     let mut whole = command;
     for row in SUBCOMMANDS {
-        let one = subcommand_of(alloc, row)?;
+        let one = subcommand_of(alloc, row, spelling)?;
         whole = whole.subcommand(one)?;
     }
     Ok(whole)

@@ -11,9 +11,10 @@ Exit status: 0 done; 1 a font is refused, check finds something, belongs says no
 2 usage error; 3 a file cannot be read or written";
 
 pub(crate) const VERBOSE: &str =
-    "Says more: what to do if something fails, characters next to codes, and what a cut loses";
+    "Says more: what to do if something fails, characters next to codes, and all scripts that a cut loses";
 
-pub(crate) const QUIET: &str = "If something fails, prints only the first line of the message";
+pub(crate) const QUIET: &str =
+    "If something fails, prints only the first line of the message; says nothing of what a cut loses";
 
 pub(crate) const CHECK: &str = "Checks FONT: prints each finding, then whether it is accepted";
 
@@ -60,6 +61,7 @@ pub(crate) const BELONGS: &str =
     "Tells whether CUT is a cut of FONT for some characters: prints yes or no";
 
 pub(crate) const AFTER_BELONGS: &str = "\
+If no kind is asked for, a cut of any kind belongs, and a line on standard error says of which kind it is.
 CUT may be a join of cuts, or a cut of an earlier version of this program. It does not belong to another
 font, or to a version of the font in which something that it keeps differs.
 
@@ -103,6 +105,11 @@ pub(crate) const DROP: &str =
     "Cuts FONT as if it lacked these layout tables; only GSUB adds glyphs; may be repeated";
 
 pub(crate) const FORCE: &str = "Writes a TrueType file even to a name that ends in .woff2 or .woff";
+
+pub(crate) const FORCE_SUBSET: &str =
+    "Writes even to a name that ends in .woff2 or .woff, and over the font of which FONT is a cut";
+
+pub(crate) const FULL_CUT: &str = "Asks for a full cut, as subset writes it without these options";
 
 pub(crate) const LEAN_CUT: &str = "Asks for a lean cut, as subset --lean writes it";
 

@@ -4,15 +4,16 @@ ghost use Rattle.streams.specs.Inlet.{inlet_fresh_of};
 
 use crate::choice::{Choice, add_all_files, names_set};
 use crate::dropped_tables::without_named;
-use crate::inputs::inlet_at;
+use crate::inputs::{inlet_at, input_name};
+use crate::kept_font::keep_font;
 use crate::outcome::Outcome;
 use crate::output::{outlet, packed_out, placed};
 use crate::report::Fault;
 use crate::wanted_glyphs::{EVERYTHING, keeps_all_glyphs, listed, names_glyphs};
 use codes::Wanted;
-use command_line::Subset;
-use commands::{CutRequest, RunError, run_subset_of_request};
-use font_coverage::{Coverage, Kept, linked_count};
+use command_line::{Subset, Verbosity};
+use commands::{CutRequest, RunError, run_subset_of_font};
+use font_coverage::{Asked, Coverage, Kept, linked_count, losses};
 use font_file::Font;
 use font_subset::keeps_layout;
 use font_theory::Kind;
@@ -42,20 +43,18 @@ fn request_of<'w>(
     }
 }
 
-// Sends the cut of what an inlet reads to OUT, and answers its size.
-fn send_cut<'a, F: HeldFiles, I, O: Write + Copy + Drop, R: Read>(
+// Sends the cut of a font to OUT, and answers its size.
+fn send_cut<'a, F: HeldFiles, I, O: Write + Copy + Drop>(
     system: &System<'a, F, I, O>,
     kind: Kind,
     line: &Subset<'a>,
-    inlet: &mut Inlet<R>,
+    font: &Font<'_>,
     wanted: &Wanted,
     numbers: &[u16],
-) -> Result<u64, Fault<'a>>
-    requires { inlet_fresh_of inlet.old ≡ true }
-{
+) -> Result<u64, Fault<'a>> {
     let mut outlet = outlet(system, line.out)?;
     let request = request_of(kind, line, wanted, numbers);
-    let sent = run_subset_of_request(system.alloc, &request, inlet, &mut outlet);
+    let sent = run_subset_of_font(system.alloc, font, &request, &mut outlet);
     let size = sent.map_err(|error| Fault::of_run(line.font, line.out, error))?;
     placed(system, outlet, line.out)?;
     Ok(size)
@@ -64,25 +63,6 @@ fn send_cut<'a, F: HeldFiles, I, O: Write + Copy + Drop, R: Read>(
 // Opens the font that is held in a file.
 fn opened<'a, 'f>(line: &Subset<'a>, file: &'f [u8]) -> Result<Font<'f>, Fault<'a>> {
     Font::open(file).map_err(|error| Fault::of_run(line.font, line.out, RunError::from(error)))
-}
-
-// Returns the outcome of a cut of this size and kind, with what is said where that is wanted. `linked` is the number of
-// glyphs that it keeps by links, where these are counted.
-fn with_report<'a>(
-    kind: Kind,
-    line: &Subset<'a>,
-    coverage: Coverage,
-    linked: Option<usize>,
-    size: u64,
-) -> Result<Outcome, Fault<'a>> {
-    if line.reports {
-        let text = coverage.with_cut(kind, linked, size)?;
-        return Ok(Outcome::saying(true, text));
-    }
-    match coverage.into_notes() {
-        Some(notes) if line.is_verbose => Ok(Outcome::noting(notes)),
-        _ => Ok(Outcome::of(true)),
-    }
 }
 
 // Returns the number of glyphs that a closed cut for codes alone keeps by links, where a line reports it.
@@ -101,7 +81,7 @@ fn reported_links(
 }
 
 // Cuts a font for the codes and the glyphs that are wanted, and reports on the cut.
-fn cut_of_font<'a, F: HeldFiles, I, O: Write + Copy + Drop>(
+fn cut_and_report<'a, F: HeldFiles, I, O: Write + Copy + Drop>(
     system: &System<'a, F, I, O>,
     kind: Kind,
     line: &Subset<'a>,
@@ -111,9 +91,44 @@ fn cut_of_font<'a, F: HeldFiles, I, O: Write + Copy + Drop>(
     coverage: Coverage,
 ) -> Result<Outcome, Fault<'a>> {
     let linked = reported_links(system.alloc, kind, line, font, wanted)?;
-    let mut inlet = Inlet::new(font.tables().directory().file());
-    let size = send_cut(system, kind, line, &mut inlet, wanted, numbers)?;
-    with_report(kind, line, coverage, linked, size)
+    let size = send_cut(system, kind, line, font, wanted, numbers)?;
+    let text = coverage.with_cut(kind, linked, size)?;
+    Ok(Outcome::saying(true, text))
+}
+
+// Returns what is said of a cut without being asked.
+fn said_of_cut(
+    alloc: Global,
+    kind: Kind,
+    line: &Subset<'_>,
+    font: &Font<'_>,
+    wanted: &Wanted,
+) -> Result<String, AllocError> {
+    if line.verbosity == Verbosity::Quiet {
+        return Ok(String::new(alloc));
+    }
+    let asked = Asked {
+        name: input_name(line.font),
+        kind,
+        wanted,
+        has_numbers: names_glyphs(line),
+        says_more: line.verbosity == Verbosity::Verbose,
+    };
+    losses(alloc, font, asked)
+}
+
+// Cuts a font for the codes and the glyphs that are wanted, and says what the cut drops that these need.
+fn cut_and_say<'a, F: HeldFiles, I, O: Write + Copy + Drop>(
+    system: &System<'a, F, I, O>,
+    kind: Kind,
+    line: &Subset<'a>,
+    font: &Font<'_>,
+    wanted: &Wanted,
+    numbers: &[u16],
+) -> Result<Outcome, Fault<'a>> {
+    let said = said_of_cut(system.alloc, kind, line, font, wanted)?;
+    send_cut(system, kind, line, font, wanted, numbers)?;
+    Ok(Outcome::noting(said))
 }
 
 // Returns whether a strict line is not done. One that names glyphs need not name codes.
@@ -123,7 +138,7 @@ fn is_refused(line: &Subset<'_>, coverage: &Coverage) -> bool {
 }
 
 // Cuts a font for the codes that are kept and for glyphs, and reports on the codes.
-fn cut_for_codes<'a, F: HeldFiles, I, O: Write + Copy + Drop>(
+fn cut_counted<'a, F: HeldFiles, I, O: Write + Copy + Drop>(
     system: &System<'a, F, I, O>,
     kind: Kind,
     line: &Subset<'a>,
@@ -131,17 +146,21 @@ fn cut_for_codes<'a, F: HeldFiles, I, O: Write + Copy + Drop>(
     kept: Kept,
     numbers: &[u16],
 ) -> Result<Outcome, Fault<'a>> {
-    let coverage = Coverage::of(system.alloc, font, &kept, kind, line.is_verbose)?;
+    let shows_characters = line.verbosity == Verbosity::Verbose;
+    let coverage = Coverage::of(system.alloc, font, &kept, kind, shows_characters)?;
     if is_refused(line, &coverage) {
         let text = coverage.unwritten_text(system.alloc)?;
         return Ok(Outcome::saying(false, text));
     }
     let wanted = kept.into_wanted(system.alloc)?;
-    cut_of_font(system, kind, line, font, &wanted, numbers, coverage)
+    if !line.reports {
+        return cut_and_say(system, kind, line, font, &wanted, numbers);
+    }
+    cut_and_report(system, kind, line, font, &wanted, numbers, coverage)
 }
 
-// Cuts a font, whose file this is, for the codes that are kept and for glyphs, and reports on the codes.
-fn cut_of_file<'a, F: HeldFiles, I, O: Write + Copy + Drop>(
+// Cuts a font, whose file this is, for the codes that are kept and for glyphs, as a line asks for it.
+fn cut_file<'a, F: HeldFiles, I, O: Write + Copy + Drop>(
     system: &System<'a, F, I, O>,
     kind: Kind,
     line: &Subset<'a>,
@@ -150,7 +169,11 @@ fn cut_of_file<'a, F: HeldFiles, I, O: Write + Copy + Drop>(
     numbers: &[u16],
 ) -> Result<Outcome, Fault<'a>> {
     let font = opened(line, file)?;
-    cut_for_codes(system, kind, line, &font, kept, numbers)
+    if line.reports || line.is_strict {
+        return cut_counted(system, kind, line, &font, kept, numbers);
+    }
+    let wanted = kept.into_wanted(system.alloc)?;
+    cut_and_say(system, kind, line, &font, &wanted, numbers)
 }
 
 // Reads a font into memory, without the tables that a line drops.
@@ -161,31 +184,12 @@ fn held_file<'a, F: HeldFiles, I, O, R: Read>(
 ) -> Result<Vec<u8>, Fault<'a>>
     requires { inlet_fresh_of inlet.old ≡ true }
 {
-    match inlet.read_all(system.alloc) {
-        Ok(whole) => without_named(system.alloc, line.font, whole, &line.dropped),
-        Err(error) => Err(Fault::of_run(line.font, line.out, RunError::from(error))),
-    }
-}
-
-// Cuts a font, which is held in memory, without the tables that a line drops, and reports on the cut.
-fn cut_held<'a, F: HeldFiles, I, O: Write + Copy + Drop, R: Read>(
-    system: &System<'a, F, I, O>,
-    kind: Kind,
-    line: &Subset<'a>,
-    inlet: &mut Inlet<R>,
-    kept: Kept,
-    numbers: &[u16],
-) -> Result<Outcome, Fault<'a>>
-    requires { inlet_fresh_of inlet.old ≡ true }
-{
-    let file = held_file(system, line, inlet)?;
-    cut_of_file(system, kind, line, &file, kept, numbers)
-}
-
-// Returns whether the font of a line is held in memory while it is cut.
-fn is_held(line: &Subset<'_>) -> bool {
-    let says_more = line.reports || line.is_strict || line.is_verbose;
-    says_more || !line.dropped.is_empty()
+    let whole = match inlet.read_all(system.alloc) {
+        Ok(whole) => whole,
+        Err(error) => return Err(Fault::of_run(line.font, line.out, RunError::from(error))),
+    };
+    keep_font(system, line, &whole)?;
+    without_named(system.alloc, line.font, whole, &line.dropped)
 }
 
 // Cuts the font of an inlet for the codes that are kept and for glyphs, as a line asks for it.
@@ -199,12 +203,8 @@ fn cut_inlet<'a, F: HeldFiles, I, O: Write + Copy + Drop, R: Read>(
 ) -> Result<Outcome, Fault<'a>>
     requires { inlet_fresh_of inlet.old ≡ true }
 {
-    if is_held(line) {
-        return cut_held(system, kind, line, inlet, kept, numbers);
-    }
-    let wanted = kept.into_wanted(system.alloc)?;
-    send_cut(system, kind, line, inlet, &wanted, numbers)?;
-    Ok(Outcome::of(true))
+    let file = held_file(system, line, inlet)?;
+    cut_file(system, kind, line, &file, kept, numbers)
 }
 
 // Looks at the OUT of a line, and at whether it names a set of characters or glyphs that cuts of its kind can have.

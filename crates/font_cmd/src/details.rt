@@ -4,9 +4,11 @@ use crate::refused_file::Seen;
 use crate::report::Fault;
 use command_line::Verbosity;
 use commands::RunError;
+use font_coverage::{FileForm, is_of_layout};
 use font_join::{JoinAllError, JoinError};
 use font_texts::{Shown, shown_character};
 use font_theory::Kind;
+use sfnt_bytes::Tag;
 use std::alloc::{AllocError, Global};
 use std::io;
 
@@ -58,6 +60,15 @@ const VARIABLE_JOIN: &str = "fontcut: variable cuts are joined by join --variabl
 const MADE_VARIABLE: &str =
     "fontcut: other cuts have no variations: cut the font anew by subset --variable\n";
 
+// The table of names of a font.
+const NAMES_TABLE: Tag = Tag(*b"name");
+
+// What is said of a file that is no cut.
+const NO_CUT: &str = "no cut as fontcut writes it\n";
+
+// How the characters of a text are kept.
+const TEXT: &str = "fontcut: the characters of a text are kept by --text TEXT\n";
+
 // What separates the system's reason from its number.
 const NUMBER: &str = " (os error";
 
@@ -104,18 +115,8 @@ fn add_reason(
     Ok(())
 }
 
-// Adds the path of the file that is refused, and what it is where that is known.
-fn add_refused(text: &mut String, path: &str, seen: Seen) -> Result<(), AllocError> {
-    let path = Shown(input_name(path));
-    match seen {
-        Seen::What(what) => write!(text, "fontcut: {path}: {what}\n")?,
-        _ => write!(text, "fontcut: {path} is refused\n")?,
-    }
-    Ok(())
-}
-
-// Returns what a cut of a kind is called.
-fn cut_name(kind: Kind) -> &'static str {
+/// Returns what a cut of a kind is called.
+pub(crate) fn cut_name(kind: Kind) -> &'static str {
     match kind {
         Kind::Full => "a full cut",
         Kind::Lean => "a lean cut",
@@ -205,6 +206,31 @@ fn add_no_cut(
     })
 }
 
+// Returns the table in which the fonts of two files differ, where fonts that are prepared in different ways do.
+fn prepared_table(error: &RunError) -> Option<Tag> {
+    let RunError::Join(
+        JoinAllError::At {
+            step: _,
+            error: JoinError::DifferentTable(tag),
+        },
+    ) = error
+    else {
+        return None;
+    };
+    Some(*tag).filter(|tag| is_of_layout(*tag) || *tag == NAMES_TABLE)
+}
+
+// Adds why the fonts of two files are likely to differ, where that can be told.
+fn add_prepared(text: &mut String, error: &RunError) -> Result<(), AllocError> {
+    if let Some(tag) = prepared_table(error) {
+        write!(
+            text,
+            "fontcut: one font that was prepared in two ways may differ in {tag}: cut the same file for both\n"
+        )?;
+    }
+    Ok(())
+}
+
 // Adds why two files are not joined as cuts of a kind.
 fn add_not_joined(
     text: &mut String,
@@ -233,60 +259,87 @@ fn add_not_joined(
     }
 }
 
-// Adds what a file is that is no layout or no variable cut, as that was asked for, and how one is made.
-fn add_not_joinable(
+// Adds what a file is that is no cut. Its line has been begun.
+fn add_no_form(
+    text: &mut String,
+    form: Option<FileForm>,
+    otherwise: &str,
+) -> Result<(), AllocError> {
+    match form {
+        Some(FileForm::Changed(Some(tag))) => {
+            write!(text, "a cut that was changed, in its table {tag}\n")?;
+            Ok(())
+        }
+        Some(FileForm::Changed(None)) => {
+            text.push_str("a cut that was changed, outside of its tables\n")
+        }
+        Some(FileForm::Font) => text.push_str("a font, and no cut of one\n"),
+        _ => text.push_str(otherwise),
+    }
+}
+
+// Adds what a file is that is no full cut. Its line has been begun.
+fn add_no_full(text: &mut String, form: Option<FileForm>) -> Result<(), AllocError> {
+    match form {
+        Some(FileForm::Cut(kind)) if kind != Kind::Full => {
+            let (cut, name) = (cut_name(kind), kind_name(kind));
+            write!(text, "{cut}; {name} cuts are joined by join --{name}\n")?;
+            Ok(())
+        }
+        _ => add_no_form(text, form, NO_CUT),
+    }
+}
+
+// Adds the path of the file that is refused, and what it is where that is known.
+fn add_refused(text: &mut String, path: &str, seen: Seen) -> Result<(), AllocError> {
+    let path = Shown(input_name(path));
+    match seen {
+        Seen::What(what) => write!(text, "fontcut: {path}: {what}\n")?,
+        Seen::Form(form) => {
+            write!(text, "fontcut: {path}: ")?;
+            add_no_full(text, form)?;
+        }
+        _ => write!(text, "fontcut: {path} is refused\n")?,
+    }
+    Ok(())
+}
+
+// Adds how a cut of a kind is made of the cut of another one at a path, or in its place.
+fn add_made(text: &mut String, joined: Kind, path: &str, kind: Kind) -> Result<(), AllocError> {
+    match (joined, kind) {
+        (Kind::Lean, Kind::Full) => {
+            add_made_lean(text, path)?;
+            text.push_str(MADE_FULL)
+        }
+        (Kind::Lean, _) => Ok(()),
+        _ => text.push_str(made_in_place(joined, kind)),
+    }
+}
+
+// Adds what a file is that is no cut of a kind other than that of full cuts, and how one is made.
+fn add_not_of_kind(
     text: &mut String,
     joined: Kind,
     path: &str,
     seen: Seen,
 ) -> Result<(), AllocError> {
     let (name, wanted) = (Shown(input_name(path)), kind_name(joined));
-    match seen {
-        Seen::Cuts {
-            refused: Some(kind),
-            ..
-        } => {
-            let cut = cut_name(kind);
-            write!(text, "fontcut: {name}: {cut}, and no {wanted} one\n")?;
-            text.push_str(made_in_place(joined, kind))
-        }
-        _ => {
-            write!(text, "fontcut: {name}: no {wanted} cut\n")?;
-            Ok(())
-        }
+    let form = match seen {
+        Seen::Form(form) => form,
+        _ => None,
+    };
+    write!(text, "fontcut: {name}: ")?;
+    if let Some(FileForm::Cut(kind)) = form {
+        let cut = cut_name(kind);
+        write!(text, "{cut}, and no {wanted} one\n")?;
+        return add_made(text, joined, path, kind);
     }
-}
-
-// Adds what a file is that is no lean cut, and how it is made one.
-fn add_not_lean(text: &mut String, path: &str, seen: Seen) -> Result<(), AllocError> {
-    let name = Shown(input_name(path));
-    match seen {
-        Seen::Cuts {
-            refused: Some(Kind::Full),
-            ..
-        } => {
-            write!(text, "fontcut: {name}: a full cut, and no lean one\n")?;
-            add_made_lean(text, path)?;
-            text.push_str(MADE_FULL)
-        }
-        _ => {
-            write!(text, "fontcut: {name}: no lean cut\n")?;
-            Ok(())
-        }
-    }
-}
-
-// Adds what a file is that is no cut of a kind.
-fn add_not_of_kind(
-    text: &mut String,
-    kind: Kind,
-    path: &str,
-    seen: Seen,
-) -> Result<(), AllocError> {
-    match kind {
-        Kind::Full | Kind::Lean => add_not_lean(text, path, seen),
-        Kind::Layout | Kind::Variable => add_not_joinable(text, kind, path, seen),
-    }
+    let otherwise = match joined {
+        Kind::Layout => "no layout cut\n",
+        Kind::Variable => "no variable cut\n",
+        _ => "no lean cut\n",
+    };
+    add_no_form(text, form, otherwise)
 }
 
 // Adds how both the file that would be replaced and the only file of a join are joined.
@@ -297,6 +350,21 @@ fn add_both(text: &mut String, file: &str, out: &str) -> Result<(), AllocError> 
         "fontcut: write join -o OUT {out} {file} to join both, or remove {out} first\n"
     )?;
     Ok(())
+}
+
+// Adds how the font at OUT is cut, and that it can be replaced all the same.
+fn add_over_font(text: &mut String, out: &str) -> Result<(), AllocError> {
+    let font = Shown(out);
+    write!(
+        text,
+        "fontcut: subset {font} OUT cuts the font; --force replaces {font}\n"
+    )?;
+    Ok(())
+}
+
+// Returns whether a word that names no range begins as one that does.
+fn names_code(word: &str) -> bool {
+    word.starts_with("U+") || word.starts_with("u+")
 }
 
 // Adds which file a fault is about, and what is known of it.
@@ -316,10 +384,15 @@ fn add_known(
             kind,
             path,
             first,
-            ..
-        } => add_not_joined(text, *kind, path, first, seen),
+            error,
+        } => {
+            add_not_joined(text, *kind, path, first, seen)?;
+            add_prepared(text, error)
+        }
         Fault::NotOfKind { kind, path, .. } => add_not_of_kind(text, *kind, path, seen),
         Fault::Replaces { file, out } => add_both(text, file, out),
+        Fault::OverFont { out, .. } => add_over_font(text, out),
+        Fault::BadWord(word) if !names_code(word) => text.push_str(TEXT),
         Fault::NoSet => text.push_str(SETS),
         Fault::PackedOut(_) | Fault::PackedFolder => text.push_str(FORCE),
         _ => Ok(()),

@@ -2,25 +2,24 @@
 ghost use Rattle.std.specs.Prelude.{◌≡◌, true};
 ghost use Rattle.streams.specs.Outlet.{fresh_of};
 
+use crate::belongs_command::belongs;
 use crate::cut_command::subset;
 use crate::demo::demo_text;
 use crate::details::{Details, NO_DETAILS};
-use crate::dropped_tables::without_named;
-use crate::inputs::{inlet_at, read_whole};
+use crate::inputs::inlet_at;
 use crate::join_command::join;
 use crate::outcome::{Outcome, answered, ended, print, report, say};
 use crate::refused_file::{Seen, look_again};
 use crate::report::{Fault, no_memory};
 use crate::showing::show;
 use crate::slicing::slice;
-use command_line::{Belongs, CutKind, Line, LineError, Task, Verbosity, is_quiet, parse};
-use commands::{RunError, run_belongs, run_check, run_codes, run_glyphs};
-use font_join::Which;
+use command_line::{CutKind, Line, LineError, Task, Verbosity, is_quiet, parse};
+use commands::{run_check, run_codes, run_glyphs};
 use font_theory::Kind;
 use program_files::{HeldFiles, Reason, System};
 use std::alloc::{AllocError, Global};
 use std::io::{Read, Write};
-use streams::{Flushes, Inlet, Outlet};
+use streams::{Flushes, Outlet};
 
 fn check<'a, F: HeldFiles, I: Read + Copy + Drop, O, W: Flushes>(
     system: &System<'a, F, I, O>,
@@ -48,72 +47,6 @@ fn codes<'a, F: HeldFiles, I: Read + Copy + Drop, O, W: Flushes>(
         run_codes(system.alloc, &mut inlet, out)
     };
     answered(font, sent.map(|()| true))
-}
-
-// Returns the outcome of `belongs`. `unread` is the path of the file that could not be read, where one could not.
-fn belonged<'a>(
-    line: &Belongs<'a>,
-    unread: &'a str,
-    is_cut: Result<bool, RunError>,
-) -> Result<Outcome, Fault<'a>> {
-    match is_cut {
-        Err(RunError::OneOf(which, error)) => {
-            let path = match which {
-                Which::First => line.cut,
-                Which::Second => line.font,
-            };
-            let error = RunError::OneOf(which, error);
-            Err(Fault::RefusedFile { path, error })
-        }
-        is_cut => answered(unread, is_cut),
-    }
-}
-
-// Reads the font of a line, and leaves out the tables that the line drops.
-fn font_without<'a, F: HeldFiles, I: Read + Copy + Drop, O>(
-    system: &System<'a, F, I, O>,
-    line: &Belongs<'a>,
-) -> Result<Vec<u8>, Fault<'a>> {
-    let whole = read_whole(system, line.font)?;
-    without_named(system.alloc, line.font, whole, &line.dropped)
-}
-
-// Does what `belongs` asks for of a font without some of its tables. Both files are held in memory.
-fn belongs_without<'a, F: HeldFiles, I: Read + Copy + Drop, O, W: Flushes>(
-    system: &System<'a, F, I, O>,
-    kind: Kind,
-    line: &Belongs<'a>,
-    out: &mut Outlet<W>,
-) -> Result<Outcome, Fault<'a>>
-    requires { fresh_of out.old ≡ true }
-{
-    let cut = read_whole(system, line.cut)?;
-    let font = font_without(system, line)?;
-    let (mut cut_inlet, mut font_inlet) = (Inlet::new(&cut[..]), Inlet::new(&font[..]));
-    let is_cut = run_belongs(system.alloc, kind, &mut cut_inlet, &mut font_inlet, out);
-    belonged(line, line.cut, is_cut)
-}
-
-fn belongs<'a, F: HeldFiles, I: Read + Copy + Drop, O, W: Flushes>(
-    system: &System<'a, F, I, O>,
-    kind: Kind,
-    line: &Belongs<'a>,
-    out: &mut Outlet<W>,
-) -> Result<Outcome, Fault<'a>>
-    requires { fresh_of out.old ≡ true }
-{
-    if !line.dropped.is_empty() {
-        return belongs_without(system, kind, line, out);
-    }
-    let mut cut_inlet = inlet_at(system, line.cut)?;
-    let mut font_inlet = inlet_at(system, line.font)?;
-    let is_cut = run_belongs(system.alloc, kind, &mut cut_inlet, &mut font_inlet, out);
-    let unread = if cut_inlet.is_broken() {
-        line.cut
-    } else {
-        line.font
-    };
-    belonged(line, unread, is_cut)
 }
 
 fn demo<W: Flushes>(alloc: Global, out: &mut Outlet<W>) -> Result<Outcome, Fault<'static>>
@@ -147,7 +80,10 @@ fn done<'a, F: HeldFiles, I: Read + Copy + Drop, O: Write + Copy + Drop, W: Flus
         Task::Check { font } => check(system, font, out),
         Task::Show { font } => show(system, font, line.verbosity, out),
         Task::Codes { font, with_glyphs } => codes(system, font, *with_glyphs, out),
-        Task::Belongs(line) => belongs(system, kind_asked(line.kind), line, out),
+        Task::Belongs(asked) => {
+            let kind = asked.kind.map(kind_asked);
+            belongs(system, kind, asked, line.verbosity, out)
+        }
         Task::Subset(line) => subset(system, kind_asked(line.kind), line),
         Task::Join(line) => join(system, kind_asked(line.kind), line),
         Task::Slice(line) => slice(system, kind_asked(line.kind), line, out),

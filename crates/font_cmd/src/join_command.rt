@@ -3,6 +3,7 @@ ghost use Rattle.std.specs.Prelude.{◌≡◌, true};
 ghost use Rattle.commands.specs.JoinRun.{AreFresh};
 
 use crate::inputs::inlets_at;
+use crate::kept_font::is_file_at;
 use crate::outcome::Outcome;
 use crate::output::{outlet, packed_out, placed};
 use crate::report::{Fault, refused_join};
@@ -10,9 +11,7 @@ use command_line::{Join, STANDARD};
 use commands::{RunError, run_join_of_kind};
 use font_theory::Kind;
 use program_files::{HeldFiles, System, standing_file};
-use std::fs;
 use std::io::{Read, Write};
-use std::os::unix::fs::MetadataExt;
 use streams::Inlet;
 
 // Returns the path of the inlet whose reader has failed.
@@ -55,17 +54,6 @@ fn send_join<'a, F: HeldFiles, I, O: Write + Copy + Drop, R: Read>(
     sent.map_err(|error| join_fault(kind, line, inlets, error))?;
     placed(system, outlet, line.out)?;
     Ok(Outcome::of(true))
-}
-
-// Returns whether the file at a path is this one.
-fn is_file_at<F: HeldFiles>(files: &F, path: &str, stands: &fs::Metadata) -> bool {
-    if path == STANDARD {
-        return false;
-    }
-    match fs::metadata(files, path) {
-        Ok(other) => other.ino() == stands.ino() && other.dev() == stands.dev(),
-        Err(_) => false,
-    }
 }
 
 // Refuses a line whose first word is OUT where the one file that follows it would replace another file: so it is where

@@ -2,6 +2,7 @@
 //! proved, and that it returns: tests show the rest. What its commands send is proved in `commands`.
 #![tactic(auto)]
 
+mod belongs_command;
 mod choice;
 mod cut_command;
 mod demo;
@@ -10,6 +11,7 @@ mod dispatch;
 mod dropped_tables;
 mod inputs;
 mod join_command;
+mod kept_font;
 mod outcome;
 mod output;
 mod refused_file;

@@ -47,9 +47,10 @@ impl Outcome {
 
     /// Returns the outcome of a task that writes notes to standard error where all is well.
     pub(crate) fn noting(notes: String) -> Outcome {
+        let report = if notes.is_empty() { None } else { Some(notes) };
         Outcome {
             is_well: true,
-            report: Some(notes),
+            report,
             is_asked: false,
         }
     }

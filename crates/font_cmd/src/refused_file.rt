@@ -3,7 +3,7 @@
 use crate::report::Fault;
 use command_line::STANDARD;
 use commands::RunError;
-use font_coverage::cut_kind;
+use font_coverage::{FileForm, cut_kind, file_form};
 use font_file::{Font, FontError};
 use font_join::{JoinAllError, JoinError};
 use font_tables::TableError;
@@ -20,15 +20,6 @@ use streams::{Inlet, ReadError};
 // What is said of a font whose mapping is not read.
 const UNMAPPED: &str =
     "a font without a mapping of Unicode that is read: one of symbols alone has none";
-
-// What is said of a file that is no cut.
-const NO_CUT: &str = "no cut as fontcut writes it";
-
-// What is said of a layout cut that is no full one.
-const LAYOUT_CUT: &str = "a layout cut; layout cuts are joined by join --layout";
-
-// The same of a variable cut.
-const VARIABLE_CUT: &str = "a variable cut; variable cuts are joined by join --variable";
 
 // What is said of a cut that makes a join too large.
 const TOO_LARGE: &str = "with this file the join is too large";
@@ -79,6 +70,8 @@ pub(crate) enum Seen {
     Nothing,
     /// What the refused file is.
     What(&'static str),
+    /// What the file is that is refused as no cut, or as no cut of the kind that is asked for, where it can be read again.
+    Form(Option<FileForm>),
     /// Of which kind the first file of a join is as a cut, and the one that is refused, where that is known.
     Cuts {
         first: Option<Kind>,
@@ -159,16 +152,31 @@ fn file_kind(alloc: Global, file: &[u8]) -> Result<Option<Kind>, AllocError> {
     cut_kind(alloc, &font).map_err(|_| AllocError)
 }
 
-// Returns the kind of the cut at a path, where it is one and can be read again.
-fn cut_kind_at<F: Files>(files: &F, alloc: Global, path: &str) -> Result<Option<Kind>, AllocError> {
+/// Reads the regular file at a path to its end, where there is one and it can be read.
+///
+/// # Errors
+/// `AllocError` where memory is refused.
+pub(crate) fn read_again<F: Files>(
+    files: &F,
+    alloc: Global,
+    path: &str,
+) -> Result<Option<Vec<u8>>, AllocError> {
     let Some(file) = opened(files, path) else {
         return Ok(None);
     };
     let mut inlet = Inlet::new(file);
     match inlet.read_all(alloc) {
-        Ok(bytes) => file_kind(alloc, &bytes),
+        Ok(bytes) => Ok(Some(bytes)),
         Err(ReadError::NoMemory) => Err(AllocError),
         Err(_) => Ok(None),
+    }
+}
+
+// Returns the kind of the cut at a path, where it is one and can be read again.
+fn cut_kind_at<F: Files>(files: &F, alloc: Global, path: &str) -> Result<Option<Kind>, AllocError> {
+    match read_again(files, alloc, path)? {
+        Some(file) => file_kind(alloc, &file),
+        None => Ok(None),
     }
 }
 
@@ -199,35 +207,40 @@ fn refused_font<F: Files>(files: &F, path: &str, error: &FontError) -> Option<&'
     kind_at(files, path, is_without_glyf)
 }
 
-// Returns what a refused file is.
-fn refused_kind<F: Files>(files: &F, path: &str, error: &RunError) -> Option<&'static str> {
-    if let Some(error) = font_error(error) {
-        return refused_font(files, path, error);
-    }
-    match error {
-        RunError::Join(
-            JoinAllError::At {
-                step: _,
-                error: JoinError::NotACut(_),
-            },
-        ) => Some(NO_CUT),
-        RunError::Join(
-            JoinAllError::At {
-                step: _,
-                error: JoinError::TooLarge(_),
-            },
-        ) => Some(TOO_LARGE),
-        _ => None,
+// Returns what the file at a path is, where it is a font and can be read again.
+fn form_at<F: Files>(files: &F, alloc: Global, path: &str) -> Result<Option<FileForm>, AllocError> {
+    let Some(file) = read_again(files, alloc, path)? else {
+        return Ok(None);
+    };
+    let Ok(font) = Font::open(&file) else {
+        return Ok(None);
+    };
+    match file_form(alloc, &font) {
+        Ok(form) => Ok(Some(form)),
+        Err(_) => Err(AllocError),
     }
 }
 
-// Returns what the file at a path is that is no full cut.
-fn no_full_cut<F: Files>(files: &F, alloc: Global, path: &str) -> Result<&'static str, AllocError> {
-    Ok(match cut_kind_at(files, alloc, path)? {
-        Some(Kind::Layout) => LAYOUT_CUT,
-        Some(Kind::Variable) => VARIABLE_CUT,
-        _ => NO_CUT,
-    })
+// Returns whether a file of a join is refused because the join is too large with it.
+fn is_too_large(error: &RunError) -> bool {
+    matches!(
+        error,
+        RunError::Join(JoinAllError::At {
+            step: _,
+            error: JoinError::TooLarge(_),
+        })
+    )
+}
+
+// Returns whether a file of a join is refused because it is no cut.
+fn is_no_cut(error: &RunError) -> bool {
+    matches!(
+        error,
+        RunError::Join(JoinAllError::At {
+            step: _,
+            error: JoinError::NotACut(_),
+        })
+    )
 }
 
 // Returns what is known of a refused file.
@@ -237,13 +250,19 @@ fn refused_seen<F: Files>(
     path: &str,
     error: &RunError,
 ) -> Result<Seen, AllocError> {
-    let Some(what) = refused_kind(files, path, error) else {
+    if is_no_cut(error) {
+        return Ok(Seen::Form(form_at(files, alloc, path)?));
+    }
+    if is_too_large(error) {
+        return Ok(Seen::What(TOO_LARGE));
+    }
+    let Some(error) = font_error(error) else {
         return Ok(Seen::Nothing);
     };
-    if what == NO_CUT {
-        return Ok(Seen::What(no_full_cut(files, alloc, path)?));
+    match refused_font(files, path, error) {
+        Some(what) => Ok(Seen::What(what)),
+        None => Ok(Seen::Nothing),
     }
-    Ok(Seen::What(what))
 }
 
 /// Returns what is known of the files that are why a line is not done. They are read again for that.
@@ -270,10 +289,7 @@ pub(crate) fn look_again<F: Files, I, O>(
             first: cut_kind_at(files, alloc, first)?,
             refused: cut_kind_at(files, alloc, path)?,
         }),
-        Fault::NotOfKind { kind, path, .. } => Ok(Seen::Cuts {
-            first: Some(*kind),
-            refused: cut_kind_at(files, alloc, path)?,
-        }),
+        Fault::NotOfKind { path, .. } => Ok(Seen::Form(form_at(files, alloc, path)?)),
         _ => Ok(Seen::Nothing),
     }
 }

@@ -44,6 +44,11 @@ pub(crate) enum Fault<'a> {
         file: &'a str,
         out: &'a str,
     },
+    /// The font at `out` would be replaced by a cut, where the file at `font` is itself a cut of it.
+    OverFont {
+        font: &'a str,
+        out: &'a str,
+    },
     /// A line of the file at this path is not UTF-8, or has this word, which names no range.
     BadLine {
         path: &'a str,
@@ -129,6 +134,7 @@ impl<'a> Fault<'a> {
             | Fault::PackedFolder
             | Fault::NoSet
             | Fault::Replaces { .. }
+            | Fault::OverFont { .. }
             | Fault::BadLine { .. }
             | Fault::BadName { .. }
             | Fault::NameTwice { .. }
@@ -344,6 +350,13 @@ fn write_bad_out<W: fmt::Write>(f: &mut fmt::Formatter<W>, fault: &Fault<'_>) ->
                 "join has one file, {file}, and would overwrite {out} with it"
             )
         }
+        Fault::OverFont { font, out } => {
+            let (cut, font) = (Shown(input_name(font)), Shown(out));
+            write!(
+                f,
+                "{font} is the font, and {cut} a cut of it: nothing was written"
+            )
+        }
         _ => Ok(()),
     }
 }
@@ -363,7 +376,8 @@ impl fmt::Display for Fault<'_> {
             Fault::OutIsWord(_)
             | Fault::PackedOut(_)
             | Fault::PackedFolder
-            | Fault::Replaces { .. } => write_bad_out(f, self),
+            | Fault::Replaces { .. }
+            | Fault::OverFont { .. } => write_bad_out(f, self),
             Fault::BadName { .. }
             | Fault::NameTwice { .. }
             | Fault::LongLine { .. }

@@ -3,7 +3,7 @@ ghost use Rattle.std.specs.Prelude.{◌≡◌, true};
 ghost use Rattle.streams.specs.Outlet.{fresh_of};
 
 use crate::dropped_tables::without_named;
-use crate::inputs::{read_whole, source};
+use crate::inputs::{input_name, read_whole, source};
 use crate::outcome::{Outcome, print};
 use crate::output::{before_packed, outlet, placed};
 use crate::report::{Fault, no_memory};
@@ -12,7 +12,7 @@ use crate::wanted_glyphs::{first_past, listed};
 use codes::Wanted;
 use command_line::Slices;
 use commands::RunError;
-use font_coverage::mapped_codes;
+use font_coverage::{Asked, losses, mapped_codes};
 use font_file::Font;
 use font_subset::{FontToCut, cut_of_kind_into, keeps_layout};
 use font_texts::{ShownWord, add_rule};
@@ -177,6 +177,30 @@ impl Said {
     }
 }
 
+// Returns what cuts of a kind drop that the characters of slices need.
+fn lost_of(
+    alloc: Global,
+    kind: Kind,
+    line: &Slices<'_>,
+    font: &Font<'_>,
+    slices: &[Slice<'_>],
+) -> Result<String, AllocError> {
+    let mut codes = CodeSet::new(alloc);
+    for slice in slices {
+        codes.add_all(alloc, &slice.codes)?;
+    }
+    let wanted = codes.into_wanted(alloc)?;
+    let asked = Asked {
+        name: input_name(line.font),
+        kind,
+        wanted: &wanted,
+        // Slices of which the font maps nothing are named one by one.
+        has_numbers: true,
+        says_more: false,
+    };
+    losses(alloc, font, asked)
+}
+
 // Returns the first glyph number of the slices that is no glyph of a font of so many glyphs.
 fn first_stray(alloc: Global, count: u16, slices: &[Slice<'_>]) -> Result<Option<u16>, AllocError> {
     for slice in slices {
@@ -244,10 +268,12 @@ fn slice_font<'a, F: HeldFiles, I, O: Write + Copy + Drop, W: Flushes>(
     if let Some(number) = first_stray(system.alloc, font.tables().glyph_count(), &slices)? {
         return Err(Fault::of_run(line.font, line.folder, RunError::NoGlyph(number)));
     }
-    let said = Said::of(system.alloc, font, line.family, &slices)?;
+    let mut said = Said::of(system.alloc, font, line.family, &slices)?;
     if line.is_strict && !said.unmapped.is_empty() {
         return Ok(said.unwritten(system.alloc, line.is_quiet)?);
     }
+    let lost = lost_of(system.alloc, kind, line, font, &slices)?;
+    said.unmapped.push_str(lost.as_str())?;
     write_cuts(system, kind, line, font, slices)?;
     said.told(line.is_quiet, out)
 }

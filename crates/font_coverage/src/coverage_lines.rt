@@ -39,9 +39,6 @@ pub struct Coverage {
     // How many codes are wanted, and how many of these the font does not map.
     wanted: u32,
     lacking: u32,
-    // A line that names the scripts that the font shapes and a cut of the kind does not, where there are such, and one
-    // where the font varies and the cut does not.
-    notes: String,
 }
 
 // Written out: a derived drop is proved anew wherever a value is let go, with all that is known of the value.
@@ -51,7 +48,6 @@ impl Drop for Coverage {
             text: _text,
             wanted: _,
             lacking: _,
-            notes: _notes,
         } = self;
     }
 }
@@ -210,14 +206,12 @@ fn add_font(text: &mut String, kind: Kind, font: &Font<'_>) -> Result<(), AllocE
     Ok(())
 }
 
-// Adds a line that names scripts that the font shapes and a cut does not, and one to those for messages, where there are
-// such scripts.
-fn add_shaped(text: &mut String, notes: &mut String, shaped: &str) -> Result<(), AllocError> {
+// Adds a line that names scripts that the font shapes and a cut does not, where there are such scripts.
+fn add_shaped(text: &mut String, shaped: &str) -> Result<(), AllocError> {
     if shaped.is_empty() {
         return Ok(());
     }
     write!(text, "shapes {shaped}: {WHAT_KEEPS}\n")?;
-    write!(notes, "fontcut: the font shapes {shaped}: {WHAT_KEEPS}\n")?;
     Ok(())
 }
 
@@ -227,37 +221,27 @@ fn varies(font: &Font<'_>) -> bool {
     dropped.any(|entry| entry.tag == Tag(*b"fvar"))
 }
 
-// Adds a line that says that a cut has one instance of a font, and one to those for messages, where the font varies and
-// the cut does not.
-fn add_instance(
-    text: &mut String,
-    notes: &mut String,
-    kind: Kind,
-    font: &Font<'_>,
-) -> Result<(), AllocError> {
+// Adds a line that says that a cut has one instance of a font, where the font varies and the cut does not.
+fn add_instance(text: &mut String, kind: Kind, font: &Font<'_>) -> Result<(), AllocError> {
     if kind == Kind::Variable || !varies(font) {
         return Ok(());
     }
     write!(text, "varies: {WHAT_VARIES}\n")?;
-    write!(notes, "fontcut: the font varies: {WHAT_VARIES}\n")?;
     Ok(())
 }
 
 // Adds the lines on the tables of a font and on what it has and a cut does not, with room for the lines that are written
-// after the cut is. Returns lines for messages.
+// after the cut is.
 fn add_tables(
-    alloc: Global,
     text: &mut String,
     kind: Kind,
     font: &Font<'_>,
     shaped: &str,
-) -> Result<String, AllocError> {
-    let mut notes = String::new(alloc);
+) -> Result<(), AllocError> {
     add_font(text, kind, font)?;
-    add_shaped(text, &mut notes, shaped)?;
-    add_instance(text, &mut notes, kind, font)?;
-    text.reserve(LEAN_LINES.len() + LAST_LINES.len())?;
-    Ok(notes)
+    add_shaped(text, shaped)?;
+    add_instance(text, kind, font)?;
+    text.reserve(LEAN_LINES.len() + LAST_LINES.len())
 }
 
 // Returns how many glyphs one cut keeps and another does not.
@@ -414,12 +398,11 @@ impl Coverage {
     ) -> Result<Coverage, AllocError> {
         let counted = count_codes(alloc, font, kept, kind)?;
         let mut text = counted.text(alloc, shows_characters)?;
-        let notes = add_tables(alloc, &mut text, kind, font, counted.shaped.as_str())?;
+        add_tables(&mut text, kind, font, counted.shaped.as_str())?;
         Ok(Coverage {
             text,
             wanted: counted.wanted,
             lacking: counted.lacking,
-            notes,
         })
     }
 
@@ -454,18 +437,6 @@ impl Coverage {
         Ok(text)
     }
 
-    /// Returns a line that names the scripts that the font shapes and a cut of the kind does not, where there are
-    /// such, and one where the font varies and the cut does not.
-    pub fn into_notes(self) -> Option<String> {
-        let Coverage {
-            text: _text,
-            wanted: _,
-            lacking: _,
-            notes,
-        } = self;
-        if notes.is_empty() { None } else { Some(notes) }
-    }
-
     /// Returns the lines, those for what a cut of a kind leaves out, one for the glyphs to which links lead where
     /// they are counted, and one for the bytes of the cut.
     pub fn with_cut(
@@ -478,7 +449,6 @@ impl Coverage {
             mut text,
             wanted: _,
             lacking: _,
-            notes: _notes,
         } = self;
         if kind != Kind::Full {
             text.push_str(LEAN_LINES)?;

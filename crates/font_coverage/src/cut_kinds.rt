@@ -1,7 +1,9 @@
 //! The kinds of cuts that a font is.
 use crate::coverage_lines::keeps_table;
 use font_file::Font;
-use font_subset::{CutError, CutForm, FontOfKind, FontToCut, OpenError, cut_of_kind, form_of_kind};
+use font_subset::{
+    CutError, CutForm, FontOfKind, FontToCut, OpenError, belongs, cut_of_kind, form_of_kind,
+};
 use font_theory::Kind;
 use sfnt_bytes::NoMemory;
 use std::alloc::Global;
@@ -80,6 +82,50 @@ pub fn cut_kind(alloc: Global, font: &Font<'_>) -> Result<Option<Kind>, NoMemory
     }
     for kind in [Kind::Layout, Kind::Variable] {
         if has_more(kind, font) && has_form(alloc, kind, font)? {
+            return Ok(Some(kind));
+        }
+    }
+    Ok(None)
+}
+
+// Returns whether a font that was opened for cuts of a kind is a cut of another one, of that kind.
+fn is_cut_of_font(
+    alloc: Global,
+    cut: &FontOfKind<'_, '_>,
+    font: &Font<'_>,
+) -> Result<bool, NoMemory> {
+    match FontOfKind::open(alloc, cut.kind(), font) {
+        Ok(opened) => belongs(alloc, cut, &opened),
+        Err(OpenError::NoMemory) => Err(NoMemory),
+        Err(OpenError::Refused(_)) => Ok(false),
+    }
+}
+
+// Returns whether a font is a cut of another one, of a kind. A font that is refused for such cuts is none, and has none.
+fn belongs_as(
+    alloc: Global,
+    kind: Kind,
+    cut: &Font<'_>,
+    font: &Font<'_>,
+) -> Result<bool, NoMemory> {
+    match FontOfKind::open(alloc, kind, cut) {
+        Ok(opened) => is_cut_of_font(alloc, &opened, font),
+        Err(OpenError::NoMemory) => Err(NoMemory),
+        Err(OpenError::Refused(_)) => Ok(false),
+    }
+}
+
+/// Returns the first kind, of full, lean, layout and variable cuts, of which a font is a cut of another one.
+///
+/// # Errors
+/// `NoMemory` where memory is refused.
+pub fn kind_of_cut(
+    alloc: Global,
+    cut: &Font<'_>,
+    font: &Font<'_>,
+) -> Result<Option<Kind>, NoMemory> {
+    for kind in [Kind::Full, Kind::Lean, Kind::Layout, Kind::Variable] {
+        if belongs_as(alloc, kind, cut, font)? {
             return Ok(Some(kind));
         }
     }

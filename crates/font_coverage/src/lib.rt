@@ -1,13 +1,18 @@
-//! What `--report` and `--strict` say of a font and of wanted codes, and the kinds of cuts that a font is. Safety alone
-//! is proved, and that each call returns: tests show the rest.
+//! What is said of a font and of wanted codes, also by `--report` and `--strict`, and the kinds of cuts that a font is.
+//! Safety alone is proved, and that each call returns: tests show the rest.
 #![tactic(auto)]
 
+mod changed_cuts;
 mod coverage_lines;
 mod cut_kinds;
 mod kept;
+mod lost;
+mod sequences;
 
+pub use crate::changed_cuts::{FileForm, file_form};
 pub use crate::coverage_lines::{
     Coverage, is_of_layout, is_of_variations, linked_count, mapped_codes,
 };
-pub use crate::cut_kinds::{cut_kind, is_cut_of};
+pub use crate::cut_kinds::{cut_kind, is_cut_of, kind_of_cut};
 pub use crate::kept::Kept;
+pub use crate::lost::{Asked, losses};

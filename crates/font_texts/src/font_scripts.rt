@@ -384,7 +384,15 @@ struct Listed<'a> {
     positioned: &'a [u8],
 }
 
-impl Listed<'_> {
+impl<'a> Listed<'a> {
+    // Returns those of a font.
+    fn of(font: &Font<'a>) -> Listed<'a> {
+        Listed {
+            substituted: records_of(font, Tag(*b"GSUB")),
+            positioned: records_of(font, Tag(*b"GPOS")),
+        }
+    }
+
     // Returns whether either table lists a script by a tag.
     fn has(&self, tag: &[u8]) -> bool {
         has_tag(self.substituted, tag) || has_tag(self.positioned, tag)
@@ -470,6 +478,12 @@ fn add_simple(
     add_rows(names, &SIMPLE, SIMPLE_LINES, scripts, listed, false)
 }
 
+/// Returns whether the GSUB or the GPOS of a font lists a script.
+pub fn lists_scripts(font: &Font<'_>) -> bool {
+    let listed = Listed::of(font);
+    !listed.substituted.is_empty() || !listed.positioned.is_empty()
+}
+
 /// Returns the names of the scripts of the codes of some ranges whose text a font shapes, with commas between them.
 ///
 /// # Errors
@@ -479,13 +493,38 @@ pub fn shaped_scripts(
     font: &Font<'_>,
     ranges: &[(u32, u32)],
 ) -> Result<String, AllocError> {
-    let listed = Listed {
-        substituted: records_of(font, Tag(*b"GSUB")),
-        positioned: records_of(font, Tag(*b"GPOS")),
-    };
+    let listed = Listed::of(font);
     let scripts = scripts_of(alloc, ranges)?;
     let mut names = String::new(alloc);
     add_complex(&mut names, &scripts, &listed)?;
     add_simple(&mut names, &scripts, &listed)?;
     Ok(names)
+}
+
+/// Returns the names of those scripts of the codes of some ranges whose text a font shapes and that cannot be read where
+/// nothing shapes it, with commas between them.
+///
+/// # Errors
+/// `AllocError` where memory is refused.
+pub fn complex_scripts(
+    alloc: Global,
+    font: &Font<'_>,
+    ranges: &[(u32, u32)],
+) -> Result<String, AllocError> {
+    let scripts = scripts_of(alloc, ranges)?;
+    let mut names = String::new(alloc);
+    add_complex(&mut names, &scripts, &Listed::of(font))?;
+    Ok(names)
+}
+
+/// Returns the first code, not below a given one, that may be a letter of a script whose text cannot be read where nothing
+/// shapes it: those of ideographs, of Hangul and of ASCII are passed over.
+pub fn next_complex(code: u32) -> u32 {
+    match code {
+        0..=0x5FF => 0x600,
+        0x2E80..=0xA7FF => 0xA800,
+        0xAC00..=0xD7FF => 0xD800,
+        0x2_0000..=0x10_FFFF => 0x11_0000,
+        _ => code,
+    }
 }

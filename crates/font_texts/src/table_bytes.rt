@@ -14,6 +14,22 @@ pub fn number_at(bytes: &[u8], at: usize) -> usize
     }
 }
 
+/// Returns the number of three bytes at a place, or none where they are not there.
+pub fn three_at(bytes: &[u8], at: usize) -> u32 {
+    match bytes.get(at..at.saturating_add(3)) {
+        Some(three) => u32::from_be_bytes([0, three[0], three[1], three[2]]),
+        None => 0,
+    }
+}
+
+/// Returns the number of four bytes at a place, or none where they are not there.
+pub fn long_at(bytes: &[u8], at: usize) -> usize {
+    match bytes.get(at..at.saturating_add(4)) {
+        Some(four) => u32::from_be_bytes([four[0], four[1], four[2], four[3]]) as usize,
+        None => 0,
+    }
+}
+
 /// Returns the bytes of a font's first table of a name, or none where it has no such table.
 pub fn table_named<'a>(font: &Font<'a>, name: Tag) -> &'a [u8] {
     let directory = font.tables().directory();

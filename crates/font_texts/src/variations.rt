@@ -25,6 +25,9 @@ const WINDOWS: usize = 3;
 
 const ENGLISH: usize = 0x409;
 
+// How many axes are named in one line.
+const NAMED: usize = 16;
+
 // What stands for a unit of UTF-16 that is no character.
 const NO_CHARACTER: char = '\u{FFFD}';
 
@@ -241,4 +244,23 @@ pub fn add_variations(alloc: Global, text: &mut String, font: &Font<'_>) -> Resu
     let axes = Axes::of(table_named(font, Tag(*b"fvar")));
     add_axes(text, axes)?;
     add_instances(alloc, text, axes, table_named(font, Tag(*b"name")))
+}
+
+/// Returns the tags of the axes of a font, with commas between them, or no text where it does not vary.
+///
+/// # Errors
+/// `AllocError` where memory is refused.
+pub fn axis_tags(alloc: Global, font: &Font<'_>) -> Result<String, AllocError> {
+    let axes = Axes::of(table_named(font, Tag(*b"fvar")));
+    let mut text = String::new(alloc);
+    let mut between = "";
+    for k in 0..axes.count.min(NAMED) {
+        let Some(record) = axes.axis(k) else {
+            break;
+        };
+        let tag = Tag(four_at(record, 0));
+        write!(text, "{between}{tag}")?;
+        between = ", ";
+    }
+    Ok(text)
 }

@@ -1,4 +1,5 @@
 //! The arguments that the program is run with. This project's own.
+use crate::standard_files::prints_to_terminal;
 use std::alloc::{AllocError, Global};
 use std::rt::Env;
 use std::{env, io};
@@ -6,17 +7,27 @@ use std::{env, io};
 // Linux passes no longer argument on.
 const LONGEST: usize = 128 * 1024;
 
-/// Returns the words after the program's own name, or `demo` where there is none.
+// What a line without words stands for: help for a person, and otherwise the stored run.
+fn word_of_none(rt: &HostRuntime) -> &'static str {
+    if prints_to_terminal(rt) {
+        "--help"
+    } else {
+        "demo"
+    }
+}
+
+/// Returns the words after the program's own name. Where there is none it is `--help` where standard output is a terminal,
+/// and `demo` otherwise.
 ///
 /// # Errors
 /// That of the system where a word is not UTF-8, and `OutOfMemory` where memory is refused.
-pub fn words_of_line(rt: &(impl Env + AllocGlobal), alloc: Global) -> io::Result<Vec<String>> {
+pub fn words_of_line(rt: &HostRuntime, alloc: Global) -> io::Result<Vec<String>> {
     let mut words: Vec<String> = env::args(rt)?.collect(alloc)?;
     if !words.is_empty() {
         words.remove(0);
     }
     if words.is_empty() {
-        words.push(String::from_str(alloc, "demo")?)?;
+        words.push(String::from_str(alloc, word_of_none(rt))?)?;
     }
     Ok(words)
 }

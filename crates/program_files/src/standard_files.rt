@@ -1,7 +1,11 @@
-//! Standard input, output and error, where they are closed. This project's own.
+//! Standard input, output and error: those that are closed, and whether one is a terminal. This project's own.
 use std::fs::OpenOptions;
-use std::mem;
 use std::os::fd::AsRawFd;
+use std::os::unix::fs::{FileTypeExt, MetadataExt};
+use std::{fs, mem};
+
+// Where standard output is found as a file.
+const OUTPUT: &str = "/proc/self/fd/1";
 
 // The last of the descriptors of standard input, output and error, which are 0 to 2.
 const LAST_STANDARD: i32 = 2;
@@ -26,5 +30,20 @@ pub fn fill_standard(rt: &HostRuntime) {
         if !fill(rt, OpenOptions::new().read(true), LAST_STANDARD) {
             return;
         }
+    }
+}
+
+// Returns whether a device of this number is a terminal: a console, a serial line, or one of a window or of a session over
+// the network. Linux, Documentation/admin-guide/devices.txt.
+fn is_terminal(device: u64) -> bool {
+    let major = device >> 8 & 0xFFF;
+    matches!(major, 3..=5 | 136..=143 | 204)
+}
+
+/// Returns whether standard output is a terminal.
+pub(crate) fn prints_to_terminal(rt: &HostRuntime) -> bool {
+    match fs::metadata(rt, OUTPUT) {
+        Ok(known) => known.file_type().is_char_device() && is_terminal(known.rdev()),
+        Err(_) => false,
     }
 }
