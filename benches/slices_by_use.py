@@ -1,5 +1,6 @@
 """How many slices and bytes a page of Chinese, Japanese or Korean loads, by the order of characters and by the sizes of
 slices. The pages are manuals and games of Debian's packages, from which no order was made."""
+import functools
 import glob
 import gzip
 import os
@@ -24,13 +25,15 @@ REFERENCE, FAQ, MAN = "/usr/share/debian-reference", "/usr/share/doc/debian/FAQ"
 
 
 class Language(NamedTuple):
-    """A language, the name of its preset, a font, and patterns of the files of its manuals and games."""
+    """A language, the name of its preset, a font, and patterns of the files of its manuals and games. `has_bytes` says
+    whether its slices are packed, which takes minutes."""
 
     name: str
     preset: str
     font: str
     manuals: Sequence[str]
     games: Sequence[str]
+    has_bytes: bool = True
 
 
 LANGUAGES = [
@@ -38,7 +41,7 @@ LANGUAGES = [
         f"{REFERENCE}/*.zh-cn.html", f"{FAQ}/zh-cn/*.html", f"{GUIDE}/zh_CN/*.html", f"{HELP}/zh_CN/*/*.page",
         f"{MAN}/zh_CN/man*/*.gz"], [f"{CRAWL}/zh/*.txt"]),
     Language("Chinese, traditional", "chinese-traditional", LXGW, [
-        f"{REFERENCE}/*.zh-tw.html", f"{HELP}/zh_TW/*/*.page", f"{MAN}/zh_TW/man*/*.gz"], []),
+        f"{REFERENCE}/*.zh-tw.html", f"{HELP}/zh_TW/*/*.page", f"{MAN}/zh_TW/man*/*.gz"], [], has_bytes=False),
     Language("Japanese", "japanese", f"{FONTS}/opentype/ipafont-gothic/ipag.ttf", [
         f"{REFERENCE}/*.ja.html", f"{FAQ}/ja/*.html", f"{GUIDE}/ja/*.html", f"{HELP}/ja/*/*.page",
         f"{MAN}/ja/man*/*.gz"], [f"{CRAWL}/ja/*.txt"]),
@@ -128,16 +131,17 @@ def css_sizes(slices: Sequence[sets.Slice]) -> tuple[int, int]:
     return len(text), packed or 0
 
 
-def measured_way(folder: str, opened: fontcut.Font, way: str, language: str, slices: list[sets.Slice],
+def measured_way(folder: str, opened: fontcut.Font, language: Language, way: str, slices: list[sets.Slice],
                  pages: dict[str, list[set[int]]], own: dict[str, list[int]]) -> Iterator[Row]:
-    """What a way of slicing comes to, for the pages of each kind."""
-    sizes = [woff2_size(folder, opened, one.codes) for one in slices]
+    """What a way of slicing comes to, for the pages of each kind. Slices that none of these pages has are not packed."""
+    size = functools.lru_cache(maxsize=None)(lambda number: woff2_size(folder, opened, slices[number].codes))
     css = css_sizes(slices)
     for kind, found in pages.items():
         hits = [[number for number, one in enumerate(slices) if not page.isdisjoint(one.codes)] for page in found]
-        loaded = [sum(sizes[number] for number in hit) for hit in hits[:FOR_BYTES]]
-        yield Row(language, way, kind, len(found), sorted(map(len, hits)), round(statistics.median(loaded)),
-                  round(statistics.median(own[kind])), css)
+        loaded = [sum(map(size, hit)) for hit in hits[:FOR_BYTES]] if language.has_bytes else []
+        yield Row(language.name, way, kind, len(found), sorted(map(len, hits)),
+                  round(statistics.median(loaded)) if loaded else None,
+                  round(statistics.median(own[kind])) if loaded else None, css)
 
 
 def measured_language(folder: str, language: Language) -> Iterator[Row]:
@@ -148,9 +152,10 @@ def measured_language(folder: str, language: Language) -> Iterator[Row]:
     kinds = {"manuals": pages_of(language.manuals, known), "games": pages_of(language.games, known)}
     pages = {kind: found for kind, found in kinds.items() if len(found) >= FOR_BYTES}
     need(f"{language.name}: there are pages", pages)
-    own = {kind: [woff2_size(folder, opened, page) for page in found[:FOR_BYTES]] for kind, found in pages.items()}
+    own = {kind: [woff2_size(folder, opened, page) for page in found[:FOR_BYTES]] if language.has_bytes else []
+           for kind, found in pages.items()}
     for way, one in slices.items():
-        yield from measured_way(folder, opened, way, language.name, one, pages, own)
+        yield from measured_way(folder, opened, language, way, one, pages, own)
 
 
 def measured(folder: str, library: str) -> list[Row]:

@@ -63,7 +63,7 @@ repeated, and then adds slices. The presets are
   pages:COUNT        the same, of the characters by how often they stand in pages: the FONTs that end in .html, .htm,
                      .xhtml or .txt
 The characters of a language are in the order of their use by Unicode's Unihan. With :{SIZES[0]}, the default, a page
-loads 5 to 12 slices, most of them small; with :{SIZES[1]}, as in {languages()[0]}:{SIZES[1]}, 5 to 7 larger ones.
+loads 2 to 12 slices, most of them small; with :{SIZES[1]}, as in {languages()[0]}:{SIZES[1]}, 4 to 7 larger ones.
 --order FILE puts the characters of a text first, in their order there. In any order a page loads ten times the bytes
 of a cut for its text, or more: for text that is known, fontcut-web text is better.
 
