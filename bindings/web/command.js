@@ -1,7 +1,7 @@
 #!/usr/bin/env node
 // The commands of the program that node has, with its words, its bytes and its exit statuses.
 import { randomBytes } from 'node:crypto';
-import { closeSync, existsSync, openSync, readFileSync, realpathSync, renameSync, rmSync, statSync, writeFileSync,
+import { chmodSync, closeSync, existsSync, openSync, readFileSync, realpathSync, renameSync, rmSync, statSync, writeFileSync,
     writeSync } from 'node:fs';
 import { dirname, join as pathOf } from 'node:path';
 import { parseArgs } from 'node:util';
@@ -67,11 +67,13 @@ function write(path, data) {
             writeAll(path === '-' ? 1 : openSync(path, 'w'), data);
             return;
         }
-        const place = existsSync(path) ? realpathSync(path) : path;
-        const mode = existsSync(place) ? statSync(place).mode : 0o666;
+        const isThere = existsSync(path), place = isThere ? realpathSync(path) : path;
         const made = pathOf(dirname(place), `.fontcut-${randomBytes(6).toString('hex')}`);
         try {
-            writeFileSync(made, data, { flag: 'wx', mode });
+            writeFileSync(made, data, { flag: 'wx' });
+            if (isThere) {
+                chmodSync(made, statSync(place).mode);
+            }
             renameSync(made, place);
         } catch (error) {
             rmSync(made, { force: true });

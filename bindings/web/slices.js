@@ -6,7 +6,7 @@
 //     }
 //
 // The lists beside this file are fetched, or read in node, when they are first needed. They are those of the module for
-// Python, and lists/LICENSE.txt is Unicode's permission notice.
+// Python, and lists/NOTICE.txt is Unicode's permission notice.
 import { codes, ranges } from './fontcut.js';
 
 // Each list by an address of its own, which bundlers see.
