@@ -6,7 +6,7 @@
     parts = fontcut.slices(font, ["abc", "xyz"])    # a list of bytes: a cut for each of the sets
     opened = fontcut.Font(font)                 # tested once, and taken in the place of the bytes
     fontcut.belongs(both, font)                 # True
-    lean = fontcut.cut(font, "Hello", lean=True)
+    lean = fontcut.cut(font, "Hello", kind="lean")
     shaped = fontcut.cut(font, "Hello", kind="layout")
     varying = fontcut.cut(font, "Hello", kind="variable")
     latin = fontcut.cut(font, fontcut.ranges("U+20-7E, U+4??"))
@@ -25,7 +25,7 @@ text and the argument of the refusal. Arguments of a wrong form raise `TypeError
 the call raises `MemoryError`. The first call loads the library, and raises `LibraryMissing` if there is none.
 
 A lean cut has zero metrics for glyphs that it does not keep, and no glyph names. It is never longer than the full cut.
-Lean cuts join with lean cuts: `fontcut.join([lean, other_lean], lean=True)`. One for characters alone is itself a full
+Lean cuts join with lean cuts: `fontcut.join([lean, other_lean], kind="lean")`. One for characters alone is itself a full
 cut.
 
 A layout cut is a lean cut with the layout tables (BASE, GDEF, GPOS, GSUB and kern, without their parts for variable
@@ -37,8 +37,8 @@ A variable cut is a layout cut that keeps variations: the layout tables are whol
 MVAR, STAT and VVAR, and gvar for its glyphs. Variable cuts join with variable cuts. A call for them also refuses a font
 by 5 or 6 for one of these tables, and by 28 if gvar cannot be read.
 
-`kind` is the kind of a cut: `"full"` (the default), `"lean"`, `"layout"` or `"variable"`. `lean=True` is short for
-`kind="lean"`.
+`kind` is the kind of a cut: `"full"` (the default), `"lean"`, `"layout"` or `"variable"`. `lean=True` is the old word
+for `kind="lean"`: it is deprecated, and the next version removes it.
 
 `gids` asks for glyphs by their numbers, beside characters or without any: `[43, 72]`, `range(3, 9)`, what `glyphs` or a
 shaper returns, or `"all"`. They are for lean, layout and variable cuts. `fontcut.ranges("all")` with `gids="all"` asks
@@ -55,6 +55,7 @@ are safe on all bytes, keep no state, and let other threads run while they work.
 """
 from __future__ import annotations
 
+import contextlib
 import ctypes
 import functools
 import itertools
@@ -69,17 +70,15 @@ from typing import (TYPE_CHECKING, Callable, Iterable, Iterator, List, Literal, 
 
 from fontcut_needed import needed as needed
 
-__all__ = ["Form", "Range", "Refused", "belongs", "check", "codes", "cut", "cut_size", "form", "is_cut", "is_cut_of",
-           "join"]
+__all__ = ["Font", "FontcutError", "FontcutWarning", "Form", "Info", "LibraryMissing", "NoGlyph", "Range", "Refused",
+           "advances", "belongs", "check", "closure", "codes", "cut", "cut_size", "form", "glyphs", "info", "is_cut",
+           "is_cut_of", "join", "kept_glyphs", "metrics", "missing", "needed", "ranges", "slices"]
 
 __version__ = "0.11.0"
 
 Bytes = Union[bytes, bytearray, memoryview, mmap]
 Codes = Union[str, Iterable[Union[int, Tuple[int, int]]]]
 Gids = Union[Literal["all"], Iterable[int]]
-
-__all__ += ["Font", "FontcutError", "FontcutWarning", "Info", "LibraryMissing", "NoGlyph", "advances", "closure",
-            "glyphs", "info", "kept_glyphs", "metrics", "missing", "ranges", "slices"]
 
 # Written by tools/write_refusals from include/refusals.txt:
 _NO_MEMORY, _TOO_LARGE, _NOTHING_TO_JOIN = 16, 18, 24
@@ -119,13 +118,15 @@ class Info(NamedTuple):
 
 
 class Form(Enum):
-    """Whether a font is a cut, and in which form. A lean cut for characters alone is also a current one: `LEAN` says
-    both."""
+    """Whether a font is a cut, of which kind, and in which form: `CURRENT` and `OLD` are full cuts. A cut of several
+    kinds has the first name of `LEAN`, `LAYOUT`, `VARIABLE` and `CURRENT` that is true of it."""
 
     NO_CUT = 0
     CURRENT = 1
     OLD = 2
     LEAN = 3
+    LAYOUT = 4
+    VARIABLE = 5
 
 
 class FontcutError(Exception):
@@ -473,9 +474,11 @@ def _call(name: str, file: _File) -> Callable[..., _Answer]:
 
 
 def _kind(kind: Optional[str], lean: bool) -> int:
-    """The number of a kind, which may be given as `lean` too."""
-    if lean and kind not in (None, "lean"):
-        raise ValueError(f"lean=True and kind={kind!r} are two kinds of cuts")
+    """The number of a kind, for which `lean` is an old word."""
+    if lean:
+        warnings.warn('lean=True is deprecated: write kind="lean"', DeprecationWarning, stacklevel=3)
+        if kind not in (None, "lean"):
+            raise ValueError(f"lean=True and kind={kind!r} are two kinds of cuts")
     if kind is None:
         kind = "lean" if lean else "full"
     if kind not in _KINDS:
@@ -642,25 +645,32 @@ def _written(room: int, call: _Writing, several: bool = False) -> bytes:
     return ctypes.string_at(*_filled(room, call, several))
 
 
-def _form(font: Bytes, lean: bool, kind: Optional[str] = None) -> Form:
+def _form(font: Bytes, kind: int) -> Form:
     """In which form a font is a cut of a kind, by one call."""
     file = _File(font)
-    return Form(_done(_library().fontcut_cut_form(_kind(kind, lean), file.at, file.length)).detail)
+    return Form(_done(_library().fontcut_cut_form(kind, file.at, file.length)).detail)
+
+
+def _is_accepted_cut(font: Bytes, kind: int) -> bool:
+    """Whether a font is a cut of a kind, for which tables may be refused that the other kinds do not read."""
+    with contextlib.suppress(Refused):
+        return _form(font, kind) is Form.CURRENT
+    return False
 
 
 def form(font: Bytes) -> Form:
-    """Whether a font is a cut, and in which form: `LEAN` for a lean cut, for characters alone or for glyph numbers too.
-    For this all but old cuts are read twice. `is_cut` tests for one kind only, and for layout and variable cuts: with
-    tables of layout or of variations they are neither."""
-    found = _form(font, lean=False)
-    if found is not Form.OLD and is_cut(font, lean=True):
-        return Form.LEAN
-    return found
+    """Whether a font is a cut, of which kind, and in which form. It is read up to four times: `is_cut` tests for one
+    kind only."""
+    found = _form(font, _KINDS["full"])
+    if found is Form.OLD:
+        return found
+    kinds = (one for one in (Form.LEAN, Form.LAYOUT, Form.VARIABLE) if _is_accepted_cut(font, _KINDS[one.name.lower()]))
+    return next(kinds, found)
 
 
 def is_cut(font: Bytes, *, lean: bool = False, kind: Optional[str] = None) -> bool:
     """Whether a font is a cut of a kind, in the current form. A lean cut for characters alone is a full cut too."""
-    return _form(font, lean, kind) is Form.CURRENT
+    return _form(font, _kind(kind, lean)) is Form.CURRENT
 
 
 def belongs(cut: Bytes, font: Union[Bytes, Font], *, lean: bool = False, kind: Optional[str] = None) -> bool:

@@ -75,60 +75,44 @@ class Cutting(unittest.TestCase):
             self.assertEqual(fontcut.cut_size(BASE6, wanted), len(font_cutting.cut(BASE6, wanted)))
 
     def test_lean_cuts_are_those_of_the_second_reading(self) -> None:
-        self.assertEqual(fontcut.cut(BASE6, ACCENTED, lean=True), LEAN_CUT_OF_AACUTE)
+        self.assertEqual(fontcut.cut(BASE6, ACCENTED, kind="lean"), LEAN_CUT_OF_AACUTE)
         for wanted in SETS:
             lean = lean_cutting.lean_cut(BASE6, wanted)
-            self.assertEqual(fontcut.cut(BASE6, wanted, lean=True), lean)
-            self.assertEqual(fontcut.cut_size(BASE6, wanted, lean=True), len(lean))
+            self.assertEqual(fontcut.cut(BASE6, wanted, kind="lean"), lean)
+            self.assertEqual(fontcut.cut_size(BASE6, wanted, kind="lean"), len(lean))
 
     def test_kinds_of_cuts(self) -> None:
-        for kind, lean in (("full", False), ("lean", True)):
-            self.assertEqual(fontcut.cut(BASE6, ALL, kind=kind), fontcut.cut(BASE6, ALL, lean=lean))
-            self.assertEqual(fontcut.cut(BASE6, ALL, kind=kind, lean=lean), fontcut.cut(BASE6, ALL, lean=lean))
-        rows: List[Dict[str, Any]] = [{"kind": "thin"}, {"kind": ""}, {"kind": "full", "lean": True},
-                                      {"kind": "layout", "lean": True}, {"kind": "variable", "lean": True}]
-        for given in rows:
+        for kind in ("", "thin"):
             with self.assertRaises(ValueError):
-                fontcut.cut(BASE6, ALL, **given)
+                fontcut.cut(BASE6, ALL, kind=kind)
+        self.assertEqual(fontcut.cut(BASE6, ALL, kind="full"), fontcut.cut(BASE6, ALL))
 
-    def test_layout_cuts_keep_tables_of_layout(self) -> None:
-        """The lean cut has all else of it, as this GSUB puts no glyph for another."""
-        cut = fontcut.cut(WITH_GSUB, ACCENTED, kind="layout")
-        tables = font_reading.tables_of(cut)
-        self.assertEqual(tables.pop(b"GSUB"), GSUB_OF_NOTHING)
-        self.assertEqual(set(tables), set(font_reading.tables_of(LEAN_CUT_OF_AACUTE)))
-        self.assertEqual(fontcut.cut(cut, ACCENTED, lean=True), LEAN_CUT_OF_AACUTE)
-        self.assertEqual(fontcut.cut_size(WITH_GSUB, ACCENTED, kind="layout"), len(cut))
-        self.assertEqual(fontcut.slices(WITH_GSUB, [ACCENTED], kind="layout"), [cut])
-        self.assertEqual(fontcut.cut(fontcut.Font(WITH_GSUB), ACCENTED, kind="layout"), cut)
-        self.assertEqual(fontcut.cut(BASE6, ACCENTED, kind="layout"), LEAN_CUT_OF_AACUTE)
-
-    def test_variable_cuts_are_those_of_the_second_reading(self) -> None:
-        for wanted in SETS:
-            cut = variable_cutting.variable_cut(WITH_GVAR, wanted)
-            self.assertEqual(fontcut.cut(WITH_GVAR, wanted, kind="variable"), cut)
-            self.assertEqual(fontcut.cut_size(WITH_GVAR, wanted, kind="variable"), len(cut))
-            self.assertEqual(fontcut.slices(WITH_GVAR, [wanted], kind="variable"), [cut])
-            self.assertEqual(fontcut.cut(fontcut.Font(WITH_GVAR), wanted, kind="variable"), cut)
-            self.assertEqual(font_reading.tables_of(cut)[b"fvar"], FVAR)
-        self.assertEqual(fontcut.cut(WITH_GSUB, ALL, kind="variable"), fontcut.cut(WITH_GSUB, ALL, kind="layout"))
+    def test_the_old_word_for_lean_cuts(self) -> None:
+        wanted = fontcut.cut(BASE6, ALL, kind="lean")
+        given: List[Dict[str, Any]] = [{"lean": True}, {"lean": True, "kind": "lean"}]
+        for words in given:
+            with self.assertWarns(DeprecationWarning):
+                self.assertEqual(fontcut.cut(BASE6, ALL, **words), wanted)
+        for kind in ("full", "layout", "variable"):
+            with self.assertRaises(ValueError), self.assertWarns(DeprecationWarning):
+                fontcut.cut(BASE6, ALL, kind=kind, lean=True)
 
     def test_slices_are_cuts(self) -> None:
         lists: List[List[fontcut.Codes]] = [[LETTERS, ACCENTED, ALL, [], "A", range(0x41, 0x43), ALL], [[]], [],
                                             [[(code, code)] for code in range(300)]]
-        for lean in (False, True):
+        for kind in ("full", "lean"):
             for sets in lists:
-                cuts = [fontcut.cut(BASE6, wanted, lean=lean) for wanted in sets]
-                self.assertEqual(fontcut.slices(BASE6, sets, lean=lean), cuts)
-                self.assertEqual(fontcut.slices(BASE6, iter(sets), lean=lean), cuts)
+                cuts = [fontcut.cut(BASE6, wanted, kind=kind) for wanted in sets]
+                self.assertEqual(fontcut.slices(BASE6, sets, kind=kind), cuts)
+                self.assertEqual(fontcut.slices(BASE6, iter(sets), kind=kind), cuts)
 
     def test_fonts_that_are_tested_once(self) -> None:
         for data in (BASE6, bytearray(BASE6), memoryview(BASE6)):
             font = fontcut.Font(data)
             for wanted in SETS:
-                for lean in (False, True):
-                    self.assertEqual(fontcut.cut(font, wanted, lean=lean), fontcut.cut(BASE6, wanted, lean=lean))
-                    self.assertEqual(fontcut.cut_size(font, wanted, lean=lean), fontcut.cut_size(BASE6, wanted, lean=lean))
+                for kind in ("full", "lean"):
+                    self.assertEqual(fontcut.cut(font, wanted, kind=kind), fontcut.cut(BASE6, wanted, kind=kind))
+                    self.assertEqual(fontcut.cut_size(font, wanted, kind=kind), fontcut.cut_size(BASE6, wanted, kind=kind))
             self.assertEqual(fontcut.glyphs(font, "AB\u00c1?"), [1, 5, 3, 0])
             self.assertEqual(fontcut.metrics(font, range(6)), font_reading.metrics(BASE6))
             self.assertEqual(fontcut.missing(font, "AB?"), [0x3F])
@@ -186,9 +170,9 @@ class Cutting(unittest.TestCase):
     def test_bad_ranges(self) -> None:
         rows: List[fontcut.Codes] = [[(2, 1)], [-1], [0x110000], [(0, 0x110000)]]
         for wanted in rows:
-            for lean in (False, True):
+            for kind in ("full", "lean"):
                 with self.assertRaises(ValueError):
-                    fontcut.cut(BASE6, wanted, lean=lean)
+                    fontcut.cut(BASE6, wanted, kind=kind)
 
     def test_what_is_no_set_of_characters(self) -> None:
         """Each is named by its place, with what is wrong about it."""
@@ -421,11 +405,11 @@ class Joining(unittest.TestCase):
 
     def test_lean_joins_agree_in_each_order(self) -> None:
         both = lean_cutting.lean_cut(BASE6, ALL)
-        letters, accented = (fontcut.cut(BASE6, wanted, lean=True) for wanted in (LETTERS, ACCENTED))
+        letters, accented = (fontcut.cut(BASE6, wanted, kind="lean") for wanted in (LETTERS, ACCENTED))
         for cuts in ([letters, accented], [accented, letters, both], [letters, letters, accented]):
-            self.assertEqual(fontcut.join(cuts, lean=True), both)
+            self.assertEqual(fontcut.join(cuts, kind="lean"), both)
         with self.assertRaises(fontcut.Refused) as caught:
-            fontcut.join([fontcut.cut(NAMED, LETTERS, lean=True), fontcut.cut(NAMED, ACCENTED)], lean=True)
+            fontcut.join([fontcut.cut(NAMED, LETTERS, kind="lean"), fontcut.cut(NAMED, ACCENTED)], kind="lean")
         self.assertEqual((caught.exception.number, caught.exception.file), (20, 1))
 
     def test_layout_joins_agree_in_each_order(self) -> None:
@@ -434,7 +418,7 @@ class Joining(unittest.TestCase):
         for cuts in ([letters, accented], [accented, letters, both]):
             self.assertEqual(fontcut.join(cuts, kind="layout"), both)
         with self.assertRaises(fontcut.Refused) as caught:
-            fontcut.join([letters, fontcut.cut(BASE6, LETTERS, lean=True)], kind="layout")
+            fontcut.join([letters, fontcut.cut(BASE6, LETTERS, kind="lean")], kind="layout")
         self.assertEqual((caught.exception.number, caught.exception.argument, caught.exception.file), (21, "GSUB", 1))
 
     def test_variable_joins_agree_in_each_order(self) -> None:
@@ -476,24 +460,24 @@ class Asking(unittest.TestCase):
         self.assertIs(fontcut.form(NAMED), fontcut.Form.NO_CUT)
         self.assertIs(fontcut.form(cut), fontcut.Form.CURRENT)
         self.assertTrue(fontcut.is_cut(cut))
-        self.assertFalse(fontcut.is_cut(cut, lean=True))
+        self.assertFalse(fontcut.is_cut(cut, kind="lean"))
         self.assertTrue(fontcut.belongs(cut, NAMED))
-        self.assertFalse(fontcut.belongs(cut, NAMED, lean=True))
+        self.assertFalse(fontcut.belongs(cut, NAMED, kind="lean"))
         self.assertFalse(fontcut.belongs(NAMED, cut))
         self.assertEqual(fontcut.codes(cut), [(0x41, 0x42), (0xC1, 0xC1)])
 
     def test_lean_cuts_are_told(self) -> None:
-        lean = fontcut.cut(BASE6, ACCENTED, lean=True)
+        lean = fontcut.cut(BASE6, ACCENTED, kind="lean")
         self.assertIs(fontcut.form(lean), fontcut.Form.LEAN)
         self.assertTrue(fontcut.is_cut(lean))
-        self.assertTrue(fontcut.is_cut(lean, lean=True))
-        self.assertTrue(fontcut.belongs(lean, BASE6, lean=True))
+        self.assertTrue(fontcut.is_cut(lean, kind="lean"))
+        self.assertTrue(fontcut.belongs(lean, BASE6, kind="lean"))
         self.assertFalse(fontcut.belongs(lean, BASE6))
-        self.assertEqual(fontcut.cut(fontcut.cut(BASE6, ACCENTED), ACCENTED, lean=True), lean)
-        by_number = fontcut.cut(BASE6, LETTERS, lean=True, gids=[3])
+        self.assertEqual(fontcut.cut(fontcut.cut(BASE6, ACCENTED), ACCENTED, kind="lean"), lean)
+        by_number = fontcut.cut(BASE6, LETTERS, kind="lean", gids=[3])
         self.assertIs(fontcut.form(by_number), fontcut.Form.LEAN)
         self.assertFalse(fontcut.is_cut(by_number))
-        self.assertTrue(fontcut.is_cut(by_number, lean=True))
+        self.assertTrue(fontcut.is_cut(by_number, kind="lean"))
         # A full cut has the metrics of all glyphs, and so has a lean cut for these glyphs, if there are no names.
         self.assertIs(fontcut.form(fontcut.cut(BASE6, LETTERS)), fontcut.Form.LEAN)
 
@@ -502,8 +486,8 @@ class Asking(unittest.TestCase):
         self.assertTrue(fontcut.is_cut(cut, kind="layout"))
         self.assertFalse(fontcut.is_cut(WITH_GSUB, kind="layout"))
         self.assertTrue(fontcut.belongs(cut, WITH_GSUB, kind="layout"))
-        self.assertFalse(fontcut.belongs(cut, WITH_GSUB, lean=True))
-        self.assertIs(fontcut.form(cut), fontcut.Form.NO_CUT)
+        self.assertFalse(fontcut.belongs(cut, WITH_GSUB, kind="lean"))
+        self.assertIs(fontcut.form(cut), fontcut.Form.LAYOUT)
 
     def test_variable_cuts_are_told(self) -> None:
         cut = fontcut.cut(WITH_GVAR, ACCENTED, kind="variable")
@@ -512,7 +496,7 @@ class Asking(unittest.TestCase):
         self.assertFalse(fontcut.is_cut(WITH_GVAR, kind="variable"))
         self.assertTrue(fontcut.belongs(cut, WITH_GVAR, kind="variable"))
         self.assertFalse(fontcut.belongs(cut, WITH_GVAR, kind="layout"))
-        self.assertIs(fontcut.form(cut), fontcut.Form.NO_CUT)
+        self.assertIs(fontcut.form(cut), fontcut.Form.VARIABLE)
 
     def assert_refused(self, calls: List[Tuple[Callable[[], object], Optional[int]]], number: int, text: str) -> None:
         """Each call refuses a file, which is of this index among those that it was given."""
@@ -570,12 +554,12 @@ class Asking(unittest.TestCase):
                 fontcut.check(font)
             self.assertEqual((caught.exception.number, caught.exception.argument), (number, argument))
             self.assertIsNone(caught.exception.file)
-        for lean in (False, True):
+        for kind in ("full", "lean"):
             with self.assertRaises(fontcut.Refused) as caught:
-                fontcut.cut(b"", LETTERS, lean=lean)
+                fontcut.cut(b"", LETTERS, kind=kind)
             self.assertEqual(caught.exception.number, 2)
             with self.assertRaises(fontcut.Refused) as caught:
-                fontcut.belongs(BASE6, b"", lean=lean)
+                fontcut.belongs(BASE6, b"", kind=kind)
             self.assertEqual(caught.exception.file, 1)
 
     def test_glyphs_of_characters(self) -> None:

@@ -51,13 +51,13 @@ import sys
 import fontcut
 with open(sys.argv[1], "rb") as opened:
     font = opened.read()
-made = {"latin": fontcut.cut(font, [(0x20, 0x7E), (0xA0, 0xFF)]), "lean": fontcut.cut(font, range(0x41, 0x5B), lean=True),
-        "other": fontcut.cut(font, range(0x61, 0x7B), lean=True)}
-made["join"] = fontcut.join([made["other"], made["lean"]], lean=True)
+made = {"latin": fontcut.cut(font, [(0x20, 0x7E), (0xA0, 0xFF)]), "lean": fontcut.cut(font, range(0x41, 0x5B), kind="lean"),
+        "other": fontcut.cut(font, range(0x61, 0x7B), kind="lean")}
+made["join"] = fontcut.join([made["other"], made["lean"]], kind="lean")
 for name, data in made.items():
     with open(f"{sys.argv[2]}/{name}.ttf", "wb") as out:
         out.write(data)
-print(fontcut.__version__, fontcut.belongs(made["join"], font, lean=True))
+print(fontcut.__version__, fontcut.belongs(made["join"], font, kind="lean"))
 """
 
 # Its words are fonts: it prints the sums of cuts and of a join, of each kind, for each.
@@ -82,18 +82,18 @@ def slices(path: str, wanted: list[tuple[int, int]]) -> list[bytes]:
     with open(path, "rb") as file:
         font = file.read()
     known: list[Range] = fontcut.codes(font)
-    print(sum(last - first + 1 for first, last in known), fontcut.cut_size(font, wanted, lean=True) + 1)
-    return [fontcut.cut(font, [pair], lean=True) for pair in wanted]
+    print(sum(last - first + 1 for first, last in known), fontcut.cut_size(font, wanted, kind="lean") + 1)
+    return [fontcut.cut(font, [pair], kind="lean") for pair in wanted]
 
 
 def joined(cuts: list[bytes]) -> bytes:
     try:
-        return fontcut.join(cuts, lean=True)
+        return fontcut.join(cuts, kind="lean")
     except Refused as refused:
         print(refused.number + 1, refused.text.upper(), refused.argument, refused.file)
         raise
 
 
 both: bytes = joined(slices("font.ttf", [(0x41, 0x5A), (0x61, 0x7A)]))
-print(fontcut.form(both) is Form.LEAN, fontcut.belongs(both, memoryview(both), lean=True), fontcut.__version__.upper())
+print(fontcut.form(both) is Form.LEAN, fontcut.belongs(both, memoryview(both), kind="lean"), fontcut.__version__.upper())
 '''

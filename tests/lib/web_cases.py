@@ -147,8 +147,8 @@ def of_broken(cases: Cases, data: bytes, good: tuple[str, bytes]) -> None:
         cases.add("subset", [name], lambda: digest(library.cut(data, "", gids=[1, 2], kind=kind)),
                   gids=[1, 2], kind=kind)
     cases.add("closure", [name], lambda: library.closure(data, "AB", [1]), text="AB", gids=[1])
-    cases.add("join", [good[0], name], lambda: digest(library.join([good[1], data], lean=True)), kind="lean")
-    cases.add("belongs", [name, good[0]], lambda: library.belongs(data, good[1], lean=True), kind="lean")
+    cases.add("join", [good[0], name], lambda: digest(library.join([good[1], data], kind="lean")), kind="lean")
+    cases.add("belongs", [name, good[0]], lambda: library.belongs(data, good[1], kind="lean"), kind="lean")
 
 
 def make(folder: str, library: ModuleType, fonts: Iterable[str], small: bytes) -> list[Row]:
@@ -167,7 +167,7 @@ def make(folder: str, library: ModuleType, fonts: Iterable[str], small: bytes) -
         for data in broken(base, chance):
             of_broken(cases, data, good)
     names = [cases.put(one) for one in leans]
-    cases.add("join", names, lambda: digest(library.join(leans, lean=True)), kind="lean")
-    cases.add("join", [], lambda: digest(library.join([], lean=True)), kind="lean")
+    cases.add("join", names, lambda: digest(library.join(leans, kind="lean")), kind="lean")
+    cases.add("join", [], lambda: digest(library.join([], kind="lean")), kind="lean")
     cases.written()
     return cases.rows

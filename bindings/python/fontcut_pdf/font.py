@@ -81,7 +81,7 @@ class Program:
     def lean(self) -> bytes:
         """The lean cut that a cut comes to."""
         cut = self.read()
-        return cut if self.is_lean else fontcut.cut(cut, fontcut.codes(cut), lean=True)
+        return cut if self.is_lean else fontcut.cut(cut, fontcut.codes(cut), kind="lean")
 
     @cached_property
     def subtables(self) -> Optional[Subtables]:
@@ -96,7 +96,7 @@ def _kind(data: bytes) -> str:
     try:
         if fontcut.is_cut(data, kind="lean"):
             return _PREPARED if set(tables_of(data)) <= {*DRAWN, b"cmap"} else "lean cut"
-        return "no cut" if fontcut.form(data) is fontcut.Form.NO_CUT else "cut"
+        return "cut" if fontcut.form(data) in (fontcut.Form.CURRENT, fontcut.Form.OLD) else "no cut"
     except fontcut.Refused as refusal:
         return "no cut" if _is_accepted_prepared(data) else f"refused: {refusal.text}"
 

@@ -130,7 +130,7 @@ def _joined(members: Sequence[_Member]) -> Tuple[bytes, List[_Member], List[Tupl
     others: List[Tuple[_Member, str]] = []
     while True:
         try:
-            return fontcut.join([member.cut for member in joining], lean=True), joining, others
+            return fontcut.join([member.cut for member in joining], kind="lean"), joining, others
         except fontcut.Refused as refusal:
             last = min(refusal.file or 0, len(joining) - 1)
             others.append((joining.pop(last), refusal.text))
@@ -158,7 +158,7 @@ def _united(members: Sequence[_Member], why: Optional[str]) -> Iterator[Outcome]
 def _unite_alike(members: Sequence[_Member], why: Optional[str]) -> Iterator[Outcome]:
     """Unites fonts whose tables are alike, so that they join but where a character or a glyph differs."""
     try:
-        fontcut.join([member.cut for member in members], lean=True)
+        fontcut.join([member.cut for member in members], kind="lean")
     except fontcut.Refused:
         classes = _classes(members, lambda member: kept(member.cut))
     else:

@@ -2,7 +2,6 @@
 from __future__ import annotations
 
 import argparse
-import contextlib
 import json
 import os
 import sys
@@ -198,17 +197,8 @@ def _run_decode(given: argparse.Namespace) -> None:
 def _name_of(font: bytes) -> Optional[str]:
     """What a font is called that is a cut, or None. A lean cut is one of each kind."""
     form = fontcut.form(font)
-    names = {fontcut.Form.LEAN: "a lean cut", fontcut.Form.CURRENT: "a cut", fontcut.Form.OLD: "an old cut"}
-    if form is fontcut.Form.NO_CUT:
-        return next((f"a {kind} cut" for kind in SHAPED if _is_cut(font, kind)), None)
-    return names.get(form)
-
-
-def _is_cut(font: bytes, kind: str) -> bool:
-    """Whether a font is a cut of a kind, for which its tables of layout or of variations may be refused."""
-    with contextlib.suppress(fontcut.Refused):
-        return fontcut.is_cut(font, kind=kind)
-    return False
+    names = {fontcut.Form.NO_CUT: None, fontcut.Form.CURRENT: "a cut", fontcut.Form.OLD: "an old cut"}
+    return names[form] if form in names else f"a {form.name.lower()} cut"
 
 
 def _joins(name: Optional[str], is_woff2: bool) -> str:
