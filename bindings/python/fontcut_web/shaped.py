@@ -26,6 +26,8 @@ _MOST_PAIRED = 8
 _NO_LIGATURES = "-liga", "-clig"
 # A letter of Hebrew, which composes with nothing that is before it.
 _TURNED = "\u05d0"
+# What can be done about style sheets that are not understood.
+BY_FEATURES = ": name its features by --features"
 # Scripts of characters that are of any.
 _COMMON = "Zyyy", "Zinh", "Zzzz"
 
@@ -89,10 +91,8 @@ def _unknown(page: Page, path: str, styles: Styles, lost: Sequence[str]) -> Iter
     said = {"scripts": "it runs scripts, and text that they write may vanish",
             "fields": "it has fields, and text that readers write in this font may vanish"}
     yield from (f"{path}: {said[writer]}" for writer in page.writers)
-    yield from (f"{path}: the style sheet {address} is no file beside it: name its features by --features"
-                for address in lost)
-    yield from (f"{path}: {declared!r} is not understood: name its features by --features"
-                for declared in styles.unread)
+    yield from (f"{path}: the style sheet {address} is no file beside it{BY_FEATURES}" for address in lost)
+    yield from (f"{path}: {declared!r} is not understood{BY_FEATURES}" for declared in styles.unread)
 
 
 def _pieces(word: str) -> Iterator[str]:

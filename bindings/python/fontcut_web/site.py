@@ -12,6 +12,7 @@ from fontcut_output import Progress, print_line
 from .common import Refused, need
 from .inputs import mapped
 from .sets import range_words
+from .shaped import BY_FEATURES
 from .site_fonts import Base, Run, based, programs, section_of
 from .site_pages import Modes, SitePage, modes_of, pages_of
 from .site_report import REPORT, Made, is_ours, lacking, lines, report, sheets
@@ -74,10 +75,11 @@ def _told(modes: Modes, found: Sequence[Tuple[Base, List[SitePage]]], pages: Seq
     for base, some in found:
         for page in some:
             fonts[page.name].append(base.whole)
-    for page in pages:
-        if page.name not in modes.exact | modes.closed:
-            yield from (f"{line}: its cuts are closed, unless it is named as exact" for line in page.shown.unknown)
     shown = [page for page in pages if fonts[page.name]]
+    for page in shown:
+        if page.name not in modes.exact | modes.closed:
+            yield from (f"{line.replace(BY_FEATURES, '')}: its cuts are closed, unless it is named as exact"
+                        for line in page.shown.unknown)
     yield from (f"{name}: no font of it has {range_words(codes)}" for name, codes in lacking(shown, fonts))
 
 

@@ -8,7 +8,7 @@ import fontcut
 from fontcut_output import Progress
 
 from . import characters, drawn, preparing, shaped, shaping
-from .common import Refused
+from .common import SHAPED, Refused
 from .faces import Face, face_of, is_variable, varying
 from .inputs import accepted, mapped
 from .prepare import made_of, wanted_of
@@ -135,10 +135,15 @@ def based(run: Run, one: FontSettings, name: str, pages: Sequence[SitePage], old
     return Base(name, one, whole, path, font, kind, face, state)
 
 
+def _mode(base: Base, page: SitePage, modes: Modes) -> str:
+    """Whether the cut of a font for a page is exact, closed, or lean, which is neither."""
+    return modes.of(page, base.settings) if base.kind in SHAPED else base.kind
+
+
 def _cut(base: Base, page: SitePage, mode: str) -> bytes:
     """The cut of a font for a page."""
     try:
-        if mode == EXACT and base.kind != "lean":
+        if mode == EXACT:
             return shaped.exact_cut(base.path, base.font, [page.shown], base.kind).data
         return fontcut.cut(base.font, mapped(base.font, page.letters), kind=base.kind)
     except fontcut.Refused as refusal:
@@ -170,14 +175,14 @@ def _check_pages(run: Run, base: Base, pages: Sequence[SitePage], data: bytes) -
 def section_of(run: Run, base: Base, name: str, pages: Sequence[SitePage], modes: Modes) -> SectionState:
     """The cut of a section: that of the last run, into which the cuts of pages are joined that have changed."""
     old = base.state.sections.get(name)
-    keys = {page.name: f"{modes.of(page, base.settings)}:{page.digest}" for page in pages}
+    keys = {page.name: f"{_mode(base, page, modes)}:{page.digest}" for page in pages}
     before = _before(run, base, old, keys)
     known = old.pages if old and before is not None else {}
     changed = [page for page in pages if known.get(page.name) != keys[page.name]]
     cuts = [] if before is None else [before]
     for page in changed:
         run.progress.say(f"{base.name}: cutting it for {page.name}")
-        cuts.append(_cut(base, page, modes.of(page, base.settings)))
+        cuts.append(_cut(base, page, _mode(base, page, modes)))
     data = fontcut.join(cuts, kind=base.kind) if len(cuts) > 1 else cuts[0]
     if old and data == before and run.place.kept(run.place.output, old.woff2) is not None:
         return old._replace(pages=keys)

@@ -48,7 +48,7 @@ def _is_own(settings: Settings, name: str, address: str) -> bool:
     if settings.address and path.startswith(f"{urlsplit(settings.address).path.rstrip('/')}/"):
         return True
     found = os.path.normpath(os.path.join(os.path.dirname(name), path))
-    return found.startswith(f"{os.path.normpath(settings.out)}{os.sep}")
+    return found.startswith(f"{settings.out}{os.sep}")
 
 
 def _page(settings: Settings, name: str, section: str) -> SitePage:

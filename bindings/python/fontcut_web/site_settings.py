@@ -148,7 +148,7 @@ def settings_of(folder: str) -> Settings:
     inside = os.path.relpath(os.path.realpath(found.output), os.path.realpath(folder))
     if inside == os.curdir or inside.split(os.sep)[0] in (os.pardir, WORK):
         raise UsageError(f"{path}: out has to be a folder below that of the site")
-    return found
+    return found._replace(out=os.path.normpath(found.out))
 
 
 def _matching(folder: str, pattern: str) -> Iterator[str]:
@@ -161,7 +161,7 @@ def _matching(folder: str, pattern: str) -> Iterator[str]:
 def page_names(settings: Settings) -> List[str]:
     """The names of all pages."""
     found = {name for pattern in settings.pages for name in _matching(settings.folder, pattern)}
-    outside = [name for name in found if not name.startswith(f"{settings.out.rstrip('/')}/")]
+    outside = [name for name in found if not name.startswith(f"{settings.out}/")]
     if not outside:
         raise UsageError(f"{settings.path}: no page is there: pages is {', '.join(settings.pages)}")
     return sorted(outside)
