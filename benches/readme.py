@@ -4,21 +4,11 @@ from collections.abc import Iterator
 
 Row = dict[str, str]
 
-FONT, PAGE, NOTHING = "LXGWWenKai-Regular", "Arabic", "–"
+FONT, NOTHING, TAKEN = "LXGWWenKai-Regular", "–", "| a page, bytes as WOFF2"
+# The ways of the first table, as the table of pages calls them.
+PAGE_WAYS = ("text that is published: exact cut, font prepared for the page", "`hb-subset --retain-gids`",
+             "`pyftsubset`, which renumbers glyphs")
 MODULE_SIZE = r"(?<![\d.])\d+ KB as Brotli"
-
-# The kinds of cut: the option, what to take it for, and what it keeps; and the way of hb-subset that it stands beside, or
-# none for a kind that is not measured.
-KINDS = [
-    ("lean", "`--lean`", "slices, labels, documents: text that is drawn letter by letter, or was shaped before",
-     "outlines, hints and metrics of the kept glyphs", "hb-subset without layout"),
-    ("layout", "`--layout`", "body text, and every script whose letters join or change places",
-     "the same, and kerning, ligatures and shaping", "hb-subset with layout"),
-    ("variable", "`--variable`", "variable fonts of which a page uses more than one weight, width or slant",
-     "what a layout cut keeps, and the axes and variations", None),
-    ("full", "none: a full cut", "programs that read metrics or names of glyphs that are not kept",
-     "outlines and hints of the kept glyphs, metrics and names of all", "hb-subset without layout"),
-]
 
 
 def cells_of(line: str) -> list[str]:
@@ -78,29 +68,19 @@ def first_table(text: str) -> str:
     """What stands on the first screen: times and sizes beside the other subsetters."""
     ascii_sizes = row_of(rows_of(text, "font | wanted | cut | lean cut"), font=FONT, wanted="ASCII")
     slices = {row["way"]: row["seconds"] for row in rows_of(text, "way | seconds")}
-    page = row_of(rows_of(text, "wanted | font | characters"), wanted=PAGE)
+    pages = {row["a page, bytes as WOFF2"]: row["Arabic"] for row in rows_of(text, "a page, bytes as WOFF2")}
     return table(["beside other subsetters", "fontcut", "hb-subset", "pyftsubset"], [
         *time_rows(text),
         ["the same, ASCII as WOFF2, bytes", *(last(ascii_sizes[way]) for way in ("lean cut", "hb-subset", "pyftsubset"))],
         ["the same, 100 slices as WOFF2, seconds", slices["`fontcut-web slice`"], NOTHING,
          slices["`pyftsubset`, a call a slice"]],
-        ["a page of Arabic with layout, as WOFF2, bytes", last(page["layout"]), last(page["hb-subset with layout"]), NOTHING],
+        ["a page of Arabic with layout, as WOFF2, bytes", *(pages[way] for way in PAGE_WAYS)],
     ])
 
 
-def kinds_table(text: str) -> str:
-    """What each kind of cut is for, and how long it is beside hb-subset: the least and the largest ratio of all pages."""
-    rows = []
-    for kind, option, purpose, kept, other in KINDS:
-        ratios = [value(last(row[kind])) / value(last(row[other])) for row in rows_of(text, "wanted | font | characters")
-                  if other]
-        rows.append([option, purpose, kept, f"{min(ratios):.2f} to {max(ratios):.2f}" if ratios else NOTHING])
-    return table(["option", "take it for", "what it keeps", "WOFF2 bytes : `hb-subset --retain-gids`"], rows)
-
-
 def taken_table(text: str) -> str:
-    """The lengths of a page, a slice and all of a script, as they stand in PERFORMANCE.md."""
-    return "| bytes as WOFF2" + text.partition("\n| bytes as WOFF2")[2].partition("\n\n")[0]
+    """The lengths of pages, as they stand in PERFORMANCE.md."""
+    return TAKEN + text.partition(f"\n{TAKEN}")[2].partition("\n\n")[0]
 
 
 def with_module_size(document: str, performance: str) -> str:
@@ -111,7 +91,7 @@ def with_module_size(document: str, performance: str) -> str:
 
 def replaced(readme: str, performance: str) -> str:
     """README.md with the tables that PERFORMANCE.md gives, each found by its first title, and the module's length."""
-    for made in first_table(performance), kinds_table(performance), taken_table(performance):
+    for made in first_table(performance), taken_table(performance):
         opening = made[:made.index("|", 1) + 1]
         before, found, after = readme.partition(opening)
         if not found:
