@@ -1,7 +1,7 @@
 //! The font at OUT that `subset` would replace by a cut of a cut of it: so it is where the names of the two files are
 //! exchanged.
 use crate::refused_file::read_again;
-use crate::report::{Fault, no_memory};
+use crate::report::Fault;
 use command_line::{STANDARD, Subset};
 use commands::without_tables;
 use font_coverage::{cut_kind, is_of_layout, kind_of_cut};
@@ -22,19 +22,19 @@ pub(crate) fn is_file_at<F: HeldFiles>(files: &F, path: &str, stands: &fs::Metad
     }
 }
 
-// Reads the regular file at OUT where it is another one than FONT, whose size this is, and longer.
-fn longer_out<F: HeldFiles, I, O>(
+// Returns whether a regular file is at OUT that is another one than FONT, whose size this is, and longer.
+fn is_longer<F: HeldFiles, I, O>(
     system: &System<'_, F, I, O>,
     line: &Subset<'_>,
     size: usize,
-) -> Result<Option<Vec<u8>>, AllocError> {
-    let Some(stands) = standing_file(system.files, system.alloc, line.out)? else {
-        return Ok(None);
-    };
-    if stands.len() <= size as u64 || is_file_at(system.files, line.font, &stands) {
-        return Ok(None);
+) -> Result<bool, AllocError> {
+    match standing_file(system.files, system.alloc, line.out)? {
+        Some(stands) => {
+            let is_longer = (size as u64) < stands.len();
+            Ok(is_longer && !is_file_at(system.files, line.font, &stands))
+        }
+        None => Ok(false),
     }
-    read_again(system.files, system.alloc, line.out)
 }
 
 // Returns the file of a font without the tables of layout that another one lacks: a cut may be one without them.
@@ -76,6 +76,23 @@ fn is_font_of(alloc: Global, file: &[u8], cut: &Font<'_>) -> Result<bool, AllocE
     }
 }
 
+// Returns whether OUT has a font that is no cut, and of which FONT is a cut. It is read only where FONT is a cut at all.
+fn is_font_of_cut<F: HeldFiles, I, O>(
+    system: &System<'_, F, I, O>,
+    line: &Subset<'_>,
+    font: &Font<'_>,
+) -> Result<bool, AllocError> {
+    match cut_kind(system.alloc, font) {
+        Ok(Some(_)) => {}
+        Ok(None) => return Ok(false),
+        Err(_) => return Err(AllocError),
+    }
+    match read_again(system.files, system.alloc, line.out)? {
+        Some(file) => is_font_of(system.alloc, &file, font),
+        None => Ok(false),
+    }
+}
+
 /// Refuses a line that would replace a font by a cut, where FONT, whose file this is, is a cut of it and that is not
 /// forced. Only an OUT that is longer than FONT is looked at.
 ///
@@ -86,21 +103,17 @@ pub(crate) fn keep_font<'a, F: HeldFiles, I, O>(
     line: &Subset<'a>,
     file: &[u8],
 ) -> Result<(), Fault<'a>> {
-    if line.is_forced || line.out == STANDARD {
+    if line.is_forced || line.out == STANDARD || !is_longer(system, line, file.len())? {
         return Ok(());
     }
-    let Some(out_file) = longer_out(system, line, file.len())? else {
-        return Ok(());
-    };
     let Ok(font) = Font::open(file) else {
         return Ok(());
     };
-    match is_font_of(system.alloc, &out_file, &font) {
-        Ok(true) => Err(Fault::OverFont {
+    if is_font_of_cut(system, line, &font)? {
+        return Err(Fault::OverFont {
             font: line.font,
             out: line.out,
-        }),
-        Ok(false) => Ok(()),
-        Err(_) => Err(no_memory()),
+        });
     }
+    Ok(())
 }
