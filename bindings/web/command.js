@@ -5,27 +5,29 @@ import { chmodSync, closeSync, existsSync, openSync, readFileSync, realpathSync,
     writeSync } from 'node:fs';
 import { dirname, join as pathOf } from 'node:path';
 import { parseArgs } from 'node:util';
-import { belongs, check, codes, FontcutError, glyphs, init, join, metrics, ranges, subset, version }
+import { belongs, check, codes, cutForm, FontcutError, glyphs, init, join, metrics, ranges, subset, version }
     from './fontcut.js';
 import { needed } from './needed.js';
 
 const HELP = `fontcut in node: subsets that keep glyph ids, and their joins
 
   fontcut subset FONT OUT [--lean | --layout | --variable] [--text TEXT] [--text-file FILE] [--unicodes LIST]
-                          [--codes-file FILE] [--gids LIST] [--exactly] [--no-layout-closure] [WORDS..]
+                          [--codes-file FILE] [--gids LIST] [--exactly] [--no-layout-closure] [--force] [WORDS..]
   fontcut join [--lean | --layout | --variable] -o OUT FILES..
-  fontcut belongs CUT FONT [--lean | --layout | --variable]
+  fontcut belongs CUT FONT [--full | --lean | --layout | --variable]
   fontcut check FONT
   fontcut codes FONT [--glyphs]
 
 The words are those of the program, which has more of them: so say its manual page and its help. FONT and OUT may be -,
-for standard input and output. check prints no findings here, only whether the font is accepted.
+for standard input and output. check prints no findings here, only whether the font is accepted, and subset does not say
+what a cut drops.
 
 Exit status: 0 done; 1 a font is refused, belongs says no, or out of memory; 2 usage error; 3 a file cannot be read or
 written.
 `;
 const FLAG = { type: 'boolean' }, LIST = { type: 'string', multiple: true };
 const KINDS = { lean: FLAG, layout: FLAG, variable: FLAG };
+const ALL_KINDS = ['full', ...Object.keys(KINDS)];
 const SHAPED = ['layout', 'variable'];
 const NO_GLYPH = 102;
 const COMMANDS = {
@@ -36,7 +38,7 @@ const COMMANDS = {
         },
     },
     join: { run: runJoin, options: { ...KINDS, output: { type: 'string', short: 'o' }, force: FLAG, quiet: FLAG } },
-    belongs: { run: runBelongs, options: { ...KINDS, quiet: FLAG } },
+    belongs: { run: runBelongs, options: { ...KINDS, full: FLAG, quiet: FLAG } },
     check: { run: runCheck, options: { quiet: FLAG } },
     codes: { run: runCodes, options: { glyphs: FLAG, quiet: FLAG } },
 };
@@ -96,7 +98,7 @@ function writeAll(file, data) {
 const print = (text) => writeAll(1, Buffer.from(text));
 
 function kindOf(given) {
-    const kinds = Object.keys(KINDS).filter((kind) => given[kind]);
+    const kinds = ALL_KINDS.filter((kind) => given[kind]);
     if (kinds.length > 1) {
         throw new Failed(2, `--${kinds[0]} and --${kinds[1]} are two kinds of cuts`);
     }
@@ -155,7 +157,39 @@ function runSubset(given, [font, out, ...words]) {
     }
     const unicodes = [...codesOfTexts(given, kind), ...codesOfLists(given, words)];
     const gids = isAll ? 'all' : gidsOf(given.gids ?? []);
-    write(out, cutOf(read(font), { unicodes, gids, kind, layoutClosure: !given['no-layout-closure'] }));
+    const data = read(font);
+    keepFont(given, data, font, out);
+    write(out, cutOf(data, { unicodes, gids, kind, layoutClosure: !given['no-layout-closure'] }));
+}
+
+// The first kind of cut of which something is so, or undefined. A font may be refused for one kind alone.
+function kindWhere(isSo) {
+    return ALL_KINDS.find((kind) => {
+        try {
+            return isSo(kind);
+        } catch (error) {
+            if (!(error instanceof FontcutError)) {
+                throw error;
+            }
+            return false;
+        }
+    });
+}
+
+const isCut = (data) => kindWhere((kind) => cutForm(data, { kind }) !== 'none') !== undefined;
+
+// Fails where OUT has the font of which FONT is a cut: the names of two files were exchanged.
+function keepFont(given, data, font, out) {
+    const isOther = out !== '-' && !given.force && existsSync(out) && statSync(out).isFile() &&
+        (font === '-' || realpathSync(font) !== realpathSync(out));
+    if (!isOther || !isCut(data)) {
+        return;
+    }
+    const stands = read(out);
+    if (!isCut(stands) && kindWhere((kind) => belongs(data, stands, { kind }))) {
+        throw new Failed(2, `${out} is the font, and ${font} a cut of it: nothing was written\n` +
+            `fontcut: subset ${out} OUT cuts the font; --force replaces ${out}`);
+    }
 }
 
 // A cut. A glyph that the font does not have is named by its number, and not by its place in the list.
@@ -192,9 +226,16 @@ function runBelongs(given, words) {
     if (words.length !== 2) {
         throw new Failed(2, 'belongs takes CUT and FONT');
     }
-    const [cut, font] = words.map(read), answer = belongs(cut, font, { kind: kindOf(given) });
-    print(answer ? 'yes\n' : 'no\n');
-    return answer ? 0 : 1;
+    const [cut, font] = words.map(read), named = ALL_KINDS.some((kind) => given[kind]) ? kindOf(given) : undefined;
+    let found = belongs(cut, font, { kind: named ?? 'full' }) ? named ?? 'full' : undefined;
+    if (!named) {
+        found ??= kindWhere((kind) => belongs(cut, font, { kind }));
+    }
+    if (found && !named && !given.quiet) {
+        process.stderr.write(`fontcut: ${words[0]}: a ${found} cut\n`);
+    }
+    print(found ? 'yes\n' : 'no\n');
+    return found ? 0 : 1;
 }
 
 function runCheck(_, words) {
@@ -244,6 +285,10 @@ async function statusOf([name, ...words]) {
     if (!Object.hasOwn(COMMANDS, name)) {
         throw new Failed(2, `no command ${name}: node has ${Object.keys(COMMANDS).join(', ')}`);
     }
+    if (words.includes('--help') || words.includes('-h')) {
+        print(HELP);
+        return 0;
+    }
     const { run, options } = COMMANDS[name];
     const { values, positionals } = parseArgs({ args: words, options, allowPositionals: true });
     return run(values, positionals) ?? 0;
@@ -262,7 +307,9 @@ function told(error) {
     if (!isOfWords) {
         throw error;
     }
-    return [2, error.message.replace(/^fontcut: /, '')];
+    const [, option] = /^Unknown option '([^']+)'/.exec(error.message) ?? [];
+    return [2, option ? `no option ${option} in node: fontcut --help lists those that it has`
+        : error.message.replace(/^fontcut: /, '')];
 }
 
 try {
