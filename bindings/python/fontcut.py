@@ -675,8 +675,7 @@ def is_cut(font: Bytes, *, lean: bool = False, kind: Optional[str] = None) -> bo
 
 def belongs(cut: Bytes, font: Union[Bytes, Font], *, lean: bool = False, kind: Optional[str] = None) -> bool:
     """Whether a file is a cut of a font for some characters and glyphs, of a kind: a full one, in either form, if no
-    kind is named.
-    Raises `Refused` if one of the two is refused: file 0 is the cut, and file 1 the font."""
+    kind is named. Raises `Refused` if one of the two is refused: file 0 is the cut, and file 1 the font."""
     first, second = _File(cut), _File(font)
     answer = _library().fontcut_belongs(_kind(kind, lean), first.at, first.length, second.at, second.length)
     return _done(answer, several=True).detail == 1
