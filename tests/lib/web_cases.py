@@ -98,7 +98,7 @@ def cuts_of(cases: Cases, name: str, font: bytes, kind: str, chance: random.Rand
     cases.add("belongs", [names[0], name], lambda: library.belongs(parts[0], font, kind=kind), kind=kind)
     cases.add("belongs", [name, names[0]], lambda: library.belongs(font, parts[0], kind=kind), kind=kind)
     for file, data in (name, font), (names[0], parts[0]):
-        cases.add("cutForm", [file], lambda: library._form(data, False, kind).name, kind=kind)
+        cases.add("cutForm", [file], lambda: library._form(data, library._KINDS[kind]).name, kind=kind)
     return parts[0]
 
 
