@@ -15,7 +15,7 @@ _fontcut_web_options() {
     icons) echo '--out --codepoints --lean --variable --json --help' ;;
     site) echo '--anew --check --json --help' ;;
     text)
-        echo '--lean --layout --variable --full --text --shaped --features --check --css --display --strict --quiet --json --help'
+        echo '--lean --layout --variable --full --text --shaped --features --check --css --display --strict --force --quiet --json --help'
         ;;
     *) echo '--lean --layout --variable --full --help' ;;
     esac

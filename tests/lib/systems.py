@@ -318,7 +318,8 @@ def by_debians_python(system: System) -> None:
     same("the package for Python: fontcut-web", (0, f"fontcut-web {VERSION}\n".encode(), b""),
          system.run("fontcut-web", "--version"))
     same("the package for Python: fontcut-web without fontTools", (
-        3, b"", b"fontcut-web: needs fontTools: apt install python3-fonttools python3-brotli\n"),
+        3, b"", b"fontcut-web: /usr/bin/python3 has no fontTools: apt install python3-fonttools python3-brotli, "
+                b"or pip install 'fontcut[web]'\n"),
         system.run("fontcut-web", "slice", FONT, "--out", "/site", "--slices", "web", "--quiet"))
 
 

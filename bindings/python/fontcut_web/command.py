@@ -13,6 +13,7 @@ from fontcut_output import CommandParser, Progress, print_line, read, reason, wr
 from . import texts, use
 from .common import DISPLAYS, LAYOUT_TABLES, SHAPED, Missing, MissingProgram, Refused, UsageError, need, part
 from .presets import PARTS, SIZES, languages, web
+from .replaced import check_name, check_read
 from .sets import AUTO, MOST_EQUAL, WEB
 
 INSTALL = "pip install 'fontcut[web]'"
@@ -174,6 +175,7 @@ def _run_slice(given: argparse.Namespace) -> None:
     with Progress("fontcut-web") as progress:
         progress.say(f"reading {len(paths)} fonts")
         fonts = slicing.opened(paths, wanted, how)
+        check_read(given.fonts, slicing.paths_of(fonts, given.out, how))
         told = slicing.write_slices(fonts, given.out, how, progress)
     if given.json:
         print_line(json.dumps(told, indent=2))
@@ -182,6 +184,7 @@ def _run_slice(given: argparse.Namespace) -> None:
 
 
 def _run_decode(given: argparse.Namespace) -> None:
+    check_name(given.out, is_packed=False)
     data = read(given.file)
     try:
         font = part("woff").unpacked(data)
@@ -267,7 +270,7 @@ def _add_text(commands: argparse._SubParsersAction[CommandParser]) -> None:
         formatter_class=_RAW, epilog=_STATUS,
         usage="fontcut-web text PAGE.. FONT OUT [--lean | --layout | --variable | --full] [--text TEXT]\n"
               "                        [--shaped] [--features LIST] [--check] [--css] [--display VALUE] [--strict]\n"
-              "                        [--quiet] [--json]")
+              "                        [--force] [--quiet] [--json]")
     command.add_argument("files", metavar="PAGE.. FONT OUT", nargs="+", help=argparse.SUPPRESS)
     _kinds(command, None, lean="write a lean cut (the default)", layout="write a layout cut (the default of --shaped)",
            variable="write a variable cut", full="write a full cut")
@@ -279,6 +282,7 @@ def _add_text(commands: argparse._SubParsersAction[CommandParser]) -> None:
     command.add_argument("--css", action="store_true", help="write OUT's style sheet, whose name ends in .css")
     _display(command)
     command.add_argument("--strict", action="store_true", help="write nothing if the font lacks a character")
+    command.add_argument("--force", action="store_true", help="write over FONT, or over the font that FONT is a cut of")
     command.add_argument("--quiet", action="store_true", help="do not say what the font or its cut lacks")
     command.add_argument("--json", action="store_true", help="print what was written")
     command.set_defaults(run=texts.run)
@@ -372,7 +376,8 @@ def _parser() -> argparse.ArgumentParser:
 
 def _status(error: BaseException, install: str) -> int:
     """Says what went wrong, and returns the exit status."""
-    said = {Missing: f"needs {error}: {install}", MemoryError: "no memory"}.get(type(error), str(error))
+    ways = ", or ".join(dict.fromkeys([install, INSTALL]))
+    said = {Missing: f"{error}: {ways}", MemoryError: "no memory"}.get(type(error), str(error))
     if isinstance(error, OSError):
         said = reason(error)
     print(f"fontcut-web: {said}", file=sys.stderr)

@@ -2,6 +2,7 @@
 from __future__ import annotations
 
 import importlib
+import sys
 from importlib.util import find_spec
 from types import ModuleType
 from typing import Dict, List, Sequence, Tuple
@@ -11,13 +12,15 @@ from typing import Dict, List, Sequence, Tuple
 _MODULES: Dict[str, Tuple[str, ...]] = {"fontTools": ("fontTools",), "brotli": ("brotli", "brotlicffi"),
                                        "tomli": ("tomllib", "tomli")}
 
-# Kinds of cuts that have the layout tables, and these tables.
+# The kinds of cuts, those that have the layout tables, and these tables.
+KINDS = "full", "lean", "layout", "variable"
 SHAPED = "layout", "variable"
 LAYOUT_TABLES = "BASE", "GDEF", "GPOS", "GSUB", "kern"
 # The values of font-display (CSS Fonts 4).
 DISPLAYS = "auto", "block", "swap", "fallback", "optional"
-# What files of WOFF begin with.
+# What files of WOFF begin with, and all fonts.
 WOFF, WOFF2 = b"wOFF", b"wOF2"
+FONTS = b"\0\1\0\0", b"OTTO", b"true", b"ttcf", WOFF, WOFF2
 
 
 class Refused(Exception):
@@ -29,10 +32,10 @@ class UsageError(Exception):
 
 
 class Missing(Exception):
-    """A package that is needed is not installed."""
+    """A package that is needed is not installed for the Python that runs."""
 
     def __init__(self, packages: Sequence[str]):
-        super().__init__(" and ".join(packages))
+        super().__init__(f"{sys.executable or 'this Python'} has no {' and '.join(packages)}")
 
 
 class MissingProgram(Exception):

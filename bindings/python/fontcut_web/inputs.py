@@ -10,14 +10,21 @@ import fontcut
 from fontcut_output import read, write
 
 from . import pages
-from .common import WOFF, WOFF2, Refused, part
+from .common import FONTS, WOFF, WOFF2, Refused, UsageError, part
 
 
-def read_pages(paths: Sequence[str]) -> List[pages.Page]:
-    """The pages in files."""
+def _is_font(data: bytes) -> bool:
+    """Whether a file begins as fonts do: some of their first bytes are zero, which no text has."""
+    return data[:4] in FONTS and b"\0" in data[:16]
+
+
+def read_pages(paths: Sequence[str], order: str = "") -> List[pages.Page]:
+    """The pages in files. Raises `UsageError` for a font, with the order that its command takes files in."""
     found: List[pages.Page] = []
     for path in paths:
         data = read(path)
+        if _is_font(data):
+            raise UsageError(f"{path} is a font, and no page{order}")
         try:
             found.append(pages.page_of(data))
         except Refused as refusal:

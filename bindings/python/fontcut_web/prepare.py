@@ -14,13 +14,13 @@ import fontcut
 from fontcut_output import print_line, read, write
 
 from . import characters, preparing, shaping
-from .common import Refused, UsageError
+from .common import KINDS, Refused, UsageError
 from .inputs import accepted, as_file, mapped, read_pages
 from .preparing import How, Limit, Prepared
+from .replaced import is_same
 from .sets import range_words
 from .shaping import Setting, place_of
 
-_KINDS = "full", "lean", "layout", "variable"
 # By how many units an instance of fontTools may differ from what HarfBuzz makes of the variable font: each rounds other
 # sums.
 _ROUNDED = 2
@@ -57,7 +57,7 @@ def _wanted(given: argparse.Namespace, font: fontcut.Font) -> Wanted:
     """What a command line asks a font to be prepared for."""
     if not any((given.languages, given.scripts, given.unicodes, given.pages)):
         raise UsageError("name what the font is prepared for: --languages, --scripts, --unicodes or --pages")
-    pages = read_pages(given.pages or [])
+    pages = read_pages(given.pages or [], ": FONT and OUT come before --pages")
     letters = characters.of_texts([page.text for page in pages]) | _unicodes(given.unicodes, font)
     letters |= characters.of_languages(_listed(given.languages)) if given.languages else set()
     letters |= characters.of_scripts(_listed(given.scripts), font) if given.scripts else set()
@@ -85,7 +85,7 @@ def _samples(font: fontcut.Font, kept: Set[str]) -> List[str]:
 def _refusals(data: bytes) -> Dict[str, str]:
     """Of which kinds no cut can be made of a font, and why."""
     found: Dict[str, str] = {}
-    for kind in _KINDS:
+    for kind in KINDS:
         try:
             fontcut.cut_size(data, [], kind=kind)
         except fontcut.Refused as refusal:
@@ -132,6 +132,14 @@ def _check_shapes(path: str, font: fontcut.Font, one: Prepared, how: How, texts:
                 raise Refused(f"{path}: prepared, it would shape {text!r} otherwise")
 
 
+def _is_prepared_from(path: str, font: str) -> bool:
+    """Whether what stands beside a prepared font says that it was made of the font in a file."""
+    with contextlib.suppress(OSError, ValueError, LookupError, TypeError, RecursionError):
+        known: object = json.loads(read(f"{path}.json"))["font"]["sha256"]
+        return known == _digest(read(font))
+    return False
+
+
 def _check_out(given: argparse.Namespace) -> None:
     """Raises `UsageError` for an OUT that cannot be meant."""
     out = given.out
@@ -139,11 +147,12 @@ def _check_out(given: argparse.Namespace) -> None:
         raise UsageError(f"{out}: cuts are made of OUT, which is no WOFF file")
     if out.lower().endswith((".html", ".htm", ".xhtml")):
         raise UsageError(f"{out} would be replaced by a font: FONT and OUT come before --pages")
-    with contextlib.suppress(OSError):
-        if os.path.samefile(given.font, out):
-            raise UsageError(f"{out} is FONT, which has more than the prepared font: name another file")
+    if is_same(given.font, out):
+        raise UsageError(f"{out} is FONT, which has more than the prepared font: name another file")
     if os.path.exists(out) and not os.path.isfile(out):
         raise UsageError(f"{out} is no file: OUT.json is written beside OUT")
+    if _is_prepared_from(given.font, out):
+        raise UsageError(f"{out} is the font, and {given.font} was prepared from it: nothing was written")
 
 
 def _again(given: argparse.Namespace, codes: Sequence[int]) -> List[str]:

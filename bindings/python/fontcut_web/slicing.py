@@ -138,6 +138,13 @@ def _slices(fonts: Sequence[Font], folder: str, how: How, progress: Progress) ->
         yield made
 
 
+def paths_of(fonts: Sequence[Font], folder: str, how: How) -> List[str]:
+    """The paths of all files that are written for fonts."""
+    endings = [".ttf", ".woff2"] if how.woff2 else [".ttf"]
+    names = [f"{font.base}-{one.name}{ending}" for font in fonts for one in font.slices for ending in endings]
+    return [os.path.join(folder, name) for name in [*names, *([SHEET, PAGE] if how.css else [])]]
+
+
 def write_slices(fonts: Sequence[Font], folder: str, how: How, progress: Progress) -> Dict[str, object]:
     """Writes the slices of fonts to a folder, and then, where they are wanted, a style sheet and a page. Returns what
     was written, as `--json` prints it."""

@@ -14,6 +14,7 @@ from fontcut_output import print_line, write
 from . import pages
 from .common import SHAPED, Missing, Refused, UsageError, need, part
 from .inputs import accepted, as_file, mapped, read_pages
+from .replaced import check_font, check_name, is_same
 from .sets import Slice, range_words
 
 
@@ -52,9 +53,12 @@ def _check_words(given: argparse.Namespace) -> None:
     """Raises `UsageError` for words that do not go together."""
     if len(given.files) < 3:
         raise UsageError("text needs one page at least, and then FONT and OUT")
-    out = given.files[-1]
+    source, out = given.files[-2:]
     if out.lower().endswith((".html", ".htm", ".xhtml")):
         raise UsageError(f"{out} would be replaced by a font: FONT and OUT come last")
+    check_name(out, is_packed=True)
+    if is_same(source, out) and not given.force:
+        raise UsageError(f"{out} is FONT, which has more than its cut: name another file")
     if given.shaped and given.kind not in (None, *SHAPED):
         raise UsageError(f"--shaped is for layout and variable cuts, and --{given.kind} asks for another kind")
     if given.css and not out.endswith((".ttf", ".woff2")):
@@ -110,8 +114,10 @@ def run(given: argparse.Namespace) -> None:
     given.kind = given.kind or ("layout" if given.shaped else "lean")
     *paths, source, out = given.files
     _needed(given)
-    read = read_pages(paths)
+    read = read_pages(paths, ": pages come first")
     font = accepted(source)
+    if not given.force:
+        check_font(source, font, out)
     lacking = _lacking(given, source, font, read)
     try:
         cut = _exact(given, font, paths, source, read) if given.shaped else _closed(given, font, read)
