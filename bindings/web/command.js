@@ -162,9 +162,9 @@ function runSubset(given, [font, out, ...words]) {
     write(out, cutOf(data, { unicodes, gids, kind, layoutClosure: !given['no-layout-closure'] }));
 }
 
-// The first kind of cut of which something is so, or undefined. A font may be refused for one kind alone.
-function kindWhere(isSo) {
-    return ALL_KINDS.find((kind) => {
+// The first of some kinds of cuts of which something is so, or undefined. A font may be refused for one kind alone.
+function kindWhere(isSo, kinds = ALL_KINDS) {
+    return kinds.find((kind) => {
         try {
             return isSo(kind);
         } catch (error) {
@@ -229,7 +229,7 @@ function runBelongs(given, words) {
     const [cut, font] = words.map(read), named = ALL_KINDS.some((kind) => given[kind]) ? kindOf(given) : undefined;
     let found = belongs(cut, font, { kind: named ?? 'full' }) ? named ?? 'full' : undefined;
     if (!named) {
-        found ??= kindWhere((kind) => belongs(cut, font, { kind }));
+        found ??= kindWhere((kind) => belongs(cut, font, { kind }), Object.keys(KINDS));
     }
     if (found && !named && !given.quiet) {
         process.stderr.write(`fontcut: ${words[0]}: a ${found} cut\n`);
