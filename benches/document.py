@@ -1,4 +1,4 @@
-"""The text of docs/PERFORMANCE.md: tables of what was measured, and what they are held against."""
+"""The tables of docs/PERFORMANCE.md and docs/performance: what was measured, and what it is held against."""
 import math
 import os
 import platform
@@ -174,16 +174,13 @@ def held(found: Figures) -> list[Cells]:
     ]
 
 
-def times_table(rows: Sequence[Row], names: Sequence[str], ratios: Sequence[tuple[str, str]]) -> str:
-    """A row a font and set: the least and the median of each contender in milliseconds, and ratios of the least."""
+def times_table(rows: Sequence[Row], names: Sequence[str]) -> str:
+    """A row a font and set: the least and the median of each contender in milliseconds."""
     def cells(row: Row) -> Iterator[str]:
-        timed = [row.took.get(name) for name in names]
-        yield from (f"{number(one.least)}, {number(one.median)}" if one else "–" for one in timed)
-        for one, other in ratios:
-            mine, others = row.took.get(one), row.took.get(other)
-            yield ratio(mine.least / others.least) if mine and others else "–"
-    titles = ["font", "wanted", "bytes of the cut", *names, *(f"{one} : {other}" for one, other in ratios)]
-    return table(titles, [[row.font.name, row.wanted, f"{row.size:,}", *cells(row)] for row in rows])
+        timed = (row.took.get(name) for name in names)
+        return (f"{number(one.least)}, {number(one.median)}" if one else "–" for one in timed)
+    return table(["font", "wanted", "bytes of the cut", *names],
+                 [[row.font.name, row.wanted, f"{row.size:,}", *cells(row)] for row in rows])
 
 
 def slow_table(rows: Iterable[Programs]) -> str:

@@ -1,4 +1,5 @@
-"""The figures of README.md, which are read off docs/PERFORMANCE.md, so that ./bench and tests/documents write the same."""
+"""The figures of README.md, which are read off docs/PERFORMANCE.md and its tables, so that ./bench and tests/documents
+write the same."""
 import re
 from collections.abc import Iterator
 

@@ -1,4 +1,4 @@
-"""The tables of docs/PERFORMANCE.md on the package for browsers and node."""
+"""The tables of docs/PERFORMANCE.md and its web.md on the package for browsers and node."""
 from statistics import median
 from typing import Iterable, Iterator, Mapping, NamedTuple, Optional, Sequence
 
@@ -11,6 +11,9 @@ MOST_IN_NODE = 7  # times as long as native calls
 NOTHING = "–"
 CALLS = {"cut": "lean cut of a kept font, ASCII", "join": "join of 20 slices of 100 characters"}
 WAYS = GZIP, BROTLI, KNOWN, WHOLE, OTHER_WHOLE, SLICES
+# The ways of the page of results, and what they are called there.
+TAKEN = {BROTLI: "joined cuts, Brotli", KNOWN: "joined cuts, with a dictionary", WHOLE: "a whole cut each time, WOFF2",
+         OTHER_WHOLE: "`hb-subset`, a whole font each time, WOFF2", SLICES: "`hb-subset`, slices, WOFF2"}
 
 
 class Web(NamedTuple):
@@ -35,6 +38,13 @@ def wire_table(rows: Iterable[Wire]) -> str:
     """The bytes on the wire: a row for each font, kind and way."""
     titles = ["font and cuts", "what is fetched", "first text", "nine more", "all ten", ": slices"]
     return table(titles, [line for row in rows for line in wire_lines(row)])
+
+
+def taken_table(rows: Iterable[Wire]) -> str:
+    """The bytes on the wire for all texts: a row for each font and kind."""
+    return table(["font and cuts", *TAKEN.values()],
+                 [[f"{row.font}, {row.kind}", *(f"{sum(row.sizes[way]):,}" if row.sizes.get(way) else NOTHING for way in TAKEN)]
+                  for row in rows])
 
 
 def added_texts(rows: Iterable[Wire]) -> str:
@@ -64,6 +74,7 @@ def tables(found: Web) -> dict[str, str]:
     wires, speeds, module = found.wire, found.speed, found.module
     return {
         "web_module": f"{module / 1000:.0f} KB as Brotli" if module else "a length that was not measured",
+        "web_taken": taken_table(wires) if wires else "None of the fonts is installed.",
         "web_wire": wire_table(wires) if wires else "None of the fonts is installed.",
         "web_added": added_texts(wires),
         "web_speed": speed_table(speeds) if speeds else "Not measured, for a package is not installed.",
