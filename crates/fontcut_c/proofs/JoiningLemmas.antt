@@ -2,14 +2,15 @@
 use Rattle.std.proofs.Common.{◌≡◌, ℕ, List, length, Result, MatchResult}
 use Rattle.std.proofs.lemmas.Result.{MatchResult-weaker}
 use Rattle.font_theory.specs.Cut.{Format}
-use Rattle.font_join.specs.JoinList.{IsAllJoined}
+use Rattle.font_join.specs.JoinList.{IsAllJoined, IsLeastOf}
 use Rattle.fontcut_c.specs.Inside.{IsFileInRoom, RefusesJoined}
 use Rattle.fontcut_c.specs.Joining.{IsJoinInRoom, RefusesJoin}
 use Rattle.fontcut_c.specs.declared.refusal.Refusal.{Refusal}
 use Rattle.fontcut_c.specs.declared.refusal.Refusal.TheVariants.{BadCounts, BadRange, Font, Join, NoGlyph, NoMemory}
 use Rattle.fontcut_c.specs.declared.refusal.Refusal.TheVariants.{Second, SmallRoom, TooLarge}
 
-module _ (R : Format) (files : List (List ℕ)) (join : List ℕ) (joined : IsAllJoined R files join) where
+module _ (R : Format) (files : List (List ℕ)) (join : List ℕ) (joined : IsAllJoined R files join)
+    (least : IsLeastOf R files join) where
   unjoined : (room : ℕ) (refusal : Refusal) → RefusesJoined join room refusal → RefusesJoin R files room refusal
   unjoined room (Join error) h = absurd h
   unjoined room (Font error) h = absurd h
@@ -30,6 +31,7 @@ module _ (R : Format) (files : List (List ℕ)) (join : List ℕ) (joined : IsAl
       MatchResult-weaker result h (λ size w. record {
         join = join;
         joined = joined;
+        least = least;
         small = w.small;
         written = w.written;
       }) (λ refusal p. (p.0, unjoined (length old) refusal p.1))

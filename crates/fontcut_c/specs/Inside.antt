@@ -1,10 +1,11 @@
 -- Words of private contracts and of proofs: no public clause names them.
 use Rattle.std.specs.Prelude.{◌≡◌, ℕ, ◌+◌, ◌<◌, ◌≤◌, Bool, List, [], ◌∷◌, ◌++◌, drop, length, map, sum, take, None}
-use Rattle.std.specs.Prelude.{Some, if◌then◌else◌}
+use Rattle.std.specs.Prelude.{IfSome, Option, Some, if◌then◌else◌}
 use Rattle.std.specs.Option.{option_map}
 use Rattle.std.specs.List.{concat}
 use Rattle.sfnt_bytes.specs.declared.directory.TheConstants.{MAX_FILE}
-use Rattle.font_file.specs.Font.{font_fault}
+use Rattle.font_tables.specs.Fields.{glyph_count_of}
+use Rattle.font_file.specs.Font.{cmap_of, font_fault}
 use Rattle.font_theory.specs.Content.{Content}
 use Rattle.font_theory.specs.File.{current_writing, file}
 use Rattle.font_theory.specs.declared.kinds.Kind.{Kind}
@@ -151,6 +152,10 @@ pub record ArePut (files : List (List ℕ)) (n at : ℕ) (old new sizes : List �
   pub at_is : at ≡ length (concat (take n files))
   pub front : new ≡ concat (take n files) ++ drop at old
   pub sizes_are : take n sizes ≡ map (λ bytes. length bytes) (take n files)
+
+-- a chart, if there is one, is of the mapping of a font, by its `cmap` and its number of glyphs
+abbrev pub IsChartOf : List ℕ → Option (List ℕ × ℕ) → Type 0
+IsChartOf font chart = IfSome chart (λ c. c ≡ (cmap_of font, glyph_count_of font))
 
 -- why files are not written: memory, the first of them that is too large, or the room
 abbrev pub RefusesFiles : List (List ℕ) → ℕ → Refusal → Type 0

@@ -4,17 +4,20 @@ use Rattle.sfnt_bytes.specs.declared.directory.TheConstants.{MAX_FILE}
 use Rattle.font_theory.specs.Cut.{Format}
 use Rattle.font_theory.specs.Kinds.{format_of}
 use Rattle.font_theory.specs.declared.kinds.Kind.{Kind}
-use Rattle.font_join.specs.JoinList.{IsAllJoined, IsAllRefusal}
+use Rattle.font_join.specs.JoinList.{AllRefusalIsRight, IsAllJoined, IsAllRefusal, IsLeastOf}
+use Rattle.font_join.specs.declared.join_error.JoinAllError.{JoinAllError}
 use Rattle.fontcut_c.specs.Answers.{IsInRoom, size_answer}
 use Rattle.fontcut_c.specs.Text.{answer_text, refusal_text}
 use Rattle.fontcut_c.specs.declared.answer.Answer.{Answer}
 use Rattle.fontcut_c.specs.declared.refusal.Refusal.{Refusal}
 use Rattle.fontcut_c.specs.declared.refusal.Refusal.TheVariants.{Join, SmallRoom}
 
--- the join of all files, of which there is one at least, over a format, is in the room
+-- the join of all files, of which there is one at least, over a format, is in the room: the least file of which all
+-- files are cuts
 pub record IsJoinInRoom (R : Format) (files : List (List ℕ)) (old new : List ℕ) (size : ℕ) : Type 0 where
   pub join : List ℕ
   pub joined : IsAllJoined R files join
+  pub least : IsLeastOf R files join
   pub small : size ≤ MAX_FILE
   pub written : IsInRoom join old new size
 
@@ -26,9 +29,13 @@ pub record IsLargerJoin (R : Format) (files : List (List ℕ)) (room size : ℕ)
   pub small : size ≤ MAX_FILE
   pub over : room < size
 
+-- a step is refused, and it is right that it is
+abbrev pub RefusesRightly : Format → List (List ℕ) → JoinAllError → Type 0
+RefusesRightly R files error = IsAllRefusal R files error × AllRefusalIsRight R files error
+
 -- why the join is not written: a step is refused, or the room is too small
 abbrev pub RefusesJoin : Format → List (List ℕ) → ℕ → Refusal → Type 0
-RefusesJoin R files room (Join error) = IsAllRefusal R files error
+RefusesJoin R files room (Join error) = RefusesRightly R files error
 RefusesJoin R files room (SmallRoom size) = IsLargerJoin R files room size
 RefusesJoin R files room _ = ⊥
 

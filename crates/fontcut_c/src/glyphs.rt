@@ -1,9 +1,9 @@
 //! The glyphs to which a font maps codes, written to the caller's room. OpenType 1.9, cmap: Character to Glyph Index
 //! Mapping Table.
-ghost use Rattle.std.specs.Prelude.{◌≡◌, ◌≤◌, ◌++◌, IfSome, MatchResult, None, drop, length};
-ghost use Rattle.font_file.specs.Font.{cmap_of, font_fault, map_of};
-ghost use Rattle.font_tables.specs.Fields.{glyph_count_of};
+ghost use Rattle.std.specs.Prelude.{◌≡◌, ◌≤◌, ◌++◌, MatchResult, None, drop, length};
+ghost use Rattle.font_file.specs.Font.{font_fault, map_of};
 ghost use Rattle.fontcut_c.specs.Glyphs.{AreGlyphsInRoom, RefusesGlyphs, glyphs_of};
+ghost use Rattle.fontcut_c.specs.Inside.{IsChartOf};
 
 use crate::refusal::Refusal;
 use font_file::Font;
@@ -15,7 +15,7 @@ const MANY_CODES: usize = 64;
 
 // Returns a chart of a font's mapping for this many codes, if there is memory for one.
 fn chart_for<'a>(alloc: Global, font: &'a Font<'_>, count: usize) -> Option<Chart<'a>>
-    ensures { IfSome result (λ chart. chart ≡ (cmap_of font.now, glyph_count_of font.now)) }
+    ensures { IsChartOf font.now result }
 {
     if count < MANY_CODES {
         return None;
@@ -25,7 +25,7 @@ fn chart_for<'a>(alloc: Global, font: &'a Font<'_>, count: usize) -> Option<Char
 
 // Returns the glyph of a code, by the chart if there is one.
 fn glyph_by(font: &Font<'_>, chart: &Option<Chart<'_>>, code: u32) -> u16
-    requires { IfSome chart.now (λ chart. chart ≡ (cmap_of font.now, glyph_count_of font.now)) }
+    requires { IsChartOf font.now chart.now }
     ensures { result ≡ map_of font.now code }
 {
     match chart {
@@ -37,7 +37,7 @@ fn glyph_by(font: &Font<'_>, chart: &Option<Chart<'_>>, code: u32) -> u16
 // Writes the glyph of each code to the front of room that has a place for each.
 #[tactic(auto, using(crate::proofs::RowLemmas::row_more, crate::proofs::RowLemmas::row_all))]
 fn put_glyphs(font: &Font<'_>, chart: &Option<Chart<'_>>, codes: &[u32], out: &mut [u16])
-    requires same { IfSome chart.now (λ chart. chart ≡ (cmap_of font.now, glyph_count_of font.now)) }
+    requires same { IsChartOf font.now chart.now }
     requires room { length codes.now ≤ length out.old }
     ensures { out.new ≡ glyphs_of font.now codes.now ++ drop (length codes.now) out.old }
 {
