@@ -6,6 +6,7 @@ mod base6;
 mod directory;
 mod findings;
 mod laws;
+mod memory;
 mod number;
 pub mod numbers;
 mod prefixes;
@@ -20,6 +21,7 @@ pub use crate::findings::{Finding, Findings};
 pub use crate::laws::{
     file_limit_is, kept_slots_are, other_tags_are, refusal_numbers_are, sum_of_parts,
 };
+pub use crate::memory::Memory;
 pub use crate::number::{be16, be32};
 pub use crate::records::{Dropped, Entry, Records};
 pub use crate::sums::{adjustment, word_sum};
