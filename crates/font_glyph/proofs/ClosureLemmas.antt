@@ -1,5 +1,5 @@
 -- The worklist of a closure.
-use Rattle.std.proofs.Common.{◌≡◌, ℕ, ◌+◌, ◌<◌, ◌⊎◌, ◌↔◌, Bool, true, not, List, [], ◌∷◌, ◌++◌, length, sym, ap, subst}
+use Rattle.std.proofs.Common.{◌≡◌, ℕ, ◌+◌, ◌<◌, ◌≤◌, ◌⊎◌, ◌↔◌, Bool, true, not, List, [], ◌∷◌, ◌++◌, length, sym, ap, subst}
 use Rattle.std.proofs.Common.{◌∙◌, arith, inl, inr}
 use Rattle.std.specs.List.{All, AllByRecursion, Contains, count_by}
 use Rattle.std.proofs.lemmas.List.{length_push}
@@ -19,6 +19,7 @@ use Rattle.font_glyph.proofs.VisitLemmas.{new_in_work, work_small, work_marked, 
 
 -- the marks and the work on the way, where o has the records, n is their number and s the seeds
 pub record Closing (o : ℕ → List ℕ) (n : ℕ) (s m : List Bool) (w : List ℕ) : Type 0 where
+  pub room : count_by not m + length w ≤ n
   pub length : length m ≡ n
   pub seeds : (h : ℕ) → has s h ≡ true → has m h ≡ true
   pub reached : (h : ℕ) → has m h ≡ true → Reach o (has s) h
@@ -35,8 +36,9 @@ pub glyphs_small : (n : ℕ) (l : List Component) → All (λ c. c.glyph < n) l 
 glyphs_small n l a = glyphs_by_recursion n l (recursion_from_All (λ c. c.glyph < n) l a)
 
 pub closing_init : (o : ℕ → List ℕ) (n : ℕ) (s : List Bool) (w : List ℕ) → length s ≡ n
-    → ((h : ℕ) → has s h ≡ true → Contains w h) → All (λ h. h < n) w → All (λ h. has s h ≡ true) w → Closing o n s s w
-closing_init o n s w e f a b =
+    → ((h : ℕ) → has s h ≡ true → Contains w h) → All (λ h. h < n) w → All (λ h. has s h ≡ true) w
+    → length w + count_by not s ≡ n → Closing o n s s w
+closing_init o n s w e f a b all =
     record {
       length = e;
       seeds = λ h x. x;
@@ -44,6 +46,7 @@ closing_init o n s w e f a b =
       done = λ h i x c. inl (f h x);
       small = a;
       marked = b;
+      room = omega arith;
     }
 
 pub closing_end : (o : ℕ → List ℕ) (n : ℕ) (s m : List Bool) (w : List ℕ) → Closing o n s m w → w ≡ [] → (g : ℕ)
@@ -98,6 +101,13 @@ closing_step o n s m w v g l k e c a =
       small = work_small n gs m v (glyphs_small n l a) (All-pop (λ h. h < n) w v (Some g) e k.small).0;
       marked = work_marked n gs m v k.length (glyphs_small n l a) (All-pop (λ h. has m h ≡ true) w v (Some g) e
           k.marked).0;
+      room = omega (
+        arith,
+        work_count gs m v n (sym k.length) (glyphs_small n l a),
+        ap length e,
+        length_push v g,
+        k.room,
+      );
     }
 
 pub closing_visit : (o : ℕ → List ℕ) (n : ℕ) (s m t : List Bool) (w v u : List ℕ) (b : List ℕ) (g : ℕ)

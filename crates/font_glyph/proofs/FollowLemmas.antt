@@ -1,9 +1,10 @@
 -- The worklist of links.
-use Rattle.std.proofs.Common.{◌≡◌, ℕ, ◌+◌, ◌<◌, ◌⊎◌, ◌↔◌, Bool, true, false, not, cond, suc, List, [], ◌∷◌, ◌++◌, drop}
+use Rattle.std.proofs.Common.{◌≡◌, ℕ, ◌+◌, ◌<◌, ◌≤◌, ◌⊎◌, ◌↔◌, Bool, true, false, not, cond, suc, List, [], ◌∷◌, ◌++◌, drop}
 use Rattle.std.proofs.Common.{get_or, length, set, sym, ap, subst, ◌∙◌, arith, inl, inr}
 use Rattle.std.specs.List.{All, AllByRecursion, Contains, count_by}
 use Rattle.std.proofs.lemmas.List.{drop_more, length-set, length_push}
 use Rattle.std.proofs.lemmas.List.Elements.{All-from_recursion, All-nil, All-pop, All-contains, Contains-push_cases}
+use Rattle.std.proofs.lemmas.List.Sums.{count_by-le-length}
 use Rattle.std.proofs.Common.{Some}
 use Rattle.font_glyph.specs.Closure.{marks_after, work_after}
 use Rattle.font_glyph.specs.Linked.{Linked}
@@ -11,17 +12,18 @@ use Rattle.font_glyph.specs.Linked.Linked.{start, link}
 use Rattle.font_glyph.specs.Marks.{has}
 use Rattle.font_glyph.proofs.LinkedLemmas.{Linked-within}
 use Rattle.font_glyph.proofs.VisitLemmas.{has_within, length-marks_after, marks_stay, marks_each, marks_only}
-use Rattle.font_glyph.proofs.VisitLemmas.{set-marked, work_stays, new_in_work, work_small, work_marked, work_count}
+use Rattle.font_glyph.proofs.VisitLemmas.{set-marked, unmarked_less, work_stays, new_in_work, work_small, work_marked, work_count}
 
 -- on the way through links: what is left of them, and where it leads
-pub record Visiting (links : List ℕ) (k : ℕ) (m all : List Bool) (w end : List ℕ) : Type 0 where
+pub record Visiting (n : ℕ) (links : List ℕ) (k : ℕ) (m all : List Bool) (w end : List ℕ) : Type 0 where
   pub small : AllByRecursion (λ h. h < length m) (drop k links)
   pub marks : marks_after (drop k links) m ≡ all
   pub work : work_after (drop k links) m w ≡ end
+  pub room : count_by not m + length w ≤ n
 
 -- one step on: the number has a mark already, or gets one
-module _ (links : List ℕ) (k : ℕ) (m all : List Bool) (w end : List ℕ) (on : Visiting links k m all w end) (inside : k
-    < length links) where
+module _ (n : ℕ) (links : List ℕ) (k : ℕ) (m all : List Bool) (w end : List ℕ) (on : Visiting n links k m all w end)
+    (inside : k < length links) where
   abbrev x : ℕ
   x = get_or links k 0
 
@@ -40,19 +42,25 @@ module _ (links : List ℕ) (k : ℕ) (m all : List Bool) (w end : List ℕ) (on
   marks_left : marks_after rest (set m x true) ≡ all
   marks_left = sym (ap (λ (l : List ℕ). marks_after l m) left) ∙ on.marks
 
-  pub visiting_yes : has m x ≡ true → Visiting links (k + 1) m all w end
+  pub visiting_yes : has m x ≡ true → Visiting n links (k + 1) m all w end
   visiting_yes e = record {
     small = small.1;
     marks = ap (marks_after rest) (sym (set-marked m x e)) ∙ marks_left;
     work = sym (ap (λ b. cond b (work_after rest m w) (work_after rest (set m x true) (w ++ x ∷ []))) e) ∙ work_left;
+    room = on.room;
   }
 
-  pub visiting_no : has m x ≡ false → Visiting links (k + 1) (set m x true) all (w ++ x ∷ []) end
+  pub visiting_no : has m x ≡ false → Visiting n links (k + 1) (set m x true) all (w ++ x ∷ []) end
   visiting_no e = record {
     small = subst (λ (n : ℕ). AllByRecursion (λ h. h < n) rest) (sym (length-set m x true)) small.1;
     marks = marks_left;
     work = sym (ap (λ b. cond b (work_after rest m w) (work_after rest (set m x true) (w ++ x ∷ []))) e) ∙ work_left;
+    room = omega (arith, on.room, unmarked_less m x e small.0, length_push w x);
   }
+
+  -- there is room for a number that gets a mark
+  pub visiting_room : has m x ≡ false → length w + 1 ≤ n
+  visiting_room e = omega (arith, on.room, unmarked_less m x e small.0)
 
 -- numbers of 16 bits, one by one
 pub below_all : (n : ℕ) (b : List ℕ) → ((i : ℕ) → get_or b i 0 < n) → AllByRecursion (λ h. h < n) b
@@ -61,6 +69,7 @@ below_all n (x ∷ b) f = (f 0, below_all n b (λ i. f (suc i)))
 
 -- the marks and the work on the way, where l has the links, n is the number of numbers and s the seeds
 pub record Following (l : ℕ → List ℕ) (n : ℕ) (s m : List Bool) (w : List ℕ) : Type 0 where
+  pub room : count_by not m + length w ≤ n
   pub length : length m ≡ n
   pub seeds : (h : ℕ) → has s h ≡ true → has m h ≡ true
   pub linked : (h : ℕ) → has m h ≡ true → Linked l (has s) n h
@@ -95,6 +104,7 @@ following_init l n s z m gs w e none low each only marks work =
       ];
       small = work_small n gs z [] low (All-nil (λ h. h < n));
       marked = work_marked n gs z [] e low (All-nil (λ h. has z h ≡ true));
+      room = omega (arith, work_count gs z [] n (sym e) low, count_by-le-length not z, e);
     })
 
 pub following_end : (l : ℕ → List ℕ) (n : ℕ) (s m : List Bool) (w : List ℕ) → Following l n s m w → w ≡ [] → (g : ℕ)
@@ -140,6 +150,7 @@ following_step l n s m w v g k e a =
       ];
       small = work_small n (l g) m v a (All-pop (λ h. h < n) w v (Some g) e k.small).0;
       marked = work_marked n (l g) m v k.length a (All-pop (λ h. has m h ≡ true) w v (Some g) e k.marked).0;
+      room = omega (arith, work_count (l g) m v n (sym k.length) a, ap length e, length_push v g, k.room);
     }
 
 pub following_visit : (l : ℕ → List ℕ) (n : ℕ) (s m t : List Bool) (w v u : List ℕ) (b : List ℕ) (g : ℕ)

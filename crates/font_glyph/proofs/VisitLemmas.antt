@@ -115,6 +115,17 @@ work_small n (g ∷ gs) m w a b =
       | false ↦ work_small n gs (set m g true) (w ++ g ∷ []) a.1 (All-push (λ g. g < n) w g b a.0)
     ]
 
+-- a glyph that gets a mark is one fewer without
+pub unmarked_less : (m : List Bool) (g : ℕ) → has m g ≡ false → g < length m
+    → count_by not (set m g true) + 1 ≡ count_by not m
+unfolding has
+unmarked_less m g q low =
+    let s : count_by not (set m g true) + cond (not (has m g)) 1 0 ≡ count_by not m + 0 =
+    sum_by-set (λ x. cond (not x) 1 0) m g true false low in
+    let r : count_by not (set m g true) + 1 ≡ count_by not m + 0 =
+    subst (λ (b : Bool). count_by not (set m g true) + cond (not b) 1 0 ≡ count_by not m + 0) q s in
+    omega arith
+
 -- each number without a mark goes into the work once
 pub work_count : (gs : List ℕ) (m : List Bool) (w : List ℕ) (n : ℕ) → n ≡ length m → AllByRecursion (λ g. g < n) gs
     → count_by not (marks_after gs m) + length (work_after gs m w) ≡ count_by not m + length w
@@ -129,15 +140,11 @@ work_count (g ∷ gs) m w n z a =
       | true ↦ λ q. subst (λ (x : List Bool). count_by not (marks_after gs x) + length (work_after gs m w)
           ≡ count_by not m + length w) (sym (set-marked m g q)) (work_count gs m w n z a.1)
       | false ↦ λ q.
-          let s : count_by not (set m g true) + cond (not (has m g)) 1 0 ≡ count_by not m + 0 =
-          sum_by-set (λ x. cond (not x) 1 0) m g true false (omega (arith, a.0)) in
-          let r : count_by not (set m g true) + 1 ≡ count_by not m + 0 =
-          subst (λ (b : Bool). count_by not (set m g true) + cond (not b) 1 0 ≡ count_by not m + 0) q s in
           omega (
             arith,
             work_count gs (set m g true) (w ++ g ∷ []) n (z ∙ sym (length-set m g true)) a.1,
             length_push w g,
-            r,
+            unmarked_less m g q (omega (arith, a.0)),
           )
     ] in
     at (has m g) refl

@@ -1,6 +1,7 @@
 //! The glyphs that components reach.
-ghost use Rattle.std.specs.Prelude.{◌≡◌, ◌+◌, ◌<◌, ◌↔◌, ◌++◌, ◌∷◌, [], ℕ, All, Contains, IfOk, OnOk, count_by, length, not, true};
+ghost use Rattle.std.specs.Prelude.{◌≡◌, ◌+◌, ◌*◌, ◌<◌, ◌≤◌, ◌↔◌, ◌++◌, ◌∷◌, [], ℕ, All, Contains, IfOk, OnErr, OnOk, count_by, length, not, true};
 ghost use Rattle.std.specs.List.{AllByRecursion};
+ghost use Rattle.sfnt_bytes.specs.Memory.{IsRefusedUpTo};
 ghost use Rattle.font_glyph.specs.Closure.{marks_after, work_after};
 ghost use Rattle.font_glyph.specs.Marks.{has};
 ghost use Rattle.font_glyph.specs.Reach.{Reach};
@@ -9,30 +10,30 @@ ghost use Rattle.font_glyph.specs.Record.{glyphs_of};
 use crate::component::Components;
 use crate::marks::Marks;
 use crate::outlines::Outlines;
-use sfnt_bytes::NoMemory;
-use std::alloc::Allocator;
+use sfnt_bytes::{Memory, NoMemory};
 
 // Puts a glyph at the end of the work.
-pub(crate) fn put<A: Allocator>(work: &mut Vec<u16, A>, g: u16) -> Result<(), NoMemory>
-    ensures { OnOk result (work.new.items ≡ work.old.items ++ g ∷ []) }
+pub(crate) fn put<A: Memory>(work: &mut Vec<u16, A>, g: u16) -> Result<(), NoMemory>
+    ensures put { OnOk result (work.new.items ≡ work.old.items ++ g ∷ []) }
+    ensures memory { OnErr result (IsRefusedUpTo A.refuses (2 * (length work.old.items + 1))) }
 {
-    match work.push(g) {
-        Ok(()) => Ok(()),
-        Err(_) => Err(NoMemory),
-    }
+    A::push(work, g)
 }
 
-// Marks each component, and puts those that had no mark at the end of the work.
-#[tactic(auto, unfolding(crate::specs::Marks::has))]
-fn visit<A: Allocator>(
+// Marks each component, and puts those that had no mark at the end of the work. What has no mark and what waits are
+// never more than all glyphs.
+#[tactic(auto, using(crate::proofs::VisitLemmas::unmarked_less), unfolding(crate::specs::Marks::has))]
+fn visit<A: Memory>(
     components: Components<'_>,
     marks: &mut Marks<A>,
     work: &mut Vec<u16, A>,
 ) -> Result<(), NoMemory>
-    requires { AllByRecursion (λ component. component.glyph < length marks.old) components }
+    requires below { AllByRecursion (λ component. component.glyph < length marks.old) components }
+    requires room { count_by not marks.old + length work.old.items ≤ length marks.old }
     ensures marks { OnOk result (marks.new ≡ marks_after (glyphs_of components.entry) marks.old) }
     ensures work { OnOk result (work.new.items ≡ work_after
         (glyphs_of components.entry) marks.old work.old.items) }
+    ensures memory { OnErr result (IsRefusedUpTo A.refuses (2 * length marks.old)) }
 {
     for component in components {
         if !marks.has(component.glyph) {
@@ -44,7 +45,7 @@ fn visit<A: Allocator>(
 }
 
 // Returns the marked glyphs, in a list that has room for all others.
-pub(crate) fn marked<A: Allocator>(
+pub(crate) fn marked<A: Memory>(
     alloc: A,
     marks: &Marks<A>,
     count: u16,
@@ -53,8 +54,9 @@ pub(crate) fn marked<A: Allocator>(
     ensures all { IfOk result (λ work. (g : ℕ) → has marks.now g ≡ true → Contains work.items g) }
     ensures only { IfOk result (λ work. All (λ g. (g < count) × (has marks.now g ≡ true)) work.items) }
     ensures length { IfOk result (λ work. length work.items + count_by not marks.now ≡ count) }
+    ensures memory { OnErr result (IsRefusedUpTo A.refuses (2 * count)) }
 {
-    let mut work = Vec::with_capacity(alloc, count as usize).map_err(|_| NoMemory)?;
+    let mut work = alloc.room_for(count as usize)?;
     for g in 0..count {
         if marks.has(g) {
             put(&mut work, g)?;
@@ -69,8 +71,8 @@ pub(crate) fn marked<A: Allocator>(
 ///
 /// # Errors
 ///
-/// `NoMemory` where memory is refused.
-pub fn close<O: Outlines, A: Allocator + Copy>(
+/// `NoMemory` if there is no room for two bytes for each glyph, or for fewer.
+pub fn close<O: Outlines, A: Memory + Copy>(
     alloc: A,
     outlines: &O,
     seeds: &Marks<A>,
@@ -79,6 +81,7 @@ pub fn close<O: Outlines, A: Allocator + Copy>(
     ensures count { IfOk result (λ marks. length marks ≡ O.count_of outlines.now) }
     ensures reached { IfOk result (λ marks. (g : ℕ) → has marks g ≡ true ↔ Reach (O.record_at outlines.now)
         (has seeds.now) g) }
+    ensures memory { OnErr result (IsRefusedUpTo A.refuses (2 * O.count_of outlines.now)) }
 {
     let mut marks = seeds.copied(alloc)?;
     let mut work = marked(alloc, seeds, outlines.count())?;

@@ -1,14 +1,14 @@
 //! The numbers that links lead to, this project's own.
-ghost use Rattle.std.specs.Prelude.{◌≡◌, ◌<◌, ◌↔◌, ℕ, List, IfOk, OnOk, length, true};
+ghost use Rattle.std.specs.Prelude.{◌≡◌, ◌+◌, ◌*◌, ◌<◌, ◌≤◌, ◌↔◌, ℕ, List, IfOk, OnErr, OnOk, count_by, length, not, true};
 ghost use Rattle.std.specs.List.{AllByRecursion};
+ghost use Rattle.sfnt_bytes.specs.Memory.{IsRefusedUpTo};
 ghost use Rattle.font_glyph.specs.Closure.{marks_after, work_after};
 ghost use Rattle.font_glyph.specs.Linked.{Linked};
 ghost use Rattle.font_glyph.specs.Marks.{has};
 
 use crate::closure::{marked, put};
 use crate::marks::Marks;
-use sfnt_bytes::NoMemory;
-use std::alloc::Allocator;
+use sfnt_bytes::{Memory, NoMemory};
 
 /// How many numbers a table may name glyphs by: 0 to 0xFFFF (OpenType 1.9, Data Types, uint16).
 pub const NUMBERS: usize = 65_536;
@@ -23,17 +23,20 @@ pub trait Links {
         ensures { result.now ≡ links_at self.now g };
 }
 
-// Marks each link, and puts those that had no mark at the end of the work.
+// Marks each link, and puts those that had no mark at the end of the work. What has no mark and what waits are never
+// more than all numbers.
 #[tactic(auto, unfolding(crate::specs::Marks::has))]
-fn visit_links<A: Allocator>(
+fn visit_links<A: Memory>(
     links: &[u16],
     marks: &mut Marks<A>,
     work: &mut Vec<u16, A>,
 ) -> Result<(), NoMemory>
-    requires { length marks.old ≡ NUMBERS }
+    requires count { length marks.old ≡ NUMBERS }
+    requires room { count_by not marks.old + length work.old.items ≤ NUMBERS }
     ensures below { AllByRecursion (λ h. h < NUMBERS) links.now }
     ensures marks { OnOk result (marks.new ≡ marks_after links.now marks.old) }
     ensures work { OnOk result (work.new.items ≡ work_after links.now marks.old work.old.items) }
+    ensures memory { OnErr result (IsRefusedUpTo A.refuses (2 * NUMBERS)) }
 {
     for link in links {
         if !marks.has(*link) {
@@ -51,8 +54,8 @@ fn visit_links<A: Allocator>(
 ///
 /// # Errors
 ///
-/// `NoMemory` where memory is refused.
-pub fn follow<L: Links, A: Allocator + Copy>(
+/// `NoMemory` if there is no room for two bytes for each number, or for fewer.
+pub fn follow<L: Links, A: Memory + Copy>(
     alloc: A,
     links: &L,
     seeds: &Marks<A>,
@@ -62,6 +65,7 @@ pub fn follow<L: Links, A: Allocator + Copy>(
     ensures count { IfOk result (λ marks. length marks ≡ count) }
     ensures linked { IfOk result (λ marks. (g : ℕ) → has marks g ≡ true ↔ (g < count)
         × Linked (L.links_at links.now) (has seeds.now) NUMBERS g) }
+    ensures memory { OnErr result (IsRefusedUpTo A.refuses (2 * NUMBERS)) }
 {
     let seeded = marked(alloc, seeds, count)?;
     let mut marks = Marks::unmarked(alloc, NUMBERS)?;

@@ -1,8 +1,8 @@
 //! Sets of glyphs.
-ghost use Rattle.std.specs.Prelude.{◌≡◌, ◌+◌, ◌<◌, ◌≤◌, ◌||◌, ℕ, nat_eq, false, true, length, slice_set, IfOk, IsTrue};
+ghost use Rattle.std.specs.Prelude.{◌≡◌, ◌+◌, ◌<◌, ◌≤◌, ◌||◌, ℕ, nat_eq, false, true, length, slice_set, IfOk, IsTrue, OnErr};
 ghost use Rattle.font_glyph.specs.Marks.{NoMark, has};
 
-use sfnt_bytes::NoMemory;
+use sfnt_bytes::{Memory, NoMemory};
 use std::alloc::{Allocator, Global};
 use std::marker::Model;
 
@@ -82,33 +82,42 @@ impl<A: Allocator> Drop for Marks<A> {
     }
 }
 
-impl<A: Allocator> Marks<A> {
+impl<A: Memory> Marks<A> {
     /// Returns a set with no mark at all, for numbers below `count`.
     #[tactic(auto, unfolding(crate::specs::Marks::has))]
     pub(crate) fn unmarked(alloc: A, count: usize) -> Result<Marks<A>, NoMemory>
         ensures count { IfOk result (λ marks. length marks ≡ count) }
         ensures none { IfOk result (λ marks. (g : ℕ) → has marks g ≡ false) }
+        ensures memory { OnErr result (A.refuses count) }
     {
-        let marks = vec![in alloc; false; count].map_err(|_| NoMemory)?;
+        let marks = alloc.filled(false, count)?;
         Ok(Marks { marks })
     }
 
     /// Returns a set with no mark at all, for glyphs below `count`.
+    ///
+    /// # Errors
+    ///
+    /// `NoMemory` if there is no room for a byte for each glyph.
     pub fn new(alloc: A, count: u16) -> Result<Marks<A>, NoMemory>
         ensures count { IfOk result (λ marks. length marks ≡ count) }
         ensures none { IfOk result (λ marks. (g : ℕ) → has marks g ≡ false) }
+        ensures memory { OnErr result (A.refuses count) }
     {
         Marks::unmarked(alloc, count as usize)
     }
 
     /// Returns the same marks.
     pub(crate) fn copied(&self, alloc: A) -> Result<Marks<A>, NoMemory>
-        ensures { IfOk result (λ marks. marks ≡ self.now) }
+        ensures same { IfOk result (λ marks. marks ≡ self.now) }
+        ensures memory { OnErr result (A.refuses (length self.now)) }
     {
-        let marks = Vec::from_slice(alloc, &self.marks).map_err(|_| NoMemory)?;
+        let marks = alloc.copy_of(&self.marks)?;
         Ok(Marks { marks })
     }
+}
 
+impl<A: Allocator> Marks<A> {
     /// Lets all marks go but those below a count.
     pub(crate) fn narrow(&mut self, count: usize)
         requires { count ≤ length self.old }

@@ -8,7 +8,7 @@ use Rattle.font_glyph.proofs.closure.marked.Goals.{then-has+in_ok-put, else-has}
 pub loop-g-preserved : goal.loop-g-preserved
 loop-g-preserved g c = elim c.if-has.branch [
   | then-has+in_ok-put w ↦
-      rw (w.work-is, w.in_ok-put.ensures) (listed_yes c.args.count c.args.marks.now c.loop-g.g c.loop-g.work.items
+      rw (w.work-is, w.in_ok-put.ensures.put) (listed_yes c.args.count c.args.marks.now c.loop-g.g c.loop-g.work.items
       c.loop-g.invariant (sym c.has.ensures ∙ w.if-has.true) (omega arith) (omega arith))
   | else-has w ↦ rw w.work-is (listed_no c.args.count c.args.marks.now c.loop-g.g c.loop-g.work.items c.loop-g.invariant
       (sym c.has.ensures ∙ w.if-has.false) (omega arith))

@@ -1,7 +1,8 @@
-use Rattle.std.proofs.Common.{rules, ◌≡◌, ◌<◌, ℕ, ◌∙◌, Bool, List, ap, sym, subst, true}
+use Rattle.std.proofs.Common.{rules, arith, length, not, ◌≡◌, ◌<◌, ℕ, ◌∙◌, Bool, List, ap, sym, subst, true}
 use Rattle.std.specs.List.{All, Contains}
 use Rattle.std.proofs.lemmas.List.Elements.{All-weaker}
-use Rattle.std.proofs.lemmas.List.{nil_from_length}
+use Rattle.std.proofs.lemmas.List.{length_push, nil_from_length}
+use Rattle.std.proofs.lemmas.List.Sums.{count_by-le-length}
 use Rattle.font_glyph.specs.Closure.{work_after}
 use Rattle.font_glyph.specs.Marks.{has}
 use Rattle.font_glyph.specs.declared.linked.TheConstants.{NUMBERS}
@@ -24,6 +25,24 @@ loop-g-init g c =
     (c.in_ok-seeded.ensures.all h x)) only
     c.in_ok-visit_links.ensures.marks (◌∙◌ {A = List ℕ} {b = work_after gs z c.new-work.result.items}
     c.in_ok-visit_links.ensures.work (ap (work_after gs z) c.new-work.ensures.items))
+
+pub visit_links-requires-clause-room : goal.visit_links-requires-clause-room
+visit_links-requires-clause-room g c =
+    omega (
+      arith,
+      count_by-le-length not c.in_ok-marks.marks,
+      c.in_ok-marks.ensures.count,
+      ap length c.new-work.ensures.items,
+    )
+
+pub visit_links-requires-in-Some-clause-room : goal.visit_links-requires-in-Some-clause-room
+visit_links-requires-in-Some-clause-room g c =
+    omega (
+      arith,
+      c.loop-g.invariant.room,
+      ap length c.in-Some.ensures.items,
+      length_push c.pop.new.self.items c.in-Some.g,
+    )
 
 pub loop-g-smaller : goal.loop-g-smaller
 loop-g-smaller g c =
