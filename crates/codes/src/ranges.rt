@@ -1,5 +1,6 @@
 //! Sorted ranges of codes, that neither overlap nor touch.
 ghost use Rattle.std.specs.Prelude.{◌≡◌, ◌+◌, ◌<◌, ◌≤◌, ◌++◌, ◌∷◌, length, take, drop, MatchOption, OnErr, OnOk};
+ghost use Rattle.sfnt_bytes.specs.Memory.{IsRefused};
 ghost use Rattle.codes.specs.Order.{IsFirstReaching};
 ghost use Rattle.codes.specs.Inside.{IsPartAbove, IsPartBelow, absorbed, range_end, range_nth, with_range, without_range};
 ghost use Rattle.codes.specs.Wanted.{AreSeparate, IsRow, NoRow, member};
@@ -7,8 +8,7 @@ ghost use Rattle.codes.specs.declared.code_points.TheConstants.{LAST_CODE};
 
 use crate::code_range::CodeRange;
 use crate::search::{ANYWHERE, Ends, first_reaching};
-use sfnt_bytes::NoMemory;
-use std::alloc::Allocator;
+use sfnt_bytes::{Memory, NoMemory};
 
 /// The ends of ranges.
 #[derive(Drop)]
@@ -121,7 +121,7 @@ fn absorb(ranges: &[CodeRange], i: usize, range: CodeRange) -> (CodeRange, usize
 
 // Puts a range in the place of those from index `i` to `j`. It asks for memory only where these are
 // none.
-fn replace<A: Allocator>(
+fn replace<A: Memory>(
     ranges: &mut Vec<CodeRange, A>,
     i: usize,
     j: usize,
@@ -132,9 +132,13 @@ fn replace<A: Allocator>(
     ensures ok { OnOk result (ranges.new.items ≡ take i ranges.old.items ++ range ∷ drop j ranges.old.items) }
     ensures err { OnErr result (ranges.new.items ≡ ranges.old.items) }
     ensures granted { OnErr result (i ≡ j) }
+    ensures memory { OnErr result (IsRefused A.refuses) }
 {
     if i == j {
-        ranges.insert(i, range).map_err(|_| NoMemory)?;
+        A::more_room_for(ranges, 1)?;
+        let Ok(()) = ranges.insert(i, range) else {
+            unreachable!()
+        };
         return Ok(());
     }
     ranges[i] = range;
@@ -143,13 +147,14 @@ fn replace<A: Allocator>(
 }
 
 /// Adds a range, in place.
-pub(crate) fn add_range<A: Allocator>(
+pub(crate) fn add_range<A: Memory>(
     ranges: &mut Vec<CodeRange, A>,
     range: CodeRange,
 ) -> Result<(), NoMemory>
     requires { AreSeparate 0 ranges.old.items }
     ensures ok { OnOk result (ranges.new.items ≡ with_range range ranges.old.items) }
     ensures err { OnErr result (ranges.new.items ≡ ranges.old.items) }
+    ensures memory { OnErr result (IsRefused A.refuses) }
 {
     let i = count_before(ranges.as_slice(), range);
     let (whole, j) = absorb(ranges.as_slice(), i, range);
@@ -159,7 +164,7 @@ pub(crate) fn add_range<A: Allocator>(
 // Puts two ranges in the place of those from index `i` to `j`, which are one at least. It asks for memory before
 // anything is changed.
 #[tactic(auto, using(crate::proofs::RemovingLemmas::two_in_place))]
-fn replace_by_two<A: Allocator>(
+fn replace_by_two<A: Memory>(
     ranges: &mut Vec<CodeRange, A>,
     i: usize,
     j: usize,
@@ -171,6 +176,7 @@ fn replace_by_two<A: Allocator>(
     ensures ok { OnOk result
         (ranges.new.items ≡ take i ranges.old.items ++ below ∷ above ∷ drop j ranges.old.items) }
     ensures err { OnErr result (ranges.new.items ≡ ranges.old.items) }
+    ensures memory { OnErr result (IsRefused A.refuses) }
 {
     replace(ranges, i, i, below)?;
     replace(ranges, i + 1, j + 1, above)
@@ -209,7 +215,7 @@ fn part_above_at(ranges: &[CodeRange], j: usize, range: CodeRange) -> Option<Cod
 
 /// Takes the codes of a range away, in place.
 #[tactic(auto, using(crate::proofs::RemovingLemmas::none_left, crate::proofs::RemovingLemmas::below_left, crate::proofs::RemovingLemmas::above_left, crate::proofs::RemovingLemmas::both_left))]
-pub(crate) fn remove_range<A: Allocator>(
+pub(crate) fn remove_range<A: Memory>(
     ranges: &mut Vec<CodeRange, A>,
     range: CodeRange,
 ) -> Result<(), NoMemory>
@@ -218,6 +224,7 @@ pub(crate) fn remove_range<A: Allocator>(
     requires within { range.last ≤ LAST_CODE }
     ensures ok { OnOk result (ranges.new.items ≡ without_range range ranges.old.items) }
     ensures err { OnErr result (ranges.new.items ≡ ranges.old.items) }
+    ensures memory { OnErr result (IsRefused A.refuses) }
 {
     let i = find_range(ranges.as_slice(), ANYWHERE, range.first);
     let j = find_range(ranges.as_slice(), i, range.last + 1);

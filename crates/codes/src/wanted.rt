@@ -1,5 +1,6 @@
 //! Wanted sets of codes.
 ghost use Rattle.std.specs.Prelude.{◌≡◌, ◌↔◌, Err, IfOk, MatchOption, OnErr, OnOk};
+ghost use Rattle.sfnt_bytes.specs.Memory.{IsRefused};
 ghost use Rattle.codes.specs.Text.{wanted_error_number, wanted_error_text};
 ghost use Rattle.codes.specs.Wanted.{IsBadRange, IsRow, NoRow, all_codes, but_for, codes_between, either, member, no_codes};
 ghost use Rattle.codes.specs.declared.wanted.WantedError.TheVariants.{BadRange, NoMemory};
@@ -7,7 +8,7 @@ ghost use Rattle.codes.specs.declared.wanted.WantedError.TheVariants.{BadRange, 
 use crate::code_points::LAST_CODE;
 use crate::code_range::CodeRange;
 use crate::ranges::{add_range, has_code, remove_range, row_by_hint};
-use sfnt_bytes::{NoMemory, numbers};
+use sfnt_bytes::{Memory, NoMemory, numbers};
 use std::alloc::{Allocator, Global};
 use std::cell::Cell;
 use std::error::Error;
@@ -19,7 +20,7 @@ use std::marker::Model;
 pub enum WantedError {
     /// The first code is above the last, or the last is above 0x10FFFF.
     BadRange,
-    /// Memory was refused.
+    /// Out of memory.
     NoMemory,
 }
 
@@ -99,26 +100,6 @@ impl<A: Allocator> Wanted<A> {
         }
     }
 
-    /// Returns the set of all code points, 0 to 0x10FFFF.
-    ///
-    /// # Errors
-    ///
-    /// `NoMemory` where memory is refused.
-    pub fn all(alloc: A) -> Result<Wanted<A>, NoMemory>
-        ensures { IfOk result (λ wanted. member wanted ≡ all_codes) }
-    {
-        let mut ranges = Vec::new(alloc);
-        let range = CodeRange {
-            first: 0,
-            last: LAST_CODE,
-        };
-        ranges.push(range).map_err(|_| NoMemory)?;
-        Ok(Wanted {
-            ranges,
-            hint: Cell::new(0),
-        })
-    }
-
     /// Returns whether a code is in the set.
     pub fn contains(&self, code: u32) -> bool
         ensures { result ≡ member self.now code }
@@ -134,13 +115,36 @@ impl<A: Allocator> Wanted<A> {
         self.hint.set(place);
         row
     }
+}
+
+impl<A: Memory> Wanted<A> {
+    /// Returns the set of all code points, 0 to 0x10FFFF.
+    ///
+    /// # Errors
+    ///
+    /// `NoMemory` if there is no memory for one range.
+    pub fn all(alloc: A) -> Result<Wanted<A>, NoMemory>
+        ensures all { IfOk result (λ wanted. member wanted ≡ all_codes) }
+        ensures memory { OnErr result (IsRefused A.refuses) }
+    {
+        let mut ranges = Vec::new(alloc);
+        let range = CodeRange {
+            first: 0,
+            last: LAST_CODE,
+        };
+        A::push(&mut ranges, range)?;
+        Ok(Wanted {
+            ranges,
+            hint: Cell::new(0),
+        })
+    }
 
     /// Adds the codes from the first to the last, both included. A refusal leaves the set as it was.
     ///
     /// # Errors
     ///
     /// `BadRange` where the first code is above the last or the last above 0x10FFFF, and `NoMemory`
-    /// where memory is refused.
+    /// if there is no memory for one range more.
     ///
     /// # Example
     ///
@@ -157,6 +161,7 @@ impl<A: Allocator> Wanted<A> {
         ensures bad_range { (result ≡ Err BadRange) ↔ IsBadRange first last }
         ensures added { OnOk result (member self.new ≡ either (codes_between first last) (member self.old)) }
         ensures unchanged { OnErr result (member self.new ≡ member self.old) }
+        ensures memory { result ≡ Err WantedError.NoMemory → IsRefused A.refuses }
     {
         if last < first || LAST_CODE < last {
             return Err(WantedError::BadRange);
@@ -169,14 +174,15 @@ impl<A: Allocator> Wanted<A> {
     ///
     /// # Errors
     ///
-    /// `BadRange` where the first code is above the last or the last above 0x10FFFF, and `NoMemory`
-    /// where memory is refused: it is asked for only where codes stay below the first and above the last.
+    /// `BadRange` where the first code is above the last or the last above 0x10FFFF, and `NoMemory` if there is
+    /// no memory for one range more: it is asked for only where codes stay below the first and above the last.
     #[tactic(auto, using(crate::proofs::RemovingLemmas::wanted_separate))]
     pub fn remove(&mut self, first: u32, last: u32) -> Result<(), WantedError>
         ensures bad_range { (result ≡ Err BadRange) ↔ IsBadRange first last }
         ensures removed { OnOk result
             (member self.new ≡ but_for (codes_between first last) (member self.old)) }
         ensures unchanged { OnErr result (member self.new ≡ member self.old) }
+        ensures memory { result ≡ Err WantedError.NoMemory → IsRefused A.refuses }
     {
         if first <= last && last <= LAST_CODE {
             remove_range(&mut self.ranges, CodeRange { first, last })?;
