@@ -1,5 +1,6 @@
 //! The runs of the union of two maps. OpenType 1.9, cmap, Format 12: Segmented coverage.
-ghost use Rattle.std.specs.Prelude.{◌≡◌, ◌+◌, ◌<◌, ◌≤◌, ◌++◌, ℕ, List, [], length, IfOk, IfSome, IsTrue, OnOk};
+ghost use Rattle.std.specs.Prelude.{◌≡◌, ◌+◌, ◌<◌, ◌≤◌, ◌++◌, ℕ, List, [], length, IfOk, IfSome, IsTrue, OnErr, OnOk};
+ghost use Rattle.sfnt_bytes.specs.Memory.{IsRefused};
 ghost use Rattle.codes.specs.CharacterMap.{IsCharacterMap, united};
 ghost use Rattle.codes.specs.Runs.{IsNext, IsPiece, IsRun, spelled};
 ghost use Rattle.codes.specs.declared.code_points.TheConstants.{CODES, LAST_CODE};
@@ -9,8 +10,7 @@ ghost use Rattle.map_union.specs.Inside.{AreLeftAlone, ArePast, IsDone, IsPast, 
 
 use crate::run_list::{place_by_guess, run_from};
 use codes::{CODES, Run};
-use sfnt_bytes::NoMemory;
-use std::alloc::Allocator;
+use sfnt_bytes::{Memory, NoMemory};
 
 // The places in two lists of runs at which a walk over both of them stands.
 #[derive(Clone, Copy)]
@@ -207,24 +207,19 @@ fn next_apart<'r>(a: &'r [Run], b: &'r [Run], at: Position, count: usize) -> Opt
 
 // Adds a stretch of runs. For one run a copy of a slice costs more than the run.
 #[tactic(auto, using(crate::proofs::StretchLemmas::one_run))]
-fn push_stretch<A: Allocator>(runs: &mut Vec<Run, A>, stretch: &[Run]) -> Result<(), NoMemory>
-    ensures { OnOk result (runs.new.items ≡ runs.old.items ++ stretch.now) }
+fn push_stretch<A: Memory>(runs: &mut Vec<Run, A>, stretch: &[Run]) -> Result<(), NoMemory>
+    ensures pushed { OnOk result (runs.new.items ≡ runs.old.items ++ stretch.now) }
+    ensures memory { OnErr result (IsRefused A.refuses) }
 {
     if stretch.len() == 1 {
-        if runs.push(stretch[0]).is_err() {
-            return Err(NoMemory);
-        }
-        return Ok(());
+        return A::push(runs, stretch[0]);
     }
-    if runs.extend_from_slice(stretch).is_err() {
-        return Err(NoMemory);
-    }
-    Ok(())
+    A::append(runs, stretch)
 }
 
 // Adds the runs of both from a position on that are left alone by the other list, up to one that is not. Returns the
 // position after the last one.
-fn push_apart<A: Allocator>(
+fn push_apart<A: Memory>(
     a: &[Run],
     b: &[Run],
     from: Position,
@@ -239,6 +234,7 @@ fn push_apart<A: Allocator>(
         (λ end. IsDone (united (spelled a.now) (spelled b.now)) runs.new.items end.code) }
     ensures past { IfOk result (λ end. ArePast a.now b.now end.code end.places.first end.places.second) }
     ensures order { IfOk result (λ end. (from.code ≤ end.code) × (end.code ≤ CODES)) }
+    ensures memory { OnErr result (IsRefused A.refuses) }
 {
     let mut at = from;
     // The lists mostly take turns, and each goes on in stretches of one length.
@@ -254,12 +250,13 @@ fn push_apart<A: Allocator>(
 // Returns an empty list with room for this number of runs: that of a list whose runs go, where it has enough.
 // Else it gets room for twice as many, since the lists that follow are longer, and memory costs nothing until
 // it is written. It is not made to grow, for that would copy runs that nobody needs.
-fn empty_list<A: Allocator + Copy>(
+fn empty_list<A: Memory + Copy>(
     alloc: A,
     room: Vec<Run, A>,
     count: usize,
 ) -> Result<Vec<Run, A>, NoMemory>
-    ensures { IfOk result (λ runs. runs.items ≡ []) }
+    ensures empty { IfOk result (λ runs. runs.items ≡ []) }
+    ensures memory { OnErr result (IsRefused A.refuses) }
 {
     let mut runs = room;
     runs.clear();
@@ -269,14 +266,16 @@ fn empty_list<A: Allocator + Copy>(
         // No map has more runs than there are code points.
         wanted = count.saturating_add(count).min(CODES as usize).max(count);
     }
-    if runs.reserve(wanted).is_err() {
-        return Err(NoMemory);
-    }
+    A::more_room_for(&mut runs, wanted)?;
     Ok(runs)
 }
 
 /// Lists the runs of the union of two maps, in the memory of `room` if that is enough. The runs of `room` go.
-pub fn runs_of_both<A: Allocator + Copy>(
+///
+/// # Errors
+///
+/// `NoMemory` if there is no memory for the list.
+pub fn runs_of_both<A: Memory + Copy>(
     alloc: A,
     room: Vec<Run, A>,
     a: &[Run],
@@ -286,6 +285,7 @@ pub fn runs_of_both<A: Allocator + Copy>(
     requires second { AreMapRuns b.now }
     ensures spelled { IfOk result (λ v. spelled v.items ≡ united (spelled a.now) (spelled b.now)) }
     ensures runs { IfOk result (λ v. AreMapRuns v.items) }
+    ensures memory { OnErr result (IsRefused A.refuses) }
 {
     // As many as there can be where the maps agree: without them the list is copied as it grows.
     let mut runs = empty_list(alloc, room, a.len().saturating_add(b.len()))?;
@@ -297,9 +297,7 @@ pub fn runs_of_both<A: Allocator + Copy>(
     let mut from = 0;
     while let Some(piece) = ahead {
         let (run, after) = run_of_both(a, b, places, piece);
-        if runs.push(run).is_err() {
-            return Err(NoMemory);
-        }
+        A::push(&mut runs, run)?;
         let after = Position {
             places: after,
             code: run.last + 1,

@@ -1,6 +1,7 @@
 //! The map of a union of many files. It is this project's own, but for the groups of the mapping.
 //! OpenType 1.9, cmap, Format 12: Segmented coverage.
-ghost use Rattle.std.specs.Prelude.{◌≡◌, ◌≤◌, [], length, IfOk, MatchOption};
+ghost use Rattle.std.specs.Prelude.{◌≡◌, ◌≤◌, [], length, IfOk, MatchOption, OnErr};
+ghost use Rattle.sfnt_bytes.specs.Memory.{IsRefused};
 ghost use Rattle.codes.specs.CharacterMap.{AreCompatible, united};
 ghost use Rattle.codes.specs.Runs.{IsRun, NoRun, groups_from, spelled};
 ghost use Rattle.map_union.specs.RunLists.{AreMapRuns, map_in};
@@ -8,7 +9,7 @@ ghost use Rattle.map_union.specs.RunLists.{AreMapRuns, map_in};
 use crate::merging::{first_piece, runs_of_both};
 use crate::run_list::{Hint, run_among};
 use codes::{Pieces, Run, next_run};
-use sfnt_bytes::NoMemory;
+use sfnt_bytes::{Memory, NoMemory};
 use std::alloc::Allocator;
 use std::cell::Cell;
 use std::marker::Model;
@@ -100,14 +101,35 @@ impl<A: Allocator + Copy> UnionMap<A> {
         }
     }
 
+    // Returns the map with more runs, which become the short list.
+    fn with_first(self, runs: Vec<Run, A>) -> UnionMap<A>
+        requires one { self.recent ≡ [] }
+        requires runs { AreMapRuns runs.items }
+        requires agree { AreCompatible (map_in self) (spelled runs.items) }
+        ensures { map_in result ≡ united (map_in self) (spelled runs.items) }
+    {
+        UnionMap {
+            settled: self.settled,
+            recent: runs,
+            settled_room: self.settled_room,
+            recent_room: self.recent_room,
+            passed: 0,
+            settled_hint: Cell::new(Hint::START),
+            recent_hint: Cell::new(Hint::START),
+        }
+    }
+}
+
+impl<A: Memory + Copy> UnionMap<A> {
     /// Returns the same map, of one list: it is quick to walk.
     ///
     /// # Errors
     ///
-    /// `NoMemory` where memory is refused.
+    /// `NoMemory` if there is no memory for the runs of the new list.
     pub fn settle(self, alloc: A) -> Result<UnionMap<A>, NoMemory>
         ensures same { IfOk result (λ map. map_in map ≡ map_in self) }
         ensures one { IfOk result (λ map. map.recent ≡ []) }
+        ensures memory { OnErr result (IsRefused A.refuses) }
     {
         if self.recent.is_empty() {
             return Ok(self);
@@ -126,24 +148,6 @@ impl<A: Allocator + Copy> UnionMap<A> {
         })
     }
 
-    // Returns the map with more runs, which become the short list.
-    fn with_first(self, runs: Vec<Run, A>) -> UnionMap<A>
-        requires one { self.recent ≡ [] }
-        requires runs { AreMapRuns runs.items }
-        requires agree { AreCompatible (map_in self) (spelled runs.items) }
-        ensures { map_in result ≡ united (map_in self) (spelled runs.items) }
-    {
-        UnionMap {
-            settled: self.settled,
-            recent: runs,
-            settled_room: self.settled_room,
-            recent_room: self.recent_room,
-            passed: 0,
-            settled_hint: Cell::new(Hint::START),
-            recent_hint: Cell::new(Hint::START),
-        }
-    }
-
     // Returns the map with more runs, which are merged with the short list.
     fn merged_with_recent(
         self,
@@ -153,7 +157,8 @@ impl<A: Allocator + Copy> UnionMap<A> {
     ) -> Result<UnionMap<A>, NoMemory>
         requires runs { AreMapRuns runs.now }
         requires agree { AreCompatible (map_in self) (spelled runs.now) }
-        ensures { IfOk result (λ map. map_in map ≡ united (map_in self) (spelled runs.now)) }
+        ensures map { IfOk result (λ map. map_in map ≡ united (map_in self) (spelled runs.now)) }
+        ensures memory { OnErr result (IsRefused A.refuses) }
     {
         let recent = runs_of_both(alloc, self.recent_room, &self.recent, runs)?;
         Ok(UnionMap {
@@ -171,11 +176,12 @@ impl<A: Allocator + Copy> UnionMap<A> {
     ///
     /// # Errors
     ///
-    /// `NoMemory` where memory is refused.
+    /// `NoMemory` if there is no memory for the runs of the new list.
     pub fn with(self, alloc: A, runs: Vec<Run, A>) -> Result<UnionMap<A>, NoMemory>
         requires runs { AreMapRuns runs.items }
         requires agree { AreCompatible (map_in self) (spelled runs.items) }
-        ensures { IfOk result (λ map. map_in map ≡ united (map_in self) (spelled runs.items)) }
+        ensures map { IfOk result (λ map. map_in map ≡ united (map_in self) (spelled runs.items)) }
+        ensures memory { OnErr result (IsRefused A.refuses) }
     {
         let passed = self.passed.saturating_add(self.recent.len());
         if passed < self.settled.len() && !self.recent.is_empty() {

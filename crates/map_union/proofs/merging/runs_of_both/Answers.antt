@@ -1,4 +1,4 @@
-use Rattle.std.proofs.Common.{rules, ◌≡◌, ℕ, ◌+◌, List, [], ◌∷◌, ◌++◌, ap, ◌∙◌, arith, subst}
+use Rattle.std.proofs.Common.{◌≡◌, ℕ, ◌+◌, List, [], ◌∷◌, ◌++◌, ap, ◌∙◌, arith, subst}
 use Rattle.codes.specs.CharacterMap.{united}
 use Rattle.codes.specs.Runs.{IsNext, IsPiece, NoRun, groups_from, spelled}
 use Rattle.codes.specs.declared.runs.Run.{Run}
@@ -12,7 +12,8 @@ push_apart-requires-clause-done g c =
     let piece : IsPiece M c.loop-ahead.from c.in-Some.piece =
     subst (IsNext M c.loop-ahead.from) c.in-Some.is c.loop-ahead.invariant.next in
     let run = c.run_of_both.ensures.run c.loop-ahead.from piece in
-    let pushed : c.push.new.self.items ≡ c.loop-ahead.runs.items ++ c.run_of_both.result.0 ∷ [] = search rules in
+    let pushed : c.push.new.values.items ≡ c.loop-ahead.runs.items ++ c.run_of_both.result.0 ∷ [] =
+    c.in_ok-push.ensures.pushed in
     ap (λ (runs : List Run). runs ++ groups_from M (c.run_of_both.result.0.last + 1)) pushed
     ∙ groups_go_on M c.loop-ahead.from c.loop-ahead.runs.items (groups_from M 0) c.run_of_both.result.0
     (both_map c.args.a.now c.args.b.now c.requires.first c.requires.second) c.loop-ahead.invariant.done run

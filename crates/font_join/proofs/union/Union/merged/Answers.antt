@@ -117,7 +117,7 @@ invariant_of-result g c =
     c.take-other.result c.other_parts-parts.result c.take-other.ensures.differs c.other_parts-parts.ensures (sym
     c.least.ensures ∙ c.in_default.is) c.in_ok-map.map c.take-other.new.self c.laid_over-own.result
     (option_map (λ v. v.items) c.in_ok-gvar.gvar) c.self.invariant.count c.take-other.ensures.taken
-    (c.in_ok-map.ensures ∙ ap (united (map_in u.runs)) c.in_ok-runs.ensures.spelled_map) c.in_ok-gvar.ensures.table
+    (c.in_ok-map.ensures.map ∙ ap (united (map_in u.runs)) c.in_ok-runs.ensures.spelled_map) c.in_ok-gvar.ensures.table
     c.laid_over-own.ensures c.self.invariant.whole c.self.invariant.spells c.self.inside.blanks c.self.invariant
 
 pub returns : goal.returns
@@ -142,7 +142,7 @@ returns g c = subst (λ (v : Held). (K : Content) → SpellsIn v.kind (content_i
     c.take-other.result c.other_parts-parts.result c.take-other.ensures.differs c.other_parts-parts.ensures (sym
     c.least.ensures ∙ c.in_default.is) c.in_ok-map.map c.take-other.new.self c.laid_over-own.result
     (option_map (λ v. v.items) c.in_ok-gvar.gvar) c.self.invariant.count c.take-other.ensures.taken
-    (c.in_ok-map.ensures ∙ ap (united (map_in u.runs)) c.in_ok-runs.ensures.spelled_map) c.in_ok-gvar.ensures.table
+    (c.in_ok-map.ensures.map ∙ ap (united (map_in u.runs)) c.in_ok-runs.ensures.spelled_map) c.in_ok-gvar.ensures.table
     c.laid_over-own.ensures K spells)
 
 pub returns-in_err-runs : goal.returns-in_err-runs

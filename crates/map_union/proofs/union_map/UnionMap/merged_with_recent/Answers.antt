@@ -18,8 +18,8 @@ invariant_of-result g c =
     are_recent lists c.args.runs.now c.in_ok-recent.recent.items c.self.invariant agree spells
     c.in_ok-recent.ensures.runs
 
-pub returns : goal.returns
-returns g c =
+pub returns-clause-map : goal.returns-clause-map
+returns-clause-map g c =
     let lists : TwoLists = record { settled = c.self.inside.settled.items; recent = c.self.inside.recent.items } in
     let agree : AreCompatible (map_in lists) (spelled c.args.runs.now) =
     subst (λ (l : TwoLists). AreCompatible (map_in l) (spelled c.args.runs.now)) (sym c.self.view_is)
