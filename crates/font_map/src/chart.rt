@@ -1,6 +1,8 @@
 //! A mapping that is quick to walk, in whatever order its subtable stands.
-ghost use Rattle.std.specs.Prelude.{◌≡◌, IfOk, MatchOption};
+ghost use Rattle.std.specs.Prelude.{◌≡◌, ◌*◌, IfOk, MatchOption, OnErr};
+ghost use Rattle.sfnt_bytes.specs.Memory.{IsRefusedUpTo};
 ghost use Rattle.codes.specs.CharacterMap.{IsCharacterMap, mapped_codes, restricted};
+ghost use Rattle.codes.specs.declared.code_points.TheConstants.{CODES};
 ghost use Rattle.font_map.specs.Mapping.{mapping_of};
 ghost use Rattle.codes.specs.Runs.{IsRun, NoRun};
 ghost use Rattle.codes.specs.Wanted.{member};
@@ -9,7 +11,7 @@ use crate::laid_out::LaidOut;
 use crate::mapping::Mapping;
 use crate::within::wanted_run;
 use codes::{Pieces, Run, Wanted, mapped_count, next_run};
-use sfnt_bytes::NoMemory;
+use sfnt_bytes::{Memory, NoMemory};
 use std::alloc::{Allocator, Global};
 use std::cell::Cell;
 use std::marker::Model;
@@ -48,14 +50,15 @@ impl<'a, A: Allocator> Drop for Chart<'a, A> {
     }
 }
 
-impl<'a, A: Allocator + Copy> Chart<'a, A> {
+impl<'a, A: Memory + Copy> Chart<'a, A> {
     /// Makes the chart of a mapping. It asks for memory only where the subtable stands out of order.
     ///
     /// # Errors
     ///
-    /// `NoMemory` where memory is refused.
+    /// `NoMemory` if there is no room for two bytes for each code, or for fewer.
     pub fn of(alloc: A, mapping: &'a Mapping<'a>) -> Result<Chart<'a, A>, NoMemory>
-        ensures { IfOk result (λ chart. chart ≡ mapping.entry.now) }
+        ensures mapping { IfOk result (λ chart. chart ≡ mapping.entry.now) }
+        ensures memory { OnErr result (IsRefusedUpTo A.refuses (2 * CODES)) }
     {
         if mapping.is_ordered() {
             return Ok(Chart {

@@ -1,6 +1,7 @@
 //! A mapping laid out as a list of glyphs, one for each code. OpenType 1.9, cmap: Character to Glyph
 //! Index Mapping Table.
-ghost use Rattle.std.specs.Prelude.{◌≡◌, ◌≢◌, ◌+◌, ◌<◌, ◌≤◌, ℕ, IfOk, MatchOption, drop, length, slice_index};
+ghost use Rattle.std.specs.Prelude.{◌≡◌, ◌≢◌, ◌+◌, ◌*◌, ◌<◌, ◌≤◌, ℕ, IfOk, MatchOption, OnErr, drop, length, slice_index};
+ghost use Rattle.sfnt_bytes.specs.Memory.{IsRefusedUpTo};
 ghost use Rattle.codes.specs.CharacterMap.{clipped};
 ghost use Rattle.cmap_subtables.specs.Format12.{HasGroups, group_count, group_glyph, groups_of};
 ghost use Rattle.cmap_subtables.specs.Format4.{HasSegments, segment_glyph};
@@ -12,7 +13,7 @@ ghost use Rattle.font_map.specs.Inside.{NoneFree, IsFirstFree, IsLaid, IsSkip};
 use crate::mapping::Mapping;
 use cmap_subtables::{count_groups, glyph_at, group_at, walk_place};
 use codes::{CODES, LAST_CODE, Pieces, Run, clip};
-use sfnt_bytes::NoMemory;
+use sfnt_bytes::{Memory, NoMemory};
 use std::alloc::{Allocator, Global};
 use std::marker::Model;
 
@@ -147,19 +148,21 @@ pub(crate) fn lay_segments(s: &[u8], count: u16, glyphs: &mut [u16])
 }
 
 // Returns glyphs for `count` codes, none of which is mapped.
-pub(crate) fn unmapped<A: Allocator>(alloc: A, count: usize) -> Result<Vec<u16, A>, NoMemory>
+pub(crate) fn unmapped<A: Memory>(alloc: A, count: usize) -> Result<Vec<u16, A>, NoMemory>
     ensures count { IfOk result (λ glyphs. length glyphs.items ≡ count) }
     ensures unmapped { IfOk result (λ glyphs. (c : ℕ) → slice_index glyphs.items c ≡ 0) }
+    ensures memory { OnErr result (IsRefusedUpTo A.refuses (2 * count)) }
 {
-    vec![in alloc; 0; count].map_err(|_| NoMemory)
+    alloc.filled(0, count)
 }
 
 // Returns numbers for `count` blocks, of none of which anything is known.
-pub(crate) fn no_skips<A: Allocator>(alloc: A, count: usize) -> Result<Vec<u32, A>, NoMemory>
+pub(crate) fn no_skips<A: Memory>(alloc: A, count: usize) -> Result<Vec<u32, A>, NoMemory>
     ensures count { IfOk result (λ skip. length skip.items ≡ count) }
     ensures unknown { IfOk result (λ skip. (b : ℕ) → slice_index skip.items b ≡ 0) }
+    ensures memory { OnErr result (IsRefusedUpTo A.refuses (4 * count)) }
 {
-    vec![in alloc; 0; count].map_err(|_| NoMemory)
+    alloc.filled(0, count)
 }
 
 // Returns the least mapped code from `from` on, as a run of its own: one that went on to the end of its
@@ -212,10 +215,11 @@ impl<A: Allocator> LaidOut<A> {
     }
 }
 
-impl<A: Allocator + Copy> LaidOut<A> {
-    /// Lays out a mapping. Errors where memory is refused.
+impl<A: Memory + Copy> LaidOut<A> {
+    /// Lays out a mapping. Errors if there is no memory for a glyph for each code.
     pub(crate) fn of(alloc: A, mapping: &Mapping<'_>) -> Result<LaidOut<A>, NoMemory>
-        ensures { IfOk result (λ laid_out. slice_index laid_out ≡ mapping_of mapping.now.0 mapping.now.1) }
+        ensures map { IfOk result (λ laid_out. slice_index laid_out ≡ mapping_of mapping.now.0 mapping.now.1) }
+        ensures memory { OnErr result (IsRefusedUpTo A.refuses (2 * CODES)) }
     {
         let mut glyphs = unmapped(alloc, CODES as usize)?;
         mapping.lay_out(alloc, &mut glyphs)?;

@@ -1,6 +1,7 @@
 //! The mapping of a `cmap` from code points to glyphs. OpenType 1.9, cmap: Character to Glyph Index
 //! Mapping Table.
-ghost use Rattle.std.specs.Prelude.{◌≡◌, ℕ, OnOk, length, slice_index, ◌+◌, ◌<◌, ◌≤◌, ◌⊎◌, ◌↔◌, IsTrue, None, Some, MatchOption, MatchResult};
+ghost use Rattle.std.specs.Prelude.{◌≡◌, ℕ, OnErr, OnOk, length, slice_index, ◌+◌, ◌*◌, ◌<◌, ◌≤◌, ◌⊎◌, ◌↔◌, IsTrue, None, Some, MatchOption, MatchResult};
+ghost use Rattle.sfnt_bytes.specs.Memory.{IsRefusedUpTo};
 ghost use Rattle.codes.specs.CharacterMap.{IsCharacterMap, IsUnmapped, clipped, mapped_codes, restricted};
 ghost use Rattle.font_map.specs.Cmap.{chosen_of};
 ghost use Rattle.font_map.specs.Mapping.{mapping_of};
@@ -14,7 +15,7 @@ use crate::laid_out::{lay_groups, lay_segments, no_skips};
 use crate::subtable::Subtable;
 use crate::within::wanted_run;
 use codes::{Pieces, Run, Wanted, clip, mapped_count, next_run};
-use sfnt_bytes::{NoMemory, be16};
+use sfnt_bytes::{Memory, NoMemory, be16};
 use std::alloc::Allocator;
 use std::marker::Model;
 
@@ -143,12 +144,13 @@ impl<'a> Mapping<'a> {
         self.subtable.is_ordered()
     }
 
-    /// Gives each code its glyph. Errors where memory is refused, which format 12 alone asks for.
-    pub(crate) fn lay_out<A: Allocator>(&self, alloc: A, glyphs: &mut [u16]) -> Result<(), NoMemory>
+    /// Gives each code its glyph. Errors if there is no memory for the numbers that format 12 alone needs.
+    pub(crate) fn lay_out<A: Memory>(&self, alloc: A, glyphs: &mut [u16]) -> Result<(), NoMemory>
         requires codes { length glyphs.old ≡ CODES }
         requires unmapped { (c : ℕ) → slice_index glyphs.old c ≡ 0 }
         ensures codes { length glyphs.new ≡ CODES }
         ensures map { OnOk result (slice_index glyphs.new ≡ mapping_of self.now.0 self.now.1) }
+        ensures memory { OnErr result (IsRefusedUpTo A.refuses (2 * CODES)) }
     {
         match &self.subtable {
             Subtable::Segments(segments) => lay_segments(segments.bytes(), self.glyphs, glyphs),
