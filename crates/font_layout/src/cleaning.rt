@@ -1,10 +1,10 @@
 //! Tables of layout without what varies, this project's own. OpenType 1.9, BASE; GDEF; GPOS; GSUB.
-ghost use Rattle.std.specs.Prelude.{◌≡◌, ◌≤◌, ◌+◌, IfOk, IsTrue, Some, length};
+ghost use Rattle.std.specs.Prelude.{◌≡◌, ◌≤◌, ◌+◌, IfOk, IsTrue, OnErr, Some, length};
 ghost use Rattle.std.specs.Option.{option_map, option_or};
+ghost use Rattle.sfnt_bytes.specs.Memory.{IsRefused};
 ghost use Rattle.font_layout.specs.Cleaning.{field_at, field_since, fixed, has_field, with_zeros};
 
-use sfnt_bytes::{BASE, GDEF, GSUB, NoMemory, be16, be32};
-use std::alloc::Allocator;
+use sfnt_bytes::{BASE, GDEF, GSUB, Memory, NoMemory, be16, be32};
 
 // Returns where the offset to what varies stands in the table of a slot.
 #[tactic(auto, unfolding(crate::specs::Cleaning::field_at))]
@@ -38,11 +38,12 @@ fn has_field(slot: usize, table: &[u8]) -> bool
 }
 
 // Returns a table with four zeros from a place on.
-fn with_zeros<A: Allocator>(alloc: A, table: &[u8], at: usize) -> Result<Vec<u8, A>, NoMemory>
+fn with_zeros<A: Memory>(alloc: A, table: &[u8], at: usize) -> Result<Vec<u8, A>, NoMemory>
     requires { at + 4 ≤ length table.now }
-    ensures { IfOk result (λ v. v.items ≡ with_zeros at table.now) }
+    ensures zeros { IfOk result (λ v. v.items ≡ with_zeros at table.now) }
+    ensures memory { OnErr result (IsRefused A.refuses) }
 {
-    let mut bytes = Vec::from_slice(alloc, table).map_err(|_| NoMemory)?;
+    let mut bytes = alloc.copy_of(table)?;
     bytes[at] = 0;
     bytes[at + 1] = 0;
     bytes[at + 2] = 0;
@@ -55,8 +56,8 @@ fn with_zeros<A: Allocator>(alloc: A, table: &[u8], at: usize) -> Result<Vec<u8,
 ///
 /// # Errors
 ///
-/// `NoMemory` where memory is refused.
-pub fn fixed_table<A: Allocator>(
+/// `NoMemory` if there is no memory for a copy of the table.
+pub fn fixed_table<A: Memory>(
     alloc: A,
     slot: usize,
     table: &[u8],
@@ -65,6 +66,7 @@ pub fn fixed_table<A: Allocator>(
         ≡ Some (fixed slot table.now)) }
     ensures size { IfOk result (λ o. option_or (option_map (λ v. length v.items) o) (Some (length table.now))
         ≡ Some (length table.now)) }
+    ensures memory { OnErr result (IsRefused A.refuses) }
 {
     if !has_field(slot, table) {
         return Ok(None);
