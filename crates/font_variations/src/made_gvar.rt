@@ -1,11 +1,11 @@
 //! A `gvar` that is made anew in memory. OpenType 1.9, gvar: Glyph Variations Table.
-ghost use Rattle.std.specs.Prelude.{◌≡◌, ◌<◌, ◌^◌, ◌++◌, [], IfOk, OnOk, length, map, slice_index_or};
+ghost use Rattle.std.specs.Prelude.{◌≡◌, ◌<◌, ◌^◌, ◌++◌, [], IfOk, OnErr, OnOk, length, map, slice_index_or};
 ghost use Rattle.std.specs.List.{concat};
+ghost use Rattle.sfnt_bytes.specs.Memory.{IsRefused};
 ghost use Rattle.font_variations.specs.MadeGvar.{data_at, gvar_bytes, offset_bytes, tuples_at, u16_bytes, u32_bytes};
 
 use crate::gvar::HEADER;
-use sfnt_bytes::NoMemory;
-use std::alloc::{AllocError, Allocator};
+use sfnt_bytes::{Memory, NoMemory};
 
 /// The flags of a table whose offsets are long.
 const LONG_OFFSETS: u16 = 1;
@@ -14,17 +14,19 @@ const LONG_OFFSETS: u16 = 1;
 const OFFSET: usize = 4;
 
 // Puts a `u16` after what is made.
-fn push_half<A: Allocator>(made: &mut Vec<u8, A>, x: u16) -> Result<(), AllocError>
-    ensures { OnOk result (made.new.items ≡ made.old.items ++ u16_bytes x) }
+fn push_half<A: Memory>(made: &mut Vec<u8, A>, x: u16) -> Result<(), NoMemory>
+    ensures made { OnOk result (made.new.items ≡ made.old.items ++ u16_bytes x) }
+    ensures memory { OnErr result (IsRefused A.refuses) }
 {
-    made.extend_from_slice(&x.to_be_bytes())
+    A::append(made, &x.to_be_bytes())
 }
 
 // Puts a `u32` after what is made.
-fn push_word<A: Allocator>(made: &mut Vec<u8, A>, x: u32) -> Result<(), AllocError>
-    ensures { OnOk result (made.new.items ≡ made.old.items ++ u32_bytes x) }
+fn push_word<A: Memory>(made: &mut Vec<u8, A>, x: u32) -> Result<(), NoMemory>
+    ensures made { OnOk result (made.new.items ≡ made.old.items ++ u32_bytes x) }
+    ensures memory { OnErr result (IsRefused A.refuses) }
 {
-    made.extend_from_slice(&x.to_be_bytes())
+    A::append(made, &x.to_be_bytes())
 }
 
 // Returns how many bytes all data have.
@@ -40,17 +42,18 @@ fn size_of_data(glyph_data: &[&[u8]]) -> usize
 }
 
 // Puts the header after what is made. Its first 8 bytes are given, and its flags say that the offsets are long.
-fn push_header<A: Allocator>(
+fn push_header<A: Memory>(
     made: &mut Vec<u8, A>,
     front: &[u8],
     tuples_at: u32,
     glyphs: u16,
     data_at: u32,
-) -> Result<(), AllocError>
-    ensures { OnOk result (made.new.items ≡ made.old.items ++ front.now ++ u32_bytes tuples_at
+) -> Result<(), NoMemory>
+    ensures made { OnOk result (made.new.items ≡ made.old.items ++ front.now ++ u32_bytes tuples_at
         ++ u16_bytes glyphs ++ u16_bytes 1 ++ u32_bytes data_at) }
+    ensures memory { OnErr result (IsRefused A.refuses) }
 {
-    made.extend_from_slice(front)?;
+    A::append(made, front)?;
     push_word(made, tuples_at)?;
     push_half(made, glyphs)?;
     push_half(made, LONG_OFFSETS)?;
@@ -59,9 +62,10 @@ fn push_header<A: Allocator>(
 
 // Puts the offsets of data after what is made: the first is 0, and the last is where they end.
 #[tactic(auto, unfolding(crate::specs::MadeGvar::offset_bytes))]
-fn push_offsets<A: Allocator>(made: &mut Vec<u8, A>, glyph_data: &[&[u8]]) -> Result<(), AllocError>
+fn push_offsets<A: Memory>(made: &mut Vec<u8, A>, glyph_data: &[&[u8]]) -> Result<(), NoMemory>
     requires { length (concat (map (λ d. d.now) glyph_data.now)) < 2 ^ 32 }
-    ensures { OnOk result (made.new.items ≡ made.old.items ++ offset_bytes (map (λ d. d.now) glyph_data.now)) }
+    ensures made { OnOk result (made.new.items ≡ made.old.items ++ offset_bytes (map (λ d. d.now) glyph_data.now)) }
+    ensures memory { OnErr result (IsRefused A.refuses) }
 {
     let mut at = 0;
     for bytes in glyph_data {
@@ -72,32 +76,34 @@ fn push_offsets<A: Allocator>(made: &mut Vec<u8, A>, glyph_data: &[&[u8]]) -> Re
 }
 
 // Puts data after what is made, end to end.
-fn push_data<A: Allocator>(made: &mut Vec<u8, A>, glyph_data: &[&[u8]]) -> Result<(), AllocError>
-    ensures { OnOk result (made.new.items ≡ made.old.items ++ concat (map (λ d. d.now) glyph_data.now)) }
+fn push_data<A: Memory>(made: &mut Vec<u8, A>, glyph_data: &[&[u8]]) -> Result<(), NoMemory>
+    ensures made { OnOk result (made.new.items ≡ made.old.items ++ concat (map (λ d. d.now) glyph_data.now)) }
+    ensures memory { OnErr result (IsRefused A.refuses) }
 {
     for bytes in glyph_data {
-        made.extend_from_slice(bytes)?;
+        A::append(made, bytes)?;
     }
     Ok(())
 }
 
 // Returns the table. All memory is asked for before the first byte is put.
-fn made_table<A: Allocator>(
+fn made_table<A: Memory>(
     alloc: A,
     front: &[u8],
     shared: &[u8],
     glyph_data: &[&[u8]],
-) -> Result<Vec<u8, A>, AllocError>
+) -> Result<Vec<u8, A>, NoMemory>
     requires front { length front.now ≡ 8 }
     requires glyphs { length glyph_data.now < 2 ^ 16 }
     requires place { data_at shared.now (length glyph_data.now) < 2 ^ 32 }
     requires size { length (concat (map (λ d. d.now) glyph_data.now)) < 2 ^ 32 }
-    ensures { IfOk result (λ table. table.items ≡ gvar_bytes front.now shared.now
+    ensures table { IfOk result (λ table. table.items ≡ gvar_bytes front.now shared.now
         (λ g. slice_index_or (map (λ d. d.now) glyph_data.now) g []) (length glyph_data.now)) }
+    ensures memory { OnErr result (IsRefused A.refuses) }
 {
     let tuples_at = HEADER + OFFSET * (glyph_data.len() + 1);
     let data_at = tuples_at + shared.len();
-    let mut made = Vec::with_capacity(alloc, data_at + size_of_data(glyph_data))?;
+    let mut made = alloc.room_for(data_at + size_of_data(glyph_data))?;
     push_header(
         &mut made,
         front,
@@ -106,7 +112,7 @@ fn made_table<A: Allocator>(
         data_at as u32,
     )?;
     push_offsets(&mut made, glyph_data)?;
-    made.extend_from_slice(shared)?;
+    A::append(&mut made, shared)?;
     push_data(&mut made, glyph_data)?;
     Ok(made)
 }
@@ -120,8 +126,8 @@ fn made_table<A: Allocator>(
 ///
 /// # Errors
 ///
-/// `NoMemory` where memory is refused.
-pub fn make_gvar<A: Allocator>(
+/// `NoMemory` if there is no memory for the table.
+pub fn make_gvar<A: Memory>(
     alloc: A,
     front: &[u8],
     shared: &[u8],
@@ -131,8 +137,9 @@ pub fn make_gvar<A: Allocator>(
     requires glyphs { length glyph_data.now < 2 ^ 16 }
     requires place { data_at shared.now (length glyph_data.now) < 2 ^ 32 }
     requires size { length (concat (map (λ d. d.now) glyph_data.now)) < 2 ^ 32 }
-    ensures { IfOk result (λ table. table.items ≡ gvar_bytes front.now shared.now
+    ensures table { IfOk result (λ table. table.items ≡ gvar_bytes front.now shared.now
         (λ g. slice_index_or (map (λ d. d.now) glyph_data.now) g []) (length glyph_data.now)) }
+    ensures memory { OnErr result (IsRefused A.refuses) }
 {
-    made_table(alloc, front, shared, glyph_data).map_err(|_| NoMemory)
+    made_table(alloc, front, shared, glyph_data)
 }
