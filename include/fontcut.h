@@ -1,7 +1,7 @@
 /* fontcut.h: cuts of OpenType fonts with TrueType outlines for wanted characters, and joins of cuts, in memory.
  *
- * Every call is proved to be safe on all bytes and to return. It reads the areas that it is given, writes to
- * the room that it is given, and keeps nothing. It asks for memory of malloc and gives all of it back. Calls may
+ * Every call is proved to be safe on all bytes, but for those whose names end in _checked, and to return. It reads
+ * the areas that it is given, writes to the room that it is given, and keeps nothing. It asks for memory of malloc and gives all of it back. Calls may
  * run in as many threads as wanted: there is no state.
  *
  * What the caller owes: no pointer is NULL, except a parameter whose length is 0 (`at` of a fontcut_bytes is never
@@ -101,7 +101,8 @@ typedef struct fontcut_answer {
 /* The numbers of the refusals are those that the program `fontcut` prints. A file is refused by the first that
  * applies, in the order of their numbers, but for FONTCUT_BAD_GLYPH, which comes after FONTCUT_BAD_CMAP. Tables of
  * layout are refused for layout and variable cuts alone, tables of variations for variable cuts alone, and both after
- * all else of the font. A tag is the number of its four bytes, the first one highest: 0x676C7966 is `glyf`. */
+ * all else of the font. Where a call lists FONTCUT_NO_MEMORY, it may come in place of each status that is listed after
+ * those of fontcut_check, 15 and 102. A tag is the number of its four bytes, the first one highest: 0x676C7966 is `glyf`. */
 typedef enum fontcut_status {
     FONTCUT_DONE = 0,
     /* Written by tools/write_refusals from include/refusals.txt: */
@@ -222,18 +223,18 @@ fontcut_answer fontcut_closure(uint32_t kind, const uint8_t *font, size_t font_l
                                size_t room);
 
 /* Writes the glyphs that a file keeps as a cut of a fontcut_kind to the front of `out`, ascending: .notdef, the glyphs of
- * its characters, those that have an outline, metrics or variation data, and what these are made of; size: how many they
- * are. A file that is a cut is that of its font for these and for the codes that fontcut_codes writes. `room` is in
- * glyphs. Statuses: 101; those of fontcut_check, then for FONTCUT_LAYOUT 5 and 6, and for FONTCUT_VARIABLE 5, 6 and 28;
- * 16, 100. */
+ * its characters, in all but full cuts those that have an outline, metrics of their own or, for FONTCUT_VARIABLE,
+ * variation data, and what these are made of; size: how many they are. A file that is a cut is that of its font for
+ * these and for the codes that fontcut_codes writes. `room` is in glyphs. Statuses: 101; those of fontcut_check, then for
+ * FONTCUT_LAYOUT 5 and 6, and for FONTCUT_VARIABLE 5, 6 and 28; 16, 100. */
 fontcut_answer fontcut_kept(uint32_t kind, const uint8_t *font, size_t font_length, uint16_t *out, size_t room);
 
 /* The calls whose names end in _checked do what the calls without that ending do, and do not test the font again: of a
  * small cut of a large font that is most of the time. They are for who cuts one font many times. The caller holds that
  * fontcut_check, or another call, has accepted just these bytes, and that they have not been changed since; of other
- * bytes nothing is promised, and a call may read or write where it should not. Tables of layout are no part of that
- * test: each call for FONTCUT_LAYOUT reads them. Statuses: those of the other call for a font that fontcut_check
- * accepts. */
+ * bytes nothing is promised, and a call may read or write where it should not. Tables of layout and of variations are no
+ * part of that test: each call for FONTCUT_LAYOUT or FONTCUT_VARIABLE tests them. Statuses: those of the other call
+ * for a font that fontcut_check accepts. */
 fontcut_answer fontcut_subset_size_checked(uint32_t kind, const uint8_t *font, size_t font_length,
                                            const fontcut_range *ranges, size_t range_count);
 fontcut_answer fontcut_subset_checked(uint32_t kind, const uint8_t *font, size_t font_length,
@@ -276,12 +277,13 @@ fontcut_answer fontcut_is_cut(const uint8_t *font, size_t font_length);
 FONTCUT_DEPRECATED("call fontcut_belongs")
 fontcut_answer fontcut_is_cut_of(const uint8_t *cut, size_t cut_length, const uint8_t *font, size_t font_length);
 
-/* Writes the join of all files, cuts of one font and of a fontcut_kind, to the front of `out`: that font's cut for all
- * their codes and glyphs; size: its bytes. Full cuts may come in either form and any order, and what is written is of today; lean
- * cuts join with lean cuts, layout cuts with layout cuts, and variable cuts with variable cuts. Statuses: 101; 24; of
- * the first file that is refused, with its index as step, those of fontcut_check, for FONTCUT_LAYOUT 5 and 6, for
- * FONTCUT_VARIABLE 5, 6 and 28, then 20, 21 to 23 where it differs from the join of the files before it, and 18
- * where the join with it is too large; 16, with the index of the file that was being joined as step; 100. */
+/* Writes the join of all files, cuts of one font and of a fontcut_kind in any order, to the front of `out`: that font's
+ * cut for all their codes and glyphs, and of any files the least one of which all are cuts; size: its bytes. Full cuts
+ * may come in either form, and what is written is of today. Statuses: 101; 24; of the first file that is refused, with
+ * its index as step, those of fontcut_check, for FONTCUT_LAYOUT 5 and 6, for FONTCUT_VARIABLE 5, 6 and 28, then 20, 21
+ * to 23 where it differs from the join of the files before it, and 18 where the join with it is too large; 16, with the
+ * index of the file that was being joined as step; 100. But for 1, 16, 18 and 24 a refusal means that no file has all as
+ * cuts. */
 fontcut_answer fontcut_join(uint32_t kind, const fontcut_bytes *files, size_t file_count, uint8_t *out, size_t room);
 
 FONTCUT_DEPRECATED("call fontcut_join")
@@ -306,9 +308,9 @@ fontcut_answer fontcut_metrics(const uint8_t *font, size_t font_length, const ui
 /* Writes the numbers of a whole font to `info`. It asks for no memory. Statuses: those of fontcut_check. */
 fontcut_answer fontcut_info(const uint8_t *font, size_t font_length, fontcut_font_info *info);
 
-/* Writes the text of a refusal that a call has answered to the front of `out`, as `fontcut` prints it: in UTF-8,
- * with no zero byte at its end; size: its bytes. It is never longer than 64 bytes. For an answer that is no
- * refusal nothing is written, and size is 0. Statuses: 0, 16, 100. */
+/* Writes the text of a refusal that a call has answered to the front of `out`, as FORMAT.md lists it: in UTF-8, with
+ * no zero byte at its end; size: its bytes. It is never longer than 64 bytes. For another answer, also for one of 100
+ * and above, nothing is written, and size is 0. Statuses: 0, 16, 100. */
 fontcut_answer fontcut_refusal_text(fontcut_answer answer, uint8_t *out, size_t room);
 
 #ifdef __cplusplus
