@@ -114,14 +114,14 @@ fn answer(belongs: bool) -> &'static str
     if belongs { "yes\n" } else { "no\n" }
 }
 
-/// Reads a cut and then a font to their ends, sends `yes` where the cut is one of that font for some
-/// codes, of a kind and in any form, and else `no`, and returns which. No cut is built for that.
+/// Reads a cut and then a font to their ends, sends `yes` where the cut is one of that font for some codes
+/// and some glyphs, of a kind and in any form, and else `no`, and returns which. No cut is built for that.
 ///
 /// # Errors
 ///
 /// `Read` where a reader fails: its inlet is broken, and a font is not read after a cut that was not.
-/// `Memory` where memory is refused, `OneOf` where a file is refused as a font, the cut being looked at
-/// first: then nothing was sent. `Write` where the writer fails.
+/// `Memory` where memory is refused, `OneOf` where a file is refused for cuts of the kind, the cut being
+/// looked at first: then nothing was sent. `Write` where the writer fails.
 pub fn run_belongs<R: Read, W: Flushes, A: Allocator + Copy>(
     alloc: A,
     kind: Kind,

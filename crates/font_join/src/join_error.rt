@@ -31,8 +31,9 @@ impl fmt::Display for Which {
     }
 }
 
-/// Why two files are not joined: the first refusal that applies, in this order. Memory may be refused at
-/// any time after the refusals of both fonts.
+/// Why two files are not joined: the first refusal that applies, in this order, but that what cuts of a kind
+/// read besides of a font is refused right before `NotACut` of it. Memory may be refused at any time after
+/// the refusals of both fonts.
 #[derive(Clone, Copy, Debug, PartialEq, Eq)]
 pub enum JoinError {
     /// One file is no font that is accepted.

@@ -39,7 +39,8 @@ fn unopened(which: Which, error: OpenError) -> JoinError
 ///
 /// # Errors
 ///
-/// `Font` where its tables of layout are refused, and `NoMemory` where memory is: both of layout cuts alone.
+/// `Font` where its tables of layout or of variations are refused, of layout and variable cuts alone, and
+/// `NoMemory` where memory is, of layout cuts alone.
 pub(crate) fn open_for_kind<'f, 'a, A: Allocator + Copy>(
     alloc: A,
     kind: Kind,

@@ -117,7 +117,7 @@ pub fn join_all<A: Allocator + Copy>(
     join_all_of_kind(alloc, Kind::Full, files)
 }
 
-/// Opens the first of a list of files, with which [`union_of_files`] begins, of either kind.
+/// Opens the first of a list of files, with which [`union_of_files`] begins, of any kind.
 ///
 /// # Errors
 ///

@@ -39,7 +39,8 @@ impl<'a, A: Allocator + Copy> Union<'a, 'a, A> {
     ///
     /// # Errors
     ///
-    /// Those of [`Joined::new`].
+    /// Those of [`Joined::new`], and `Font` of a font that is refused for cuts of the kind, right before
+    /// `NotACut` of it.
     pub fn of_two(
         alloc: A,
         kind: Kind,

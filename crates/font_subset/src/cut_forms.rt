@@ -26,8 +26,8 @@ use font_write::Source;
 use sfnt_bytes::NoMemory;
 use std::alloc::Allocator;
 
-/// Returns the form in which a font's file is its own cut of the font's kind for all codes, as [`cut_form`] does for
-/// full cuts. A cut of another kind is always current.
+/// Returns the form in which a font's file is its own cut of the font's kind for all codes and all glyphs,
+/// as [`cut_form`] does for full cuts. A cut of another kind is always current.
 ///
 /// # Errors
 ///
@@ -42,8 +42,8 @@ pub fn form_of_kind<A: Allocator + Copy>(
     Ok(source.form())
 }
 
-/// Returns what all codes select of a font, with the runs of its map in a list, and the form in which the font's
-/// file is its own cut of the font's kind for all codes.
+/// Returns what all codes and all glyphs select of a font, with the runs of its map in a list, and the form
+/// in which the font's file is its own cut of the font's kind for these.
 ///
 /// # Errors
 ///
@@ -61,8 +61,8 @@ pub fn listed_form<'f, 'a, A: Allocator + Copy>(
     Ok((source.into_selection(), form))
 }
 
-/// Returns whether a font's file is its own cut of the font's kind for all codes, as it is written today. No cut is
-/// built for that.
+/// Returns whether a font's file is its own cut of the font's kind for all codes and all glyphs, as it is
+/// written today. No cut is built for that.
 ///
 /// # Errors
 ///

@@ -128,8 +128,9 @@ pub extern "C" fn fontcut_subset(
     }
 }
 
-/// Gives what [`fontcut_subset_size`] gives, of a font that [`fontcut_check`] has accepted: these bytes, or others that
-/// are the same. The font is not tested again, but a layout cut reads its tables of layout.
+/// Gives what [`fontcut_subset_size`] gives, of a font that [`fontcut_check`] has accepted: these bytes, or
+/// others that are the same. The font is not tested again, but for the tables of layout and of variations
+/// that the cut keeps.
 #[unsafe(no_mangle)]
 pub extern "C" fn fontcut_subset_size_checked(
     alloc: Global,
@@ -146,8 +147,9 @@ pub extern "C" fn fontcut_subset_size_checked(
     }
 }
 
-/// Does what [`fontcut_subset`] does, with a font that [`fontcut_check`] has accepted: these bytes, or others that are
-/// the same. The font is not tested again, but a layout cut reads its tables of layout.
+/// Does what [`fontcut_subset`] does, with a font that [`fontcut_check`] has accepted: these bytes, or
+/// others that are the same. The font is not tested again, but for the tables of layout and of variations
+/// that the cut keeps.
 #[unsafe(no_mangle)]
 pub extern "C" fn fontcut_subset_checked(
     alloc: Global,
@@ -365,9 +367,9 @@ pub extern "C" fn fontcut_cut_form(alloc: Global, kind: u32, font: &[u8]) -> Ans
     }
 }
 
-/// Says whether `cut` is a cut of `font` for some codes, of the kind that the number names: `detail` is 1 where
-/// it is one, and else 0. Where a file is refused `step` is 0 for `cut` and 1 for `font`. Status 101 where the
-/// number names no kind, which is asked before all else.
+/// Says whether `cut` is a cut of `font` for some codes and some glyphs, of the kind that the number names:
+/// `detail` is 1 where it is one, and else 0. Where a file is refused `step` is 0 for `cut` and 1 for
+/// `font`. Status 101 where the number names no kind, which is asked before all else.
 #[unsafe(no_mangle)]
 pub extern "C" fn fontcut_belongs(alloc: Global, kind: u32, cut: &[u8], font: &[u8]) -> Answer
     ensures { AnswersInKind kind result (λ k. AnswersBelonging k cut.now font.now result) }
@@ -501,10 +503,11 @@ pub extern "C" fn fontcut_closure(
     }
 }
 
-/// Writes the glyphs that a file keeps of itself as a cut of the kind that the number names to the front of `out`,
-/// ascending: .notdef, the glyphs of its characters, those that have an outline, metrics or variation data, and what
-/// these are made of. `size` counts glyphs. With the ranges of [`fontcut_codes`] they are what a file that is a cut was made
-/// for. A refusal leaves `out` as it was. Status 101 where the number names no kind, which is asked before all else.
+/// Writes the glyphs that a file keeps of itself as a cut of the kind that the number names to the front of
+/// `out`, ascending: .notdef, the glyphs of its characters, in all but full cuts those that have an outline,
+/// metrics of their own or variation data, and what these are made of. `size` counts glyphs. A file that is
+/// a cut is that of its font for these and for the ranges of [`fontcut_codes`]. A refusal leaves `out` as it
+/// was. Status 101 where the number names no kind, which is asked before all else.
 #[unsafe(no_mangle)]
 pub extern "C" fn fontcut_kept(alloc: Global, kind: u32, font: &[u8], out: &mut [u16]) -> Answer
     ensures exact { AnswersInKind kind result (λ k. AnswersKept k font.now out.old out.new result) }
