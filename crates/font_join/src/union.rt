@@ -242,7 +242,8 @@ impl<'f, 'a, A: Allocator + Copy> Union<'f, 'a, A> {
     ///
     /// # Errors
     ///
-    /// `Font` of the first where its tables of layout are refused, `NotACut` of the first, or `NoMemory`.
+    /// `Font` of the first where its tables of layout or of variations are refused, `NotACut` of the first, or
+    /// `NoMemory`.
     pub(crate) fn of_first(
         alloc: A,
         kind: Kind,
@@ -272,8 +273,8 @@ impl<'f, 'a, A: Allocator + Copy> Union<'f, 'a, A> {
     ///
     /// # Errors
     ///
-    /// `Font` of the second where its tables of layout are refused, `NotACut` of the second, the first difference,
-    /// or `NoMemory`.
+    /// `Font` of the second where its tables of layout or of variations are refused, `NotACut` of the second, the
+    /// first difference, or `NoMemory`.
     pub(crate) fn add(self, alloc: A, font: &Font<'a>) -> Result<Union<'f, 'a, A>, JoinError>
         requires { length (table_in_slot (content_in self).copied GVAR) ≤ MAX_FILE }
         ensures { (kind : Kind) (K : Content) → self.entry.kind ≡ kind
