@@ -21,7 +21,7 @@ pub enum FontError {
     /// The record of this glyph, the least such one, has 1 to 9 bytes, or is a composite whose list
     /// of components is cut off or names a glyph past the last.
     BadGlyph(u16),
-    /// Its `GSUB` cannot be read. Only layout cuts refuse it.
+    /// Its `GSUB` cannot be read. Only layout and variable cuts whose links are followed refuse it.
     BadLayout,
     /// Its `gvar` cannot be read. Only variable cuts refuse it.
     BadVariations,

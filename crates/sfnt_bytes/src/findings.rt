@@ -24,7 +24,7 @@ pub enum Finding {
     Unsorted,
     /// `searchRange`, `entrySelector` or `rangeShift` is not that of the number of tables.
     SearchFields,
-    /// The table of this tag, which no cut keeps, does not lie within the file.
+    /// The table of this tag, which no full cut keeps, does not lie within the file.
     OutOfFile(Tag),
     /// The table does not begin at a multiple of four bytes.
     Unaligned(Tag),

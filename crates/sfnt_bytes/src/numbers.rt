@@ -78,7 +78,7 @@ pub const READ_FAULT: u8 = 25;
 /// A text names no range of codes.
 pub const BAD_WORD: u8 = 26;
 
-/// `GSUB` cannot be read, which is asked for layout cuts alone.
+/// `GSUB` cannot be read, which is asked where the links of a layout or variable cut are followed.
 pub const BAD_LAYOUT: u8 = 27;
 
 /// `gvar` cannot be read, which is asked for variable cuts alone.
