@@ -1,5 +1,6 @@
 -- The worklist of links.
-use Rattle.std.proofs.Common.{◌≡◌, ℕ, ◌+◌, ◌<◌, ◌≤◌, ◌⊎◌, ◌↔◌, Bool, true, false, not, cond, suc, List, [], ◌∷◌, ◌++◌, drop}
+use Rattle.std.proofs.Common.{◌≡◌, ℕ, ◌+◌, ◌<◌, ◌≤◌, ◌⊎◌, ◌↔◌, Bool, true, false, not, cond, suc, List, [], ◌∷◌, ◌++◌}
+use Rattle.std.proofs.Common.{drop}
 use Rattle.std.proofs.Common.{get_or, length, set, sym, ap, subst, ◌∙◌, arith, inl, inr}
 use Rattle.std.specs.List.{All, AllByRecursion, Contains, count_by}
 use Rattle.std.proofs.lemmas.List.{drop_more, length-set, length_push}
@@ -12,7 +13,8 @@ use Rattle.font_glyph.specs.Linked.Linked.{start, link}
 use Rattle.font_glyph.specs.Marks.{has}
 use Rattle.font_glyph.proofs.LinkedLemmas.{Linked-within}
 use Rattle.font_glyph.proofs.VisitLemmas.{has_within, length-marks_after, marks_stay, marks_each, marks_only}
-use Rattle.font_glyph.proofs.VisitLemmas.{set-marked, unmarked_less, work_stays, new_in_work, work_small, work_marked, work_count}
+use Rattle.font_glyph.proofs.VisitLemmas.{set-marked, unmarked_less, work_stays, new_in_work, work_small, work_marked}
+use Rattle.font_glyph.proofs.VisitLemmas.{work_count}
 
 -- on the way through links: what is left of them, and where it leads
 pub record Visiting (n : ℕ) (links : List ℕ) (k : ℕ) (m all : List Bool) (w end : List ℕ) : Type 0 where

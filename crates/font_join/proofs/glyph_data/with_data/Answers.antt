@@ -19,5 +19,6 @@ pub returns-clause-small : goal.returns-clause-small
 returns-clause-small g c =
     made_short c.args.variations.now.0 c.front.result.now c.shared_tuples.result.now c.in_ok-gvar.gvar.items
     (map (λ d. d.now) c.args.listed.now) (length c.args.listed.now) c.front.ensures.front
-    c.shared_tuples.ensures.tuples (length-map c.args.listed.now (λ d. d.now)) c.in_ok-gvar.ensures.table c.requires.short
+    c.shared_tuples.ensures.tuples (length-map c.args.listed.now (λ d. d.now)) c.in_ok-gvar.ensures.table
+    c.requires.short
     c.requires.few c.front.ensures.size c.requires.fits

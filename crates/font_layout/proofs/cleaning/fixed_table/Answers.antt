@@ -36,4 +36,5 @@ with_zeros-requires g c =
 pub returns-clause-table : goal.returns-clause-table
 returns-clause-table g c =
     ap Some (fixed-where c.args.slot c.args.table.now c.in_ok-bytes.bytes.items c.field_at-at.result
-    (search (rules, c.has_field.ensures, c.if-not-has_field.false)) c.field_at-at.ensures.place c.in_ok-bytes.ensures.zeros)
+    (search (rules, c.has_field.ensures, c.if-not-has_field.false)) c.field_at-at.ensures.place
+    c.in_ok-bytes.ensures.zeros)
