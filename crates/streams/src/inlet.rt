@@ -1,10 +1,10 @@
 //! A reader that is read once, to its end or to one byte more than a file may have.
-ghost use Rattle.std.specs.Prelude.{◌≡◌, ◌+◌, ◌<◌, ◌≤◌, take, false, true, length, vec_len, IfOk, IfErr, OnErr, OnOk, IfSome, Some};
+ghost use Rattle.std.specs.Prelude.{◌≡◌, ◌+◌, ◌<◌, ◌≤◌, Err, take, false, true, length, vec_len, IfOk, IfErr, OnErr, OnOk, IfSome, Some};
 ghost use Rattle.std.specs.Io.KnownBytes.{Consumes, IsAtEnd, Keeps};
+ghost use Rattle.sfnt_bytes.specs.Memory.{IsRefusedUpTo};
 ghost use Rattle.streams.specs.Inlet.{StopsAs, inlet_broken_of, read_error_number, read_error_text, inlet_fresh_of, reader_of};
 
-use sfnt_bytes::{MAX_FILE, numbers};
-use std::alloc::Allocator;
+use sfnt_bytes::{MAX_FILE, Memory, NoMemory, numbers};
 use std::error::Error;
 use std::io::Read;
 use std::{fmt, io};
@@ -114,10 +114,10 @@ impl<R: Read> Inlet<R> {
     ///
     /// # Errors
     /// `ReadFault` where a read fails, with the count of the bytes that had come; the inlet is broken.
-    /// `NoMemory` where the bytes have no room; the inlet is not broken.
+    /// `NoMemory` if there is no room for the bytes; the inlet is not broken.
     // It stands apart, so that its array is on the stack once, and not for each inlet of a caller.
     #[inline(never)]
-    pub fn read_all<A: Allocator>(&mut self, alloc: A) -> Result<Vec<u8, A>, ReadError>
+    pub fn read_all<A: Memory>(&mut self, alloc: A) -> Result<Vec<u8, A>, ReadError>
         requires { inlet_fresh_of self.old ≡ true }
         ensures spent { inlet_fresh_of self.new ≡ false }
 
@@ -130,11 +130,12 @@ impl<R: Read> Inlet<R> {
 
         // `ReadFault(n)` breaks it after n bytes, and `NoMemory` does not.
         ensures error { IfErr result (StopsAs R.remaining self.old self.new) }
+        ensures memory { result ≡ Err ReadError.NoMemory → IsRefusedUpTo A.refuses (MAX_FILE + 1) }
     {
         self.state = State::Spent;
-        let mut bytes = match Vec::with_capacity(alloc, ROOM) {
+        let mut bytes = match alloc.room_for(ROOM) {
             Ok(bytes) => bytes,
-            Err(_) => return Err(ReadError::NoMemory),
+            Err(NoMemory) => return Err(ReadError::NoMemory),
         };
         let mut piece = [0u8; PIECE];
         while bytes.len() < LIMIT {
@@ -142,7 +143,7 @@ impl<R: Read> Inlet<R> {
             match read_piece(&mut self.reader, &mut piece, most) {
                 Ok(0) => return Ok(bytes),
                 Ok(count) => {
-                    if bytes.extend_from_slice(&piece[..count]).is_err() {
+                    if let Err(NoMemory) = A::append(&mut bytes, &piece[..count]) {
                         return Err(ReadError::NoMemory);
                     }
                 }
