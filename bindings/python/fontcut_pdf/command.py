@@ -7,7 +7,7 @@ import logging
 import os
 import sys
 from contextlib import ExitStack, contextmanager
-from typing import Any, Iterator, List, Optional, Sequence, Tuple
+from typing import Any, Dict, Iterator, List, Optional, Sequence, Tuple
 
 import fontcut
 import pikepdf
@@ -20,7 +20,7 @@ from .extracting import extract
 from .files import opened
 from .font import MOST_WORK
 from .joining import MOST_CLASSES
-from .merging import merge
+from .merging import merge, not_kept
 from .shrinking import shrink
 from .streams import MOST_OF_CONTENT, MOST_OF_OTHER, MOST_OF_PROGRAM, MOST_OF_TEXTS
 from .survey import fonts
@@ -66,7 +66,8 @@ already. Simple fonts do not join.
 
 Kept: pages with everything that belongs to them, including annotations and links to pages of their file; and
 bookmarks (outlines), below an entry with the name of each file.
-Not kept: {_NOT_KEPT}"""
+Not kept: {_NOT_KEPT}Titles and attachments that are not kept are named on standard error.
+"""
 
 
 _EXTRACT = """\
@@ -124,15 +125,25 @@ def _title(path: str) -> str:
     return name[:-4] if name.lower().endswith(".pdf") else name
 
 
+def _say_not_kept(lost: Dict[str, List[str]]) -> None:
+    """Says what a merge does not keep, and of which files."""
+    for what, paths in lost.items():
+        more = f" and of {len(paths) - 1} more" if len(paths) > 1 else ""
+        print(f"fontcut-pdf: not kept: the {what} of {paths[0]}{more}", file=sys.stderr)
+
+
 def _run_merge(given: argparse.Namespace) -> None:
     before = sum(map(os.path.getsize, given.files))
     pages: List[Tuple[str, int]] = []
+    lost: Dict[str, List[str]] = {}
     with ExitStack() as stack:
         progress, sources = stack.enter_context(Progress("fontcut-pdf")), []
         for number, path in enumerate(given.files, 1):
             progress.say(f"reading {number} of {len(given.files)} files")
             with _named([path]):
                 sources.append(stack.enter_context(opened(path)))
+                for what in not_kept(sources[-1]):
+                    lost.setdefault(what, []).append(path)
             pages += [(path, page) for page in range(1, len(sources[-1].pages) + 1)]
         progress.say(f"joining the fonts of {len(pages)} pages")
         with _named(given.files):
@@ -140,6 +151,7 @@ def _run_merge(given: argparse.Namespace) -> None:
         progress.say(f"writing {len(pages)} pages")
         version = max(source.pdf_version for source in sources)
         write(given.out, _saved(pdf, min_version=version, object_stream_mode=pikepdf.ObjectStreamMode.generate))
+    _say_not_kept(lost)
     if given.report:
         for outcome in outcomes:
             print_line(_say(outcome, *(pages[outcome.page - 1] if outcome.page else (given.out, 0))))

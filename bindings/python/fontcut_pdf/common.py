@@ -50,8 +50,8 @@ class Outcome(NamedTuple):
 
     page      the first page that has it, from 1; 0 where it is on no page, but on a hidden one or a button's icon
     name      its name, with the subset tag
-    before    the bytes of its program
-    after     the bytes of the program that took its place, or None where it stays as it is
+    before    the bytes that its program takes in the file, packed as it is there
+    after     those of the program that took its place, or None where it stays as it is
     said      in words: what was done, or why it stays
     expected  whether it stays although it is a font of the kind that takes part
     """

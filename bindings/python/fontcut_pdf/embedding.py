@@ -41,12 +41,12 @@ def without_tag(name: str) -> str:
     return re.sub(r"^/?([A-Z]{6}\+)?", "", name)
 
 
-def program_stream(pdf: Pdf, data: bytes) -> Stream:
-    """A stream for FontFile2 (ISO 32000-1, 9.9)."""
-    stream = Stream(pdf, b"")
-    stream.write(zlib.compress(data, 9), filter=Name.FlateDecode)
+def program_stream(pdf: Pdf, data: bytes) -> Tuple[Stream, int]:
+    """A stream for FontFile2 (ISO 32000-1, 9.9), and how many bytes it takes in a file."""
+    stream, packed = Stream(pdf, b""), zlib.compress(data, 9)
+    stream.write(packed, filter=Name.FlateDecode)
     stream.Length1 = len(data)
-    return stream
+    return stream, len(packed)
 
 
 def _written_widths(widths: Mapping[int, Number]) -> Tuple[Array, Number]:
@@ -114,7 +114,7 @@ def _descriptor(pdf: Pdf, font: bytes, cut: bytes, name: Name) -> Object:
         Type=Name.FontDescriptor, FontName=name, Flags=flags, FontBBox=Array(box),
         ItalicAngle=round(angle / 65536), Ascent=ascent, Descent=descent, CapHeight=height,
         # No table has the thickness of stems: an estimate from the weight.
-        StemV=50 + (weight * weight) // 4225, FontFile2=program_stream(pdf, cut)))
+        StemV=50 + (weight * weight) // 4225, FontFile2=program_stream(pdf, cut)[0]))
 
 
 @dataclass

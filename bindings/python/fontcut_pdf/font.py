@@ -55,18 +55,17 @@ class Program:
     """An embedded font program.
 
     stream    where it stands
-    size      its length in bytes
+    size      the bytes that it takes in its file, packed as it is there
     kind      `lean cut`, `lean cut for PDF` for one of a prepared font, `cut`, `no cut` for another font that is
               accepted, as it is or prepared, or why it is none of these
     """
 
     def __init__(self, stream: Stream):
-        self.stream = stream
+        self.stream, self.size = stream, len(raw(stream))
         try:
-            data = read("a font program", stream, MOST_OF_PROGRAM)
-            self.size, self.kind = len(data), _kind(data)
+            self.kind = _kind(read("a font program", stream, MOST_OF_PROGRAM))
         except Unclear:
-            self.size, self.kind = int(stream.get("/Length1", 0)), "refused: too large"
+            self.kind = "refused: too large"
 
     @property
     def is_lean(self) -> bool:

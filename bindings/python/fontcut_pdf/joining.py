@@ -97,16 +97,17 @@ def _box(members: Sequence[_Member]) -> Array:
     return Array([min(left), min(bottom), max(right), max(top)])
 
 
-def _unite(members: Sequence[_Member], joined: bytes) -> Name:
-    """Puts the join in the place of the programs of some fonts. Those that are plain become one font."""
+def _unite(members: Sequence[_Member], joined: bytes) -> Tuple[Name, int]:
+    """Puts the join in the place of the programs of some fonts. Those that are plain become one font. Returns its name, and
+    the bytes that its program takes in a file."""
     first, plain = members[0].font, [member for member in members if member.font.is_plain]
-    name, program = tagged(first.name, joined), program_stream(first.pdf, joined)
+    name, (program, size) = tagged(first.name, joined), program_stream(first.pdf, joined)
     if plain:
         _unite_plain(plain, name, program)
     for member in members:
         if not member.font.is_plain:
             replace_program(member.font, name, program)
-    return name
+    return name, size
 
 
 def _unite_plain(members: Sequence[_Member], name: Name, program: Stream) -> None:
@@ -144,10 +145,10 @@ def _united(members: Sequence[_Member], why: Optional[str]) -> Iterator[Outcome]
     name."""
     joined, joining, others = _joined(members)
     if len(joining) > 1:
-        name = str(_unite(joining, joined))[1:]
+        name, size = _unite(joining, joined)
         for member in joining:
             font = member.font
-            yield Outcome(font.page, font.name, font.program.size, len(joined), f"joined into {name}")
+            yield Outcome(font.page, font.name, font.program.size, size, f"joined into {str(name)[1:]}")
     else:
         others = [(joining[0], why or ""), *others]
     for member, reason in others:

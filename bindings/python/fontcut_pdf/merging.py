@@ -5,13 +5,39 @@ from bisect import bisect_right
 from contextlib import contextmanager
 from typing import Iterator, List, Optional, Sequence, Tuple
 
-from pikepdf import Array, Dictionary, Name, Object, Pdf
+from pikepdf import Array, Dictionary, Name, Object, Pdf, String
 
-from .common import Outcome, Refused, dictionaries, values
+from .common import MALFORMED, Outcome, Refused, dictionaries, names_in, values
 from .drawing import annotations_of, pages_of
 from .joining import join_fonts
 from .outlines import Source, add_outline
 from .survey import NO_FONT, producer, refusing
+
+
+# What ReportLab writes for a document without a title.
+_NO_TITLE = "untitled"
+
+
+def _has_title(pdf: Pdf) -> bool:
+    """Whether a file says its title (ISO 32000-1, 14.3.3)."""
+    info = pdf.trailer.get("/Info")
+    title = info.get("/Title") if isinstance(info, Dictionary) else None
+    return isinstance(title, String) and str(title).strip() not in ("", _NO_TITLE)
+
+
+def _has_attachments(pdf: Pdf) -> bool:
+    """Whether files are attached to a file (ISO 32000-1, 7.11.4)."""
+    names = pdf.Root.get("/Names")
+    return isinstance(names, Dictionary) and bool(names_in(names.get("/EmbeddedFiles")))
+
+
+def not_kept(pdf: Pdf) -> List[str]:
+    """What a file has that its readers see and a merge does not keep: `title` and `attachments`. What is malformed is none."""
+    try:
+        found = {"title": _has_title(pdf), "attachments": _has_attachments(pdf)}
+    except MALFORMED:
+        return []
+    return [what for what, is_there in found.items() if is_there]
 
 
 def _may_hide(thing: Object) -> bool:

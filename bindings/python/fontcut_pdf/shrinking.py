@@ -93,10 +93,10 @@ def _shrink(group: Sequence[Font]) -> List[Outcome]:
             made = _made(group)
     except Unclear as error:
         return [stays(font, f"stays as it is: {error}", not isinstance(error, _Same)) for font in group]
-    stream = program_stream(group[0].pdf, made)
+    stream, size = program_stream(group[0].pdf, made)
     for font in group:
         replace_program(font, tagged(font.name, made), stream)
-    return [Outcome(font.page, font.name, font.program.size, len(made), "shrunk") for font in group]
+    return [Outcome(font.page, font.name, font.program.size, size, "shrunk") for font in group]
 
 
 def _reached(pdf: Pdf) -> Set[Id]:
