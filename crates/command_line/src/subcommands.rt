@@ -41,7 +41,7 @@ enum Form {
     Short(&'static str, char),
     // An option without a value, of which help says nothing.
     Taken,
-    // An option whose value, if it has one, follows a sign of equality, of which help says nothing.
+    // An option that may have a value, of which help says nothing.
     TakenChoice,
     // An option with a value that may be repeated, of which help says nothing.
     TakenValues,
@@ -223,9 +223,7 @@ fn named_out<'a>(arg: Arg<'a>) -> Result<Arg<'a>, AllocError> {
 
 // Returns an argument as an option that may have a value.
 fn choice<'a>(arg: Arg<'a>, long: &'a str) -> Arg<'a> {
-    hidden(arg, long, ArgAction::Append)
-        .num_args(0..=1)
-        .require_equals(true)
+    hidden(arg, long, ArgAction::Append).num_args(0..=1)
 }
 
 // Returns an argument in the form in which it is given.
