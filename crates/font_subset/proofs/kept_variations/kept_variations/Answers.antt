@@ -52,6 +52,6 @@ returns g c =
     gvar_made c.args.selection.now c.kind-kind.ensures.sound c.in-Some.variations.now c.in-Some.ensures
     c.front.ensures.sound _ are c.front.result.now c.shared_tuples.result.now c.in_ok-table.table.items c.requires
     c.front.ensures.front c.shared_tuples.ensures.tuples c.front.ensures.size few
-    (c.in_ok-table.ensures ∙ ap (λ (n : ℕ). gvar_bytes c.front.result.now c.shared_tuples.result.now
+    (c.in_ok-table.ensures.table ∙ ap (λ (n : ℕ). gvar_bytes c.front.result.now c.shared_tuples.result.now
     (λ h. slice_index_or (map (λ d. d.now) c.deref.result.now) h []) n)
     (sym (length-map c.deref.result.now (λ d. d.now))))
