@@ -3,12 +3,12 @@ from __future__ import annotations
 
 import contextlib
 import os
-from typing import Iterable, Sequence
+from typing import Iterable, Optional, Sequence
 
 import fontcut
 from fontcut_output import read
 
-from .common import KINDS, UsageError
+from .common import KINDS, WOFF, WOFF2, UsageError
 
 
 def is_same(one: str, other: str) -> bool:
@@ -25,20 +25,31 @@ def _belongs(cut: bytes, font: fontcut.Font, kind: str) -> bool:
     return False
 
 
-def _is_whole(path: str, cut: bytes) -> bool:
-    """Whether a file is a font, is no cut, and has a cut that is this one."""
+def _whole(path: str) -> Optional[fontcut.Font]:
+    """The font in a file, if it has one that is no cut."""
     with contextlib.suppress(fontcut.Refused, OSError):
         font = fontcut.Font(read(path))
-        is_font = fontcut.form(font.data) is fontcut.Form.NO_CUT
-        return is_font and any(_belongs(cut, font, kind) for kind in KINDS)
-    return False
+        return font if fontcut.form(font.data) is fontcut.Form.NO_CUT else None
+    return None
+
+
+def _is_packed(path: str) -> bool:
+    """Whether a file is a WOFF or WOFF2 file."""
+    with open(path, "rb") as file:
+        return file.read(4) in (WOFF, WOFF2)
 
 
 def check_font(source: str, font: fontcut.Font, out: str) -> None:
-    """Raises `UsageError` where OUT is the font of which the font in a file is a cut."""
+    """Raises `UsageError` where OUT is the font of which the font in a file is a cut. A cut that was packed is no cut when
+    it is unpacked, so what is made of a packed font replaces no font but cuts."""
+    whole = _whole(out) if os.path.isfile(out) else None
+    if whole is None:
+        return
     is_cut = fontcut.form(font.data) is not fontcut.Form.NO_CUT
-    if is_cut and os.path.isfile(out) and _is_whole(out, font.data):
+    if is_cut and any(_belongs(font.data, whole, kind) for kind in KINDS):
         raise UsageError(f"{out} is the font, and {source} a cut of it: nothing was written")
+    if _is_packed(source):
+        raise UsageError(f"{out} is a font, and {source} may be a cut of it: --force writes")
 
 
 def check_read(paths: Sequence[str], written: Iterable[str]) -> None:
