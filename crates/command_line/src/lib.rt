@@ -166,7 +166,8 @@ pub struct Slices<'a> {
     pub kind: CutKind,
     /// The names of the tables of layout that the cuts do without.
     pub dropped: Vec<&'a str>,
-    /// Whether the folder may have the ending of a packed font.
+    /// Whether the folder may have the ending of a packed font, and a slice may replace FONT or the font of which FONT is
+    /// a cut.
     pub is_forced: bool,
     /// Whether the first lines of messages are said alone.
     pub is_quiet: bool,
@@ -183,7 +184,7 @@ pub struct Join<'a> {
     pub has_out_first: bool,
     /// The kind of cuts that the files are, and that is written.
     pub kind: CutKind,
-    /// Whether OUT may have the ending of a packed font.
+    /// Whether OUT may have the ending of a packed font, or be the font of which the files are cuts.
     pub is_forced: bool,
 }
 

@@ -148,7 +148,7 @@ const OF_SLICE: &[Argument] = &[
     ("layout", Form::KeepsLayout, texts::LAYOUT_SLICES),
     ("variable", Form::KeepsLayout, texts::VARIABLE_SLICES),
     ("drop", Form::Tables("TABLES"), texts::DROP),
-    ("force", Form::Flag, texts::FORCE),
+    ("force", Form::Flag, texts::FORCE_SLICE),
 ];
 
 const OF_JOIN: &[Argument] = &[
@@ -156,7 +156,7 @@ const OF_JOIN: &[Argument] = &[
     ("lean", Form::Flag, texts::LEAN_JOIN),
     ("layout", Form::KeepsLayout, texts::LAYOUT_JOIN),
     ("variable", Form::KeepsLayout, texts::VARIABLE_JOIN),
-    ("force", Form::Flag, texts::FORCE),
+    ("force", Form::Flag, texts::FORCE_JOIN),
     ("FILES", Form::SomeWords, texts::FILES),
 ];
 

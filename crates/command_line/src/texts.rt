@@ -104,10 +104,14 @@ pub(crate) const VARIABLE: &str =
 pub(crate) const DROP: &str =
     "Cuts FONT as if it lacked these layout tables; only GSUB adds glyphs; may be repeated";
 
-pub(crate) const FORCE: &str = "Writes a TrueType file even to a name that ends in .woff2 or .woff";
-
 pub(crate) const FORCE_SUBSET: &str =
     "Writes even to a name that ends in .woff2 or .woff, and over the font of which FONT is a cut";
+
+pub(crate) const FORCE_SLICE: &str =
+    "Writes even to a name that ends in .woff2 or .woff, and over FONT or the font of which it is a cut";
+
+pub(crate) const FORCE_JOIN: &str =
+    "Writes even to a name that ends in .woff2 or .woff, and over the font of which FILES are cuts";
 
 pub(crate) const FULL_CUT: &str = "Asks for a full cut, as subset writes it without these options";
 

@@ -103,7 +103,7 @@ fn belongs_by_some<'a, W: Flushes>(
     if verbosity == Verbosity::Quiet {
         return Ok(outcome);
     }
-    Ok(Outcome::noting(said))
+    Ok(Outcome::noting(true, said))
 }
 
 // Reads the file of an inlet to its end, whose path this is.

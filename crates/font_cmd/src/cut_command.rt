@@ -13,7 +13,7 @@ use crate::wanted_glyphs::{EVERYTHING, keeps_all_glyphs, listed, names_glyphs};
 use codes::Wanted;
 use command_line::{Subset, Verbosity};
 use commands::{CutRequest, RunError, run_subset_of_font};
-use font_coverage::{Asked, Coverage, Kept, linked_count, losses};
+use font_coverage::{Asked, Coverage, Kept, WantedCodes, linked_count, losses};
 use font_file::Font;
 use font_subset::keeps_layout;
 use font_theory::Kind;
@@ -49,11 +49,11 @@ fn send_cut<'a, F: HeldFiles, I, O: Write + Copy + Drop>(
     kind: Kind,
     line: &Subset<'a>,
     font: &Font<'_>,
-    wanted: &Wanted,
+    wanted: &WantedCodes,
     numbers: &[u16],
 ) -> Result<u64, Fault<'a>> {
     let mut outlet = outlet(system, line.out)?;
-    let request = request_of(kind, line, wanted, numbers);
+    let request = request_of(kind, line, wanted.all(), numbers);
     let sent = run_subset_of_font(system.alloc, font, &request, &mut outlet);
     let size = sent.map_err(|error| Fault::of_run(line.font, line.out, error))?;
     placed(system, outlet, line.out)?;
@@ -86,11 +86,11 @@ fn cut_and_report<'a, F: HeldFiles, I, O: Write + Copy + Drop>(
     kind: Kind,
     line: &Subset<'a>,
     font: &Font<'_>,
-    wanted: &Wanted,
+    wanted: &WantedCodes,
     numbers: &[u16],
     coverage: Coverage,
 ) -> Result<Outcome, Fault<'a>> {
-    let linked = reported_links(system.alloc, kind, line, font, wanted)?;
+    let linked = reported_links(system.alloc, kind, line, font, wanted.all())?;
     let size = send_cut(system, kind, line, font, wanted, numbers)?;
     let text = coverage.with_cut(kind, linked, size)?;
     Ok(Outcome::saying(true, text))
@@ -102,7 +102,7 @@ fn said_of_cut(
     kind: Kind,
     line: &Subset<'_>,
     font: &Font<'_>,
-    wanted: &Wanted,
+    wanted: &WantedCodes,
 ) -> Result<String, AllocError> {
     if line.verbosity == Verbosity::Quiet {
         return Ok(String::new(alloc));
@@ -110,7 +110,8 @@ fn said_of_cut(
     let asked = Asked {
         name: input_name(line.font),
         kind,
-        wanted,
+        wanted: wanted.all(),
+        named: wanted.named(),
         has_numbers: names_glyphs(line),
         says_more: line.verbosity == Verbosity::Verbose,
     };
@@ -123,12 +124,12 @@ fn cut_and_say<'a, F: HeldFiles, I, O: Write + Copy + Drop>(
     kind: Kind,
     line: &Subset<'a>,
     font: &Font<'_>,
-    wanted: &Wanted,
+    wanted: &WantedCodes,
     numbers: &[u16],
 ) -> Result<Outcome, Fault<'a>> {
     let said = said_of_cut(system.alloc, kind, line, font, wanted)?;
     send_cut(system, kind, line, font, wanted, numbers)?;
-    Ok(Outcome::noting(said))
+    Ok(Outcome::noting(true, said))
 }
 
 // Returns whether a strict line is not done. One that names glyphs need not name codes.
@@ -147,12 +148,13 @@ fn cut_counted<'a, F: HeldFiles, I, O: Write + Copy + Drop>(
     numbers: &[u16],
 ) -> Result<Outcome, Fault<'a>> {
     let shows_characters = line.verbosity == Verbosity::Verbose;
-    let coverage = Coverage::of(system.alloc, font, &kept, kind, shows_characters)?;
+    let mut coverage = Coverage::of(system.alloc, font, &kept, kind, shows_characters)?;
+    let wanted = kept.into_wanted(system.alloc)?;
+    coverage.add_lost(font, wanted.all())?;
     if is_refused(line, &coverage) {
         let text = coverage.unwritten_text(system.alloc)?;
         return Ok(Outcome::saying(false, text));
     }
-    let wanted = kept.into_wanted(system.alloc)?;
     if !line.reports {
         return cut_and_say(system, kind, line, font, &wanted, numbers);
     }

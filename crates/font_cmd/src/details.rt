@@ -1,7 +1,7 @@
 //! What is said of a fault after its first line: which file it is and what it is, the system's reason, what to do.
 use crate::inputs::input_name;
 use crate::refused_file::Seen;
-use crate::report::Fault;
+use crate::report::{Fault, Writes};
 use command_line::Verbosity;
 use commands::RunError;
 use font_coverage::{FileForm, is_of_layout};
@@ -15,7 +15,10 @@ use std::io;
 // The number of the system's error that a process has as many files open as it may, EMFILE.
 const TOO_MANY_FILES: i32 = 24;
 
-// What to do then.
+// The number of the system's error that there is no such file, ENOENT.
+const NO_SUCH_FILE: i32 = 2;
+
+// What to do if too many files are open.
 const IN_SEVERAL_CALLS: &str = "\
 fontcut: this is the limit of open files, which ulimit -n shows; cuts can be joined in several calls, and
 fontcut: these joins in one more
@@ -352,13 +355,44 @@ fn add_both(text: &mut String, file: &str, out: &str) -> Result<(), AllocError> 
     Ok(())
 }
 
-// Adds how the font at OUT is cut, and that it can be replaced all the same.
-fn add_over_font(text: &mut String, out: &str) -> Result<(), AllocError> {
-    let font = Shown(out);
+// Adds what to write in place of a line that would replace a font, and that the font can be replaced all the same.
+fn add_over_font(text: &mut String, writes: Writes, font: &str) -> Result<(), AllocError> {
+    let font = Shown(font);
+    match writes {
+        Writes::Cut => write!(text, "fontcut: subset {font} OUT cuts the font")?,
+        Writes::Slices => write!(text, "fontcut: slice {font} FOLDER cuts the font")?,
+        Writes::Join => text.push_str("fontcut: name another OUT")?,
+    }
+    write!(text, "; --force replaces {font}\n")?;
+    Ok(())
+}
+
+// Adds how FONT is kept from its slices, and that it can be replaced all the same.
+fn add_over_itself(text: &mut String, font: &str) -> Result<(), AllocError> {
+    let font = Shown(font);
     write!(
         text,
-        "fontcut: subset {font} OUT cuts the font; --force replaces {font}\n"
+        "fontcut: name another FOLDER, or the slice otherwise; --force replaces {font}\n"
     )?;
+    Ok(())
+}
+
+// Adds why a file of slices is not read, and how the slices of a preset of this name are written to a file where there is
+// none.
+fn add_unlisted(
+    alloc: Global,
+    text: &mut String,
+    path: &str,
+    reason: Option<i32>,
+) -> Result<(), AllocError> {
+    add_reason(alloc, text, path, reason)?;
+    if reason == Some(NO_SUCH_FILE) {
+        let name = Shown(path);
+        write!(
+            text,
+            "fontcut: presets are files here: fontcut-web slices {name} >{name}.txt writes one\n"
+        )?;
+    }
     Ok(())
 }
 
@@ -379,6 +413,7 @@ fn add_known(
         Fault::Unread(_) | Fault::Unwritten(_) | Fault::UnwrittenIn { .. } => {
             add_reason(alloc, text, fault.file_name(), details.reason)
         }
+        Fault::Unlisted(path) => add_unlisted(alloc, text, path, details.reason),
         Fault::RefusedFile { path, .. } => add_refused(text, path, seen),
         Fault::NotJoined {
             kind,
@@ -391,7 +426,8 @@ fn add_known(
         }
         Fault::NotOfKind { kind, path, .. } => add_not_of_kind(text, *kind, path, seen),
         Fault::Replaces { file, out } => add_both(text, file, out),
-        Fault::OverFont { out, .. } => add_over_font(text, out),
+        Fault::OverFont { writes, font, .. } => add_over_font(text, *writes, font.as_str()),
+        Fault::OverItself(font) => add_over_itself(text, font),
         Fault::BadWord(word) if !names_code(word) => text.push_str(TEXT),
         Fault::NoSet => text.push_str(SETS),
         Fault::PackedOut(_) | Fault::PackedFolder => text.push_str(FORCE),

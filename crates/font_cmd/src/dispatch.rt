@@ -9,7 +9,7 @@ use crate::details::{Details, NO_DETAILS};
 use crate::inputs::inlet_at;
 use crate::join_command::join;
 use crate::outcome::{Outcome, answered, ended, print, report, say};
-use crate::refused_file::{Seen, look_again};
+use crate::refused_file::{Seen, add_no_font, look_again, room_for_no_font};
 use crate::report::{Fault, no_memory};
 use crate::showing::show;
 use crate::slicing::slice;
@@ -21,15 +21,26 @@ use std::alloc::{AllocError, Global};
 use std::io::{Read, Write};
 use streams::{Flushes, Outlet};
 
+// Checks a font. What a refused file is, is said on standard error, for what goes to standard output is fixed.
 fn check<'a, F: HeldFiles, I: Read + Copy + Drop, O, W: Flushes>(
     system: &System<'a, F, I, O>,
     font: &'a str,
+    verbosity: Verbosity,
     out: &mut Outlet<W>,
 ) -> Result<Outcome, Fault<'a>>
     requires { fresh_of out.old ≡ true }
 {
     let mut inlet = inlet_at(system, font)?;
-    answered(font, run_check(system.alloc, &mut inlet, out))
+    // Nothing asks for memory once a line is printed.
+    let mut said = String::new(system.alloc);
+    said.reserve(room_for_no_font(font))?;
+    match run_check(system.alloc, &mut inlet, out) {
+        Ok(false) if verbosity != Verbosity::Quiet => {
+            add_no_font(system.files, &mut said, font)?;
+            Ok(Outcome::noting(false, said))
+        }
+        is_clean => answered(font, is_clean),
+    }
 }
 
 fn codes<'a, F: HeldFiles, I: Read + Copy + Drop, O, W: Flushes>(
@@ -77,7 +88,7 @@ fn done<'a, F: HeldFiles, I: Read + Copy + Drop, O: Write + Copy + Drop, W: Flus
     requires { fresh_of out.old ≡ true }
 {
     match &line.task {
-        Task::Check { font } => check(system, font, out),
+        Task::Check { font } => check(system, font, line.verbosity, out),
         Task::Show { font } => show(system, font, line.verbosity, out),
         Task::Codes { font, with_glyphs } => codes(system, font, *with_glyphs, out),
         Task::Belongs(asked) => {

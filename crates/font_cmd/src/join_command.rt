@@ -3,7 +3,7 @@ ghost use Rattle.std.specs.Prelude.{◌≡◌, true};
 ghost use Rattle.commands.specs.JoinRun.{AreFresh};
 
 use crate::inputs::inlets_at;
-use crate::kept_font::is_file_at;
+use crate::kept_font::{is_file_at, keep_from_join};
 use crate::outcome::Outcome;
 use crate::output::{outlet, packed_out, placed};
 use crate::report::{Fault, refused_join};
@@ -91,5 +91,6 @@ pub(crate) fn join<'a, F: HeldFiles, I: Read + Copy + Drop, O: Write + Copy + Dr
     packed_out(line.out, line.is_forced)?;
     let mut inlets = inlets_at(system, &line.files)?;
     keep_forgotten(system, line)?;
+    keep_from_join(system, line)?;
     send_join(system, kind, line, &mut inlets)
 }

@@ -1,10 +1,10 @@
-//! The font at OUT that `subset` would replace by a cut of a cut of it: so it is where the names of the two files are
-//! exchanged.
-use crate::refused_file::read_again;
-use crate::report::Fault;
-use command_line::{STANDARD, Subset};
+//! The fonts that a line would replace by mistake: the font of which FONT, or one of FILES, is a cut, as where names of
+//! files are exchanged; and FONT itself by one of its slices.
+use crate::refused_file::{may_be_cut_at, read_again};
+use crate::report::{Fault, Writes, no_memory};
+use command_line::{Join, STANDARD, Slices, Subset};
 use commands::without_tables;
-use font_coverage::{cut_kind, is_of_layout, kind_of_cut};
+use font_coverage::{cut_kind, is_of_layout, kind_of_cut, may_be_cut};
 use font_file::Font;
 use program_files::{HeldFiles, System, standing_file};
 use std::alloc::{AllocError, Global};
@@ -19,21 +19,6 @@ pub(crate) fn is_file_at<F: HeldFiles>(files: &F, path: &str, stands: &fs::Metad
     match fs::metadata(files, path) {
         Ok(other) => other.ino() == stands.ino() && other.dev() == stands.dev(),
         Err(_) => false,
-    }
-}
-
-// Returns whether a regular file is at OUT that is another one than FONT, whose size this is, and longer.
-fn is_longer<F: HeldFiles, I, O>(
-    system: &System<'_, F, I, O>,
-    line: &Subset<'_>,
-    size: usize,
-) -> Result<bool, AllocError> {
-    match standing_file(system.files, system.alloc, line.out)? {
-        Some(stands) => {
-            let is_longer = (size as u64) < stands.len();
-            Ok(is_longer && !is_file_at(system.files, line.font, &stands))
-        }
-        None => Ok(false),
     }
 }
 
@@ -61,40 +46,59 @@ fn is_cut_of_file(alloc: Global, cut: &Font<'_>, file: &[u8]) -> Result<bool, Al
     }
 }
 
-// Returns whether a file has a font that is no cut, and of which another font is a cut.
-fn is_font_of(alloc: Global, file: &[u8], cut: &Font<'_>) -> Result<bool, AllocError> {
-    let Ok(font) = Font::open(file) else {
-        return Ok(false);
-    };
-    let left = with_tables_of(alloc, &font, cut)?;
-    if !is_cut_of_file(alloc, cut, &left)? {
+// Returns whether a font, whose file this is, is a cut. Most that are none are told by their `cmap`.
+fn is_cut(alloc: Global, file: &[u8], font: &Font<'_>) -> Result<bool, AllocError> {
+    if !may_be_cut(file) {
         return Ok(false);
     }
-    match cut_kind(alloc, &font) {
-        Ok(kind) => Ok(kind.is_none()),
+    match cut_kind(alloc, font) {
+        Ok(kind) => Ok(kind.is_some()),
         Err(_) => Err(AllocError),
     }
 }
 
-// Returns whether OUT has a font that is no cut, and of which FONT is a cut. It is read only where FONT is a cut at all.
-fn is_font_of_cut<F: HeldFiles, I, O>(
-    system: &System<'_, F, I, O>,
-    line: &Subset<'_>,
-    font: &Font<'_>,
-) -> Result<bool, AllocError> {
-    match cut_kind(system.alloc, font) {
-        Ok(Some(_)) => {}
-        Ok(None) => return Ok(false),
-        Err(_) => return Err(AllocError),
+// Returns whether a file has a font that is no cut, and of which another font is a cut. What the file is comes first: a
+// small cut is often written over another one.
+fn is_font_of(alloc: Global, file: &[u8], cut: &Font<'_>) -> Result<bool, AllocError> {
+    let Ok(font) = Font::open(file) else {
+        return Ok(false);
+    };
+    if is_cut(alloc, file, &font)? {
+        return Ok(false);
     }
-    match read_again(system.files, system.alloc, line.out)? {
-        Some(file) => is_font_of(system.alloc, &file, font),
+    let left = with_tables_of(alloc, &font, cut)?;
+    is_cut_of_file(alloc, cut, &left)
+}
+
+// Returns whether the file at a path has a font that is no cut, and of which the font of another file is a cut. It is read
+// only where that font may be a cut at all.
+fn has_font_of<F: HeldFiles, I, O>(
+    system: &System<'_, F, I, O>,
+    path: &str,
+    cut: &[u8],
+) -> Result<bool, AllocError> {
+    if !may_be_cut(cut) {
+        return Ok(false);
+    }
+    let Ok(cut) = Font::open(cut) else {
+        return Ok(false);
+    };
+    match read_again(system.files, system.alloc, path)? {
+        Some(file) => is_font_of(system.alloc, &file, &cut),
         None => Ok(false),
     }
 }
 
+// Returns the fault that a command would write over a font, of which the file at a path is a cut.
+fn over_font<'a>(alloc: Global, writes: Writes, cut: &'a str, font: &str) -> Fault<'a> {
+    match String::from_str(alloc, font) {
+        Ok(font) => Fault::OverFont { writes, cut, font },
+        Err(_) => no_memory(),
+    }
+}
+
 /// Refuses a line that would replace a font by a cut, where FONT, whose file this is, is a cut of it and that is not
-/// forced. Only an OUT that is longer than FONT is looked at.
+/// forced. Where nothing stands at OUT, only that is looked at.
 ///
 /// # Errors
 /// `OverFont` where it would, `Refused` where memory is refused.
@@ -103,17 +107,111 @@ pub(crate) fn keep_font<'a, F: HeldFiles, I, O>(
     line: &Subset<'a>,
     file: &[u8],
 ) -> Result<(), Fault<'a>> {
-    if line.is_forced || line.out == STANDARD || !is_longer(system, line, file.len())? {
+    if line.is_forced || line.out == STANDARD {
         return Ok(());
     }
-    let Ok(font) = Font::open(file) else {
+    let Some(stands) = standing_file(system.files, system.alloc, line.out)? else {
         return Ok(());
     };
-    if is_font_of_cut(system, line, &font)? {
-        return Err(Fault::OverFont {
-            font: line.font,
-            out: line.out,
-        });
+    if is_file_at(system.files, line.font, &stands) || !has_font_of(system, line.out, file)? {
+        return Ok(());
+    }
+    Err(over_font(system.alloc, Writes::Cut, line.font, line.out))
+}
+
+// Refuses to write a slice over FONT, whose file this is, or over a font of which FONT is a cut.
+fn keep_from_slice<'a, F: HeldFiles, I, O>(
+    system: &System<'a, F, I, O>,
+    font: &'a str,
+    file: &[u8],
+    path: &str,
+) -> Result<(), Fault<'a>> {
+    let Some(stands) = standing_file(system.files, system.alloc, path)? else {
+        return Ok(());
+    };
+    if is_file_at(system.files, font, &stands) {
+        return Err(Fault::OverItself(font));
+    }
+    if has_font_of(system, path, file)? {
+        return Err(over_font(system.alloc, Writes::Slices, font, path));
+    }
+    Ok(())
+}
+
+/// Refuses a line whose slices would replace FONT, whose file this is, or a font of which FONT is a cut, where that is not
+/// forced. These are the paths of the slices.
+///
+/// # Errors
+/// `OverItself` and `OverFont` where one would, `Refused` where memory is refused.
+pub(crate) fn keep_from_slices<'a, F: HeldFiles, I, O>(
+    system: &System<'a, F, I, O>,
+    line: &Slices<'a>,
+    file: &[u8],
+    paths: &[String],
+) -> Result<(), Fault<'a>> {
+    if line.is_forced {
+        return Ok(());
+    }
+    for path in paths {
+        keep_from_slice(system, line.font, file, path.as_str())?;
+    }
+    Ok(())
+}
+
+// Returns whether a file is at one of some paths.
+fn is_among<F: HeldFiles>(files: &F, paths: &[&str], stands: &fs::Metadata) -> bool {
+    for path in paths {
+        if is_file_at(files, path, stands) {
+            return true;
+        }
+    }
+    false
+}
+
+// Returns the first file of some paths that can be read again, and its path.
+fn first_readable<'a, F: HeldFiles, I, O>(
+    system: &System<'_, F, I, O>,
+    paths: &[&'a str],
+) -> Result<Option<(&'a str, Vec<u8>)>, AllocError> {
+    for &path in paths {
+        if let Some(file) = read_again(system.files, system.alloc, path)? {
+            return Ok(Some((path, file)));
+        }
+    }
+    Ok(None)
+}
+
+// Returns whether a file stands at OUT that may be a font: none of FILES, and none with the `cmap` of a cut, which is what
+// most joins replace.
+fn may_replace_font<F: HeldFiles, I, O>(
+    system: &System<'_, F, I, O>,
+    line: &Join<'_>,
+) -> Result<bool, AllocError> {
+    match standing_file(system.files, system.alloc, line.out)? {
+        Some(stands) => Ok(
+            !is_among(system.files, &line.files, &stands) && !may_be_cut_at(system.files, line.out),
+        ),
+        None => Ok(false),
+    }
+}
+
+/// Refuses a line that would replace a font by a join of its cuts, where that is not forced. The first file that can be
+/// read again stands for all of them.
+///
+/// # Errors
+/// `OverFont` where it would, `Refused` where memory is refused.
+pub(crate) fn keep_from_join<'a, F: HeldFiles, I, O>(
+    system: &System<'a, F, I, O>,
+    line: &Join<'a>,
+) -> Result<(), Fault<'a>> {
+    if line.is_forced || line.out == STANDARD || !may_replace_font(system, line)? {
+        return Ok(());
+    }
+    let Some((cut, file)) = first_readable(system, &line.files)? else {
+        return Ok(());
+    };
+    if has_font_of(system, line.out, &file)? {
+        return Err(over_font(system.alloc, Writes::Join, cut, line.out));
     }
     Ok(())
 }

@@ -45,11 +45,11 @@ impl Outcome {
         }
     }
 
-    /// Returns the outcome of a task that writes notes to standard error where all is well.
-    pub(crate) fn noting(notes: String) -> Outcome {
+    /// Returns the outcome of a task that writes notes to standard error.
+    pub(crate) fn noting(is_well: bool, notes: String) -> Outcome {
         let report = if notes.is_empty() { None } else { Some(notes) };
         Outcome {
-            is_well: true,
+            is_well,
             report,
             is_asked: false,
         }

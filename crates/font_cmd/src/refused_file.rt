@@ -3,18 +3,19 @@
 use crate::report::Fault;
 use command_line::STANDARD;
 use commands::RunError;
-use font_coverage::{FileForm, cut_kind, file_form};
+use font_coverage::{FileForm, cut_kind, file_form, is_cmap_of_cut};
 use font_file::{Font, FontError};
 use font_join::{JoinAllError, JoinError};
 use font_tables::TableError;
-use font_texts::number_at;
+use font_texts::{Shown, long_at, number_at};
 use font_theory::Kind;
 use program_files::System;
+use sfnt_bytes::numbers::NO_MAPPING;
 use std::alloc::{AllocError, Global};
-use std::fs;
 use std::fs::File;
-use std::io::Read;
+use std::io::{Read, Seek, SeekFrom};
 use std::rt::Files;
+use std::{fs, io};
 use streams::{Inlet, ReadError};
 
 // What is said of a font whose mapping is not read.
@@ -24,15 +25,15 @@ const UNMAPPED: &str =
 // What is said of a cut that makes a join too large.
 const TOO_LARGE: &str = "with this file the join is too large";
 
-// The number of the refusal of a font without a mapping.
-const NO_MAPPING: u8 = 13;
-
 // The bytes before the records of tables, the bytes of a record, and those that are read of a file: 64 records.
 const HEADER: usize = 12;
 
 const RECORD: usize = 16;
 
 const FIRST: usize = 1036;
+
+// Room for a line that says what a file is, beside its path.
+const NO_FONT: usize = 120;
 
 // What a font without `glyf` is that has one of these tables; the first one that it has decides.
 const WITHOUT_GLYF: [(&[u8], &str); 7] = [
@@ -99,6 +100,9 @@ fn has_table(records: &[u8], tag: &[u8]) -> bool {
 
 // Returns what a font without `glyf` is by its records of tables.
 fn kind_without_glyf(rows: &[(&[u8], &'static str)], records: &[u8]) -> Option<&'static str> {
+    if has_table(records, b"glyf") {
+        return None;
+    }
     for (tag, kind) in rows {
         if has_table(records, tag) {
             return Some(*kind);
@@ -107,14 +111,14 @@ fn kind_without_glyf(rows: &[(&[u8], &'static str)], records: &[u8]) -> Option<&
     None
 }
 
-// Returns the records of tables among the first bytes of a font.
+// Returns the records of tables among the first bytes of a font, or none where these do not have all of them.
 fn records_of(first: &[u8]) -> &[u8] {
     let count = number_at(first, 4);
     let all = first.get(HEADER..).unwrap_or(&[]);
-    all.get(..count.saturating_mul(RECORD)).unwrap_or(all)
+    all.get(..count.saturating_mul(RECORD)).unwrap_or(&[])
 }
 
-// Returns what a refused font is by its first bytes.
+// Returns what a refused font is by its first bytes, or by its tables where `glyf` is missing.
 fn kind_by(first: &[u8], is_without_glyf: bool) -> Option<&'static str> {
     if is_without_glyf {
         return kind_without_glyf(&WITHOUT_GLYF, records_of(first));
@@ -141,6 +145,36 @@ fn kind_at<F: Files>(files: &F, path: &str, is_without_glyf: bool) -> Option<&'s
     match file.read(&mut first) {
         Ok(count) => kind_by(first.get(..count)?, is_without_glyf),
         Err(_) => None,
+    }
+}
+
+// Returns where the first table of a tag begins by records of tables.
+fn place_of(records: &[u8], tag: &[u8]) -> Option<u64> {
+    for record in records.chunks_exact(RECORD) {
+        if record.starts_with(tag) {
+            return Some(long_at(record, 8) as u64);
+        }
+    }
+    None
+}
+
+// Returns whether a file has the `cmap` of a cut, where it can be read and sought in.
+fn has_cmap_of_cut<R: Read + Seek>(file: &mut R) -> io::Result<bool> {
+    let mut first = [0u8; FIRST];
+    let count = file.read(&mut first)?;
+    let Some(place) = place_of(records_of(first.get(..count).unwrap_or(&[])), b"cmap") else {
+        return Ok(false);
+    };
+    file.seek(SeekFrom::Start(place))?;
+    let count = file.read(&mut first)?;
+    Ok(is_cmap_of_cut(first.get(..count).unwrap_or(&[])))
+}
+
+/// Returns whether the regular file at a path has the `cmap` of a cut. No more of it is read than that takes.
+pub(crate) fn may_be_cut_at<F: Files>(files: &F, path: &str) -> bool {
+    match opened(files, path) {
+        Some(mut file) => matches!(has_cmap_of_cut(&mut file), Ok(true)),
+        None => false,
     }
 }
 
@@ -205,6 +239,32 @@ fn refused_font<F: Files>(files: &F, path: &str, error: &FontError) -> Option<&'
         _ => false,
     };
     kind_at(files, path, is_without_glyf)
+}
+
+/// Returns room for the line of `add_no_font` about the file at a path, each byte of which may take four.
+pub(crate) fn room_for_no_font(path: &str) -> usize {
+    path.len().saturating_mul(4).saturating_add(NO_FONT)
+}
+
+/// Adds the line that says what the file at a path is, where its first bytes tell that it is no font that is accepted, and
+/// it can be read again.
+///
+/// # Errors
+/// `AllocError` where memory is refused.
+pub(crate) fn add_no_font<F: Files>(
+    files: &F,
+    text: &mut String,
+    path: &str,
+) -> Result<(), AllocError> {
+    let what = match kind_at(files, path, false) {
+        None => kind_at(files, path, true),
+        what => what,
+    };
+    if let Some(what) = what {
+        let path = Shown(path);
+        write!(text, "fontcut: {path}: {what}\n")?;
+    }
+    Ok(())
 }
 
 // Returns what the file at a path is, where it is a font and can be read again.

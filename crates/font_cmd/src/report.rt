@@ -12,6 +12,14 @@ use std::fmt;
 /// How many bytes a line of a file of slices may have.
 pub(crate) const LONGEST_LINE: usize = 1_048_576;
 
+/// What a line writes.
+#[derive(Clone, Copy)]
+pub(crate) enum Writes {
+    Cut,
+    Slices,
+    Join,
+}
+
 /// Why what a line asks for is not done.
 #[derive(Drop)]
 pub(crate) enum Fault<'a> {
@@ -44,11 +52,14 @@ pub(crate) enum Fault<'a> {
         file: &'a str,
         out: &'a str,
     },
-    /// The font at `out` would be replaced by a cut, where the file at `font` is itself a cut of it.
+    /// The font at `font` would be replaced, where the file at `cut` is a cut of it.
     OverFont {
-        font: &'a str,
-        out: &'a str,
+        writes: Writes,
+        cut: &'a str,
+        font: String,
     },
+    /// FONT, at this path, would be replaced by one of its slices.
+    OverItself(&'a str),
     /// A line of the file at this path is not UTF-8, or has this word, which names no range.
     BadLine {
         path: &'a str,
@@ -76,6 +87,8 @@ pub(crate) enum Fault<'a> {
     LongFile(&'a str),
     /// The file at this path cannot be read.
     Unread(&'a str),
+    /// The file of slices at this path, which may be the name of a preset, cannot be opened.
+    Unlisted(&'a str),
     /// The file at this path, or standard output, cannot be written.
     Unwritten(&'a str),
     /// The file at this path in a folder cannot be written.
@@ -135,19 +148,23 @@ impl<'a> Fault<'a> {
             | Fault::NoSet
             | Fault::Replaces { .. }
             | Fault::OverFont { .. }
+            | Fault::OverItself(_)
             | Fault::BadLine { .. }
             | Fault::BadName { .. }
             | Fault::NameTwice { .. }
             | Fault::LongLine { .. }
             | Fault::LongFile(_) => 2,
-            Fault::Unread(_) | Fault::Unwritten(_) | Fault::UnwrittenIn { .. } => 3,
+            Fault::Unread(_)
+            | Fault::Unlisted(_)
+            | Fault::Unwritten(_)
+            | Fault::UnwrittenIn { .. } => 3,
         }
     }
 
     /// Returns what messages call the file that cannot be read or written.
     pub(crate) fn file_name(&self) -> &str {
         match self {
-            Fault::Unread(path) => input_name(path),
+            Fault::Unread(path) | Fault::Unlisted(path) => input_name(path),
             Fault::Unwritten(path) => output_name(path),
             Fault::UnwrittenIn { path } => path.as_str(),
             _ => "",
@@ -350,11 +367,18 @@ fn write_bad_out<W: fmt::Write>(f: &mut fmt::Formatter<W>, fault: &Fault<'_>) ->
                 "join has one file, {file}, and would overwrite {out} with it"
             )
         }
-        Fault::OverFont { font, out } => {
-            let (cut, font) = (Shown(input_name(font)), Shown(out));
+        Fault::OverFont { cut, font, .. } => {
+            let (cut, font) = (Shown(input_name(cut)), Shown(font.as_str()));
             write!(
                 f,
                 "{font} is the font, and {cut} a cut of it: nothing was written"
+            )
+        }
+        Fault::OverItself(font) => {
+            let font = Shown(font);
+            write!(
+                f,
+                "{font} is the font, and a slice would replace it: nothing was written"
             )
         }
         _ => Ok(()),
@@ -377,12 +401,13 @@ impl fmt::Display for Fault<'_> {
             | Fault::PackedOut(_)
             | Fault::PackedFolder
             | Fault::Replaces { .. }
-            | Fault::OverFont { .. } => write_bad_out(f, self),
+            | Fault::OverFont { .. }
+            | Fault::OverItself(_) => write_bad_out(f, self),
             Fault::BadName { .. }
             | Fault::NameTwice { .. }
             | Fault::LongLine { .. }
             | Fault::LongFile(_) => write_bad_slice(f, self),
-            Fault::Unread(_) => {
+            Fault::Unread(_) | Fault::Unlisted(_) => {
                 let name = Shown(self.file_name());
                 write!(f, "cannot read {name}")
             }

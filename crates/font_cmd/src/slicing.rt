@@ -4,6 +4,7 @@ ghost use Rattle.streams.specs.Outlet.{fresh_of};
 
 use crate::dropped_tables::without_named;
 use crate::inputs::{input_name, read_whole, source};
+use crate::kept_font::keep_from_slices;
 use crate::outcome::{Outcome, print};
 use crate::output::{before_packed, outlet, placed};
 use crate::report::{Fault, no_memory};
@@ -164,7 +165,7 @@ impl Said {
         if is_quiet {
             return Ok(printed);
         }
-        Ok(Outcome::noting(unmapped))
+        Ok(Outcome::noting(true, unmapped))
     }
 
     // Returns what a strict line comes to that writes nothing.
@@ -194,6 +195,7 @@ fn lost_of(
         name: input_name(line.font),
         kind,
         wanted: &wanted,
+        named: &wanted,
         // Slices of which the font maps nothing are named one by one.
         has_numbers: true,
         says_more: false,
@@ -295,21 +297,42 @@ fn slice_file<'a, F: HeldFiles, I, O: Write + Copy + Drop, W: Flushes>(
     }
 }
 
+// Returns whether a path has neither a folder nor an ending, as the name of a preset has none.
+fn may_be_preset(path: &str) -> bool {
+    !path.contains('/') && !path.contains('.')
+}
+
 // Reads the file of slices of a line.
 fn list_of<'a, F: HeldFiles, I: Read + Copy + Drop, O>(
     system: &System<'a, F, I, O>,
     line: &Slices<'a>,
 ) -> Result<Vec<u8>, Fault<'a>> {
-    let mut lines = source(system, line.slices)?;
+    let mut lines = match source(system, line.slices) {
+        Ok(lines) => lines,
+        Err(Fault::Unread(path)) if may_be_preset(path) => return Err(Fault::Unlisted(path)),
+        Err(fault) => return Err(fault),
+    };
     read_lines(system.alloc, line.slices, &mut lines)
 }
 
-// Reads the font of a line, and leaves out the tables that the line drops.
+// Returns the paths of the files of slices.
+fn paths_of(alloc: Global, folder: &str, slices: &[Slice<'_>]) -> Result<Vec<String>, AllocError> {
+    let mut paths = Vec::new(alloc);
+    for slice in slices {
+        paths.push(slice_path(alloc, folder, slice.name)?)?;
+    }
+    Ok(paths)
+}
+
+// Reads the font of a line, which no slice may replace, and leaves out the tables that the line drops.
 fn file_of<'a, F: HeldFiles, I: Read + Copy + Drop, O>(
     system: &System<'a, F, I, O>,
     line: &Slices<'a>,
+    slices: &[Slice<'_>],
 ) -> Result<Vec<u8>, Fault<'a>> {
     let whole = read_whole(system, line.font)?;
+    let paths = paths_of(system.alloc, line.folder, slices)?;
+    keep_from_slices(system, line, &whole, &paths)?;
     without_named(system.alloc, line.font, whole, &line.dropped)
 }
 
@@ -327,7 +350,7 @@ fn slice_listed<'a, F: HeldFiles, I: Read + Copy + Drop, O: Write + Copy + Drop,
     if kind == Kind::Full && slices.iter().any(|slice| !slice.glyphs.is_empty()) {
         return Err(Fault::NumbersOfFull);
     }
-    let file = file_of(system, line)?;
+    let file = file_of(system, line, &slices)?;
     slice_file(system, kind, line, &file, slices, out)
 }
 

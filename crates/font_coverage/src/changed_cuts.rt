@@ -5,7 +5,7 @@ use font_file::Font;
 use font_subset::{CutError, FontToCut, OpenError, cut_of_kind};
 use font_texts::{long_at, table_named};
 use font_theory::Kind;
-use sfnt_bytes::{NoMemory, Tag};
+use sfnt_bytes::{CMAP, Directory, Finding, NoMemory, Tag};
 use std::alloc::Global;
 
 // The first bytes of the `cmap` of a cut: its records, and the format of their subtable. docs/FORMAT.md, "The cut that is
@@ -32,10 +32,25 @@ pub enum FileForm {
     Font,
 }
 
-// Returns whether a font has the `cmap` of a cut.
-fn has_cmap_of_cut(font: &Font<'_>) -> bool {
-    let cmap = table_named(font, Tag(*b"cmap"));
+/// Returns whether a `cmap` begins as that of a cut.
+pub fn is_cmap_of_cut(cmap: &[u8]) -> bool {
     cmap.starts_with(CURRENT) || cmap.starts_with(FIRST)
+}
+
+// Returns whether a directory has the `cmap` of a cut.
+fn has_cmap_of_cut(directory: &Directory<'_>) -> bool {
+    match directory.table(CMAP) {
+        Some(cmap) => is_cmap_of_cut(cmap),
+        None => false,
+    }
+}
+
+/// Returns whether a file has the `cmap` of a cut. A file without it is no cut of any kind. Only its directory is read.
+pub fn may_be_cut(file: &[u8]) -> bool {
+    match Directory::read(file) {
+        Ok(directory) => has_cmap_of_cut(&directory),
+        Err(_) => false,
+    }
 }
 
 // Returns the kind of which a font without layout is a cut, if it is one.
@@ -91,6 +106,18 @@ fn differs(one: &Font<'_>, other: &Font<'_>, tag: Tag) -> bool {
     table_named(one, tag) != table_named(other, tag)
 }
 
+// Returns the first table of a font whose checksum is wrong. It stands apart, for the search for findings has 120 KB on
+// the stack.
+#[inline(never)]
+fn first_wrong_sum(font: &Font<'_>) -> Option<Tag> {
+    for finding in font.tables().directory().findings() {
+        if let Finding::Checksum(tag) = finding {
+            return Some(tag);
+        }
+    }
+    None
+}
+
 // Returns the first table in which two fonts differ. `head` has a sum of the whole file, so it comes last.
 fn first_difference(font: &Font<'_>, made: &Font<'_>) -> Option<Tag> {
     for entry in made.tables().directory().records() {
@@ -106,8 +133,12 @@ fn first_difference(font: &Font<'_>, made: &Font<'_>) -> Option<Tag> {
     }
 }
 
-// Returns where a font was changed that has the tables of a cut of a kind.
+// Returns where a font was changed that has the tables of a cut of a kind. A program that writes checksums anew leaves no
+// wrong one: then the font is compared with its own cut.
 fn change_of(alloc: Global, kind: Kind, font: &Font<'_>) -> Result<Option<Tag>, NoMemory> {
+    if let Some(tag) = first_wrong_sum(font) {
+        return Ok(Some(tag));
+    }
     let Some(file) = made_again(alloc, kind, font)? else {
         return Ok(None);
     };
@@ -126,7 +157,7 @@ pub fn file_form(alloc: Global, font: &Font<'_>) -> Result<FileForm, NoMemory> {
         return Ok(FileForm::Cut(kind));
     }
     match kind_by_tables(font) {
-        Some(kind) if has_cmap_of_cut(font) => {
+        Some(kind) if has_cmap_of_cut(font.tables().directory()) => {
             Ok(FileForm::Changed(change_of(alloc, kind, font)?))
         }
         _ => Ok(FileForm::Font),

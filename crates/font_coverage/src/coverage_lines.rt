@@ -1,5 +1,6 @@
 //! What `--report` says of a font: the wanted codes that it lacks, and the tables that a cut of it drops.
 use crate::kept::Kept;
+use crate::lost::add_never_kept;
 use codes::{CODES, Wanted};
 use font_file::Font;
 use font_map::Chart;
@@ -230,8 +231,7 @@ fn add_instance(text: &mut String, kind: Kind, font: &Font<'_>) -> Result<(), Al
     Ok(())
 }
 
-// Adds the lines on the tables of a font and on what it has and a cut does not, with room for the lines that are written
-// after the cut is.
+// Adds the lines on the tables of a font and on what it has and a cut of a kind does not.
 fn add_tables(
     text: &mut String,
     kind: Kind,
@@ -240,8 +240,7 @@ fn add_tables(
 ) -> Result<(), AllocError> {
     add_font(text, kind, font)?;
     add_shaped(text, shaped)?;
-    add_instance(text, kind, font)?;
-    text.reserve(LEAN_LINES.len() + LAST_LINES.len())
+    add_instance(text, kind, font)
 }
 
 // Returns how many glyphs one cut keeps and another does not.
@@ -387,8 +386,10 @@ fn count_codes(
 
 impl Coverage {
     /// Returns what is said of a font and of the codes that are wanted and added, with the characters of those that
-    /// it lacks of the wanted ones where they are to be shown, and of the tables that a cut of a kind drops. All
-    /// memory that it needs is asked for here.
+    /// it lacks of the wanted ones where they are to be shown, and of the tables that a cut of a kind drops.
+    ///
+    /// # Errors
+    /// `AllocError` where memory is refused.
     pub fn of(
         alloc: Global,
         font: &Font<'_>,
@@ -404,6 +405,15 @@ impl Coverage {
             wanted: counted.wanted,
             lacking: counted.lacking,
         })
+    }
+
+    /// Adds what no cut keeps of a font for wanted codes. All memory that the other lines need is asked for here.
+    ///
+    /// # Errors
+    /// `AllocError` where memory is refused.
+    pub fn add_lost(&mut self, font: &Font<'_>, wanted: &Wanted) -> Result<(), AllocError> {
+        add_never_kept(&mut self.text, font, wanted)?;
+        self.text.reserve(LEAN_LINES.len() + LAST_LINES.len())
     }
 
     /// Returns whether a code is wanted, and the font maps each that is.

@@ -3,7 +3,7 @@ use codes::Wanted;
 use std::alloc::{AllocError, Global};
 use wanted_characters::CodeSet;
 
-/// The codes that a cut is for.
+/// The codes that a cut is for, as they are gathered.
 pub struct Kept {
     /// Those that the line wants.
     pub wanted: CodeSet,
@@ -22,15 +22,54 @@ impl Drop for Kept {
 }
 
 impl Kept {
-    /// Returns both as a wanted set.
+    /// Returns them as wanted sets.
     ///
     /// # Errors
     /// `AllocError` where memory is refused.
-    pub fn into_wanted(self, alloc: Global) -> Result<Wanted, AllocError> {
-        let Kept { mut wanted, added } = self;
-        if !added.is_empty() {
-            wanted.add_all(alloc, &added)?;
+    pub fn into_wanted(self, alloc: Global) -> Result<WantedCodes, AllocError> {
+        let Kept { wanted, mut added } = self;
+        if added.is_empty() {
+            let all = wanted.into_wanted(alloc)?;
+            return Ok(WantedCodes { all, named: None });
         }
-        wanted.into_wanted(alloc)
+        added.add_all(alloc, &wanted)?;
+        let all = added.into_wanted(alloc)?;
+        let named = wanted.into_wanted(alloc)?;
+        Ok(WantedCodes {
+            all,
+            named: Some(named),
+        })
+    }
+}
+
+/// The codes that a cut is for, as wanted sets.
+pub struct WantedCodes {
+    all: Wanted,
+    // Those that the line wants, where others are kept besides.
+    named: Option<Wanted>,
+}
+
+// Written out, as that of `Kept`.
+impl Drop for WantedCodes {
+    fn drop(self) {
+        let WantedCodes {
+            all: _all,
+            named: _named,
+        } = self;
+    }
+}
+
+impl WantedCodes {
+    /// Returns all of them.
+    pub fn all(&self) -> &Wanted {
+        &self.all
+    }
+
+    /// Returns those that the line wants.
+    pub fn named(&self) -> &Wanted {
+        match &self.named {
+            Some(named) => named,
+            None => &self.all,
+        }
     }
 }

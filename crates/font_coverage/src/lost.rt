@@ -9,8 +9,16 @@ use font_theory::Kind;
 use sfnt_bytes::Tag;
 use std::alloc::{AllocError, Global};
 
-// The first character that most fonts map.
-const BLANK: u32 = 0x20;
+// The first code after the control characters and the space, and the space that does not break. Most fonts map these, also
+// those that have no other of the wanted characters.
+const AFTER_SPACE: u32 = 0x21;
+
+const HARD_SPACE: u32 = 0xA0;
+
+// What is said of a font that maps none of the characters that are asked for, or none but spaces.
+const NONE: &str = "maps none of the wanted characters";
+
+const NONE_BUT_SPACES: &str = "maps none of the wanted characters but spaces";
 
 /// What is asked of a font.
 #[derive(Clone, Copy)]
@@ -19,28 +27,66 @@ pub struct Asked<'a> {
     pub name: &'a str,
     /// The kind of cut.
     pub kind: Kind,
-    /// The wanted codes.
+    /// The codes that the cut is for.
     pub wanted: &'a Wanted,
+    /// Those of them that are asked for, and not added to others.
+    pub named: &'a Wanted,
     /// Whether glyphs are wanted by their numbers, too.
     pub has_numbers: bool,
     /// Whether all scripts are named that the font shapes, also those whose text can be read where nothing shapes it.
     pub says_more: bool,
 }
 
-// Returns whether codes are wanted, and a font maps none of them. The chart of a map takes longer than a look at one code.
-fn maps_none(alloc: Global, font: &Font<'_>, wanted: &Wanted) -> Result<bool, AllocError> {
-    if wanted.row_from(0).is_none() {
-        return Ok(false);
+// Returns the first code of a set that is no space and no control character.
+fn first_letter(wanted: &Wanted) -> Option<u32> {
+    let range = wanted.row_from(AFTER_SPACE)?;
+    let code = range.first.max(AFTER_SPACE);
+    if code != HARD_SPACE {
+        return Some(code);
     }
-    if let Some(range) = wanted.row_from(BLANK) {
-        if font.mapping().glyph(range.first.max(BLANK)) != 0 {
-            return Ok(false);
+    let range = wanted.row_from(HARD_SPACE + 1)?;
+    Some(range.first.max(HARD_SPACE + 1))
+}
+
+// Returns whether a font maps a code of a set that is no space and no control character.
+fn maps_letter(chart: &Chart<'_>, wanted: &Wanted) -> bool {
+    match chart.wanted_run(wanted, AFTER_SPACE) {
+        Some(run) if run.first == HARD_SPACE && run.last == HARD_SPACE => {
+            chart.wanted_run(wanted, HARD_SPACE + 1).is_some()
         }
+        Some(_) => true,
+        None => false,
     }
-    match Chart::of(alloc, font.mapping()) {
-        Ok(chart) => Ok(chart.wanted_run(wanted, 0).is_none()),
-        Err(_) => Err(AllocError),
+}
+
+// Returns the end of the line that says that a font maps none of the codes that are asked for, or none but spaces, where
+// that is so. The chart of a map takes longer than a look at one code.
+fn lacking(
+    alloc: Global,
+    font: &Font<'_>,
+    named: &Wanted,
+) -> Result<Option<&'static str>, AllocError> {
+    let letter = first_letter(named);
+    let is_mapped = match letter {
+        Some(code) => font.mapping().glyph(code) != 0,
+        None => false,
+    };
+    if is_mapped || named.row_from(0).is_none() {
+        return Ok(None);
     }
+    let Ok(chart) = Chart::of(alloc, font.mapping()) else {
+        return Err(AllocError);
+    };
+    if maps_letter(&chart, named) {
+        return Ok(None);
+    }
+    if chart.wanted_run(named, 0).is_none() {
+        return Ok(Some(NONE));
+    }
+    if letter.is_none() {
+        return Ok(None);
+    }
+    Ok(Some(NONE_BUT_SPACES))
 }
 
 // Returns the ranges of wanted codes that a font maps: all of them, or those that may need a shaper.
@@ -146,32 +192,64 @@ fn colours_of(tag: Tag) -> Option<&'static str> {
     }
 }
 
-// Adds a line that says that a font has colours, where it has.
-fn add_colours(text: &mut String, font: &Font<'_>, name: &str) -> Result<(), AllocError> {
+// Returns the name of the first table of a font that has colours of glyphs.
+fn first_colours(font: &Font<'_>) -> Option<&'static str> {
     for entry in font.tables().directory().dropped() {
         if let Some(table) = colours_of(entry.tag) {
-            let name = Shown(name);
-            write!(
-                text,
-                "fontcut: {name} has colours ({table}), which cuts drop\n"
-            )?;
-            return Ok(());
+            return Some(table);
         }
+    }
+    None
+}
+
+// Adds a line that says that a font has colours, where it has.
+fn add_colours(text: &mut String, font: &Font<'_>, name: &str) -> Result<(), AllocError> {
+    if let Some(table) = first_colours(font) {
+        let name = Shown(name);
+        write!(
+            text,
+            "fontcut: {name} has colours ({table}), which cuts drop\n"
+        )?;
+    }
+    Ok(())
+}
+
+/// Adds the lines of a report on what no cut keeps: a variation sequence that is wanted, and colours, where a font has
+/// them.
+///
+/// # Errors
+/// `AllocError` where memory is refused.
+pub(crate) fn add_never_kept(
+    text: &mut String,
+    font: &Font<'_>,
+    wanted: &Wanted,
+) -> Result<(), AllocError> {
+    if let Some((code, selector)) = wanted_sequence(font, wanted) {
+        write!(
+            text,
+            "sequence U+{code:X} U+{selector:X}: cuts drop variation sequences\n"
+        )?;
+    }
+    if let Some(table) = first_colours(font) {
+        write!(text, "colours {table}: cuts drop colours\n")?;
     }
     Ok(())
 }
 
 /// Returns a line for each thing that the wanted codes need of a font and a cut of a kind drops, or one that says that the
-/// font maps none of them.
+/// font maps none of those that are asked for, or none but spaces.
 ///
 /// # Errors
 /// `AllocError` where memory is refused.
 pub fn losses(alloc: Global, font: &Font<'_>, asked: Asked<'_>) -> Result<String, AllocError> {
-    if !asked.has_numbers && maps_none(alloc, font, asked.wanted)? {
-        let name = Shown(asked.name);
-        return format!(in alloc; "fontcut: {name} maps none of the wanted characters\n");
-    }
     let mut text = String::new(alloc);
+    if !asked.has_numbers {
+        if let Some(what) = lacking(alloc, font, asked.named)? {
+            let name = Shown(asked.name);
+            write!(text, "fontcut: {name} {what}\n")?;
+            return Ok(text);
+        }
+    }
     add_scripts(alloc, &mut text, font, asked)?;
     add_axes(alloc, &mut text, font, asked)?;
     add_sequence(&mut text, font, asked)?;
