@@ -89,6 +89,17 @@ fn has_font_of<F: HeldFiles, I, O>(
     }
 }
 
+// Returns whether the file that stands at a path may have a font of which a file of this size is a cut: where it is no
+// longer than that, and has the `cmap` of a cut, it is most often an earlier cut, and is not read.
+fn may_be_font_at<F: HeldFiles>(
+    files: &F,
+    path: &str,
+    stands: &fs::Metadata,
+    size: usize,
+) -> bool {
+    (size as u64) < stands.len() || !may_be_cut_at(files, path)
+}
+
 // Returns the fault that a command would write over a font, of which the file at a path is a cut.
 fn over_font<'a>(alloc: Global, writes: Writes, cut: &'a str, font: &str) -> Fault<'a> {
     match String::from_str(alloc, font) {
@@ -113,7 +124,10 @@ pub(crate) fn keep_font<'a, F: HeldFiles, I, O>(
     let Some(stands) = standing_file(system.files, system.alloc, line.out)? else {
         return Ok(());
     };
-    if is_file_at(system.files, line.font, &stands) || !has_font_of(system, line.out, file)? {
+    if is_file_at(system.files, line.font, &stands)
+        || !may_be_font_at(system.files, line.out, &stands, file.len())
+        || !has_font_of(system, line.out, file)?
+    {
         return Ok(());
     }
     Err(over_font(system.alloc, Writes::Cut, line.font, line.out))
@@ -132,7 +146,7 @@ fn keep_from_slice<'a, F: HeldFiles, I, O>(
     if is_file_at(system.files, font, &stands) {
         return Err(Fault::OverItself(font));
     }
-    if has_font_of(system, path, file)? {
+    if may_be_font_at(system.files, path, &stands, file.len()) && has_font_of(system, path, file)? {
         return Err(over_font(system.alloc, Writes::Slices, font, path));
     }
     Ok(())
