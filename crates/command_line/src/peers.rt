@@ -10,16 +10,34 @@ const GLYPHS: &str =
 
 const RECOMMENDED: &str = "nothing: a cut keeps glyph 0 and those that are asked for";
 
+const EVERYTHING: &str = "all keeps each character, and everything each glyph";
+
 const TABLES: &str = "nothing: which tables a cut keeps is fixed; fontcut show lists them";
+
+const ORDER: &str = "nothing: the order of the tables is fixed";
 
 const DROP: &str = "--layout --drop TABLES leaves out layout tables; the others are fixed";
 
 const LAYOUT: &str = "--layout keeps the layout tables whole, and the glyphs that GSUB puts";
 
-const INSTANCE: &str =
-    "nothing: a cut has the default, with --variable all; fontTools makes others";
+const FEATURES: &str =
+    "--layout keeps all features; fontcut-web prepare --features makes a font with fewer";
 
-const NO_HINTING: &str = "nothing: a cut keeps the hinting";
+const SCRIPTS: &str =
+    "--layout keeps all scripts; fontcut-web prepare --scripts makes a font with fewer";
+
+const KERN: &str = "--layout keeps the table kern, and --drop kern leaves it out";
+
+const MIRRORED: &str = "--text with --layout keeps the mirrored characters, too";
+
+const INSTANCE: &str =
+    "fontcut-web prepare --instance makes a font of it; cuts have the default, or with --variable all";
+
+const NO_HINTING: &str = "fontcut-web prepare --no-hinting makes a font without; a cut keeps it";
+
+const OUTLINES: &str = "nothing: a cut keeps outlines and variation data as they are";
+
+const VALUES: &str = "nothing: a cut keeps such values of its font";
 
 const CFF: &str = "nothing: fonts with CFF outlines are refused";
 
@@ -29,30 +47,52 @@ const GLYPH_NAMES: &str = "nothing: full cuts alone keep the names of glyphs";
 
 const NO_GLYPH_NAMES: &str = "--lean leaves out the names of glyphs";
 
-const NAMES: &str = "nothing: a cut keeps the table name as it is";
+const NAMES: &str =
+    "fontcut-web prepare --names least makes a font with few; a cut keeps the table name";
 
 const COLLECTION: &str = "nothing: collections are refused; fontTools takes a font out of one";
 
+const ONE_CUT: &str = "nothing: subset makes one cut; fontcut slice makes several";
+
+const TABLES_AS_TEXT: &str = "nothing: ttx of fontTools prints tables";
+
 // Each option, and what serves in its place.
-const PEERS: [(&str, &str); 30] = [
+const PEERS: [(&str, &str); 50] = [
     ("--flavor", TRUE_TYPE),
     ("--with-zopfli", TRUE_TYPE),
     ("--glyphs", GLYPHS),
     ("--glyphs-file", GLYPHS),
     ("--recommended-glyphs", RECOMMENDED),
+    ("--keep-everything", EVERYTHING),
     ("--drop-tables", DROP),
     ("--drop-tables+", DROP),
     ("--drop-tables-", DROP),
     ("--no-subset-tables", TABLES),
     ("--passthrough-tables", TABLES),
-    ("--layout-features", LAYOUT),
-    ("--layout-features+", LAYOUT),
-    ("--layout-features-", LAYOUT),
-    ("--layout-scripts", LAYOUT),
+    ("--hinting-tables", TABLES),
+    ("--canonical-order", ORDER),
+    ("--no-canonical-order", ORDER),
+    ("--layout-features", FEATURES),
+    ("--layout-features+", FEATURES),
+    ("--layout-features-", FEATURES),
+    ("--layout-scripts", SCRIPTS),
+    ("--layout-scripts+", SCRIPTS),
+    ("--layout-scripts-", SCRIPTS),
     ("--layout-closure", LAYOUT),
+    ("--harfbuzz-repacker", LAYOUT),
+    ("--legacy-kern", KERN),
+    ("--bidi-closure", MIRRORED),
     ("--variations", INSTANCE),
     ("--instance", INSTANCE),
     ("--no-hinting", NO_HINTING),
+    ("--set-overlaps-flag", OUTLINES),
+    ("--optimize", OUTLINES),
+    ("--recalc-bounds", VALUES),
+    ("--recalc-timestamp", VALUES),
+    ("--recalc-average-width", VALUES),
+    ("--recalc-max-context", VALUES),
+    ("--prune-unicode-ranges", VALUES),
+    ("--prune-codepage-ranges", VALUES),
     ("--desubroutinize", CFF),
     ("--legacy-cmap", CMAP),
     ("--symbol-cmap", CMAP),
@@ -64,7 +104,10 @@ const PEERS: [(&str, &str); 30] = [
     ("--obfuscate-names", NAMES),
     ("--font-number", COLLECTION),
     ("--face-index", COLLECTION),
+    ("--batch", ONE_CUT),
+    ("--xml", TABLES_AS_TEXT),
     ("--font-file", "FONT is the word after subset"),
+    ("--no-bidi-closure", "--exactly keeps the characters of texts alone"),
 ];
 
 // Returns what stands beside an option in some rows.

@@ -182,7 +182,7 @@ pub(crate) const SLICE: &str =
 pub(crate) const FOLDER: &str = "The path of a folder, which is made if it does not exist";
 
 pub(crate) const SLICES: &str =
-    "The file of slices: in each line a name and a list in the form of --unicodes; # starts a comment";
+    "The file of slices, in each line a name and a list in the form of --unicodes, or a preset by its name";
 
 pub(crate) const CSS: &str = "Prints CSS rules for the slices, as parts of the family FAMILY";
 
@@ -196,14 +196,16 @@ pub(crate) const LAYOUT_SLICES: &str = "Writes layout cuts, as subset --layout d
 pub(crate) const VARIABLE_SLICES: &str = "Writes variable cuts, as subset --variable does";
 
 pub(crate) const AFTER_SLICE: &str = "\
-A line of the file of slices: latin U+20-7E,U+A0-FF. In lean, layout and variable cuts the words gid5 and
-gid7-9 keep glyphs by their numbers. The font is tested once for all slices. A rule lists the codes of its
-slice that the font maps; a slice without any has no rule, and is named on standard error if it has no glyph
-numbers either.
+A line of the file of slices: latin U+20-7E,U+A0-FF; # starts a comment. Presets, such as web, arabic or
+japanese, are the files of share/fontcut/slices beside the folder of the program. In lean, layout and
+variable cuts the words gid5 and gid7-9 keep glyphs by their numbers. The font is tested once for all
+slices. A rule lists the codes of its slice that the font maps; a slice without any has no rule, and is
+named on standard error if it has no glyph numbers either.
 
 Examples:
   fontcut slice font.ttf slices --slices slices.txt --lean
   fontcut slice font.ttf slices --slices slices.txt --lean --css 'My Font' >slices/font.css
+  fontcut slice font.ttf slices --slices japanese --layout
 
 Exit status: 0 done; 1 the font is refused; 2 usage error, also in the file of slices;
 3 a file cannot be read or written";

@@ -6,8 +6,10 @@ use crate::wanted_glyphs::{listed_glyphs, names_glyphs};
 use crate::wanted_words::{add_files, add_lists, add_text_files, codes_of};
 use command_line::{CutKind, Subset};
 use font_coverage::Kept;
+use font_texts::Shown;
 use program_files::{HeldFiles, System};
 use std::alloc::{AllocError, Global};
+use std::fs;
 use std::io::Read;
 use wanted_characters::{CodeSet, FileKind, add_all_parts, add_texts};
 
@@ -168,4 +170,31 @@ pub(crate) fn names_set(line: &Subset<'_>) -> bool {
     let has_lists = !line.lists.is_empty() || !line.completed.is_empty();
     let has_files = !line.code_files.is_empty() || names_glyphs(line);
     has_texts || has_lists || has_files || !line.words.is_empty()
+}
+
+// Returns whether a text is the path of a file, and looks like one.
+fn is_path_of_file<F: HeldFiles>(files: &F, text: &str) -> bool {
+    let looks_so = text.contains('.') || text.contains('/');
+    looks_so && fs::metadata(files, text).is_ok_and(|stands| stands.is_file())
+}
+
+/// Adds a line for each text of a line that is the path of a file: that of the file was likely meant.
+///
+/// # Errors
+/// `AllocError` where memory is refused.
+pub(crate) fn add_paths_as_texts<F: HeldFiles>(
+    files: &F,
+    said: &mut String,
+    line: &Subset<'_>,
+) -> Result<(), AllocError> {
+    for &text in &line.texts {
+        if is_path_of_file(files, text) {
+            let path = Shown(text);
+            write!(
+                said,
+                "fontcut: {path} is a file: --text keeps the characters of its path, --text-file those in it\n"
+            )?;
+        }
+    }
+    Ok(())
 }

@@ -2,7 +2,7 @@
 ghost use Rattle.std.specs.Prelude.{◌≡◌, true};
 ghost use Rattle.streams.specs.Inlet.{inlet_fresh_of};
 
-use crate::choice::{Choice, add_all_files, names_set};
+use crate::choice::{Choice, add_all_files, add_paths_as_texts, names_set};
 use crate::dropped_tables::without_named;
 use crate::inputs::{inlet_at, input_name};
 use crate::kept_font::keep_font;
@@ -97,15 +97,15 @@ fn cut_and_report<'a, F: HeldFiles, I, O: Write + Copy + Drop>(
 }
 
 // Returns what is said of a cut without being asked.
-fn said_of_cut(
-    alloc: Global,
+fn said_of_cut<F: HeldFiles, I, O>(
+    system: &System<'_, F, I, O>,
     kind: Kind,
     line: &Subset<'_>,
     font: &Font<'_>,
     wanted: &WantedCodes,
 ) -> Result<String, AllocError> {
     if line.verbosity == Verbosity::Quiet {
-        return Ok(String::new(alloc));
+        return Ok(String::new(system.alloc));
     }
     let asked = Asked {
         name: input_name(line.font),
@@ -115,7 +115,9 @@ fn said_of_cut(
         has_numbers: names_glyphs(line),
         says_more: line.verbosity == Verbosity::Verbose,
     };
-    losses(alloc, font, asked)
+    let mut said = losses(system.alloc, font, asked)?;
+    add_paths_as_texts(system.files, &mut said, line)?;
+    Ok(said)
 }
 
 // Cuts a font for the codes and the glyphs that are wanted, and says what the cut drops that these need.
@@ -127,7 +129,7 @@ fn cut_and_say<'a, F: HeldFiles, I, O: Write + Copy + Drop>(
     wanted: &WantedCodes,
     numbers: &[u16],
 ) -> Result<Outcome, Fault<'a>> {
-    let said = said_of_cut(system.alloc, kind, line, font, wanted)?;
+    let said = said_of_cut(system, kind, line, font, wanted)?;
     send_cut(system, kind, line, font, wanted, numbers)?;
     Ok(Outcome::noting(true, said))
 }

@@ -15,9 +15,6 @@ use std::io;
 // The number of the system's error that a process has as many files open as it may, EMFILE.
 const TOO_MANY_FILES: i32 = 24;
 
-// The number of the system's error that there is no such file, ENOENT.
-const NO_SUCH_FILE: i32 = 2;
-
 // What to do if too many files are open.
 const IN_SEVERAL_CALLS: &str = "\
 fontcut: this is the limit of open files, which ulimit -n shows; cuts can be joined in several calls, and
@@ -62,6 +59,10 @@ const VARIABLE_JOIN: &str = "fontcut: variable cuts are joined by join --variabl
 // How a variable cut is made in place of another one.
 const MADE_VARIABLE: &str =
     "fontcut: other cuts have no variations: cut the font anew by subset --variable\n";
+
+// What is said of cuts that differ in the table of names or in a table of layout.
+const TWO_WAYS: &str =
+    "fontcut: these are cuts of two fonts, or of one that was prepared, or cut with --drop, in two ways\n";
 
 // The table of names of a font.
 const NAMES_TABLE: Tag = Tag(*b"name");
@@ -209,27 +210,24 @@ fn add_no_cut(
     })
 }
 
-// Returns the table in which the fonts of two files differ, where fonts that are prepared in different ways do.
-fn prepared_table(error: &RunError) -> Option<Tag> {
-    let RunError::Join(
-        JoinAllError::At {
-            step: _,
-            error: JoinError::DifferentTable(tag),
-        },
-    ) = error
-    else {
-        return None;
-    };
-    Some(*tag).filter(|tag| is_of_layout(*tag) || *tag == NAMES_TABLE)
+// Returns whether the fonts of two files differ in a table in which one font may differ that was prepared, or cut, in two
+// ways.
+fn may_be_of_one_font(error: &RunError) -> bool {
+    match error {
+        RunError::Join(
+            JoinAllError::At {
+                step: _,
+                error: JoinError::DifferentTable(tag),
+            },
+        ) => is_of_layout(*tag) || *tag == NAMES_TABLE,
+        _ => false,
+    }
 }
 
 // Adds why the fonts of two files are likely to differ, where that can be told.
 fn add_prepared(text: &mut String, error: &RunError) -> Result<(), AllocError> {
-    if let Some(tag) = prepared_table(error) {
-        write!(
-            text,
-            "fontcut: one font that was prepared in two ways may differ in {tag}: cut the same file for both\n"
-        )?;
+    if may_be_of_one_font(error) {
+        text.push_str(TWO_WAYS)?;
     }
     Ok(())
 }
@@ -377,8 +375,7 @@ fn add_over_itself(text: &mut String, font: &str) -> Result<(), AllocError> {
     Ok(())
 }
 
-// Adds why a file of slices is not read, and how the slices of a preset of this name are written to a file where there is
-// none.
+// Adds why a file of slices is not read, and that there is no preset of its name.
 fn add_unlisted(
     alloc: Global,
     text: &mut String,
@@ -386,13 +383,11 @@ fn add_unlisted(
     reason: Option<i32>,
 ) -> Result<(), AllocError> {
     add_reason(alloc, text, path, reason)?;
-    if reason == Some(NO_SUCH_FILE) {
-        let name = Shown(path);
-        write!(
-            text,
-            "fontcut: presets are files here: fontcut-web slices {name} >{name}.txt writes one\n"
-        )?;
-    }
+    let name = Shown(path);
+    write!(
+        text,
+        "fontcut: no preset of this name is installed: fontcut-web slices {name} prints it if there is one\n"
+    )?;
     Ok(())
 }
 

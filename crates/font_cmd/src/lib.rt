@@ -14,6 +14,7 @@ mod join_command;
 mod kept_font;
 mod outcome;
 mod output;
+mod presets;
 mod refused_file;
 mod report;
 mod showing;

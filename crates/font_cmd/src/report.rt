@@ -87,7 +87,7 @@ pub(crate) enum Fault<'a> {
     LongFile(&'a str),
     /// The file at this path cannot be read.
     Unread(&'a str),
-    /// The file of slices at this path, which may be the name of a preset, cannot be opened.
+    /// There is no file of slices at this path, and no preset of this name is installed.
     Unlisted(&'a str),
     /// The file at this path, or standard output, cannot be written.
     Unwritten(&'a str),

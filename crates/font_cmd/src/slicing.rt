@@ -7,6 +7,7 @@ use crate::inputs::{input_name, read_whole, source};
 use crate::kept_font::keep_from_slices;
 use crate::outcome::{Outcome, print};
 use crate::output::{before_packed, outlet, placed};
+use crate::presets::{may_be_preset, preset_source};
 use crate::report::{Fault, no_memory};
 use crate::slice_list::{Slice, read_lines, slices_of};
 use crate::wanted_glyphs::{first_past, listed};
@@ -297,19 +298,14 @@ fn slice_file<'a, F: HeldFiles, I, O: Write + Copy + Drop, W: Flushes>(
     }
 }
 
-// Returns whether a path has neither a folder nor an ending, as the name of a preset has none.
-fn may_be_preset(path: &str) -> bool {
-    !path.contains('/') && !path.contains('.')
-}
-
-// Reads the file of slices of a line.
+// Reads the file of slices of a line, or those of the preset that it names where there is no such file.
 fn list_of<'a, F: HeldFiles, I: Read + Copy + Drop, O>(
     system: &System<'a, F, I, O>,
     line: &Slices<'a>,
 ) -> Result<Vec<u8>, Fault<'a>> {
     let mut lines = match source(system, line.slices) {
         Ok(lines) => lines,
-        Err(Fault::Unread(path)) if may_be_preset(path) => return Err(Fault::Unlisted(path)),
+        Err(Fault::Unread(name)) if may_be_preset(system, name) => preset_source(system, name)?,
         Err(fault) => return Err(fault),
     };
     read_lines(system.alloc, line.slices, &mut lines)
