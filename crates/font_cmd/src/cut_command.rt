@@ -2,14 +2,14 @@
 ghost use Rattle.std.specs.Prelude.{◌≡◌, true};
 ghost use Rattle.streams.specs.Inlet.{inlet_fresh_of};
 
-use crate::choice::{Choice, add_all_files, add_paths_as_texts, names_set};
-use crate::dropped_tables::without_named;
-use crate::inputs::{inlet_at, input_name};
-use crate::kept_font::keep_font;
+use crate::files::dropped_tables::without_named;
+use crate::files::inputs::{inlet_at, input_name};
+use crate::files::kept_font::keep_font;
+use crate::files::output::{outlet, packed_out, placed};
+use crate::messages::report::Fault;
 use crate::outcome::Outcome;
-use crate::output::{outlet, packed_out, placed};
-use crate::report::Fault;
-use crate::wanted_glyphs::{EVERYTHING, keeps_all_glyphs, listed, names_glyphs};
+use crate::wanted::choice::{Choice, add_all_files, add_paths_as_texts, names_set};
+use crate::wanted::glyphs::{EVERYTHING, keeps_all_glyphs, listed, names_glyphs};
 use codes::Wanted;
 use command_line::{Subset, Verbosity};
 use commands::{CutRequest, RunError, run_subset_of_font};

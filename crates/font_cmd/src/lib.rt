@@ -3,25 +3,16 @@
 #![tactic(auto)]
 
 mod belongs_command;
-mod choice;
 mod cut_command;
 mod demo;
-mod details;
 mod dispatch;
-mod dropped_tables;
-mod inputs;
+mod files;
 mod join_command;
-mod kept_font;
+mod messages;
 mod outcome;
-mod output;
-mod presets;
-mod refused_file;
-mod report;
 mod showing;
-mod slice_list;
 mod slicing;
-mod wanted_glyphs;
-mod wanted_words;
+mod wanted;
 
 pub use crate::dispatch::{run_on_system, run_words};
 pub use commands::{RunError, run_check, run_join, run_show, run_subset};

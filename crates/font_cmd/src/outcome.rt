@@ -2,8 +2,8 @@
 ghost use Rattle.std.specs.Prelude.{◌≡◌, true};
 ghost use Rattle.streams.specs.Outlet.{fresh_of};
 
-use crate::details::{Details, add_details};
-use crate::report::{Fault, no_memory};
+use crate::messages::details::{Details, add_details};
+use crate::messages::report::{Fault, no_memory};
 use commands::RunError;
 use std::alloc::{AllocError, Global};
 use std::io::Write;

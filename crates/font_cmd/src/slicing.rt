@@ -2,15 +2,15 @@
 ghost use Rattle.std.specs.Prelude.{◌≡◌, true};
 ghost use Rattle.streams.specs.Outlet.{fresh_of};
 
-use crate::dropped_tables::without_named;
-use crate::inputs::{input_name, read_whole, source};
-use crate::kept_font::keep_from_slices;
+use crate::files::dropped_tables::without_named;
+use crate::files::inputs::{input_name, read_whole, source};
+use crate::files::kept_font::keep_from_slices;
+use crate::files::output::{before_packed, outlet, placed};
+use crate::messages::report::{Fault, no_memory};
 use crate::outcome::{Outcome, print};
-use crate::output::{before_packed, outlet, placed};
-use crate::presets::{may_be_preset, preset_source};
-use crate::report::{Fault, no_memory};
-use crate::slice_list::{Slice, read_lines, slices_of};
-use crate::wanted_glyphs::{first_past, listed};
+use crate::wanted::glyphs::{first_past, listed};
+use crate::wanted::presets::{may_be_preset, preset_source};
+use crate::wanted::slice_list::{Slice, read_lines, slices_of};
 use codes::Wanted;
 use command_line::Slices;
 use commands::RunError;

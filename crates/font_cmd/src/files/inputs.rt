@@ -3,7 +3,7 @@ ghost use Rattle.std.specs.Prelude.{◌≡◌, IfOk, true};
 ghost use Rattle.streams.specs.Inlet.{inlet_fresh_of};
 ghost use Rattle.commands.specs.JoinRun.{AreFresh};
 
-use crate::report::{Fault, no_memory};
+use crate::messages::report::{Fault, no_memory};
 use command_line::STANDARD;
 use commands::RunError;
 use program_files::{KeepsReason, System};

@@ -1,6 +1,6 @@
 //! What files are that are refused as fonts or not joined: they are read again. OpenType 1.9, Organization of an
 //! OpenType Font; WOFF File Format 1.0 and 2.0, the signature of a file.
-use crate::report::Fault;
+use crate::messages::report::Fault;
 use command_line::STANDARD;
 use commands::RunError;
 use font_coverage::{FileForm, cut_kind, file_form, is_cmap_of_cut};

@@ -1,5 +1,5 @@
 //! The glyphs that a line of `subset` or of a file of slices keeps by their numbers.
-use crate::report::{Fault, no_memory};
+use crate::messages::report::{Fault, no_memory};
 use command_line::Subset;
 use std::alloc::{AllocError, Global};
 use wanted_characters::{CodeSet, FileFault, FileKind, LAST_GLYPH, add_listed};

@@ -3,7 +3,7 @@ ghost use Rattle.std.specs.Prelude.{◌≡◌, IfOk, [], true};
 ghost use Rattle.std.specs.Io.Buffered.{writer_buffer};
 ghost use Rattle.streams.specs.Outlet.{fresh_of, writer_of};
 
-use crate::report::Fault;
+use crate::messages::report::Fault;
 use command_line::STANDARD;
 use program_files::{HeldFiles, OutWriter, System};
 use std::io::Write;

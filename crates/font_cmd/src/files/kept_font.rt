@@ -1,7 +1,7 @@
 //! The fonts that a line would replace by mistake: the font of which FONT, or one of FILES, is a cut, as where names of
 //! files are exchanged; and FONT itself by one of its slices.
-use crate::refused_file::{may_be_cut_at, read_again};
-use crate::report::{Fault, Writes, no_memory};
+use crate::messages::refused_file::{may_be_cut_at, read_again};
+use crate::messages::report::{Fault, Writes, no_memory};
 use command_line::{Join, STANDARD, Slices, Subset};
 use commands::without_tables;
 use font_coverage::{cut_kind, is_of_layout, kind_of_cut, may_be_cut};

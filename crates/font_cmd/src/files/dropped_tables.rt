@@ -1,5 +1,5 @@
 //! The tables of layout that a line drops from a font before it is cut.
-use crate::report::Fault;
+use crate::messages::report::Fault;
 use commands::{RunError, without_tables};
 use font_coverage::is_of_layout;
 use font_file::Font;

@@ -1,5 +1,5 @@
 //! Files of slices: in each line the name of a slice and the list of its codes and glyph numbers. This project's own.
-use crate::report::{Fault, LONGEST_LINE, no_memory};
+use crate::messages::report::{Fault, LONGEST_LINE, no_memory};
 use sfnt_bytes::MAX_FILE;
 use std::alloc::Global;
 use std::collections::BTreeSet;
