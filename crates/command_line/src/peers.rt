@@ -107,7 +107,10 @@ const PEERS: [(&str, &str); 50] = [
     ("--batch", ONE_CUT),
     ("--xml", TABLES_AS_TEXT),
     ("--font-file", "FONT is the word after subset"),
-    ("--no-bidi-closure", "--exactly keeps the characters of texts alone"),
+    (
+        "--no-bidi-closure",
+        "--exactly keeps the characters of texts alone",
+    ),
 ];
 
 // Returns what stands beside an option in some rows.

@@ -91,12 +91,7 @@ fn has_font_of<F: HeldFiles, I, O>(
 
 // Returns whether the file that stands at a path may have a font of which a file of this size is a cut: where it is no
 // longer than that, and has the `cmap` of a cut, it is most often an earlier cut, and is not read.
-fn may_be_font_at<F: HeldFiles>(
-    files: &F,
-    path: &str,
-    stands: &fs::Metadata,
-    size: usize,
-) -> bool {
+fn may_be_font_at<F: HeldFiles>(files: &F, path: &str, stands: &fs::Metadata, size: usize) -> bool {
     (size as u64) < stands.len() || !may_be_cut_at(files, path)
 }
 
