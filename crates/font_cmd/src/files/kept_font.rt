@@ -71,20 +71,24 @@ fn is_font_of(alloc: Global, file: &[u8], cut: &Font<'_>) -> Result<bool, AllocE
 }
 
 // Returns whether the file at a path has a font that is no cut, and of which the font of another file is a cut. It is read
-// only where that font may be a cut at all.
+// only where that font is a cut at all.
 fn has_font_of<F: HeldFiles, I, O>(
     system: &System<'_, F, I, O>,
     path: &str,
     cut: &[u8],
 ) -> Result<bool, AllocError> {
+    let alloc = system.alloc;
     if !may_be_cut(cut) {
         return Ok(false);
     }
-    let Ok(cut) = Font::open(cut) else {
+    let Ok(font) = Font::open(cut) else {
         return Ok(false);
     };
-    match read_again(system.files, system.alloc, path)? {
-        Some(file) => is_font_of(system.alloc, &file, &cut),
+    if !is_cut(alloc, cut, &font)? {
+        return Ok(false);
+    }
+    match read_again(system.files, alloc, path)? {
+        Some(file) => is_font_of(alloc, &file, &font),
         None => Ok(false),
     }
 }
