@@ -37,7 +37,7 @@ fn request_of<'w>(
     };
     CutRequest {
         kind,
-        closes: line.is_closed,
+        closes: line.is_closed && keeps_layout(kind),
         codes,
         glyphs,
     }
