@@ -5,8 +5,9 @@
 _fontcut_pdf_options() {
     case $1 in
     '') echo '--version --help' ;;
-    shrink) echo '--report --help' ;;
+    shrink) echo '--report --force --help' ;;
     merge) echo '-o --output --report --help' ;;
+    extract) echo '--force --help' ;;
     *) echo '--help' ;;
     esac
 }

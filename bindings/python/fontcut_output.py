@@ -1,5 +1,6 @@
 """What the commands `fontcut-pdf` and `fontcut-web` share: command lines whose options stand anywhere, files that are
-replaced when they are complete, lines on standard output, and a line on a terminal that says how far a command is."""
+replaced when they are complete, or not at all, lines on standard output, and a line on a terminal that says how far a
+command is."""
 from __future__ import annotations
 
 import argparse
@@ -8,6 +9,11 @@ import shutil
 import sys
 import tempfile
 from typing import Any
+
+import fontcut
+
+# What files of fonts begin with (OpenType 1.9, Organization of an OpenType Font).
+_FONTS = b"\0\1\0\0", b"OTTO", b"true", b"ttcf"
 
 
 class CommandParser(argparse.ArgumentParser):
@@ -60,6 +66,16 @@ def read(path: str) -> bytes:
     """The bytes of a file."""
     with open(path, "rb") as file:
         return file.read()
+
+
+def is_whole_font(path: str) -> bool:
+    """Whether a file has a font that is no cut, which nothing else makes again. One that fontcut refuses is one, too.
+    Raises `OSError` for a file that cannot be read, for then it may be one."""
+    data = read(path) if os.path.isfile(path) else b""
+    try:
+        return data[:4] in _FONTS and fontcut.form(data) is fontcut.Form.NO_CUT
+    except fontcut.Refused:
+        return True
 
 
 def print_line(line: str) -> None:

@@ -6,10 +6,10 @@
     used = fontcut_pdf.embed(pdf, font, glyphs={43: "H", 1354: "ffi"})     # of shaped text, with the text of each
     content = b"BT /F 12 Tf " + used.show_glyphs([43, 1354]) + b" Tj ET"
 
-    fontcut-pdf shrink [--report] IN OUT               fonts become lean cuts for the glyphs that the pages show
+    fontcut-pdf shrink [--report] [--force] IN OUT     fonts become lean cuts for the glyphs that the pages show
     fontcut-pdf merge [--report] -o OUT FILES..        the pages of all files; fonts that join become one font
     fontcut-pdf fonts FILE                             lists the embedded fonts
-    fontcut-pdf extract FILE FOLDER                    writes the lean cuts as font files
+    fontcut-pdf extract [--force] FILE FOLDER          writes the lean cuts as font files
 
 `python3 -m fontcut_pdf` runs the same command. pikepdf reads and writes the files. A font qualifies if it is a
 composite font that is used by glyph numbers: a Type 0 font with the encoding Identity-H or Identity-V, over a
@@ -17,10 +17,11 @@ CIDFontType2. With such a font the text of a page is glyph numbers, or numbers t
 cut keeps them, so no page changes. `shrink` also cuts simple TrueType fonts with a standard encoding. All other fonts
 stay as they are, and so do subsets in which another program has numbered the glyphs anew.
 
-OUT is replaced atomically. Exit status: 0 done; 1 a file is refused, and nothing was written; 2 usage error; 3 a file
-cannot be read or written. A file is refused if it is damaged or encrypted, has no embedded font, or would take more
-work than the limits allow; by `shrink` if it is signed, and by `merge` if it has layers that may be hidden; and if
-memory runs out. `fontcut-pdf --help` has the limits.
+OUT is replaced atomically. Without `--force`, `shrink` keeps a PDF file at OUT that is neither IN nor an output of this
+command, and `extract` keeps whole fonts. Exit status: 0 done; 1 a file is refused, and nothing was written; 2 usage
+error; 3 a file cannot be read or written. A file is refused if it is damaged or encrypted, has no embedded font, or
+would take more work than the limits allow; by `shrink` if it is signed, and by `merge` if it has layers that may be
+hidden; and if memory runs out. `fontcut-pdf --help` has the limits.
 """
 from .command import main
 from .common import Outcome, Refused

@@ -14,13 +14,14 @@ import pikepdf
 from fontcut_output import CommandParser, Progress, print_line, read, reason, write
 from pikepdf import Pdf
 
-from .common import Outcome, Refused, line, place
+from .common import Outcome, Refused, UsageError, line, place
 from .drawing import DEEPEST
 from .extracting import extract
 from .files import opened
 from .font import MOST_WORK
 from .joining import MOST_CLASSES
 from .merging import merge, not_kept
+from .replaced import check_extracted, check_shrunk, is_pdf
 from .shrinking import shrink
 from .streams import MOST_OF_CONTENT, MOST_OF_OTHER, MOST_OF_PROGRAM, MOST_OF_TEXTS
 from .survey import fonts
@@ -57,6 +58,9 @@ used by glyph numbers (Identity-H or Identity-V), and of simple TrueType fonts w
 their cmap and post. Subsets with glyph numbers of their own stay as they are. If it is not certain what a font shows,
 it stays as it is, and is named. If OUT would not be smaller, it is a copy of IN, and the fonts are reported as kept. A
 signed file is refused.
+
+OUT may be IN, or what an earlier run wrote. Another PDF file at OUT is kept, which is a usage error, unless --force is
+given.
 """
 
 _MERGE = f"""\
@@ -72,8 +76,8 @@ Not kept: {_NOT_KEPT}Titles and attachments that are not kept are named on stand
 
 _EXTRACT = """\
 Writes each lean cut that FILE has embedded to a file in FOLDER, named like the font, and prints its name. Files of
-these names are replaced. Those that `fonts` calls lean cuts for PDF join with each other, and the others with the lean
-cuts of fontcut.
+these names are replaced; if one is a whole font, nothing is written without --force. Those that `fonts` calls lean cuts
+for PDF join with each other, and the others with the lean cuts of fontcut.
 """
 
 
@@ -108,21 +112,37 @@ def _shrunk(source: str, progress: Progress) -> Tuple[List[Outcome], Optional[by
 def _run_shrink(given: argparse.Namespace) -> None:
     before = os.path.getsize(given.source)
     with Progress("fontcut-pdf") as progress:
-        outcomes, data = _shrunk(given.source, progress)
-        write(given.out, read(given.source) if data is None else data)
+        outcomes, made = _shrunk(given.source, progress)
+        data = read(given.source) if made is None else made
+        if not given.force:
+            check_shrunk(given.source, given.out, data)
+        write(given.out, data)
     for outcome in outcomes:
         if given.report:
             print_line(_say(outcome, given.source, outcome.page))
         elif outcome.expected:
             print(f"fontcut-pdf: {_say(outcome, given.source, outcome.page)}", file=sys.stderr)
     if given.report:
-        print_line(f"{given.out}: {os.path.getsize(given.out)} bytes of {before}{': kept' if data is None else ''}")
+        print_line(f"{given.out}: {os.path.getsize(given.out)} bytes of {before}{': kept' if made is None else ''}")
 
 
 def _title(path: str) -> str:
     """The name of a file, as the outline says it."""
     name = os.fsencode(os.path.basename(path)).decode("utf-8", "replace")
     return name[:-4] if name.lower().endswith(".pdf") else name
+
+
+def _take_output(given: argparse.Namespace) -> None:
+    """Takes the first file of a merge for OUT, as it was written once, where -o names none. Raises `UsageError` where
+    that is no file but OUT, or a PDF file."""
+    if given.out is not None:
+        return
+    given.out, *given.files = given.files
+    if not given.files:
+        raise UsageError(f"merge has no file but {given.out}: write merge -o OUT {given.out}")
+    if is_pdf(given.out):
+        raise UsageError(f"{given.out} is a PDF file already, and merge would replace it: write merge -o OUT "
+                         f"{given.out} .. to merge it, or merge -o {given.out} .. to replace it")
 
 
 def _say_not_kept(lost: Dict[str, List[str]]) -> None:
@@ -133,6 +153,7 @@ def _say_not_kept(lost: Dict[str, List[str]]) -> None:
 
 
 def _run_merge(given: argparse.Namespace) -> None:
+    _take_output(given)
     before = sum(map(os.path.getsize, given.files))
     pages: List[Tuple[str, int]] = []
     lost: Dict[str, List[str]] = {}
@@ -166,10 +187,11 @@ def _run_fonts(given: argparse.Namespace) -> None:
 
 def _run_extract(given: argparse.Namespace) -> None:
     with _named([given.file]), opened(given.file) as pdf:
-        found = extract(pdf)
+        found = [(os.path.join(given.folder, name), cut) for name, cut in extract(pdf)]
+    if not given.force:
+        check_extracted([path for path, _ in found])
     os.makedirs(given.folder, exist_ok=True)
-    for name, cut in found:
-        path = os.path.join(given.folder, name)
+    for path, cut in found:
         write(path, cut)
         print_line(f"{path}: {len(cut)} bytes")
 
@@ -184,14 +206,6 @@ def _named(paths: Sequence[str]) -> Iterator[None]:
         raise Refused(f"{place_of}: {refusal}") from refusal
 
 
-def _is_pdf(path: str) -> bool:
-    """Whether a path is that of a PDF file. Raises `OSError` where a file cannot be read, for then it may be one."""
-    if not os.path.isfile(path):
-        return False
-    with open(path, "rb") as file:
-        return b"%PDF-" in file.read(1024)
-
-
 def _add_listings(commands: Any) -> None:
     """Adds the commands that write no PDF file."""
     raw = argparse.RawDescriptionHelpFormatter
@@ -203,6 +217,7 @@ def _add_listings(commands: Any) -> None:
                                   formatter_class=raw, description=_EXTRACT)
     command.add_argument("file", metavar="FILE")
     command.add_argument("folder", metavar="FOLDER")
+    command.add_argument("--force", action="store_true", help="replace whole fonts")
     command.set_defaults(run=_run_extract)
 
 
@@ -217,6 +232,7 @@ def _parser() -> argparse.ArgumentParser:
     command.add_argument("source", metavar="IN")
     command.add_argument("out", metavar="OUT")
     command.add_argument("--report", action="store_true", help="say what became of each font")
+    command.add_argument("--force", action="store_true", help="replace whatever stands at OUT")
     command.set_defaults(run=_run_shrink)
     command = commands.add_parser("merge", help="put the pages of files into one, where fonts that join are one font",
                                   usage="fontcut-pdf merge [--report] -o OUT FILES..", description=_MERGE,
@@ -230,33 +246,15 @@ def _parser() -> argparse.ArgumentParser:
     return parser
 
 
-def _without_output(given: argparse.Namespace) -> Optional[str]:
-    """Takes the first file of a merge for OUT, as it was written once, where -o names none. Returns what is wrong then."""
-    given.out, *given.files = given.files
-    if not given.files:
-        return f"merge has no file but {given.out}: write merge -o OUT {given.out}"
-    if _is_pdf(given.out):
-        return (f"{given.out} is a PDF file already, and merge would replace it: write merge -o OUT {given.out} .. to "
-                f"merge it, or merge -o {given.out} .. to replace it")
-    return None
-
-
-def _run(given: argparse.Namespace) -> int:
-    if given.command == "merge" and given.out is None:
-        wrong = _without_output(given)
-        if wrong:
-            print(f"fontcut-pdf: {wrong}", file=sys.stderr)
-            return 2
-    given.run(given)
-    return 0
-
-
 def main(words: Optional[Sequence[str]] = None) -> int:
     """Runs the command, and returns its exit status."""
     given = _parser().parse_args(words)
     logging.disable()
     try:
-        return _run(given)
+        given.run(given)
+    except UsageError as error:
+        print(f"fontcut-pdf: {error}", file=sys.stderr)
+        return 2
     except Refused as refusal:
         print(f"fontcut-pdf: {refusal}", file=sys.stderr)
         return 1
@@ -273,3 +271,4 @@ def main(words: Optional[Sequence[str]] = None) -> int:
         # The line of progress is gone, and no file is half written.
         os.write(2, b"\n")
         return 130
+    return 0

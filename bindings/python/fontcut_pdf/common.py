@@ -41,6 +41,10 @@ class Refused(Exception):
         return text if self.page is None else f"{place(self.page)} {text}"
 
 
+class UsageError(Exception):
+    """The words of the command line are wrong, and nothing was written."""
+
+
 class Unclear(Exception):
     """What a part of a file says is not sure, and fonts that it uses stay as they are."""
 

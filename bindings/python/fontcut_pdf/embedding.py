@@ -30,10 +30,20 @@ def postscript_name(font: bytes) -> str:
     return "Font"
 
 
+def _tag(program: bytes) -> str:
+    """What begins the name of a font over a program that is made here: its bytes make the letters."""
+    letters = "".join(chr(ord("A") + byte % 26) for byte in hashlib.sha256(program).digest()[:6])
+    return f"{letters}+"
+
+
 def tagged(name: str, program: bytes) -> Name:
     """A name with a subset tag (ISO 32000-1, 9.6.4), which is made from the bytes of the program."""
-    tag = "".join(chr(ord("A") + byte % 26) for byte in hashlib.sha256(program).digest()[:6])
-    return Name(f"/{tag}+{re.sub(r'[^!-~]|[][()<>{}/%#]', '', without_tag(name)) or 'Font'}")
+    return Name(f"/{_tag(program)}{re.sub(r'[^!-~]|[][()<>{}/%#]', '', without_tag(name)) or 'Font'}")
+
+
+def is_tagged(name: str, program: bytes) -> bool:
+    """Whether a name has the subset tag that is made from the bytes of a program. Other programs make other tags."""
+    return name.startswith(_tag(program))
 
 
 def without_tag(name: str) -> str:
