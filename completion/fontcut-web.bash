@@ -17,7 +17,7 @@ _fontcut_web_options() {
     text)
         echo '--lean --layout --variable --full --text --shaped --features --check --css --display --strict --force --quiet --json --help'
         ;;
-    *) echo '--lean --layout --variable --full --help' ;;
+    *) echo '--lean --layout --variable --full --force --help' ;;
     esac
 }
 

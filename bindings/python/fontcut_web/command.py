@@ -13,7 +13,7 @@ from fontcut_output import CommandParser, Progress, print_line, read, reason, wr
 from . import texts, use
 from .common import DISPLAYS, LAYOUT_TABLES, SHAPED, Missing, MissingProgram, Refused, UsageError, need, part
 from .presets import PARTS, SIZES, languages, web
-from .replaced import check_name, check_read
+from .replaced import check_name, check_read, check_unpacked
 from .sets import AUTO, MOST_EQUAL, WEB
 
 INSTALL = "pip install 'fontcut[web]'"
@@ -153,6 +153,8 @@ Writes the font in a WOFF or WOFF2 file to OUT. fontcut itself does not read suc
 A cut that went through WOFF is the same file again. A cut that went through WOFF2 is no longer a cut, because WOFF2
 encodes outlines anew. --lean, --layout, --variable and --full cut it anew for all its characters: such cuts of one
 kind join with each other, and not with cuts that were never packed.
+
+If OUT is another whole font, nothing is written without --force.
 """
 
 
@@ -187,12 +189,13 @@ def _run_decode(given: argparse.Namespace) -> None:
     check_name(given.out, is_packed=False)
     data = read(given.file)
     try:
-        font = part("woff").unpacked(data)
-        if given.kind:
-            font = fontcut.cut(font, fontcut.codes(font), kind=given.kind)
+        whole = part("woff").unpacked(data)
+        font = fontcut.cut(whole, fontcut.codes(whole), kind=given.kind) if given.kind else whole
         name = _name_of(font)
     except (fontcut.Refused, Refused) as refusal:
         raise Refused(f"{given.file}: {refusal}") from refusal
+    if not given.force:
+        check_unpacked(given.out, [whole, font])
     write(given.out, font)
     print_line(f"{given.out}: {_joins(name, data[:4] == b'wOF2')}")
 
@@ -356,12 +359,14 @@ def _add_site(commands: argparse._SubParsersAction[CommandParser]) -> None:
 def _add_decode(commands: argparse._SubParsersAction[CommandParser]) -> None:
     command = commands.add_parser("decode", help="unpack a WOFF or WOFF2 file", description=_DECODE,
                                   formatter_class=_RAW, epilog=_STATUS,
-                                  usage="fontcut-web decode FILE OUT [--lean | --layout | --variable | --full]")
+                                  usage="fontcut-web decode FILE OUT [--lean | --layout | --variable | --full] "
+                                        "[--force]")
     command.add_argument("file", metavar="FILE")
     command.add_argument("out", metavar="OUT")
     _kinds(command, None, lean="write the lean cut for all its characters",
            layout="write the layout cut for all its characters",
            variable="write the variable cut for all its characters", full="write the full cut for all its characters")
+    command.add_argument("--force", action="store_true", help="write over another whole font")
     command.set_defaults(run=_run_decode)
 
 

@@ -6,7 +6,7 @@ import os
 from typing import Iterable, Optional, Sequence
 
 import fontcut
-from fontcut_output import read
+from fontcut_output import is_whole_font, read
 
 from .common import KINDS, WOFF, WOFF2, UsageError
 
@@ -50,6 +50,13 @@ def check_font(source: str, font: fontcut.Font, out: str) -> None:
         raise UsageError(f"{out} is the font, and {source} a cut of it: nothing was written")
     if _is_packed(source):
         raise UsageError(f"{out} is a font, and {source} may be a cut of it: --force writes")
+
+
+def check_unpacked(out: str, fonts: Sequence[bytes]) -> None:
+    """Raises `UsageError` where OUT has a font that is no cut, and is none of these, which a command makes of a file and
+    can make again."""
+    if is_whole_font(out) and read(out) not in fonts:
+        raise UsageError(f"{out} is a font already, and no cut: name another file; --force replaces {out}")
 
 
 def check_read(paths: Sequence[str], written: Iterable[str]) -> None:
