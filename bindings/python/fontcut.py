@@ -37,8 +37,9 @@ A variable cut is a layout cut that keeps variations: the layout tables are whol
 MVAR, STAT and VVAR, and gvar for its glyphs. Variable cuts join with variable cuts. A call for them also refuses a font
 by 5 or 6 for one of these tables, and by 28 if gvar cannot be read.
 
-`kind` is the kind of a cut: `"full"` (the default), `"lean"`, `"layout"` or `"variable"`. `lean=True` is the old word
-for `kind="lean"`: it is deprecated, and the next version removes it.
+`kind` is the kind of a cut: `"full"` (the default), `"lean"`, `"layout"` or `"variable"`. Without a kind `belongs` asks
+for a cut of any kind, and `join` joins full cuts, as the program does. `lean=True` is the old word for
+`kind="lean"`: it is deprecated, and the next version removes it.
 
 `gids` asks for glyphs by their numbers, beside characters or without any: `[43, 72]`, `range(3, 9)`, what `glyphs` or a
 shaper returns, or `"all"`. They are for lean, layout and variable cuts. `fontcut.ranges("all")` with `gids="all"` asks
@@ -570,7 +571,7 @@ def kept_glyphs(font: Union[Bytes, Font], *, kind: str = "full") -> List[int]:
 
 def join(cuts: Sequence[Bytes], *, lean: bool = False, kind: Optional[str] = None) -> bytes:
     """The join of cuts of one font, of a kind: the cut of that font for the characters and the glyphs of all of them,
-    whatever their order is.
+    whatever their order is. Full cuts are joined if no kind is named.
 
     Raises `Refused`, with the index of the file, if one is not a cut, or not a cut of the same font as those before."""
     files, number = [_File(one) for one in cuts], _kind(kind, lean)
@@ -673,18 +674,34 @@ def is_cut(font: Bytes, *, lean: bool = False, kind: Optional[str] = None) -> bo
     return _form(font, _kind(kind, lean)) is Form.CURRENT
 
 
-def belongs(cut: Bytes, font: Union[Bytes, Font], *, lean: bool = False, kind: Optional[str] = None) -> bool:
-    """Whether a file is a cut of a font for some characters and glyphs, of a kind: a full one, in either form, if no
-    kind is named. Raises `Refused` if one of the two is refused: file 0 is the cut, and file 1 the font."""
-    first, second = _File(cut), _File(font)
-    answer = _library().fontcut_belongs(_kind(kind, lean), first.at, first.length, second.at, second.length)
+def _belongs(cut: _File, font: _File, kind: int) -> bool:
+    """Whether a file is a cut of a font, of a kind, by one call."""
+    answer = _library().fontcut_belongs(kind, cut.at, cut.length, font.at, font.length)
     return _done(answer, several=True).detail == 1
 
 
+def _belongs_if_accepted(cut: _File, font: _File, kind: int) -> bool:
+    """The same, of a kind for which tables may be refused that full cuts do not read."""
+    with contextlib.suppress(Refused):
+        return _belongs(cut, font, kind)
+    return False
+
+
+def belongs(cut: Bytes, font: Union[Bytes, Font], *, lean: bool = False, kind: Optional[str] = None) -> bool:
+    """Whether a file is a cut of a font for some characters and glyphs, of a kind, or of any if none is named. A full
+    cut may be in either form. Raises `Refused` if one of the two is refused: file 0 is the cut, and file 1 the font."""
+    first, second = _File(cut), _File(font)
+    if kind is not None or lean:
+        return _belongs(first, second, _kind(kind, lean))
+    others = (number for number in _KINDS.values() if number != _KINDS["full"])
+    return _belongs(first, second, _KINDS["full"]) or any(
+        _belongs_if_accepted(first, second, number) for number in others)
+
+
 def is_cut_of(cut: Bytes, font: Bytes) -> bool:
-    """The old name of `belongs`, which the next version removes."""
-    warnings.warn("is_cut_of is deprecated: call belongs", DeprecationWarning, stacklevel=2)
-    return belongs(cut, font)
+    """The old name of `belongs` for full cuts, which the next version removes."""
+    warnings.warn('is_cut_of is deprecated: call belongs with kind="full"', DeprecationWarning, stacklevel=2)
+    return belongs(cut, font, kind="full")
 
 
 def codes(font: Union[Bytes, Font]) -> List[Range]:

@@ -462,6 +462,7 @@ class Asking(unittest.TestCase):
         self.assertTrue(fontcut.is_cut(cut))
         self.assertFalse(fontcut.is_cut(cut, kind="lean"))
         self.assertTrue(fontcut.belongs(cut, NAMED))
+        self.assertTrue(fontcut.belongs(cut, NAMED, kind="full"))
         self.assertFalse(fontcut.belongs(cut, NAMED, kind="lean"))
         self.assertFalse(fontcut.belongs(NAMED, cut))
         self.assertEqual(fontcut.codes(cut), [(0x41, 0x42), (0xC1, 0xC1)])
@@ -472,7 +473,8 @@ class Asking(unittest.TestCase):
         self.assertTrue(fontcut.is_cut(lean))
         self.assertTrue(fontcut.is_cut(lean, kind="lean"))
         self.assertTrue(fontcut.belongs(lean, BASE6, kind="lean"))
-        self.assertFalse(fontcut.belongs(lean, BASE6))
+        self.assertTrue(fontcut.belongs(lean, BASE6))
+        self.assertFalse(fontcut.belongs(lean, BASE6, kind="full"))
         self.assertEqual(fontcut.cut(fontcut.cut(BASE6, ACCENTED), ACCENTED, kind="lean"), lean)
         by_number = fontcut.cut(BASE6, LETTERS, kind="lean", gids=[3])
         self.assertIs(fontcut.form(by_number), fontcut.Form.LEAN)
@@ -487,6 +489,8 @@ class Asking(unittest.TestCase):
         self.assertFalse(fontcut.is_cut(WITH_GSUB, kind="layout"))
         self.assertTrue(fontcut.belongs(cut, WITH_GSUB, kind="layout"))
         self.assertFalse(fontcut.belongs(cut, WITH_GSUB, kind="lean"))
+        self.assertTrue(fontcut.belongs(cut, WITH_GSUB))
+        self.assertFalse(fontcut.belongs(WITH_GSUB, cut))
         self.assertIs(fontcut.form(cut), fontcut.Form.LAYOUT)
 
     def test_variable_cuts_are_told(self) -> None:
@@ -496,6 +500,7 @@ class Asking(unittest.TestCase):
         self.assertFalse(fontcut.is_cut(WITH_GVAR, kind="variable"))
         self.assertTrue(fontcut.belongs(cut, WITH_GVAR, kind="variable"))
         self.assertFalse(fontcut.belongs(cut, WITH_GVAR, kind="layout"))
+        self.assertTrue(fontcut.belongs(cut, fontcut.Font(WITH_GVAR)))
         self.assertIs(fontcut.form(cut), fontcut.Form.VARIABLE)
 
     def assert_refused(self, calls: List[Tuple[Callable[[], object], Optional[int]]], number: int, text: str) -> None:
@@ -539,6 +544,15 @@ class Asking(unittest.TestCase):
         with self.assertRaises(fontcut.Refused) as caught:
             fontcut.belongs(bad, b"", kind="variable")
         self.assertEqual((caught.exception.number, caught.exception.file), (2, 1))
+
+    def test_cuts_of_any_kind_belong(self) -> None:
+        """A table that is refused for one kind leaves the others, and a file that is refused for all is refused."""
+        bad = WITH_GVAR.replace(GVAR, b"\0\2" + GVAR[2:])
+        for kind in ("full", "lean", "layout"):
+            self.assertTrue(fontcut.belongs(fontcut.cut(bad, ALL, kind=kind), bad))
+        self.assertFalse(fontcut.belongs(fontcut.cut(WITH_GVAR, ALL, kind="variable"), bad))
+        self.assert_refused([(lambda: fontcut.belongs(BASE6, b""), 1), (lambda: fontcut.belongs(b"", BASE6), 0)], 2,
+                            "truncated")
 
     def test_old_names(self) -> None:
         cut = fontcut.cut(BASE6, LETTERS)

@@ -114,11 +114,14 @@ export function closure(font: Bytes | Font, wanted: Characters & Glyphs & Exactl
  * cuts those that have an outline, metrics or variation data, and the components of all these.
  */
 export function keptGlyphs(font: Bytes | Font, options?: OfKind): Uint16Array;
-/** The join of cuts of one font, all of one kind: that font's cut for the characters and glyphs of all of them. */
+/**
+ * The join of cuts of one font, all of one kind, which is the full one if none is named: that font's cut for the
+ * characters and glyphs of all of them.
+ */
 export function join(cuts: Iterable<Bytes | Font>, options?: OfKind): Uint8Array;
 /** In which form a font is a cut: 'old' is the first profile of the format. */
 export function cutForm(font: Bytes | Font, options?: OfKind): 'none' | 'current' | 'old';
-/** Whether a file is a cut of a font for some characters and glyphs. */
+/** Whether a file is a cut of a font for some characters and glyphs, of a kind: a full one if none is named. */
 export function belongs(cut: Bytes | Font, font: Bytes | Font, options?: OfKind): boolean;
 /**
  * The code points that a list of ranges names, as ranges in ascending order that do not touch. It takes what the program
