@@ -83,10 +83,11 @@ auto and equal are for a font. Without --font, the sizes of slices by use count 
 """
 
 _TEXT = """\
-Writes the cut of FONT for the characters that HTML pages show to OUT: their text without scripts and styles, and
-the attributes alt, placeholder, title and value. If OUT ends in .woff2, it is WOFF2. What a style sheet or a script
-adds is not known (content, list numbers, text-transform): add it with --text. With --layout or --variable the cut
-also has the characters that a shaper takes for these, as with fontcut subset --layout.
+Writes the cut of FONT for the characters that HTML pages draw to OUT: their text without scripts, styles and titles,
+and the attributes alt and placeholder, label in lists, and value in fields and on buttons. If OUT ends in .woff2, it is
+WOFF2. What a style sheet or a script adds is not known (content, list numbers, text-transform): add it with --text.
+With --layout or --variable the cut also has the characters that a shaper takes for these, as with fontcut subset
+--layout.
 
 With --shaped, hb-shape of HarfBuzz shapes the text, and the cut has just the glyphs that come: it is exact, and much
 smaller. Lines, words and all pieces of words are shaped, with and without ligatures, in each language that a page

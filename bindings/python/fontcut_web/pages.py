@@ -9,9 +9,10 @@ from typing import Dict, List, Mapping, NamedTuple, Optional, Set, Tuple
 
 from .common import Refused
 
-# Elements whose text is not shown, and attributes whose values are.
-_SILENT = "script", "style"
-_SHOWN = "alt", "placeholder", "title", "value"
+# Elements whose text is not drawn in a page. Browsers show titles beside it, in a font of the system.
+_SILENT = "script", "style", "title"
+# Types of inputs whose value is not drawn.
+_UNDRAWN = "hidden", "checkbox", "radio", "range", "color", "file", "image"
 # Elements that are parts of a line, so that a word may go on across their ends.
 _INLINE = frozenset("""a abbr acronym b bdi bdo big cite code data del dfn em font i ins kbd label mark q rp rt ruby s
     samp small span strike strong sub sup time tt u var wbr""".split())
@@ -30,6 +31,16 @@ _BROWSERS = {"iso8859-1": "windows-1252", "ascii": "windows-1252", "utf-16": "ut
 _SOFT_HYPHEN, _HYPHENS, _BLANKS = "\u00ad", "-\u2010", set("\t\n\f\r")
 
 
+def _is_drawn(name: str, tag: str, kind: str, is_listed: bool) -> bool:
+    """Whether an attribute of an element is drawn: for a picture, in a field, on a button or in a list. An input has a
+    type, and options that are listed may be chosen for a field."""
+    if tag == "input" and kind == "hidden":
+        return False
+    if name == "value":
+        return tag == "li" or tag == "option" and is_listed or tag == "input" and kind not in _UNDRAWN
+    return name in ("alt", "placeholder") or name == "label" and tag in ("option", "optgroup")
+
+
 def lines_of(text: str) -> List[str]:
     """The lines of a text that show something, each once, with blanks as they are shown and no control characters."""
     lines = (" ".join(filter(None, _CONTROLS.split(line))) for line in text.split("\n"))
@@ -37,7 +48,7 @@ def lines_of(text: str) -> List[str]:
 
 
 class Page(NamedTuple):
-    """What is read of a page: the text that it shows; the same by its blocks, each with blanks as they are shown; the
+    """What is read of a page: the text that it draws; the same by its blocks, each with blanks as they are shown; the
     languages that it names; its style sheets, and the addresses of others; `rtl` if a part goes from right to left, and
     `override` if one does whatever its letters are; which scripts and fields it has that write other text."""
 
@@ -57,18 +68,23 @@ class _Reader(HTMLParser):
         super().__init__(convert_charrefs=True)
         self.texts: List[str] = []
         self.silent: Optional[str] = None
+        self.is_listing = False
         self.running: List[str] = []
         self.found: Dict[str, List[str]] = {"languages": [], "styles": [], "links": [], "writers": []}
         self.directions: Set[str] = set()
 
     def handle_starttag(self, tag: str, attrs: List[Tuple[str, Optional[str]]]) -> None:
         given = {name: value or "" for name, value in attrs}
-        is_hidden = tag == "input" and given.get("type", "").lower() == "hidden"
-        shown = [value for name, value in attrs if name in _SHOWN and value and not is_hidden]
-        self.texts += shown
-        self.running += [*(f"\n{text}\n" for text in shown), *([] if tag in _INLINE else ["\n"])]
+        kind = given.get("type", "").lower()
+        drawn = [value for name, value in attrs if value and _is_drawn(name, tag, kind, self.is_listing)]
+        self.texts += drawn
+        self.running += [*(f"\n{text}\n" for text in drawn), *([] if tag in _INLINE else ["\n"])]
+        self.is_listing = self.is_listing or tag == "datalist"
         if tag in _SILENT:
             self.silent = tag
+        if tag == "title":
+            # There is no element within it (HTML, RCDATA state): what looks like a tag is text.
+            self.set_cdata_mode(tag)
         self._find(tag, given)
 
     def _find(self, tag: str, given: Mapping[str, str]) -> None:
@@ -90,6 +106,11 @@ class _Reader(HTMLParser):
     def handle_endtag(self, tag: str) -> None:
         if tag not in _INLINE:
             self.running.append("\n")
+        if tag == "title":
+            # One that ends with its start, as in SVG, would silence what follows.
+            self.clear_cdata_mode()
+        if tag == "datalist":
+            self.is_listing = False
         if tag == self.silent:
             self.silent = None
 
