@@ -13,7 +13,7 @@ const HELP = `fontcut in node: subsets that keep glyph ids, and their joins
 
   fontcut subset FONT OUT [--lean | --layout | --variable] [--text TEXT] [--text-file FILE] [--unicodes LIST]
                           [--codes-file FILE] [--gids LIST] [--exactly] [--no-layout-closure] [--force] [WORDS..]
-  fontcut join [--lean | --layout | --variable] -o OUT FILES..
+  fontcut join [--lean | --layout | --variable] [--force] -o OUT FILES..
   fontcut belongs CUT FONT [--full | --lean | --layout | --variable]
   fontcut check FONT
   fontcut codes FONT [--glyphs]
@@ -29,6 +29,7 @@ const FLAG = { type: 'boolean' }, LIST = { type: 'string', multiple: true };
 const KINDS = { lean: FLAG, layout: FLAG, variable: FLAG };
 const ALL_KINDS = ['full', ...Object.keys(KINDS)];
 const SHAPED = ['layout', 'variable'];
+const LAYOUT_TABLES = ['BASE', 'GDEF', 'GPOS', 'GSUB', 'kern'];
 const NO_GLYPH = 102;
 const COMMANDS = {
     subset: {
@@ -158,7 +159,9 @@ function runSubset(given, [font, out, ...words]) {
     const unicodes = [...codesOfTexts(given, kind), ...codesOfLists(given, words)];
     const gids = isAll ? 'all' : gidsOf(given.gids ?? []);
     const data = read(font);
-    keepFont(given, data, font, out);
+    if (standsApart(given, out, [font])) {
+        keepFont(given, out, font, data, `subset ${out} OUT cuts the font`);
+    }
     write(out, cutOf(data, { unicodes, gids, kind, layoutClosure: !given['no-layout-closure'] }));
 }
 
@@ -178,17 +181,50 @@ function kindWhere(isSo, kinds = ALL_KINDS) {
 
 const isCut = (data) => kindWhere((kind) => cutForm(data, { kind }) !== 'none') !== undefined;
 
-// Fails where OUT has the font of which FONT is a cut: the names of two files were exchanged.
-function keepFont(given, data, font, out) {
-    const isOther = out !== '-' && !given.force && existsSync(out) && statSync(out).isFile() &&
-        (font === '-' || realpathSync(font) !== realpathSync(out));
-    if (!isOther || !isCut(data)) {
+const isFile = (path) => path !== '-' && existsSync(path) && statSync(path).isFile();
+
+// Whether a file stands at OUT that a line neither reads nor is forced to replace.
+function standsApart(given, out, files) {
+    const isOut = (file) => isFile(file) && realpathSync(file) === realpathSync(out);
+    return !given.force && isFile(out) && !files.some(isOut);
+}
+
+// The places of the records of the tables of a font, by their tags.
+function recordsOf(font) {
+    const count = font.length < 12 ? 0 : Math.min(font.readUInt16BE(4), Math.floor((font.length - 12) / 16));
+    const places = Array.from({ length: count }, (_, i) => 12 + 16 * i);
+    return new Map(places.map((at) => [font.toString('latin1', at, at + 4), at]));
+}
+
+// A font as if it lacked the tables of layout that a cut lacks, which may be one without them.
+function withTablesOf(font, cut) {
+    const made = Buffer.from(font), kept = recordsOf(cut);
+    for (const [tag, at] of recordsOf(font)) {
+        made.write(LAYOUT_TABLES.includes(tag) && !kept.has(tag) ? '    ' : tag, at, 'latin1');
+    }
+    return made;
+}
+
+// What stands at a path, or undefined where it cannot be read.
+function standing(path) {
+    try {
+        return readFileSync(path);
+    } catch {
+        return undefined;
+    }
+}
+
+// Fails where OUT has the font of which the file at a path is a cut: the names of files were exchanged.
+function keepFont(given, out, path, data, advice) {
+    const stands = isCut(data) ? standing(out) : undefined;
+    if (!stands || isCut(stands)) {
         return;
     }
-    const stands = read(out);
-    if (!isCut(stands) && kindWhere((kind) => belongs(data, stands, { kind }))) {
-        throw new Failed(2, `${out} is the font, and ${font} a cut of it: nothing was written\n` +
-            `fontcut: subset ${out} OUT cuts the font; --force replaces ${out}`);
+    const font = withTablesOf(stands, data);
+    if (kindWhere((kind) => belongs(data, font, { kind }))) {
+        const cut = path === '-' ? 'standard input' : path;
+        const more = given.quiet ? '' : `\nfontcut: ${advice}; --force replaces ${out}`;
+        throw new Failed(2, `${out} is the font, and ${cut} a cut of it: nothing was written${more}`);
     }
 }
 
@@ -218,8 +254,12 @@ function runJoin(given, words) {
         throw new Failed(2, `${out} would be replaced by one file: write join -o ${out} ${files[0]}`);
     }
     checkName(given, out);
-    const kind = kindOf(given);
-    write(out, join(files.map(read), { kind }));
+    const kind = kindOf(given), cuts = files.map(read);
+    const first = files.findIndex(isFile);
+    if (first >= 0 && standsApart(given, out, files)) {
+        keepFont(given, out, files[first], cuts[first], 'name another OUT');
+    }
+    write(out, join(cuts, { kind }));
 }
 
 function runBelongs(given, words) {
