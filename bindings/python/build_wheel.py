@@ -14,6 +14,8 @@ import tomllib
 import zipfile
 from typing import Dict, List, Mapping, NoReturn, Optional, Tuple, TypedDict
 
+from fontcut_web.preset_files import preset_files
+
 HERE = os.path.dirname(os.path.abspath(__file__))
 # A module of one file cannot say that it has types (PEP 561), so it becomes a package in the wheel. The commands of the
 # wheel are a module of it, which finds what these need, or says what to install.
@@ -22,6 +24,8 @@ SHARED = "fontcut_needed", "fontcut_output"
 PACKAGES = "fontcut_pdf", "fontcut_web"
 # Data of a package: presets of slices.
 LISTS = "fontcut_web/lists"
+# Where the program looks for presets by their names.
+SHARED_DATA = "fontcut/share/fontcut"
 LIBRARY, PROGRAM = "fontcut/libfontcut.so.0", "fontcut/bin/fontcut"
 # No installer knows a platform of an older C library by its number.
 OLDEST = 17
@@ -132,6 +136,8 @@ def packages() -> Dict[str, bytes]:
         for name in os.listdir(os.path.join(HERE, folder)):
             if name.endswith((".py", ".txt", ".json")):
                 held[f"{folder}/{name}"] = text_of(os.path.join(folder, name)).encode()
+    held[f"{SHARED_DATA}/NOTICE.txt"] = held[f"{LISTS}/NOTICE.txt"]
+    held.update({f"{SHARED_DATA}/slices/{name}.txt": text.encode() for name, text in preset_files().items()})
     return held
 
 

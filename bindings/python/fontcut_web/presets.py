@@ -58,6 +58,12 @@ def _languages() -> Dict[str, _Said]:
     return said
 
 
+def unicode_version() -> str:
+    """The version of Unicode whose files the lists were made from."""
+    found: List[str] = re.findall(r"files of Unicode ([0-9.]*[0-9])", _text("scripts.txt"))
+    return found[0]
+
+
 def languages() -> List[str]:
     """The names of the languages whose characters are in the order of their use."""
     return list(_languages())

@@ -52,13 +52,18 @@ def fonts_and_slices(given: argparse.Namespace) -> Tuple[List[str], List[Asked]]
     return fonts, wanted
 
 
+def listed(codes: Sequence[int], wanted: Sequence[Asked]) -> List[str]:
+    """The lines of slices of some characters, as the program reads them: a name and ranges in each."""
+    return [f"{one.name} {range_words(one.codes)}" for one in divided(codes, wanted)]
+
+
 def run(given: argparse.Namespace) -> None:
-    """Prints slices: a name and ranges in each line."""
+    """Prints slices."""
     wanted = asked(given.slices, order_of(given.order) if given.order else [])
     if given.font:
         need("fontTools")
         codes = codes_of(accepted(given.font))
     else:
         codes = named_codes(wanted)
-    for one in divided(codes, wanted):
-        print_line(f"{one.name} {range_words(one.codes)}")
+    for line in listed(codes, wanted):
+        print_line(line)
