@@ -118,6 +118,11 @@ class System:
                 "HOME=/tmp", "LC_ALL=C.UTF-8", "PYTHONDONTWRITEBYTECODE=1", *words]
         return run(*self.entering(), *line)
 
+    def run_with_proc(self, *words: str) -> Ran:
+        """Runs words there that look into /proc, which is mounted for them alone."""
+        return run("unshare", "--mount", "sh", "-euc", 'mount --rbind /proc "$1/proc"; exec chroot "$@"', "sh", self.root,
+                   *words)
+
     def sh(self, name: str, line: str, **how: str) -> bytes:
         """Runs a line of the shell there, which has to end well."""
         status, told, err = self.run("sh", "-euc", line, **how)
@@ -189,6 +194,9 @@ class ForeignSystem(System):
         status, _, err = run(*self.entering(), "sh", "-ec", "\n".join(lines), "sh", self.path("/proc"))
         return err.decode().strip() if status else ""
 
+    def run_with_proc(self, *words: str) -> Ran:
+        return self.run(*words)
+
     def entering(self) -> list[str]:
         assert self.holder, "the namespaces are not there"
         return ["nsenter", "--user", "--mount", "--preserve-credentials", "-t", str(self.holder.pid), "--"]
@@ -242,6 +250,13 @@ def recipes_there(name: str, system: System, wanted: Mapping[str, Optional[bytes
     same(f"{name}: the files of the recipes", sorted(wanted), sorted(found))
     odd = [file for file in wanted if found.get(file) != wanted[file]]
     same(f"{name}: they are those of ./fontcut", [], odd)
+
+
+def named_preset(name: str, system: System, program: str) -> None:
+    """A program that is installed there finds a preset of slices by its name."""
+    made = f"/slices of {name}"
+    ran = system.run_with_proc(program, "--quiet", "slice", FONT, made, "--slices", "greek")
+    same(f"{name}: a preset by its name", (DONE, ["greek.ttf"]), (ran, files_below(system.path(made))))
 
 
 def wanted_files(folder: str) -> dict[str, Optional[bytes]]:
@@ -306,6 +321,7 @@ def from_python(system: System, wanted: Mapping[str, Optional[bytes]]) -> None:
     for name in wanted:
         same_bytes(f"Python: {name}", wanted[name], held(system.path(f"/made/{name}.ttf")))
     same("the program of the wheel", run(PROGRAM, "demo"), system.run("/venv/bin/fontcut", "demo"))
+    named_preset("wheel", system, "/venv/bin/fontcut")
 
 
 def by_debians_python(system: System) -> None:
@@ -330,6 +346,7 @@ def by_packages(system: System, dist: str, wanted: Mapping[str, Optional[bytes]]
     same("README.md: the lines that install", ["dpkg", "pip", "tar"], list(lines))
     system.sh("README.md", lines["dpkg"], cwd="/dist")
     recipes_there("package", system, wanted, "/usr/bin:/bin")
+    named_preset("package", system, "/usr/bin/fontcut")
     named = found_in(named_for(system.arch), r"`dpkg -i (.*?)`")[1].split()
     same("README.md: the packages", sorted([*packages, f"python3-fontcut_{VERSION}_all.deb"]), sorted(
         os.path.basename(path) for name in named for path in glob.glob(os.path.join(dist, name))))
@@ -341,6 +358,7 @@ def by_archive(system: System, wanted: Mapping[str, Optional[bytes]]) -> None:
     """The archive is unpacked by the line of README.md."""
     system.sh("README.md", install_lines(system.arch)["tar"], cwd="/dist")
     recipes_there("archive", system, wanted, "/usr/local/bin:/usr/bin:/bin")
+    named_preset("archive", system, "/usr/local/bin/fontcut")
     same_bytes("the archive: its program", held(system.path("/usr/bin/fontcut")),
                held(system.path("/usr/local/bin/fontcut")))
     same("the archive: its module for Python", (0, f"{VERSION} True\n"), tuple(
