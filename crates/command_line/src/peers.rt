@@ -20,18 +20,16 @@ const DROP: &str = "--layout --drop TABLES leaves out layout tables; the others 
 
 const LAYOUT: &str = "--layout keeps the layout tables whole, and the glyphs that GSUB puts";
 
-const FEATURES: &str =
-    "--layout keeps all features; fontcut-web prepare --features makes a font with fewer";
+const FEATURES: &str = "--layout keeps all features; fontcut-web prepare makes fonts with fewer";
 
-const SCRIPTS: &str =
-    "--layout keeps all scripts; fontcut-web prepare --scripts makes a font with fewer";
+const SCRIPTS: &str = "--layout keeps all scripts; fontcut-web prepare makes fonts with fewer";
 
 const KERN: &str = "--layout keeps the table kern, and --drop kern leaves it out";
 
 const MIRRORED: &str = "--text with --layout keeps the mirrored characters, too";
 
 const INSTANCE: &str =
-    "fontcut-web prepare --instance makes a font of it; cuts have the default, or with --variable all";
+    "a cut has the default, with --variable all; fontcut-web prepare makes others";
 
 const NO_HINTING: &str = "fontcut-web prepare --no-hinting makes a font without; a cut keeps it";
 
@@ -47,8 +45,7 @@ const GLYPH_NAMES: &str = "nothing: full cuts alone keep the names of glyphs";
 
 const NO_GLYPH_NAMES: &str = "--lean leaves out the names of glyphs";
 
-const NAMES: &str =
-    "fontcut-web prepare --names least makes a font with few; a cut keeps the table name";
+const NAMES: &str = "a cut keeps the table name; fontcut-web prepare makes fonts with few names";
 
 const COLLECTION: &str = "nothing: collections are refused; fontTools takes a font out of one";
 

@@ -3,11 +3,11 @@ ghost use Rattle.std.specs.Prelude.{◌≡◌, true};
 ghost use Rattle.streams.specs.Inlet.{inlet_fresh_of};
 ghost use Rattle.streams.specs.Outlet.{fresh_of};
 
-use crate::files::dropped_tables::without_named;
-use crate::files::inputs::{inlet_at, input_name, read_whole};
 use crate::messages::details::cut_name;
 use crate::messages::report::Fault;
 use crate::outcome::{Outcome, answered};
+use crate::paths::dropped_tables::without_named;
+use crate::paths::inputs::{inlet_at, input_name, read_whole};
 use command_line::{Belongs, Verbosity};
 use commands::{RunError, run_belongs};
 use font_coverage::kind_of_cut;

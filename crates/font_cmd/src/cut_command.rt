@@ -2,14 +2,14 @@
 ghost use Rattle.std.specs.Prelude.{◌≡◌, true};
 ghost use Rattle.streams.specs.Inlet.{inlet_fresh_of};
 
-use crate::files::dropped_tables::without_named;
-use crate::files::inputs::{inlet_at, input_name};
-use crate::files::kept_font::keep_font;
-use crate::files::output::{outlet, packed_out, placed};
+use crate::asked::choice::{Choice, add_all_files, add_paths_as_texts, names_set};
+use crate::asked::glyphs::{EVERYTHING, keeps_all_glyphs, listed, names_glyphs};
 use crate::messages::report::Fault;
 use crate::outcome::Outcome;
-use crate::wanted::choice::{Choice, add_all_files, add_paths_as_texts, names_set};
-use crate::wanted::glyphs::{EVERYTHING, keeps_all_glyphs, listed, names_glyphs};
+use crate::paths::dropped_tables::without_named;
+use crate::paths::inputs::{inlet_at, input_name};
+use crate::paths::kept_font::keep_font;
+use crate::paths::output::{outlet, packed_out, placed};
 use codes::Wanted;
 use command_line::{Subset, Verbosity};
 use commands::{CutRequest, RunError, run_subset_of_font};

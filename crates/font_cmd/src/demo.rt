@@ -1,5 +1,5 @@
 //! `demo`: what is found in the font that the program carries, and what its cuts come to.
-use crate::wanted::words::codes_of;
+use crate::asked::words::codes_of;
 use codes::Wanted;
 use commands::{RunError, run_join, run_subset};
 use font_file::Font;

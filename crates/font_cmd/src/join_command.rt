@@ -2,11 +2,11 @@
 ghost use Rattle.std.specs.Prelude.{◌≡◌, true};
 ghost use Rattle.commands.specs.JoinRun.{AreFresh};
 
-use crate::files::inputs::inlets_at;
-use crate::files::kept_font::{is_file_at, keep_from_join};
-use crate::files::output::{outlet, packed_out, placed};
 use crate::messages::report::{Fault, refused_join};
 use crate::outcome::Outcome;
+use crate::paths::inputs::inlets_at;
+use crate::paths::kept_font::{is_file_at, keep_from_join};
+use crate::paths::output::{outlet, packed_out, placed};
 use command_line::{Join, STANDARD};
 use commands::{RunError, run_join_of_kind};
 use font_theory::Kind;

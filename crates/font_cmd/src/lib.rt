@@ -2,17 +2,17 @@
 //! proved, and that it returns: tests show the rest. What its commands send is proved in `commands`.
 #![tactic(auto)]
 
+mod asked;
 mod belongs_command;
 mod cut_command;
 mod demo;
 mod dispatch;
-mod files;
 mod join_command;
 mod messages;
 mod outcome;
+mod paths;
 mod showing;
 mod slicing;
-mod wanted;
 
 pub use crate::dispatch::{run_on_system, run_words};
 pub use commands::{RunError, run_check, run_join, run_show, run_subset};

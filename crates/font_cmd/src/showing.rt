@@ -4,9 +4,9 @@ ghost use Rattle.std.specs.Prelude.{◌≡◌, true};
 ghost use Rattle.streams.specs.Inlet.{inlet_fresh_of};
 ghost use Rattle.streams.specs.Outlet.{fresh_of};
 
-use crate::files::inputs::inlet_at;
 use crate::messages::report::Fault;
 use crate::outcome::{Outcome, STANDARD_OUTPUT, answered, print_more};
+use crate::paths::inputs::inlet_at;
 use command_line::Verbosity;
 use commands::{RunError, run_show};
 use font_coverage::{is_cut_of, is_of_layout, is_of_variations};

@@ -2,15 +2,15 @@
 ghost use Rattle.std.specs.Prelude.{◌≡◌, true};
 ghost use Rattle.streams.specs.Outlet.{fresh_of};
 
-use crate::files::dropped_tables::without_named;
-use crate::files::inputs::{input_name, read_whole, source};
-use crate::files::kept_font::keep_from_slices;
-use crate::files::output::{before_packed, outlet, placed};
+use crate::asked::glyphs::{first_past, listed};
+use crate::asked::presets::{may_be_preset, preset_source};
+use crate::asked::slice_list::{Slice, read_lines, slices_of};
 use crate::messages::report::{Fault, no_memory};
 use crate::outcome::{Outcome, print};
-use crate::wanted::glyphs::{first_past, listed};
-use crate::wanted::presets::{may_be_preset, preset_source};
-use crate::wanted::slice_list::{Slice, read_lines, slices_of};
+use crate::paths::dropped_tables::without_named;
+use crate::paths::inputs::{input_name, read_whole, source};
+use crate::paths::kept_font::keep_from_slices;
+use crate::paths::output::{before_packed, outlet, placed};
 use codes::Wanted;
 use command_line::Slices;
 use commands::RunError;

@@ -1,7 +1,7 @@
 //! What is said of a fault after its first line: which file it is and what it is, the system's reason, what to do.
-use crate::files::inputs::input_name;
 use crate::messages::refused_file::Seen;
 use crate::messages::report::{Fault, Writes};
+use crate::paths::inputs::input_name;
 use command_line::Verbosity;
 use commands::RunError;
 use font_coverage::{FileForm, is_of_layout};

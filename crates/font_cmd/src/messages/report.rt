@@ -1,5 +1,5 @@
 //! Why the program does not do what a line asks for.
-use crate::files::inputs::input_name;
+use crate::paths::inputs::input_name;
 use command_line::STANDARD;
 use commands::RunError;
 use font_join::{JoinAllError, JoinError, Which};

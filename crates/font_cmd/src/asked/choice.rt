@@ -1,9 +1,9 @@
 //! The codes that a line of `subset` keeps: those of its words, lists, texts and files, and what texts need; and the
 //! glyphs that it keeps by their numbers.
-use crate::files::inputs::sources;
+use crate::asked::glyphs::{listed_glyphs, names_glyphs};
+use crate::asked::words::{add_files, add_lists, add_text_files, codes_of};
 use crate::messages::report::Fault;
-use crate::wanted::glyphs::{listed_glyphs, names_glyphs};
-use crate::wanted::words::{add_files, add_lists, add_text_files, codes_of};
+use crate::paths::inputs::sources;
 use command_line::{CutKind, Subset};
 use font_coverage::Kept;
 use font_texts::Shown;

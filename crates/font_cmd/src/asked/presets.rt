@@ -1,7 +1,7 @@
 //! Presets of slices: files that are installed beside the program, as PREFIX/share/fontcut/slices/NAME.txt where that is
 //! PREFIX/bin/fontcut. This project's own.
-use crate::files::inputs::Input;
 use crate::messages::report::Fault;
+use crate::paths::inputs::Input;
 use program_files::{KeepsReason, System};
 use std::alloc::{AllocError, Global};
 use std::fs::File;

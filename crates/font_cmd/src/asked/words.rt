@@ -1,6 +1,6 @@
 //! The wanted codes of a command line: the ranges of its words and files, and the characters of its texts.
+use crate::asked::glyphs::EVERYTHING;
 use crate::messages::report::{Fault, no_memory};
-use crate::wanted::glyphs::EVERYTHING;
 use codes::{LAST_CODE, read_word};
 use std::alloc::{AllocError, Global};
 use std::io::Read;
