@@ -42,13 +42,13 @@ abbrev pub of_unopened : Which → OpenError → RunError
 of_unopened which open_errors.NoMemory = Memory
 of_unopened which (open_errors.Refused error) = OneOf which error
 
--- why one of two files is not opened for cuts of a kind: memory is refused, or the file is
+-- why one of two files is not opened for cuts of a kind: out of memory, or the file is refused
 abbrev pub IsUnopened : Kind → Which → List ℕ → RunError → Type 0
 IsUnopened kind which file error =
     (error ≡ Memory)
     ⊎ ((fault : FontError) × (fault_of kind file ≡ Some fault) × (error ≡ OneOf which fault))
 
--- why there is no answer of two files: memory is refused, or one of them is
+-- why there is no answer of two files: out of memory, or one of them is refused
 abbrev pub IsUnanswered : Kind → List ℕ → List ℕ → RunError → Type 0
 IsUnanswered kind cut font Memory = Unit {0}
 IsUnanswered kind cut font (OneOf which error) = RefusesOneOf kind cut font which error

@@ -120,7 +120,7 @@ fn answer(belongs: bool) -> &'static str
 /// # Errors
 ///
 /// `Read` where a reader fails: its inlet is broken, and a font is not read after a cut that was not.
-/// `Memory` where memory is refused, `OneOf` where a file is refused for cuts of the kind, the cut being
+/// `Memory` if out of memory, `OneOf` where a file is refused for cuts of the kind, the cut being
 /// looked at first: then nothing was sent. `Write` where the writer fails.
 pub fn run_belongs<R: Read, W: Flushes, A: Allocator + Copy>(
     alloc: A,

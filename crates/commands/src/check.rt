@@ -92,7 +92,7 @@ impl<A: Allocator> fmt::Display for Report<A> {
 ///
 /// # Errors
 ///
-/// `Read` where the reader fails, `Memory` where memory is refused: then nothing was sent. `Write` where
+/// `Read` where the reader fails, `Memory` if out of memory: then nothing was sent. `Write` where
 /// the writer fails.
 #[tactic(auto, using(crate::proofs::CheckLemmas::read_findings_accepted), unfolding(crate::specs::Check::check_text))]
 pub fn run_check<R: Read, W: Flushes, A: Allocator + Copy>(

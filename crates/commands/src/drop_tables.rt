@@ -66,7 +66,7 @@ fn with_blanks<A: Allocator>(alloc: A, file: &[u8], tags: &[Tag]) -> Result<Vec<
 /// else is changed, so that a cut of it is that of a font which has none of them.
 ///
 /// # Errors
-/// `AllocError` where memory is refused.
+/// `AllocError` if out of memory.
 #[tactic(auto, using(sfnt_bytes::proofs::RefusalLemmas::is_readable))]
 pub fn without_tables<A: Allocator>(
     alloc: A,

@@ -40,7 +40,7 @@ fn read_each<R: Read, A: Allocator + Copy>(
 ///
 /// # Errors
 ///
-/// `Read` where a reader fails: its inlet is broken, and no other. `Memory` where memory is refused, and
+/// `Read` where a reader fails: its inlet is broken, and no other. `Memory` if out of memory, and
 /// `Join` with the first step that is refused, a size that is too large among them. Nothing was sent in
 /// these cases. `Write` where the writer fails.
 pub fn run_join_of_kind<R: Read, W: Flushes, A: Allocator + Copy>(
@@ -78,7 +78,7 @@ pub fn run_join_of_kind<R: Read, W: Flushes, A: Allocator + Copy>(
 ///
 /// # Errors
 ///
-/// `Read` where a reader fails: its inlet is broken, and no other. `Memory` where memory is refused, and
+/// `Read` where a reader fails: its inlet is broken, and no other. `Memory` if out of memory, and
 /// `Join` with the first step that is refused, a size that is too large among them. Nothing was sent in
 /// these cases. `Write` where the writer fails.
 pub fn run_join<R: Read, W: Flushes, A: Allocator + Copy>(

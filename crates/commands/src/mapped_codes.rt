@@ -79,7 +79,7 @@ fn codes_of_file<A: Allocator + Copy>(alloc: A, file: &[u8]) -> Result<String<A>
 /// can be, is a line, `U+41` or `U+41-5A`.
 ///
 /// # Errors
-/// `Read` where the reader fails, `Memory` where memory is refused, `Font` where the font is: then
+/// `Read` where the reader fails, `Memory` if out of memory, `Font` where the font is refused: then
 /// nothing was sent. `Write` where the writer fails.
 pub fn run_codes<R: Read, W: Flushes, A: Allocator + Copy>(
     alloc: A,

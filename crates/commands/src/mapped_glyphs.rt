@@ -139,7 +139,7 @@ fn glyphs_of_file<A: Allocator + Copy>(alloc: A, file: &[u8]) -> Result<String<A
 /// its glyph, and the advance width of that in font units, as `U+41 36 1401`.
 ///
 /// # Errors
-/// `Read` where the reader fails, `Memory` where memory is refused, `Font` where the font is: then
+/// `Read` where the reader fails, `Memory` if out of memory, `Font` where the font is refused: then
 /// nothing was sent. `Write` where the writer fails.
 pub fn run_glyphs<R: Read, W: Flushes, A: Allocator + Copy>(
     alloc: A,

@@ -128,7 +128,7 @@ impl From<CutIntoError> for RunError {
     }
 }
 
-// Where memory is refused the error of a run is `Memory`, whatever step it comes at.
+// If out of memory, the error of a run is `Memory`, whatever step it comes at.
 impl From<JoinAllError> for RunError {
     ghost from_gives = { λ held error. error ≡ of_join_error held };
 

@@ -217,7 +217,7 @@ fn shown_file<A: Allocator + Copy>(alloc: A, file: &[u8]) -> Result<String<A>, R
 /// written before (`old`), or not (`no`).
 ///
 /// # Errors
-/// `Read` where the reader fails, `Memory` where memory is refused, `Font` where the font is: then
+/// `Read` where the reader fails, `Memory` if out of memory, `Font` where the font is refused: then
 /// nothing was sent. `Write` where the writer fails.
 pub fn run_show<R: Read, W: Flushes, A: Allocator + Copy>(
     alloc: A,

@@ -66,7 +66,7 @@ fn stray_in(font: &Font<'_>, numbers: Option<&[u16]>) -> Option<u16>
 ///
 /// # Errors
 ///
-/// `NoGlyph` with the first number that is no glyph of the font, `Memory` where memory is refused, `Font` where the font is
+/// `NoGlyph` with the first number that is no glyph of the font, `Memory` if out of memory, `Font` where the font is
 /// refused for cuts of the kind, and `TooLarge` where its cut has more bytes than a file may have: then nothing was sent.
 /// `Write` where the writer fails.
 pub fn run_subset_of_font<W: Flushes, A: Allocator + Copy>(
@@ -105,7 +105,7 @@ fn send_of_file<W: Flushes, A: Allocator + Copy>(
 ///
 /// # Errors
 ///
-/// `Read` where the reader fails, `Memory` where memory is refused, `Font` where the font is, `NoGlyph` with the first
+/// `Read` where the reader fails, `Memory` if out of memory, `Font` where the font is refused, `NoGlyph` with the first
 /// number that is no glyph of the font, and `TooLarge` where its cut has more bytes than a file may have: then nothing was
 /// sent. `Write` where the writer fails. A number is looked at after the font as such, and before what cuts of the kind
 /// read of it besides.
@@ -133,7 +133,7 @@ pub fn run_subset_of_request<R: Read, W: Flushes, A: Allocator + Copy>(
 ///
 /// # Errors
 ///
-/// `Read` where the reader fails, `Memory` where memory is refused, `Font` where the font is, and
+/// `Read` where the reader fails, `Memory` if out of memory, `Font` where the font is refused, and
 /// `TooLarge` where its cut has more bytes than a file may have: then nothing was sent. `Write` where
 /// the writer fails.
 pub fn run_subset_of_kind<R: Read, W: Flushes, A: Allocator + Copy>(
@@ -166,7 +166,7 @@ pub fn run_subset_of_kind<R: Read, W: Flushes, A: Allocator + Copy>(
 ///
 /// # Errors
 ///
-/// `Read` where the reader fails, `Memory` where memory is refused, `Font` where the font is, and
+/// `Read` where the reader fails, `Memory` if out of memory, `Font` where the font is refused, and
 /// `TooLarge` where its cut has more bytes than a file may have: then nothing was sent. `Write` where
 /// the writer fails.
 pub fn run_subset<R: Read, W: Flushes, A: Allocator + Copy>(

@@ -23,7 +23,7 @@ struct Sent {
     held: Option<u64>,
 }
 
-// Sends the cut of Base6 for 0xC1, at most `piece` bytes a write. It is none where memory is refused.
+// Sends the cut of Base6 for 0xC1, at most `piece` bytes a write. It is none if out of memory.
 fn send_aacute(alloc: Global, piece: usize, failure: Failure) -> Option<Sent> {
     let font = Font::open(&BASE6).ok()?;
     let wanted = wanted_of(alloc, &[(0xC1, 0xC1)]).ok()?;

@@ -21,7 +21,7 @@ struct Sent {
     held: Option<usize>,
 }
 
-// Sends the join of these files, at most seven bytes a write. It is none where memory is refused.
+// Sends the join of these files, at most seven bytes a write. It is none if out of memory.
 fn send(alloc: Global, files: &[&[u8]], failure: Failure) -> Option<Sent> {
     let copied = copies(alloc, alloc, files).ok()?;
     let mut outlet = Outlet::new(Narrow::new(alloc, 7, failure));

@@ -151,7 +151,7 @@ fn change_of(alloc: Global, kind: Kind, font: &Font<'_>) -> Result<Option<Tag>, 
 /// Returns what a font is: a cut, one that was changed, or another font.
 ///
 /// # Errors
-/// `NoMemory` where memory is refused.
+/// `NoMemory` if out of memory.
 pub fn file_form(alloc: Global, font: &Font<'_>) -> Result<FileForm, NoMemory> {
     if let Some(kind) = cut_kind(alloc, font)? {
         return Ok(FileForm::Cut(kind));

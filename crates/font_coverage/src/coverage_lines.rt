@@ -56,7 +56,7 @@ impl Drop for Coverage {
 /// Returns the codes that a font maps.
 ///
 /// # Errors
-/// `AllocError` where memory is refused.
+/// `AllocError` if out of memory.
 pub fn mapped_codes(alloc: Global, font: &Font<'_>) -> Result<CodeSet, AllocError> {
     let mut codes = CodeSet::new(alloc);
     let Ok(chart) = Chart::of(alloc, font.mapping()) else {
@@ -297,7 +297,7 @@ fn count_linked(
 /// of wanted codes, and what this is made of. There is no number where the font is refused for cuts of the kind.
 ///
 /// # Errors
-/// `AllocError` where memory is refused.
+/// `AllocError` if out of memory.
 pub fn linked_count(
     alloc: Global,
     kind: Kind,
@@ -389,7 +389,7 @@ impl Coverage {
     /// it lacks of the wanted ones where they are to be shown, and of the tables that a cut of a kind drops.
     ///
     /// # Errors
-    /// `AllocError` where memory is refused.
+    /// `AllocError` if out of memory.
     pub fn of(
         alloc: Global,
         font: &Font<'_>,
@@ -410,7 +410,7 @@ impl Coverage {
     /// Adds what no cut keeps of a font for wanted codes. All memory that the other lines need is asked for here.
     ///
     /// # Errors
-    /// `AllocError` where memory is refused.
+    /// `AllocError` if out of memory.
     pub fn add_lost(&mut self, font: &Font<'_>, wanted: &Wanted) -> Result<(), AllocError> {
         add_never_kept(&mut self.text, font, wanted)?;
         self.text.reserve(LEAN_LINES.len() + LAST_LINES.len())
@@ -440,7 +440,7 @@ impl Coverage {
     /// Returns a line that says that nothing was written, and the other lines.
     ///
     /// # Errors
-    /// `AllocError` where memory is refused.
+    /// `AllocError` if out of memory.
     pub fn unwritten_text(self, alloc: Global) -> Result<String, AllocError> {
         let mut text = String::from_str(alloc, self.unwritten_line())?;
         text.push_str(self.text.as_str())?;

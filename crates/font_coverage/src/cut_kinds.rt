@@ -11,7 +11,7 @@ use std::alloc::Global;
 /// Returns whether a font is a cut of a kind.
 ///
 /// # Errors
-/// `NoMemory` where memory is refused, `Refused` where the font is refused for cuts of the kind.
+/// `NoMemory` if out of memory, `Refused` where the font is refused for cuts of the kind.
 pub fn is_cut_of(alloc: Global, kind: Kind, font: &Font<'_>) -> Result<bool, OpenError> {
     match FontOfKind::open(alloc, kind, font) {
         Ok(opened) => match form_of_kind(alloc, &opened) {
@@ -71,7 +71,7 @@ fn has_more(kind: Kind, font: &Font<'_>) -> bool {
 /// cut too, and a layout cut of a font without variations has that of a variable one: the first kind is returned.
 ///
 /// # Errors
-/// `NoMemory` where memory is refused.
+/// `NoMemory` if out of memory.
 pub fn cut_kind(alloc: Global, font: &Font<'_>) -> Result<Option<Kind>, NoMemory> {
     let is_lean = has_form(alloc, Kind::Lean, font)?;
     if is_rather_full(alloc, font, is_lean)? {
@@ -118,7 +118,7 @@ fn belongs_as(
 /// Returns the first kind, of full, lean, layout and variable cuts, of which a font is a cut of another one.
 ///
 /// # Errors
-/// `NoMemory` where memory is refused.
+/// `NoMemory` if out of memory.
 pub fn kind_of_cut(
     alloc: Global,
     cut: &Font<'_>,

@@ -25,7 +25,7 @@ impl Kept {
     /// Returns them as wanted sets.
     ///
     /// # Errors
-    /// `AllocError` where memory is refused.
+    /// `AllocError` if out of memory.
     pub fn into_wanted(self, alloc: Global) -> Result<WantedCodes, AllocError> {
         let Kept { wanted, mut added } = self;
         if added.is_empty() {

@@ -218,7 +218,7 @@ fn add_colours(text: &mut String, font: &Font<'_>, name: &str) -> Result<(), All
 /// them.
 ///
 /// # Errors
-/// `AllocError` where memory is refused.
+/// `AllocError` if out of memory.
 pub(crate) fn add_never_kept(
     text: &mut String,
     font: &Font<'_>,
@@ -240,7 +240,7 @@ pub(crate) fn add_never_kept(
 /// font maps none of those that are asked for, or none but spaces.
 ///
 /// # Errors
-/// `AllocError` where memory is refused.
+/// `AllocError` if out of memory.
 pub fn losses(alloc: Global, font: &Font<'_>, asked: Asked<'_>) -> Result<String, AllocError> {
     let mut text = String::new(alloc);
     if !asked.has_numbers {

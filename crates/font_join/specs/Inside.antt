@@ -71,7 +71,7 @@ abbrev pub of_open_error : Which → OpenError → JoinError
 of_open_error which open_errors.NoMemory = NoMemory
 of_open_error which (open_errors.Refused error) = Font which error
 
--- why an accepted file is not taken for a cut: memory is refused, or it is none
+-- why an accepted file is not taken for a cut: out of memory, or it is none
 abbrev pub IsFormRefusal : Format → Which → List ℕ → JoinError → Type 0
 IsFormRefusal R which x NoMemory = Unit {0}
 IsFormRefusal R which x error = form_fault R which x ≡ Some error

@@ -61,7 +61,7 @@ join_lines R x y =
 unfoldable pub join_fault : Format → List ℕ → List ℕ → Option JoinError
 join_fault R x y = first_of_lines (join_lines R x y)
 
--- why two accepted files are not united: memory is refused, or the first refusal that applies
+-- why two accepted files are not united: out of memory, or the first refusal that applies
 abbrev pub IsUnionRefusal : Format → List ℕ → List ℕ → JoinError → Type 0
 IsUnionRefusal R x y NoMemory = Unit {0}
 IsUnionRefusal R x y error = union_fault R x y ≡ Some error
@@ -71,13 +71,13 @@ pub record IsJoin (R : Format) (x y z : List ℕ) : Type 0 where
   pub unrefused : join_fault R x y ≡ None
   pub is : z ≡ joined R x y
 
--- why there is no join: memory is refused, after the refusals of both fonts, or the first refusal that
+-- why there is no join: out of memory, after the refusals of both fonts, or the first refusal that
 -- applies
 abbrev pub IsJoinRefusal : Format → List ℕ → List ℕ → JoinError → Type 0
 IsJoinRefusal R x y NoMemory = (font_fault x ≡ None) × (font_fault y ≡ None)
 IsJoinRefusal R x y error = join_fault R x y ≡ Some error
 
--- memory is refused, or the size is too large
+-- out of memory, or the size is too large
 abbrev pub IsForSize : ℕ → JoinError → Type 0
 IsForSize size NoMemory = Unit {0}
 IsForSize size (TooLarge s) = (s ≡ size) × (MAX_FILE < size)

@@ -79,7 +79,7 @@ pub record AreCuts (R : Format) (F : List ℕ) (A : ℕ → Wanted) (files : Lis
   pub cuts : (k : ℕ) → k < length files → Writes R (content (R.font F) (A k)) (file_at files k)
   pub small : (k : ℕ) → k < length files → length (file_at files k) ≤ MAX_FILE
 
--- memory is refused, or the cut for the first sets is too large
+-- out of memory, or the cut for the first sets is too large
 abbrev pub IsForSizeOf : Format → List ℕ → (ℕ → Wanted) → List (List ℕ) → JoinAllError → Type 0
 IsForSizeOf R F A files NothingToJoin = files ≡ []
 IsForSizeOf R F A files (At step error) = IsForSize (length (cut R F (union_below A (suc step)))) error
@@ -119,7 +119,7 @@ StopsJoin R contents old new files (NotJoined error) = (new ≡ old) × IsAllRef
 StopsJoin R contents old new files (WriteFault written) =
     (z : List ℕ) × IsAllJoined R files z × IsCutOff contents old new z written
 
--- memory is refused, or the cut for the first sets is too large, or a write failed
+-- out of memory, or the cut for the first sets is too large, or a write failed
 abbrev pub IsForSizeInto : Format → List ℕ → (ℕ → Wanted) → List (List ℕ) → JoinAllIntoError → Type 0
 IsForSizeInto R F A files (NotJoined error) = IsForSizeOf R F A files error
 IsForSizeInto R F A files (WriteFault written) = Unit {0}

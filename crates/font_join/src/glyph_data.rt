@@ -167,7 +167,7 @@ fn with_data<A: Allocator>(
 ///
 /// # Errors
 ///
-/// `NoMemory` where memory is refused.
+/// `NoMemory` if out of memory.
 pub(crate) fn gvar_of_both<K: Source, L: Source, A: Allocator + Copy>(
     alloc: A,
     k: &K,
@@ -207,7 +207,7 @@ fn no_data<'t, A: Allocator>(alloc: A, count: u16) -> Result<Vec<&'t [u8], A>, N
 ///
 /// # Errors
 ///
-/// `NoMemory` where memory is refused.
+/// `NoMemory` if out of memory.
 pub(crate) fn emptied_gvar<S: Source, A: Allocator + Copy>(
     alloc: A,
     source: &S,

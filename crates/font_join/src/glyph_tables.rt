@@ -118,7 +118,7 @@ impl<A: Allocator + Copy> GlyphTables<A> {
     ///
     /// # Errors
     ///
-    /// `NoMemory` where memory is refused.
+    /// `NoMemory` if out of memory.
     pub(crate) fn own<S: Source>(
         alloc: A,
         kind: Kind,
@@ -136,7 +136,7 @@ impl<A: Allocator + Copy> GlyphTables<A> {
     ///
     /// # Errors
     ///
-    /// `NoMemory` where memory is refused.
+    /// `NoMemory` if out of memory.
     pub(crate) fn blank<S: Source>(alloc: A, source: &S) -> Result<GlyphTables<A>, NoMemory>
         requires { HasFineGvar (S.content_of source.now).copied }
         ensures { IfOk result (λ t. t ≡ blanks_in (S.content_of source.now).copied) }
@@ -151,7 +151,7 @@ impl<A: Allocator + Copy> GlyphTables<A> {
     ///
     /// # Errors
     ///
-    /// `NoMemory` where memory is refused.
+    /// `NoMemory` if out of memory.
     pub(crate) fn blank_for_kind<S: Source>(
         alloc: A,
         kind: Kind,

@@ -24,7 +24,7 @@ impl<'a, A: Allocator + Copy> Union<'a, 'a, A> {
     ///
     /// # Errors
     ///
-    /// `NoMemory` where memory is refused, and else the first of `NotACut`, of the first font and then
+    /// `NoMemory` if out of memory, and else the first of `NotACut`, of the first font and then
     /// of the second, `DifferentTable`, `DifferentMapping` and `DifferentGlyph` that applies.
     pub fn new(alloc: A, x: &'a Font<'a>, y: &'a Font<'a>) -> Result<Joined<'a, A>, JoinError>
         ensures { MatchResult result (λ joined. (content_in joined

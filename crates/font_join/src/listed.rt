@@ -46,7 +46,7 @@ impl<'f, 'a, A: Allocator + Copy> Listed<'f, 'a, A> {
     ///
     /// # Errors
     ///
-    /// `NotACut` where it is no cut of the kind, and `NoMemory` where memory is refused.
+    /// `NotACut` where it is no cut of the kind, and `NoMemory` if out of memory.
     pub(crate) fn new(
         alloc: A,
         font: &'f FontOfKind<'f, 'a, A>,
@@ -109,7 +109,7 @@ impl<'f, 'a, A: Allocator + Copy> Listed<'f, 'a, A> {
     ///
     /// # Errors
     ///
-    /// `NoMemory` where memory is refused.
+    /// `NoMemory` if out of memory.
     pub(crate) fn into_runs(self, alloc: A) -> Result<Vec<Run, A>, NoMemory>
         ensures { IfOk result (λ runs. AreRunsOf self.entry.1 runs.items) }
     {

@@ -40,7 +40,7 @@ pub(crate) fn either_table<A: Allocator>(
 ///
 /// # Errors
 ///
-/// `NoMemory` where memory is refused.
+/// `NoMemory` if out of memory.
 pub(crate) fn copy_of<A: Allocator>(
     alloc: A,
     table: Option<&[u8]>,

@@ -293,7 +293,7 @@ impl<'f, 'a, A: Allocator + Copy> Union<'f, 'a, A> {
     ///
     /// # Errors
     ///
-    /// `NoMemory` where memory is refused.
+    /// `NoMemory` if out of memory.
     pub(crate) fn settle(self, alloc: A) -> Result<Union<'f, 'a, A>, NoMemory>
         ensures kind { IfOk result (λ union. union.kind ≡ self.entry.kind) }
         ensures content { IfOk result (λ union. content_in union ≡ content_in self.entry) }

@@ -47,7 +47,7 @@ IsCutOf file wanted made = Writes (format_of Full) (content ((format_of Full).fo
 abbrev pub IsCutForSome : List ℕ → List ℕ → Type 0
 IsCutForSome file made = (wanted : ℕ → Bool) × IsCutOf file wanted made
 
--- why there is no cut in memory: memory is refused, or the cut is too large
+-- why there is no cut in memory: out of memory, or the cut is too large
 abbrev pub IsCutRefusal : List ℕ → CutError → Type 0
 IsCutRefusal cut cut_errors.NoMemory = Unit {0}
 IsCutRefusal cut (cut_errors.TooLarge size) = IsTooLarge cut size

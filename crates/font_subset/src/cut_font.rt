@@ -209,7 +209,7 @@ pub fn cut_of_kind<A: Allocator + Copy>(
 ///
 /// # Errors
 ///
-/// `NoMemory` where memory is refused, and `TooLarge` where the cut would have more than
+/// `NoMemory` if out of memory, and `TooLarge` where the cut would have more than
 /// [`MAX_FILE`](sfnt_bytes::MAX_FILE) bytes.
 ///
 /// # Example

@@ -31,7 +31,7 @@ use std::alloc::Allocator;
 ///
 /// # Errors
 ///
-/// `NoMemory` where memory is refused.
+/// `NoMemory` if out of memory.
 pub fn form_of_kind<A: Allocator + Copy>(
     alloc: A,
     font: &FontOfKind<'_, '_, A>,
@@ -47,7 +47,7 @@ pub fn form_of_kind<A: Allocator + Copy>(
 ///
 /// # Errors
 ///
-/// `NoMemory` where memory is refused.
+/// `NoMemory` if out of memory.
 pub fn listed_form<'f, 'a, A: Allocator + Copy>(
     alloc: A,
     font: &'f FontOfKind<'f, 'a, A>,
@@ -66,7 +66,7 @@ pub fn listed_form<'f, 'a, A: Allocator + Copy>(
 ///
 /// # Errors
 ///
-/// `NoMemory` where memory is refused.
+/// `NoMemory` if out of memory.
 ///
 /// # Example
 ///
@@ -96,7 +96,7 @@ pub fn is_of_kind<A: Allocator + Copy>(
 ///
 /// # Errors
 ///
-/// `NoMemory` where memory is refused.
+/// `NoMemory` if out of memory.
 pub fn cut_form<A: Allocator + Copy>(alloc: A, font: &Font<'_>) -> Result<CutForm, NoMemory>
     ensures exact { IfOk result (λ form. form ≡ cut_form_of font.now) }
     ensures form { IfOk result (IsFormOf font.now) }
@@ -111,7 +111,7 @@ pub fn cut_form<A: Allocator + Copy>(alloc: A, font: &Font<'_>) -> Result<CutFor
 ///
 /// # Errors
 ///
-/// `NoMemory` where memory is refused.
+/// `NoMemory` if out of memory.
 ///
 /// # Example
 ///
@@ -202,7 +202,7 @@ fn is_cut_for_own<A: Allocator + Copy>(
 ///
 /// # Errors
 ///
-/// `NoMemory` where memory is refused.
+/// `NoMemory` if out of memory.
 ///
 /// # Example
 ///
@@ -232,7 +232,7 @@ pub fn belongs<A: Allocator + Copy>(
 ///
 /// # Errors
 ///
-/// `NoMemory` where memory is refused.
+/// `NoMemory` if out of memory.
 pub fn is_cut_of<A: Allocator + Copy>(
     alloc: A,
     cut: &Font<'_>,

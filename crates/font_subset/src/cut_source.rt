@@ -44,7 +44,7 @@ impl<'f, 'a, A: Allocator + Copy> CutOf<'f, 'a, A> {
     ///
     /// # Errors
     ///
-    /// `NoMemory` where memory is refused.
+    /// `NoMemory` if out of memory.
     pub fn new(
         alloc: A,
         font: &'f Font<'a>,
@@ -60,7 +60,7 @@ impl<'f, 'a, A: Allocator + Copy> CutOf<'f, 'a, A> {
     ///
     /// # Errors
     ///
-    /// `NoMemory` where memory is refused.
+    /// `NoMemory` if out of memory.
     pub fn for_all_codes(alloc: A, font: &'f Font<'a>) -> Result<CutOf<'f, 'a, A>, NoMemory>
         ensures { IfOk result (λ source. source ≡ (font.entry.now, None)) }
     {

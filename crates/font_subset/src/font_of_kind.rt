@@ -157,7 +157,7 @@ impl<'f, 'a, A: Allocator + Copy> FontOfKind<'f, 'a, A> {
     ///
     /// # Errors
     ///
-    /// `NoMemory` where memory is refused, of layout cuts alone, and `Refused` with the first refusal that applies, of
+    /// `NoMemory` if out of memory, of layout cuts alone, and `Refused` with the first refusal that applies, of
     /// layout and variable cuts alone.
     pub fn open(
         alloc: A,

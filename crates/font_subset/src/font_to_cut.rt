@@ -240,7 +240,7 @@ impl<'f, 'a, A: Allocator + Copy> FontToCut<'f, 'a, A> {
     ///
     /// # Errors
     ///
-    /// `NoMemory` where memory is refused, of layout and variable cuts alone, and `Refused` with the first refusal that
+    /// `NoMemory` if out of memory, of layout and variable cuts alone, and `Refused` with the first refusal that
     /// applies: that of `GSUB` comes before that of `gvar`.
     pub fn open(
         alloc: A,
@@ -285,7 +285,7 @@ impl<'f, 'a, A: Allocator + Copy> FontToCut<'f, 'a, A> {
     ///
     /// # Errors
     ///
-    /// `NoMemory` where memory is refused.
+    /// `NoMemory` if out of memory.
     pub fn closure(
         &self,
         alloc: A,
@@ -307,7 +307,7 @@ impl<'f, 'a, A: Allocator + Copy> FontToCut<'f, 'a, A> {
     ///
     /// # Errors
     ///
-    /// `NoMemory` where memory is refused.
+    /// `NoMemory` if out of memory.
     pub fn numbers(
         &self,
         alloc: A,

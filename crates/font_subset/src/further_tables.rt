@@ -263,7 +263,7 @@ impl<'f, 'a, A: Allocator + Copy> FurtherTables<'f, 'a, A> {
     ///
     /// # Errors
     ///
-    /// `Refused` with the first refusal that applies, and `NoMemory` where memory is refused.
+    /// `Refused` with the first refusal that applies, and `NoMemory` if out of memory.
     pub(crate) fn read(
         alloc: A,
         kind: Kind,

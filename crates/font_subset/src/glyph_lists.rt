@@ -32,7 +32,7 @@ fn list_marked<A: Allocator>(
 ///
 /// # Errors
 ///
-/// `NoMemory` where memory is refused.
+/// `NoMemory` if out of memory.
 pub(crate) fn listed_marks<A: Allocator>(
     alloc: A,
     marks: &Marks<A>,
@@ -54,7 +54,7 @@ pub(crate) fn listed_marks<A: Allocator>(
 ///
 /// # Errors
 ///
-/// `NoMemory` where memory is refused.
+/// `NoMemory` if out of memory.
 pub fn kept_glyphs<A: Allocator + Copy>(
     alloc: A,
     font: &FontOfKind<'_, '_, A>,

@@ -49,7 +49,7 @@ fn kept_data<'a, A: Allocator + Copy>(
 ///
 /// # Errors
 ///
-/// `NoMemory` where memory is refused, which is asked for the table and for a list of the data.
+/// `NoMemory` if out of memory, which is asked for the table and for a list of the data.
 pub(crate) fn kept_variations<A: Allocator + Copy>(
     alloc: A,
     selection: &Selection<'_, '_, A>,

@@ -81,7 +81,7 @@ fn metrics_table<S: Source, A: Allocator>(
 ///
 /// # Errors
 ///
-/// `NoMemory` where memory is refused.
+/// `NoMemory` if out of memory.
 pub fn blank_of<S: Source, A: Allocator>(
     alloc: A,
     source: &S,
@@ -184,7 +184,7 @@ impl<'f, 'a, A: Allocator + Copy> CutOfKind<'f, 'a, A> {
     ///
     /// # Errors
     ///
-    /// `NoMemory` where memory is refused.
+    /// `NoMemory` if out of memory.
     pub fn of(alloc: A, selection: Selection<'f, 'a, A>) -> Result<CutOfKind<'f, 'a, A>, NoMemory>
         ensures { IfOk result (λ source. source ≡ selection.entry) }
     {
@@ -226,7 +226,7 @@ impl<'f, 'a, A: Allocator + Copy> CutOfKind<'f, 'a, A> {
     ///
     /// # Errors
     ///
-    /// `NoMemory` where memory is refused.
+    /// `NoMemory` if out of memory.
     pub fn new(
         alloc: A,
         font: &'f FontOfKind<'f, 'a, A>,

@@ -85,7 +85,7 @@ fn copy_kept<S: Source>(to: &mut [u8], from: &[u8], source: &S, pairs: usize)
 ///
 /// # Errors
 ///
-/// `NoMemory` where memory is refused.
+/// `NoMemory` if out of memory.
 pub(crate) fn cleared_table<S: Source, A: Allocator>(
     alloc: A,
     source: &S,
@@ -108,7 +108,7 @@ pub(crate) fn cleared_table<S: Source, A: Allocator>(
 ///
 /// # Errors
 ///
-/// `NoMemory` where memory is refused.
+/// `NoMemory` if out of memory.
 pub(crate) fn blank_table<A: Allocator>(
     alloc: A,
     table: &[u8],
@@ -142,7 +142,7 @@ fn put_version(post: &mut [u8])
 ///
 /// # Errors
 ///
-/// `NoMemory` where memory is refused.
+/// `NoMemory` if out of memory.
 pub(crate) fn unnamed<A: Allocator>(alloc: A, post: &[u8]) -> Result<Vec<u8, A>, NoMemory>
     requires { 32 ≤ length post.now }
     ensures { IfOk result (λ v. v.items ≡ thin_post post.now) }

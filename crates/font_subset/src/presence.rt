@@ -379,7 +379,7 @@ fn list_there<A: Allocator>(
 ///
 /// # Errors
 ///
-/// `NoMemory` where memory is refused.
+/// `NoMemory` if out of memory.
 pub(crate) fn glyphs_there<A: Allocator>(
     alloc: A,
     font: &FontOfKind<'_, '_, A>,

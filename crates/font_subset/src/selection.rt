@@ -205,7 +205,7 @@ fn mark_seeds<A: Allocator + Copy>(
 ///
 /// # Errors
 ///
-/// `NoMemory` where memory is refused.
+/// `NoMemory` if out of memory.
 pub(crate) fn marked_seeds<A: Allocator + Copy>(
     alloc: A,
     font: &Font<'_>,
@@ -323,7 +323,7 @@ impl<'f, 'a, A: Allocator + Copy> Selection<'f, 'a, A> {
     ///
     /// # Errors
     ///
-    /// `NoMemory` where memory is refused.
+    /// `NoMemory` if out of memory.
     pub fn new(
         alloc: A,
         font: &'f FontOfKind<'f, 'a, A>,
@@ -354,7 +354,7 @@ impl<'f, 'a, A: Allocator + Copy> Selection<'f, 'a, A> {
     ///
     /// # Errors
     ///
-    /// `NoMemory` where memory is refused.
+    /// `NoMemory` if out of memory.
     pub fn with_runs(
         alloc: A,
         font: &'f FontOfKind<'f, 'a, A>,
@@ -377,7 +377,7 @@ impl<'f, 'a, A: Allocator + Copy> Selection<'f, 'a, A> {
     ///
     /// # Errors
     ///
-    /// `NoMemory` where memory is refused.
+    /// `NoMemory` if out of memory.
     #[tactic(auto, using(crate::proofs::SourceLemmas::full_accepted))]
     pub(crate) fn full(
         alloc: A,
@@ -404,7 +404,7 @@ impl<'f, 'a, A: Allocator + Copy> Selection<'f, 'a, A> {
     ///
     /// # Errors
     ///
-    /// `NoMemory` where memory is refused, which is only asked for where the runs have not been listed.
+    /// `NoMemory` if out of memory, which is only asked for where the runs have not been listed.
     pub fn into_runs(self, alloc: A) -> Result<Vec<Run, A>, NoMemory>
         ensures { IfOk result (λ runs. AreRunsOf self.entry.1.0 runs.items) }
     {

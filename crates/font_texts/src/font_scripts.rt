@@ -487,7 +487,7 @@ pub fn lists_scripts(font: &Font<'_>) -> bool {
 /// Returns the names of the scripts of the codes of some ranges whose text a font shapes, with commas between them.
 ///
 /// # Errors
-/// `AllocError` where memory is refused.
+/// `AllocError` if out of memory.
 pub fn shaped_scripts(
     alloc: Global,
     font: &Font<'_>,
@@ -505,7 +505,7 @@ pub fn shaped_scripts(
 /// nothing shapes it, with commas between them.
 ///
 /// # Errors
-/// `AllocError` where memory is refused.
+/// `AllocError` if out of memory.
 pub fn complex_scripts(
     alloc: Global,
     font: &Font<'_>,

@@ -35,7 +35,7 @@ fn add_ranges(text: &mut String, ranges: &[(u32, u32)]) -> Result<(), AllocError
 /// Adds the rule of a slice of this name for the codes of these ranges.
 ///
 /// # Errors
-/// `AllocError` where memory is refused.
+/// `AllocError` if out of memory.
 pub fn add_rule(
     text: &mut String,
     family: &str,

@@ -239,7 +239,7 @@ fn add_instances(
 /// Adds a line for each axis of a font and one for each of its named instances, where it varies.
 ///
 /// # Errors
-/// `AllocError` where memory is refused.
+/// `AllocError` if out of memory.
 pub fn add_variations(alloc: Global, text: &mut String, font: &Font<'_>) -> Result<(), AllocError> {
     let axes = Axes::of(table_named(font, Tag(*b"fvar")));
     add_axes(text, axes)?;
@@ -249,7 +249,7 @@ pub fn add_variations(alloc: Global, text: &mut String, font: &Font<'_>) -> Resu
 /// Returns the tags of the axes of a font, with commas between them, or no text where it does not vary.
 ///
 /// # Errors
-/// `AllocError` where memory is refused.
+/// `AllocError` if out of memory.
 pub fn axis_tags(alloc: Global, font: &Font<'_>) -> Result<String, AllocError> {
     let axes = Axes::of(table_named(font, Tag(*b"fvar")));
     let mut text = String::new(alloc);

@@ -34,7 +34,7 @@ pub record IsWritten (whole bytes : List ℕ) : Type 0 where
   pub is : bytes ≡ whole
   pub small : length bytes ≤ MAX_FILE
 
--- why a file is not in memory: memory is refused for one that is not too large, or it is too large
+-- why a file is not in memory: out of memory for one that is not too large, or it is too large
 abbrev pub IsFileRefusal : List ℕ → FileError → Type 0
 IsFileRefusal whole file_errors.NoMemory = length whole ≤ MAX_FILE
 IsFileRefusal whole (file_errors.TooLarge size) = IsTooLarge whole size

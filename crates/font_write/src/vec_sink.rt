@@ -9,7 +9,7 @@ use crate::source::Source;
 use crate::writer::send_file;
 use std::alloc::{AllocError, Allocator};
 
-/// Bytes in memory. It stops where memory is refused.
+/// Bytes in memory. It stops if out of memory.
 #[derive(Drop)]
 pub struct VecSink<A: Allocator + Copy> {
     bytes: Vec<u8, A>,

@@ -75,7 +75,7 @@ fn measure<S: Source>(source: &S) -> Result<(Plan, u64), u64>
 ///
 /// # Errors
 ///
-/// `TooLarge` where the file has more than [`MAX_FILE`] bytes, and `NoMemory` where memory is refused.
+/// `TooLarge` where the file has more than [`MAX_FILE`] bytes, and `NoMemory` if out of memory.
 pub fn file_in_memory<S: Source, A: Allocator + Copy>(
     alloc: A,
     source: &S,

@@ -61,7 +61,7 @@ abbrev pub answer_text : Result ℕ Refusal → List ℕ
 answer_text (Ok size) = []
 answer_text (Err refusal) = text_of_refusal refusal
 
--- why a text is not written: memory is refused, or the room is too small
+-- why a text is not written: out of memory, or the room is too small
 abbrev pub RefusesText : Answer → ℕ → Refusal → Type 0
 RefusesText answer room NoMemory = Unit {0}
 RefusesText answer room (SmallRoom size) = (size ≡ length (refusal_text answer)) × (room < size)

@@ -22,7 +22,7 @@ pub struct Answer {
     /// How many bytes, ranges, glyphs or metrics were written; and where the status is 100 or 18, how many there
     /// are.
     pub size: u64,
-    /// Which of several files is refused, or was being joined where memory is refused, counted from 0.
+    /// Which of several files is refused, or was being joined when memory ran out, counted from 0.
     pub step: u64,
 }
 

@@ -16,7 +16,7 @@ use std::fmt;
 pub enum AnyError {
     /// A file is no font that is accepted.
     Font(FontError),
-    /// A range is bad, or memory is refused.
+    /// A range is bad, or out of memory.
     Wanted(WantedError),
     /// A list of files is not joined, or a cut would be too large, as a join may be.
     Join(JoinAllError),

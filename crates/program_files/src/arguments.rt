@@ -20,7 +20,7 @@ fn word_of_none(rt: &HostRuntime) -> &'static str {
 /// and `demo` otherwise.
 ///
 /// # Errors
-/// That of the system where a word is not UTF-8, and `OutOfMemory` where memory is refused.
+/// That of the system where a word is not UTF-8, and `OutOfMemory` if out of memory.
 pub fn words_of_line(rt: &HostRuntime, alloc: Global) -> io::Result<Vec<String>> {
     let mut words: Vec<String> = env::args(rt)?.collect(alloc)?;
     if !words.is_empty() {

@@ -75,7 +75,7 @@ fn followed<F: HeldFiles>(files: &F, alloc: Global, path: &str) -> Result<PathBu
 /// replaced.
 ///
 /// # Errors
-/// `AllocError` where memory is refused.
+/// `AllocError` if out of memory.
 pub fn standing_file<F: HeldFiles>(
     files: &F,
     alloc: Global,
@@ -107,7 +107,7 @@ impl<'a, F: HeldFiles> OutFile<'a, F> {
     /// for here.
     ///
     /// # Errors
-    /// `AllocError` where memory is refused.
+    /// `AllocError` if out of memory.
     pub fn new(files: &'a F, alloc: Global, path: &str) -> Result<OutFile<'a, F>, AllocError> {
         let path = followed(files, alloc, path)?;
         Ok(OutFile {

@@ -42,7 +42,7 @@ impl<'a, F: HeldFiles, O: Write + Copy + Drop> OutWriter<'a, F, O> {
     /// Returns the file at a path. Nothing is made before the first write.
     ///
     /// # Errors
-    /// `AllocError` where memory is refused.
+    /// `AllocError` if out of memory.
     pub fn at<I>(
         system: &System<'a, F, I, O>,
         path: &str,
@@ -54,7 +54,7 @@ impl<'a, F: HeldFiles, O: Write + Copy + Drop> OutWriter<'a, F, O> {
     /// Returns standard output.
     ///
     /// # Errors
-    /// `AllocError` where memory is refused.
+    /// `AllocError` if out of memory.
     pub fn standard<I>(system: &System<'a, F, I, O>) -> Result<OutWriter<'a, F, O>, AllocError> {
         OutWriter::over(system, Target::Standard(system.output))
     }

@@ -54,6 +54,6 @@ error_number NotTrueType = 4
 error_number (DuplicateTable tag) = 5
 error_number (TableOutOfFile tag) = 6
 
--- the text where memory is refused
+-- the text if out of memory
 abbrev pub no_memory_text : List ℕ
 no_memory_text = codes "no memory"

@@ -90,7 +90,7 @@ pub fn sources<'a>(
 /// Tests a font for cut form.
 ///
 /// # Errors
-/// `NoMemory` where memory is refused.
+/// `NoMemory` if out of memory.
 pub fn cut_forms(alloc: Global, font: &Font<'_>) -> Result<bool, NoMemory> {
     let is: bool = is_cut(alloc, font)?;
     let form: CutForm = cut_form(alloc, font)?;

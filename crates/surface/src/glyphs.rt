@@ -32,7 +32,7 @@ pub fn named(component: Component) -> (u16, u16) {
 /// Returns the glyphs that others lead to.
 ///
 /// # Errors
-/// `NoMemory` where memory is refused.
+/// `NoMemory` if out of memory.
 pub fn closure<O: Outlines>(alloc: Global, outlines: &O, g: u16) -> Result<bool, NoMemory> {
     let count: u16 = outlines.count();
     let mut seeds: Marks = Marks::new(alloc, count)?;

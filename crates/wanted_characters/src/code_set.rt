@@ -98,7 +98,7 @@ impl CodeSet {
     /// Adds a code. A number above 0x10FFFF is left out.
     ///
     /// # Errors
-    /// `AllocError` where memory is refused.
+    /// `AllocError` if out of memory.
     pub fn add(&mut self, code: u32) -> Result<(), AllocError> {
         if code <= LAST_CODE {
             reach(&mut self.bits, code)?;
@@ -112,7 +112,7 @@ impl CodeSet {
     /// Adds the codes from the first to the last. Numbers above 0x10FFFF are left out.
     ///
     /// # Errors
-    /// `AllocError` where memory is refused.
+    /// `AllocError` if out of memory.
     pub fn add_range(&mut self, first: u32, last: u32) -> Result<(), AllocError> {
         let last = last.min(LAST_CODE);
         if last < first {
@@ -129,7 +129,7 @@ impl CodeSet {
     /// Adds the codes of another set.
     ///
     /// # Errors
-    /// `AllocError` where memory is refused.
+    /// `AllocError` if out of memory.
     pub fn add_all(&mut self, alloc: Global, other: &CodeSet) -> Result<(), AllocError> {
         for (first, last) in other.ranges(alloc)? {
             self.add_range(first, last)?;
@@ -172,7 +172,7 @@ impl CodeSet {
     /// Returns the codes that are not in another set.
     ///
     /// # Errors
-    /// `AllocError` where memory is refused.
+    /// `AllocError` if out of memory.
     pub fn without(&self, alloc: Global, other: &CodeSet) -> Result<CodeSet, AllocError> {
         let mut bits = self.all_bits(alloc)?;
         for (word, gone) in bits.iter_mut().zip(&other.all_bits(alloc)?) {
@@ -188,7 +188,7 @@ impl CodeSet {
     /// Returns the codes as ranges, in ascending order, that neither overlap nor touch.
     ///
     /// # Errors
-    /// `AllocError` where memory is refused.
+    /// `AllocError` if out of memory.
     pub fn ranges(&self, alloc: Global) -> Result<Vec<(u32, u32)>, AllocError> {
         let mut ranges = Vec::new(alloc);
         let mut start: u32 = 0;
@@ -204,7 +204,7 @@ impl CodeSet {
     /// Returns the codes as a wanted set.
     ///
     /// # Errors
-    /// `AllocError` where memory is refused.
+    /// `AllocError` if out of memory.
     pub fn into_wanted(self, alloc: Global) -> Result<Wanted, AllocError> {
         if self.bits.is_empty() {
             let CodeSet {

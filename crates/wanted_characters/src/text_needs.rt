@@ -493,7 +493,7 @@ impl TextNeeds {
     /// Says that the next character composes with none before it.
     ///
     /// # Errors
-    /// `AllocError` where memory is refused.
+    /// `AllocError` if out of memory.
     pub fn end_segment(&mut self) -> Result<(), AllocError> {
         if !self.is_plain() {
             self.add_forms()?;
@@ -505,7 +505,7 @@ impl TextNeeds {
     /// Takes the next character of the text.
     ///
     /// # Errors
-    /// `AllocError` where memory is refused.
+    /// `AllocError` if out of memory.
     pub fn take(&mut self, letter: char) -> Result<(), AllocError> {
         if letter.is_ascii() {
             self.end_segment()?;
@@ -517,7 +517,7 @@ impl TextNeeds {
     /// Adds what the text needs to a set.
     ///
     /// # Errors
-    /// `AllocError` where memory is refused.
+    /// `AllocError` if out of memory.
     pub fn end(mut self, added: &mut CodeSet) -> Result<(), AllocError> {
         self.end_segment()?;
         self.needed.end()?;
@@ -537,7 +537,7 @@ fn add_needs(alloc: Global, added: &mut CodeSet, text: &str) -> Result<(), Alloc
 /// Adds what texts need.
 ///
 /// # Errors
-/// `AllocError` where memory is refused.
+/// `AllocError` if out of memory.
 pub fn add_texts(alloc: Global, added: &mut CodeSet, texts: &[&str]) -> Result<(), AllocError> {
     for &text in texts {
         add_needs(alloc, added, text)?;
@@ -559,7 +559,7 @@ fn add_parts(needs: &mut TextNeeds, first: u32, last: u32) -> Result<(), AllocEr
 /// Adds the canonical parts of the characters of a set.
 ///
 /// # Errors
-/// `AllocError` where memory is refused.
+/// `AllocError` if out of memory.
 pub fn add_all_parts(
     alloc: Global,
     added: &mut CodeSet,

@@ -303,7 +303,7 @@ impl<'a> Reading<'a> {
 ///
 /// # Errors
 /// `Unread` where a read fails, `BadLine` with the first line that is not as it should be, `NoMemory`
-/// where memory is refused.
+/// if out of memory.
 pub fn add_listed<R: Read>(
     alloc: Global,
     file: &mut R,

@@ -74,7 +74,7 @@ impl Choice {
     /// Returns the codes that are left, and the numbers of glyphs.
     ///
     /// # Errors
-    /// `AllocError` where memory is refused.
+    /// `AllocError` if out of memory.
     pub(crate) fn left(self, alloc: Global) -> Result<(Kept, CodeSet), AllocError> {
         let Choice { kept, gone, glyphs } = self;
         if gone.is_empty() {
@@ -181,7 +181,7 @@ fn is_path_of_file<F: HeldFiles>(files: &F, text: &str) -> bool {
 /// Adds a line for each text of a line that is the path of a file: that of the file was likely meant.
 ///
 /// # Errors
-/// `AllocError` where memory is refused.
+/// `AllocError` if out of memory.
 pub(crate) fn add_paths_as_texts<F: HeldFiles>(
     files: &F,
     said: &mut String,

@@ -51,7 +51,7 @@ fn push_range(numbers: &mut Vec<u16>, first: u32, last: u32) -> Result<(), Alloc
 /// Returns the numbers of a set in ascending order.
 ///
 /// # Errors
-/// `AllocError` where memory is refused.
+/// `AllocError` if out of memory.
 pub(crate) fn listed(alloc: Global, glyphs: &CodeSet) -> Result<Vec<u16>, AllocError> {
     let mut numbers = Vec::new(alloc);
     for (first, last) in glyphs.ranges(alloc)? {
@@ -63,7 +63,7 @@ pub(crate) fn listed(alloc: Global, glyphs: &CodeSet) -> Result<Vec<u16>, AllocE
 /// Returns the first number of a set that is not below a count.
 ///
 /// # Errors
-/// `AllocError` where memory is refused.
+/// `AllocError` if out of memory.
 pub(crate) fn first_past(
     alloc: Global,
     count: u16,

@@ -46,7 +46,7 @@ fn preset_path<F: Files>(
 /// Opens the file of a preset.
 ///
 /// # Errors
-/// `Unlisted` where none of this name is installed, `Refused` where memory is refused.
+/// `Unlisted` where none of this name is installed, `Refused` if out of memory.
 pub(crate) fn preset_source<'a, F: Files, I: Read + Copy + Drop, O>(
     system: &System<'a, F, I, O>,
     name: &'a str,

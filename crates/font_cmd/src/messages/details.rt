@@ -466,7 +466,7 @@ fn add_hints(text: &mut String, fault: &Fault<'_>, reason: Option<i32>) -> Resul
 /// Adds what is said of a fault after its first line.
 ///
 /// # Errors
-/// `AllocError` where memory is refused.
+/// `AllocError` if out of memory.
 pub(crate) fn add_details(
     alloc: Global,
     text: &mut String,

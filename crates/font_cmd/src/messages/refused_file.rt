@@ -189,7 +189,7 @@ fn file_kind(alloc: Global, file: &[u8]) -> Result<Option<Kind>, AllocError> {
 /// Reads the regular file at a path to its end, where there is one and it can be read.
 ///
 /// # Errors
-/// `AllocError` where memory is refused.
+/// `AllocError` if out of memory.
 pub(crate) fn read_again<F: Files>(
     files: &F,
     alloc: Global,
@@ -250,7 +250,7 @@ pub(crate) fn room_for_no_font(path: &str) -> usize {
 /// it can be read again.
 ///
 /// # Errors
-/// `AllocError` where memory is refused.
+/// `AllocError` if out of memory.
 pub(crate) fn add_no_font<F: Files>(
     files: &F,
     text: &mut String,
@@ -328,7 +328,7 @@ fn refused_seen<F: Files>(
 /// Returns what is known of the files that are why a line is not done. They are read again for that.
 ///
 /// # Errors
-/// `AllocError` where memory is refused.
+/// `AllocError` if out of memory.
 pub(crate) fn look_again<F: Files, I, O>(
     system: &System<'_, F, I, O>,
     fault: &Fault<'_>,

@@ -111,7 +111,7 @@ fn over_font<'a>(alloc: Global, writes: Writes, cut: &'a str, font: &str) -> Fau
 /// forced. Where nothing stands at OUT, only that is looked at.
 ///
 /// # Errors
-/// `OverFont` where it would, `Refused` where memory is refused.
+/// `OverFont` where it would, `Refused` if out of memory.
 pub(crate) fn keep_font<'a, F: HeldFiles, I, O>(
     system: &System<'a, F, I, O>,
     line: &Subset<'a>,
@@ -155,7 +155,7 @@ fn keep_from_slice<'a, F: HeldFiles, I, O>(
 /// forced. These are the paths of the slices.
 ///
 /// # Errors
-/// `OverItself` and `OverFont` where one would, `Refused` where memory is refused.
+/// `OverItself` and `OverFont` where one would, `Refused` if out of memory.
 pub(crate) fn keep_from_slices<'a, F: HeldFiles, I, O>(
     system: &System<'a, F, I, O>,
     line: &Slices<'a>,
@@ -212,7 +212,7 @@ fn may_replace_font<F: HeldFiles, I, O>(
 /// read again stands for all of them.
 ///
 /// # Errors
-/// `OverFont` where it would, `Refused` where memory is refused.
+/// `OverFont` where it would, `Refused` if out of memory.
 pub(crate) fn keep_from_join<'a, F: HeldFiles, I, O>(
     system: &System<'a, F, I, O>,
     line: &Join<'a>,
