@@ -55,9 +55,15 @@ def sections(titles: Iterable[str], tables: Mapping[str, object]) -> dict[str, s
     return {title: "".join(section_of(text, title)[1] for text in texts) for title in titles}
 
 
+def document(folder: str, name: str) -> str:
+    """A document of a folder, or that of docs/ where the folder has none yet."""
+    path = os.path.join(folder, name)
+    return read(path if os.path.exists(path) else os.path.join(DOCS, name))
+
+
 def replace_sections(folder: str, made: Mapping[str, str]) -> None:
     """Replaces sections in the documents of a folder."""
-    texts = {name: read(os.path.join(folder, name)) for name in NAMES}
+    texts = {name: document(folder, name) for name in NAMES}
     for title, section in made.items():
         having = [name for name, text in texts.items() if section_of(text, title)[1]]
         check(f"one document has a section: {title}", len(having) == 1, having)
