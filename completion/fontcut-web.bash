@@ -6,10 +6,10 @@ _fontcut_web_options() {
     case $1 in
     '') echo '--version --help' ;;
     prepare)
-        echo '--languages --scripts --unicodes --pages --features --no-hinting --instance --names --kern --json --help'
+        echo '--languages --scripts --unicodes --pages --features --no-hinting --instance --names --kern --force --json --help'
         ;;
     slice)
-        echo '--out --slices --order --lean --layout --variable --full --drop --woff2 --css --display --strict --quiet --json --help'
+        echo '--out --slices --order --lean --layout --variable --full --drop --woff2 --css --display --strict --force --quiet --json --help'
         ;;
     slices) echo '--font --order --help' ;;
     icons) echo '--out --codepoints --lean --variable --json --help' ;;

@@ -1,8 +1,8 @@
 /* fontcut.h: cuts of OpenType fonts with TrueType outlines for wanted characters, and joins of cuts, in memory.
  *
  * Every call is proved to be safe on all bytes, but for those whose names end in _checked, and to return. It reads
- * the areas that it is given, writes to the room that it is given, and keeps nothing. It asks for memory of malloc and gives all of it back. Calls may
- * run in as many threads as wanted: there is no state.
+ * the areas that it is given, writes to the room that it is given, and keeps nothing. It asks for memory of malloc and
+ * gives all of it back. Calls may run in as many threads as wanted: there is no state.
  *
  * What the caller owes: no pointer is NULL, except a parameter whose length is 0 (`at` of a fontcut_bytes is never
  * NULL, for an empty file too); each is aligned for its type; all of the area that it leads to can be read, or
@@ -43,16 +43,16 @@
 extern "C" {
 #endif
 
-/* The kinds of cuts. A call takes a kind as a number of 32 bits, for how long an enum is and what it may hold is
- * another thing in each language; a number that is no kind's is answered by FONTCUT_UNKNOWN_KIND. */
+/* The kinds of cuts. A call takes a kind as a number of 32 bits, because the size of an enum differs between languages.
+ * The answer to a number that is no kind's is FONTCUT_UNKNOWN_KIND. */
 typedef enum fontcut_kind {
     FONTCUT_FULL = 0,    /* cuts with the metrics and the names of all glyphs */
     FONTCUT_LEAN = 1,    /* lean cuts: zeros for the metrics of glyphs that are not kept, and no names of glyphs */
-    FONTCUT_LAYOUT = 2,  /* layout cuts: lean cuts with the tables of layout (BASE, GDEF, GPOS, GSUB and kern, without
+    FONTCUT_LAYOUT = 2,  /* layout cuts: lean cuts with the layout tables (BASE, GDEF, GPOS, GSUB and kern, without
                           * their parts for variable fonts), and with each glyph that GSUB may put for those of the
                           * wanted characters; a font that fontcut_check accepts may be refused for them, by 5 or 6
                           * for one of these tables, or by 27 */
-    FONTCUT_VARIABLE = 3 /* variable cuts: layout cuts that keep variations, with the tables of layout whole, with fvar,
+    FONTCUT_VARIABLE = 3 /* variable cuts: layout cuts that keep variations, with the layout tables whole, with fvar,
                           * avar, cvar, HVAR, MVAR, STAT and VVAR, and with gvar for the glyphs that are kept; a font
                           * that fontcut_check accepts may be refused for them, by 5 or 6 for one of these tables, by
                           * 27, or by 28 */
@@ -99,9 +99,9 @@ typedef struct fontcut_answer {
 } fontcut_answer;
 
 /* The numbers of the refusals are those that the program `fontcut` prints. A file is refused by the first that
- * applies, in the order of their numbers, but for FONTCUT_BAD_GLYPH, which comes after FONTCUT_BAD_CMAP. Tables of
- * layout are refused for layout and variable cuts alone, tables of variations for variable cuts alone, and both after
- * all else of the font. Where a call lists FONTCUT_NO_MEMORY, it may come in place of each status that is listed after
+ * applies, in the order of their numbers, but for FONTCUT_BAD_GLYPH, which comes after FONTCUT_BAD_CMAP. Layout tables
+ * are refused for layout and variable cuts alone, variation tables for variable cuts alone, and both after all else of
+ * the font. Where a call lists FONTCUT_NO_MEMORY, it may come in place of each status that is listed after
  * those of fontcut_check, 15 and 102. A tag is the number of its four bytes, the first one highest: 0x676C7966 is `glyf`. */
 typedef enum fontcut_status {
     FONTCUT_DONE = 0,
@@ -186,8 +186,8 @@ fontcut_answer fontcut_cuts(uint32_t kind, const uint8_t *font, size_t font_leng
  * glyphs of both and what these are made of, and the characters of the ranges alone. Glyphs that a font has blank, without
  * an outline, metrics or variation data, are not kept for their number. Such cuts join as others do.
  *
- * No links of GSUB are followed: whoever has shaped a text gives the glyphs that came of it, and the cut shapes this text
- * as the font does. OTHER TEXT MAY VANISH IN IT: a glyph that GSUB puts and the cut does not keep is blank, and no other
+ * No links of GSUB are followed: pass the glyphs that a shaper returned for a text, and the cut shapes this text as the
+ * font does. OTHER TEXT MAY VANISH IN IT: a glyph that GSUB puts and the cut does not keep is blank, and no other
  * font steps in for it. For text that is not known give what fontcut_closure writes, too, as fontcut_subset does.
  *
  * Gives the size in bytes of the cut. No cut is made. Statuses: 101, 104; those of fontcut_check, then 15, 102, for
@@ -229,11 +229,11 @@ fontcut_answer fontcut_closure(uint32_t kind, const uint8_t *font, size_t font_l
  * FONTCUT_LAYOUT 5 and 6, and for FONTCUT_VARIABLE 5, 6 and 28; 16, 100. */
 fontcut_answer fontcut_kept(uint32_t kind, const uint8_t *font, size_t font_length, uint16_t *out, size_t room);
 
-/* The calls whose names end in _checked do what the calls without that ending do, and do not test the font again: of a
- * small cut of a large font that is most of the time. They are for who cuts one font many times. The caller holds that
+/* The calls whose names end in _checked do what the calls without that ending do, and do not test the font again. For a
+ * small cut of a large font, testing takes most of the time: use them to cut one font many times. The caller holds that
  * fontcut_check, or another call, has accepted just these bytes, and that they have not been changed since; of other
- * bytes nothing is promised, and a call may read or write where it should not. Tables of layout and of variations are no
- * part of that test: each call for FONTCUT_LAYOUT or FONTCUT_VARIABLE tests them. Statuses: those of the other call
+ * bytes nothing is promised, and a call may read or write where it should not. Layout and variation tables are no part
+ * of that test: each call for FONTCUT_LAYOUT or FONTCUT_VARIABLE tests them. Statuses: those of the other call
  * for a font that fontcut_check accepts. */
 fontcut_answer fontcut_subset_size_checked(uint32_t kind, const uint8_t *font, size_t font_length,
                                            const fontcut_range *ranges, size_t range_count);

@@ -8,7 +8,8 @@ is_current() {
     if ! [ -e "$1" ]; then
         return 1
     fi
-    for file in "$top"/crates.txt "$top"/crates/*/src/* "$top"/crates/*/specs/* "$top"/crates/fontcut/*.ld; do
+    for file in "$top"/crates.txt "$top"/crates/*/src/* "$top"/crates/*/src/*/* "$top"/crates/*/specs/* \
+        "$top"/crates/fontcut/*.ld; do
         # shellcheck disable=SC3013 # dash and bash have -nt, and POSIX since 2024
         if [ "$file" -nt "$1" ]; then
             return 1

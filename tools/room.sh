@@ -1,5 +1,6 @@
-# Functions for ./fontcut, ./mutate, bindings/c/build and tools/build: a room is a folder with a copy of some crates, in which rt proves
-# them without touching the checkout. Its path is in $room. What reads the checkout is called at its top.
+# Functions for ./fontcut, ./mutate, bindings/c/build and tools/build: a room is a folder with a copy of some crates, in
+# which rt proves them without touching the checkout. Its path is in $room. What reads the checkout is called at its
+# top.
 # shellcheck shell=sh
 
 # make_room STATUS [FOLDER]: makes the room, in a folder where one is named. Whatever ends the script, what works in the

@@ -26,7 +26,7 @@ const QUIET: &str = "--quiet";
 // What `clap` says before the option that it suggests for an unknown one.
 const SUGGESTION: &str = "  tip: a similar argument exists: '--";
 
-// What `clap` says of an option that it does not know: a line that is at fault again.
+// The tip of `clap` to pass an unknown option as an argument, which would be another usage error.
 const TO_PASS: &str = "\n  tip: to pass '";
 
 // The value of an option for all features of layout.
@@ -135,7 +135,7 @@ pub struct Subset<'a> {
     /// Whether nothing is written where a wanted code is not mapped.
     pub is_strict: bool,
     /// Whether a text stands for its own characters alone in a layout or a variable cut, too.
-    pub is_exact: bool,
+    pub keeps_text_alone: bool,
     /// The kind of cut that is written.
     pub kind: CutKind,
     /// Whether a layout or a variable cut keeps what `GSUB` puts for the glyphs that are kept, too.
@@ -191,11 +191,11 @@ pub struct Join<'a> {
 /// Why a command line asks for nothing that can be done.
 #[derive(Drop)]
 pub enum LineError {
-    /// Memory was refused.
+    /// Out of memory.
     NoMemory,
     /// It asks for help or the version, which is this text.
     Help(String),
-    /// It is at fault, as this text says.
+    /// It is a usage error, as this text says.
     Words(String),
     /// Standard input is named more than once.
     InputTwice,
@@ -264,7 +264,7 @@ fn said_of_peer(alloc: Global, option: &str, answer: &str) -> Result<String, All
     format!(in alloc; "fontcut: {option}: {answer}\n")
 }
 
-// Returns what is said of a line at fault, of which this is the text of `clap`.
+// Returns what is said of a usage error, of which this is the text of `clap`.
 fn said_of_fault(alloc: Global, text: String) -> Result<String, AllocError> {
     let option = unexpected(text.as_str());
     if let Some(answer) = served(option) {
@@ -343,7 +343,7 @@ fn subset_task<'a>(
         glyph_files: values_of(alloc, matches, "gids-file")?,
         reports: matches.get_flag("report"),
         is_strict: matches.get_flag("strict"),
-        is_exact: matches.get_flag("exactly"),
+        keeps_text_alone: matches.get_flag("exactly"),
         kind: cut_kind(matches),
         is_closed: !matches.get_flag("no-layout-closure"),
         dropped: values_of(alloc, matches, "drop")?,
@@ -490,7 +490,7 @@ fn line_of<'a>(alloc: Global, matches: &ArgMatches<'a>) -> Result<Option<Line<'a
 }
 
 // Returns what is found in a line by the one subcommand that its first word names. There is nothing where
-// it names none, or where the line is at fault or asks for help.
+// it names none, or where the line is a usage error or asks for help.
 fn matched_alone<'a>(
     alloc: Global,
     words: &'a [String],
@@ -519,12 +519,12 @@ fn is_out_option(word: &str) -> bool {
     name == "-o" || name == "--output-file" || name == "--output"
 }
 
-// Returns whether a word of a line does so.
+// Returns whether a word of a line names the output of `subset`.
 fn names_out(words: &[String]) -> bool {
     words.iter().any(|word| is_out_option(word.as_str()))
 }
 
-// Returns how a line is spelled that is at fault, asks for help, or has an option before its command.
+// Returns how a line is spelled that is a usage error, asks for help, or has an option before its command.
 fn spelling_of(words: &[String]) -> Spelling {
     if names_out(words) {
         Spelling::PeersWithOut
@@ -533,8 +533,8 @@ fn spelling_of(words: &[String]) -> Spelling {
     }
 }
 
-// All subcommands take longer to make than most lines to read, and only help and faults tell of them; nor has an ordinary
-// line options of other subsetters.
+// Making all subcommands takes longer than reading most lines, so it is left to help and usage errors. Options of other
+// subsetters are tried after the program's own.
 fn matches_of<'a>(alloc: Global, words: &'a [String]) -> Result<ArgMatches<'a>, Error> {
     for spelling in [Spelling::Own, Spelling::Peers, Spelling::PeersWithOut] {
         if let Some(matches) = matched_alone(alloc, words, spelling)? {
@@ -563,7 +563,7 @@ fn unserved(matches: &ArgMatches<'_>) -> Option<&'static str> {
     Some("--layout-features")
 }
 
-// Returns what a line asks for, where it is not at fault by itself.
+// Returns what a line asks for, if it is no usage error by itself.
 fn parse_line<'a>(alloc: Global, words: &'a [String]) -> Result<Line<'a>, LineError> {
     let matches = matches_of(alloc, words).map_err(|fault| explained(alloc, &fault))?;
     if let Some(option) = unserved(&matches) {
@@ -603,7 +603,7 @@ fn reads_input_twice(task: &Task<'_>) -> bool {
     1 < count
 }
 
-/// Returns whether a line asks for the first lines of messages alone, be it at fault or not.
+/// Returns whether a line asks for the first lines of messages alone, be it a usage error or not.
 pub fn is_quiet(words: &[String]) -> bool {
     words.iter().any(|word| word.as_str() == QUIET)
 }
@@ -612,7 +612,7 @@ pub fn is_quiet(words: &[String]) -> bool {
 ///
 /// # Errors
 /// `Help` and `Words` with the text of `clap`, or with what serves in the place of an option of another subsetter;
-/// `InputTwice` where standard input is named more than once among the inputs; `NoMemory` where memory was refused.
+/// `InputTwice` where standard input is named more than once among the inputs; `NoMemory` if out of memory.
 pub fn parse<'a>(alloc: Global, words: &'a [String]) -> Result<Line<'a>, LineError> {
     let line = parse_line(alloc, words)?;
     if reads_input_twice(&line.task) {

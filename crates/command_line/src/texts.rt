@@ -7,8 +7,8 @@ pub(crate) const AFTER_PROGRAM: &str = "\
 CUT or FONT, OUT and one of FILES may be -, for standard input or output; ./- is a file of that name.
 OUT is replaced atomically.
 
-Exit status: 0 done; 1 a font is refused, check finds something, belongs says no, or out of memory;
-2 usage error; 3 a file cannot be read or written";
+Exit status: 0 done; 1 a font is refused, check finds something, belongs says no, --strict finds
+something missing, or out of memory; 2 usage error; 3 a file cannot be read or written";
 
 pub(crate) const VERBOSE: &str =
     "Says more: what to do if something fails, characters next to codes, and all scripts that a cut loses";
@@ -207,8 +207,8 @@ Examples:
   fontcut slice font.ttf slices --slices slices.txt --lean --css 'My Font' >slices/font.css
   fontcut slice font.ttf slices --slices japanese --layout
 
-Exit status: 0 done; 1 the font is refused; 2 usage error, also in the file of slices;
-3 a file cannot be read or written";
+Exit status: 0 done; 1 the font is refused, or --strict and it maps no code of a slice;
+2 usage error, also in the file of slices; 3 a file cannot be read or written";
 
 pub(crate) const JOIN: &str =
     "Joins FILES, cuts of one font, into OUT: the cut for all their characters. OUT is replaced";

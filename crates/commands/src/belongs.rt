@@ -1,5 +1,6 @@
 //! `belongs`: whether a file is a cut of a font.
-ghost use Rattle.std.specs.Prelude.{◌≡◌, None, IfErr, IfOk, MatchResult, OnOk, false, true};
+ghost use Rattle.std.specs.Prelude.{◌≡◌, ◌≢◌, Err, None, IfErr, IfOk, MatchResult, OnOk, false, true};
+ghost use Rattle.sfnt_bytes.specs.Memory.{IsRefused};
 ghost use Rattle.streams.specs.Outlet.{IsFlushed, WentOut, broken_of, fresh_of};
 ghost use Rattle.font_theory.specs.declared.kinds.Kind.{Kind};
 ghost use Rattle.font_theory.specs.Kinds.{fault_of};
@@ -12,14 +13,15 @@ use font_file::Font;
 use font_join::Which;
 use font_subset::{FontOfKind, OpenError, belongs};
 use font_theory::Kind;
-use std::alloc::Allocator;
+use sfnt_bytes::Memory;
 use std::io::Read;
 use streams::{Flushes, Inlet, Outlet};
 
 // Opens one of two files, or returns why that one is refused as a font.
 fn opened_as(which: Which, file: &[u8]) -> Result<Font<'_>, RunError>
-    ensures { MatchResult result (λ font. font ≡ file.now)
+    ensures exact { MatchResult result (λ font. font ≡ file.now)
         (λ error. (kind : Kind) → IsUnopened kind which file.now error) }
+    ensures memory { result ≢ Err RunError.Memory }
 {
     match Font::open(file) {
         Ok(font) => Ok(font),
@@ -38,14 +40,15 @@ fn unopened(which: Which, error: OpenError) -> RunError
 }
 
 // Opens one of two fonts for cuts of a kind, or returns why it is refused for them.
-fn opened_for<'f, 'a, A: Allocator + Copy>(
+fn opened_for<'f, 'a, A: Memory + Copy>(
     alloc: A,
     kind: Kind,
     which: Which,
     font: &'f Font<'a>,
 ) -> Result<FontOfKind<'f, 'a, A>, RunError>
-    ensures { MatchResult result (λ opened. (opened ≡ (kind, font.entry.now))
+    ensures exact { MatchResult result (λ opened. (opened ≡ (kind, font.entry.now))
         × (fault_of kind font.entry.now ≡ None)) (IsUnopened kind which font.entry.now) }
+    ensures memory { result ≡ Err RunError.Memory → IsRefused A.refuses }
 {
     match FontOfKind::open(alloc, kind, font) {
         Ok(opened) => Ok(opened),
@@ -53,58 +56,21 @@ fn opened_for<'f, 'a, A: Allocator + Copy>(
     }
 }
 
-// Returns whether a font, which was opened for cuts of a kind, is a cut of another one, of that kind. One opened font is
-// owned here, and the other one below: of what a function owns it is proved at each `?` that it can be let go.
-fn is_cut_of_font<A: Allocator + Copy>(
-    alloc: A,
-    cut: &FontOfKind<'_, '_, A>,
-    font: &Font<'_>,
-) -> Result<bool, RunError>
-    ensures { MatchResult result (Answers cut.now.0 cut.now.1 font.now)
-        (IsUnanswered cut.now.0 cut.now.1 font.now) }
-{
-    let opened = opened_for(alloc, cut.kind(), Which::Second, font)?;
-    Ok(belongs(alloc, cut, &opened)?)
-}
-
-// The same of the file of a font.
-fn is_cut_of_file<A: Allocator + Copy>(
-    alloc: A,
-    cut: &FontOfKind<'_, '_, A>,
-    font: &[u8],
-) -> Result<bool, RunError>
-    ensures { MatchResult result (Answers cut.now.0 cut.now.1 font.now)
-        (IsUnanswered cut.now.0 cut.now.1 font.now) }
-{
-    let _kind = cut.kind();
-    let second = opened_as(Which::Second, font)?;
-    is_cut_of_font(alloc, cut, &second)
-}
-
-// Returns whether a font is a cut of a file, of a kind.
-fn is_font_cut_of<A: Allocator + Copy>(
-    alloc: A,
-    kind: Kind,
-    cut: &Font<'_>,
-    font: &[u8],
-) -> Result<bool, RunError>
-    ensures { MatchResult result (Answers kind cut.now font.now) (IsUnanswered kind cut.now font.now) }
-{
-    let opened = opened_for(alloc, kind, Which::First, cut)?;
-    is_cut_of_file(alloc, &opened, font)
-}
-
 // Returns whether a file is a cut of another, of a kind. The first one is opened first.
-fn is_cut_in<A: Allocator + Copy>(
+fn is_cut_in<A: Memory + Copy>(
     alloc: A,
     kind: Kind,
     cut: &[u8],
     font: &[u8],
 ) -> Result<bool, RunError>
-    ensures { MatchResult result (Answers kind cut.now font.now) (IsUnanswered kind cut.now font.now) }
+    ensures exact { MatchResult result (Answers kind cut.now font.now) (IsUnanswered kind cut.now font.now) }
+    ensures memory { result ≡ Err RunError.Memory → IsRefused A.refuses }
 {
     let first = opened_as(Which::First, cut)?;
-    is_font_cut_of(alloc, kind, &first, font)
+    let opened_cut = opened_for(alloc, kind, Which::First, &first)?;
+    let second = opened_as(Which::Second, font)?;
+    let opened_font = opened_for(alloc, kind, Which::Second, &second)?;
+    Ok(belongs(alloc, &opened_cut, &opened_font)?)
 }
 
 // Returns what is printed of an answer.
@@ -119,10 +85,10 @@ fn answer(belongs: bool) -> &'static str
 ///
 /// # Errors
 ///
-/// `Read` where a reader fails: its inlet is broken, and a font is not read after a cut that was not.
+/// `Read` if a reader fails: its inlet is broken, and the font is not read if the cut could not be.
 /// `Memory` if out of memory, `OneOf` where a file is refused for cuts of the kind, the cut being
 /// looked at first: then nothing was sent. `Write` where the writer fails.
-pub fn run_belongs<R: Read, W: Flushes, A: Allocator + Copy>(
+pub fn run_belongs<R: Read, W: Flushes, A: Memory + Copy>(
     alloc: A,
     kind: Kind,
     cut: &mut Inlet<R>,
@@ -143,6 +109,7 @@ pub fn run_belongs<R: Read, W: Flushes, A: Allocator + Copy>(
     ensures error { IfErr result
         (BelongsStops kind R.remaining W.contents cut.old cut.new font.old font.new
         outlet.old outlet.new) }
+    ensures memory { result ≡ Err RunError.Memory → IsRefused A.refuses }
 {
     let cut_file = cut.read_all(alloc)?;
     let font_file = font.read_all(alloc)?;

@@ -1,7 +1,8 @@
 //! `check`: the findings of a file, and whether it is accepted.
-ghost use Rattle.std.specs.Prelude.{◌≡◌, ◌↔◌, None, Some, IfOk, IsTrue, OnOk, [], false, true};
+ghost use Rattle.std.specs.Prelude.{◌≡◌, ◌↔◌, Err, None, Some, IfOk, IsTrue, OnErr, OnOk, [], false, true};
 ghost use Rattle.std.specs.List.{flat_map};
 ghost use Rattle.sfnt_bytes.specs.Findings.{findings_of};
+ghost use Rattle.sfnt_bytes.specs.Memory.{IsRefused};
 ghost use Rattle.font_file.specs.Font.{font_fault};
 ghost use Rattle.commands.specs.Check.{check_text, finding_line, read_findings, report_text, shown_findings};
 ghost use Rattle.streams.specs.Inlet.{inlet_fresh_of};
@@ -9,9 +10,10 @@ ghost use Rattle.streams.specs.Outlet.{IsFlushed, fresh_of};
 ghost use Rattle.commands.specs.Run.{AnyFile, RefusesNone, SendsText, got};
 
 use crate::run_error::{RunError, send};
+use crate::text_memory::TextMemory;
 use font_file::{Font, FontError};
-use sfnt_bytes::{Directory, Finding};
-use std::alloc::{AllocError, Allocator};
+use sfnt_bytes::{Directory, Finding, Memory, NoMemory};
+use std::alloc::Allocator;
 use std::fmt;
 use std::io::Read;
 use streams::{Flushes, Inlet, Outlet};
@@ -31,6 +33,21 @@ impl<'a> fmt::Display for Lines<'a> {
     }
 }
 
+// Lists the findings of a file.
+fn listed_findings<A: Memory>(
+    alloc: A,
+    directory: &Directory<'_>,
+) -> Result<Vec<Finding, A>, NoMemory>
+    ensures findings { IfOk result (λ listed. listed.items ≡ findings_of directory.now) }
+    ensures memory { OnErr result (IsRefused A.refuses) }
+{
+    let mut listed = Vec::new(alloc);
+    for finding in directory.findings() {
+        A::push(&mut listed, finding)?;
+    }
+    Ok(listed)
+}
+
 // What `check` says of a file.
 #[derive(Drop)]
 struct Report<A: Allocator> {
@@ -40,15 +57,16 @@ struct Report<A: Allocator> {
     fault: Option<FontError>,
 }
 
-impl<A: Allocator> Report<A> {
+impl<A: Memory> Report<A> {
     // It stands apart, for its search for findings has 120 KB on the stack, which no other run is to touch.
     #[inline(never)]
-    fn of(alloc: A, file: &[u8]) -> Result<Report<A>, AllocError>
+    fn of(alloc: A, file: &[u8]) -> Result<Report<A>, NoMemory>
         ensures findings { IfOk result (λ report. shown_findings report ≡ read_findings file.now) }
         ensures fault { IfOk result (λ report. report.fault ≡ font_fault file.now) }
+        ensures memory { OnErr result (IsRefused A.refuses) }
     {
         let findings = match Directory::read(file) {
-            Ok(directory) => Some(directory.findings().collect(alloc)?),
+            Ok(directory) => Some(listed_findings(alloc, &directory)?),
             Err(_) => None,
         };
         Ok(Report {
@@ -56,7 +74,9 @@ impl<A: Allocator> Report<A> {
             fault: Font::open(file).err(),
         })
     }
+}
 
+impl<A: Allocator> Report<A> {
     // Returns whether the file is accepted without a finding.
     fn is_clean(&self) -> bool
         ensures { IsTrue result ↔ (self.now.fault ≡ None) × (shown_findings self.now ≡ Some []) }
@@ -95,7 +115,7 @@ impl<A: Allocator> fmt::Display for Report<A> {
 /// `Read` where the reader fails, `Memory` if out of memory: then nothing was sent. `Write` where
 /// the writer fails.
 #[tactic(auto, using(crate::proofs::CheckLemmas::read_findings_accepted), unfolding(crate::specs::Check::check_text))]
-pub fn run_check<R: Read, W: Flushes, A: Allocator + Copy>(
+pub fn run_check<R: Read, W: Flushes, A: TextMemory + Copy>(
     alloc: A,
     inlet: &mut Inlet<R>,
     outlet: &mut Outlet<W>,
@@ -108,10 +128,11 @@ pub fn run_check<R: Read, W: Flushes, A: Allocator + Copy>(
     ensures flushed { OnOk result (IsFlushed W.held outlet.new) }
     ensures answer { IfOk result (λ clean. got R.remaining inlet.old
         (λ file. IsTrue clean ↔ (font_fault file ≡ None) × (findings_of file ≡ []))) }
+    ensures memory { result ≡ Err RunError.Memory → IsRefused A.refuses }
 {
     let file = inlet.read_all(alloc)?;
     let report = Report::of(alloc, &file)?;
-    let text = report.to_string(alloc)?;
+    let text = alloc.text_of(&report)?;
     send(outlet, text.as_bytes())?;
     Ok(report.is_clean())
 }

@@ -1,10 +1,11 @@
 //! A font without some of its tables. OpenType 1.9, Organization of an OpenType Font, Table Directory.
-ghost use Rattle.std.specs.Prelude.{◌≡◌, ◌+◌, ◌*◌, ◌++◌, ◌≤◌, length, IfOk, OnOk};
+ghost use Rattle.std.specs.Prelude.{◌≡◌, ◌+◌, ◌*◌, ◌++◌, ◌≤◌, length, IfOk, OnErr, OnOk};
 ghost use Rattle.sfnt_bytes.specs.Directory.{HasRecords, tag_at};
+ghost use Rattle.sfnt_bytes.specs.Memory.{IsRefused};
 ghost use Rattle.commands.specs.Drop.{is_among, record_without, without_tables};
 
-use sfnt_bytes::{Directory, Tag, be16};
-use std::alloc::{AllocError, Allocator};
+use sfnt_bytes::{Directory, Memory, NoMemory, Tag, be16};
+use std::alloc::AllocError;
 
 // The bytes before the records of tables, and those of a record and of its tag.
 const HEADER: usize = 12;
@@ -28,37 +29,39 @@ fn is_gone(file: &[u8], at: usize, tags: &[Tag]) -> bool
 
 // Puts record `k` of a file after what is made, without its tag where that is one of some tags.
 #[tactic(auto, unfolding(crate::specs::Drop::record_without))]
-fn push_record<A: Allocator>(
+fn push_record<A: Memory>(
     made: &mut Vec<u8, A>,
     file: &[u8],
     k: usize,
     tags: &[Tag],
-) -> Result<(), AllocError>
+) -> Result<(), NoMemory>
     requires { 12 + 16 * (k + 1) ≤ length file.now }
-    ensures { OnOk result (made.new.items ≡ made.old.items ++ record_without tags.now file.now k) }
+    ensures record { OnOk result (made.new.items ≡ made.old.items ++ record_without tags.now file.now k) }
+    ensures memory { OnErr result (IsRefused A.refuses) }
 {
     let at = HEADER + RECORD * k;
     if is_gone(file, at, tags) {
-        made.extend_from_slice(BLANKS)?;
+        A::append(made, BLANKS)?;
     } else {
-        made.extend_from_slice(&file[at..at + TAG])?;
+        A::append(made, &file[at..at + TAG])?;
     }
-    made.extend_from_slice(&file[at + TAG..at + RECORD])
+    A::append(made, &file[at + TAG..at + RECORD])
 }
 
 // Returns a file with all its records, in which blanks stand for some tags.
 #[tactic(auto, using(crate::proofs::DropLemmas::along_start, crate::proofs::DropLemmas::along_step, crate::proofs::DropLemmas::along_end), unfolding(crate::specs::Drop::without_tables))]
-fn with_blanks<A: Allocator>(alloc: A, file: &[u8], tags: &[Tag]) -> Result<Vec<u8, A>, AllocError>
+fn with_blanks<A: Memory>(alloc: A, file: &[u8], tags: &[Tag]) -> Result<Vec<u8, A>, NoMemory>
     requires { HasRecords file.now }
-    ensures { IfOk result (λ made. made.items ≡ without_tables tags.now file.now) }
+    ensures file { IfOk result (λ made. made.items ≡ without_tables tags.now file.now) }
+    ensures memory { OnErr result (IsRefused A.refuses) }
 {
     let count = usize::from(be16(file, 4));
-    let mut made = Vec::with_capacity(alloc, file.len())?;
-    made.extend_from_slice(&file[..HEADER])?;
+    let mut made = alloc.room_for(file.len())?;
+    A::append(&mut made, &file[..HEADER])?;
     for k in 0..count {
         push_record(&mut made, file, k, tags)?;
     }
-    made.extend_from_slice(&file[HEADER + RECORD * count..])?;
+    A::append(&mut made, &file[HEADER + RECORD * count..])?;
     Ok(made)
 }
 
@@ -68,12 +71,16 @@ fn with_blanks<A: Allocator>(alloc: A, file: &[u8], tags: &[Tag]) -> Result<Vec<
 /// # Errors
 /// `AllocError` if out of memory.
 #[tactic(auto, using(sfnt_bytes::proofs::RefusalLemmas::is_readable))]
-pub fn without_tables<A: Allocator>(
+pub fn without_tables<A: Memory>(
     alloc: A,
     directory: &Directory<'_>,
     tags: &[Tag],
 ) -> Result<Vec<u8, A>, AllocError>
-    ensures { IfOk result (λ file. file.items ≡ without_tables tags.now directory.now) }
+    ensures file { IfOk result (λ file. file.items ≡ without_tables tags.now directory.now) }
+    ensures memory { OnErr result (IsRefused A.refuses) }
 {
-    with_blanks(alloc, directory.file(), tags)
+    match with_blanks(alloc, directory.file(), tags) {
+        Ok(file) => Ok(file),
+        Err(NoMemory) => Err(AllocError),
+    }
 }

@@ -1,8 +1,9 @@
 //! `join`: the join of cuts.
-ghost use Rattle.std.specs.Prelude.{◌≡◌, ◌≤◌, ℕ, Bool, List, IfErr, IfOk, MatchResult, OnOk, false, length, map, true};
+ghost use Rattle.std.specs.Prelude.{◌≡◌, ◌≤◌, ℕ, Bool, List, Err, IfErr, IfOk, MatchResult, OnOk, false, length, map, true};
 ghost use Rattle.font_subset.specs.CutOfKind.{cut_in};
 ghost use Rattle.font_theory.specs.Content.{Wanted};
 ghost use Rattle.font_theory.specs.declared.kinds.Kind.TheVariants.{Full};
+ghost use Rattle.sfnt_bytes.specs.Memory.{IsRefused};
 ghost use Rattle.sfnt_bytes.specs.declared.directory.TheConstants.{MAX_FILE};
 ghost use Rattle.font_theory.specs.Kinds.{format_of};
 ghost use Rattle.font_theory.specs.Tree.{union_below};
@@ -12,12 +13,12 @@ ghost use Rattle.commands.specs.JoinRun.{AreFresh, AreGot, AreSpent, GotCuts, Is
 use crate::run_error::RunError;
 use font_join::join_all_of_kind_into;
 use font_theory::Kind;
-use std::alloc::Allocator;
+use sfnt_bytes::Memory;
 use std::io::Read;
 use streams::{Flushes, Inlet, Outlet};
 
 // Reads each inlet to its end, in order. Where a reader fails, its inlet is broken, and no other.
-fn read_each<R: Read, A: Allocator + Copy>(
+fn read_each<R: Read, A: Memory + Copy>(
     alloc: A,
     inlets: &mut [Inlet<R>],
 ) -> Result<Vec<Vec<u8, A>, A>, RunError>
@@ -25,13 +26,15 @@ fn read_each<R: Read, A: Allocator + Copy>(
     ensures got { IfOk result (λ files. AreGot R.remaining inlets.old (map (λ v. v.items) files.items)) }
     ensures spent { OnOk result (AreSpent inlets.new) }
     ensures stops { IfErr result (ReadStops R.remaining inlets.old inlets.new) }
+    ensures memory { result ≡ Err RunError.Memory → IsRefused A.refuses }
 {
-    let mut files = Vec::with_capacity(alloc, inlets.len())?;
+    let mut files = alloc.room_for(inlets.len())?;
     for k in 0..inlets.len() {
         let file = inlets[k].read_all(alloc)?;
-        if files.push(file).is_err() {
-            return Err(RunError::Memory);
-        }
+        A::more_room_for(&mut files, 1)?;
+        let Ok(()) = files.push(file) else {
+            unreachable!()
+        };
     }
     Ok(files)
 }
@@ -43,7 +46,7 @@ fn read_each<R: Read, A: Allocator + Copy>(
 /// `Read` where a reader fails: its inlet is broken, and no other. `Memory` if out of memory, and
 /// `Join` with the first step that is refused, a size that is too large among them. Nothing was sent in
 /// these cases. `Write` where the writer fails.
-pub fn run_join_of_kind<R: Read, W: Flushes, A: Allocator + Copy>(
+pub fn run_join_of_kind<R: Read, W: Flushes, A: Memory + Copy>(
     alloc: A,
     kind: Kind,
     inlets: &mut [Inlet<R>],
@@ -67,6 +70,7 @@ pub fn run_join_of_kind<R: Read, W: Flushes, A: Allocator + Copy>(
 
     ensures error { IfErr result
         (JoinStops (format_of kind) R.remaining W.contents inlets.old inlets.new outlet.old outlet.new) }
+    ensures memory { result ≡ Err RunError.Memory → IsRefused A.refuses }
 {
     let files = read_each(alloc, inlets)?;
     let size = join_all_of_kind_into(alloc, kind, &files, outlet)?;
@@ -81,7 +85,7 @@ pub fn run_join_of_kind<R: Read, W: Flushes, A: Allocator + Copy>(
 /// `Read` where a reader fails: its inlet is broken, and no other. `Memory` if out of memory, and
 /// `Join` with the first step that is refused, a size that is too large among them. Nothing was sent in
 /// these cases. `Write` where the writer fails.
-pub fn run_join<R: Read, W: Flushes, A: Allocator + Copy>(
+pub fn run_join<R: Read, W: Flushes, A: Memory + Copy>(
     alloc: A,
     inlets: &mut [Inlet<R>],
     outlet: &mut Outlet<W>,
@@ -104,6 +108,7 @@ pub fn run_join<R: Read, W: Flushes, A: Allocator + Copy>(
 
     ensures error { IfErr result
         (JoinStops (format_of Full) R.remaining W.contents inlets.old inlets.new outlet.old outlet.new) }
+    ensures memory { result ≡ Err RunError.Memory → IsRefused A.refuses }
 {
     run_join_of_kind(alloc, Kind::Full, inlets, outlet)
 }

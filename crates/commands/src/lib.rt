@@ -12,6 +12,7 @@ mod mapped_glyphs;
 mod run_error;
 mod show;
 mod subset;
+mod text_memory;
 
 pub use crate::belongs::run_belongs;
 pub use crate::check::run_check;
@@ -25,3 +26,4 @@ pub use crate::show::run_show;
 pub use crate::subset::{
     run_subset, run_subset_of_font, run_subset_of_kind, run_subset_of_request,
 };
+pub use crate::text_memory::TextMemory;

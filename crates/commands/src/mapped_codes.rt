@@ -1,5 +1,6 @@
 //! `codes`: the mapped codes of a font, as words that `subset` reads.
-ghost use Rattle.std.specs.Prelude.{◌≡◌, ◌+◌, ◌≤◌, ◌∷◌, ℕ, [], IfErr, IfOk, MatchOption, None, OnOk, Some, string_bytes, true};
+ghost use Rattle.std.specs.Prelude.{◌≡◌, ◌+◌, ◌≤◌, ◌∷◌, ℕ, [], Err, IfErr, IfOk, MatchOption, None, OnOk, Some, string_bytes, true};
+ghost use Rattle.sfnt_bytes.specs.Memory.{IsRefused};
 ghost use Rattle.codes.specs.CharacterMap.{IsCharacterMap};
 ghost use Rattle.codes.specs.declared.code_points.TheConstants.{LAST_CODE};
 ghost use Rattle.font_map.specs.Mapping.{mapping_of};
@@ -11,6 +12,7 @@ ghost use Rattle.font_file.specs.Font.{font_fault};
 ghost use Rattle.commands.specs.Run.{IsAccepted, RefusesFont, SendsText};
 
 use crate::run_error::{RunError, send};
+use crate::text_memory::TextMemory;
 use codes::CodeRange;
 use font_file::Font;
 use font_map::Chart;
@@ -62,17 +64,18 @@ impl<'a, A: Allocator> fmt::Display for Codes<'a, A> {
     }
 }
 
-// Returns the lines of the codes that a font maps. It borrows the file, which its caller owns: of what a function owns it
-// is proved at each `?` that it can be let go.
+// Returns the lines of the codes that a font maps. It borrows the file, because at each `?` it is proved anew that all that
+// a function owns can be let go.
 #[tactic(auto, unfolding(crate::specs::Codes::codes_text))]
-fn codes_of_file<A: Allocator + Copy>(alloc: A, file: &[u8]) -> Result<String<A>, RunError>
+fn codes_of_file<A: TextMemory + Copy>(alloc: A, file: &[u8]) -> Result<String<A>, RunError>
     ensures accepted { OnOk result (font_fault file.now ≡ None) }
     ensures text { IfOk result (λ text. string_bytes text ≡ codes_text file.now) }
     ensures error { IfErr result (RefusesText file.now) }
+    ensures memory { result ≡ Err RunError.Memory → IsRefused A.refuses }
 {
     let font = Font::open(file)?;
     let codes = Codes(Chart::of(alloc, font.mapping())?);
-    Ok(codes.to_string(alloc)?)
+    Ok(alloc.text_of(&codes)?)
 }
 
 /// Reads a font to its end, and sends the codes that it maps, ascending: each range of them, as long as it
@@ -81,7 +84,7 @@ fn codes_of_file<A: Allocator + Copy>(alloc: A, file: &[u8]) -> Result<String<A>
 /// # Errors
 /// `Read` where the reader fails, `Memory` if out of memory, `Font` where the font is refused: then
 /// nothing was sent. `Write` where the writer fails.
-pub fn run_codes<R: Read, W: Flushes, A: Allocator + Copy>(
+pub fn run_codes<R: Read, W: Flushes, A: TextMemory + Copy>(
     alloc: A,
     inlet: &mut Inlet<R>,
     outlet: &mut Outlet<W>,
@@ -91,6 +94,7 @@ pub fn run_codes<R: Read, W: Flushes, A: Allocator + Copy>(
     ensures sent { SendsText R.remaining W.contents IsAccepted codes_text (RefusesFont R.remaining inlet.old)
         inlet.old inlet.new outlet.old outlet.new result }
     ensures flushed { OnOk result (IsFlushed W.held outlet.new) }
+    ensures memory { result ≡ Err RunError.Memory → IsRefused A.refuses }
 {
     let file = inlet.read_all(alloc)?;
     let text = codes_of_file(alloc, &file)?;

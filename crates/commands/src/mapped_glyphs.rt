@@ -1,6 +1,7 @@
 //! `codes --glyphs`: each mapped code of a font with its glyph and the advance width of that. OpenType 1.9,
 //! `cmap` and `hmtx`.
-ghost use Rattle.std.specs.Prelude.{◌≡◌, ◌+◌, ℕ, [], IfErr, IfOk, MatchOption, None, OnOk, Some, string_bytes, true};
+ghost use Rattle.std.specs.Prelude.{◌≡◌, ◌+◌, ℕ, [], Err, IfErr, IfOk, MatchOption, None, OnOk, Some, string_bytes, true};
+ghost use Rattle.sfnt_bytes.specs.Memory.{IsRefused};
 ghost use Rattle.codes.specs.CharacterMap.{IsCharacterMap, is_mapped};
 ghost use Rattle.codes.specs.Wanted.{IsBadRange};
 ghost use Rattle.codes.specs.Word.{IsWord, code_word};
@@ -13,6 +14,7 @@ ghost use Rattle.commands.specs.Inside.{RefusesText};
 ghost use Rattle.commands.specs.Run.{IsAccepted, RefusesFont, SendsText};
 
 use crate::run_error::{RunError, send};
+use crate::text_memory::TextMemory;
 use codes::Run;
 use font_file::Font;
 use font_map::Chart;
@@ -124,15 +126,16 @@ impl<'a, A: Allocator> fmt::Display for Glyphs<'a, A> {
 }
 
 // Returns the lines of the codes that a font maps. It borrows the file, which its caller owns, as `codes_of_file` does.
-fn glyphs_of_file<A: Allocator + Copy>(alloc: A, file: &[u8]) -> Result<String<A>, RunError>
+fn glyphs_of_file<A: TextMemory + Copy>(alloc: A, file: &[u8]) -> Result<String<A>, RunError>
     ensures accepted { OnOk result (font_fault file.now ≡ None) }
     ensures text { IfOk result (λ text. string_bytes text ≡ glyphs_text file.now) }
     ensures error { IfErr result (RefusesText file.now) }
+    ensures memory { result ≡ Err RunError.Memory → IsRefused A.refuses }
 {
     let font = Font::open(file)?;
     let chart = Chart::of(alloc, font.mapping())?;
     let glyphs = Glyphs { font: &font, chart };
-    Ok(glyphs.to_string(alloc)?)
+    Ok(alloc.text_of(&glyphs)?)
 }
 
 /// Reads a font to its end, and sends a line for each code that it maps, ascending: the code, the number of
@@ -141,7 +144,7 @@ fn glyphs_of_file<A: Allocator + Copy>(alloc: A, file: &[u8]) -> Result<String<A
 /// # Errors
 /// `Read` where the reader fails, `Memory` if out of memory, `Font` where the font is refused: then
 /// nothing was sent. `Write` where the writer fails.
-pub fn run_glyphs<R: Read, W: Flushes, A: Allocator + Copy>(
+pub fn run_glyphs<R: Read, W: Flushes, A: TextMemory + Copy>(
     alloc: A,
     inlet: &mut Inlet<R>,
     outlet: &mut Outlet<W>,
@@ -151,6 +154,7 @@ pub fn run_glyphs<R: Read, W: Flushes, A: Allocator + Copy>(
     ensures sent { SendsText R.remaining W.contents IsAccepted glyphs_text (RefusesFont R.remaining inlet.old)
         inlet.old inlet.new outlet.old outlet.new result }
     ensures flushed { OnOk result (IsFlushed W.held outlet.new) }
+    ensures memory { result ≡ Err RunError.Memory → IsRefused A.refuses }
 {
     let file = inlet.read_all(alloc)?;
     let text = glyphs_of_file(alloc, &file)?;

@@ -21,7 +21,7 @@ pub enum RunError {
     /// A read failed after this number of bytes.
     #[error("read fault after {0}")]
     Read(u64),
-    /// Memory was refused.
+    /// Out of memory.
     #[error("no memory")]
     Memory,
     /// A write or flush failed after this number of bytes.

@@ -1,5 +1,6 @@
 //! `show`: what a person asks of a font, and what a cut of it keeps and drops.
-ghost use Rattle.std.specs.Prelude.{◌≡◌, ◌<◌, None, Some, IfErr, IfOk, OnOk, string_bytes, true};
+ghost use Rattle.std.specs.Prelude.{◌≡◌, ◌<◌, Err, None, Some, IfErr, IfOk, OnErr, OnOk, string_bytes, true};
+ghost use Rattle.sfnt_bytes.specs.Memory.{IsRefused};
 ghost use Rattle.sfnt_bytes.specs.declared.tag.TheConstants.{SLOTS};
 ghost use Rattle.font_file.specs.Font.{cmap_of, font_fault};
 ghost use Rattle.font_tables.specs.Fields.{glyph_count_of};
@@ -12,12 +13,12 @@ ghost use Rattle.commands.specs.Run.{IsAccepted, RefusesFont, SendsText};
 ghost use Rattle.commands.specs.Show.{cut_text, dropped_line, dropped_text, font_text, kept_line, kept_table_line, kept_text, mapped_text, numbers_text, show_text};
 
 use crate::run_error::{RunError, send};
+use crate::text_memory::TextMemory;
 use font_file::Font;
 use font_map::{Chart, Mapping};
 use font_subset::{CutForm, cut_form};
 use font_tables::{LocaForm, Tables};
-use sfnt_bytes::{Directory, Entry, KEPT, NoMemory, SLOTS, Tag};
-use std::alloc::Allocator;
+use sfnt_bytes::{Directory, Entry, KEPT, Memory, NoMemory, SLOTS, Tag};
 use std::fmt;
 use std::io::Read;
 use streams::{Flushes, Inlet, Outlet};
@@ -161,9 +162,10 @@ impl fmt::Display for CutLine {
 }
 
 // Counts the codes that a font maps, by a chart, so that no order of its subtable is slow.
-fn count_mapped<A: Allocator + Copy>(alloc: A, font: &Font<'_>) -> Result<u32, NoMemory>
-    ensures { IfOk result (λ count. count ≡ mapped_codes
+fn count_mapped<A: Memory + Copy>(alloc: A, font: &Font<'_>) -> Result<u32, NoMemory>
+    ensures count { IfOk result (λ count. count ≡ mapped_codes
         (mapping_of (cmap_of font.now) (glyph_count_of font.now))) }
+    ensures memory { OnErr result (IsRefused A.refuses) }
 {
     let chart = Chart::of(alloc, font.mapping())?;
     Ok(chart.mapped_count())
@@ -197,10 +199,11 @@ impl<'a> fmt::Display for Shown<'a> {
 
 // Returns the lines of a font. It borrows the file, which its caller owns, as `codes_of_file` does.
 #[tactic(auto, unfolding(crate::specs::Show::show_text))]
-fn shown_file<A: Allocator + Copy>(alloc: A, file: &[u8]) -> Result<String<A>, RunError>
+fn shown_file<A: TextMemory + Copy>(alloc: A, file: &[u8]) -> Result<String<A>, RunError>
     ensures accepted { OnOk result (font_fault file.now ≡ None) }
     ensures text { IfOk result (λ text. string_bytes text ≡ show_text file.now) }
     ensures error { IfErr result (RefusesText file.now) }
+    ensures memory { result ≡ Err RunError.Memory → IsRefused A.refuses }
 {
     let font = Font::open(file)?;
     let shown = Shown {
@@ -208,7 +211,7 @@ fn shown_file<A: Allocator + Copy>(alloc: A, file: &[u8]) -> Result<String<A>, R
         mapped: count_mapped(alloc, &font)?,
         form: cut_form(alloc, &font)?,
     };
-    Ok(shown.to_string(alloc)?)
+    Ok(alloc.text_of(&shown)?)
 }
 
 /// Reads a font to its end, and sends its numbers of glyphs, units and metrics, the form of its
@@ -219,7 +222,7 @@ fn shown_file<A: Allocator + Copy>(alloc: A, file: &[u8]) -> Result<String<A>, R
 /// # Errors
 /// `Read` where the reader fails, `Memory` if out of memory, `Font` where the font is refused: then
 /// nothing was sent. `Write` where the writer fails.
-pub fn run_show<R: Read, W: Flushes, A: Allocator + Copy>(
+pub fn run_show<R: Read, W: Flushes, A: TextMemory + Copy>(
     alloc: A,
     inlet: &mut Inlet<R>,
     outlet: &mut Outlet<W>,
@@ -229,6 +232,7 @@ pub fn run_show<R: Read, W: Flushes, A: Allocator + Copy>(
     ensures sent { SendsText R.remaining W.contents IsAccepted show_text (RefusesFont R.remaining inlet.old)
         inlet.old inlet.new outlet.old outlet.new result }
     ensures flushed { OnOk result (IsFlushed W.held outlet.new) }
+    ensures memory { result ≡ Err RunError.Memory → IsRefused A.refuses }
 {
     let file = inlet.read_all(alloc)?;
     let text = shown_file(alloc, &file)?;

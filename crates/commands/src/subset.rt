@@ -1,6 +1,7 @@
 //! `subset`: the cut of a font for the codes and the glyphs that are wanted.
-ghost use Rattle.std.specs.Prelude.{◌≡◌, ◌≤◌, None, IfOk, OnOk, length, nat_le, option_copied, true};
+ghost use Rattle.std.specs.Prelude.{◌≡◌, ◌≤◌, Err, None, IfOk, OnOk, length, nat_le, option_copied, true};
 ghost use Rattle.std.specs.List.{find};
+ghost use Rattle.sfnt_bytes.specs.Memory.{IsRefused};
 ghost use Rattle.font_subset.specs.CutOfFont.{cut_of};
 ghost use Rattle.sfnt_bytes.specs.declared.directory.TheConstants.{MAX_FILE};
 ghost use Rattle.font_file.specs.Font.{font_fault};
@@ -13,31 +14,11 @@ use crate::cut_request::CutRequest;
 use crate::run_error::RunError;
 use codes::Wanted;
 use font_file::Font;
-use font_subset::{FontToCut, cut_of_kind_into, keeps_layout};
+use font_subset::{FontToCut, cut_of_kind_into, keeps_layout, recall_accepted};
 use font_theory::Kind;
-use std::alloc::Allocator;
+use sfnt_bytes::Memory;
 use std::io::Read;
 use streams::{Flushes, Inlet, Outlet};
-
-// Sends the cut of a font that was opened for what is asked, flushes, and returns its size. It owns nothing, nor do
-// `run_subset_of_font` and `send_of_file` own more than they open: of what a function owns it is proved at each `?` that
-// it can be let go.
-fn send_of_opened<W: Flushes, A: Allocator + Copy>(
-    alloc: A,
-    font: &FontToCut<'_, '_, A>,
-    request: &CutRequest<'_, A>,
-    outlet: &mut Outlet<W>,
-) -> Result<u64, RunError>
-    requires fresh { fresh_of outlet.old ≡ true }
-    requires opened { font.now ≡ (request.now.kind, (font.now.1.0, request.now.closes)) }
-    requires known { stray_number font.now.1.0 (option_copied request.now.glyphs) ≡ None }
-    ensures { SendsCut W.contents W.held (requested request.now) font.now.1.0 outlet.old outlet.new result }
-{
-    let _opened = font.font();
-    let size = cut_of_kind_into(alloc, font, Some(request.codes), request.glyphs, outlet)?;
-    outlet.finish()?;
-    Ok(size)
-}
 
 // Finds the first number that is not below a count.
 fn first_past(count: u16, numbers: &[u16]) -> Option<u16>
@@ -69,36 +50,24 @@ fn stray_in(font: &Font<'_>, numbers: Option<&[u16]>) -> Option<u16>
 /// `NoGlyph` with the first number that is no glyph of the font, `Memory` if out of memory, `Font` where the font is
 /// refused for cuts of the kind, and `TooLarge` where its cut has more bytes than a file may have: then nothing was sent.
 /// `Write` where the writer fails.
-pub fn run_subset_of_font<W: Flushes, A: Allocator + Copy>(
+pub fn run_subset_of_font<W: Flushes, A: Memory + Copy>(
     alloc: A,
     font: &Font<'_>,
     request: &CutRequest<'_, A>,
     outlet: &mut Outlet<W>,
 ) -> Result<u64, RunError>
     requires { fresh_of outlet.old ≡ true }
-    ensures { SendsCut W.contents W.held (requested request.now) font.now outlet.old outlet.new result }
+    ensures sends { SendsCut W.contents W.held (requested request.now) font.now outlet.old outlet.new result }
+    ensures memory { result ≡ Err RunError.Memory → IsRefused A.refuses }
 {
-    // Recalls that the font is accepted.
-    let _tables = font.tables();
+    recall_accepted(font);
     if let Some(number) = stray_in(font, request.glyphs) {
         return Err(RunError::NoGlyph(number));
     }
     let opened = FontToCut::open(alloc, request.kind, request.closes, font)?;
-    send_of_opened(alloc, &opened, request, outlet)
-}
-
-// The same of a file, which is opened as a font first.
-fn send_of_file<W: Flushes, A: Allocator + Copy>(
-    alloc: A,
-    file: &[u8],
-    request: &CutRequest<'_, A>,
-    outlet: &mut Outlet<W>,
-) -> Result<u64, RunError>
-    requires { fresh_of outlet.old ≡ true }
-    ensures { SendsCut W.contents W.held (requested request.now) file.now outlet.old outlet.new result }
-{
-    let font = Font::open(file)?;
-    run_subset_of_font(alloc, &font, request, outlet)
+    let size = cut_of_kind_into(alloc, &opened, Some(request.codes), request.glyphs, outlet)?;
+    outlet.finish()?;
+    Ok(size)
 }
 
 /// Reads a font to its end, sends its cut for what is asked, and returns the size of the cut in bytes.
@@ -109,7 +78,7 @@ fn send_of_file<W: Flushes, A: Allocator + Copy>(
 /// number that is no glyph of the font, and `TooLarge` where its cut has more bytes than a file may have: then nothing was
 /// sent. `Write` where the writer fails. A number is looked at after the font as such, and before what cuts of the kind
 /// read of it besides.
-pub fn run_subset_of_request<R: Read, W: Flushes, A: Allocator + Copy>(
+pub fn run_subset_of_request<R: Read, W: Flushes, A: Memory + Copy>(
     alloc: A,
     request: &CutRequest<'_, A>,
     inlet: &mut Inlet<R>,
@@ -123,9 +92,11 @@ pub fn run_subset_of_request<R: Read, W: Flushes, A: Allocator + Copy>(
     ensures flushed { OnOk result (IsFlushed W.held outlet.new) }
     ensures size { IfOk result (λ size. (size ≤ MAX_FILE) × got R.remaining inlet.old
         (λ file. size ≡ length (cut_for (requested request.now) file))) }
+    ensures memory { result ≡ Err RunError.Memory → IsRefused A.refuses }
 {
     let file = inlet.read_all(alloc)?;
-    send_of_file(alloc, &file, request, outlet)
+    let font = Font::open(&file)?;
+    run_subset_of_font(alloc, &font, request, outlet)
 }
 
 /// Reads a font to its end, sends its cut of a kind for the codes that are wanted, and returns the size of the cut
@@ -136,7 +107,7 @@ pub fn run_subset_of_request<R: Read, W: Flushes, A: Allocator + Copy>(
 /// `Read` where the reader fails, `Memory` if out of memory, `Font` where the font is refused, and
 /// `TooLarge` where its cut has more bytes than a file may have: then nothing was sent. `Write` where
 /// the writer fails.
-pub fn run_subset_of_kind<R: Read, W: Flushes, A: Allocator + Copy>(
+pub fn run_subset_of_kind<R: Read, W: Flushes, A: Memory + Copy>(
     alloc: A,
     kind: Kind,
     inlet: &mut Inlet<R>,
@@ -151,6 +122,7 @@ pub fn run_subset_of_kind<R: Read, W: Flushes, A: Allocator + Copy>(
     ensures flushed { OnOk result (IsFlushed W.held outlet.new) }
     ensures size { IfOk result (λ size. (size ≤ MAX_FILE) × got R.remaining inlet.old
         (λ file. size ≡ length (cut_for (codes_request kind (member wanted.now)) file))) }
+    ensures memory { result ≡ Err RunError.Memory → IsRefused A.refuses }
 {
     let request = CutRequest {
         kind,
@@ -169,7 +141,7 @@ pub fn run_subset_of_kind<R: Read, W: Flushes, A: Allocator + Copy>(
 /// `Read` where the reader fails, `Memory` if out of memory, `Font` where the font is refused, and
 /// `TooLarge` where its cut has more bytes than a file may have: then nothing was sent. `Write` where
 /// the writer fails.
-pub fn run_subset<R: Read, W: Flushes, A: Allocator + Copy>(
+pub fn run_subset<R: Read, W: Flushes, A: Memory + Copy>(
     alloc: A,
     inlet: &mut Inlet<R>,
     wanted: &Wanted<A>,
@@ -184,6 +156,7 @@ pub fn run_subset<R: Read, W: Flushes, A: Allocator + Copy>(
     ensures flushed { OnOk result (IsFlushed W.held outlet.new) }
     ensures size { IfOk result (λ size. (size ≤ MAX_FILE) × got R.remaining inlet.old
         (λ file. size ≡ length (cut_of file (member wanted.now)))) }
+    ensures memory { result ≡ Err RunError.Memory → IsRefused A.refuses }
 {
     run_subset_of_kind(alloc, Kind::Full, inlet, wanted, outlet)
 }

@@ -1,13 +1,12 @@
 //! The command `belongs`: whether a file is a cut of a font, and of which kind.
 ghost use Rattle.std.specs.Prelude.{◌≡◌, true};
-ghost use Rattle.streams.specs.Inlet.{inlet_fresh_of};
 ghost use Rattle.streams.specs.Outlet.{fresh_of};
 
+use crate::asked::dropped_tables::without_named;
+use crate::messages::command_error::CommandError;
 use crate::messages::details::cut_name;
-use crate::messages::report::Fault;
 use crate::outcome::{Outcome, answered};
-use crate::paths::dropped_tables::without_named;
-use crate::paths::inputs::{inlet_at, input_name, read_whole};
+use crate::paths::inputs::{inlet_at, input_name, read_inlet, read_whole};
 use command_line::{Belongs, Verbosity};
 use commands::{RunError, run_belongs};
 use font_coverage::kind_of_cut;
@@ -25,7 +24,7 @@ fn belonged<'a>(
     line: &Belongs<'a>,
     unread: &'a str,
     is_cut: Result<bool, RunError>,
-) -> Result<Outcome, Fault<'a>> {
+) -> Result<Outcome, CommandError<'a>> {
     match is_cut {
         Err(RunError::OneOf(which, error)) => {
             let path = match which {
@@ -33,7 +32,7 @@ fn belonged<'a>(
                 Which::Second => line.font,
             };
             let error = RunError::OneOf(which, error);
-            Err(Fault::RefusedFile { path, error })
+            Err(CommandError::RefusedFile { path, error })
         }
         is_cut => answered(unread, is_cut),
     }
@@ -47,7 +46,7 @@ fn belongs_held<'a, W: Flushes>(
     cut: &[u8],
     font: &[u8],
     out: &mut Outlet<W>,
-) -> Result<Outcome, Fault<'a>>
+) -> Result<Outcome, CommandError<'a>>
     requires { fresh_of out.old ≡ true }
 {
     let (mut cut_inlet, mut font_inlet) = (Inlet::new(cut), Inlet::new(font));
@@ -55,13 +54,13 @@ fn belongs_held<'a, W: Flushes>(
     belonged(line, line.cut, is_cut)
 }
 
-// Does what `belongs` asks for of a font without some of its tables.
+// Compares a cut with its font without the tables that are to be dropped.
 fn belongs_without<'a, F: HeldFiles, I: Read + Copy + Drop, O, W: Flushes>(
     system: &System<'a, F, I, O>,
     kind: Kind,
     line: &Belongs<'a>,
     out: &mut Outlet<W>,
-) -> Result<Outcome, Fault<'a>>
+) -> Result<Outcome, CommandError<'a>>
     requires { fresh_of out.old ≡ true }
 {
     let cut = read_whole(system, line.cut)?;
@@ -92,7 +91,7 @@ fn belongs_by_some<'a, W: Flushes>(
     cut: &[u8],
     font: &[u8],
     out: &mut Outlet<W>,
-) -> Result<Outcome, Fault<'a>>
+) -> Result<Outcome, CommandError<'a>>
     requires { fresh_of out.old ≡ true }
 {
     let Some(kind) = kind_of_file(alloc, cut, font)? else {
@@ -106,26 +105,13 @@ fn belongs_by_some<'a, W: Flushes>(
     Ok(Outcome::noting(true, said))
 }
 
-// Reads the file of an inlet to its end, whose path this is.
-fn read_inlet<'a, R: Read>(
-    alloc: Global,
-    inlet: &mut Inlet<R>,
-    path: &'a str,
-) -> Result<Vec<u8>, Fault<'a>>
-    requires { inlet_fresh_of inlet.old ≡ true }
-{
-    inlet
-        .read_all(alloc)
-        .map_err(|error| Fault::of_run(path, path, RunError::from(error)))
-}
-
-// Does what `belongs` asks for where it names no kind.
+// Finds the kind of which a file is a cut of another, if the line names none.
 fn belongs_as_any<'a, F: HeldFiles, I: Read + Copy + Drop, O, W: Flushes>(
     system: &System<'a, F, I, O>,
     line: &Belongs<'a>,
     verbosity: Verbosity,
     out: &mut Outlet<W>,
-) -> Result<Outcome, Fault<'a>>
+) -> Result<Outcome, CommandError<'a>>
     requires { fresh_of out.old ≡ true }
 {
     let mut cut_inlet = inlet_at(system, line.cut)?;
@@ -139,14 +125,14 @@ fn belongs_as_any<'a, F: HeldFiles, I: Read + Copy + Drop, O, W: Flushes>(
 /// its kind is said.
 ///
 /// # Errors
-/// The first fault.
+/// The first error.
 pub(crate) fn belongs<'a, F: HeldFiles, I: Read + Copy + Drop, O, W: Flushes>(
     system: &System<'a, F, I, O>,
     kind: Option<Kind>,
     line: &Belongs<'a>,
     verbosity: Verbosity,
     out: &mut Outlet<W>,
-) -> Result<Outcome, Fault<'a>>
+) -> Result<Outcome, CommandError<'a>>
     requires { fresh_of out.old ≡ true }
 {
     let Some(kind) = kind else {

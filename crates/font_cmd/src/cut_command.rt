@@ -2,23 +2,25 @@
 ghost use Rattle.std.specs.Prelude.{◌≡◌, true};
 ghost use Rattle.streams.specs.Inlet.{inlet_fresh_of};
 
-use crate::asked::choice::{Choice, add_all_files, add_paths_as_texts, names_set};
-use crate::asked::glyphs::{EVERYTHING, keeps_all_glyphs, listed, names_glyphs};
-use crate::messages::report::Fault;
+use crate::asked::choice::{Choice, add_all_files, names_set};
+use crate::asked::dropped_tables::without_named;
+use crate::asked::glyph_numbers::{EVERYTHING, keeps_all_glyphs, listed, names_glyphs};
+use crate::messages::command_error::CommandError;
 use crate::outcome::Outcome;
-use crate::paths::dropped_tables::without_named;
-use crate::paths::inputs::{inlet_at, input_name};
+use crate::paths::inputs::{font_in, inlet_at, input_name, read_inlet};
 use crate::paths::kept_font::keep_font;
 use crate::paths::output::{outlet, packed_out, placed};
 use codes::Wanted;
 use command_line::{Subset, Verbosity};
-use commands::{CutRequest, RunError, run_subset_of_font};
+use commands::{CutRequest, run_subset_of_font};
 use font_coverage::{Asked, Coverage, Kept, WantedCodes, linked_count, losses};
 use font_file::Font;
 use font_subset::keeps_layout;
+use font_texts::Shown;
 use font_theory::Kind;
 use program_files::{HeldFiles, System};
 use std::alloc::{AllocError, Global};
+use std::fs;
 use std::io::{Read, Write};
 use streams::Inlet;
 use wanted_characters::is_range_word;
@@ -51,18 +53,13 @@ fn send_cut<'a, F: HeldFiles, I, O: Write + Copy + Drop>(
     font: &Font<'_>,
     wanted: &WantedCodes,
     numbers: &[u16],
-) -> Result<u64, Fault<'a>> {
+) -> Result<u64, CommandError<'a>> {
     let mut outlet = outlet(system, line.out)?;
     let request = request_of(kind, line, wanted.all(), numbers);
     let sent = run_subset_of_font(system.alloc, font, &request, &mut outlet);
-    let size = sent.map_err(|error| Fault::of_run(line.font, line.out, error))?;
+    let size = sent.map_err(|error| CommandError::of_run(line.font, line.out, error))?;
     placed(system, outlet, line.out)?;
     Ok(size)
-}
-
-// Opens the font that is held in a file.
-fn opened<'a, 'f>(line: &Subset<'a>, file: &'f [u8]) -> Result<Font<'f>, Fault<'a>> {
-    Font::open(file).map_err(|error| Fault::of_run(line.font, line.out, RunError::from(error)))
 }
 
 // Returns the number of glyphs that a closed cut for codes alone keeps by links, where a line reports it.
@@ -89,11 +86,35 @@ fn cut_and_report<'a, F: HeldFiles, I, O: Write + Copy + Drop>(
     wanted: &WantedCodes,
     numbers: &[u16],
     coverage: Coverage,
-) -> Result<Outcome, Fault<'a>> {
+) -> Result<Outcome, CommandError<'a>> {
     let linked = reported_links(system.alloc, kind, line, font, wanted.all())?;
     let size = send_cut(system, kind, line, font, wanted, numbers)?;
     let text = coverage.with_cut(kind, linked, size)?;
     Ok(Outcome::saying(true, text))
+}
+
+// Returns whether a text has a dot or a slash, and is the path of a file.
+fn is_path_of_file<F: HeldFiles>(files: &F, text: &str) -> bool {
+    let looks_so = text.contains('.') || text.contains('/');
+    looks_so && fs::metadata(files, text).is_ok_and(|stands| stands.is_file())
+}
+
+// Adds a note for each `--text` whose value is the path of a file: the text of that file was likely meant.
+fn note_paths_as_texts<F: HeldFiles>(
+    files: &F,
+    said: &mut String,
+    line: &Subset<'_>,
+) -> Result<(), AllocError> {
+    for &text in &line.texts {
+        if is_path_of_file(files, text) {
+            let path = Shown(text);
+            write!(
+                said,
+                "fontcut: {path} is a file: --text keeps the characters of its path, --text-file those in it\n"
+            )?;
+        }
+    }
+    Ok(())
 }
 
 // Returns what is said of a cut without being asked.
@@ -116,7 +137,7 @@ fn said_of_cut<F: HeldFiles, I, O>(
         says_more: line.verbosity == Verbosity::Verbose,
     };
     let mut said = losses(system.alloc, font, asked)?;
-    add_paths_as_texts(system.files, &mut said, line)?;
+    note_paths_as_texts(system.files, &mut said, line)?;
     Ok(said)
 }
 
@@ -128,7 +149,7 @@ fn cut_and_say<'a, F: HeldFiles, I, O: Write + Copy + Drop>(
     font: &Font<'_>,
     wanted: &WantedCodes,
     numbers: &[u16],
-) -> Result<Outcome, Fault<'a>> {
+) -> Result<Outcome, CommandError<'a>> {
     let said = said_of_cut(system, kind, line, font, wanted)?;
     send_cut(system, kind, line, font, wanted, numbers)?;
     Ok(Outcome::noting(true, said))
@@ -148,7 +169,7 @@ fn cut_counted<'a, F: HeldFiles, I, O: Write + Copy + Drop>(
     font: &Font<'_>,
     kept: Kept,
     numbers: &[u16],
-) -> Result<Outcome, Fault<'a>> {
+) -> Result<Outcome, CommandError<'a>> {
     let shows_characters = line.verbosity == Verbosity::Verbose;
     let mut coverage = Coverage::of(system.alloc, font, &kept, kind, shows_characters)?;
     let wanted = kept.into_wanted(system.alloc)?;
@@ -171,8 +192,8 @@ fn cut_file<'a, F: HeldFiles, I, O: Write + Copy + Drop>(
     file: &[u8],
     kept: Kept,
     numbers: &[u16],
-) -> Result<Outcome, Fault<'a>> {
-    let font = opened(line, file)?;
+) -> Result<Outcome, CommandError<'a>> {
+    let font = font_in(line.font, file)?;
     if line.reports || line.is_strict {
         return cut_counted(system, kind, line, &font, kept, numbers);
     }
@@ -180,48 +201,17 @@ fn cut_file<'a, F: HeldFiles, I, O: Write + Copy + Drop>(
     cut_and_say(system, kind, line, &font, &wanted, numbers)
 }
 
-// Reads a font into memory, without the tables that a line drops.
-fn held_file<'a, F: HeldFiles, I, O, R: Read>(
-    system: &System<'a, F, I, O>,
-    line: &Subset<'a>,
-    inlet: &mut Inlet<R>,
-) -> Result<Vec<u8>, Fault<'a>>
-    requires { inlet_fresh_of inlet.old ≡ true }
-{
-    let whole = match inlet.read_all(system.alloc) {
-        Ok(whole) => whole,
-        Err(error) => return Err(Fault::of_run(line.font, line.out, RunError::from(error))),
-    };
-    keep_font(system, line, &whole)?;
-    without_named(system.alloc, line.font, whole, &line.dropped)
-}
-
-// Cuts the font of an inlet for the codes that are kept and for glyphs, as a line asks for it.
-fn cut_inlet<'a, F: HeldFiles, I, O: Write + Copy + Drop, R: Read>(
-    system: &System<'a, F, I, O>,
-    kind: Kind,
-    line: &Subset<'a>,
-    inlet: &mut Inlet<R>,
-    kept: Kept,
-    numbers: &[u16],
-) -> Result<Outcome, Fault<'a>>
-    requires { inlet_fresh_of inlet.old ≡ true }
-{
-    let file = held_file(system, line, inlet)?;
-    cut_file(system, kind, line, &file, kept, numbers)
-}
-
 // Looks at the OUT of a line, and at whether it names a set of characters or glyphs that cuts of its kind can have.
-fn check_line<'a>(kind: Kind, line: &Subset<'a>) -> Result<(), Fault<'a>> {
+fn check_line<'a>(kind: Kind, line: &Subset<'a>) -> Result<(), CommandError<'a>> {
     if is_range_word(line.out) || line.out == EVERYTHING {
-        return Err(Fault::OutIsWord(line.out));
+        return Err(CommandError::OutIsWord(line.out));
     }
     packed_out(line.out, line.is_forced)?;
     if !names_set(line) {
-        return Err(Fault::NoSet);
+        return Err(CommandError::NoSet);
     }
     if kind == Kind::Full && names_glyphs(line) {
-        return Err(Fault::NumbersOfFull);
+        return Err(CommandError::NumbersOfFull);
     }
     Ok(())
 }
@@ -231,36 +221,40 @@ fn all_kept<'a, F: HeldFiles, I: Read + Copy + Drop, O>(
     system: &System<'a, F, I, O>,
     line: &Subset<'a>,
     mut choice: Choice,
-) -> Result<(Kept, Vec<u16>), Fault<'a>> {
+) -> Result<(Kept, Vec<u16>), CommandError<'a>> {
     add_all_files(system, line, &mut choice)?;
     let (kept, glyphs) = choice.left(system.alloc)?;
     let numbers = listed(system.alloc, &glyphs)?;
     Ok((kept, numbers))
 }
 
-// Writes the cut of a font for the codes of the arguments of a line and of its files.
-fn subset_for<'a, F: HeldFiles, I: Read + Copy + Drop, O: Write + Copy + Drop>(
+// Reads a font into memory, without the tables that a line drops.
+fn held_file<'a, F: HeldFiles, I, O, R: Read>(
     system: &System<'a, F, I, O>,
-    kind: Kind,
     line: &Subset<'a>,
-    choice: Choice,
-) -> Result<Outcome, Fault<'a>> {
-    let mut inlet = inlet_at(system, line.font)?;
-    let (kept, numbers) = all_kept(system, line, choice)?;
-    cut_inlet(system, kind, line, &mut inlet, kept, &numbers)
+    inlet: &mut Inlet<R>,
+) -> Result<Vec<u8>, CommandError<'a>>
+    requires { inlet_fresh_of inlet.old ≡ true }
+{
+    let whole = read_inlet(system.alloc, inlet, line.font)?;
+    keep_font(system, line, &whole)?;
+    without_named(system.alloc, line.font, whole, &line.dropped)
 }
 
 /// Writes the cut of a font for the wanted codes and glyphs. The words are looked at before the font is opened, and the
 /// font is opened before files of wanted codes.
 ///
 /// # Errors
-/// The first fault.
+/// The first error.
 pub(crate) fn subset<'a, F: HeldFiles, I: Read + Copy + Drop, O: Write + Copy + Drop>(
     system: &System<'a, F, I, O>,
     kind: Kind,
     line: &Subset<'a>,
-) -> Result<Outcome, Fault<'a>> {
+) -> Result<Outcome, CommandError<'a>> {
     check_line(kind, line)?;
     let choice = Choice::of(system.alloc, line)?;
-    subset_for(system, kind, line, choice)
+    let mut inlet = inlet_at(system, line.font)?;
+    let (kept, numbers) = all_kept(system, line, choice)?;
+    let file = held_file(system, line, &mut inlet)?;
+    cut_file(system, kind, line, &file, kept, &numbers)
 }

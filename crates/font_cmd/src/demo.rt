@@ -24,7 +24,7 @@ fn described(alloc: Global, directory: &Directory<'_>) -> Result<String, AllocEr
     Ok(text)
 }
 
-// The outlets of `demo` hold what they take in memory, so where one cannot be written memory was refused.
+// The outlets of `demo` hold what they take in memory, so one that cannot be written is out of memory.
 fn in_memory(error: RunError) -> RunError {
     match error {
         RunError::Write(_) => RunError::Memory,

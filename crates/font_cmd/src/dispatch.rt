@@ -6,13 +6,13 @@ use crate::belongs_command::belongs;
 use crate::cut_command::subset;
 use crate::demo::demo_text;
 use crate::join_command::join;
+use crate::messages::command_error::{CommandError, no_memory};
 use crate::messages::details::{Details, NO_DETAILS};
 use crate::messages::refused_file::{Seen, add_no_font, look_again, room_for_no_font};
-use crate::messages::report::{Fault, no_memory};
 use crate::outcome::{Outcome, answered, ended, print, report, say};
 use crate::paths::inputs::inlet_at;
-use crate::showing::show;
-use crate::slicing::slice;
+use crate::show_command::show;
+use crate::slice_command::slice;
 use command_line::{CutKind, Line, LineError, Task, Verbosity, is_quiet, parse};
 use commands::{run_check, run_codes, run_glyphs};
 use font_theory::Kind;
@@ -21,13 +21,13 @@ use std::alloc::{AllocError, Global};
 use std::io::{Read, Write};
 use streams::{Flushes, Outlet};
 
-// Checks a font. What a refused file is, is said on standard error, for what goes to standard output is fixed.
+// Checks a font. What kind of file a refused one is goes to standard error: the form of standard output is fixed.
 fn check<'a, F: HeldFiles, I: Read + Copy + Drop, O, W: Flushes>(
     system: &System<'a, F, I, O>,
     font: &'a str,
     verbosity: Verbosity,
     out: &mut Outlet<W>,
-) -> Result<Outcome, Fault<'a>>
+) -> Result<Outcome, CommandError<'a>>
     requires { fresh_of out.old ≡ true }
 {
     let mut inlet = inlet_at(system, font)?;
@@ -48,7 +48,7 @@ fn codes<'a, F: HeldFiles, I: Read + Copy + Drop, O, W: Flushes>(
     font: &'a str,
     with_glyphs: bool,
     out: &mut Outlet<W>,
-) -> Result<Outcome, Fault<'a>>
+) -> Result<Outcome, CommandError<'a>>
     requires { fresh_of out.old ≡ true }
 {
     let mut inlet = inlet_at(system, font)?;
@@ -60,12 +60,12 @@ fn codes<'a, F: HeldFiles, I: Read + Copy + Drop, O, W: Flushes>(
     answered(font, sent.map(|()| true))
 }
 
-fn demo<W: Flushes>(alloc: Global, out: &mut Outlet<W>) -> Result<Outcome, Fault<'static>>
+fn demo<W: Flushes>(alloc: Global, out: &mut Outlet<W>) -> Result<Outcome, CommandError<'static>>
     requires { fresh_of out.old ≡ true }
 {
     match demo_text(alloc) {
         Ok(text) => print(out, text.as_str()),
-        Err(error) => Err(Fault::Refused(error)),
+        Err(error) => Err(CommandError::Refused(error)),
     }
 }
 
@@ -84,7 +84,7 @@ fn done<'a, F: HeldFiles, I: Read + Copy + Drop, O: Write + Copy + Drop, W: Flus
     system: &System<'a, F, I, O>,
     line: &Line<'a>,
     out: &mut Outlet<W>,
-) -> Result<Outcome, Fault<'a>>
+) -> Result<Outcome, CommandError<'a>>
     requires { fresh_of out.old ≡ true }
 {
     match &line.task {
@@ -102,65 +102,43 @@ fn done<'a, F: HeldFiles, I: Read + Copy + Drop, O: Write + Copy + Drop, W: Flus
     }
 }
 
-// Returns what is known of the files of a fault, where more than its first line is said.
+// Returns what is known of the files of an error, where more than its first line is said.
 fn seen_of<F: HeldFiles, I, O>(
     system: &System<'_, F, I, O>,
     verbosity: Verbosity,
-    outcome: &Result<Outcome, Fault<'_>>,
+    outcome: &Result<Outcome, CommandError<'_>>,
 ) -> Result<Seen, AllocError> {
     match outcome {
-        Err(fault) if verbosity != Verbosity::Quiet => look_again(system, fault),
+        Err(error) if verbosity != Verbosity::Quiet => look_again(system, error),
         _ => Ok(Seen::Nothing),
     }
 }
 
-// Does what a line asks for, and answers the status.
-fn run_line<'a, F: HeldFiles, I: Read + Copy + Drop, O: Write + Copy + Drop, W: Flushes, V: Write>(
-    system: &System<'a, F, I, O>,
-    line: &Line<'a>,
-    out: &mut Outlet<W>,
+// Says what was done or what is wrong, and what is known of that, and answers the exit status.
+fn told<F: HeldFiles, I, O, V: Write>(
+    system: &System<'_, F, I, O>,
+    verbosity: Verbosity,
+    outcome: Result<Outcome, CommandError<'_>>,
     err: &mut Outlet<V>,
 ) -> u8
-    requires out { fresh_of out.old ≡ true }
-    requires err { fresh_of err.old ≡ true }
+    requires { fresh_of err.old ≡ true }
 {
-    let outcome = done(system, line, out);
     let reason = system.reason.number();
-    let Ok(seen) = seen_of(system, line.verbosity, &outcome) else {
+    let Ok(seen) = seen_of(system, verbosity, &outcome) else {
         return report(system.alloc, err, no_memory(), NO_DETAILS);
     };
     let details = Details {
-        verbosity: line.verbosity,
+        verbosity,
         reason,
         seen,
     };
     ended(system.alloc, err, outcome, details)
 }
 
-// Prints help or the version, and answers the status.
-fn help<F, I, O, W: Flushes, V: Write>(
-    system: &System<'_, F, I, O>,
-    verbosity: Verbosity,
-    text: &str,
-    out: &mut Outlet<W>,
-    err: &mut Outlet<V>,
-) -> u8
-    requires out { fresh_of out.old ≡ true }
-    requires err { fresh_of err.old ≡ true }
-{
-    let outcome = print(out, text);
-    let details = Details {
-        verbosity,
-        reason: system.reason.number(),
-        seen: Seen::Nothing,
-    };
-    ended(system.alloc, err, outcome, details)
-}
-
 /// Does what the arguments of a command line ask for, the program's own name not among them, and returns
-/// the status: 0 where it is done; 1 where a file is refused or has a finding, a code is not mapped that a
-/// strict line wants, or memory was refused; 2 where the line or a file of wanted codes is at fault; 3 where
-/// a file cannot be read or an output cannot be written.
+/// the exit status: 0 if it is done; 1 if a file is refused or has a finding, if `belongs` says no, if `--strict` finds
+/// something missing, or if out of memory; 2 for a usage error, also one in a file of wanted codes; 3 if a file cannot
+/// be read or an output cannot be written.
 ///
 /// Reports and help go to `out`, a cut or join whose OUT is `-` to the output of `system`; what is wrong, and
 /// what `--report` says, to `err`.
@@ -181,16 +159,19 @@ where
 {
     let alloc = system.alloc;
     match parse(alloc, words) {
-        Ok(line) => run_line(system, &line, out, err),
+        Ok(line) => {
+            let outcome = done(system, &line, out);
+            told(system, line.verbosity, outcome, err)
+        }
         Err(LineError::NoMemory) => report(alloc, err, no_memory(), NO_DETAILS),
-        Err(LineError::InputTwice) => report(alloc, err, Fault::InputTwice, NO_DETAILS),
+        Err(LineError::InputTwice) => report(alloc, err, CommandError::InputTwice, NO_DETAILS),
         Err(LineError::Help(text)) => {
             let verbosity = if is_quiet(words) {
                 Verbosity::Quiet
             } else {
                 Verbosity::Plain
             };
-            help(system, verbosity, text.as_str(), out, err)
+            told(system, verbosity, print(out, text.as_str()), err)
         }
         Err(LineError::Words(text)) => {
             let _said = say(err, text.as_str());

@@ -11,8 +11,8 @@ mod join_command;
 mod messages;
 mod outcome;
 mod paths;
-mod showing;
-mod slicing;
+mod show_command;
+mod slice_command;
 
 pub use crate::dispatch::{run_on_system, run_words};
 pub use commands::{RunError, run_check, run_join, run_show, run_subset};

@@ -1,4 +1,4 @@
-//! What the program says of what fails: the fault, its first line, and the lines after it.
+//! What the program says of what fails: the error, its first line, and the lines after it.
+pub(crate) mod command_error;
 pub(crate) mod details;
 pub(crate) mod refused_file;
-pub(crate) mod report;

@@ -2,8 +2,8 @@
 ghost use Rattle.std.specs.Prelude.{◌≡◌, true};
 ghost use Rattle.streams.specs.Outlet.{fresh_of};
 
+use crate::messages::command_error::{CommandError, no_memory};
 use crate::messages::details::{Details, add_details};
-use crate::messages::report::{Fault, no_memory};
 use commands::RunError;
 use std::alloc::{AllocError, Global};
 use std::io::Write;
@@ -15,14 +15,14 @@ pub(crate) const STANDARD_OUTPUT: &str = "standard output";
 // The status where a report cannot be written.
 const UNWRITTEN: u8 = 3;
 
-/// What a task comes to where nothing is at fault.
+/// What a task comes to if nothing is wrong.
 #[derive(Drop)]
 pub(crate) struct Outcome {
     // Whether all is well.
     is_well: bool,
     // What is written to standard error.
     report: Option<String>,
-    // Whether that was asked for, so that it is a fault where it cannot be written.
+    // Whether that was asked for, so that it is an error if it cannot be written.
     is_asked: bool,
 }
 
@@ -67,27 +67,31 @@ pub(crate) fn say<V: Write>(err: &mut Outlet<V>, text: &str) -> bool
     err.put(text.as_bytes()).is_ok()
 }
 
-// Returns the lines that say what is at fault, and what is known of it.
-fn fault_text(alloc: Global, fault: &Fault<'_>, details: Details) -> Result<String, AllocError> {
-    let mut text = format!(in alloc; "fontcut: {fault}\n")?;
-    add_details(alloc, &mut text, fault, details)?;
+// Returns the lines that say what is wrong, and what is known of it.
+fn error_text(
+    alloc: Global,
+    error: &CommandError<'_>,
+    details: Details,
+) -> Result<String, AllocError> {
+    let mut text = format!(in alloc; "fontcut: {error}\n")?;
+    add_details(alloc, &mut text, error, details)?;
     Ok(text)
 }
 
-/// Says what is at fault, and answers the status.
+/// Says what is wrong, and answers the exit status.
 pub(crate) fn report<V: Write>(
     alloc: Global,
     err: &mut Outlet<V>,
-    fault: Fault<'_>,
+    error: CommandError<'_>,
     details: Details,
 ) -> u8
     requires { fresh_of err.old ≡ true }
 {
-    match fault_text(alloc, &fault, details) {
+    match error_text(alloc, &error, details) {
         Ok(text) => {
             // That a message cannot be written changes no status.
             let _said = say(err, text.as_str());
-            fault.status()
+            error.status()
         }
         Err(_) => {
             let _said = say(err, "fontcut: refused 16 no memory\n");
@@ -100,11 +104,14 @@ pub(crate) fn report<V: Write>(
 ///
 /// # Errors
 /// `Unwritten` where that fails.
-pub(crate) fn print<W: Flushes>(out: &mut Outlet<W>, text: &str) -> Result<Outcome, Fault<'static>>
+pub(crate) fn print<W: Flushes>(
+    out: &mut Outlet<W>,
+    text: &str,
+) -> Result<Outcome, CommandError<'static>>
     requires { fresh_of out.old ≡ true }
 {
     if out.put(text.as_bytes()).is_err() || out.finish().is_err() {
-        return Err(Fault::Unwritten(STANDARD_OUTPUT));
+        return Err(CommandError::Unwritten(STANDARD_OUTPUT));
     }
     Ok(Outcome::of(true))
 }
@@ -116,11 +123,11 @@ pub(crate) fn print<W: Flushes>(out: &mut Outlet<W>, text: &str) -> Result<Outco
 pub(crate) fn print_more<W: Flushes>(
     out: &mut Outlet<W>,
     text: &str,
-) -> Result<Outcome, Fault<'static>> {
+) -> Result<Outcome, CommandError<'static>> {
     // So much is not printed on one line's demand.
     let is_far = u64::from(u32::MAX) < out.written();
     if is_far || out.is_broken() || out.put(text.as_bytes()).is_err() || out.finish().is_err() {
-        return Err(Fault::Unwritten(STANDARD_OUTPUT));
+        return Err(CommandError::Unwritten(STANDARD_OUTPUT));
     }
     Ok(Outcome::of(true))
 }
@@ -128,17 +135,20 @@ pub(crate) fn print_more<W: Flushes>(
 /// Returns the outcome of a command that has read the file at a path and printed what it says of it.
 ///
 /// # Errors
-/// The fault of the command.
-pub(crate) fn answered(font: &str, is_well: Result<bool, RunError>) -> Result<Outcome, Fault<'_>> {
-    let is_well = is_well.map_err(|error| Fault::of_run(font, STANDARD_OUTPUT, error))?;
+/// The error of the command.
+pub(crate) fn answered(
+    font: &str,
+    is_well: Result<bool, RunError>,
+) -> Result<Outcome, CommandError<'_>> {
+    let is_well = is_well.map_err(|error| CommandError::of_run(font, STANDARD_OUTPUT, error))?;
     Ok(Outcome::of(is_well))
 }
 
-/// Says what was done or what is at fault, and answers the status.
+/// Says what was done or what is wrong, and answers the exit status.
 pub(crate) fn ended<V: Write>(
     alloc: Global,
     err: &mut Outlet<V>,
-    outcome: Result<Outcome, Fault<'_>>,
+    outcome: Result<Outcome, CommandError<'_>>,
     details: Details,
 ) -> u8
     requires { fresh_of err.old ≡ true }
@@ -152,6 +162,6 @@ pub(crate) fn ended<V: Write>(
             }
             outcome.status()
         }
-        Err(fault) => report(alloc, err, fault, details),
+        Err(error) => report(alloc, err, error, details),
     }
 }

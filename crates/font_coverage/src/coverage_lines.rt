@@ -8,7 +8,7 @@ use font_subset::{CutOfKind, FontOfKind, FontToCut, OpenError, keeps_layout, num
 use font_texts::{shaped_scripts, shown_character};
 use font_theory::Kind;
 use font_write::Source;
-use sfnt_bytes::{NoMemory, Tag};
+use sfnt_bytes::{LAYOUT, NoMemory, Tag, VARIATIONS};
 use std::alloc::{AllocError, Global};
 use wanted_characters::{CodeSet, count_of};
 
@@ -173,15 +173,12 @@ fn add_unmapped(
 
 /// Returns whether a table is one of layout.
 pub fn is_of_layout(tag: Tag) -> bool {
-    matches!(&tag.0, b"BASE" | b"GDEF" | b"GPOS" | b"GSUB" | b"kern")
+    LAYOUT.contains(&tag)
 }
 
 /// Returns whether a table is one of variations.
 pub fn is_of_variations(tag: Tag) -> bool {
-    matches!(
-        &tag.0,
-        b"HVAR" | b"MVAR" | b"STAT" | b"VVAR" | b"avar" | b"cvar" | b"fvar" | b"gvar"
-    )
+    VARIATIONS.contains(&tag)
 }
 
 /// Returns whether cuts of a kind keep a table that full cuts drop.

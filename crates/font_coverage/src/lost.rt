@@ -9,8 +9,8 @@ use font_theory::Kind;
 use sfnt_bytes::Tag;
 use std::alloc::{AllocError, Global};
 
-// The first code after the control characters and the space, and the space that does not break. Most fonts map these, also
-// those that have no other of the wanted characters.
+// The first code after the control characters and the space, and the no-break space. Here these all are spaces: U+0 to
+// U+20, and U+A0. Most fonts map them, also those that have no other of the wanted characters.
 const AFTER_SPACE: u32 = 0x21;
 
 const HARD_SPACE: u32 = 0xA0;
@@ -37,7 +37,7 @@ pub struct Asked<'a> {
     pub says_more: bool,
 }
 
-// Returns the first code of a set that is no space and no control character.
+// Returns the first code of a set that is no space.
 fn first_letter(wanted: &Wanted) -> Option<u32> {
     let range = wanted.row_from(AFTER_SPACE)?;
     let code = range.first.max(AFTER_SPACE);
@@ -48,7 +48,7 @@ fn first_letter(wanted: &Wanted) -> Option<u32> {
     Some(range.first.max(HARD_SPACE + 1))
 }
 
-// Returns whether a font maps a code of a set that is no space and no control character.
+// Returns whether a font maps a code of a set that is no space.
 fn maps_letter(chart: &Chart<'_>, wanted: &Wanted) -> bool {
     match chart.wanted_run(wanted, AFTER_SPACE) {
         Some(run) if run.first == HARD_SPACE && run.last == HARD_SPACE => {

@@ -1,5 +1,5 @@
 //! Sets of glyphs.
-ghost use Rattle.std.specs.Prelude.{◌≡◌, ◌+◌, ◌<◌, ◌≤◌, ◌||◌, ℕ, nat_eq, false, true, length, slice_set, IfOk, IsTrue, OnErr};
+ghost use Rattle.std.specs.Prelude.{◌≡◌, ◌+◌, ◌<◌, ◌≤◌, ◌&&◌, ◌||◌, ℕ, nat_eq, not, false, true, length, slice_set, IfOk, IsTrue, OnErr};
 ghost use Rattle.font_glyph.specs.Marks.{NoMark, has};
 
 use sfnt_bytes::{Memory, NoMemory};
@@ -61,6 +61,18 @@ fn first_marked(marks: &[bool], from: usize) -> usize
     marks.len()
 }
 
+// Takes the marks of other glyphs away.
+#[tactic(auto, unfolding(crate::specs::Marks::has))]
+fn clear(marks: &mut [bool], others: &[bool])
+    requires { length others.now ≡ length marks.old }
+    ensures count { length marks.new ≡ length marks.old }
+    ensures left { (g : ℕ) → has marks.new g ≡ (has marks.old g && not (has others.now g)) }
+{
+    for g in 0..marks.len() {
+        marks[g] &= !others[g];
+    }
+}
+
 /// A set of glyphs below a count, in a byte a glyph.
 pub struct Marks<A: Allocator = Global> {
     marks: Vec<bool, A>,
@@ -108,7 +120,11 @@ impl<A: Memory> Marks<A> {
     }
 
     /// Returns the same marks.
-    pub(crate) fn copied(&self, alloc: A) -> Result<Marks<A>, NoMemory>
+    ///
+    /// # Errors
+    ///
+    /// `NoMemory` if there is no room for them.
+    pub fn copied(&self, alloc: A) -> Result<Marks<A>, NoMemory>
         ensures same { IfOk result (λ marks. marks ≡ self.now) }
         ensures memory { OnErr result (A.refuses (length self.now)) }
     {
@@ -125,6 +141,15 @@ impl<A: Allocator> Marks<A> {
         ensures same { (g : ℕ) → g < count → has self.new g ≡ has self.old g }
     {
         self.marks.truncate(count);
+    }
+
+    /// Takes the marks of another set away.
+    pub fn remove(&mut self, others: &Marks<A>)
+        requires { length others.now ≡ length self.old }
+        ensures count { length self.new ≡ length self.old }
+        ensures left { (g : ℕ) → has self.new g ≡ (has self.old g && not (has others.now g)) }
+    {
+        clear(&mut self.marks, &others.marks);
     }
 
     /// Returns whether a glyph is marked.

@@ -1,6 +1,7 @@
 //! The variation data of the glyphs of contents, compared and united. OpenType 1.9, gvar: Glyph Variations Table.
-ghost use Rattle.std.specs.Prelude.{◌≡◌, ◌+◌, ◌<◌, ◌≤◌, ℕ, List, [], ◌∷◌, ◌++◌, Option, find, length, map, unwrap_or, IfOk, IfSome, OnOk};
+ghost use Rattle.std.specs.Prelude.{◌≡◌, ◌+◌, ◌<◌, ◌≤◌, ℕ, List, [], ◌∷◌, ◌++◌, Option, find, length, map, unwrap_or, IfOk, IfSome, OnErr, OnOk};
 ghost use Rattle.std.specs.List.{concat, range_with_len};
+ghost use Rattle.sfnt_bytes.specs.Memory.{IsRefused};
 ghost use Rattle.sfnt_bytes.specs.declared.directory.TheConstants.{MAX_FILE};
 ghost use Rattle.std.specs.Option.{option_map};
 ghost use Rattle.font_theory.specs.Content.{Content, glyph_count};
@@ -12,8 +13,7 @@ ghost use Rattle.font_join.specs.KindInside.{HasFineGvar, either_data, emptied_i
 use crate::difference::is_same;
 use font_variations::{Variations, make_gvar};
 use font_write::Source;
-use sfnt_bytes::{FVAR, GVAR, NoMemory};
-use std::alloc::Allocator;
+use sfnt_bytes::{FVAR, GVAR, Memory, NoMemory};
 
 // Opens the `gvar` of a content, where there is one.
 fn variations_of<S: Source>(source: &S) -> Option<Variations<'_>>
@@ -105,21 +105,17 @@ fn either_of<'t, K: Source>(
 }
 
 // Puts the data of one more glyph after those that are listed.
-fn list_more<'t, A: Allocator>(
-    listed: &mut Vec<&'t [u8], A>,
-    bytes: &'t [u8],
-) -> Result<(), NoMemory>
-    ensures { OnOk result
+fn list_more<'t, A: Memory>(listed: &mut Vec<&'t [u8], A>, bytes: &'t [u8]) -> Result<(), NoMemory>
+    ensures listed { OnOk result
         (map (λ d. d.now) listed.new.items ≡ map (λ d. d.now) listed.old.items ++ (bytes.now ∷ [])) }
+    ensures memory { OnErr result (IsRefused A.refuses) }
 {
-    if listed.push(bytes).is_err() {
-        return Err(NoMemory);
-    }
+    A::push(listed, bytes)?;
     Ok(())
 }
 
 // Lists the variation data of each glyph of two contents.
-fn listed_of_both<'t, K: Source, A: Allocator>(
+fn listed_of_both<'t, K: Source, A: Memory>(
     alloc: A,
     k: &K,
     first: &Option<Variations<'t>>,
@@ -129,11 +125,12 @@ fn listed_of_both<'t, K: Source, A: Allocator>(
     requires count { count ≡ glyph_count (K.content_of k.now).copied }
     requires first { first.now ≡ opened_gvar (K.content_of k.now).copied }
     requires second { IfSome second.now (λ v. v.1 ≡ glyph_count (K.content_of k.now).copied) }
-    ensures { IfOk result (λ listed. (D : Content) → second.now ≡ opened_gvar D.copied →
+    ensures listed { IfOk result (λ listed. (D : Content) → second.now ≡ opened_gvar D.copied →
         map (λ d. d.now) listed.items
         ≡ listed_data (either_data (K.content_of k.now) D) (glyph_count (K.content_of k.now).copied)) }
+    ensures memory { OnErr result (IsRefused A.refuses) }
 {
-    let mut listed = Vec::with_capacity(alloc, usize::from(count)).map_err(|_| NoMemory)?;
+    let mut listed = alloc.room_for(usize::from(count))?;
     for g in 0..count {
         list_more(&mut listed, either_of(k, first, second, g))?;
     }
@@ -141,7 +138,7 @@ fn listed_of_both<'t, K: Source, A: Allocator>(
 }
 
 // Returns a `gvar` that is made anew, with other data for its glyphs.
-fn with_data<A: Allocator>(
+fn with_data<A: Memory>(
     alloc: A,
     variations: &Variations<'_>,
     listed: &[&[u8]],
@@ -153,6 +150,7 @@ fn with_data<A: Allocator>(
         map (λ d. d.now) listed.now ≡ listed_data of_glyph n →
         gvar.items ≡ gvar_with of_glyph n variations.now.0) }
     ensures small { IfOk result (λ gvar. length gvar.items ≤ MAX_TABLE) }
+    ensures memory { OnErr result (IsRefused A.refuses) }
 {
     let gvar = make_gvar(
         alloc,
@@ -168,7 +166,7 @@ fn with_data<A: Allocator>(
 /// # Errors
 ///
 /// `NoMemory` if out of memory.
-pub(crate) fn gvar_of_both<K: Source, L: Source, A: Allocator + Copy>(
+pub(crate) fn gvar_of_both<K: Source, L: Source, A: Memory + Copy>(
     alloc: A,
     k: &K,
     l: &L,
@@ -179,6 +177,7 @@ pub(crate) fn gvar_of_both<K: Source, L: Source, A: Allocator + Copy>(
     ensures table { IfOk result (λ o.
         option_map (λ v. v.items) o ≡ united_gvar (K.content_of k.now) (L.content_of l.now)) }
     ensures small { IfOk result (λ o. length (unwrap_or (option_map (λ v. v.items) o) []) ≤ MAX_TABLE) }
+    ensures memory { OnErr result (IsRefused A.refuses) }
 {
     let first = variations_of(k);
     let second = variations_of(l);
@@ -191,12 +190,11 @@ pub(crate) fn gvar_of_both<K: Source, L: Source, A: Allocator + Copy>(
 }
 
 // Lists no data at all, for a number of glyphs.
-fn no_data<'t, A: Allocator>(alloc: A, count: u16) -> Result<Vec<&'t [u8], A>, NoMemory>
-    ensures { IfOk result (λ listed. map (λ d. d.now) listed.items ≡ listed_data (λ _. []) count) }
+fn no_data<'t, A: Memory>(alloc: A, count: u16) -> Result<Vec<&'t [u8], A>, NoMemory>
+    ensures listed { IfOk result (λ listed. map (λ d. d.now) listed.items ≡ listed_data (λ _. []) count) }
+    ensures memory { OnErr result (IsRefused A.refuses) }
 {
-    let mut listed: Vec<&'t [u8], A> = Vec::with_capacity(alloc, usize::from(count)).map_err(
-        |_| NoMemory,
-    )?;
+    let mut listed: Vec<&'t [u8], A> = alloc.room_for(usize::from(count))?;
     for _g in 0..count {
         list_more(&mut listed, &[])?;
     }
@@ -208,7 +206,7 @@ fn no_data<'t, A: Allocator>(alloc: A, count: u16) -> Result<Vec<&'t [u8], A>, N
 /// # Errors
 ///
 /// `NoMemory` if out of memory.
-pub(crate) fn emptied_gvar<S: Source, A: Allocator + Copy>(
+pub(crate) fn emptied_gvar<S: Source, A: Memory + Copy>(
     alloc: A,
     source: &S,
 ) -> Result<Option<Vec<u8, A>>, NoMemory>
@@ -216,6 +214,7 @@ pub(crate) fn emptied_gvar<S: Source, A: Allocator + Copy>(
     ensures table { IfOk result (λ o.
         option_map (λ v. v.items) o ≡ emptied_in (S.content_of source.now).copied) }
     ensures small { IfOk result (λ o. length (unwrap_or (option_map (λ v. v.items) o) []) ≤ MAX_TABLE) }
+    ensures memory { OnErr result (IsRefused A.refuses) }
 {
     let Some(variations) = variations_of(source) else {
         return Ok(None);

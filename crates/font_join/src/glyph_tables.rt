@@ -1,7 +1,8 @@
 //! The tables that have something of each glyph, as a union and a comparison have them. OpenType 1.9, gvar; hmtx;
 //! vmtx.
-ghost use Rattle.std.specs.Prelude.{◌≡◌, ◌≤◌, ℕ, List, [], Option, length, option_copied, unwrap_or, IfOk, MatchOption};
+ghost use Rattle.std.specs.Prelude.{◌≡◌, ◌≤◌, ℕ, List, [], Option, length, option_copied, unwrap_or, IfOk, MatchOption, OnErr};
 ghost use Rattle.std.specs.Option.{option_map};
+ghost use Rattle.sfnt_bytes.specs.Memory.{IsRefused};
 ghost use Rattle.font_write.specs.declared.source.TheConstants.{MAX_TABLE};
 ghost use Rattle.font_join.specs.KindInside.{HasBlanks, HasFineGvar, blanks_in, laid_over, own_in};
 ghost use Rattle.font_join.specs.Union.{no_tables, replaced, three_of};
@@ -11,7 +12,7 @@ use crate::own_tables::{copy_of, either_table};
 use font_subset::{blank_of, bytes_of};
 use font_theory::Kind;
 use font_write::Source;
-use sfnt_bytes::{GVAR, HHEA, HMTX, NoMemory, VHEA, VMTX};
+use sfnt_bytes::{GVAR, HHEA, HMTX, Memory, NoMemory, VHEA, VMTX};
 use std::alloc::Allocator;
 use std::marker::Model;
 
@@ -103,10 +104,11 @@ impl<A: Allocator> GlyphTables<A> {
     }
 }
 
-impl<A: Allocator + Copy> GlyphTables<A> {
+impl<A: Memory + Copy> GlyphTables<A> {
     // Returns copies of those of a content.
     fn copies<S: Source>(alloc: A, source: &S) -> Result<GlyphTables<A>, NoMemory>
-        ensures { IfOk result (λ t. t ≡ three_of (S.content_of source.now).copied) }
+        ensures tables { IfOk result (λ t. t ≡ three_of (S.content_of source.now).copied) }
+        ensures memory { OnErr result (IsRefused A.refuses) }
     {
         let hmtx = copy_of(alloc, source.copied(HMTX))?;
         let vmtx = copy_of(alloc, source.copied(VMTX))?;
@@ -124,7 +126,8 @@ impl<A: Allocator + Copy> GlyphTables<A> {
         kind: Kind,
         source: &S,
     ) -> Result<GlyphTables<A>, NoMemory>
-        ensures { IfOk result (λ t. t ≡ own_in kind (S.content_of source.now).copied) }
+        ensures tables { IfOk result (λ t. t ≡ own_in kind (S.content_of source.now).copied) }
+        ensures memory { OnErr result (IsRefused A.refuses) }
     {
         if kind.divides_tables() {
             return GlyphTables::copies(alloc, source);
@@ -139,7 +142,8 @@ impl<A: Allocator + Copy> GlyphTables<A> {
     /// `NoMemory` if out of memory.
     pub(crate) fn blank<S: Source>(alloc: A, source: &S) -> Result<GlyphTables<A>, NoMemory>
         requires { HasFineGvar (S.content_of source.now).copied }
-        ensures { IfOk result (λ t. t ≡ blanks_in (S.content_of source.now).copied) }
+        ensures tables { IfOk result (λ t. t ≡ blanks_in (S.content_of source.now).copied) }
+        ensures memory { OnErr result (IsRefused A.refuses) }
     {
         let hmtx = blank_of(alloc, source, HHEA, HMTX)?;
         let vmtx = blank_of(alloc, source, VHEA, VMTX)?;
@@ -158,7 +162,8 @@ impl<A: Allocator + Copy> GlyphTables<A> {
         source: &S,
     ) -> Result<GlyphTables<A>, NoMemory>
         requires { HasFineGvar (S.content_of source.now).copied }
-        ensures { IfOk result (HasBlanks kind (S.content_of source.now).copied) }
+        ensures blanks { IfOk result (HasBlanks kind (S.content_of source.now).copied) }
+        ensures memory { OnErr result (IsRefused A.refuses) }
     {
         if kind.divides_tables() {
             return GlyphTables::blank(alloc, source);

@@ -31,9 +31,8 @@ impl fmt::Display for Which {
     }
 }
 
-/// Why two files are not joined: the first refusal that applies, in this order, but that what cuts of a kind
-/// read besides of a font is refused right before `NotACut` of it. Memory may be refused at any time after
-/// the refusals of both fonts.
+/// Why two files are not joined: the first refusal that applies, in this order. The tables that only cuts of a kind read
+/// are refused right before `NotACut` of their file. `NoMemory` may come at any time after both fonts are accepted.
 #[derive(Clone, Copy, Debug, PartialEq, Eq)]
 pub enum JoinError {
     /// One file is no font that is accepted.
@@ -49,7 +48,7 @@ pub enum JoinError {
     DifferentGlyph(u16),
     /// The joined file would have this number of bytes, more than [`MAX_FILE`](sfnt_bytes::MAX_FILE).
     TooLarge(u64),
-    /// Memory was refused.
+    /// Out of memory.
     NoMemory,
 }
 

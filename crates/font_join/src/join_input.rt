@@ -1,14 +1,16 @@
 //! The files of a join, as fonts. This is this project's own, and in no standard.
-ghost use Rattle.std.specs.Prelude.{◌≡◌, None, MatchResult};
+ghost use Rattle.std.specs.Prelude.{◌≡◌, Err, None, MatchResult};
+ghost use Rattle.sfnt_bytes.specs.Memory.{IsRefused};
 ghost use Rattle.font_file.specs.Font.{font_fault};
 ghost use Rattle.font_theory.specs.Kinds.{format_of};
 ghost use Rattle.font_join.specs.Inside.{IsFormRefusal, IsNoFont, of_open_error};
+ghost use Rattle.font_join.specs.declared.join_error.JoinError.TheVariants.{NoMemory as JoinNoMemory};
 
 use crate::join_error::{JoinError, Which};
 use font_file::Font;
 use font_subset::{FontOfKind, OpenError};
 use font_theory::Kind;
-use std::alloc::Allocator;
+use sfnt_bytes::Memory;
 
 /// Opens one of two files.
 ///
@@ -40,15 +42,16 @@ fn unopened(which: Which, error: OpenError) -> JoinError
 /// # Errors
 ///
 /// `Font` where its tables of layout or of variations are refused, of layout and variable cuts alone, and
-/// `NoMemory` where memory is, of layout cuts alone.
-pub(crate) fn open_for_kind<'f, 'a, A: Allocator + Copy>(
+/// `NoMemory` if out of memory, of layout cuts alone.
+pub(crate) fn open_for_kind<'f, 'a, A: Memory + Copy>(
     alloc: A,
     kind: Kind,
     font: &'f Font<'a>,
     which: Which,
 ) -> Result<FontOfKind<'f, 'a, A>, JoinError>
-    ensures { MatchResult result (λ opened. opened ≡ (kind, font.entry.now))
+    ensures exact { MatchResult result (λ opened. opened ≡ (kind, font.entry.now))
         (IsFormRefusal (format_of kind) which font.entry.now) }
+    ensures memory { result ≡ Err JoinNoMemory → IsRefused A.refuses }
 {
     match FontOfKind::open(alloc, kind, font) {
         Ok(opened) => Ok(opened),

@@ -1,5 +1,6 @@
 //! The join of two cuts, which is this project's own: the least file of which both are cuts.
-ghost use Rattle.std.specs.Prelude.{◌≡◌, ◌||◌, ℕ, Bool, List, true, ◌≤◌, length, None, IfErr, IfOk, MatchResult};
+ghost use Rattle.std.specs.Prelude.{◌≡◌, ◌||◌, ℕ, Bool, List, true, ◌≤◌, length, Err, None, IfErr, IfOk, MatchResult};
+ghost use Rattle.sfnt_bytes.specs.Memory.{IsRefused};
 ghost use Rattle.sfnt_bytes.specs.declared.directory.TheConstants.{MAX_FILE};
 ghost use Rattle.font_file.specs.Font.{font_fault};
 ghost use Rattle.font_theory.specs.Content.{Wanted, content, everything};
@@ -9,23 +10,25 @@ ghost use Rattle.font_theory.specs.Kinds.{fault_of, format_of};
 ghost use Rattle.font_subset.specs.CutOfKind.{cut_in};
 ghost use Rattle.font_subset.specs.CutOfFont.{IsCutOf, cut_of};
 ghost use Rattle.font_join.specs.Join.{IsForSize, IsJoin, IsJoinRefusal, IsLeastUpper, RefusalIsRight};
+ghost use Rattle.font_join.specs.declared.join_error.JoinError.TheVariants.{NoMemory as JoinNoMemory};
 
 use crate::join_error::{JoinError, Which};
 use crate::join_input::open_input;
 use crate::join_source::Joined;
 use font_theory::Kind;
 use font_write::file_in_memory;
-use std::alloc::Allocator;
+use sfnt_bytes::Memory;
 
 // Returns the join of cuts of a kind, or the refusal that applies.
-fn join_exactly<A: Allocator + Copy>(
+fn join_exactly<A: Memory + Copy>(
     alloc: A,
     kind: Kind,
     x: &[u8],
     y: &[u8],
 ) -> Result<Vec<u8, A>, JoinError>
-    ensures { MatchResult result (λ z. IsJoin (format_of kind) x.now y.now z.items)
+    ensures exact { MatchResult result (λ z. IsJoin (format_of kind) x.now y.now z.items)
         (IsJoinRefusal (format_of kind) x.now y.now) }
+    ensures memory { result ≡ Err JoinNoMemory → IsRefused A.refuses }
 {
     let first = open_input(Which::First, x)?;
     let second = open_input(Which::Second, y)?;
@@ -38,7 +41,7 @@ fn join_exactly<A: Allocator + Copy>(
 /// # Errors
 ///
 /// Those of [`join`].
-pub fn join_of_kind<A: Allocator + Copy>(
+pub fn join_of_kind<A: Memory + Copy>(
     alloc: A,
     kind: Kind,
     x: &[u8],
@@ -60,6 +63,7 @@ pub fn join_of_kind<A: Allocator + Copy>(
     ensures upper { IfOk result (λ z. IsLeastUpper (format_of kind) x.now y.now z.items) }
     ensures small { IfOk result (λ z. length z.items ≤ MAX_FILE) }
     ensures refused { IfErr result (RefusalIsRight (format_of kind) x.now y.now) }
+    ensures memory { result ≡ Err JoinNoMemory → IsRefused A.refuses }
 {
     join_exactly(alloc, kind, x, y)
 }
@@ -81,7 +85,7 @@ pub fn join_of_kind<A: Allocator + Copy>(
 /// let joined = join(rt.alloc(), &AACUTE, &A_AND_B)?;
 /// assert_eq!(rt; joined.as_slice(), A_B_AACUTE.as_slice());
 /// ```
-pub fn join<A: Allocator + Copy>(alloc: A, x: &[u8], y: &[u8]) -> Result<Vec<u8, A>, JoinError>
+pub fn join<A: Memory + Copy>(alloc: A, x: &[u8], y: &[u8]) -> Result<Vec<u8, A>, JoinError>
     ensures exact { MatchResult result (λ z. IsJoin (format_of Full) x.now y.now z.items)
         (IsJoinRefusal (format_of Full) x.now y.now) }
     ensures cuts { (F : List ℕ) (A B : ℕ → Bool) → font_fault F ≡ None → IsCutOf F A x.now →
@@ -96,6 +100,7 @@ pub fn join<A: Allocator + Copy>(alloc: A, x: &[u8], y: &[u8]) -> Result<Vec<u8,
     ensures upper { IfOk result (λ z. IsLeastUpper (format_of Full) x.now y.now z.items) }
     ensures small { IfOk result (λ z. length z.items ≤ MAX_FILE) }
     ensures refused { IfErr result (RefusalIsRight (format_of Full) x.now y.now) }
+    ensures memory { result ≡ Err JoinNoMemory → IsRefused A.refuses }
 {
     join_of_kind(alloc, Kind::Full, x, y)
 }

@@ -5,7 +5,6 @@ mod blanked;
 mod difference;
 mod glyph_data;
 mod glyph_tables;
-mod in_turn;
 mod join_error;
 mod join_input;
 mod join_list;

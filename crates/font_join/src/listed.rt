@@ -1,18 +1,20 @@
 //! A font for all its codes, whose runs are listed: the mapping is searched once, and the test of cut form, the
 //! search for a difference and the union read the list. OpenType 1.9, cmap, Format 12: Segmented coverage.
-ghost use Rattle.std.specs.Prelude.{◌≡◌, ◌≤◌, length, None, Some, IfOk, MatchOption, MatchResult};
+ghost use Rattle.std.specs.Prelude.{◌≡◌, ◌≤◌, length, Err, None, Some, IfOk, MatchOption, MatchResult, OnErr};
+ghost use Rattle.sfnt_bytes.specs.Memory.{IsRefused};
 ghost use Rattle.sfnt_bytes.specs.declared.directory.TheConstants.{MAX_FILE};
 ghost use Rattle.font_theory.specs.Content.{content, everything};
 ghost use Rattle.font_theory.specs.Cut.{IsCut};
 ghost use Rattle.font_theory.specs.Kinds.{font_as, format_of};
 ghost use Rattle.font_join.specs.Inside.{IsFormRefusal};
+ghost use Rattle.font_join.specs.declared.join_error.JoinError.TheVariants.{NoMemory as JoinNoMemory};
 ghost use Rattle.font_subset.specs.ListedRuns.{AreRunsOf};
 
 use crate::join_error::{JoinError, Which};
 use font_map::Run;
 use font_subset::{CutForm, FontOfKind, Selection, listed_form};
 use font_write::Source;
-use sfnt_bytes::NoMemory;
+use sfnt_bytes::{Memory, NoMemory};
 use std::alloc::Allocator;
 use std::marker::Model;
 
@@ -41,7 +43,7 @@ impl<'f, 'a, A: Allocator> Drop for Listed<'f, 'a, A> {
     }
 }
 
-impl<'f, 'a, A: Allocator + Copy> Listed<'f, 'a, A> {
+impl<'f, 'a, A: Memory + Copy> Listed<'f, 'a, A> {
     /// Marks what a cut of the font's kind keeps, and lists its runs.
     ///
     /// # Errors
@@ -52,11 +54,12 @@ impl<'f, 'a, A: Allocator + Copy> Listed<'f, 'a, A> {
         font: &'f FontOfKind<'f, 'a, A>,
         which: Which,
     ) -> Result<Listed<'f, 'a, A>, JoinError>
-        ensures { MatchResult result
+        ensures exact { MatchResult result
             (λ listed. (listed ≡ font.entry.now) × IsCut (format_of font.entry.now.0) font.entry.now.1)
             (IsFormRefusal (format_of font.entry.now.0) which font.entry.now.1) }
+        ensures memory { result ≡ Err JoinNoMemory → IsRefused A.refuses }
     {
-        let _kind = font.kind();
+        font.recall_accepted();
         let (selection, form) = listed_form(alloc, font)?;
         match form {
             CutForm::Not => Err(JoinError::NotACut(which)),
@@ -104,14 +107,15 @@ impl<'f, 'a, A: Allocator> Source for Listed<'f, 'a, A> {
     }
 }
 
-impl<'f, 'a, A: Allocator + Copy> Listed<'f, 'a, A> {
+impl<'f, 'a, A: Memory + Copy> Listed<'f, 'a, A> {
     /// Returns the list of runs, where nothing else of this is needed any more.
     ///
     /// # Errors
     ///
     /// `NoMemory` if out of memory.
     pub(crate) fn into_runs(self, alloc: A) -> Result<Vec<Run, A>, NoMemory>
-        ensures { IfOk result (λ runs. AreRunsOf self.entry.1 runs.items) }
+        ensures runs { IfOk result (λ runs. AreRunsOf self.entry.1 runs.items) }
+        ensures memory { OnErr result (IsRefused A.refuses) }
     {
         let Listed { font } = self;
         font.into_runs(alloc)

@@ -1,13 +1,14 @@
 //! The tables of metrics that a union has of its own. OpenType 1.9, hmtx; vmtx.
-ghost use Rattle.std.specs.Prelude.{◌≡◌, [], option_copied, unwrap_or, IfOk};
+ghost use Rattle.std.specs.Prelude.{◌≡◌, [], option_copied, unwrap_or, IfOk, OnErr};
 ghost use Rattle.std.specs.Option.{option_map};
+ghost use Rattle.sfnt_bytes.specs.Memory.{IsRefused};
 ghost use Rattle.font_theory.specs.Parted.{either_bytes};
 
-use sfnt_bytes::NoMemory;
+use sfnt_bytes::{Memory, NoMemory};
 use std::alloc::Allocator;
 
-// Lays a table over another: where a byte is 0 the byte of the other stands. Not inlined: alone, its loop takes
-// many bytes at once.
+// Lays a table over another: each byte becomes the bitwise or of both, which is the other's if one is 0. Not inlined:
+// alone, its loop takes many bytes at once.
 #[inline(never)]
 fn lay_over(first: &mut [u8], second: &[u8])
     ensures { first.new ≡ either_bytes first.old second.now }
@@ -41,16 +42,17 @@ pub(crate) fn either_table<A: Allocator>(
 /// # Errors
 ///
 /// `NoMemory` if out of memory.
-pub(crate) fn copy_of<A: Allocator>(
+pub(crate) fn copy_of<A: Memory>(
     alloc: A,
     table: Option<&[u8]>,
 ) -> Result<Option<Vec<u8, A>>, NoMemory>
-    ensures { IfOk result (λ o. option_map (λ v. v.items) o ≡ option_copied table.entry) }
+    ensures table { IfOk result (λ o. option_map (λ v. v.items) o ≡ option_copied table.entry) }
+    ensures memory { OnErr result (IsRefused A.refuses) }
 {
     match table {
         None => Ok(None),
         Some(table) => {
-            let bytes = table.to_vec(alloc).map_err(|_| NoMemory)?;
+            let bytes = alloc.copy_of(table)?;
             Ok(Some(bytes))
         }
     }

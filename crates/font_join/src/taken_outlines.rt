@@ -1,6 +1,7 @@
 //! The outlines that a union has taken, by glyph.
-ghost use Rattle.std.specs.Prelude.{◌≡◌, ◌≢◌, ◌<◌, ◌≤◌, ℕ, find, length, None, Some, IfOk, MatchOption, option_copied, slice_set};
+ghost use Rattle.std.specs.Prelude.{◌≡◌, ◌≢◌, ◌<◌, ◌≤◌, ℕ, find, length, None, Some, IfOk, MatchOption, OnErr, option_copied, slice_set};
 ghost use Rattle.std.specs.List.{range_with_len};
+ghost use Rattle.sfnt_bytes.specs.Memory.{IsRefused};
 ghost use Rattle.sfnt_bytes.specs.declared.directory.TheConstants.{MAX_FILE};
 ghost use Rattle.font_glyph.specs.RecordMap.{union_of};
 ghost use Rattle.font_tables.specs.Fields.{glyph_count_of};
@@ -13,7 +14,7 @@ ghost use Rattle.font_join.specs.Inside.{AreTaken};
 use crate::difference::is_same;
 use crate::listed::Listed;
 use font_write::Source;
-use sfnt_bytes::NoMemory;
+use sfnt_bytes::{Memory, NoMemory};
 use std::alloc::Allocator;
 use std::marker::Model;
 
@@ -45,13 +46,14 @@ impl<'a, A: Allocator> Drop for Outlines<'a, A> {
     }
 }
 
-impl<'a, A: Allocator + Copy> Outlines<'a, A> {
+impl<'a, A: Memory + Copy> Outlines<'a, A> {
     /// Returns a list with no outline, for glyphs below `count`.
     pub(crate) fn new(alloc: A, count: u16) -> Result<Outlines<'a, A>, NoMemory>
         ensures count { IfOk result (λ outlines. length outlines ≡ count) }
         ensures none { IfOk result (λ outlines. (g : ℕ) → listed_outline outlines g ≡ None) }
+        ensures memory { OnErr result (IsRefused A.refuses) }
     {
-        let outlines = vec![in alloc; None; count as usize].map_err(|_| NoMemory)?;
+        let outlines = alloc.filled(None, count as usize)?;
         Ok(Outlines { outlines, bytes: 0 })
     }
 
@@ -64,6 +66,7 @@ impl<'a, A: Allocator + Copy> Outlines<'a, A> {
         ensures count { IfOk result (λ outlines. length outlines ≡ glyph_count_of file.now.1) }
         ensures outlines { IfOk result (λ outlines. (g : ℕ) → listed_outline outlines g
             ≡ (content (font_as file.now.0 file.now.1) everything).outline g) }
+        ensures memory { OnErr result (IsRefused A.refuses) }
     {
         let count = file.glyph_count();
         let mut outlines = Outlines::new(alloc, count)?;

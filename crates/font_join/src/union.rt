@@ -1,7 +1,8 @@
 //! The union of many cuts of one kind, added one after the other: the bytes of each are read once. This is
 //! this project's own, but for the groups of the mapping, `gvar` and the tables of metrics. OpenType 1.9, cmap, Format
 //! 12: Segmented coverage; gvar; hmtx; vmtx.
-ghost use Rattle.std.specs.Prelude.{◌≡◌, ◌≤◌, length, None, Some, IfOk, MatchOption, MatchResult};
+ghost use Rattle.std.specs.Prelude.{◌≡◌, ◌≤◌, length, Err, None, Some, IfOk, MatchOption, MatchResult, OnErr};
+ghost use Rattle.sfnt_bytes.specs.Memory.{IsRefused};
 ghost use Rattle.sfnt_bytes.specs.declared.directory.TheConstants.{MAX_FILE};
 ghost use Rattle.sfnt_bytes.specs.declared.tag.TheConstants.{GVAR};
 ghost use Rattle.font_theory.specs.Bytes.{padded};
@@ -14,6 +15,7 @@ ghost use Rattle.font_write.specs.WholeFile.{IsTooLarge};
 ghost use Rattle.font_join.specs.Union.{content_in};
 ghost use Rattle.font_join.specs.Inside.{IsAddRefusal, IsFormRefusal, add_fault, early_difference};
 ghost use Rattle.font_join.specs.KindInside.{IsGrown, SpellsIn, least_of, parts_told};
+ghost use Rattle.font_join.specs.declared.join_error.JoinError.TheVariants.{NoMemory as JoinNoMemory};
 ghost use Rattle.font_join.specs.declared.join_error.Which.TheVariants.{First};
 
 use crate::blanked::Blanked;
@@ -32,7 +34,7 @@ use font_subset::{FontOfKind, head};
 use font_theory::{Difference, Kind};
 use font_write::Source;
 use map_union::UnionMap;
-use sfnt_bytes::NoMemory;
+use sfnt_bytes::{Memory, NoMemory};
 use std::alloc::Allocator;
 use std::marker::Model;
 
@@ -102,7 +104,7 @@ impl<'f, 'a, A: Allocator> Source for Union<'f, 'a, A> {
     ghost content_of = { content_in };
 
     fn recall_laws(&self) {
-        let _kind = self.first.kind();
+        self.first.recall_accepted();
     }
 
     fn copied(&self, slot: usize) -> Option<&[u8]> {
@@ -152,13 +154,14 @@ impl<'f, 'a, A: Allocator> Union<'f, 'a, A> {
     }
 }
 
-impl<'f, 'a, A: Allocator + Copy> Union<'f, 'a, A> {
+impl<'f, 'a, A: Memory + Copy> Union<'f, 'a, A> {
     // Returns the first table or code that tells a cut apart from the union.
     fn early(&self, alloc: A, file: &Listed<'_, 'a, A>) -> Result<Option<Difference>, NoMemory>
         requires same { file.now.0 ≡ self.now.kind }
         requires form { IsCut (format_of self.now.kind) file.now.1 }
-        ensures { IfOk result (λ found. (K : Content) → SpellsIn self.now.kind (content_in self.now) K →
+        ensures difference { IfOk result (λ found. (K : Content) → SpellsIn self.now.kind (content_in self.now) K →
             found ≡ early_difference K (content_of_all (format_of self.now.kind) file.now.1)) }
+        ensures memory { OnErr result (IsRefused A.refuses) }
     {
         if !self.first.kind().divides_tables() {
             return Ok(early_difference(self, &self.map, file));
@@ -173,11 +176,12 @@ impl<'f, 'a, A: Allocator + Copy> Union<'f, 'a, A> {
     fn tested(&self, alloc: A, file: &Listed<'_, 'a, A>) -> Result<(), JoinError>
         requires same { file.now.0 ≡ self.now.kind }
         requires form { IsCut (format_of self.now.kind) file.now.1 }
-        ensures { (K : Content) → SpellsIn self.now.kind (content_in self.now) K → MatchResult result
+        ensures exact { (K : Content) → SpellsIn self.now.kind (content_in self.now) K → MatchResult result
             (λ _. early_difference K (content_of_all (format_of self.now.kind) file.now.1) ≡ None)
             (IsAddRefusal (format_of self.now.kind) K file.now.1) }
+        ensures memory { result ≡ Err JoinNoMemory → IsRefused A.refuses }
     {
-        let _kind = self.first.kind();
+        self.first.recall_accepted();
         match self.early(alloc, file)? {
             Some(difference) => Err(refusal_of(difference)),
             None => Ok(()),
@@ -208,9 +212,10 @@ impl<'f, 'a, A: Allocator + Copy> Union<'f, 'a, A> {
         requires early { (K : Content) → SpellsIn self.kind (content_in self) K →
             early_difference K (content_of_all (format_of self.kind) file.1) ≡ None }
         requires small { length (table_in_slot (content_in self).copied GVAR) ≤ MAX_FILE }
-        ensures { (K : Content) → SpellsIn self.entry.kind (content_in self.entry) K → MatchResult result
+        ensures exact { (K : Content) → SpellsIn self.entry.kind (content_in self.entry) K → MatchResult result
             (IsGrown self.entry.kind file.entry.1 K)
             (IsAddRefusal (format_of self.entry.kind) K file.entry.1) }
+        ensures memory { result ≡ Err JoinNoMemory → IsRefused A.refuses }
     {
         let parts = self.other_parts(&file);
         let gvar = gvar_of_both(alloc, &self, &file)?;
@@ -249,10 +254,11 @@ impl<'f, 'a, A: Allocator + Copy> Union<'f, 'a, A> {
         kind: Kind,
         font: &'f Font<'a>,
     ) -> Result<Union<'f, 'a, A>, JoinError>
-        ensures { MatchResult result (λ union. (union.kind ≡ kind)
+        ensures exact { MatchResult result (λ union. (union.kind ≡ kind)
             × SpellsIn kind (content_in union) (content_of_all (format_of kind) font.entry.now)
             × IsCut (format_of kind) font.entry.now)
             (IsFormRefusal (format_of kind) First font.entry.now) }
+        ensures memory { result ≡ Err JoinNoMemory → IsRefused A.refuses }
     {
         let opened = open_for_kind(alloc, kind, font, Which::First)?;
         let file = Listed::new(alloc, &opened, Which::First)?;
@@ -277,11 +283,12 @@ impl<'f, 'a, A: Allocator + Copy> Union<'f, 'a, A> {
     /// first difference, or `NoMemory`.
     pub(crate) fn add(self, alloc: A, font: &Font<'a>) -> Result<Union<'f, 'a, A>, JoinError>
         requires { length (table_in_slot (content_in self).copied GVAR) ≤ MAX_FILE }
-        ensures { (kind : Kind) (K : Content) → self.entry.kind ≡ kind
+        ensures exact { (kind : Kind) (K : Content) → self.entry.kind ≡ kind
             → SpellsIn kind (content_in self.entry) K →
             MatchResult result
             (λ union. IsGrown kind font.now K union × (add_fault (format_of kind) K font.now ≡ None))
             (IsAddRefusal (format_of kind) K font.now) }
+        ensures memory { result ≡ Err JoinNoMemory → IsRefused A.refuses }
     {
         let opened = open_for_kind(alloc, self.first.kind(), font, Which::Second)?;
         let file = Listed::new(alloc, &opened, Which::Second)?;
@@ -297,6 +304,7 @@ impl<'f, 'a, A: Allocator + Copy> Union<'f, 'a, A> {
     pub(crate) fn settle(self, alloc: A) -> Result<Union<'f, 'a, A>, NoMemory>
         ensures kind { IfOk result (λ union. union.kind ≡ self.entry.kind) }
         ensures content { IfOk result (λ union. content_in union ≡ content_in self.entry) }
+        ensures memory { OnErr result (IsRefused A.refuses) }
     {
         let Union {
             first,

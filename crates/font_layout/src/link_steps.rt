@@ -38,6 +38,8 @@ impl<'a> Iterator for LinkSteps<'a> {
 
     ghost remaining = { item_count (λ s. s) };
 
+    // As a call it costs a step of the walk a copy of what it answers.
+    #[inline(always)]
     fn next(&mut self) -> Option<Link> {
         loop {
             let step = self.steps.next()?;

@@ -216,7 +216,11 @@ impl<A: Allocator> LaidOut<A> {
 }
 
 impl<A: Memory + Copy> LaidOut<A> {
-    /// Lays out a mapping. Errors if there is no memory for a glyph for each code.
+    /// Lays out a mapping: a glyph for each code.
+    ///
+    /// # Errors
+    ///
+    /// `NoMemory` if out of memory.
     pub(crate) fn of(alloc: A, mapping: &Mapping<'_>) -> Result<LaidOut<A>, NoMemory>
         ensures map { IfOk result (λ laid_out. slice_index laid_out ≡ mapping_of mapping.now.0 mapping.now.1) }
         ensures memory { OnErr result (IsRefusedUpTo A.refuses (2 * CODES)) }

@@ -64,7 +64,10 @@ impl<'a> Drop for Mapping<'a> {
 
 impl<'a> Mapping<'a> {
     /// Chooses the subtable of a `cmap`: the first of format 4 or 12 in the order 3/10, 0/4, 3/1, 0/3.
-    /// Refused with the first [`MapError`] that applies.
+    ///
+    /// # Errors
+    ///
+    /// The first [`MapError`] that applies.
     #[tactic(auto, unfolding(crate::specs::Refusals::map_fault))]
     pub fn choose(cmap: &'a [u8], glyphs: u16) -> Result<Mapping<'a>, MapError>
         ensures { MatchResult result
@@ -144,7 +147,11 @@ impl<'a> Mapping<'a> {
         self.subtable.is_ordered()
     }
 
-    /// Gives each code its glyph. Errors if there is no memory for the numbers that format 12 alone needs.
+    /// Gives each code its glyph.
+    ///
+    /// # Errors
+    ///
+    /// `NoMemory` if out of memory, which is asked for with format 12 alone.
     pub(crate) fn lay_out<A: Memory>(&self, alloc: A, glyphs: &mut [u16]) -> Result<(), NoMemory>
         requires codes { length glyphs.old ≡ CODES }
         requires unmapped { (c : ℕ) → slice_index glyphs.old c ≡ 0 }

@@ -1,30 +1,38 @@
 -- What is wanted, closed under links.
-use Rattle.std.proofs.Common.{◌≡◌, ℕ, ◌<◌, ◌↔◌, Bool, true, false, ◌&&◌, ◌||◌, nat_lt, List, []}
+use Rattle.std.proofs.Common.{◌≡◌, ℕ, ◌<◌, ◌↔◌, Bool, true, false, ◌&&◌, ◌||◌, nat_lt, not, List, []}
 use Rattle.std.proofs.Common.{◌∷◌, get_or, length}
 use Rattle.std.proofs.Common.{Option, None, Some, refl, sym, ◌∙◌, ap, subst, arith}
 use Rattle.std.proofs.Math.Path.{fun_ext}
+use Rattle.std.proofs.Math.Bool.{and_comm}
 use Rattle.std.specs.Cmp.{both_ways}
 use Rattle.std.proofs.lemmas.Bool.{lt-ltb}
 use Rattle.font_file.specs.Font.{map_of}
 use Rattle.font_glyph.specs.Linked.{Linked}
+use Rattle.font_glyph.specs.Linked.Linked.{start}
+use Rattle.font_glyph.specs.Reach.{reached}
 use Rattle.font_glyph.specs.Marks.{has}
 use Rattle.font_glyph.specs.declared.linked.TheConstants as numbers
 use Rattle.font_tables.specs.Fields.{glyph_count_of}
 use Rattle.font_layout.specs.Layout.{kept_in, leads_of, links_in}
 use Rattle.font_layout.specs.Steps.{lookup_list, steps_in}
 use Rattle.font_theory.specs.Closed.{NUMBERS, closed, is_bad_layout_in, is_start}
-use Rattle.font_theory.specs.Content.{Wanted, font_of}
+use Rattle.codes.specs.CharacterMap.{restricted}
+use Rattle.font_theory.specs.Content.{Font, Wanted, font_of, glyph_count, is_kept, is_root, is_seed}
 use Rattle.font_theory.specs.Kinds.{fault_of, format_by, format_of, gsub_as, settings, tables_as}
 use Rattle.font_theory.specs.Links.{is_bad_layout, links}
 use Rattle.font_theory.specs.declared.kinds.Kind.{Kind}
 use Rattle.font_theory.proofs.ClosedLemmas.{closed-decides, closed-has}
-use Rattle.font_theory.proofs.ContentLemmas.{content-mapped}
+use Rattle.font_theory.proofs.ContentLemmas.{content-kept, content-mapped}
 use Rattle.font_theory.proofs.KindLemmas.{kind_is}
 use Rattle.font_theory.proofs.SettingsLemmas.{there-low}
 use Rattle.codes.specs.declared.code_range.CodeRange.{CodeRange}
-use Rattle.font_subset.specs.KeptGlyphs.{asked, glyphs_wanted, wanted_in}
-use Rattle.font_subset.specs.CutOfKind.{closed_of, cut_as, cut_in, wanted_with}
-use Rattle.font_subset.specs.Inside.{AreClosedMarks, AreLinksOf, AreNumbered, IsSeedSet}
+use Rattle.font_subset.specs.KeptGlyphs.{asked, glyphs_wanted, wanted_in, written_of}
+use Rattle.font_theory.specs.File.{file, current_writing}
+use Rattle.font_subset.proofs.CutLemmas.{cut_in_is}
+use Rattle.font_subset.proofs.SourceLemmas.{Held}
+use Rattle.font_subset.specs.CutOfKind.{closed_of, cut_as, cut_in, in_file, wanted_with}
+use Rattle.font_subset.specs.Inside.{AreClosedMarks, AreLinksOf, AreNumbered, AreStarts, IsSeedSet}
+use Rattle.font_subset.specs.Inside.{is_beyond}
 use Rattle.font_subset.proofs.SourceLemmas.{count_as}
 
 -- the links of no table
@@ -54,52 +62,87 @@ pub bad_links : (kind : Kind) (file gsub : List ℕ) (bad : Bool) → gsub ≡ g
 unfolding is_bad_layout_in
 bad_links kind file gsub bad same is = ap is_bad_layout (sym same) ∙ is
 
--- what is marked by what links lead to from where they begin is closed
-abbrev asked_of : List ℕ → Wanted → Wanted
-asked_of file W = record { codes = W.codes; glyphs = λ g. W.glyphs g && nat_lt g (glyph_count_of file) }
-
-starts : (file : List ℕ) (W : Wanted) (seeds marks : List Bool) (n : ℕ) → n ≡ glyph_count_of file
-    → IsSeedSet file W.codes seeds → AreNumbered (λ g. nat_lt g n) W.glyphs seeds marks
-    → has marks ≡ is_start (map_of file) (asked_of file W)
+-- where links begin is marked
+pub starts : (file : List ℕ) (W : Wanted) (seeds marks : List Bool) (n : ℕ) → n ≡ glyph_count_of file
+    → IsSeedSet file W.codes seeds → AreNumbered (λ g. nat_lt g n) W.glyphs seeds marks → AreStarts file W marks
 unfolding is_start
-starts file W seeds marks n size is more = fun_ext (λ g.
-    more.marked g ∙ (λ i. is.seeds g i || (W.glyphs g && nat_lt g (size i))))
+starts file W seeds marks n size is more = record {
+  starts = λ g. more.marked g ∙ (λ i. is.seeds g i || (W.glyphs g && nat_lt g (size i)));
+}
 
-pub closed_marked : (kind : Kind) (file : List ℕ) (W : Wanted) (listed : List (List ℕ)) (seeds from marks : List Bool)
-    (n : ℕ) → n ≡ glyph_count_of file → AreLinksOf (gsub_as kind file) listed → IsSeedSet file W.codes seeds
-    → AreNumbered (λ g. nat_lt g n) W.glyphs seeds from → length marks ≡ n
+-- what is marked by what links lead to from there is closed
+pub closed_marked : (kind : Kind) (file : List ℕ) (W : Wanted) (listed : List (List ℕ)) (from marks : List Bool)
+    (n : ℕ) → n ≡ glyph_count_of file → AreLinksOf (gsub_as kind file) listed → AreStarts file W from
+    → length marks ≡ n
     → ((g : ℕ) → has marks g ≡ true ↔ (g < n) × Linked (λ h. get_or listed h []) (has from) numbers.NUMBERS g)
     → AreClosedMarks kind file W marks
 unfolding NUMBERS
-closed_marked kind file W listed seeds from marks n size are is more count found = record {
+closed_marked kind file W listed from marks n size are is count found = record {
   count = count ∙ size;
   glyphs = λ g low.
-      let decided = closed-decides (links (gsub_as kind file)) (map_of file) (asked_of file W) g in
-      let begin = starts file W seeds from n size is more in
+      let decided = closed-decides (links (gsub_as kind file)) (map_of file) (in_file file W) g in
+      let begin : has from ≡ is_start (map_of file) (in_file file W) = fun_ext is.starts in
       let leads : (λ h. get_or listed h []) ≡ links (gsub_as kind file) = fun_ext are.each in
       let P : (ℕ → List ℕ) → (ℕ → Bool) → Type 0 = λ l s. Linked l s numbers.NUMBERS g in
       let to : P (λ h. get_or listed h []) (has from) → P (links (gsub_as kind file))
-      (is_start (map_of file) (asked_of file W)) = λ r. subst (λ (X : Type 0). X) (λ i. P (leads i) (begin i)) r in
-      let back : P (links (gsub_as kind file)) (is_start (map_of file) (asked_of file W))
+      (is_start (map_of file) (in_file file W)) = λ r. subst (λ (X : Type 0). X) (λ i. P (leads i) (begin i)) r in
+      let back : P (links (gsub_as kind file)) (is_start (map_of file) (in_file file W))
       → P (λ h. get_or listed h []) (has from) = λ r.
       subst (λ (X : Type 0). X) (sym (λ i. P (leads i) (begin i))) r in
       both_ways (has marks g) _ (λ h. decided.1 (to ((found g).0 h).1))
       (λ h. (found g).1 (omega (arith, low, size), back (decided.0 h)));
 }
 
--- where the listed glyphs are those of the closure below the count, the cut is that for the closure
-pub closed_same : (kind : Kind) (file : List ℕ) (codes glyphs : ℕ → Bool) (W : Wanted) → fault_of kind file ≡ None
-    → codes ≡ W.codes
-    → ((g : ℕ) → glyphs g ≡ (nat_lt g (glyph_count_of file) && (closed_of kind file W).glyphs g))
-    → cut_in kind file (record { codes = codes; glyphs = glyphs }) ≡ cut_in kind file (closed_of kind file W)
-unfolding format_by closed
-closed_same kind file codes glyphs W accepted same listed =
-    ap (format_of kind).file (content-mapped ((format_of kind).font file) _ (closed_of kind file W)
-    ((kind_is kind).law.is_font file ((kind_is kind).fault_is file ∙ accepted))
-    (λ c mapped. ap (λ (s : ℕ → Bool). s c) same)
-    (λ g there. listed g ∙ ap (λ b. b && (closed_of kind file W).glyphs g)
-    (lt-ltb g (glyph_count_of file) (subst (λ (n : ℕ). g < n) (sym (count_as kind file))
-    (there-low (settings kind) (tables_as kind file) (font_of file).outline g there)))))
+-- what is left where the marks of the beginnings are taken away
+pub beyond_marked : (kind : Kind) (file : List ℕ) (W : Wanted) (from marks left : List Bool) → AreStarts file W from
+    → AreClosedMarks kind file W marks → ((g : ℕ) → has left g ≡ (has marks g && not (has from g))) → (g : ℕ)
+    → g < glyph_count_of file → has left g ≡ is_beyond kind file W g
+beyond_marked kind file W from marks left begin closed is g low =
+    is g ∙ (λ i. closed.glyphs g low i && not (begin.starts g i))
+
+-- a glyph is a seed, wanted, below the count, in the closure, and there, or not: what is listed beside the seeds has
+-- the roots of the closure
+same_root : (s w l c t : Bool) → (t ≡ true → l ≡ true) → ((s || (w && l)) ≡ true → c ≡ true)
+    → (s || ((w || (l && (c && not (s || (w && l))))) && t)) ≡ (s || (c && t))
+same_root true w l c t low has = refl
+same_root false w l c false low has = and_comm (w || (l && (c && not (w && l)))) false ∙ sym (and_comm c false)
+same_root false w false c true low has = absurd (let n : false ≡ true = low refl in cc)
+same_root false true true true true low has = refl
+same_root false true true false true low has = absurd (let n : false ≡ true = has refl in cc)
+same_root false false true true true low has = refl
+same_root false false true false true low has = refl
+
+-- a cut for the wanted glyphs and for those of the closure beyond where links begin is that for the closure
+module _ (kind : Kind) (file : List ℕ) (codes glyphs : ℕ → Bool) (W : Wanted) (same : codes ≡ W.codes)
+    (listed : (g : ℕ) → glyphs g ≡ (W.glyphs g || (nat_lt g (glyph_count_of file) && is_beyond kind file W g))) where
+  abbrev asked_for : Wanted
+  asked_for = record { codes = codes; glyphs = glyphs }
+
+  abbrev F : Font
+  F = (format_of kind).font file
+
+  low : (g : ℕ) → F.there g ≡ true → nat_lt g (glyph_count_of file) ≡ true
+  unfolding format_by
+  low g there =
+      lt-ltb g (glyph_count_of file) (subst (λ (n : ℕ). g < n) (sym (count_as kind file))
+      (there-low (settings kind) (tables_as kind file) (font_of file).outline g there))
+
+  begun : (g : ℕ) → is_start (map_of file) (in_file file W) g ≡ true → (closed_of kind file W).glyphs g ≡ true
+  begun g h = (closed-decides (links (gsub_as kind file)) (map_of file) (in_file file W) g).1 (start h)
+
+  same_roots : (g : ℕ) → is_root F asked_for g ≡ is_root F (closed_of kind file W) g
+  unfolding format_by is_root is_start closed
+  same_roots g =
+      (λ i. is_seed (restricted (same i) (map_of file)) g || (listed g i && F.there g))
+      ∙ same_root (is_seed (restricted W.codes (map_of file)) g) (W.glyphs g) (nat_lt g (glyph_count_of file))
+      ((closed_of kind file W).glyphs g) (F.there g) (low g) (begun g)
+
+  pub closed_same : cut_in kind file asked_for ≡ cut_in kind file (closed_of kind file W)
+  unfolding format_by closed is_kept
+  closed_same =
+      ap (format_of kind).file (content-kept F asked_for (closed_of kind file W)
+      (ap (λ (w : ℕ → Bool). restricted w (map_of file)) same)
+      (fun_ext (λ g. ap (λ (r : ℕ → Bool). reached F.outline r (glyph_count F.copied) g) (fun_ext same_roots))))
 
 -- all glyphs have their closure
 all_same : (kind : Kind) (file : List ℕ) (ranges : Option (List CodeRange)) → fault_of kind file ≡ None
@@ -111,7 +154,7 @@ all_same kind file ranges accepted =
     ap (format_of kind).file (content-mapped ((format_of kind).font file) W (closed_of kind file W)
     ((kind_is kind).law.is_font file ((kind_is kind).fault_is file ∙ accepted))
     (λ c mapped. refl)
-    (λ g there. sym (closed-has (links (gsub_as kind file)) (map_of file) (asked_of file W) g
+    (λ g there. sym (closed-has (links (gsub_as kind file)) (map_of file) (in_file file W) g
     (lt-ltb g (glyph_count_of file) (subst (λ (n : ℕ). g < n) (sym (count_as kind file))
     (there-low (settings kind) (tables_as kind file) (font_of file).outline g there))))))
 
@@ -136,17 +179,17 @@ module _ (font : Kind × (List ℕ × Bool)) (ranges : Option (List CodeRange)) 
         by_closing false is = closed_or_not false None is
 
     pub closed_numbers : (numbers listed : List ℕ) → font.1.1 ≡ true
-        → ((g : ℕ) → glyphs_wanted (Some listed) g ≡ (nat_lt g (glyph_count_of font.1.0)
-        && (closed_of font.0 font.1.0 (with_numbers (Some numbers))).glyphs g))
+        → ((g : ℕ) → glyphs_wanted (Some listed) g ≡ (glyphs_wanted (Some numbers) g
+        || (nat_lt g (glyph_count_of font.1.0) && is_beyond font.0 font.1.0 (with_numbers (Some numbers)) g)))
         → cut_in font.0 font.1.0 (with_numbers (Some listed)) ≡ cut_as font (with_numbers (Some numbers))
     closed_numbers numbers listed closes are =
-        closed_same font.0 font.1.0 _ (glyphs_wanted (Some listed)) (with_numbers (Some numbers)) accepted refl are
+        closed_same font.0 font.1.0 _ (glyphs_wanted (Some listed)) (with_numbers (Some numbers)) refl are
         ∙ closed_or_not true (Some numbers) closes
 
-    pub same_numbers : (numbers listed : List ℕ) → font.1.1 ≡ false → listed ≡ numbers
-        → cut_in font.0 font.1.0 (with_numbers (Some listed)) ≡ cut_as font (with_numbers (Some numbers))
-    same_numbers numbers listed unclosed is = ap (λ (l : List ℕ). cut_in font.0 font.1.0 (with_numbers (Some l))) is
-        ∙ closed_or_not false (Some numbers) unclosed
+    pub same_numbers : (numbers listed : Option (List ℕ)) → font.1.1 ≡ false → listed ≡ numbers
+        → cut_in font.0 font.1.0 (with_numbers listed) ≡ cut_as font (with_numbers numbers)
+    same_numbers numbers listed unclosed is = ap (λ (l : Option (List ℕ)). cut_in font.0 font.1.0 (with_numbers l)) is
+        ∙ closed_or_not false numbers unclosed
 
 -- of a font that is held
 pub opened_path : (held : Kind × List ℕ) (font : Kind × (List ℕ × Bool)) (ranges : Option (List CodeRange))
@@ -155,3 +198,14 @@ pub opened_path : (held : Kind × List ℕ) (font : Kind × (List ℕ × Bool)) 
     → cut_in held.0 held.1 (wanted_in (asked ranges read)) ≡ cut_as font (wanted_in (asked ranges numbers))
 opened_path held font ranges numbers listed read same is made =
     (λ i. cut_in (same i).0 (same i).1 (wanted_in (asked ranges (is i)))) ∙ made
+
+-- and of its file, by what is selected first
+pub opened_file : (font : Kind × (List ℕ × Bool)) (held : Kind × List ℕ) (seeds : List ℕ × Option (List CodeRange))
+    (whole : List ℕ) (ranges : Option (List CodeRange)) (numbers listed read : Option (List ℕ)) (source : Held)
+    → held ≡ (font.0, font.1.0) → seeds ≡ (whole, ranges) → read ≡ listed
+    → source ≡ (held.0, (held.1, asked seeds.1 read))
+    → cut_in font.0 font.1.0 (wanted_in (asked seeds.1 listed)) ≡ cut_as font (wanted_in (asked seeds.1 numbers))
+    → file current_writing (written_of source) ≡ cut_as font (wanted_in (asked ranges numbers))
+opened_file font held seeds whole ranges numbers listed read source same begun is selected made =
+    cut_in_is held seeds.1 read source selected ∙ opened_path held font seeds.1 numbers listed read same is made
+    ∙ ap (λ (s : List ℕ × Option (List CodeRange)). cut_as font (wanted_in (asked s.1 numbers))) begun

@@ -18,7 +18,8 @@ use Rattle.font_theory.specs.Kinds.{fault_of, font_as, format_by, format_of}
 use Rattle.font_theory.specs.declared.kinds.Kind.TheVariants.{Full}
 use Rattle.font_theory.specs.declared.kinds.Kind.{Kind}
 use Rattle.font_theory.proofs.KindLemmas.{full-is, full_fault-is, kind_is, read_whole}
-use Rattle.font_subset.specs.CutOfFont.{IsFormOf, cut_form_of, form_in}
+use Rattle.font_subset.specs.CutOfFont.{IsFormIn, IsFormOf, cut_form_of, form_in}
+use Rattle.font_subset.specs.CutOfKind.{form_as}
 use Rattle.font_subset.specs.Inside.{IsFileIn}
 use Rattle.font_subset.specs.declared.forms.CutForm.{CutForm}
 use Rattle.font_subset.specs.declared.forms.CutForm.TheVariants.{Current, Not, Old}
@@ -115,44 +116,61 @@ module _ (R : Format) where
       go Not n = refl
       go Old n = refl
 
-pub form_told : (form : CutForm) (X : List ℕ) → font_fault X ≡ None → form ≡ cut_form_of X → IsFormOf X form
+-- a form in words, for each kind
+pub form_in_words : (kind : Kind) (form : CutForm) (X : List ℕ) → fault_of kind X ≡ None → form ≡ form_as kind X
+    → IsFormIn kind X form
 unfolding form_in
-form_told form X accepted e = go (is_current full X) (is_old full X) refl refl e
+form_in_words kind form X accepted e = go (is_current R X) (is_old R X) refl refl e
   where
-    ok : full.fault X ≡ None
-    ok = full_accepts X accepted
+    R : Format
+    R = format_of kind
+
+    ok : R.fault X ≡ None
+    ok = (kind_is kind).fault_is X ∙ accepted
 
     other : (a b : CutForm) → form ≡ a → form ≡ b → (a ≡ b → ⊥) → ⊥
     other a b p q n = n (sym p ∙ q)
 
-    go : (b c : Bool) → is_current full X ≡ b → is_old full X ≡ c
-        → form ≡ (if b then Current else if c then Old else Not) → IsFormOf X form
+    both_false : (b : Bool) → b ≡ false → b ≡ true → ⊥
+    both_false b f t = let n : false ≡ true = sym f ∙ t in cc
+
+    no_current : is_current R X ≡ false → IsCurrent R X → ⊥
+    no_current p h = both_false (is_current R X) p (is_current-of R X h)
+
+    go : (b c : Bool) → is_current R X ≡ b → is_old R X ≡ c
+        → form ≡ (if b then Current else if c then Old else Not) → IsFormIn kind X form
     go true c p q e =
-        let is = is_current-tells full X ok p in
+        let is = is_current-tells R X ok p in
         record {
           current = (λ h. is, λ h. e);
-          old = (λ h. absurd (other Current Old e h (λ n. cc)), λ old. absurd (no_full_both X is old));
-          neither = (λ h. absurd (other Current Not e h (λ n. cc)), λ no. absurd (no (IsCut-current full X is)));
+          old = (λ h. absurd (other Current Old e h (λ n. cc)), λ old. absurd (old.1 is));
+          neither = (λ h. absurd (other Current Not e h (λ n. cc)), λ no. absurd (no (IsCut-current R X is)));
         }
     go false true p q e =
-        let is = is_old-tells full X ok q in
+        let is = is_old-tells R X ok q in
         record {
-          current = (λ h. absurd (other Old Current e h (λ n. cc)), λ current. absurd (no_full_both X current is));
-          old = (λ h. is, λ h. e);
-          neither = (λ h. absurd (other Old Not e h (λ n. cc)), λ no. absurd (no (IsCut-old full X is)));
+          current = (λ h. absurd (other Old Current e h (λ n. cc)), λ now. absurd (no_current p now));
+          old = (λ h. (is, no_current p), λ h. e);
+          neither = (λ h. absurd (other Old Not e h (λ n. cc)), λ no. absurd (no (IsCut-old R X is)));
         }
     go false false p q e =
-        let no_current : IsCurrent full X → ⊥ =
-        λ h. both_false (is_current full X) p (is_current-of full X h) in
-        let no_old : IsOld full X → ⊥ = λ h. both_false (is_old full X) q (is_old-of full X h) in
+        let no_old : IsOld R X → ⊥ = λ h. both_false (is_old R X) q (is_old-of R X h) in
         record {
-          current = (λ h. absurd (other Not Current e h (λ n. cc)), λ h. absurd (no_current h));
-          old = (λ h. absurd (other Not Old e h (λ n. cc)), λ h. absurd (no_old h));
-          neither = (λ h cut. elim (IsCut-cases full X cut) [ inl a ↦ no_current a | inr b ↦ no_old b ], λ h. e);
+          current = (λ h. absurd (other Not Current e h (λ n. cc)), λ now. absurd (no_current p now));
+          old = (λ h. absurd (other Not Old e h (λ n. cc)), λ old. absurd (no_old old.0));
+          neither =
+              (λ h cut. elim (IsCut-cases R X cut) [ inl now ↦ no_current p now | inr old ↦ no_old old ], λ h. e);
         }
-      where
-        both_false : (b : Bool) → b ≡ false → b ≡ true → ⊥
-        both_false b f t = let n : false ≡ true = sym f ∙ t in cc
+
+-- no file is a full cut in both forms
+pub form_told : (form : CutForm) (X : List ℕ) → font_fault X ≡ None → form ≡ cut_form_of X → IsFormOf X form
+form_told form X accepted e =
+    let told = form_in_words Full form X (sym ((kind_is Full).fault_is X) ∙ full_accepts X accepted) e in
+    record {
+      current = told.current;
+      old = (λ h. (told.old.0 h).0, λ old. told.old.1 (old, λ now. no_full_both X now old));
+      neither = told.neither;
+    }
 
 -- in words
 pub is_current_in_words : (kind : Kind) (b : Bool) (X : List ℕ) → fault_of kind X ≡ None

@@ -1,7 +1,7 @@
 -- Lists of glyphs by their numbers.
 use Rattle.std.proofs.Common.{◌≡◌, ℕ, zero, suc, ◌+◌, ◌<◌, ◌≤◌, Bool, true, false, cond, ◌&&◌, ◌||◌, inl, inr, nat_eq}
 use Rattle.std.proofs.Common.{nat_lt, List, [], ◌∷◌}
-use Rattle.std.proofs.Common.{◌++◌, filter, refl, sym, ap, ◌∙◌, arith}
+use Rattle.std.proofs.Common.{◌++◌, append-nil, filter, refl, sym, ap, ◌∙◌, ◌-◌, arith}
 use Rattle.std.specs.List.{list_any, range_with_len}
 use Rattle.std.proofs.lemmas.Bool.{cases_eq, cases_lt, eq-eqb, le-ltb, lt-ltb, ne_eqb}
 use Rattle.std.proofs.lemmas.List.Elements.{filter-append}
@@ -31,6 +31,30 @@ same_numbers_in test other (suc n) same =
     ∙ (λ i. same_numbers_in test other n (λ g low. same g (omega (arith, low))) i
     ++ cond (same n (omega arith) i) (n ∷ []) [])
     ∙ sym (next other n)
+
+-- of a test that is nowhere true from one count up to another
+pub none_more : (test : ℕ → Bool) (n k : ℕ) → ((g : ℕ) → n ≤ g → g < n + k → test g ≡ false)
+    → numbers_in test (n + k) ≡ numbers_in test n
+none_more test n zero none = ap (numbers_in test) (omega arith)
+none_more test n (suc k) none =
+    let e : n + suc k ≡ suc (n + k) = omega arith in
+    ap (numbers_in test) e ∙ next test (n + k)
+    ∙ ap (λ b. numbers_in test (n + k) ++ cond b ((n + k) ∷ []) []) (none (n + k) (omega arith) (omega arith))
+    ∙ append-nil (numbers_in test (n + k))
+    ∙ none_more test n k (λ g high low. none g high (omega (arith, low)))
+
+pub none_between : (test : ℕ → Bool) (n m : ℕ) → n ≤ m → ((g : ℕ) → n ≤ g → g < m → test g ≡ false)
+    → numbers_in test m ≡ numbers_in test n
+none_between test n m order none =
+    let e : n + (m - n) ≡ m = omega (arith, order) in
+    ap (numbers_in test) (sym e) ∙ none_more test n (m - n) (λ g high low. none g high (omega (arith, low, order)))
+
+-- one more, at which a test is true, and none up to another count
+pub one_listed : (test : ℕ → Bool) (n m : ℕ) → n + 1 ≤ m → test n ≡ true
+    → ((g : ℕ) → n + 1 ≤ g → g < m → test g ≡ false) → numbers_in test m ≡ numbers_in test n ++ (n ∷ [])
+one_listed test n m order is none =
+    none_between test (n + 1) m order none ∙ one_more test n
+    ∙ ap (λ b. numbers_in test n ++ cond b (n ∷ []) []) is
 
 -- which numbers are among them
 last_one : (test : ℕ → Bool) (n g : ℕ) → list_any (λ h. nat_eq h g) (filter test (n ∷ [])) ≡ (nat_eq n g && test n)
@@ -75,3 +99,11 @@ are_among test (suc n) g =
     or_nothing : (b : Bool) → ((true && b) || false) ≡ (true && b)
     or_nothing true = refl
     or_nothing false = refl
+
+-- and which are among given ones and them
+pub are_among_both : (given : List ℕ) (test : ℕ → Bool) (n g : ℕ)
+    → list_any (λ h. nat_eq h g) (given ++ numbers_in test n)
+    ≡ (list_any (λ h. nat_eq h g) given || (nat_lt g n && test g))
+are_among_both given test n g =
+    list_any-append (λ h. nat_eq h g) given (numbers_in test n)
+    ∙ ap (λ b. list_any (λ h. nat_eq h g) given || b) (are_among test n g)

@@ -11,6 +11,7 @@ use Rattle.font_theory.specs.Bytes.{padded}
 use Rattle.font_theory.specs.Content.{content, font_of, of_codes}
 use Rattle.font_theory.specs.Cut.{Format, IsCurrent, IsCut, IsOld, Writes, cut, is_current, is_old}
 use Rattle.font_theory.specs.Kinds.{format_of}
+use Rattle.font_theory.specs.declared.kinds.Kind.{Kind}
 use Rattle.font_theory.specs.declared.kinds.Kind.TheVariants.{Full}
 use Rattle.streams.specs.Outlet.{WentOut, broken_of, written_of}
 pub use Rattle.font_write.specs.WholeFile.{IsTooLarge, IsWritten}
@@ -33,7 +34,13 @@ form_in R file = if is_current R file then Current else if is_old R file then Ol
 abbrev pub cut_form_of : List ℕ → CutForm
 cut_form_of file = form_in (format_of Full) file
 
--- a form says whether an accepted file is current, or an old cut, or neither
+-- a form says whether an accepted file is current for a kind, or only an old cut, or neither
+pub record IsFormIn (kind : Kind) (file : List ℕ) (form : CutForm) : Type 0 where
+  pub current : (form ≡ Current) ↔ IsCurrent (format_of kind) file
+  pub old : (form ≡ Old) ↔ (IsOld (format_of kind) file × (¬ IsCurrent (format_of kind) file))
+  pub neither : (form ≡ Not) ↔ ¬ IsCut (format_of kind) file
+
+-- the same of full cuts, of which no file is both
 pub record IsFormOf (file : List ℕ) (form : CutForm) : Type 0 where
   pub current : (form ≡ Current) ↔ IsCurrent (format_of Full) file
   pub old : (form ≡ Old) ↔ IsOld (format_of Full) file

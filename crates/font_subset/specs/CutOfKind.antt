@@ -39,10 +39,13 @@ IsCutIn kind file made =
 abbrev pub own_of : Kind → List ℕ → Wanted
 own_of kind file = record { codes = is_mapped (map_of file); glyphs = (font_as kind file).there }
 
--- what is wanted of a file, closed under the links of its GSUB, where numbers that are no glyphs are let go before
+-- what is wanted of a file, without numbers that are no glyphs
+abbrev pub in_file : List ℕ → Wanted → Wanted
+in_file file W = record { codes = W.codes; glyphs = λ g. W.glyphs g && nat_lt g (glyph_count_of file) }
+
+-- what is wanted of a file, closed under the links of its GSUB, without numbers that are no glyphs
 abbrev pub closed_of : Kind → List ℕ → Wanted → Wanted
-closed_of kind file W = closed (links (gsub_as kind file)) (map_of file)
-    (record { codes = W.codes; glyphs = λ g. W.glyphs g && nat_lt g (glyph_count_of file) })
+closed_of kind file W = closed (links (gsub_as kind file)) (map_of file) (in_file file W)
 
 -- cuts of a kind keep the tables of layout, whose links lead from glyph to glyph
 abbrev pub keeps_links : Kind → Bool

@@ -9,7 +9,7 @@ use Rattle.font_variations.specs.Gvar.{data_of}
 use Rattle.font_theory.specs.Content.{is_seed, table_in_slot, Content}
 use Rattle.font_theory.specs.Parted.{pairs_in}
 use Rattle.font_theory.specs.Cut.{Format}
-use Rattle.font_theory.specs.Closed.{is_bad_layout_in}
+use Rattle.font_theory.specs.Closed.{is_bad_layout_in, is_start}
 use Rattle.font_theory.specs.Kinds.{fault_of, gsub_as, tables_as, settings}
 use Rattle.font_theory.specs.Links.{links}
 use Rattle.font_theory.specs.declared.kinds.Kind.{Kind}
@@ -25,12 +25,12 @@ use Rattle.font_subset.specs.declared.cut_font.CutIntoError.TheVariants as into_
 use Rattle.font_write.specs.declared.source.TheConstants.{MAX_TABLE}
 use Rattle.sfnt_bytes.specs.declared.tag.TheConstants.{BASE, GDEF, GPOS, GSUB, HHEA, HMTX, KERN, VHEA, VMTX}
 use Rattle.sfnt_bytes.specs.declared.tag.TheConstants.{ALL_SLOTS, FIRST_VARIATION, SLOTS}
-use Rattle.std.specs.Prelude.{◌≡◌, ◌≢◌, ℕ, ◌+◌, ◌*◌, ◌<◌, ◌≤◌, ◌⊎◌, ◌↔◌, nat_lt, ◌&&◌, ◌||◌, Bool, false, true, List}
-use Rattle.std.specs.Prelude.{[], length, slice_index, slice_index_or, if◌then◌else◌, Option, None, IfSome}
+use Rattle.std.specs.Prelude.{◌≡◌, ◌≢◌, ℕ, ◌+◌, ◌*◌, ◌<◌, ◌≤◌, ◌⊎◌, ◌↔◌, nat_lt, not, ◌&&◌, ◌||◌, Bool, false, true}
+use Rattle.std.specs.Prelude.{List, [], length, slice_index, slice_index_or, if◌then◌else◌, Option, None, IfSome}
 use Rattle.std.specs.Prelude.{MatchOption, unwrap_or, Some, nat_le}
 use Rattle.std.specs.Option.{is_some, option_or}
 use Rattle.font_theory.specs.Content.{Wanted}
-use Rattle.font_subset.specs.CutOfKind.{closed_of}
+use Rattle.font_subset.specs.CutOfKind.{closed_of, in_file}
 use Rattle.font_subset.specs.KeptGlyphs.{Asked, IsKeptSet, selected, written_of, AreVariationsIn}
 use Rattle.sfnt_bytes.specs.Lines.{first_of_lines}
 use Rattle.sfnt_bytes.specs.Refusals.{tag_lines}
@@ -115,6 +115,15 @@ pub record IsMadeTable (cut : Kind × (List ℕ × Asked)) (slot : ℕ)
     (table : Option (List ℕ)) : Type 0 where
   pub is : option_or table ((selected cut).copied slot) ≡ (written_of cut).copied slot
   pub small : length (unwrap_or table []) ≤ MAX_TABLE
+
+-- where links begin is marked: .notdef, the glyphs of wanted codes, and wanted glyphs
+pub record AreStarts (file : List ℕ) (wanted : Wanted) (marks : List Bool) : Type 0 where
+  pub starts : (g : ℕ) → has marks g ≡ is_start (map_of file) (in_file file wanted) g
+
+-- links lead to a glyph, and none begins there
+abbrev pub is_beyond : Kind → List ℕ → Wanted → ℕ → Bool
+is_beyond kind file wanted g =
+    (closed_of kind file wanted).glyphs g && not (is_start (map_of file) (in_file file wanted) g)
 
 -- the glyphs of what is wanted, closed under the links of a GSUB, are marked
 pub record AreClosedMarks (kind : Kind) (file : List ℕ) (wanted : Wanted) (marks : List Bool) : Type 0 where

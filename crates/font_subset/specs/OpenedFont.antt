@@ -14,7 +14,7 @@ use Rattle.font_theory.specs.declared.kinds.Kind.TheVariants.{Full, Layout, Lean
 use Rattle.font_subset.specs.declared.open_error.OpenError.{OpenError}
 use Rattle.font_subset.specs.declared.open_error.OpenError.TheVariants.{NoMemory, Refused}
 
--- memory is refused, which is asked for where tables of layout are read without what varies, or the file is
+-- out of memory, which is asked for where layout tables are read without what varies; or the refusal of the file
 abbrev pub IsOpenRefusal : Kind → List ℕ → OpenError → Type 0
 IsOpenRefusal kind file NoMemory = kind ≡ Layout
 IsOpenRefusal kind file (Refused error) = fault_of kind file ≡ Some error
@@ -37,7 +37,7 @@ closing_fault kind file = first_of_lines (closing_lines kind file)
 abbrev pub cutting_fault : Bool → Kind → List ℕ → Option FontError
 cutting_fault closes kind file = if closes then closing_fault kind file else fault_of kind file
 
--- memory is refused, which is asked for where tables of layout are read, or the file is
+-- out of memory, which only kinds that read layout tables may be; or the refusal of the file
 abbrev pub IsCuttingRefusal : Bool → Kind → List ℕ → OpenError → Type 0
 IsCuttingRefusal closes kind file NoMemory = (kind ≢ Full) × (kind ≢ Lean)
 IsCuttingRefusal closes kind file (Refused error) = cutting_fault closes kind file ≡ Some error

@@ -13,7 +13,7 @@ use font_file::Font;
 use font_write::made_in;
 use sfnt_bytes::{Directory, HEAD, SLOTS};
 
-// Recalls for the prover that this font was accepted. Does nothing at run time.
+/// Recalls for the prover that this font was accepted. Does nothing at run time.
 pub fn recall_accepted(font: &Font<'_>)
     ensures { font_fault font.now ≡ None }
 {
@@ -27,7 +27,7 @@ fn table_head<'a>(directory: &Directory<'a>) -> &'a [u8]
     directory.table(HEAD).unwrap_or(&[])
 }
 
-// Returns `head` of an accepted font.
+/// Returns `head` of an accepted font.
 #[tactic(auto, using(crate::proofs::SourceLemmas::head_is, crate::proofs::SourceLemmas::head_long, crate::proofs::SourceLemmas::head_small))]
 pub fn head<'a>(font: &Font<'a>) -> &'a [u8]
     ensures head { result.now ≡ head_of font.now }
@@ -37,7 +37,7 @@ pub fn head<'a>(font: &Font<'a>) -> &'a [u8]
     table_head(font.tables().directory())
 }
 
-// Returns the table of a slot, where a cut copies it.
+/// Returns the table of a slot, where a cut copies it.
 #[tactic(auto, using(crate::proofs::SourceLemmas::table_small, font_write::proofs::SlotLemmas::made_or_past))]
 pub fn copied<'a>(font: &Font<'a>, slot: usize) -> Option<&'a [u8]>
     ensures table { option_copied result ≡ (font_of font.now).copied slot }
@@ -49,7 +49,7 @@ pub fn copied<'a>(font: &Font<'a>, slot: usize) -> Option<&'a [u8]>
     font.tables().directory().table(slot)
 }
 
-// Returns an outline of an accepted font.
+/// Returns an outline of an accepted font.
 #[tactic(auto, using(crate::proofs::SourceLemmas::outline_small))]
 pub fn outline<'a>(font: &Font<'a>, g: u16) -> &'a [u8]
     requires { g < glyph_count_of font.now }

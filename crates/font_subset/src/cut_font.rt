@@ -1,25 +1,25 @@
 //! The cut of a font for a wanted set, in memory or sent: a font file in its turn. OpenType 1.9,
 //! Organization of an OpenType Font.
-ghost use Rattle.std.specs.Prelude.{◌≡◌, ◌≤◌, length, false, true, IfErr, IfOk, IsSome, MatchResult, OnOk, Some, option_copied};
+ghost use Rattle.std.specs.Prelude.{◌≡◌, ◌≤◌, length, false, true, Err, IfErr, IfOk, IsSome, MatchResult, OnOk, Some, option_copied};
+ghost use Rattle.sfnt_bytes.specs.Memory.{IsRefused};
 ghost use Rattle.sfnt_bytes.specs.declared.directory.TheConstants.{MAX_FILE};
 ghost use Rattle.codes.specs.Wanted.{member};
 ghost use Rattle.font_subset.specs.CutOfFont.{IsCutRefusal, IsSound, IsWritten, StopsCut, cut_of};
 ghost use Rattle.font_subset.specs.Inside.{of_file_error, of_send_error};
-ghost use Rattle.font_subset.specs.CutOfKind.{IsSoundCut, IsSoundIn, cut_as, cut_in};
+ghost use Rattle.font_subset.specs.CutOfKind.{IsSoundCut, cut_as};
 ghost use Rattle.font_subset.specs.KeptGlyphs.{asked, wanted_in};
 ghost use Rattle.streams.specs.Outlet.{HasSent, WentOut, broken_of, fresh_of, writer_of};
 ghost use Rattle.font_subset.specs.declared.cut_font.CutError.TheVariants.{NoMemory as CutNoMemory};
 ghost use Rattle.font_subset.specs.declared.cut_font.CutIntoError.TheVariants.{NoMemory as IntoNoMemory};
 ghost use Rattle.font_subset.specs.Text.{cut_error_number, cut_into_error_number};
 
-use crate::font_of_kind::FontOfKind;
 use crate::font_to_cut::{FontToCut, numbers_of};
 use crate::kind_source::CutOfKind;
+use crate::selection::Seeds;
 use font_file::Font;
 use font_map::Wanted;
 use font_write::{FileError, SendError, file_in_memory, send_whole};
-use sfnt_bytes::{NoMemory, numbers};
-use std::alloc::Allocator;
+use sfnt_bytes::{Memory, NoMemory, numbers};
 use std::io::Write;
 use streams::Outlet;
 use thiserror::Error;
@@ -27,7 +27,7 @@ use thiserror::Error;
 /// Why no cut is made.
 #[derive(Clone, Copy, Debug, PartialEq, Eq, Error)]
 pub enum CutError {
-    /// Memory was refused.
+    /// Out of memory.
     #[error("no memory")]
     NoMemory,
     /// The cut would have this number of bytes, more than [`MAX_FILE`](sfnt_bytes::MAX_FILE).
@@ -50,7 +50,7 @@ impl CutError {
 /// Why a cut is not sent.
 #[derive(Clone, Copy, Debug, PartialEq, Eq, Error)]
 pub enum CutIntoError {
-    /// Memory was refused. Nothing was sent.
+    /// Out of memory. Nothing was sent.
     #[error("no memory")]
     NoMemory,
     /// The cut would have this number of bytes, more than [`MAX_FILE`](sfnt_bytes::MAX_FILE). Nothing was sent.
@@ -112,63 +112,31 @@ impl From<SendError> for CutIntoError {
     }
 }
 
-// Returns the cut of a kind, or the refusal that applies.
-fn cut_exactly<A: Allocator + Copy>(
-    alloc: A,
-    font: &FontOfKind<'_, '_, A>,
-    codes: Option<&Wanted<A>>,
-    glyphs: Option<&[u16]>,
-) -> Result<Vec<u8, A>, CutError>
-    ensures { MatchResult result (λ v. IsWritten (cut_in font.now.0 font.now.1
-        (wanted_in (asked (option_copied codes.entry) (option_copied glyphs.entry)))) v.items)
-        (IsCutRefusal (cut_in font.now.0 font.now.1
-        (wanted_in (asked (option_copied codes.entry) (option_copied glyphs.entry))))) }
-{
-    let source = CutOfKind::new(alloc, font, codes, glyphs)?;
-    Ok(file_in_memory(alloc, &source)?)
-}
-
-// Returns the cut of a font for the wanted codes, or for all where no set is given, and for the glyphs of these numbers, or
-// for all where no list is given, of a kind. No links are followed.
-fn exact_cut<A: Allocator + Copy>(
-    alloc: A,
-    font: &FontOfKind<'_, '_, A>,
-    codes: Option<&Wanted<A>>,
-    glyphs: Option<&[u16]>,
-) -> Result<Vec<u8, A>, CutError>
-    ensures exact { MatchResult result (λ v. v.items ≡ cut_in font.now.0 font.now.1
-        (wanted_in (asked (option_copied codes.entry) (option_copied glyphs.entry))))
-        (IsCutRefusal (cut_in font.now.0 font.now.1
-        (wanted_in (asked (option_copied codes.entry) (option_copied glyphs.entry))))) }
-    ensures small { IfOk result (λ v. length v.items ≤ MAX_FILE) }
-    ensures sound { IfOk result (λ v. IsSoundIn font.now.0 font.now.1
-        (wanted_in (asked (option_copied codes.entry) (option_copied glyphs.entry))) v.items) }
-{
-    let _kind = font.kind();
-    cut_exactly(alloc, font, codes, glyphs)
-}
-
 // Returns the cut of an opened font, or the refusal that applies.
-fn cut_of_opened<A: Allocator + Copy>(
+fn cut_of_opened<A: Memory + Copy>(
     alloc: A,
     font: &FontToCut<'_, '_, A>,
     codes: Option<&Wanted<A>>,
     glyphs: Option<&[u16]>,
 ) -> Result<Vec<u8, A>, CutError>
-    ensures { MatchResult result (λ v. IsWritten (cut_as font.now
+    ensures exact { MatchResult result (λ v. IsWritten (cut_as font.now
         (wanted_in (asked (option_copied codes.entry) (option_copied glyphs.entry)))) v.items)
         (IsCutRefusal (cut_as font.now
         (wanted_in (asked (option_copied codes.entry) (option_copied glyphs.entry))))) }
+    ensures memory { result ≡ Err CutNoMemory → IsRefused A.refuses }
 {
-    let numbers = font.numbers(alloc, codes, glyphs)?;
-    cut_exactly(alloc, font.font(), codes, numbers_of(&numbers))
+    let opened = font.font();
+    let seeds = Seeds::of(alloc, opened.font(), codes)?;
+    let numbers = font.numbers_beside(alloc, &seeds, glyphs)?;
+    let source = CutOfKind::of_seeds(alloc, opened, seeds, numbers_of(&numbers))?;
+    Ok(file_in_memory(alloc, &source)?)
 }
 
-/// Returns the cut of a font for the wanted codes, or for all where no set is given, and for the glyphs of these numbers,
-/// or for all where no list is given, of the kind for which it was opened, as one file in a vector of just its size. Every
-/// glyph keeps its number. Numbers of glyphs that are not there do not count, nor do numbers at all in full cuts.
+/// Returns the cut of a font, of the kind for which it was opened, in a vector of just its size. It is for the wanted
+/// codes, or for all if no set is given, and for the glyphs of these numbers, or for all if no list is given. Every glyph
+/// keeps its number. Numbers of glyphs that are not there do not count, nor do numbers at all in full cuts.
 ///
-/// Where the font was opened for cuts that are closed, the cut has all that links of `GSUB` lead to from there: what a
+/// If the font was opened for cuts that are closed, the cut has all that links of `GSUB` lead to from there: what a
 /// shaper may put for text of these codes, in whatever order and with whatever features.
 ///
 /// # Errors
@@ -186,7 +154,7 @@ fn cut_of_opened<A: Allocator + Copy>(
 /// let made = cut_of_kind(rt.alloc(), &lean, Some(&wanted), Some(&[]))?;
 /// assert_eq!(rt; made.as_slice(), LEAN_AACUTE.as_slice());
 /// ```
-pub fn cut_of_kind<A: Allocator + Copy>(
+pub fn cut_of_kind<A: Memory + Copy>(
     alloc: A,
     font: &FontToCut<'_, '_, A>,
     codes: Option<&Wanted<A>>,
@@ -199,8 +167,9 @@ pub fn cut_of_kind<A: Allocator + Copy>(
     ensures small { IfOk result (λ v. length v.items ≤ MAX_FILE) }
     ensures sound { IfOk result (λ v. IsSoundCut font.now
         (wanted_in (asked (option_copied codes.entry) (option_copied glyphs.entry))) v.items) }
+    ensures memory { result ≡ Err CutNoMemory → IsRefused A.refuses }
 {
-    let _opened = font.font();
+    font.recall_opened();
     cut_of_opened(alloc, font, codes, glyphs)
 }
 
@@ -222,7 +191,7 @@ pub fn cut_of_kind<A: Allocator + Copy>(
 /// let made = cut(alloc, &font, &wanted)?;
 /// Ok(made)
 /// ```
-pub fn cut<A: Allocator + Copy>(
+pub fn cut<A: Memory + Copy>(
     alloc: A,
     font: &Font<'_>,
     wanted: &Wanted<A>,
@@ -231,89 +200,9 @@ pub fn cut<A: Allocator + Copy>(
         (IsCutRefusal (cut_of font.now (member wanted.now))) }
     ensures small { IfOk result (λ v. length v.items ≤ MAX_FILE) }
     ensures sound { IfOk result (λ v. IsSound font.now (member wanted.now) v.items) }
+    ensures memory { result ≡ Err CutNoMemory → IsRefused A.refuses }
 {
-    exact_cut(alloc, &FontOfKind::full(font), Some(wanted), Some(&[]))
-}
-
-// Sends the cut of a kind, or answers the refusal that applies.
-fn cut_into_exactly<W: Write, A: Allocator + Copy>(
-    alloc: A,
-    font: &FontOfKind<'_, '_, A>,
-    codes: Option<&Wanted<A>>,
-    glyphs: Option<&[u16]>,
-    out: &mut Outlet<W>,
-) -> Result<u64, CutIntoError>
-    requires { fresh_of out.old ≡ true }
-    ensures size { IfOk result (λ size. size ≡ length (cut_in font.now.0 font.now.1
-        (wanted_in (asked (option_copied codes.entry) (option_copied glyphs.entry))))) }
-    ensures small { OnOk result (length (cut_in font.now.0 font.now.1
-        (wanted_in (asked (option_copied codes.entry) (option_copied glyphs.entry)))) ≤ MAX_FILE) }
-    ensures sends { OnOk result
-        (WentOut W.contents out.old out.new (cut_in font.now.0 font.now.1
-        (wanted_in (asked (option_copied codes.entry) (option_copied glyphs.entry))))) }
-    ensures unbroken { OnOk result (broken_of out.new ≡ false) }
-    ensures stops { IfErr result
-        (StopsCut W.contents out.old out.new (cut_in font.now.0 font.now.1
-        (wanted_in (asked (option_copied codes.entry) (option_copied glyphs.entry))))) }
-{
-    let source = CutOfKind::new(alloc, font, codes, glyphs)?;
-    Ok(send_whole(&source, out)?)
-}
-
-// Sends the same.
-fn exact_cut_into<W: Write, A: Allocator + Copy>(
-    alloc: A,
-    font: &FontOfKind<'_, '_, A>,
-    codes: Option<&Wanted<A>>,
-    glyphs: Option<&[u16]>,
-    out: &mut Outlet<W>,
-) -> Result<u64, CutIntoError>
-    requires { fresh_of out.old ≡ true }
-    ensures size { IfOk result (λ size. size ≡ length (cut_in font.now.0 font.now.1
-        (wanted_in (asked (option_copied codes.entry) (option_copied glyphs.entry))))) }
-    ensures small { OnOk result (length (cut_in font.now.0 font.now.1
-        (wanted_in (asked (option_copied codes.entry) (option_copied glyphs.entry)))) ≤ MAX_FILE) }
-    ensures sent { OnOk result (IsSome (W.contents (writer_of out.old)) →
-        HasSent W.contents out.new (cut_in font.now.0 font.now.1
-        (wanted_in (asked (option_copied codes.entry) (option_copied glyphs.entry))))) }
-    ensures sends { OnOk result
-        (WentOut W.contents out.old out.new (cut_in font.now.0 font.now.1
-        (wanted_in (asked (option_copied codes.entry) (option_copied glyphs.entry))))) }
-    ensures unbroken { OnOk result (broken_of out.new ≡ false) }
-    ensures stops { IfErr result
-        (StopsCut W.contents out.old out.new (cut_in font.now.0 font.now.1
-        (wanted_in (asked (option_copied codes.entry) (option_copied glyphs.entry))))) }
-    ensures sound { OnOk result
-        (IsSoundIn font.now.0 font.now.1
-        (wanted_in (asked (option_copied codes.entry) (option_copied glyphs.entry)))
-        (cut_in font.now.0 font.now.1
-        (wanted_in (asked (option_copied codes.entry) (option_copied glyphs.entry))))) }
-{
-    let _kind = font.kind();
-    cut_into_exactly(alloc, font, codes, glyphs, out)
-}
-
-// Sends the cut of an opened font, or answers the refusal that applies.
-fn send_of_opened<W: Write, A: Allocator + Copy>(
-    alloc: A,
-    font: &FontToCut<'_, '_, A>,
-    codes: Option<&Wanted<A>>,
-    glyphs: Option<&[u16]>,
-    out: &mut Outlet<W>,
-) -> Result<u64, CutIntoError>
-    requires { fresh_of out.old ≡ true }
-    ensures size { IfOk result (λ size. size ≡ length (cut_as font.now
-        (wanted_in (asked (option_copied codes.entry) (option_copied glyphs.entry))))) }
-    ensures small { OnOk result (length (cut_as font.now
-        (wanted_in (asked (option_copied codes.entry) (option_copied glyphs.entry)))) ≤ MAX_FILE) }
-    ensures sends { OnOk result (WentOut W.contents out.old out.new (cut_as font.now
-        (wanted_in (asked (option_copied codes.entry) (option_copied glyphs.entry))))) }
-    ensures unbroken { OnOk result (broken_of out.new ≡ false) }
-    ensures stops { IfErr result (StopsCut W.contents out.old out.new (cut_as font.now
-        (wanted_in (asked (option_copied codes.entry) (option_copied glyphs.entry))))) }
-{
-    let numbers = font.numbers(alloc, codes, glyphs)?;
-    cut_into_exactly(alloc, font.font(), codes, numbers_of(&numbers), out)
+    cut_of_kind(alloc, &FontToCut::full(font), Some(wanted), Some(&[]))
 }
 
 /// Sends the cut of a font for what is wanted, as [`cut_of_kind`] returns it, and returns its length. All memory is asked
@@ -323,7 +212,7 @@ fn send_of_opened<W: Write, A: Allocator + Copy>(
 /// # Errors
 ///
 /// Those of [`cut_into`].
-pub fn cut_of_kind_into<W: Write, A: Allocator + Copy>(
+pub fn cut_of_kind_into<W: Write, A: Memory + Copy>(
     alloc: A,
     font: &FontToCut<'_, '_, A>,
     codes: Option<&Wanted<A>>,
@@ -346,9 +235,14 @@ pub fn cut_of_kind_into<W: Write, A: Allocator + Copy>(
     ensures sound { OnOk result (IsSoundCut font.now
         (wanted_in (asked (option_copied codes.entry) (option_copied glyphs.entry))) (cut_as font.now
         (wanted_in (asked (option_copied codes.entry) (option_copied glyphs.entry))))) }
+    ensures memory { result ≡ Err IntoNoMemory → IsRefused A.refuses }
 {
-    let _opened = font.font();
-    send_of_opened(alloc, font, codes, glyphs, out)
+    font.recall_opened();
+    let opened = font.font();
+    let seeds = Seeds::of(alloc, opened.font(), codes)?;
+    let numbers = font.numbers_beside(alloc, &seeds, glyphs)?;
+    let source = CutOfKind::of_seeds(alloc, opened, seeds, numbers_of(&numbers))?;
+    Ok(send_whole(&source, out)?)
 }
 
 /// Sends the cut of a font for the wanted codes, and returns how many bytes it has. All memory is asked
@@ -371,7 +265,7 @@ pub fn cut_of_kind_into<W: Write, A: Allocator + Copy>(
 /// let answer = cut_into(rt.alloc(), &font, &wanted, &mut outlet);
 /// assert_eq!(rt; outlet.into_inner().as_slice(), AACUTE.as_slice());
 /// ```
-pub fn cut_into<W: Write, A: Allocator + Copy>(
+pub fn cut_into<W: Write, A: Memory + Copy>(
     alloc: A,
     font: &Font<'_>,
     wanted: &Wanted<A>,
@@ -386,6 +280,7 @@ pub fn cut_into<W: Write, A: Allocator + Copy>(
     ensures unbroken { OnOk result (broken_of out.new ≡ false) }
     ensures stops { IfErr result (StopsCut W.contents out.old out.new (cut_of font.now (member wanted.now))) }
     ensures sound { OnOk result (IsSound font.now (member wanted.now) (cut_of font.now (member wanted.now))) }
+    ensures memory { result ≡ Err IntoNoMemory → IsRefused A.refuses }
 {
-    exact_cut_into(alloc, &FontOfKind::full(font), Some(wanted), Some(&[]), out)
+    cut_of_kind_into(alloc, &FontToCut::full(font), Some(wanted), Some(&[]), out)
 }

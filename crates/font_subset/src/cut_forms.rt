@@ -1,6 +1,7 @@
 //! The forms of a cut, which are this project's own: a font's file is that of its content for all codes, as
 //! it is written now or as it was written before.
-ghost use Rattle.std.specs.Prelude.{◌≡◌, ◌≤◌, length, None, Some, IfOk, IsTrue, ◌↔◌};
+ghost use Rattle.std.specs.Prelude.{◌≡◌, ◌≤◌, length, None, Some, IfOk, IsTrue, OnErr, ◌↔◌};
+ghost use Rattle.sfnt_bytes.specs.Memory.{IsRefused};
 ghost use Rattle.sfnt_bytes.specs.declared.directory.TheConstants.{MAX_FILE};
 ghost use Rattle.codes.specs.CharacterMap.{is_mapped};
 ghost use Rattle.codes.specs.Wanted.{member};
@@ -9,7 +10,7 @@ ghost use Rattle.font_theory.specs.Cut.{IsCurrent, Under, Writes, is_current};
 ghost use Rattle.font_theory.specs.Content.{Content, content};
 ghost use Rattle.font_theory.specs.Kinds.{format_of, spelled_by};
 ghost use Rattle.font_theory.specs.declared.kinds.Kind.TheVariants.{Full};
-ghost use Rattle.font_subset.specs.CutOfFont.{IsCutForSome, IsFormOf, cut_form_of};
+ghost use Rattle.font_subset.specs.CutOfFont.{IsCutForSome, IsFormIn, IsFormOf, cut_form_of};
 ghost use Rattle.font_subset.specs.CutOfKind.{IsCutIn, form_as, own_of};
 ghost use Rattle.font_subset.specs.KeptGlyphs.{all_asked, asked, wanted_in};
 
@@ -20,24 +21,26 @@ use crate::kind_source::CutOfKind;
 use crate::presence::glyphs_there;
 use crate::selection::Selection;
 use font_file::Font;
-use font_map::{Chart, Wanted};
+use font_map::{Chart, Wanted, WantedError};
 use font_theory::Kind;
 use font_write::Source;
-use sfnt_bytes::NoMemory;
-use std::alloc::Allocator;
+use sfnt_bytes::{Memory, NoMemory};
 
 /// Returns the form in which a font's file is its own cut of the font's kind for all codes and all glyphs,
-/// as [`cut_form`] does for full cuts. A cut of another kind is always current.
+/// as [`cut_form`] does for full cuts. Lean, layout and variable cuts have one form: `Current`.
 ///
 /// # Errors
 ///
 /// `NoMemory` if out of memory.
-pub fn form_of_kind<A: Allocator + Copy>(
+pub fn form_of_kind<A: Memory + Copy>(
     alloc: A,
     font: &FontOfKind<'_, '_, A>,
 ) -> Result<CutForm, NoMemory>
-    ensures { IfOk result (λ form. form ≡ form_as font.now.0 font.now.1) }
+    ensures exact { IfOk result (λ form. form ≡ form_as font.now.0 font.now.1) }
+    ensures form { IfOk result (IsFormIn font.now.0 font.now.1) }
+    ensures memory { OnErr result (IsRefused A.refuses) }
 {
+    font.recall_accepted();
     let source = CutOfKind::new(alloc, font, None, None)?;
     Ok(source.form())
 }
@@ -48,12 +51,13 @@ pub fn form_of_kind<A: Allocator + Copy>(
 /// # Errors
 ///
 /// `NoMemory` if out of memory.
-pub fn listed_form<'f, 'a, A: Allocator + Copy>(
+pub fn listed_form<'f, 'a, A: Memory + Copy>(
     alloc: A,
     font: &'f FontOfKind<'f, 'a, A>,
 ) -> Result<(Selection<'f, 'a, A>, CutForm), NoMemory>
     ensures selection { IfOk result (λ both. both.0 ≡ (font.entry.now.0, (font.entry.now.1, all_asked))) }
     ensures form { IfOk result (λ both. both.1 ≡ form_as font.entry.now.0 font.entry.now.1) }
+    ensures memory { OnErr result (IsRefused A.refuses) }
 {
     let selection = Selection::with_runs(alloc, font)?;
     let source = CutOfKind::of(alloc, selection)?;
@@ -78,14 +82,15 @@ pub fn listed_form<'f, 'a, A: Allocator + Copy>(
 /// assert_eq!(rt; is_of_kind(rt.alloc(), &FontOfKind::lean(&lean)), Ok(true));
 /// assert_eq!(rt; is_of_kind(rt.alloc(), &FontOfKind::lean(&base)), Ok(false));
 /// ```
-pub fn is_of_kind<A: Allocator + Copy>(
+pub fn is_of_kind<A: Memory + Copy>(
     alloc: A,
     font: &FontOfKind<'_, '_, A>,
 ) -> Result<bool, NoMemory>
     ensures exact { IfOk result (λ b. b ≡ is_current (format_of font.now.0) font.now.1) }
     ensures form { IfOk result (λ b. IsTrue b ↔ IsCurrent (format_of font.now.0) font.now.1) }
+    ensures memory { OnErr result (IsRefused A.refuses) }
 {
-    let _kind = font.kind();
+    font.recall_accepted();
     let form = form_of_kind(alloc, font)?;
     Ok(matches!(form, CutForm::Current))
 }
@@ -97,9 +102,10 @@ pub fn is_of_kind<A: Allocator + Copy>(
 /// # Errors
 ///
 /// `NoMemory` if out of memory.
-pub fn cut_form<A: Allocator + Copy>(alloc: A, font: &Font<'_>) -> Result<CutForm, NoMemory>
+pub fn cut_form<A: Memory + Copy>(alloc: A, font: &Font<'_>) -> Result<CutForm, NoMemory>
     ensures exact { IfOk result (λ form. form ≡ cut_form_of font.now) }
     ensures form { IfOk result (IsFormOf font.now) }
+    ensures memory { OnErr result (IsRefused A.refuses) }
 {
     recall_accepted(font);
     let full = FontOfKind::full(font);
@@ -122,17 +128,19 @@ pub fn cut_form<A: Allocator + Copy>(alloc: A, font: &Font<'_>) -> Result<CutFor
 /// assert_eq!(rt; is_cut(rt.alloc(), &made), Ok(true));
 /// assert_eq!(rt; is_cut(rt.alloc(), &font), Ok(false));
 /// ```
-pub fn is_cut<A: Allocator + Copy>(alloc: A, font: &Font<'_>) -> Result<bool, NoMemory>
+pub fn is_cut<A: Memory + Copy>(alloc: A, font: &Font<'_>) -> Result<bool, NoMemory>
     ensures exact { IfOk result (λ b. b ≡ is_current (format_of Full) font.now) }
     ensures form { IfOk result (λ b. IsTrue b ↔ IsCurrent (format_of Full) font.now) }
+    ensures memory { OnErr result (IsRefused A.refuses) }
 {
     is_of_kind(alloc, &FontOfKind::full(font))
 }
 
 // Returns the codes that a font maps. The runs ascend, so each is put after the codes that are in the
 // set, and none is refused as a bad range.
-fn mapped_set<A: Allocator + Copy>(alloc: A, font: &Font<'_>) -> Result<Wanted<A>, NoMemory>
-    ensures { IfOk result (λ wanted. member wanted ≡ is_mapped (map_of font.now)) }
+fn mapped_set<A: Memory + Copy>(alloc: A, font: &Font<'_>) -> Result<Wanted<A>, NoMemory>
+    ensures codes { IfOk result (λ wanted. member wanted ≡ is_mapped (map_of font.now)) }
+    ensures memory { OnErr result (IsRefused A.refuses) }
 {
     let chart = Chart::of(alloc, font.mapping())?;
     let mut codes = Wanted::new(alloc);
@@ -140,7 +148,8 @@ fn mapped_set<A: Allocator + Copy>(alloc: A, font: &Font<'_>) -> Result<Wanted<A
     while let Some(run) = chart.next_run(from) {
         match codes.add(run.first, run.last) {
             Ok(()) => from = run.last + 1,
-            Err(_) => return Err(NoMemory),
+            Err(WantedError::NoMemory) => return Err(NoMemory),
+            Err(WantedError::BadRange) => unreachable!(),
         }
     }
     Ok(codes)
@@ -165,7 +174,7 @@ fn is_written<S: Source>(kind: Kind, source: &S, bytes: &[u8]) -> bool
 }
 
 // Returns whether bytes are the cut of a font for some codes and some glyphs, of the font's kind and in any form.
-fn is_cut_for<A: Allocator + Copy>(
+fn is_cut_for<A: Memory + Copy>(
     alloc: A,
     font: &FontOfKind<'_, '_, A>,
     codes: &Wanted<A>,
@@ -173,9 +182,10 @@ fn is_cut_for<A: Allocator + Copy>(
     bytes: &[u8],
 ) -> Result<bool, NoMemory>
     requires { length bytes.now ≤ MAX_FILE }
-    ensures { IfOk result (λ b. IsTrue b ↔ Writes (format_of font.now.0)
+    ensures written { IfOk result (λ b. IsTrue b ↔ Writes (format_of font.now.0)
         (content ((format_of font.now.0).font font.now.1) (wanted_in (asked (Some codes.now) (Some glyphs.now))))
         bytes.now) }
+    ensures memory { OnErr result (IsRefused A.refuses) }
 {
     let source = CutOfKind::new(alloc, font, Some(codes), Some(glyphs))?;
     Ok(is_written(font.kind(), &source, bytes))
@@ -183,13 +193,14 @@ fn is_cut_for<A: Allocator + Copy>(
 
 // Returns whether a font's file is the cut of another font, of that font's kind, for the codes that it maps and the
 // glyphs that are there.
-fn is_cut_for_own<A: Allocator + Copy>(
+fn is_cut_for_own<A: Memory + Copy>(
     alloc: A,
     cut: &FontOfKind<'_, '_, A>,
     font: &FontOfKind<'_, '_, A>,
 ) -> Result<bool, NoMemory>
-    ensures { IfOk result (λ b. IsTrue b ↔ Writes (format_of font.now.0)
+    ensures written { IfOk result (λ b. IsTrue b ↔ Writes (format_of font.now.0)
         (content ((format_of font.now.0).font font.now.1) (own_of cut.now.0 cut.now.1)) cut.now.1) }
+    ensures memory { OnErr result (IsRefused A.refuses) }
 {
     let codes = mapped_set(alloc, cut.font())?;
     let glyphs = glyphs_there(alloc, cut)?;
@@ -213,7 +224,7 @@ fn is_cut_for_own<A: Allocator + Copy>(
 /// let (cut, font) = (FontOfKind::lean(&lean), FontOfKind::lean(&made));
 /// assert_eq!(rt; belongs(rt.alloc(), &cut, &font), Ok(true));
 /// ```
-pub fn belongs<A: Allocator + Copy>(
+pub fn belongs<A: Memory + Copy>(
     alloc: A,
     cut: &FontOfKind<'_, '_, A>,
     font: &FontOfKind<'_, '_, A>,
@@ -221,9 +232,10 @@ pub fn belongs<A: Allocator + Copy>(
     requires { cut.now.0 ≡ font.now.0 }
     ensures exact { IfOk result (λ b. IsTrue b ↔ Under (format_of font.now.0) cut.now.1 font.now.1) }
     ensures some_wanted { IfOk result (λ b. IsTrue b ↔ IsCutIn font.now.0 font.now.1 cut.now.1) }
+    ensures memory { OnErr result (IsRefused A.refuses) }
 {
-    let _cut_kind = cut.kind();
-    let _kind = font.kind();
+    cut.recall_accepted();
+    font.recall_accepted();
     is_cut_for_own(alloc, cut, font)
 }
 
@@ -233,13 +245,14 @@ pub fn belongs<A: Allocator + Copy>(
 /// # Errors
 ///
 /// `NoMemory` if out of memory.
-pub fn is_cut_of<A: Allocator + Copy>(
+pub fn is_cut_of<A: Memory + Copy>(
     alloc: A,
     cut: &Font<'_>,
     font: &Font<'_>,
 ) -> Result<bool, NoMemory>
     ensures exact { IfOk result (λ b. IsTrue b ↔ Under (format_of Full) cut.now font.now) }
     ensures some_codes { IfOk result (λ b. IsTrue b ↔ IsCutForSome font.now cut.now) }
+    ensures memory { OnErr result (IsRefused A.refuses) }
 {
     recall_accepted(font);
     belongs(alloc, &FontOfKind::full(cut), &FontOfKind::full(font))

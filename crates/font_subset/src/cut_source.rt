@@ -1,12 +1,13 @@
 //! What a full cut is made of: a font, the codes that are wanted of it, and the glyphs that these keep.
 //! OpenType 1.9, cmap; glyf, Composite Glyph Description.
-ghost use Rattle.std.specs.Prelude.{◌≡◌, None, Some, IfOk};
+ghost use Rattle.std.specs.Prelude.{◌≡◌, None, Some, IfOk, OnErr};
+ghost use Rattle.sfnt_bytes.specs.Memory.{IsRefused};
 
 use crate::selection::Selection;
 use font_file::Font;
 use font_map::{Run, Wanted};
 use font_write::Source;
-use sfnt_bytes::NoMemory;
+use sfnt_bytes::{Memory, NoMemory};
 use std::alloc::{Allocator, Global};
 use std::marker::Model;
 
@@ -38,7 +39,7 @@ impl<'f, 'a, A: Allocator> Drop for CutOf<'f, 'a, A> {
     }
 }
 
-impl<'f, 'a, A: Allocator + Copy> CutOf<'f, 'a, A> {
+impl<'f, 'a, A: Memory + Copy> CutOf<'f, 'a, A> {
     /// Returns the content of the cut of a font for the wanted codes. All memory that a cut needs before
     /// its file is made is asked for here.
     ///
@@ -50,7 +51,8 @@ impl<'f, 'a, A: Allocator + Copy> CutOf<'f, 'a, A> {
         font: &'f Font<'a>,
         wanted: &'f Wanted<A>,
     ) -> Result<CutOf<'f, 'a, A>, NoMemory>
-        ensures { IfOk result (λ source. source ≡ (font.entry.now, Some wanted.entry.now)) }
+        ensures source { IfOk result (λ source. source ≡ (font.entry.now, Some wanted.entry.now)) }
+        ensures memory { OnErr result (IsRefused A.refuses) }
     {
         let selection = Selection::full(alloc, font, Some(wanted))?;
         Ok(CutOf { selection })
@@ -62,7 +64,8 @@ impl<'f, 'a, A: Allocator + Copy> CutOf<'f, 'a, A> {
     ///
     /// `NoMemory` if out of memory.
     pub fn for_all_codes(alloc: A, font: &'f Font<'a>) -> Result<CutOf<'f, 'a, A>, NoMemory>
-        ensures { IfOk result (λ source. source ≡ (font.entry.now, None)) }
+        ensures source { IfOk result (λ source. source ≡ (font.entry.now, None)) }
+        ensures memory { OnErr result (IsRefused A.refuses) }
     {
         let selection = Selection::full(alloc, font, None)?;
         Ok(CutOf { selection })

@@ -1,5 +1,6 @@
 //! A font as cuts of a kind read it, this project's own.
-ghost use Rattle.std.specs.Prelude.{◌≡◌, ◌<◌, ◌≤◌, ℕ, Bool, false, true, length, None, Some, IfOk, MatchOption, MatchResult, option_copied};
+ghost use Rattle.std.specs.Prelude.{◌≡◌, ◌<◌, ◌≤◌, ℕ, Bool, false, true, length, Err, None, Some, IfOk, MatchOption, MatchResult, option_copied};
+ghost use Rattle.sfnt_bytes.specs.Memory.{IsRefused};
 ghost use Rattle.sfnt_bytes.specs.declared.directory.TheConstants.{MAX_FILE};
 ghost use Rattle.sfnt_bytes.specs.declared.tag.TheConstants.{SLOTS as KEPT_SLOTS};
 ghost use Rattle.font_theory.specs.Kinds.{fault_of, tables_as};
@@ -8,6 +9,7 @@ ghost use Rattle.font_file.specs.Font.{font_fault};
 ghost use Rattle.font_subset.specs.Inside.{slots_of};
 ghost use Rattle.font_subset.specs.KeptGlyphs.{AreVariationsIn};
 ghost use Rattle.font_subset.specs.OpenedFont.{IsOpenRefusal};
+ghost use Rattle.font_subset.specs.declared.open_error.OpenError.TheVariants.{NoMemory as OpenNoMemory};
 
 use crate::accepted::{copied, recall_accepted};
 use crate::further_tables::FurtherTables;
@@ -15,7 +17,7 @@ use crate::open_error::OpenError;
 use font_file::{Font, FontError};
 use font_theory::Kind;
 use font_variations::Variations;
-use sfnt_bytes::SLOTS;
+use sfnt_bytes::{Memory, SLOTS};
 use std::alloc::{Allocator, Global};
 use std::marker::Model;
 
@@ -78,6 +80,13 @@ impl<'f, 'a, A: Allocator> FontOfKind<'f, 'a, A> {
         FontOfKind::plain(Kind::Lean, font)
     }
 
+    /// Recalls for the prover that the font was accepted. Does nothing at run time.
+    pub fn recall_accepted(&self)
+        ensures { fault_of self.now.0 self.now.1 ≡ None }
+    {
+        let _kind = self.kind();
+    }
+
     /// Returns the kind of cut.
     pub fn kind(&self) -> Kind
         ensures kind { result ≡ self.now.0 }
@@ -131,7 +140,7 @@ impl<'f, 'a, A: Allocator> FontOfKind<'f, 'a, A> {
     }
 }
 
-impl<'f, 'a, A: Allocator + Copy> FontOfKind<'f, 'a, A> {
+impl<'f, 'a, A: Memory + Copy> FontOfKind<'f, 'a, A> {
     // Opens an accepted font for cuts that read tables of layout.
     fn open_further(
         alloc: A,
@@ -142,6 +151,7 @@ impl<'f, 'a, A: Allocator + Copy> FontOfKind<'f, 'a, A> {
         ensures exact { MatchResult result (λ opened. opened ≡ (kind, font.entry.now))
             (IsOpenRefusal kind font.entry.now) }
         ensures sound { IfOk result (λ _. fault_of kind font.entry.now ≡ None) }
+        ensures memory { result ≡ Err OpenNoMemory → IsRefused A.refuses }
     {
         recall_accepted(font);
         let tables = FurtherTables::read(alloc, kind, font)?;
@@ -167,6 +177,7 @@ impl<'f, 'a, A: Allocator + Copy> FontOfKind<'f, 'a, A> {
         ensures exact { MatchResult result (λ opened. opened ≡ (kind, font.entry.now))
             (IsOpenRefusal kind font.entry.now) }
         ensures sound { IfOk result (λ _. fault_of kind font.entry.now ≡ None) }
+        ensures memory { result ≡ Err OpenNoMemory → IsRefused A.refuses }
     {
         match kind {
             Kind::Full | Kind::Lean => Ok(FontOfKind::plain(kind, font)),

@@ -1,39 +1,43 @@
 //! What is wanted, closed under the links of `GSUB`: all glyphs that a shaper may put for those that are wanted. No cut
 //! follows links, so whoever wants cuts of text in whatever order closes what is wanted first. OpenType 1.9, GSUB.
-ghost use Rattle.std.specs.Prelude.{◌≡◌, ◌≢◌, ◌<◌, ◌&&◌, ◌||◌, ℕ, [], false, true, length, nat_eq, nat_lt, None, Some, IfErr, IfOk, IfSome, MatchOption, MatchResult, OnErr, OnOk, option_copied};
+ghost use Rattle.std.specs.Prelude.{◌≡◌, ◌≢◌, ◌<◌, ◌&&◌, ◌||◌, ◌++◌, ℕ, [], false, true, length, nat_eq, nat_lt, Err, None, Some, IfErr, IfOk, IfSome, MatchOption, MatchResult, OnErr, OnOk, option_copied};
 ghost use Rattle.std.specs.Option.{option_map};
+ghost use Rattle.sfnt_bytes.specs.Memory.{IsRefused};
 ghost use Rattle.font_glyph.specs.Marks.{has};
 ghost use Rattle.font_tables.specs.Fields.{glyph_count_of};
 ghost use Rattle.font_theory.specs.Closed.{is_bad_layout_in};
 ghost use Rattle.font_theory.specs.Kinds.{fault_of, gsub_as, tables_as};
 ghost use Rattle.font_theory.specs.Links.{is_bad_layout};
-ghost use Rattle.font_theory.specs.declared.kinds.Kind.TheVariants.{Variable as VariableKind};
+ghost use Rattle.font_theory.specs.declared.kinds.Kind.TheVariants.{Full as FullKind, Variable as VariableKind};
 ghost use Rattle.font_subset.specs.CutOfKind.{closed_of, cut_as, cut_in, keeps_links};
 ghost use Rattle.font_subset.specs.KeptGlyphs.{asked, glyphs_wanted, numbers_in, wanted_in};
-ghost use Rattle.font_subset.specs.Inside.{AreClosedMarks, AreLinksOf, AreNumbered, tags_fault};
+ghost use Rattle.font_theory.specs.Content.{Wanted as WantedSets};
+ghost use Rattle.font_subset.specs.Inside.{AreClosedMarks, AreLinksOf, AreNumbered, AreStarts, is_beyond, tags_fault};
 ghost use Rattle.font_subset.specs.OpenedFont.{IsCuttingRefusal, IsOpenRefusal, closing_fault, cutting_fault};
+ghost use Rattle.font_subset.specs.declared.open_error.OpenError.TheVariants.{NoMemory as OpenNoMemory};
 
 use crate::accepted::recall_accepted;
 use crate::font_of_kind::FontOfKind;
 use crate::further_tables::table_of;
-use crate::glyph_lists::listed_marks;
+use crate::glyph_lists::{list_marks, listed_marks};
 use crate::open_error::OpenError;
-use crate::selection::marked_seeds;
+use crate::selection::Seeds;
 use font_file::{Font, FontError};
 use font_glyph::{Marks, follow};
 use font_layout::{Layout, Links};
 use font_map::Wanted;
 use font_theory::Kind;
-use sfnt_bytes::{GSUB, NoMemory};
+use sfnt_bytes::{GSUB, Memory, NoMemory};
 use std::alloc::{Allocator, Global};
 use std::marker::Model;
 
 // Lists the links of a `GSUB`, or returns none where it cannot be read.
 #[tactic(auto, unfolding(font_theory::specs::Links::is_bad_layout))]
-fn read_links<A: Allocator + Copy>(alloc: A, gsub: &[u8]) -> Result<Option<Links<A>>, NoMemory>
+fn read_links<A: Memory + Copy>(alloc: A, gsub: &[u8]) -> Result<Option<Links<A>>, NoMemory>
     ensures links { IfOk result (λ o. MatchOption o (is_bad_layout gsub.now ≡ true)
         (λ listed. (is_bad_layout gsub.now ≡ false) × AreLinksOf gsub.now listed)) }
-    ensures memory { IfErr result (λ _. length gsub.now ≢ 0) }
+    ensures there { IfErr result (λ _. length gsub.now ≢ 0) }
+    ensures memory { OnErr result (IsRefused A.refuses) }
 {
     if gsub.is_empty() {
         return Ok(Some(Links::none(alloc)));
@@ -78,28 +82,44 @@ fn mark_below<A: Allocator>(marks: &mut Marks<A>, count: u16, g: u16)
     }
 }
 
-// Marks the glyphs of what is wanted, closed under links.
-fn mark_closed<A: Allocator + Copy>(
+// Marks where links begin: at the seeds, and at those of the given numbers that are below the count.
+fn marked_starts<A: Memory + Copy>(
+    alloc: A,
+    seeds: &Marks<A>,
+    glyphs: &[u16],
+    count: u16,
+) -> Result<Marks<A>, NoMemory>
+    requires { length seeds.now ≡ count }
+    ensures count { IfOk result (λ starts. length starts ≡ count) }
+    ensures starts { IfOk result (AreNumbered (λ g. nat_lt g count) (glyphs_wanted (Some glyphs.now)) seeds.now) }
+    ensures memory { OnErr result (IsRefused A.refuses) }
+{
+    let starts = seeds.copied(alloc)?;
+    Ok(with_glyphs(starts, count, glyphs))
+}
+
+// Marks the glyphs that links lead to from where they begin.
+fn mark_closed<A: Memory + Copy>(
     alloc: A,
     font: &FontOfKind<'_, '_, A>,
     links: &Links<A>,
-    codes: Option<&Wanted<A>>,
-    glyphs: &[u16],
+    starts: &Marks<A>,
     count: u16,
 ) -> Result<Marks<A>, NoMemory>
     requires links { AreLinksOf (gsub_as font.now.0 font.now.1) links.now }
     requires count { count ≡ glyph_count_of font.now.1 }
-    ensures { IfOk result (AreClosedMarks font.now.0 font.now.1
-        (wanted_in (asked (option_copied codes.entry) (Some glyphs.now)))) }
+    requires starts { length starts.now ≡ count }
+    ensures count { IfOk result (λ marks. length marks ≡ count) }
+    ensures closed { IfOk result (λ marks. (wanted : WantedSets) → AreStarts font.now.1 wanted starts.now →
+        AreClosedMarks font.now.0 font.now.1 wanted marks) }
+    ensures memory { OnErr result (IsRefused A.refuses) }
 {
-    let seeds = marked_seeds(alloc, font.font(), codes)?;
-    let starts = with_glyphs(seeds, count, glyphs);
-    let marks = follow(alloc, links, &starts, count)?;
+    let marks = follow(alloc, links, starts, count)?;
     Ok(marks)
 }
 
 // Lists the glyphs of what is wanted, closed under links.
-fn closed_glyphs<A: Allocator + Copy>(
+fn closed_glyphs<A: Memory + Copy>(
     alloc: A,
     font: &FontOfKind<'_, '_, A>,
     links: &Links<A>,
@@ -107,24 +127,65 @@ fn closed_glyphs<A: Allocator + Copy>(
     glyphs: &[u16],
 ) -> Result<Vec<u16, A>, NoMemory>
     requires { AreLinksOf (gsub_as font.now.0 font.now.1) links.now }
-    ensures { IfOk result (λ listed. listed.items ≡ numbers_in (closed_of font.now.0 font.now.1
+    ensures glyphs { IfOk result (λ listed. listed.items ≡ numbers_in (closed_of font.now.0 font.now.1
         (wanted_in (asked (option_copied codes.entry) (Some glyphs.now)))).glyphs (glyph_count_of font.now.1)) }
+    ensures memory { OnErr result (IsRefused A.refuses) }
 {
-    let count = font.font().tables().glyph_count();
-    let marks = mark_closed(alloc, font, links, codes, glyphs, count)?;
+    let plain = font.font();
+    let count = plain.tables().glyph_count();
+    let seeds = Seeds::of(alloc, plain, codes)?;
+    let starts = marked_starts(alloc, seeds.marks(), glyphs, count)?;
+    let marks = mark_closed(alloc, font, links, &starts, count)?;
     let listed = listed_marks(alloc, &marks, count)?;
     Ok(listed)
 }
 
-// Returns the numbers of a slice in a vector.
-fn copied_numbers<A: Allocator>(alloc: A, numbers: &[u16]) -> Result<Vec<u16, A>, NoMemory>
-    ensures { IfOk result (λ copied. copied.items ≡ numbers.now) }
+// Lists the given numbers, and after them the glyphs beyond the seeds and these that links lead to from there.
+fn linked_numbers<A: Memory + Copy>(
+    alloc: A,
+    font: &FontOfKind<'_, '_, A>,
+    links: &Links<A>,
+    seeds: &Seeds<'_, '_, A>,
+    glyphs: &[u16],
+) -> Result<Vec<u16, A>, NoMemory>
+    requires links { AreLinksOf (gsub_as font.now.0 font.now.1) links.now }
+    requires seeds { seeds.now.0 ≡ font.now.1 }
+    ensures numbers { IfOk result (λ listed. listed.items ≡ glyphs.now ++ numbers_in (is_beyond font.now.0 font.now.1
+        (wanted_in (asked seeds.now.1 (Some glyphs.now)))) (glyph_count_of font.now.1)) }
+    ensures memory { OnErr result (IsRefused A.refuses) }
 {
-    let mut copied = Vec::new(alloc);
-    if copied.extend_from_slice(numbers).is_err() {
-        return Err(NoMemory);
+    let count = font.font().tables().glyph_count();
+    let starts = marked_starts(alloc, seeds.marks(), glyphs, count)?;
+    let mut beyond = mark_closed(alloc, font, links, &starts, count)?;
+    beyond.remove(&starts);
+    let mut listed = copied_numbers(alloc, glyphs)?;
+    list_marks(&mut listed, &beyond, count)?;
+    Ok(listed)
+}
+
+// Returns the numbers of a slice in a vector.
+fn copied_numbers<A: Memory>(alloc: A, numbers: &[u16]) -> Result<Vec<u16, A>, NoMemory>
+    ensures same { IfOk result (λ copied. copied.items ≡ numbers.now) }
+    ensures memory { OnErr result (IsRefused A.refuses) }
+{
+    alloc.copy_of(numbers)
+}
+
+// Returns the given numbers in a vector, where these are not all.
+fn given_numbers<A: Memory>(
+    alloc: A,
+    glyphs: Option<&[u16]>,
+) -> Result<Option<Vec<u16, A>>, NoMemory>
+    ensures same { IfOk result (λ listed. option_map (λ v. v.items) listed ≡ option_copied glyphs.entry) }
+    ensures memory { OnErr result (IsRefused A.refuses) }
+{
+    match glyphs {
+        Some(glyphs) => {
+            let copied = copied_numbers(alloc, glyphs)?;
+            Ok(Some(copied))
+        }
+        None => Ok(None),
     }
-    Ok(copied)
 }
 
 /// Returns whether cuts of a kind keep the tables of layout, whose links lead from glyph to glyph: so their cuts for text in
@@ -181,7 +242,8 @@ fn first_refusal(kind: Kind, font: &Font<'_>, error: FontError) -> FontError
 // Returns the same of a font that was not opened.
 fn closing_refusal(kind: Kind, font: &Font<'_>, error: OpenError) -> OpenError
     requires { IsOpenRefusal kind font.now error }
-    ensures { IsCuttingRefusal true kind font.now result }
+    ensures refusal { IsCuttingRefusal true kind font.now result }
+    ensures memory { result ≡ OpenNoMemory → error ≡ OpenNoMemory }
 {
     match error {
         OpenError::NoMemory => OpenError::NoMemory,
@@ -221,6 +283,24 @@ impl<'f, 'a, A: Allocator> Drop for FontToCut<'f, 'a, A> {
 }
 
 impl<'f, 'a, A: Allocator> FontToCut<'f, 'a, A> {
+    /// Takes an accepted font for full cuts, which no links close. It asks for no memory.
+    pub(crate) fn full(font: &'f Font<'a>) -> FontToCut<'f, 'a, A>
+        ensures { result ≡ (FullKind, (font.entry.now, false)) }
+    {
+        FontToCut {
+            font: FontOfKind::full(font),
+            links: None,
+        }
+    }
+
+    /// Recalls for the prover what opening the font has shown. Does nothing at run time.
+    pub(crate) fn recall_opened(&self)
+        ensures accepted { fault_of self.now.0 self.now.1.0 ≡ None }
+        ensures sound { cutting_fault self.now.1.1 self.now.0 self.now.1.0 ≡ None }
+    {
+        let _opened = self.font();
+    }
+
     /// Returns the font as it was opened for the kind.
     pub fn font(&self) -> &FontOfKind<'f, 'a, A>
         ensures font { result.now ≡ (self.now.0, self.now.1.0) }
@@ -229,12 +309,12 @@ impl<'f, 'a, A: Allocator> FontToCut<'f, 'a, A> {
         ensures accepted { fault_of self.now.0 self.now.1.0 ≡ None }
         ensures sound { cutting_fault self.now.1.1 self.now.0 self.now.1.0 ≡ None }
     {
-        let _kind = self.font.kind();
+        self.font.recall_accepted();
         &self.font
     }
 }
 
-impl<'f, 'a, A: Allocator + Copy> FontToCut<'f, 'a, A> {
+impl<'f, 'a, A: Memory + Copy> FontToCut<'f, 'a, A> {
     /// Opens an accepted font for cuts of a kind, which are closed under links or not. Links are read for layout and
     /// variable cuts that are to be closed, and a `GSUB` that cannot be read refuses these alone.
     ///
@@ -251,6 +331,7 @@ impl<'f, 'a, A: Allocator + Copy> FontToCut<'f, 'a, A> {
         ensures exact { MatchResult result (λ opened. opened ≡ (kind, (font.entry.now, closes)))
             (IsCuttingRefusal closes kind font.entry.now) }
         ensures sound { IfOk result (λ _. cutting_fault closes kind font.entry.now ≡ None) }
+        ensures memory { result ≡ Err OpenNoMemory → IsRefused A.refuses }
     {
         if !closes {
             let font = FontOfKind::open(alloc, kind, font)?;
@@ -267,8 +348,9 @@ impl<'f, 'a, A: Allocator + Copy> FontToCut<'f, 'a, A> {
         ensures exact { MatchResult result (λ opened. opened ≡ (font.entry.0, (font.entry.1, true)))
             (IsCuttingRefusal true font.entry.0 font.entry.1) }
         ensures sound { IfOk result (λ _. cutting_fault true font.entry.0 font.entry.1 ≡ None) }
+        ensures memory { result ≡ Err OpenNoMemory → IsRefused A.refuses }
     {
-        let _kind = font.kind();
+        font.recall_accepted();
         let listed = read_links(alloc, gsub_of(&font))?;
         match listed {
             Some(links) => Ok(FontToCut {
@@ -279,9 +361,9 @@ impl<'f, 'a, A: Allocator + Copy> FontToCut<'f, 'a, A> {
         }
     }
 
-    /// Lists the glyphs of what is wanted, closed under links, ascending: those that chains of links lead to from .notdef, from the
-    /// glyphs of the wanted codes, or of all where no set is given, and from the given glyphs, also over numbers that are
-    /// no glyphs. Given numbers that are no glyphs are let go.
+    /// Lists the glyphs of what is wanted, closed under links, ascending: those that chains of links lead to from .notdef,
+    /// from the glyphs of the wanted codes, or of all codes if no set is given, and from the given glyphs, also over
+    /// numbers that are no glyphs. Given numbers that are no glyphs are ignored.
     ///
     /// # Errors
     ///
@@ -293,17 +375,19 @@ impl<'f, 'a, A: Allocator + Copy> FontToCut<'f, 'a, A> {
         glyphs: &[u16],
     ) -> Result<Vec<u16, A>, NoMemory>
         requires { self.now.1.1 ≡ true }
-        ensures { IfOk result (λ listed. listed.items ≡ numbers_in (closed_of self.now.0 self.now.1.0
+        ensures glyphs { IfOk result (λ listed. listed.items ≡ numbers_in (closed_of self.now.0 self.now.1.0
             (wanted_in (asked (option_copied codes.entry) (Some glyphs.now)))).glyphs (glyph_count_of self.now.1.0)) }
+        ensures memory { OnErr result (IsRefused A.refuses) }
     {
         match &self.links {
             Some(links) => closed_glyphs(alloc, &self.font, links, codes, glyphs),
-            None => Ok(Vec::new(alloc)),
+            None => unreachable!(),
         }
     }
 
-    /// Lists the glyphs that a cut of the font has to be asked for, beside the wanted codes or all where no set is given:
-    /// the given ones, or none given for all, and what links lead to where the font was opened for cuts that are closed.
+    /// Lists the glyphs that a cut of the font has to be asked for beside the wanted codes, or all codes if no set is given:
+    /// the given ones, and what links lead to beyond these and the glyphs of the codes if the font was opened for cuts that
+    /// are closed. The answer is no list, which stands for all glyphs, if none is given.
     ///
     /// # Errors
     ///
@@ -314,23 +398,48 @@ impl<'f, 'a, A: Allocator + Copy> FontToCut<'f, 'a, A> {
         codes: Option<&Wanted<A>>,
         glyphs: Option<&[u16]>,
     ) -> Result<Option<Vec<u16, A>>, NoMemory>
-        ensures { IfOk result (λ listed. cut_in self.now.0 self.now.1.0
+        ensures cut { IfOk result (λ listed. cut_in self.now.0 self.now.1.0
             (wanted_in (asked (option_copied codes.entry) (option_map (λ v. v.items) listed)))
             ≡ cut_as self.now (wanted_in (asked (option_copied codes.entry) (option_copied glyphs.entry)))) }
+        ensures memory { OnErr result (IsRefused A.refuses) }
     {
-        let _opened = self.font();
-        let Some(glyphs) = glyphs else {
-            return Ok(None);
-        };
+        let opened = self.font();
         match &self.links {
-            Some(links) => {
-                let listed = closed_glyphs(alloc, &self.font, links, codes, glyphs)?;
+            Some(_) => {
+                let seeds = Seeds::of(alloc, opened.font(), codes)?;
+                self.numbers_beside(alloc, &seeds, glyphs)
+            }
+            None => given_numbers(alloc, glyphs),
+        }
+    }
+
+    /// Lists what [`FontToCut::numbers`] does, for a cut of the codes that these seeds are of.
+    ///
+    /// # Errors
+    ///
+    /// `NoMemory` if out of memory.
+    pub(crate) fn numbers_beside(
+        &self,
+        alloc: A,
+        seeds: &Seeds<'_, '_, A>,
+        glyphs: Option<&[u16]>,
+    ) -> Result<Option<Vec<u16, A>>, NoMemory>
+        requires { seeds.now.0 ≡ self.now.1.0 }
+        ensures cut { IfOk result (λ listed. cut_in self.now.0 self.now.1.0
+            (wanted_in (asked seeds.now.1 (option_map (λ v. v.items) listed)))
+            ≡ cut_as self.now (wanted_in (asked seeds.now.1 (option_copied glyphs.entry)))) }
+        ensures memory { OnErr result (IsRefused A.refuses) }
+    {
+        self.recall_opened();
+        let Some(links) = &self.links else {
+            return given_numbers(alloc, glyphs);
+        };
+        match glyphs {
+            Some(glyphs) => {
+                let listed = linked_numbers(alloc, &self.font, links, seeds, glyphs)?;
                 Ok(Some(listed))
             }
-            None => {
-                let listed = copied_numbers(alloc, glyphs)?;
-                Ok(Some(listed))
-            }
+            None => Ok(None),
         }
     }
 }

@@ -1,8 +1,9 @@
 //! The tables of layout and of variations of a font, as cuts of a kind read them: not at all, without what varies, or as
 //! they are. OpenType 1.9, BASE; GDEF; GPOS; GSUB; kern; gvar; fvar; avar; cvar; HVAR; MVAR; STAT; VVAR.
-ghost use Rattle.std.specs.Prelude.{◌≡◌, ◌≤◌, ◌<◌, false, true, None, IfOk, MatchOption, MatchResult, OnErr, length, option_copied};
+ghost use Rattle.std.specs.Prelude.{◌≡◌, ◌≤◌, ◌<◌, false, true, Err, None, IfOk, MatchOption, MatchResult, OnErr, length, option_copied};
 ghost use Rattle.std.specs.Option.{option_map};
 ghost use Rattle.sfnt_bytes.specs.Directory.{is_layout_slot, slot_tag, table_of as table_of_tag};
+ghost use Rattle.sfnt_bytes.specs.Memory.{IsRefused};
 ghost use Rattle.sfnt_bytes.specs.declared.directory.TheConstants.{MAX_FILE};
 ghost use Rattle.sfnt_bytes.specs.declared.tag.TheConstants.{FIRST_VARIATION, SLOTS as KEPT_SLOTS};
 ghost use Rattle.font_file.specs.Font.{font_fault};
@@ -13,6 +14,7 @@ ghost use Rattle.font_theory.specs.declared.kinds.Kind.TheVariants.{Layout as La
 ghost use Rattle.font_subset.specs.KeptGlyphs.{AreVariationsIn};
 ghost use Rattle.font_subset.specs.Inside.{fixed_read, slots_of, tags_fault};
 ghost use Rattle.font_subset.specs.OpenedFont.{IsOpenRefusal};
+ghost use Rattle.font_subset.specs.declared.open_error.OpenError.TheVariants.{NoMemory as OpenNoMemory};
 
 use crate::accepted::recall_accepted;
 use crate::open_error::OpenError;
@@ -21,7 +23,8 @@ use font_layout::fixed_table;
 use font_theory::Kind;
 use font_variations::{BadVariations, Variations};
 use sfnt_bytes::{
-    ALL_SLOTS, BASE, DirError, FIRST_VARIATION, FVAR, GDEF, GPOS, GSUB, GVAR, KERN, NoMemory, SLOTS,
+    ALL_SLOTS, BASE, DirError, FIRST_VARIATION, FVAR, GDEF, GPOS, GSUB, GVAR, KERN, Memory,
+    NoMemory, SLOTS,
 };
 use std::alloc::{Allocator, Global};
 use std::marker::Model;
@@ -93,12 +96,13 @@ impl<'a, A: Allocator> Drop for FixedTable<'a, A> {
     }
 }
 
-impl<'a, A: Allocator + Copy> FixedTable<'a, A> {
+impl<'a, A: Memory + Copy> FixedTable<'a, A> {
     fn of(alloc: A, font: &Font<'a>, slot: usize) -> Result<FixedTable<'a, A>, NoMemory>
         requires inside { tags_fault LayoutKind font.now ≡ None }
         requires from { KEPT_SLOTS ≤ slot }
         requires to { slot < FIRST_VARIATION }
-        ensures { IfOk result (λ t. t ≡ option_map (fixed slot) (table_of_tag font.now (slot_tag slot))) }
+        ensures table { IfOk result (λ t. t ≡ option_map (fixed slot) (table_of_tag font.now (slot_tag slot))) }
+        ensures memory { OnErr result (IsRefused A.refuses) }
     {
         let Some(table) = table_of(Kind::Layout, font, slot) else {
             return Ok(FixedTable {
@@ -162,10 +166,11 @@ impl<'f, 'a, A: Allocator> Drop for FixedTables<'f, 'a, A> {
     }
 }
 
-impl<'f, 'a, A: Allocator + Copy> FixedTables<'f, 'a, A> {
+impl<'f, 'a, A: Memory + Copy> FixedTables<'f, 'a, A> {
     fn of(alloc: A, font: &'f Font<'a>) -> Result<FixedTables<'f, 'a, A>, NoMemory>
         requires { tags_fault LayoutKind font.now ≡ None }
-        ensures { IfOk result (λ tables. tables ≡ font.entry.now) }
+        ensures tables { IfOk result (λ tables. tables ≡ font.entry.now) }
+        ensures memory { OnErr result (IsRefused A.refuses) }
     {
         let base = FixedTable::of(alloc, font, BASE)?;
         let gdef = FixedTable::of(alloc, font, GDEF)?;
@@ -190,7 +195,8 @@ impl<'f, 'a, A: Allocator + Copy> FixedTables<'f, 'a, A> {
     ) -> Result<Option<FixedTables<'f, 'a, A>>, NoMemory>
         requires { tags_fault kind font.now ≡ None }
         ensures tables { IfOk result (λ tables. tables ≡ fixed_read kind font.entry.now) }
-        ensures memory { OnErr result (kind ≡ LayoutKind) }
+        ensures layout { OnErr result (kind ≡ LayoutKind) }
+        ensures memory { OnErr result (IsRefused A.refuses) }
     {
         match kind {
             Kind::Layout => {
@@ -257,7 +263,7 @@ impl<'f, 'a, A: Allocator> Drop for FurtherTables<'f, 'a, A> {
     }
 }
 
-impl<'f, 'a, A: Allocator + Copy> FurtherTables<'f, 'a, A> {
+impl<'f, 'a, A: Memory + Copy> FurtherTables<'f, 'a, A> {
     /// Reads the tables of an accepted font that cuts of a kind read, each of which has to stand once at most, within
     /// the file.
     ///
@@ -273,6 +279,7 @@ impl<'f, 'a, A: Allocator + Copy> FurtherTables<'f, 'a, A> {
         ensures exact { MatchResult result (λ tables. tables ≡ (kind, font.entry.now))
             (IsOpenRefusal kind font.entry.now) }
         ensures inside { IfOk result (λ _. tags_fault kind font.entry.now ≡ None) }
+        ensures memory { result ≡ Err OpenNoMemory → IsRefused A.refuses }
     {
         recall_accepted(font);
         if let Err(error) = check_tags(kind, font) {

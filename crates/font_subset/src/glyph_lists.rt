@@ -1,6 +1,6 @@
 //! Lists of glyphs by their numbers.
-ghost use Rattle.std.specs.Prelude.{◌≡◌, ◌<◌, ◌++◌, ◌∷◌, [], filter, length, IfOk, OnOk};
-ghost use Rattle.std.specs.List.{range_with_len};
+ghost use Rattle.std.specs.Prelude.{◌≡◌, ◌++◌, length, IfOk, OnErr, OnOk};
+ghost use Rattle.sfnt_bytes.specs.Memory.{IsRefused};
 ghost use Rattle.font_glyph.specs.Marks.{has};
 ghost use Rattle.font_tables.specs.Fields.{glyph_count_of};
 ghost use Rattle.font_theory.specs.Content.{everything, is_kept};
@@ -10,20 +10,26 @@ ghost use Rattle.font_subset.specs.KeptGlyphs.{numbers_in};
 use crate::font_of_kind::FontOfKind;
 use crate::selection::Selection;
 use font_glyph::Marks;
-use sfnt_bytes::NoMemory;
-use std::alloc::Allocator;
+use sfnt_bytes::{Memory, NoMemory};
 
-// Puts a glyph at the end of a list, where it is marked.
-fn list_marked<A: Allocator>(
+/// Puts the marked glyphs below a count at the end of a list, ascending.
+///
+/// # Errors
+///
+/// `NoMemory` if out of memory.
+pub(crate) fn list_marks<A: Memory>(
     glyphs: &mut Vec<u16, A>,
     marks: &Marks<A>,
-    g: u16,
+    count: u16,
 ) -> Result<(), NoMemory>
-    requires { g < length marks.now }
-    ensures { OnOk result (glyphs.new.items ≡ glyphs.old.items ++ filter (has marks.now) (g ∷ [])) }
+    requires { length marks.now ≡ count }
+    ensures listed { OnOk result (glyphs.new.items ≡ glyphs.old.items ++ numbers_in (has marks.now) count) }
+    ensures memory { OnErr result (IsRefused A.refuses) }
 {
-    if marks.has(g) && glyphs.push(g).is_err() {
-        return Err(NoMemory);
+    let mut next = marks.next_from(0);
+    while next < usize::from(count) {
+        A::push(glyphs, next as u16)?;
+        next = marks.next_from(next + 1);
     }
     Ok(())
 }
@@ -33,18 +39,17 @@ fn list_marked<A: Allocator>(
 /// # Errors
 ///
 /// `NoMemory` if out of memory.
-pub(crate) fn listed_marks<A: Allocator>(
+pub(crate) fn listed_marks<A: Memory>(
     alloc: A,
     marks: &Marks<A>,
     count: u16,
 ) -> Result<Vec<u16, A>, NoMemory>
     requires { length marks.now ≡ count }
-    ensures { IfOk result (λ glyphs. glyphs.items ≡ numbers_in (has marks.now) count) }
+    ensures glyphs { IfOk result (λ glyphs. glyphs.items ≡ numbers_in (has marks.now) count) }
+    ensures memory { OnErr result (IsRefused A.refuses) }
 {
     let mut glyphs = Vec::new(alloc);
-    for g in 0..count {
-        list_marked(&mut glyphs, marks, g)?;
-    }
+    list_marks(&mut glyphs, marks, count)?;
     Ok(glyphs)
 }
 
@@ -55,12 +60,13 @@ pub(crate) fn listed_marks<A: Allocator>(
 /// # Errors
 ///
 /// `NoMemory` if out of memory.
-pub fn kept_glyphs<A: Allocator + Copy>(
+pub fn kept_glyphs<A: Memory + Copy>(
     alloc: A,
     font: &FontOfKind<'_, '_, A>,
 ) -> Result<Vec<u16, A>, NoMemory>
-    ensures { IfOk result (λ glyphs. glyphs.items
+    ensures glyphs { IfOk result (λ glyphs. glyphs.items
         ≡ numbers_in (is_kept (font_as font.now.0 font.now.1) everything) (glyph_count_of font.now.1)) }
+    ensures memory { OnErr result (IsRefused A.refuses) }
 {
     let count = font.font().tables().glyph_count();
     let selection = Selection::new(alloc, font, None, None)?;

@@ -1,8 +1,9 @@
 //! What a cut of a kind is made of: what is selected of a font, and the tables that cuts of the kind have anew. All but
 //! full cuts have no metrics of glyphs that are not kept and no names of glyphs, and variable cuts have no variation data
 //! of such glyphs. OpenType 1.9, hmtx; vmtx; post; gvar.
-ghost use Rattle.std.specs.Prelude.{◌≡◌, ◌≢◌, ◌+◌, ◌*◌, ◌<◌, ◌≤◌, ◌||◌, [], is_some, length, None, Some, IfOk, MatchOption, option_copied, unwrap_or, if◌then◌else◌};
+ghost use Rattle.std.specs.Prelude.{◌≡◌, ◌≢◌, ◌+◌, ◌*◌, ◌<◌, ◌≤◌, ◌||◌, [], is_some, length, None, Some, IfOk, MatchOption, OnErr, option_copied, unwrap_or, if◌then◌else◌};
 ghost use Rattle.std.specs.Option.{option_map, option_or};
+ghost use Rattle.sfnt_bytes.specs.Memory.{IsRefused};
 ghost use Rattle.sfnt_bytes.specs.declared.directory.TheConstants.{MAX_FILE};
 ghost use Rattle.font_file.specs.Font.{font_fault};
 ghost use Rattle.font_tables.specs.Fields.{number_of_h_metrics};
@@ -19,12 +20,12 @@ use crate::font_of_kind::FontOfKind;
 use crate::forms::{CutForm, form_of_file};
 use crate::kept_variations::kept_variations;
 use crate::lean_tables::{POST_LENGTH, blank_table, cleared_table, unnamed};
-use crate::selection::Selection;
+use crate::selection::{Seeds, Selection};
 use font_map::{Run, Wanted};
 use font_tables::{has_bad_hhea, has_bad_hmtx, read_number_of_h_metrics};
 use font_theory::Kind;
 use font_write::Source;
-use sfnt_bytes::{GVAR, HHEA, HMTX, NoMemory, POST, VHEA, VMTX};
+use sfnt_bytes::{GVAR, HHEA, HMTX, Memory, NoMemory, POST, VHEA, VMTX};
 use std::alloc::{Allocator, Global};
 use std::marker::Model;
 
@@ -48,7 +49,7 @@ pub fn pairs_by(header: &[u8], table: &[u8], count: u16) -> usize
 
 // Returns a table of metrics of a content with zeros for the glyphs that are not kept. Where there is none, or its
 // header does not describe it, a lean cut has that of the content, and none is returned.
-fn metrics_table<S: Source, A: Allocator>(
+fn metrics_table<S: Source, A: Memory>(
     alloc: A,
     source: &S,
     header: usize,
@@ -61,6 +62,7 @@ fn metrics_table<S: Source, A: Allocator>(
         (glyph_count (S.content_of source.now).copied))
         ((S.content_of source.now).copied slot)) }
     ensures small { IfOk result (λ o. length (unwrap_or (option_map (λ v. v.items) o) []) ≤ MAX_TABLE) }
+    ensures memory { OnErr result (IsRefused A.refuses) }
 {
     let count = source.glyph_count();
     match source.copied(slot) {
@@ -82,7 +84,7 @@ fn metrics_table<S: Source, A: Allocator>(
 /// # Errors
 ///
 /// `NoMemory` if out of memory.
-pub fn blank_of<S: Source, A: Allocator>(
+pub fn blank_of<S: Source, A: Memory>(
     alloc: A,
     source: &S,
     header: usize,
@@ -92,6 +94,7 @@ pub fn blank_of<S: Source, A: Allocator>(
         ≡ option_map (blank (pairs_in (S.content_of source.now).copied header slot)
         (glyph_count (S.content_of source.now).copied)) ((S.content_of source.now).copied slot)) }
     ensures small { IfOk result (λ o. length (unwrap_or (option_map (λ v. v.items) o) []) ≤ MAX_TABLE) }
+    ensures memory { OnErr result (IsRefused A.refuses) }
 {
     let count = source.glyph_count();
     match source.copied(slot) {
@@ -106,11 +109,12 @@ pub fn blank_of<S: Source, A: Allocator>(
 
 // Returns `post` of a content without names. Where there is none, or it is too short for its fields, a lean cut
 // has that of the content, and none is returned.
-fn post_table<S: Source, A: Allocator>(alloc: A, source: &S) -> Result<Option<Vec<u8, A>>, NoMemory>
+fn post_table<S: Source, A: Memory>(alloc: A, source: &S) -> Result<Option<Vec<u8, A>>, NoMemory>
     ensures table { IfOk result (λ o.
         option_or (option_map (λ v. v.items) o) ((S.content_of source.now).copied POST)
         ≡ option_map thin_post ((S.content_of source.now).copied POST)) }
     ensures small { IfOk result (λ o. length (unwrap_or (option_map (λ v. v.items) o) []) ≤ MAX_TABLE) }
+    ensures memory { OnErr result (IsRefused A.refuses) }
 {
     match source.copied(POST) {
         None => Ok(None),
@@ -178,7 +182,7 @@ impl<'f, 'a, A: Allocator> Drop for CutOfKind<'f, 'a, A> {
     }
 }
 
-impl<'f, 'a, A: Allocator + Copy> CutOfKind<'f, 'a, A> {
+impl<'f, 'a, A: Memory + Copy> CutOfKind<'f, 'a, A> {
     /// Returns the content of the cut of what is selected. The tables that it has anew are asked for here, and no
     /// memory later.
     ///
@@ -186,7 +190,8 @@ impl<'f, 'a, A: Allocator + Copy> CutOfKind<'f, 'a, A> {
     ///
     /// `NoMemory` if out of memory.
     pub fn of(alloc: A, selection: Selection<'f, 'a, A>) -> Result<CutOfKind<'f, 'a, A>, NoMemory>
-        ensures { IfOk result (λ source. source ≡ selection.entry) }
+        ensures source { IfOk result (λ source. source ≡ selection.entry) }
+        ensures memory { OnErr result (IsRefused A.refuses) }
     {
         match selection.kind() {
             Kind::Full => Ok(CutOfKind {
@@ -204,9 +209,10 @@ impl<'f, 'a, A: Allocator + Copy> CutOfKind<'f, 'a, A> {
     // not kept, and no names of glyphs.
     fn leaned(alloc: A, selection: Selection<'f, 'a, A>) -> Result<CutOfKind<'f, 'a, A>, NoMemory>
         requires { selection.0 ≢ Full }
-        ensures { IfOk result (λ source. source ≡ selection.entry) }
+        ensures source { IfOk result (λ source. source ≡ selection.entry) }
+        ensures memory { OnErr result (IsRefused A.refuses) }
     {
-        let _kind = selection.kind();
+        selection.recall_accepted();
         let hmtx = metrics_table(alloc, &selection, HHEA, HMTX)?;
         let post = post_table(alloc, &selection)?;
         let vmtx = metrics_table(alloc, &selection, VHEA, VMTX)?;
@@ -233,15 +239,39 @@ impl<'f, 'a, A: Allocator + Copy> CutOfKind<'f, 'a, A> {
         wanted: Option<&'f Wanted<A>>,
         numbers: Option<&'f [u16]>,
     ) -> Result<CutOfKind<'f, 'a, A>, NoMemory>
-        ensures { IfOk result (λ source. source ≡ (
+        ensures source { IfOk result (λ source. source ≡ (
           font.entry.now.0,
           (
             font.entry.now.1,
             asked (option_copied wanted.entry) (option_copied numbers.entry),
           ),
         )) }
+        ensures memory { OnErr result (IsRefused A.refuses) }
     {
         let selection = Selection::new(alloc, font, wanted, numbers)?;
+        CutOfKind::of(alloc, selection)
+    }
+
+    /// Returns the cut for the codes that the seeds are of, and for the glyphs of these numbers, or for all glyphs if no
+    /// list is given.
+    ///
+    /// # Errors
+    ///
+    /// `NoMemory` if out of memory.
+    pub(crate) fn of_seeds(
+        alloc: A,
+        font: &'f FontOfKind<'f, 'a, A>,
+        seeds: Seeds<'f, 'a, A>,
+        numbers: Option<&'f [u16]>,
+    ) -> Result<CutOfKind<'f, 'a, A>, NoMemory>
+        requires { seeds.0 ≡ font.now.1 }
+        ensures source { IfOk result (λ source. source ≡ (
+          font.entry.now.0,
+          (font.entry.now.1, asked seeds.entry.1 (option_copied numbers.entry)),
+        )) }
+        ensures memory { OnErr result (IsRefused A.refuses) }
+    {
+        let selection = Selection::of_seeds(alloc, font, seeds, numbers)?;
         CutOfKind::of(alloc, selection)
     }
 }
@@ -299,7 +329,7 @@ impl<'f, 'a, A: Allocator> CutOfKind<'f, 'a, A> {
         if slot == GVAR {
             return bytes_of(&self.gvar);
         }
-        let _kind = self.selection.kind();
+        self.selection.recall_accepted();
         None
     }
 }
@@ -310,7 +340,7 @@ impl<'f, 'a, A: Allocator> Source for CutOfKind<'f, 'a, A> {
     ghost content_of = { written_of };
 
     fn recall_laws(&self) {
-        let _kind = self.selection.kind();
+        self.selection.recall_accepted();
         self.selection.recall_laws();
     }
 
@@ -322,32 +352,32 @@ impl<'f, 'a, A: Allocator> Source for CutOfKind<'f, 'a, A> {
     }
 
     fn head(&self) -> &[u8] {
-        let _kind = self.selection.kind();
+        self.selection.recall_accepted();
         self.selection.head()
     }
 
     fn glyph_count(&self) -> u16 {
-        let _kind = self.selection.kind();
+        self.selection.recall_accepted();
         self.selection.glyph_count()
     }
 
     fn next_run(&self, from: u32) -> Option<Run> {
-        let _kind = self.selection.kind();
+        self.selection.recall_accepted();
         self.selection.next_run(from)
     }
 
     fn keeps(&self, g: u16) -> bool {
-        let _kind = self.selection.kind();
+        self.selection.recall_accepted();
         self.selection.keeps(g)
     }
 
     fn next_kept(&self, from: u16) -> u16 {
-        let _kind = self.selection.kind();
+        self.selection.recall_accepted();
         self.selection.next_kept(from)
     }
 
     fn outline_of(&self, g: u16) -> &[u8] {
-        let _kind = self.selection.kind();
+        self.selection.recall_accepted();
         self.selection.outline_of(g)
     }
 }

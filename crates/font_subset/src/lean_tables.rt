@@ -1,14 +1,14 @@
 //! The tables that a lean cut has anew: metrics with zeros for the glyphs that are not kept, and `post`
 //! without names. OpenType 1.9, hmtx; vmtx; post.
-ghost use Rattle.std.specs.Prelude.{◌≡◌, ◌+◌, ◌*◌, ◌<◌, ◌≤◌, ◌++◌, drop, is_some, length, replicate, IfOk};
+ghost use Rattle.std.specs.Prelude.{◌≡◌, ◌+◌, ◌*◌, ◌<◌, ◌≤◌, ◌++◌, drop, is_some, length, replicate, IfOk, OnErr};
+ghost use Rattle.sfnt_bytes.specs.Memory.{IsRefused};
 ghost use Rattle.font_theory.specs.Bytes.{bytes32};
 ghost use Rattle.font_theory.specs.Content.{glyph_count};
 ghost use Rattle.font_theory.specs.Parted.{blank, cleared, entry_at, entry_size, thin_post};
 ghost use Rattle.font_subset.specs.Inside.{AreCopied};
 
 use font_write::Source;
-use sfnt_bytes::NoMemory;
-use std::alloc::Allocator;
+use sfnt_bytes::{Memory, NoMemory};
 
 /// The length of a pair of an advance and a bearing.
 const PAIR: usize = 4;
@@ -86,7 +86,7 @@ fn copy_kept<S: Source>(to: &mut [u8], from: &[u8], source: &S, pairs: usize)
 /// # Errors
 ///
 /// `NoMemory` if out of memory.
-pub(crate) fn cleared_table<S: Source, A: Allocator>(
+pub(crate) fn cleared_table<S: Source, A: Memory>(
     alloc: A,
     source: &S,
     table: &[u8],
@@ -95,10 +95,11 @@ pub(crate) fn cleared_table<S: Source, A: Allocator>(
     requires some { 0 < pairs }
     requires few { pairs ≤ glyph_count (S.content_of source.now).copied }
     requires room { 2 * (pairs + glyph_count (S.content_of source.now).copied) ≤ length table.now }
-    ensures { IfOk result (λ v. v.items ≡ cleared (λ g. is_some ((S.content_of source.now).outline g)) pairs
+    ensures table { IfOk result (λ v. v.items ≡ cleared (λ g. is_some ((S.content_of source.now).outline g)) pairs
         (glyph_count (S.content_of source.now).copied) table.now) }
+    ensures memory { OnErr result (IsRefused A.refuses) }
 {
-    let mut bytes = vec![in alloc; 0u8; table.len()].map_err(|_| NoMemory)?;
+    let mut bytes = alloc.filled(0u8, table.len())?;
     copy_kept(&mut bytes, table, source, pairs);
     Ok(bytes)
 }
@@ -109,7 +110,7 @@ pub(crate) fn cleared_table<S: Source, A: Allocator>(
 /// # Errors
 ///
 /// `NoMemory` if out of memory.
-pub(crate) fn blank_table<A: Allocator>(
+pub(crate) fn blank_table<A: Memory>(
     alloc: A,
     table: &[u8],
     pairs: usize,
@@ -117,16 +118,16 @@ pub(crate) fn blank_table<A: Allocator>(
 ) -> Result<Vec<u8, A>, NoMemory>
     requires few { pairs ≤ count }
     requires room { 0 < pairs → 2 * (pairs + count) ≤ length table.now }
-    ensures { IfOk result (λ v. v.items ≡ blank pairs count table.now) }
+    ensures table { IfOk result (λ v. v.items ≡ blank pairs count table.now) }
+    ensures memory { OnErr result (IsRefused A.refuses) }
 {
     if pairs == 0 {
-        let whole = table.to_vec(alloc).map_err(|_| NoMemory)?;
+        let whole = alloc.copy_of(table)?;
         return Ok(whole);
     }
-    let size = table.len();
-    let mut bytes = vec![in alloc; 0u8; size].map_err(|_| NoMemory)?;
-    copy_shared(&mut bytes, table, pairs, usize::from(count));
-    Ok(bytes)
+    let mut blank = alloc.filled(0u8, table.len())?;
+    copy_shared(&mut blank, table, pairs, usize::from(count));
+    Ok(blank)
 }
 
 // Gives a `post` version 3.0.
@@ -143,11 +144,12 @@ fn put_version(post: &mut [u8])
 /// # Errors
 ///
 /// `NoMemory` if out of memory.
-pub(crate) fn unnamed<A: Allocator>(alloc: A, post: &[u8]) -> Result<Vec<u8, A>, NoMemory>
+pub(crate) fn unnamed<A: Memory>(alloc: A, post: &[u8]) -> Result<Vec<u8, A>, NoMemory>
     requires { 32 ≤ length post.now }
-    ensures { IfOk result (λ v. v.items ≡ thin_post post.now) }
+    ensures table { IfOk result (λ v. v.items ≡ thin_post post.now) }
+    ensures memory { OnErr result (IsRefused A.refuses) }
 {
-    let mut bytes = post[..POST_LENGTH].to_vec(alloc).map_err(|_| NoMemory)?;
+    let mut bytes = alloc.copy_of(&post[..POST_LENGTH])?;
     put_version(&mut bytes);
     Ok(bytes)
 }

@@ -10,7 +10,7 @@ use thiserror::Error;
 /// Why a font is not opened for cuts of a kind, which comes of layout and variable cuts alone.
 #[derive(Clone, Copy, Debug, PartialEq, Eq, Error)]
 pub enum OpenError {
-    /// Memory was refused.
+    /// Out of memory.
     #[error("no memory")]
     NoMemory,
     /// Its tables of layout, or of variations, are refused.

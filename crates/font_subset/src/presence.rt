@@ -1,7 +1,8 @@
 //! The glyphs of a font that may be wanted by number: those that are there, which have an outline, metrics of their own
 //! that are not all 0, or variation data. OpenType 1.9, glyf; hmtx; vmtx; gvar.
-ghost use Rattle.std.specs.Prelude.{◌≡◌, ◌≢◌, ◌+◌, ◌*◌, ◌<◌, ◌≤◌, ◌&&◌, ◌||◌, ◌∷◌, [], ℕ, length, nat_eq, nat_lt, slice_index, None, Some, IfOk, IsTrue, OnOk, false, option_copied, unwrap_or};
+ghost use Rattle.std.specs.Prelude.{◌≡◌, ◌≢◌, ◌+◌, ◌*◌, ◌<◌, ◌≤◌, ◌&&◌, ◌||◌, ◌∷◌, [], ℕ, length, nat_eq, nat_lt, slice_index, None, Some, IfOk, IsTrue, OnErr, OnOk, false, option_copied, unwrap_or};
 ghost use Rattle.sfnt_bytes.specs.Directory.{kept_tag, table_of};
+ghost use Rattle.sfnt_bytes.specs.Memory.{IsRefused};
 ghost use Rattle.sfnt_bytes.specs.declared.tag.TheConstants.{LOCA as LOCA_SLOT};
 ghost use Rattle.font_tables.specs.Outlines.{outline_of};
 ghost use Rattle.sfnt_bytes.specs.declared.tag.TheConstants.{GVAR};
@@ -20,7 +21,7 @@ use font_file::Font;
 use font_glyph::Marks;
 use font_tables::read_offset;
 use font_theory::Kind;
-use sfnt_bytes::{Directory, HHEA, HMTX, LOCA, NoMemory, VHEA, VMTX, be16, be32};
+use sfnt_bytes::{Directory, HHEA, HMTX, LOCA, Memory, NoMemory, VHEA, VMTX, be16, be32};
 use std::alloc::Allocator;
 use std::marker::Model;
 
@@ -192,7 +193,7 @@ impl<'f, 'a, A: Allocator> Presence<'f, 'a, A> {
         requires { font.now.0 ≢ Full }
         ensures { result ≡ font.entry.now }
     {
-        let _kind = font.kind();
+        font.recall_accepted();
         let across = metrics_in(font, HHEA, HMTX);
         let down = metrics_in(font, VHEA, VMTX);
         Presence { font, across, down }
@@ -345,28 +346,27 @@ pub(crate) fn with_numbers<A: Allocator>(
 }
 
 // Puts a glyph at the end of a list, where it is there.
-fn list_if_there<A: Allocator>(
+fn list_if_there<A: Memory>(
     glyphs: &mut Vec<u16, A>,
     presence: &Presence<'_, '_, A>,
     g: u16,
 ) -> Result<(), NoMemory>
     requires { g < glyph_count_of presence.now.1 }
-    ensures { OnOk result ((h : ℕ) → glyphs_wanted (Some glyphs.new.items) h
+    ensures listed { OnOk result ((h : ℕ) → glyphs_wanted (Some glyphs.new.items) h
         ≡ (glyphs_wanted (Some glyphs.old.items) h || (nat_eq g h && (font_as presence.now.0 presence.now.1).there h))) }
+    ensures memory { OnErr result (IsRefused A.refuses) }
 {
-    if presence.has(g) && glyphs.push(g).is_err() {
-        return Err(NoMemory);
+    if presence.has(g) {
+        A::push(glyphs, g)?;
     }
     Ok(())
 }
 
 // Lists the glyphs that are there, where some may be.
-fn list_there<A: Allocator>(
-    alloc: A,
-    presence: &Presence<'_, '_, A>,
-) -> Result<Vec<u16, A>, NoMemory>
-    ensures { IfOk result (λ glyphs. (g : ℕ) →
+fn list_there<A: Memory>(alloc: A, presence: &Presence<'_, '_, A>) -> Result<Vec<u16, A>, NoMemory>
+    ensures glyphs { IfOk result (λ glyphs. (g : ℕ) →
         glyphs_wanted (Some glyphs.items) g ≡ (font_as presence.now.0 presence.now.1).there g) }
+    ensures memory { OnErr result (IsRefused A.refuses) }
 {
     let mut glyphs = Vec::new(alloc);
     for g in 0..presence.glyph_count() {
@@ -380,12 +380,13 @@ fn list_there<A: Allocator>(
 /// # Errors
 ///
 /// `NoMemory` if out of memory.
-pub(crate) fn glyphs_there<A: Allocator>(
+pub(crate) fn glyphs_there<A: Memory>(
     alloc: A,
     font: &FontOfKind<'_, '_, A>,
 ) -> Result<Vec<u16, A>, NoMemory>
-    ensures { IfOk result (λ glyphs. (g : ℕ) →
+    ensures glyphs { IfOk result (λ glyphs. (g : ℕ) →
         glyphs_wanted (Some glyphs.items) g ≡ (font_as font.now.0 font.now.1).there g) }
+    ensures memory { OnErr result (IsRefused A.refuses) }
 {
     match font.kind() {
         Kind::Full => Ok(Vec::new(alloc)),

@@ -1,8 +1,9 @@
 //! What is selected of a font for its cuts of a kind: the codes and the glyphs that are wanted of it, and the glyphs
 //! that these keep. From .notdef, the glyphs of these codes, and the wanted glyphs that are there chains of components
 //! lead to all that is kept. OpenType 1.9, cmap; glyf, Composite Glyph Description.
-ghost use Rattle.std.specs.Prelude.{◌≡◌, ◌+◌, ◌-◌, ◌<◌, ◌≤◌, ℕ, Bool, [], length, None, Some, option_copied, unwrap_or, IfOk, MatchOption, true};
+ghost use Rattle.std.specs.Prelude.{◌≡◌, ◌+◌, ◌-◌, ◌<◌, ◌≤◌, ℕ, Bool, [], length, None, Some, option_copied, unwrap_or, IfOk, MatchOption, OnErr, true};
 ghost use Rattle.sfnt_bytes.specs.Directory.{kept_tag, table_of};
+ghost use Rattle.sfnt_bytes.specs.Memory.{IsRefused};
 ghost use Rattle.sfnt_bytes.specs.declared.directory.TheConstants.{MAX_FILE};
 ghost use Rattle.sfnt_bytes.specs.declared.tag.TheConstants.{HEAD, SLOTS as KEPT_SLOTS};
 ghost use Rattle.font_tables.specs.Fields.{glyph_count_of};
@@ -16,7 +17,7 @@ ghost use Rattle.font_theory.specs.Cut.{IsCut};
 ghost use Rattle.font_theory.specs.Kinds.{fault_of, font_as, format_of, tables_as};
 ghost use Rattle.font_theory.specs.declared.kinds.Kind.{Kind};
 ghost use Rattle.font_theory.specs.declared.kinds.Kind.TheVariants.{Full};
-ghost use Rattle.font_subset.specs.KeptGlyphs.{AreVariationsIn, IsKeptSet, IsRootSet, all_asked, asked, codes_asked, codes_wanted, wanted_in, wanted_map};
+ghost use Rattle.font_subset.specs.KeptGlyphs.{AreVariationsIn, IsKeptSet, IsRootSet, all_asked, asked, codes_asked, codes_wanted, glyphs_wanted, wanted_in, wanted_map};
 ghost use Rattle.font_subset.specs.Inside.{AreMarked, IsOpenedFor, IsSeedSet};
 ghost use Rattle.font_subset.specs.ListedRuns.{AreRunsOf};
 
@@ -30,7 +31,7 @@ use font_map::{Chart, Pieces, Run, Wanted, run_of};
 use font_theory::Kind;
 use font_variations::Variations;
 use font_write::Source;
-use sfnt_bytes::{NoMemory, SLOTS};
+use sfnt_bytes::{Memory, NoMemory, SLOTS};
 use std::alloc::{Allocator, Global};
 use std::marker::Model;
 
@@ -73,9 +74,10 @@ impl<'f, 'a, A: Allocator> Model for Charted<'f, 'a, A> {
         × IfSome c.listed (AreRunsOf c.font.now) };
 }
 
-impl<'f, 'a, A: Allocator + Copy> Charted<'f, 'a, A> {
+impl<'f, 'a, A: Memory + Copy> Charted<'f, 'a, A> {
     fn of(alloc: A, font: &'f Font<'a>) -> Result<Charted<'f, 'a, A>, NoMemory>
-        ensures { IfOk result (λ charted. charted ≡ font.entry.now) }
+        ensures font { IfOk result (λ charted. charted ≡ font.entry.now) }
+        ensures memory { OnErr result (IsRefused A.refuses) }
     {
         let chart = Chart::of(alloc, font.mapping())?;
         Ok(Charted {
@@ -87,7 +89,8 @@ impl<'f, 'a, A: Allocator + Copy> Charted<'f, 'a, A> {
 
     // Does the same, and lists the runs of the mapping.
     fn with_runs(alloc: A, font: &'f Font<'a>) -> Result<Charted<'f, 'a, A>, NoMemory>
-        ensures { IfOk result (λ charted. charted ≡ font.entry.now) }
+        ensures font { IfOk result (λ charted. charted ≡ font.entry.now) }
+        ensures memory { OnErr result (IsRefused A.refuses) }
     {
         let charted = Charted::of(alloc, font)?;
         let runs = charted.runs(alloc)?;
@@ -108,7 +111,8 @@ impl<'f, 'a, A: Allocator + Copy> Charted<'f, 'a, A> {
 
     // Lists the runs of the whole map.
     fn runs(&self, alloc: A) -> Result<Vec<Run, A>, NoMemory>
-        ensures { IfOk result (λ runs. AreRunsOf self.now runs.items) }
+        ensures runs { IfOk result (λ runs. AreRunsOf self.now runs.items) }
+        ensures memory { OnErr result (IsRefused A.refuses) }
     {
         self.known_map();
         let mut runs = Vec::new(alloc);
@@ -116,9 +120,7 @@ impl<'f, 'a, A: Allocator + Copy> Charted<'f, 'a, A> {
         let mut from = 0;
         while let Some(piece) = ahead {
             let (run, behind) = run_of(&self.chart, piece);
-            if runs.push(run).is_err() {
-                return Err(NoMemory);
-            }
+            A::push(&mut runs, run)?;
             from = run.last + 1;
             ahead = behind;
         }
@@ -127,7 +129,8 @@ impl<'f, 'a, A: Allocator + Copy> Charted<'f, 'a, A> {
 
     // Returns the runs of the whole map.
     fn into_runs(self, alloc: A) -> Result<Vec<Run, A>, NoMemory>
-        ensures { IfOk result (λ runs. AreRunsOf self.entry runs.items) }
+        ensures runs { IfOk result (λ runs. AreRunsOf self.entry runs.items) }
+        ensures memory { OnErr result (IsRefused A.refuses) }
     {
         let Charted {
             font,
@@ -184,12 +187,13 @@ impl<'f, 'a, A: Allocator> Charted<'f, 'a, A> {
 }
 
 // Marks .notdef, and the glyphs of the wanted codes.
-fn mark_seeds<A: Allocator + Copy>(
+fn mark_seeds<A: Memory + Copy>(
     alloc: A,
     font: &Charted<'_, '_, A>,
     wanted: Option<&Wanted<A>>,
 ) -> Result<Marks<A>, NoMemory>
-    ensures { IfOk result (IsSeedSet font.now (codes_wanted (option_copied wanted.entry))) }
+    ensures seeds { IfOk result (IsSeedSet font.now (codes_wanted (option_copied wanted.entry))) }
+    ensures memory { OnErr result (IsRefused A.refuses) }
 {
     let mut seeds = Marks::new(alloc, font.font().tables().glyph_count())?;
     seeds.set(0);
@@ -201,73 +205,135 @@ fn mark_seeds<A: Allocator + Copy>(
     Ok(seeds)
 }
 
-/// Marks .notdef, and the glyphs of the wanted codes, or of all where no set is given.
-///
-/// # Errors
-///
-/// `NoMemory` if out of memory.
-pub(crate) fn marked_seeds<A: Allocator + Copy>(
-    alloc: A,
-    font: &Font<'_>,
-    wanted: Option<&Wanted<A>>,
-) -> Result<Marks<A>, NoMemory>
-    ensures { IfOk result (IsSeedSet font.now (codes_wanted (option_copied wanted.entry))) }
-{
-    let charted = Charted::of(alloc, font)?;
-    let seeds = mark_seeds(alloc, &charted, wanted)?;
-    Ok(seeds)
+/// The seeds of a cut, marked: .notdef and the glyphs of the wanted codes of a font.
+pub struct Seeds<'f, 'a, A: Allocator = Global> {
+    charted: Charted<'f, 'a, A>,
+    // All codes are wanted where no set stands here.
+    wanted: Option<&'f Wanted<A>>,
+    marks: Marks<A>,
 }
 
-// Marks the roots of a cut: .notdef, the glyphs of the wanted codes, and the wanted glyphs that are there.
-fn mark_roots<A: Allocator + Copy>(
-    alloc: A,
+// Its value is the file of the font, and the ranges of the wanted codes where these are not all.
+impl<'f, 'a, A: Allocator> Model for Seeds<'f, 'a, A> {
+    ghost use Rattle.std.specs.Prelude.{ℕ, List, Option, option_copied};
+    ghost use Rattle.codes.specs.declared.code_range.CodeRange.{CodeRange};
+    ghost use Rattle.font_subset.specs.KeptGlyphs.{codes_wanted};
+    ghost use Rattle.font_subset.specs.Inside.{IsSeedSet};
+
+    ghost Value = { List ℕ × Option (List CodeRange) };
+
+    ghost view = { λ s. (s.charted, option_copied s.wanted) };
+
+    ghost invariant = { λ s. IsSeedSet s.charted (codes_wanted (option_copied s.wanted)) s.marks };
+}
+
+// Written out: a derived drop is proved anew wherever a value is let go, with all that is known of the value.
+impl<'f, 'a, A: Allocator> Drop for Seeds<'f, 'a, A> {
+    fn drop(self) {
+        let Seeds {
+            charted: _charted,
+            wanted: _,
+            marks: _marks,
+        } = self;
+    }
+}
+
+impl<'f, 'a, A: Memory + Copy> Seeds<'f, 'a, A> {
+    /// Marks the seeds of a cut for the wanted codes of a font, or for all where no set is given.
+    ///
+    /// # Errors
+    ///
+    /// `NoMemory` if out of memory.
+    pub fn of(
+        alloc: A,
+        font: &'f Font<'a>,
+        wanted: Option<&'f Wanted<A>>,
+    ) -> Result<Seeds<'f, 'a, A>, NoMemory>
+        ensures seeds { IfOk result (λ seeds. seeds ≡ (font.entry.now, option_copied wanted.entry)) }
+        ensures memory { OnErr result (IsRefused A.refuses) }
+    {
+        let charted = Charted::of(alloc, font)?;
+        Seeds::in_chart(alloc, charted, wanted)
+    }
+
+    // Marks the seeds of a cut of a font that has its chart.
+    fn in_chart(
+        alloc: A,
+        charted: Charted<'f, 'a, A>,
+        wanted: Option<&'f Wanted<A>>,
+    ) -> Result<Seeds<'f, 'a, A>, NoMemory>
+        ensures seeds { IfOk result (λ seeds. seeds ≡ (charted.entry, option_copied wanted.entry)) }
+        ensures memory { OnErr result (IsRefused A.refuses) }
+    {
+        let marks = mark_seeds(alloc, &charted, wanted)?;
+        Ok(Seeds {
+            charted,
+            wanted,
+            marks,
+        })
+    }
+}
+
+impl<'f, 'a, A: Allocator> Seeds<'f, 'a, A> {
+    pub(crate) fn marks(&self) -> &Marks<A>
+        ensures { IsSeedSet self.now.0 (codes_wanted self.now.1) result.now }
+    {
+        &self.marks
+    }
+}
+
+// Marks the roots of a cut: the seeds, and the wanted glyphs that are there.
+fn mark_roots<A: Allocator>(
     kind: Kind,
     font: &Charted<'_, '_, A>,
+    seeds: Marks<A>,
     opened: Option<&FontOfKind<'_, '_, A>>,
-    wanted: Option<&Wanted<A>>,
     numbers: Option<&[u16]>,
-) -> Result<Marks<A>, NoMemory>
-    requires accepted { fault_of kind font.now ≡ None }
+) -> Marks<A>
     requires opened { IsOpenedFor kind font.now (option_copied opened) }
-    ensures { IfOk result (IsRootSet kind font.now
-        (wanted_in (asked (option_copied wanted.entry) (option_copied numbers.entry)))) }
+    requires count { length seeds ≡ glyph_count_of font.now }
+    ensures count { length result ≡ glyph_count_of font.now }
+    ensures roots { (codes : ℕ → Bool) → IsSeedSet font.now codes seeds → IsRootSet kind font.now
+        (record { codes = codes; glyphs = glyphs_wanted (option_copied numbers.entry) }) result }
 {
-    let seeds = mark_seeds(alloc, font, wanted)?;
     match opened {
-        Some(opened) => Ok(with_numbers(seeds, opened, numbers)),
-        None => Ok(seeds),
+        Some(opened) => with_numbers(seeds, opened, numbers),
+        None => seeds,
     }
 }
 
 // Marks the glyphs that a cut keeps: its roots, and what they are made of.
-fn mark_reached<A: Allocator + Copy>(
+fn mark_reached<A: Memory + Copy>(
     alloc: A,
     font: &Charted<'_, '_, A>,
     roots: &Marks<A>,
 ) -> Result<Marks<A>, NoMemory>
     requires { length roots.now ≡ glyph_count_of font.now }
-    ensures { IfOk result (λ kept. (kind : Kind) (wanted : WantedSets) → fault_of kind font.now ≡ None →
+    ensures kept { IfOk result (λ kept. (kind : Kind) (wanted : WantedSets) → fault_of kind font.now ≡ None →
         IsRootSet kind font.now wanted roots.now → IsKeptSet kind font.now wanted kept) }
+    ensures memory { OnErr result (IsRefused A.refuses) }
 {
     let kept = close(alloc, font.font(), roots)?;
     Ok(kept)
 }
 
 // Returns the glyphs that a cut keeps.
-fn mark_kept<A: Allocator + Copy>(
+fn mark_kept<A: Memory + Copy>(
     alloc: A,
     kind: Kind,
     font: &Charted<'_, '_, A>,
+    seeds: Marks<A>,
     opened: Option<&FontOfKind<'_, '_, A>>,
-    wanted: Option<&Wanted<A>>,
     numbers: Option<&[u16]>,
 ) -> Result<Marks<A>, NoMemory>
     requires accepted { fault_of kind font.now ≡ None }
     requires opened { IsOpenedFor kind font.now (option_copied opened) }
-    ensures { IfOk result (IsKeptSet kind font.now
-        (wanted_in (asked (option_copied wanted.entry) (option_copied numbers.entry)))) }
+    requires count { length seeds ≡ glyph_count_of font.now }
+    ensures kept { IfOk result (λ kept. (codes : ℕ → Bool) → IsSeedSet font.now codes seeds → IsKeptSet kind font.now
+        (record { codes = codes; glyphs = glyphs_wanted (option_copied numbers.entry) }) kept) }
+    ensures memory { OnErr result (IsRefused A.refuses) }
 {
-    let roots = mark_roots(alloc, kind, font, opened, wanted, numbers)?;
+    let roots = mark_roots(kind, font, seeds, opened, numbers);
     let kept = mark_reached(alloc, font, &roots)?;
     Ok(kept)
 }
@@ -277,7 +343,7 @@ fn mark_kept<A: Allocator + Copy>(
 pub struct Selection<'f, 'a, A: Allocator = Global> {
     kind: Kind,
     charted: Charted<'f, 'a, A>,
-    // The font as it was opened for the kind, which a full cut needs not.
+    // The font as it was opened for the kind, which full cuts do not need.
     opened: Option<&'f FontOfKind<'f, 'a, A>>,
     // All codes are wanted where no set stands here.
     wanted: Option<&'f Wanted<A>>,
@@ -316,10 +382,45 @@ impl<'f, 'a, A: Allocator> Drop for Selection<'f, 'a, A> {
     }
 }
 
-impl<'f, 'a, A: Allocator + Copy> Selection<'f, 'a, A> {
-    /// Selects the wanted codes of a font, or all where no set is given, and the glyphs of these numbers, or all where no
-    /// list is given. Numbers of glyphs that are not there do not count, nor do numbers at all in full cuts. All memory
-    /// that is needed to keep them is asked for here.
+impl<'f, 'a, A: Memory + Copy> Seeds<'f, 'a, A> {
+    // Makes the selection for the codes that these seeds are of, and for the glyphs of some numbers, or for all glyphs
+    // if no list is given.
+    fn select(
+        self,
+        alloc: A,
+        kind: Kind,
+        opened: Option<&'f FontOfKind<'f, 'a, A>>,
+        numbers: Option<&'f [u16]>,
+    ) -> Result<Selection<'f, 'a, A>, NoMemory>
+        requires accepted { fault_of kind self.0 ≡ None }
+        requires opened { IsOpenedFor kind self.0 (option_copied opened) }
+        ensures selection { IfOk result (λ selection. selection ≡ (
+          kind,
+          (self.entry.0, asked self.entry.1 (option_copied numbers.entry)),
+        )) }
+        ensures memory { OnErr result (IsRefused A.refuses) }
+    {
+        let Seeds {
+            charted,
+            wanted,
+            marks,
+        } = self;
+        let kept = mark_kept(alloc, kind, &charted, marks, opened, numbers)?;
+        Ok(Selection {
+            kind,
+            charted,
+            opened,
+            wanted,
+            numbers,
+            kept,
+        })
+    }
+}
+
+impl<'f, 'a, A: Memory + Copy> Selection<'f, 'a, A> {
+    /// Selects the wanted codes of a font, or all if no set is given, and the glyphs of these numbers, or all if no list
+    /// is given. Numbers of glyphs that are not there do not count, nor do numbers at all in full cuts. All memory that is
+    /// needed to keep them is asked for here.
     ///
     /// # Errors
     ///
@@ -330,24 +431,39 @@ impl<'f, 'a, A: Allocator + Copy> Selection<'f, 'a, A> {
         wanted: Option<&'f Wanted<A>>,
         numbers: Option<&'f [u16]>,
     ) -> Result<Selection<'f, 'a, A>, NoMemory>
-        ensures { IfOk result (λ selection. selection ≡ (
+        ensures selection { IfOk result (λ selection. selection ≡ (
           font.entry.now.0,
           (
             font.entry.now.1,
             asked (option_copied wanted.entry) (option_copied numbers.entry),
           ),
         )) }
+        ensures memory { OnErr result (IsRefused A.refuses) }
     {
-        let charted = Charted::of(alloc, font.font())?;
-        let kept = mark_kept(alloc, font.kind(), &charted, Some(font), wanted, numbers)?;
-        Ok(Selection {
-            kind: font.kind(),
-            charted,
-            opened: Some(font),
-            wanted,
-            numbers,
-            kept,
-        })
+        let seeds = Seeds::of(alloc, font.font(), wanted)?;
+        Selection::of_seeds(alloc, font, seeds, numbers)
+    }
+
+    /// Makes the selection for the codes that the seeds are of, and for the glyphs of these numbers, or for all glyphs if
+    /// no list is given.
+    ///
+    /// # Errors
+    ///
+    /// `NoMemory` if out of memory.
+    pub(crate) fn of_seeds(
+        alloc: A,
+        font: &'f FontOfKind<'f, 'a, A>,
+        seeds: Seeds<'f, 'a, A>,
+        numbers: Option<&'f [u16]>,
+    ) -> Result<Selection<'f, 'a, A>, NoMemory>
+        requires { seeds.0 ≡ font.now.1 }
+        ensures selection { IfOk result (λ selection. selection ≡ (
+          font.entry.now.0,
+          (font.entry.now.1, asked seeds.entry.1 (option_copied numbers.entry)),
+        )) }
+        ensures memory { OnErr result (IsRefused A.refuses) }
+    {
+        seeds.select(alloc, font.kind(), Some(font), numbers)
     }
 
     /// Selects all codes and all glyphs of a font, and lists the runs of its map, which is walked more than once.
@@ -359,18 +475,13 @@ impl<'f, 'a, A: Allocator + Copy> Selection<'f, 'a, A> {
         alloc: A,
         font: &'f FontOfKind<'f, 'a, A>,
     ) -> Result<Selection<'f, 'a, A>, NoMemory>
-        ensures { IfOk result (λ selection. selection ≡ (font.entry.now.0, (font.entry.now.1, all_asked))) }
+        ensures selection { IfOk result (λ selection.
+            selection ≡ (font.entry.now.0, (font.entry.now.1, all_asked))) }
+        ensures memory { OnErr result (IsRefused A.refuses) }
     {
         let charted = Charted::with_runs(alloc, font.font())?;
-        let kept = mark_kept(alloc, font.kind(), &charted, Some(font), None, None)?;
-        Ok(Selection {
-            kind: font.kind(),
-            charted,
-            opened: Some(font),
-            wanted: None,
-            numbers: None,
-            kept,
-        })
+        let seeds = Seeds::in_chart(alloc, charted, None)?;
+        Selection::of_seeds(alloc, font, seeds, None)
     }
 
     /// Selects the wanted codes of a font for a full cut, or all where no set is given.
@@ -384,20 +495,13 @@ impl<'f, 'a, A: Allocator + Copy> Selection<'f, 'a, A> {
         font: &'f Font<'a>,
         wanted: Option<&'f Wanted<A>>,
     ) -> Result<Selection<'f, 'a, A>, NoMemory>
-        ensures { IfOk result (λ selection.
+        ensures selection { IfOk result (λ selection.
             selection ≡ (Full, (font.entry.now, codes_asked (option_copied wanted.entry)))) }
+        ensures memory { OnErr result (IsRefused A.refuses) }
     {
         recall_accepted(font);
-        let charted = Charted::of(alloc, font)?;
-        let kept = mark_kept(alloc, Kind::Full, &charted, None, wanted, Some(&[]))?;
-        Ok(Selection {
-            kind: Kind::Full,
-            charted,
-            opened: None,
-            wanted,
-            numbers: Some(&[]),
-            kept,
-        })
+        let seeds = Seeds::of(alloc, font, wanted)?;
+        seeds.select(alloc, Kind::Full, None, Some(&[]))
     }
 
     /// Returns the runs of the map of the font, which are all kept where all codes are wanted.
@@ -406,7 +510,8 @@ impl<'f, 'a, A: Allocator + Copy> Selection<'f, 'a, A> {
     ///
     /// `NoMemory` if out of memory, which is only asked for where the runs have not been listed.
     pub fn into_runs(self, alloc: A) -> Result<Vec<Run, A>, NoMemory>
-        ensures { IfOk result (λ runs. AreRunsOf self.entry.1.0 runs.items) }
+        ensures runs { IfOk result (λ runs. AreRunsOf self.entry.1.0 runs.items) }
+        ensures memory { OnErr result (IsRefused A.refuses) }
     {
         let Selection {
             kind: _,
@@ -495,6 +600,13 @@ impl<'f, 'a, A: Allocator> Source for Selection<'f, 'a, A> {
 }
 
 impl<'f, 'a, A: Allocator> Selection<'f, 'a, A> {
+    /// Recalls for the prover that the font was accepted. Does nothing at run time.
+    pub fn recall_accepted(&self)
+        ensures { fault_of self.now.0 self.now.1.0 ≡ None }
+    {
+        let _kind = self.kind();
+    }
+
     /// Returns the kind of cut.
     pub fn kind(&self) -> Kind
         ensures kind { result ≡ self.now.0 }

@@ -4,7 +4,7 @@ ghost use Rattle.std.specs.Prelude.{◌<◌};
 use font_file::Font;
 use sfnt_bytes::Tag;
 
-/// Returns the number of two bytes at a place, or none where they are not there.
+/// Returns the number of two bytes at a place, or 0 if they are not there.
 pub fn number_at(bytes: &[u8], at: usize) -> usize
     ensures { result < 65536 }
 {
@@ -14,7 +14,7 @@ pub fn number_at(bytes: &[u8], at: usize) -> usize
     }
 }
 
-/// Returns the number of three bytes at a place, or none where they are not there.
+/// Returns the number of three bytes at a place, or 0 if they are not there.
 pub fn three_at(bytes: &[u8], at: usize) -> u32 {
     match bytes.get(at..at.saturating_add(3)) {
         Some(three) => u32::from_be_bytes([0, three[0], three[1], three[2]]),
@@ -22,7 +22,7 @@ pub fn three_at(bytes: &[u8], at: usize) -> u32 {
     }
 }
 
-/// Returns the number of four bytes at a place, or none where they are not there.
+/// Returns the number of four bytes at a place, or 0 if they are not there.
 pub fn long_at(bytes: &[u8], at: usize) -> usize {
     match bytes.get(at..at.saturating_add(4)) {
         Some(four) => u32::from_be_bytes([four[0], four[1], four[2], four[3]]) as usize,
@@ -30,7 +30,7 @@ pub fn long_at(bytes: &[u8], at: usize) -> usize {
     }
 }
 
-/// Returns the bytes of a font's first table of a name, or none where it has no such table.
+/// Returns the bytes of a font's first table of a name, or no bytes if it has no such table.
 pub fn table_named<'a>(font: &Font<'a>, name: Tag) -> &'a [u8] {
     let directory = font.tables().directory();
     let Some(entry) = directory.records().find(|entry| entry.tag == name) else {

@@ -12,7 +12,7 @@ pub record IsPrefix (xs ys : List ℕ) : Type 0 where
 -- what a sink says of itself
 pub record Trace : Type 0 where
   pub fixed : List ℕ  -- what no call changes
-  pub count : ℕ  -- how many bytes were taken
+  pub count : ℕ  -- how many bytes were taken, and those that there is no room for
   pub taken : Option (List ℕ)  -- which, where they are known
   pub shown : Option (List ℕ)  -- those, and one more that was looked at and not taken
   pub stopped : Bool  -- no more are taken

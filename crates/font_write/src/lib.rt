@@ -25,7 +25,6 @@ pub use crate::same::{Same, is_file_of};
 pub use crate::sink::{Sink, Stopped};
 pub use crate::size::{Counts, Size, counted_size, file_size};
 pub use crate::source::{MAX_TABLE, Source};
-pub use crate::vec_sink::VecSink;
 pub use crate::whole_file::{
     CURRENT, FileError, OLD, SendError, file_in_memory, is_whole_file, measured, send_whole,
 };

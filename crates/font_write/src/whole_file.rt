@@ -1,6 +1,6 @@
 //! The file of a source in one of its profiles: measured, in memory, sent, and compared. OpenType 1.9,
 //! Organization of an OpenType Font.
-ghost use Rattle.std.specs.Prelude.{◌≡◌, ◌≤◌, length, false, IfErr, IfOk, MatchResult, OnOk, IsTrue, true, ◌↔◌};
+ghost use Rattle.std.specs.Prelude.{◌≡◌, ◌≤◌, Err, length, false, IfErr, IfOk, MatchResult, OnOk, IsTrue, true, ◌↔◌};
 ghost use Rattle.sfnt_bytes.specs.declared.directory.TheConstants.{MAX_FILE};
 ghost use Rattle.font_theory.specs.File.{file, writing_of, current_writing};
 ghost use Rattle.font_write.specs.Plan.{IsSize};
@@ -14,8 +14,7 @@ use crate::source::Source;
 use crate::vec_sink::write_file;
 use crate::writer::send_file;
 use font_theory::Profile;
-use sfnt_bytes::MAX_FILE;
-use std::alloc::Allocator;
+use sfnt_bytes::{MAX_FILE, Memory, NoMemory};
 use std::io::Write;
 use streams::Outlet;
 
@@ -28,7 +27,7 @@ pub const OLD: Profile = Profile::First;
 /// Why there is no file in memory.
 #[derive(Clone, Copy, Debug, PartialEq, Eq)]
 pub enum FileError {
-    /// Memory was refused.
+    /// Out of memory.
     NoMemory,
     /// The file would have this number of bytes, more than [`MAX_FILE`].
     TooLarge(u64),
@@ -75,19 +74,18 @@ fn measure<S: Source>(source: &S) -> Result<(Plan, u64), u64>
 ///
 /// # Errors
 ///
-/// `TooLarge` where the file has more than [`MAX_FILE`] bytes, and `NoMemory` if out of memory.
-pub fn file_in_memory<S: Source, A: Allocator + Copy>(
-    alloc: A,
-    source: &S,
-) -> Result<Vec<u8, A>, FileError>
-    ensures { MatchResult result
+/// `TooLarge` where the file has more than [`MAX_FILE`] bytes, and `NoMemory` if there is no memory for the file.
+pub fn file_in_memory<S: Source, A: Memory>(alloc: A, source: &S) -> Result<Vec<u8, A>, FileError>
+    ensures exact { MatchResult result
         (λ v. IsWritten (file current_writing (S.content_of source.now)) v.items)
         (IsFileRefusal (file current_writing (S.content_of source.now))) }
+    ensures memory { result ≡ Err FileError.NoMemory →
+        A.refuses (length (file current_writing (S.content_of source.now))) }
 {
     match measure(source) {
         Ok((plan, size)) => match write_file(alloc, source, &plan, size as usize) {
             Ok(file) => Ok(file),
-            Err(_) => Err(FileError::NoMemory),
+            Err(NoMemory) => Err(FileError::NoMemory),
         },
         Err(size) => Err(FileError::TooLarge(size)),
     }

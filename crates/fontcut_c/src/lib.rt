@@ -26,6 +26,7 @@ ghost use Rattle.std.specs.Prelude.{◌≡◌, ◌≢◌, IfErr, None, length, m
 ghost use Rattle.std.specs.List.{concat};
 ghost use Rattle.font_file.specs.Font.{font_fault};
 ghost use Rattle.font_subset.specs.CutOfFont.{cut_of};
+ghost use Rattle.font_theory.specs.Kinds.{format_of};
 ghost use Rattle.font_theory.specs.declared.kinds.Kind.TheVariants.{Full};
 ghost use Rattle.fontcut_c.specs.Answers.{IsInRoom, check_answer, size_answer};
 ghost use Rattle.fontcut_c.specs.ManyCuts.{AnswersCuts, codes_sets, cuts_for, exact_sets};
@@ -34,7 +35,7 @@ ghost use Rattle.fontcut_c.specs.Forms.{AnswersBelonging, AnswersForm};
 ghost use Rattle.fontcut_c.specs.GlyphSets.{AnswersClosure, AnswersKept, closure_of, kept_of};
 ghost use Rattle.fontcut_c.specs.Glyphs.{AnswersGlyphs, AnswersMetrics, glyphs_of, metrics_of};
 ghost use Rattle.fontcut_c.specs.Info.{info_of};
-ghost use Rattle.fontcut_c.specs.Joining.{AnswersJoin};
+ghost use Rattle.fontcut_c.specs.Joining.{AnswersJoin, IsJoinInRoom};
 ghost use Rattle.fontcut_c.specs.KindNumbers.{AnswersByNumber, AnswersInKind, HoldsInKind};
 ghost use Rattle.fontcut_c.specs.Mapped.{AnswersCodes};
 ghost use Rattle.fontcut_c.specs.Text.{AnswersText, NamesFile, answer_text, check_text, refusal_text};
@@ -427,6 +428,8 @@ pub extern "C" fn fontcut_is_cut_of(alloc: Global, cut: &[u8], font: &[u8]) -> A
 pub extern "C" fn fontcut_join(alloc: Global, kind: u32, files: &[&[u8]], out: &mut [u8]) -> Answer
     ensures exact { let bytes = map (λ f. f.now) files.now in
         AnswersInKind kind result (λ k. AnswersJoin k bytes out.old out.new result) }
+    ensures done { let bytes = map (λ f. f.now) files.now in result.status ≡ 0 → HoldsInKind kind
+        (λ k. IsJoinInRoom (format_of k) bytes out.old out.new result.size) }
     ensures untouched { result.status ≢ 0 → out.new ≡ out.old }
 {
     match kind_of_number(kind) {
@@ -439,6 +442,8 @@ pub extern "C" fn fontcut_join(alloc: Global, kind: u32, files: &[&[u8]], out: &
 #[unsafe(no_mangle)]
 pub extern "C" fn fontcut_join_all(alloc: Global, files: &[&[u8]], out: &mut [u8]) -> Answer
     ensures exact { let bytes = map (λ f. f.now) files.now in AnswersJoin Full bytes out.old out.new result }
+    ensures done { let bytes = map (λ f. f.now) files.now in result.status ≡ 0 →
+        IsJoinInRoom (format_of Full) bytes out.old out.new result.size }
     ensures untouched { result.status ≢ 0 → out.new ≡ out.old }
 {
     answered(join_to(alloc, Kind::Full, files, out))
@@ -589,11 +594,11 @@ pub extern "C" fn fontcut_refusal_text(alloc: Global, answer: Answer, out: &mut 
     answered(text_to(alloc, answer, out))
 }
 
-/// The version of the library, 0.11.0.
+/// The version of the library.
 const VERSION: u32 = 0x000B00;
 
 /// Returns the version of the library as one number: 65,536 times its first number, 256 times its second one, and its
-/// third one. It is 0x000B00 for 0.11.0.
+/// third one. It is 0x010203 for 1.2.3.
 #[unsafe(no_mangle)]
 pub extern "C" fn fontcut_version() -> u32
     ensures { result ≡ VERSION }

@@ -37,12 +37,12 @@ pub enum Refusal {
     Join(JoinAllError),
     /// The range at this index ends before it begins, or past the last code point.
     BadRange(usize),
-    /// The counts of the sets do not add up to the number of ranges, or there is another number of sizes than of
-    /// sets.
+    /// The counts of the sets do not add up to the number of ranges or of glyphs, there are more counts of glyphs than
+    /// sets, or another number of sizes than of sets.
     BadCounts,
     /// The number at this index is no glyph of the font.
     NoGlyph(usize),
-    /// Memory is refused.
+    /// Out of memory.
     NoMemory,
     /// The cut would have this number of bytes, more than a file may have.
     TooLarge(u64),

@@ -40,7 +40,7 @@ pub struct OutFile<'a, F: HeldFiles> {
     is_beside: bool,
 }
 
-// Returns whether an error says that memory was refused.
+// Returns whether an error is that of memory.
 fn is_memory(error: &io::Error) -> bool {
     error.kind() == ErrorKind::OutOfMemory
 }

@@ -83,10 +83,10 @@ slot_tag slot =
 unfoldable pub slot_at : ℕ → ℕ
 slot_at place = slice_index_or IN_ORDER place ALL_SLOTS
 
--- no cut keeps the record's table
+-- the record's table is not one that every cut keeps
 unfoldable pub is_dropped : Entry → Bool
 is_dropped entry = not (is_kept_tag entry.tag)
 
--- the records whose tables no cut keeps
+-- the records of the tables that full and lean cuts drop
 unfoldable pub dropped_of : List ℕ → List Entry
 dropped_of file = filter is_dropped (records_of file)

@@ -14,6 +14,6 @@ same_tag a b = bytes_eq a.0 b.0
 abbrev pub tag_number : Tag → ℕ
 tag_number tag = u32_at tag.0 0
 
--- a cut keeps the tag's table
+-- every cut keeps the tag's table
 unfoldable pub is_kept_tag : Tag → Bool
 is_kept_tag tag = list_any (λ kept. same_tag kept tag) KEPT

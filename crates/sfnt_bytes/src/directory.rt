@@ -40,13 +40,13 @@ pub enum DirError {
     Collection,
     /// The version is neither 1.0 nor `true`.
     NotTrueType,
-    /// Two records carry this tag of [`KEPT`], the least such one.
+    /// Two records carry this tag, the least such one of those that are looked at.
     DuplicateTable(Tag),
-    /// The table of this tag of [`KEPT`], the least such one, does not lie within the file.
+    /// The table of this tag, the least such one of those that are looked at, does not lie within the file.
     TableOutOfFile(Tag),
 }
 
-/// Memory was refused: the error of the crates above that grow something.
+/// Out of memory: the error of the crates above that grow something.
 #[derive(Clone, Copy, Debug, PartialEq, Eq)]
 pub struct NoMemory;
 
@@ -243,7 +243,7 @@ impl<'a> Directory<'a> {
         self.check_tags(&LAYOUT_AND_VARIATIONS)
     }
 
-    /// Returns the table of a slot, which has the tag [`tag_of`] gives, without its padding, where there is one. Of
+    /// Returns the table of a slot, whose tag [`tag_of`] gives, without its padding, or none if there is no such table. Of
     /// several records of the tag the first counts, and its table has to lie within the file.
     pub fn table_in(&self, slot: usize) -> Option<&'a [u8]>
         requires inside { is_outside self.now (slot_tag slot) ≡ false }

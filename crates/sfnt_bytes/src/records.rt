@@ -147,7 +147,7 @@ pub(crate) fn find_entry(file: &[u8], tag: Tag) -> Option<Entry>
     None
 }
 
-/// The records whose tables no cut keeps, in the order of the file.
+/// The records of the tables that full and lean cuts drop, in the order of the file.
 #[derive(Drop)]
 pub struct Dropped<'a> {
     records: Records<'a>,

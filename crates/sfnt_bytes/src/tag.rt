@@ -15,7 +15,8 @@ pub struct Tag(pub [u8; 4]);
 /// How many slots there are for the tables of [`KEPT`].
 pub const SLOTS: usize = 16;
 
-/// The tables that a cut keeps, ascending by tag. A *slot* is a place in this list.
+/// The tables that every cut keeps, ascending by tag. A *slot* is an index into this list or, after it, into [`LAYOUT`]
+/// and then [`VARIATIONS`].
 pub const KEPT: [Tag; SLOTS] = [
     Tag(*b"OS/2"),
     Tag(*b"cmap"),
@@ -188,7 +189,7 @@ impl Tag {
         these[0] == those[0] && these[1] == those[1] && these[2] == those[2] && these[3] == those[3]
     }
 
-    /// Returns whether a cut keeps the table of this tag.
+    /// Returns whether every cut keeps the table of this tag.
     #[tactic(auto, unfolding(crate::specs::Tag::is_kept_tag))]
     pub(crate) fn is_kept(self) -> bool
         ensures { result ≡ is_kept_tag self }

@@ -46,7 +46,7 @@ pub enum FileFault {
     Unread,
     /// A line is not UTF-8, or has this word, which names no range.
     BadLine { line: u64, word: Option<String> },
-    /// Memory was refused.
+    /// Out of memory.
     NoMemory,
 }
 
@@ -101,7 +101,7 @@ impl<'a> Reading<'a> {
         })
     }
 
-    // Returns that the line which is read is at fault.
+    // Returns the error that the line which is read is wrong.
     fn bad_line(&self, word: Option<String>) -> FileFault {
         FileFault::BadLine {
             line: self.line,
@@ -109,7 +109,7 @@ impl<'a> Reading<'a> {
         }
     }
 
-    // Returns that the word which was read is at fault.
+    // Returns the error that the word which was read is wrong.
     fn bad_word(&self) -> FileFault {
         match String::from_str(self.alloc, self.word.as_str()) {
             Ok(word) => self.bad_line(Some(word)),

@@ -1,15 +1,13 @@
 //! The codes that a line of `subset` keeps: those of its words, lists, texts and files, and what texts need; and the
 //! glyphs that it keeps by their numbers.
-use crate::asked::glyphs::{listed_glyphs, names_glyphs};
+use crate::asked::glyph_numbers::{listed_glyphs, names_glyphs};
 use crate::asked::words::{add_files, add_lists, add_text_files, codes_of};
-use crate::messages::report::Fault;
+use crate::messages::command_error::CommandError;
 use crate::paths::inputs::sources;
 use command_line::{CutKind, Subset};
 use font_coverage::Kept;
-use font_texts::Shown;
 use program_files::{HeldFiles, System};
 use std::alloc::{AllocError, Global};
-use std::fs;
 use std::io::Read;
 use wanted_characters::{CodeSet, FileKind, add_all_parts, add_texts};
 
@@ -33,11 +31,15 @@ impl Drop for Choice {
 
 // Returns whether what the texts of a line need is kept with them.
 fn keeps_needed(line: &Subset<'_>) -> bool {
-    matches!(line.kind, CutKind::Layout | CutKind::Variable) && !line.is_exact
+    matches!(line.kind, CutKind::Layout | CutKind::Variable) && !line.keeps_text_alone
 }
 
 // Adds the codes of lists and the parts of their characters.
-fn add_completed<'a>(alloc: Global, kept: &mut Kept, lists: &[&'a str]) -> Result<(), Fault<'a>> {
+fn add_completed<'a>(
+    alloc: Global,
+    kept: &mut Kept,
+    lists: &[&'a str],
+) -> Result<(), CommandError<'a>> {
     let mut codes = CodeSet::new(alloc);
     add_lists(alloc, &mut codes, lists)?;
     add_all_parts(alloc, &mut kept.added, &codes)?;
@@ -45,7 +47,7 @@ fn add_completed<'a>(alloc: Global, kept: &mut Kept, lists: &[&'a str]) -> Resul
 }
 
 // Returns the codes that the arguments of a line keep.
-fn kept_by<'a>(alloc: Global, line: &Subset<'a>) -> Result<Kept, Fault<'a>> {
+fn kept_by<'a>(alloc: Global, line: &Subset<'a>) -> Result<Kept, CommandError<'a>> {
     let mut kept = Kept {
         wanted: codes_of(alloc, &line.texts, &line.words)?,
         added: CodeSet::new(alloc),
@@ -62,8 +64,8 @@ impl Choice {
     /// Returns the codes and the numbers of the arguments of a line, which are looked at before any file.
     ///
     /// # Errors
-    /// The first fault.
-    pub(crate) fn of<'a>(alloc: Global, line: &Subset<'a>) -> Result<Choice, Fault<'a>> {
+    /// The first error.
+    pub(crate) fn of<'a>(alloc: Global, line: &Subset<'a>) -> Result<Choice, CommandError<'a>> {
         let kept = kept_by(alloc, line)?;
         let mut gone = CodeSet::new(alloc);
         add_lists(alloc, &mut gone, &line.excluded)?;
@@ -94,7 +96,7 @@ fn add_texts_of_files<'a, R: Read + Drop>(
     line: &Subset<'a>,
     files: Vec<R>,
     kept: &mut Kept,
-) -> Result<(), Fault<'a>> {
+) -> Result<(), CommandError<'a>> {
     let (paths, wanted) = (&line.text_files, &mut kept.wanted);
     if keeps_needed(line) {
         return add_text_files(alloc, files, paths, wanted, &mut kept.added);
@@ -129,7 +131,7 @@ impl<R: Read + Drop> Opened<R> {
         alloc: Global,
         line: &Subset<'a>,
         choice: &mut Choice,
-    ) -> Result<(), Fault<'a>> {
+    ) -> Result<(), CommandError<'a>> {
         let Opened {
             texts,
             words,
@@ -149,12 +151,12 @@ impl<R: Read + Drop> Opened<R> {
 /// Adds the codes and the numbers of the files that a line names, which are all opened before one is read.
 ///
 /// # Errors
-/// The first fault.
+/// The first error.
 pub(crate) fn add_all_files<'a, F: HeldFiles, I: Read + Copy + Drop, O>(
     system: &System<'a, F, I, O>,
     line: &Subset<'a>,
     choice: &mut Choice,
-) -> Result<(), Fault<'a>> {
+) -> Result<(), CommandError<'a>> {
     let files = Opened {
         texts: sources(system, &line.text_files)?,
         words: sources(system, &line.code_files)?,
@@ -170,31 +172,4 @@ pub(crate) fn names_set(line: &Subset<'_>) -> bool {
     let has_lists = !line.lists.is_empty() || !line.completed.is_empty();
     let has_files = !line.code_files.is_empty() || names_glyphs(line);
     has_texts || has_lists || has_files || !line.words.is_empty()
-}
-
-// Returns whether a text is the path of a file, and looks like one.
-fn is_path_of_file<F: HeldFiles>(files: &F, text: &str) -> bool {
-    let looks_so = text.contains('.') || text.contains('/');
-    looks_so && fs::metadata(files, text).is_ok_and(|stands| stands.is_file())
-}
-
-/// Adds a line for each text of a line that is the path of a file: that of the file was likely meant.
-///
-/// # Errors
-/// `AllocError` if out of memory.
-pub(crate) fn add_paths_as_texts<F: HeldFiles>(
-    files: &F,
-    said: &mut String,
-    line: &Subset<'_>,
-) -> Result<(), AllocError> {
-    for &text in &line.texts {
-        if is_path_of_file(files, text) {
-            let path = Shown(text);
-            write!(
-                said,
-                "fontcut: {path} is a file: --text keeps the characters of its path, --text-file those in it\n"
-            )?;
-        }
-    }
-    Ok(())
 }

@@ -1,6 +1,6 @@
 //! Presets of slices: files that are installed beside the program, as PREFIX/share/fontcut/slices/NAME.txt where that is
 //! PREFIX/bin/fontcut. This project's own.
-use crate::messages::report::Fault;
+use crate::messages::command_error::CommandError;
 use crate::paths::inputs::Input;
 use program_files::{KeepsReason, System};
 use std::alloc::{AllocError, Global};
@@ -14,8 +14,8 @@ const PROGRAM: &str = "/proc/self/exe";
 // The number of the system's error that there is no such file, ENOENT.
 const NO_SUCH_FILE: i32 = 2;
 
-/// Returns whether a path, at which no file could be opened, may be the name of a preset: there is none, and the path has
-/// neither a folder nor an ending.
+/// Returns whether a path, at which no file could be opened, may be the name of a preset: no file is there, and the path
+/// has neither a slash nor a dot.
 pub(crate) fn may_be_preset<F, I, O>(system: &System<'_, F, I, O>, path: &str) -> bool {
     let is_absent = system.reason.number() == Some(NO_SUCH_FILE);
     is_absent && !path.contains('/') && !path.contains('.')
@@ -50,12 +50,12 @@ fn preset_path<F: Files>(
 pub(crate) fn preset_source<'a, F: Files, I: Read + Copy + Drop, O>(
     system: &System<'a, F, I, O>,
     name: &'a str,
-) -> Result<KeepsReason<'a, Input<F::File, I>>, Fault<'a>> {
+) -> Result<KeepsReason<'a, Input<F::File, I>>, CommandError<'a>> {
     let Some(path) = preset_path(system.files, system.alloc, name)? else {
-        return Err(Fault::Unlisted(name));
+        return Err(CommandError::Unlisted(name));
     };
     match File::open(system.files, path.as_str()) {
         Ok(file) => Ok(KeepsReason::new(Input::File(file), system.reason)),
-        Err(_) => Err(Fault::Unlisted(name)),
+        Err(_) => Err(CommandError::Unlisted(name)),
     }
 }

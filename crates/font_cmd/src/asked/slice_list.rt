@@ -1,13 +1,17 @@
 //! Files of slices: in each line the name of a slice and the list of its codes and glyph numbers. This project's own.
-use crate::messages::report::{Fault, LONGEST_LINE, no_memory};
+use crate::asked::words::add_list;
+use crate::messages::command_error::{CommandError, no_memory};
 use sfnt_bytes::MAX_FILE;
 use std::alloc::Global;
 use std::collections::BTreeSet;
 use std::io::Read;
-use wanted_characters::{CodeSet, FileFault, FileKind, add_listed};
+use wanted_characters::{CodeSet, FileKind};
 
 // The most bytes of one read.
 const PIECE: usize = 16 * 1024;
+
+/// How many bytes a line of a file of slices may have.
+pub(crate) const LONGEST_LINE: usize = 1_048_576;
 
 // How many bytes a name may have: each file system takes a file of that name and `.ttf`.
 const LONGEST_NAME: usize = 200;
@@ -60,50 +64,19 @@ fn is_name(name: &str) -> bool {
             || matches!(byte, b'-' | b'_' | b'.'))
 }
 
-// Returns the fault that a line has this name.
-fn bad_name<'a>(alloc: Global, path: &'a str, line: u64, name: &str) -> Fault<'a> {
+// Returns the error that a line has this name.
+fn bad_name<'a>(alloc: Global, path: &'a str, line: u64, name: &str) -> CommandError<'a> {
     match String::from_str(alloc, name) {
-        Ok(name) => Fault::BadName { path, line, name },
+        Ok(name) => CommandError::BadName { path, line, name },
         Err(_) => no_memory(),
     }
 }
 
-// Returns the fault that a line has the name of an earlier one.
-fn name_twice<'a>(alloc: Global, path: &'a str, line: u64, name: &str) -> Fault<'a> {
+// Returns the error that a line has the name of an earlier one.
+fn name_twice<'a>(alloc: Global, path: &'a str, line: u64, name: &str) -> CommandError<'a> {
     match String::from_str(alloc, name) {
-        Ok(name) => Fault::NameTwice { path, line, name },
+        Ok(name) => CommandError::NameTwice { path, line, name },
         Err(_) => no_memory(),
-    }
-}
-
-// Adds the codes of the list in a line.
-fn add_codes<'a>(
-    alloc: Global,
-    path: &'a str,
-    line: u64,
-    list: &str,
-    codes: &mut CodeSet,
-) -> Result<(), Fault<'a>> {
-    match add_listed(alloc, &mut list.as_bytes(), FileKind::List, codes) {
-        Ok(()) => Ok(()),
-        Err(FileFault::BadLine { word, .. }) => Err(Fault::BadLine { path, line, word }),
-        Err(_) => Err(no_memory()),
-    }
-}
-
-// Adds the glyphs of a number in a line, or of a range of numbers.
-fn add_numbers<'a>(
-    alloc: Global,
-    path: &'a str,
-    line: u64,
-    word: &str,
-    glyphs: &mut CodeSet,
-) -> Result<(), Fault<'a>> {
-    let place = Some((path, line));
-    match add_listed(alloc, &mut word.as_bytes(), FileKind::Numbers, glyphs) {
-        Ok(()) => Ok(()),
-        Err(FileFault::BadLine { word, .. }) => Err(Fault::BadNumber { place, word }),
-        Err(_) => Err(no_memory()),
     }
 }
 
@@ -113,22 +86,23 @@ fn separates(letter: char) -> bool {
 }
 
 // Adds the codes and glyphs of the list in a line. A list without glyphs is read at once, and else word by word.
-fn add_list<'a>(
+fn add_slice_list<'a>(
     alloc: Global,
     path: &'a str,
     line: u64,
     list: &str,
     slice: &mut Slice<'_>,
-) -> Result<(), Fault<'a>> {
+) -> Result<(), CommandError<'a>> {
+    let place = Some((path, line));
     if !list.contains(GLYPHS) {
-        return add_codes(alloc, path, line, list, &mut slice.codes);
+        return add_list(alloc, &mut slice.codes, list, FileKind::List, place);
     }
     for word in list.split(separates) {
         match word.strip_prefix(GLYPHS) {
             Some(numbers) if !numbers.is_empty() => {
-                add_numbers(alloc, path, line, numbers, &mut slice.glyphs)?
+                add_list(alloc, &mut slice.glyphs, numbers, FileKind::Numbers, place)?
             }
-            _ => add_codes(alloc, path, line, word, &mut slice.codes)?,
+            _ => add_list(alloc, &mut slice.codes, word, FileKind::List, place)?,
         }
     }
     Ok(())
@@ -140,7 +114,7 @@ fn slice_of<'t, 'a>(
     path: &'a str,
     line: u64,
     text: &'t str,
-) -> Result<Option<Slice<'t>>, Fault<'a>> {
+) -> Result<Option<Slice<'t>>, CommandError<'a>> {
     let text = match text.split_once('#') {
         Some((before, _comment)) => before.trim(),
         None => text.trim(),
@@ -159,7 +133,7 @@ fn slice_of<'t, 'a>(
         codes: CodeSet::new(alloc),
         glyphs: CodeSet::new(alloc),
     };
-    add_list(alloc, path, line, list, &mut slice)?;
+    add_slice_list(alloc, path, line, list, &mut slice)?;
     Ok(Some(slice))
 }
 
@@ -197,14 +171,14 @@ impl Lines {
     }
 
     // Takes the next bytes of the file at a path.
-    fn take<'a>(&mut self, path: &'a str, piece: &[u8]) -> Result<(), Fault<'a>> {
+    fn take<'a>(&mut self, path: &'a str, piece: &[u8]) -> Result<(), CommandError<'a>> {
         if self.count(piece) {
             let line = self.line;
-            return Err(Fault::LongLine { path, line });
+            return Err(CommandError::LongLine { path, line });
         }
         self.bytes.extend_from_slice(piece)?;
         if MAX_FILE < self.bytes.len() as u64 {
-            return Err(Fault::LongFile(path));
+            return Err(CommandError::LongFile(path));
         }
         Ok(())
     }
@@ -214,12 +188,12 @@ impl Lines {
 ///
 /// # Errors
 /// `Unread` where a read fails, `LongLine` with the first line that is longer than a line may be, `LongFile` where the
-/// file is longer than a file may be, `Refused` where memory is.
+/// file is longer than a file may be, `Refused` if out of memory.
 pub(crate) fn read_lines<'a, R: Read>(
     alloc: Global,
     path: &'a str,
     file: &mut R,
-) -> Result<Vec<u8>, Fault<'a>> {
+) -> Result<Vec<u8>, CommandError<'a>> {
     let mut lines = Lines {
         bytes: Vec::new(alloc),
         line: 1,
@@ -230,19 +204,19 @@ pub(crate) fn read_lines<'a, R: Read>(
         match file.read(&mut piece) {
             Ok(0) => break,
             Ok(count) => lines.take(path, &piece[..count])?,
-            Err(_) => return Err(Fault::Unread(path)),
+            Err(_) => return Err(CommandError::Unread(path)),
         }
     }
     Ok(lines.bytes)
 }
 
 // Returns the text of the file at a path.
-fn text_of<'t, 'a>(path: &'a str, bytes: &'t [u8]) -> Result<&'t str, Fault<'a>> {
+fn text_of<'t, 'a>(path: &'a str, bytes: &'t [u8]) -> Result<&'t str, CommandError<'a>> {
     match str::from_utf8(bytes) {
         Ok(text) => Ok(text),
-        Err(fault) => {
-            let line = line_of(bytes, fault.valid_up_to());
-            Err(Fault::BadLine {
+        Err(error) => {
+            let line = line_of(bytes, error.valid_up_to());
+            Err(CommandError::BadLine {
                 path,
                 line,
                 word: None,
@@ -266,7 +240,7 @@ impl<'t> Slices<'t> {
         path: &'a str,
         number: u64,
         name: &'t str,
-    ) -> Result<(), Fault<'a>> {
+    ) -> Result<(), CommandError<'a>> {
         match self.names.insert(name) {
             Ok(true) => Ok(()),
             Ok(false) => Err(name_twice(alloc, path, number, name)),
@@ -281,7 +255,7 @@ impl<'t> Slices<'t> {
         path: &'a str,
         number: u64,
         line: &'t str,
-    ) -> Result<(), Fault<'a>> {
+    ) -> Result<(), CommandError<'a>> {
         let Some(slice) = slice_of(alloc, path, number, line)? else {
             return Ok(());
         };
@@ -298,12 +272,12 @@ impl<'t> Slices<'t> {
 /// # Errors
 /// `BadLine` with the first line that is not UTF-8 or has a word that names no range, `BadNumber` with the first one
 /// that has a bad glyph number, `BadName` with the first one whose name is none, `NameTwice` with the first one whose
-/// name an earlier one has, `Refused` where memory is.
+/// name an earlier one has, `Refused` if out of memory.
 pub(crate) fn slices_of<'t, 'a>(
     alloc: Global,
     path: &'a str,
     bytes: &'t [u8],
-) -> Result<Vec<Slice<'t>>, Fault<'a>> {
+) -> Result<Vec<Slice<'t>>, CommandError<'a>> {
     let text = text_of(path, bytes)?;
     let mut slices = Slices {
         slices: Vec::new(alloc),

@@ -1,21 +1,21 @@
 //! The wanted codes of a command line: the ranges of its words and files, and the characters of its texts.
-use crate::asked::glyphs::EVERYTHING;
-use crate::messages::report::{Fault, no_memory};
+use crate::asked::glyph_numbers::EVERYTHING;
+use crate::messages::command_error::{CommandError, no_memory};
 use codes::{LAST_CODE, read_word};
 use std::alloc::{AllocError, Global};
 use std::io::Read;
 use wanted_characters::{CodeSet, FileFault, FileKind, add_listed, add_text_and_needs};
 
 // Returns the codes of a word. The word for everything has all of them.
-fn codes_of_word<'a>(word: &'a str) -> Result<(u32, u32), Fault<'a>> {
+fn codes_of_word<'a>(word: &'a str) -> Result<(u32, u32), CommandError<'a>> {
     if word == EVERYTHING {
         return Ok((0, LAST_CODE));
     }
-    read_word(word).map_err(|_| Fault::BadWord(word))
+    read_word(word).map_err(|_| CommandError::BadWord(word))
 }
 
 // Adds the ranges of words, up to the first one that is no word.
-fn add_words<'a>(codes: &mut CodeSet, words: &[&'a str]) -> Result<(), Fault<'a>> {
+fn add_words<'a>(codes: &mut CodeSet, words: &[&'a str]) -> Result<(), CommandError<'a>> {
     for &word in words {
         let (first, last) = codes_of_word(word)?;
         codes.add_range(first, last)?;
@@ -33,12 +33,12 @@ fn add_text(codes: &mut CodeSet, text: &str) -> Result<(), AllocError> {
 /// Returns the codes of words and of the characters of texts.
 ///
 /// # Errors
-/// `BadWord` with the first word that names no range, `Refused` where memory is.
+/// `BadWord` with the first word that names no range, `Refused` if out of memory.
 pub(crate) fn codes_of<'a>(
     alloc: Global,
     texts: &[&str],
     words: &[&'a str],
-) -> Result<CodeSet, Fault<'a>> {
+) -> Result<CodeSet, CommandError<'a>> {
     let mut codes = CodeSet::new(alloc);
     add_words(&mut codes, words)?;
     for &text in texts {
@@ -47,11 +47,33 @@ pub(crate) fn codes_of<'a>(
     Ok(codes)
 }
 
-// Adds the codes of one list.
-fn add_list<'a>(alloc: Global, codes: &mut CodeSet, list: &str) -> Result<(), Fault<'a>> {
-    match add_listed(alloc, &mut list.as_bytes(), FileKind::List, codes) {
+// Returns the error that a list has this word, or is not UTF-8: the one in a line, or one in a line of the file at a path.
+fn bad_word<'a>(
+    place: Option<(&'a str, u64)>,
+    kind: FileKind,
+    word: Option<String>,
+) -> CommandError<'a> {
+    match (kind, place) {
+        (FileKind::Numbers, place) => CommandError::BadNumber { place, word },
+        (_, Some((path, line))) => CommandError::BadLine { path, line, word },
+        (_, None) => CommandError::BadListed { word },
+    }
+}
+
+/// Adds the codes of a list, or the glyph numbers: the list is one of the line, or in a line of the file at a path.
+///
+/// # Errors
+/// `BadListed`, `BadLine` or `BadNumber` with the first word that names no range, `Refused` if out of memory.
+pub(crate) fn add_list<'a>(
+    alloc: Global,
+    codes: &mut CodeSet,
+    list: &str,
+    kind: FileKind,
+    place: Option<(&'a str, u64)>,
+) -> Result<(), CommandError<'a>> {
+    match add_listed(alloc, &mut list.as_bytes(), kind, codes) {
         Ok(()) => Ok(()),
-        Err(FileFault::BadLine { word, .. }) => Err(Fault::BadListed { word }),
+        Err(FileFault::BadLine { word, .. }) => Err(bad_word(place, kind, word)),
         Err(_) => Err(no_memory()),
     }
 }
@@ -59,27 +81,23 @@ fn add_list<'a>(alloc: Global, codes: &mut CodeSet, list: &str) -> Result<(), Fa
 /// Adds the codes of lists of ranges.
 ///
 /// # Errors
-/// `BadListed` with the first word that names no range, `Refused` where memory is.
+/// `BadListed` with the first word that names no range, `Refused` if out of memory.
 pub(crate) fn add_lists<'a>(
     alloc: Global,
     codes: &mut CodeSet,
     lists: &[&'a str],
-) -> Result<(), Fault<'a>> {
+) -> Result<(), CommandError<'a>> {
     for &list in lists {
-        add_list(alloc, codes, list)?;
+        add_list(alloc, codes, list, FileKind::List, None)?;
     }
     Ok(())
 }
 
 // Returns why the file at a path, which lists this, is not read to its end.
-fn fault_at<'a>(path: &'a str, kind: FileKind, fault: FileFault) -> Fault<'a> {
-    match fault {
-        FileFault::Unread => Fault::Unread(path),
-        FileFault::BadLine { line, word } if kind == FileKind::Numbers => Fault::BadNumber {
-            place: Some((path, line)),
-            word,
-        },
-        FileFault::BadLine { line, word } => Fault::BadLine { path, line, word },
+fn error_at<'a>(path: &'a str, kind: FileKind, error: FileFault) -> CommandError<'a> {
+    match error {
+        FileFault::Unread => CommandError::Unread(path),
+        FileFault::BadLine { line, word } => bad_word(Some((path, line)), kind, word),
         FileFault::NoMemory => no_memory(),
     }
 }
@@ -88,17 +106,17 @@ fn fault_at<'a>(path: &'a str, kind: FileKind, fault: FileFault) -> Fault<'a> {
 ///
 /// # Errors
 /// `Unread` with the first path whose file cannot be read, `BadLine` or `BadNumber` with the first line that is not as
-/// it should be, `Refused` where memory is.
+/// it should be, `Refused` if out of memory.
 pub(crate) fn add_files<'a, R: Read + Drop>(
     alloc: Global,
     files: Vec<R>,
     paths: &[&'a str],
     kind: FileKind,
     codes: &mut CodeSet,
-) -> Result<(), Fault<'a>> {
+) -> Result<(), CommandError<'a>> {
     for (mut file, &path) in files.into_iter().zip(paths) {
-        if let Err(fault) = add_listed(alloc, &mut file, kind, codes) {
-            return Err(fault_at(path, kind, fault));
+        if let Err(error) = add_listed(alloc, &mut file, kind, codes) {
+            return Err(error_at(path, kind, error));
         }
     }
     Ok(())
@@ -114,10 +132,10 @@ pub(crate) fn add_text_files<'a, R: Read + Drop>(
     paths: &[&'a str],
     codes: &mut CodeSet,
     added: &mut CodeSet,
-) -> Result<(), Fault<'a>> {
+) -> Result<(), CommandError<'a>> {
     for (mut file, &path) in files.into_iter().zip(paths) {
-        if let Err(fault) = add_text_and_needs(alloc, &mut file, codes, added) {
-            return Err(fault_at(path, FileKind::Characters, fault));
+        if let Err(error) = add_text_and_needs(alloc, &mut file, codes, added) {
+            return Err(error_at(path, FileKind::Characters, error));
         }
     }
     Ok(())

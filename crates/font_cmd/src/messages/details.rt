@@ -1,6 +1,6 @@
-//! What is said of a fault after its first line: which file it is and what it is, the system's reason, what to do.
+//! What is said of an error after its first line: which file it is and what it is, the system's reason, what to do.
+use crate::messages::command_error::{CommandError, Writes};
 use crate::messages::refused_file::Seen;
-use crate::messages::report::{Fault, Writes};
 use crate::paths::inputs::input_name;
 use command_line::Verbosity;
 use commands::RunError;
@@ -44,14 +44,15 @@ fontcut: the name of a slice has letters and digits of ASCII, and -, _ and . aft
 // How a TrueType file is written to such a name.
 const FORCE: &str = "fontcut: --force writes the TrueType file under this name\n";
 
-// How cuts of one kind are made of those of the other.
+// That a full cut cannot be made of a lean one.
 const MADE_FULL: &str = "fontcut: a lean cut cannot be made full again: cut the font anew\n";
 
+// How lean cuts are joined.
 const LEAN_JOIN: &str = "fontcut: lean cuts are joined by join --lean\n";
 
 // How a layout cut is made in place of another one.
 const MADE_LAYOUT: &str =
-    "fontcut: other cuts have no tables of layout: cut the font anew by subset --layout\n";
+    "fontcut: other cuts have no layout tables: cut the font anew by subset --layout\n";
 
 // The same where the other one is a variable cut.
 const VARIABLE_JOIN: &str = "fontcut: variable cuts are joined by join --variable\n";
@@ -76,7 +77,7 @@ const TEXT: &str = "fontcut: the characters of a text are kept by --text TEXT\n"
 // What separates the system's reason from its number.
 const NUMBER: &str = " (os error";
 
-/// How much is said of a fault after its first line, and what is known of it.
+/// How much is said of an error after its first line, and what is known of it.
 #[derive(Clone, Copy)]
 pub(crate) struct Details {
     /// How much is said.
@@ -87,7 +88,7 @@ pub(crate) struct Details {
     pub(crate) seen: Seen,
 }
 
-/// The details of a fault that has none.
+/// The details of an error that has none.
 pub(crate) const NO_DETAILS: Details = Details {
     verbosity: Verbosity::Quiet,
     reason: None,
@@ -396,21 +397,21 @@ fn names_code(word: &str) -> bool {
     word.starts_with("U+") || word.starts_with("u+")
 }
 
-// Adds which file a fault is about, and what is known of it.
+// Adds which file an error is about, and what is known of it.
 fn add_known(
     alloc: Global,
     text: &mut String,
-    fault: &Fault<'_>,
+    error: &CommandError<'_>,
     details: Details,
 ) -> Result<(), AllocError> {
     let seen = details.seen;
-    match fault {
-        Fault::Unread(_) | Fault::Unwritten(_) | Fault::UnwrittenIn { .. } => {
-            add_reason(alloc, text, fault.file_name(), details.reason)
+    match error {
+        CommandError::Unread(_) | CommandError::Unwritten(_) | CommandError::UnwrittenIn { .. } => {
+            add_reason(alloc, text, error.file_name(), details.reason)
         }
-        Fault::Unlisted(path) => add_unlisted(alloc, text, path, details.reason),
-        Fault::RefusedFile { path, .. } => add_refused(text, path, seen),
-        Fault::NotJoined {
+        CommandError::Unlisted(path) => add_unlisted(alloc, text, path, details.reason),
+        CommandError::RefusedFile { path, .. } => add_refused(text, path, seen),
+        CommandError::NotJoined {
             kind,
             path,
             first,
@@ -419,13 +420,13 @@ fn add_known(
             add_not_joined(text, *kind, path, first, seen)?;
             add_prepared(text, error)
         }
-        Fault::NotOfKind { kind, path, .. } => add_not_of_kind(text, *kind, path, seen),
-        Fault::Replaces { file, out } => add_both(text, file, out),
-        Fault::OverFont { writes, font, .. } => add_over_font(text, *writes, font.as_str()),
-        Fault::OverItself(font) => add_over_itself(text, font),
-        Fault::BadWord(word) if !names_code(word) => text.push_str(TEXT),
-        Fault::NoSet => text.push_str(SETS),
-        Fault::PackedOut(_) | Fault::PackedFolder => text.push_str(FORCE),
+        CommandError::NotOfKind { kind, path, .. } => add_not_of_kind(text, *kind, path, seen),
+        CommandError::Replaces { file, out } => add_both(text, file, out),
+        CommandError::OverFont { writes, font, .. } => add_over_font(text, *writes, font.as_str()),
+        CommandError::OverItself(font) => add_over_itself(text, font),
+        CommandError::BadWord(word) if !names_code(word) => text.push_str(TEXT),
+        CommandError::NoSet => text.push_str(SETS),
+        CommandError::PackedOut(_) | CommandError::PackedFolder => text.push_str(FORCE),
         _ => Ok(()),
     }
 }
@@ -448,37 +449,42 @@ fn add_character(text: &mut String, error: &RunError) -> Result<(), AllocError> 
 }
 
 // Adds what to do, and the characters of codes.
-fn add_hints(text: &mut String, fault: &Fault<'_>, reason: Option<i32>) -> Result<(), AllocError> {
-    match fault {
-        Fault::Unread(_) if reason == Some(TOO_MANY_FILES) => text.push_str(IN_SEVERAL_CALLS),
-        Fault::BadWord(_) | Fault::BadListed { .. } | Fault::BadLine { word: Some(_), .. } => {
-            text.push_str(RANGES)
-        }
-        Fault::BadNumber { word: Some(_), .. } | Fault::Refused(RunError::NoGlyph(_)) => {
-            text.push_str(NUMBERS)
-        }
-        Fault::BadName { .. } => text.push_str(NAMES),
-        Fault::NotJoined { error, .. } => add_character(text, error),
+fn add_hints(
+    text: &mut String,
+    error: &CommandError<'_>,
+    reason: Option<i32>,
+) -> Result<(), AllocError> {
+    match error {
+        CommandError::Unread(_) if reason == Some(TOO_MANY_FILES) => text.push_str(
+            IN_SEVERAL_CALLS,
+        ),
+        CommandError::BadWord(_)
+        | CommandError::BadListed { .. }
+        | CommandError::BadLine { word: Some(_), .. } => { text.push_str(RANGES) }
+        CommandError::BadNumber { word: Some(_), .. }
+        | CommandError::Refused(RunError::NoGlyph(_)) => { text.push_str(NUMBERS) }
+        CommandError::BadName { .. } => text.push_str(NAMES),
+        CommandError::NotJoined { error, .. } => add_character(text, error),
         _ => Ok(()),
     }
 }
 
-/// Adds what is said of a fault after its first line.
+/// Adds what is said of an error after its first line.
 ///
 /// # Errors
 /// `AllocError` if out of memory.
 pub(crate) fn add_details(
     alloc: Global,
     text: &mut String,
-    fault: &Fault<'_>,
+    error: &CommandError<'_>,
     details: Details,
 ) -> Result<(), AllocError> {
     if details.verbosity == Verbosity::Quiet {
         return Ok(());
     }
-    add_known(alloc, text, fault, details)?;
+    add_known(alloc, text, error, details)?;
     if details.verbosity == Verbosity::Plain {
         return Ok(());
     }
-    add_hints(text, fault, details.reason)
+    add_hints(text, error, details.reason)
 }

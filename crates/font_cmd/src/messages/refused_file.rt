@@ -1,22 +1,19 @@
 //! What files are that are refused as fonts or not joined: they are read again. OpenType 1.9, Organization of an
 //! OpenType Font; WOFF File Format 1.0 and 2.0, the signature of a file.
-use crate::messages::report::Fault;
-use command_line::STANDARD;
+use crate::messages::command_error::CommandError;
+use crate::paths::regular_files::{FIRST_BYTES, opened, place_of, read_again, records_of};
 use commands::RunError;
-use font_coverage::{FileForm, cut_kind, file_form, is_cmap_of_cut};
+use font_coverage::{FileForm, cut_kind, file_form};
 use font_file::{Font, FontError};
 use font_join::{JoinAllError, JoinError};
 use font_tables::TableError;
-use font_texts::{Shown, long_at, number_at};
+use font_texts::Shown;
 use font_theory::Kind;
 use program_files::System;
 use sfnt_bytes::numbers::NO_MAPPING;
 use std::alloc::{AllocError, Global};
-use std::fs::File;
-use std::io::{Read, Seek, SeekFrom};
+use std::io::Read;
 use std::rt::Files;
-use std::{fs, io};
-use streams::{Inlet, ReadError};
 
 // What is said of a font whose mapping is not read.
 const UNMAPPED: &str =
@@ -24,13 +21,6 @@ const UNMAPPED: &str =
 
 // What is said of a cut that makes a join too large.
 const TOO_LARGE: &str = "with this file the join is too large";
-
-// The bytes before the records of tables, the bytes of a record, and those that are read of a file: 64 records.
-const HEADER: usize = 12;
-
-const RECORD: usize = 16;
-
-const FIRST: usize = 1036;
 
 // Room for a line that says what a file is, beside its path.
 const NO_FONT: usize = 120;
@@ -81,7 +71,7 @@ pub(crate) enum Seen {
 }
 
 // Returns what a file is that begins with these bytes.
-fn kind_of(first: &[u8]) -> Option<&'static str> {
+fn format_of(first: &[u8]) -> Option<&'static str> {
     match first {
         b"OTTO" => Some("an OpenType font with CFF outlines, and not with TrueType outlines"),
         b"wOF2" => Some("a WOFF2 file, which woff2_decompress unpacks"),
@@ -91,90 +81,34 @@ fn kind_of(first: &[u8]) -> Option<&'static str> {
     }
 }
 
-// Returns whether some records of tables have a tag.
-fn has_table(records: &[u8], tag: &[u8]) -> bool {
-    records
-        .chunks_exact(RECORD)
-        .any(|record| record.starts_with(tag))
-}
-
 // Returns what a font without `glyf` is by its records of tables.
-fn kind_without_glyf(rows: &[(&[u8], &'static str)], records: &[u8]) -> Option<&'static str> {
-    if has_table(records, b"glyf") {
+fn format_without_glyf(rows: &[(&[u8], &'static str)], records: &[u8]) -> Option<&'static str> {
+    if place_of(records, b"glyf").is_some() {
         return None;
     }
-    for (tag, kind) in rows {
-        if has_table(records, tag) {
-            return Some(*kind);
+    for (tag, format) in rows {
+        if place_of(records, tag).is_some() {
+            return Some(*format);
         }
     }
     None
-}
-
-// Returns the records of tables among the first bytes of a font, or none where these do not have all of them.
-fn records_of(first: &[u8]) -> &[u8] {
-    let count = number_at(first, 4);
-    let all = first.get(HEADER..).unwrap_or(&[]);
-    all.get(..count.saturating_mul(RECORD)).unwrap_or(&[])
 }
 
 // Returns what a refused font is by its first bytes, or by its tables where `glyf` is missing.
-fn kind_by(first: &[u8], is_without_glyf: bool) -> Option<&'static str> {
+fn format_by(first: &[u8], is_without_glyf: bool) -> Option<&'static str> {
     if is_without_glyf {
-        return kind_without_glyf(&WITHOUT_GLYF, records_of(first));
+        return format_without_glyf(&WITHOUT_GLYF, records_of(first));
     }
-    kind_of(first.get(..4).unwrap_or(&[]))
-}
-
-// Opens the file at a path once more. A pipe has no more bytes, and would be waited for.
-fn opened<F: Files>(files: &F, path: &str) -> Option<F::File> {
-    if path == STANDARD {
-        return None;
-    }
-    let stands = fs::metadata(files, path).ok()?;
-    if !stands.is_file() {
-        return None;
-    }
-    File::open(files, path).ok()
+    format_of(first.get(..4).unwrap_or(&[]))
 }
 
 // Returns what the file at a path is by its first bytes, where it can be read again.
-fn kind_at<F: Files>(files: &F, path: &str, is_without_glyf: bool) -> Option<&'static str> {
+fn format_at<F: Files>(files: &F, path: &str, is_without_glyf: bool) -> Option<&'static str> {
     let mut file = opened(files, path)?;
-    let mut first = [0u8; FIRST];
+    let mut first = [0u8; FIRST_BYTES];
     match file.read(&mut first) {
-        Ok(count) => kind_by(first.get(..count)?, is_without_glyf),
+        Ok(count) => format_by(first.get(..count)?, is_without_glyf),
         Err(_) => None,
-    }
-}
-
-// Returns where the first table of a tag begins by records of tables.
-fn place_of(records: &[u8], tag: &[u8]) -> Option<u64> {
-    for record in records.chunks_exact(RECORD) {
-        if record.starts_with(tag) {
-            return Some(long_at(record, 8) as u64);
-        }
-    }
-    None
-}
-
-// Returns whether a file has the `cmap` of a cut, where it can be read and sought in.
-fn has_cmap_of_cut<R: Read + Seek>(file: &mut R) -> io::Result<bool> {
-    let mut first = [0u8; FIRST];
-    let count = file.read(&mut first)?;
-    let Some(place) = place_of(records_of(first.get(..count).unwrap_or(&[])), b"cmap") else {
-        return Ok(false);
-    };
-    file.seek(SeekFrom::Start(place))?;
-    let count = file.read(&mut first)?;
-    Ok(is_cmap_of_cut(first.get(..count).unwrap_or(&[])))
-}
-
-/// Returns whether the regular file at a path has the `cmap` of a cut. No more of it is read than that takes.
-pub(crate) fn may_be_cut_at<F: Files>(files: &F, path: &str) -> bool {
-    match opened(files, path) {
-        Some(mut file) => matches!(has_cmap_of_cut(&mut file), Ok(true)),
-        None => false,
     }
 }
 
@@ -184,26 +118,6 @@ fn file_kind(alloc: Global, file: &[u8]) -> Result<Option<Kind>, AllocError> {
         return Ok(None);
     };
     cut_kind(alloc, &font).map_err(|_| AllocError)
-}
-
-/// Reads the regular file at a path to its end, where there is one and it can be read.
-///
-/// # Errors
-/// `AllocError` if out of memory.
-pub(crate) fn read_again<F: Files>(
-    files: &F,
-    alloc: Global,
-    path: &str,
-) -> Result<Option<Vec<u8>>, AllocError> {
-    let Some(file) = opened(files, path) else {
-        return Ok(None);
-    };
-    let mut inlet = Inlet::new(file);
-    match inlet.read_all(alloc) {
-        Ok(bytes) => Ok(Some(bytes)),
-        Err(ReadError::NoMemory) => Err(AllocError),
-        Err(_) => Ok(None),
-    }
 }
 
 // Returns the kind of the cut at a path, where it is one and can be read again.
@@ -238,7 +152,7 @@ fn refused_font<F: Files>(files: &F, path: &str, error: &FontError) -> Option<&'
         FontError::Tables(TableError::MissingTable(tag)) => tag.0 == *b"glyf",
         _ => false,
     };
-    kind_at(files, path, is_without_glyf)
+    format_at(files, path, is_without_glyf)
 }
 
 /// Returns room for the line of `add_no_font` about the file at a path, each byte of which may take four.
@@ -256,8 +170,8 @@ pub(crate) fn add_no_font<F: Files>(
     text: &mut String,
     path: &str,
 ) -> Result<(), AllocError> {
-    let what = match kind_at(files, path, false) {
-        None => kind_at(files, path, true),
+    let what = match format_at(files, path, false) {
+        None => format_at(files, path, true),
         what => what,
     };
     if let Some(what) = what {
@@ -331,12 +245,12 @@ fn refused_seen<F: Files>(
 /// `AllocError` if out of memory.
 pub(crate) fn look_again<F: Files, I, O>(
     system: &System<'_, F, I, O>,
-    fault: &Fault<'_>,
+    error: &CommandError<'_>,
 ) -> Result<Seen, AllocError> {
     let (files, alloc) = (system.files, system.alloc);
-    match fault {
-        Fault::RefusedFile { path, error } => refused_seen(files, alloc, path, error),
-        Fault::NotJoined {
+    match error {
+        CommandError::RefusedFile { path, error } => refused_seen(files, alloc, path, error),
+        CommandError::NotJoined {
             kind: Kind::Lean,
             path,
             first,
@@ -345,11 +259,11 @@ pub(crate) fn look_again<F: Files, I, O>(
             first: Some(cut_kind_at(files, alloc, first)?.unwrap_or(Kind::Lean)),
             refused: Some(cut_kind_at(files, alloc, path)?.unwrap_or(Kind::Lean)),
         }),
-        Fault::NotJoined { path, first, .. } => Ok(Seen::Cuts {
+        CommandError::NotJoined { path, first, .. } => Ok(Seen::Cuts {
             first: cut_kind_at(files, alloc, first)?,
             refused: cut_kind_at(files, alloc, path)?,
         }),
-        Fault::NotOfKind { path, .. } => Ok(Seen::Form(form_at(files, alloc, path)?)),
+        CommandError::NotOfKind { path, .. } => Ok(Seen::Form(form_at(files, alloc, path)?)),
         _ => Ok(Seen::Nothing),
     }
 }

@@ -3,11 +3,12 @@ ghost use Rattle.std.specs.Prelude.{◌≡◌, IfOk, true};
 ghost use Rattle.streams.specs.Inlet.{inlet_fresh_of};
 ghost use Rattle.commands.specs.JoinRun.{AreFresh};
 
-use crate::messages::report::{Fault, no_memory};
+use crate::messages::command_error::{CommandError, no_memory};
 use command_line::STANDARD;
 use commands::RunError;
+use font_file::Font;
 use program_files::{KeepsReason, System};
-use std::alloc::AllocError;
+use std::alloc::{AllocError, Global};
 use std::fs::File;
 use std::io;
 use std::io::Read;
@@ -46,7 +47,7 @@ pub(crate) fn input_name(path: &str) -> &str {
 pub(crate) fn source<'a, F: Files, I: Read + Copy + Drop, O>(
     system: &System<'a, F, I, O>,
     path: &'a str,
-) -> Result<KeepsReason<'a, Input<F::File, I>>, Fault<'a>> {
+) -> Result<KeepsReason<'a, Input<F::File, I>>, CommandError<'a>> {
     if path == STANDARD {
         return Ok(KeepsReason::new(Input::Standard(system.input), system.reason));
     }
@@ -54,7 +55,7 @@ pub(crate) fn source<'a, F: Files, I: Read + Copy + Drop, O>(
         Ok(file) => Ok(KeepsReason::new(Input::File(file), system.reason)),
         Err(error) => {
             system.reason.keep(error);
-            Err(Fault::Unread(path))
+            Err(CommandError::Unread(path))
         }
     }
 }
@@ -62,11 +63,11 @@ pub(crate) fn source<'a, F: Files, I: Read + Copy + Drop, O>(
 /// Opens the files at some paths, none of which is read before all are open.
 ///
 /// # Errors
-/// `Unread` with the first path whose file cannot be opened, `Refused` where memory is.
+/// `Unread` with the first path whose file cannot be opened, `Refused` if out of memory.
 pub(crate) fn sources<'a, F: Files, I: Read + Copy + Drop, O>(
     system: &System<'a, F, I, O>,
     paths: &[&'a str],
-) -> Result<Vec<KeepsReason<'a, Input<F::File, I>>>, Fault<'a>> {
+) -> Result<Vec<KeepsReason<'a, Input<F::File, I>>>, CommandError<'a>> {
     let mut opened = Vec::new(system.alloc);
     for &path in paths {
         let file = source(system, path)?;
@@ -84,24 +85,44 @@ pub(crate) fn sources<'a, F: Files, I: Read + Copy + Drop, O>(
 pub(crate) fn inlet_at<'a, F: Files, I: Read + Copy + Drop, O>(
     system: &System<'a, F, I, O>,
     path: &'a str,
-) -> Result<Inlet<KeepsReason<'a, Input<F::File, I>>>, Fault<'a>>
+) -> Result<Inlet<KeepsReason<'a, Input<F::File, I>>>, CommandError<'a>>
     ensures { IfOk result (λ inlet. inlet_fresh_of inlet ≡ true) }
 {
     Ok(Inlet::new(source(system, path)?))
 }
 
+/// Reads the file of an inlet to its end, whose path this is.
+///
+/// # Errors
+/// `Unread` where it cannot be read, `Refused` if out of memory.
+pub(crate) fn read_inlet<'a, R: Read>(
+    alloc: Global,
+    inlet: &mut Inlet<R>,
+    path: &'a str,
+) -> Result<Vec<u8>, CommandError<'a>>
+    requires { inlet_fresh_of inlet.old ≡ true }
+{
+    inlet.read_all(alloc).map_err(|error| CommandError::of_run(path, path, RunError::from(error)))
+}
+
 /// Reads the file at a path to its end.
 ///
 /// # Errors
-/// `Unread` where it cannot be read, `Refused` where memory is.
+/// `Unread` where it cannot be read, `Refused` if out of memory.
 pub(crate) fn read_whole<'a, F: Files, I: Read + Copy + Drop, O>(
     system: &System<'a, F, I, O>,
     path: &'a str,
-) -> Result<Vec<u8>, Fault<'a>> {
+) -> Result<Vec<u8>, CommandError<'a>> {
     let mut inlet = inlet_at(system, path)?;
-    inlet
-        .read_all(system.alloc)
-        .map_err(|error| Fault::of_run(path, path, RunError::from(error)))
+    read_inlet(system.alloc, &mut inlet, path)
+}
+
+/// Opens the font of the file at a path, which this is.
+///
+/// # Errors
+/// `RefusedFile` where the font is refused.
+pub(crate) fn font_in<'a, 'f>(path: &'a str, file: &'f [u8]) -> Result<Font<'f>, CommandError<'a>> {
+    Font::open(file).map_err(|error| CommandError::of_run(path, path, RunError::from(error)))
 }
 
 // Puts an inlet after others, all of which are fresh.
@@ -115,11 +136,11 @@ fn push_fresh<R: Read + Drop>(inlets: &mut Vec<Inlet<R>>, reader: R) -> Result<(
 /// Opens the files at some paths for a run. None is read before all are open.
 ///
 /// # Errors
-/// `Unread` with the first path whose file cannot be opened, `Refused` where memory is.
+/// `Unread` with the first path whose file cannot be opened, `Refused` if out of memory.
 pub(crate) fn inlets_at<'a, F: Files, I: Read + Copy + Drop, O>(
     system: &System<'a, F, I, O>,
     paths: &[&'a str],
-) -> Result<Vec<Inlet<KeepsReason<'a, Input<F::File, I>>>>, Fault<'a>>
+) -> Result<Vec<Inlet<KeepsReason<'a, Input<F::File, I>>>>, CommandError<'a>>
     ensures { IfOk result (λ inlets. AreFresh inlets.items) }
 {
     let mut inlets = Vec::new(system.alloc);

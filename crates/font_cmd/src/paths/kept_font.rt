@@ -1,7 +1,7 @@
-//! The fonts that a line would replace by mistake: the font of which FONT, or one of FILES, is a cut, as where names of
-//! files are exchanged; and FONT itself by one of its slices.
-use crate::messages::refused_file::{may_be_cut_at, read_again};
-use crate::messages::report::{Fault, Writes, no_memory};
+//! The files that a line would replace by mistake: the font of which FONT, or one of FILES, is a cut, as where names of
+//! files are exchanged; FONT itself by one of its slices; and one of two cuts that are joined where OUT is forgotten.
+use crate::messages::command_error::{CommandError, Writes, no_memory};
+use crate::paths::regular_files::{may_be_cut_at, read_again};
 use command_line::{Join, STANDARD, Slices, Subset};
 use commands::without_tables;
 use font_coverage::{cut_kind, is_of_layout, kind_of_cut, may_be_cut};
@@ -11,8 +11,8 @@ use std::alloc::{AllocError, Global};
 use std::fs;
 use std::os::unix::fs::MetadataExt;
 
-/// Returns whether the file at a path is this one.
-pub(crate) fn is_file_at<F: HeldFiles>(files: &F, path: &str, stands: &fs::Metadata) -> bool {
+// Returns whether the file at a path is this one.
+fn is_file_at<F: HeldFiles>(files: &F, path: &str, stands: &fs::Metadata) -> bool {
     if path == STANDARD {
         return false;
     }
@@ -46,13 +46,17 @@ fn is_cut_of_file(alloc: Global, cut: &Font<'_>, file: &[u8]) -> Result<bool, Al
     }
 }
 
-// Returns whether a font, whose file this is, is a cut. Most that are none are told by their `cmap`.
-fn is_cut(alloc: Global, file: &[u8], font: &Font<'_>) -> Result<bool, AllocError> {
+// Returns the font of a file, where it is a cut. Most files that have none are told by their `cmap`.
+fn cut_in(alloc: Global, file: &[u8]) -> Result<Option<Font<'_>>, AllocError> {
     if !may_be_cut(file) {
-        return Ok(false);
+        return Ok(None);
     }
-    match cut_kind(alloc, font) {
-        Ok(kind) => Ok(kind.is_some()),
+    let Ok(font) = Font::open(file) else {
+        return Ok(None);
+    };
+    match cut_kind(alloc, &font) {
+        Ok(Some(_)) => Ok(Some(font)),
+        Ok(None) => Ok(None),
         Err(_) => Err(AllocError),
     }
 }
@@ -60,35 +64,24 @@ fn is_cut(alloc: Global, file: &[u8], font: &Font<'_>) -> Result<bool, AllocErro
 // Returns whether a file has a font that is no cut, and of which another font is a cut. What the file is comes first: a
 // small cut is often written over another one.
 fn is_font_of(alloc: Global, file: &[u8], cut: &Font<'_>) -> Result<bool, AllocError> {
+    if cut_in(alloc, file)?.is_some() {
+        return Ok(false);
+    }
     let Ok(font) = Font::open(file) else {
         return Ok(false);
     };
-    if is_cut(alloc, file, &font)? {
-        return Ok(false);
-    }
     let left = with_tables_of(alloc, &font, cut)?;
     is_cut_of_file(alloc, cut, &left)
 }
 
-// Returns whether the file at a path has a font that is no cut, and of which the font of another file is a cut. It is read
-// only where that font is a cut at all.
+// Returns whether the file at a path has a font that is no cut, and of which this cut is one.
 fn has_font_of<F: HeldFiles, I, O>(
     system: &System<'_, F, I, O>,
     path: &str,
-    cut: &[u8],
+    cut: &Font<'_>,
 ) -> Result<bool, AllocError> {
-    let alloc = system.alloc;
-    if !may_be_cut(cut) {
-        return Ok(false);
-    }
-    let Ok(font) = Font::open(cut) else {
-        return Ok(false);
-    };
-    if !is_cut(alloc, cut, &font)? {
-        return Ok(false);
-    }
-    match read_again(system.files, alloc, path)? {
-        Some(file) => is_font_of(alloc, &file, &font),
+    match read_again(system.files, system.alloc, path)? {
+        Some(file) => is_font_of(system.alloc, &file, cut),
         None => Ok(false),
     }
 }
@@ -99,10 +92,10 @@ fn may_be_font_at<F: HeldFiles>(files: &F, path: &str, stands: &fs::Metadata, si
     (size as u64) < stands.len() || !may_be_cut_at(files, path)
 }
 
-// Returns the fault that a command would write over a font, of which the file at a path is a cut.
-fn over_font<'a>(alloc: Global, writes: Writes, cut: &'a str, font: &str) -> Fault<'a> {
+// Returns the error that a command would write over a font, of which the file at a path is a cut.
+fn over_font<'a>(alloc: Global, writes: Writes, cut: &'a str, font: &str) -> CommandError<'a> {
     match String::from_str(alloc, font) {
-        Ok(font) => Fault::OverFont { writes, cut, font },
+        Ok(font) => CommandError::OverFont { writes, cut, font },
         Err(_) => no_memory(),
     }
 }
@@ -116,7 +109,7 @@ pub(crate) fn keep_font<'a, F: HeldFiles, I, O>(
     system: &System<'a, F, I, O>,
     line: &Subset<'a>,
     file: &[u8],
-) -> Result<(), Fault<'a>> {
+) -> Result<(), CommandError<'a>> {
     if line.is_forced || line.out == STANDARD {
         return Ok(());
     }
@@ -125,28 +118,45 @@ pub(crate) fn keep_font<'a, F: HeldFiles, I, O>(
     };
     if is_file_at(system.files, line.font, &stands)
         || !may_be_font_at(system.files, line.out, &stands, file.len())
-        || !has_font_of(system, line.out, file)?
     {
         return Ok(());
     }
-    Err(over_font(system.alloc, Writes::Cut, line.font, line.out))
+    match cut_in(system.alloc, file)? {
+        Some(cut) if has_font_of(system, line.out, &cut)? => {
+            Err(over_font(system.alloc, Writes::Cut, line.font, line.out))
+        }
+        _ => Ok(()),
+    }
 }
 
-// Refuses to write a slice over FONT, whose file this is, or over a font of which FONT is a cut.
-fn keep_from_slice<'a, F: HeldFiles, I, O>(
+// Returns whether the file that stands at the path of a slice may have a font of which FONT, whose file has this size, is a
+// cut. FONT itself is refused there.
+fn may_hold_font<'a, F: HeldFiles, I, O>(
     system: &System<'a, F, I, O>,
     font: &'a str,
-    file: &[u8],
+    size: usize,
     path: &str,
-) -> Result<(), Fault<'a>> {
+) -> Result<bool, CommandError<'a>> {
     let Some(stands) = standing_file(system.files, system.alloc, path)? else {
-        return Ok(());
+        return Ok(false);
     };
     if is_file_at(system.files, font, &stands) {
-        return Err(Fault::OverItself(font));
+        return Err(CommandError::OverItself(font));
     }
-    if may_be_font_at(system.files, path, &stands, file.len()) && has_font_of(system, path, file)? {
-        return Err(over_font(system.alloc, Writes::Slices, font, path));
+    Ok(may_be_font_at(system.files, path, &stands, size))
+}
+
+// Refuses to write slices of FONT over a font of which it is a cut, at the first of these paths that has one.
+fn keep_from_cut<'a, F: HeldFiles, I, O>(
+    system: &System<'a, F, I, O>,
+    font: &'a str,
+    cut: &Font<'_>,
+    paths: &[&str],
+) -> Result<(), CommandError<'a>> {
+    for &path in paths {
+        if has_font_of(system, path, cut)? {
+            return Err(over_font(system.alloc, Writes::Slices, font, path));
+        }
     }
     Ok(())
 }
@@ -161,14 +171,24 @@ pub(crate) fn keep_from_slices<'a, F: HeldFiles, I, O>(
     line: &Slices<'a>,
     file: &[u8],
     paths: &[String],
-) -> Result<(), Fault<'a>> {
+) -> Result<(), CommandError<'a>> {
     if line.is_forced {
         return Ok(());
     }
+    let mut doubtful = Vec::new(system.alloc);
     for path in paths {
-        keep_from_slice(system, line.font, file, path.as_str())?;
+        let path = path.as_str();
+        if may_hold_font(system, line.font, file.len(), path)? && doubtful.push(path).is_err() {
+            return Err(no_memory());
+        }
     }
-    Ok(())
+    if doubtful.is_empty() {
+        return Ok(());
+    }
+    match cut_in(system.alloc, file)? {
+        Some(cut) => keep_from_cut(system, line.font, &cut, &doubtful),
+        None => Ok(()),
+    }
 }
 
 // Returns whether a file is at one of some paths.
@@ -208,6 +228,31 @@ fn may_replace_font<F: HeldFiles, I, O>(
     }
 }
 
+/// Refuses a line whose first word is OUT where the one file that follows it would replace another file: so it is where
+/// OUT is forgotten, and two cuts are named.
+///
+/// # Errors
+/// `Replaces` where it would, `Refused` if out of memory.
+pub(crate) fn keep_forgotten<'a, F: HeldFiles, I, O>(
+    system: &System<'a, F, I, O>,
+    line: &Join<'a>,
+) -> Result<(), CommandError<'a>> {
+    let (out, count) = (line.out, line.files.len());
+    if count != 1 || !line.has_out_first || out == STANDARD {
+        return Ok(());
+    }
+    let Some(&file) = line.files.first() else {
+        return Ok(());
+    };
+    let Some(stands) = standing_file(system.files, system.alloc, out)? else {
+        return Ok(());
+    };
+    if file == out || is_file_at(system.files, file, &stands) {
+        return Ok(());
+    }
+    Err(CommandError::Replaces { file, out })
+}
+
 /// Refuses a line that would replace a font by a join of its cuts, where that is not forced. The first file that can be
 /// read again stands for all of them.
 ///
@@ -216,15 +261,17 @@ fn may_replace_font<F: HeldFiles, I, O>(
 pub(crate) fn keep_from_join<'a, F: HeldFiles, I, O>(
     system: &System<'a, F, I, O>,
     line: &Join<'a>,
-) -> Result<(), Fault<'a>> {
+) -> Result<(), CommandError<'a>> {
     if line.is_forced || line.out == STANDARD || !may_replace_font(system, line)? {
         return Ok(());
     }
     let Some((cut, file)) = first_readable(system, &line.files)? else {
         return Ok(());
     };
-    if has_font_of(system, line.out, &file)? {
-        return Err(over_font(system.alloc, Writes::Join, cut, line.out));
+    match cut_in(system.alloc, &file)? {
+        Some(font) if has_font_of(system, line.out, &font)? => {
+            Err(over_font(system.alloc, Writes::Join, cut, line.out))
+        }
+        _ => Ok(()),
     }
-    Ok(())
 }

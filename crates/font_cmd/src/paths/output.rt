@@ -3,7 +3,7 @@ ghost use Rattle.std.specs.Prelude.{◌≡◌, IfOk, [], true};
 ghost use Rattle.std.specs.Io.Buffered.{writer_buffer};
 ghost use Rattle.streams.specs.Outlet.{fresh_of, writer_of};
 
-use crate::messages::report::Fault;
+use crate::messages::command_error::CommandError;
 use command_line::STANDARD;
 use program_files::{HeldFiles, OutWriter, System};
 use std::io::Write;
@@ -12,11 +12,11 @@ use streams::Outlet;
 /// Returns an outlet to OUT, which gathers a block of bytes for each write. Nothing is made before the first write.
 ///
 /// # Errors
-/// The fault for refused memory.
+/// The error that says out of memory.
 pub(crate) fn outlet<'a, 'p, F: HeldFiles, I, O: Write + Copy + Drop>(
     system: &System<'a, F, I, O>,
     path: &'p str,
-) -> Result<Outlet<OutWriter<'a, F, O>>, Fault<'p>>
+) -> Result<Outlet<OutWriter<'a, F, O>>, CommandError<'p>>
     ensures { IfOk result (λ outlet. fresh_of outlet ≡ true) }
 {
     let output = if path == STANDARD {
@@ -40,9 +40,9 @@ pub(crate) fn before_packed(path: &str) -> Option<&str> {
 ///
 /// # Errors
 /// `PackedOut` where it has one.
-pub(crate) fn packed_out(path: &str, is_forced: bool) -> Result<(), Fault<'_>> {
+pub(crate) fn packed_out(path: &str, is_forced: bool) -> Result<(), CommandError<'_>> {
     match before_packed(path) {
-        Some(before) if !is_forced => Err(Fault::PackedOut(before)),
+        Some(before) if !is_forced => Err(CommandError::PackedOut(before)),
         _ => Ok(()),
     }
 }
@@ -55,14 +55,14 @@ pub(crate) fn placed<'a, 'p, F: HeldFiles, I, O: Write + Copy + Drop>(
     system: &System<'a, F, I, O>,
     outlet: Outlet<OutWriter<'a, F, O>>,
     path: &'p str,
-) -> Result<(), Fault<'p>>
+) -> Result<(), CommandError<'p>>
     requires { writer_buffer (writer_of outlet).inner ≡ [] }
 {
     match outlet.into_inner().place() {
         Ok(()) => Ok(()),
         Err(error) => {
             system.reason.keep(error);
-            Err(Fault::Unwritten(path))
+            Err(CommandError::Unwritten(path))
         }
     }
 }

@@ -17,11 +17,12 @@ returns-in_err-file-clause-stops g c =
     c.in_err-file.ensures.spent c.in_err-file.field-0.0 c.in_err-file.ensures.error in
     search (rules, stops)
 
-pub returns-then-is_err-clause-stops : goal.returns-then-is_err-clause-stops
-returns-then-is_err-clause-stops g c =
+pub returns-in_err-more_room_for-clause-stops : goal.returns-in_err-more_room_for-clause-stops
+returns-in_err-more_room_for-clause-stops g c =
     let low : c.loop-k.k < length c.loop-k.inlets = search rules in
-    still_read _ _ _ _ _ c.loop-k.invariant c.index-inlets-k.result c.read_all.new.self low c.in_ok-file.ensures.spent
-    c.in_ok-file.ensures.whole
+    let stops = still_read _ _ _ _ _ c.loop-k.invariant c.index-inlets-k.result c.read_all.new.self low
+    c.in_ok-file.ensures.spent c.in_ok-file.ensures.whole in
+    search (rules, stops)
 
 pub loop-k-preserved : goal.loop-k-preserved
 loop-k-preserved g c =

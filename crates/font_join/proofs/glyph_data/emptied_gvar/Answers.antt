@@ -12,7 +12,7 @@ with_data-requires-clause-short g c =
 pub with_data-requires-clause-few : goal.with_data-requires-clause-few
 with_data-requires-clause-few g c =
     let count = listed_count (λ d. d.now) c.in_ok-listed.listed.items (λ _. []) c.glyph_count.result
-    c.in_ok-listed.ensures
+    c.in_ok-listed.ensures.listed
     in
     let same = ap length c.deref.ensures.value in
     omega (arith, c.glyph_count.type_inv)
@@ -20,14 +20,14 @@ with_data-requires-clause-few g c =
 pub with_data-requires-clause-fits : goal.with_data-requires-clause-fits
 with_data-requires-clause-fits g c =
     let same : map (λ d. d.now) c.deref.result.now ≡ listed_data (λ _. []) c.glyph_count.result =
-    ap (map (λ d. d.now)) c.deref.ensures.value ∙ c.in_ok-listed.ensures in
+    ap (map (λ d. d.now)) c.deref.ensures.value ∙ c.in_ok-listed.ensures.listed in
     let long = ap (λ (l : List (List ℕ)). length (concat l)) same ∙ nothing_long c.glyph_count.result in
     omega arith
 
 pub returns-clause-table : goal.returns-clause-table
 returns-clause-table g c =
     let same : map (λ d. d.now) c.deref.result.now ≡ listed_data (λ _. []) c.glyph_count.result =
-    ap (map (λ d. d.now)) c.deref.ensures.value ∙ c.in_ok-listed.ensures in
+    ap (map (λ d. d.now)) c.deref.ensures.value ∙ c.in_ok-listed.ensures.listed in
     table_with (g.S.Source.content_of c.args.source.now).copied c.in-Some.variations
     (sym c.variations_of.ensures ∙ c.in-Some.is) (λ _. []) c.glyph_count.result c.glyph_count.ensures.count
     c.in_ok-gvar.gvar.items (c.in_ok-gvar.ensures.table (λ _. []) c.glyph_count.result same)

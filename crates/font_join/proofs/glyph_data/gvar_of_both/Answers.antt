@@ -17,7 +17,7 @@ with_data-requires-clause-few g c =
     let C : Content = g.K.Source.content_of c.args.k.now in
     let D : Content = g.L.Source.content_of c.args.l.now in
     let count = listed_count (λ d. d.now) c.in_ok-listed.listed.items (either_data C D) (glyph_count C.copied)
-    (c.in_ok-listed.ensures D c.variations_of-second.ensures) in
+    (c.in_ok-listed.ensures.listed D c.variations_of-second.ensures) in
     let same = ap length c.deref.ensures.value in
     omega (arith, c.glyph_count.type_inv, c.glyph_count.ensures)
 
@@ -26,7 +26,7 @@ with_data-requires-clause-fits g c =
     let C : Content = g.K.Source.content_of c.args.k.now in
     let D : Content = g.L.Source.content_of c.args.l.now in
     let same : map (λ d. d.now) c.deref.result.now ≡ listed_data (either_data C D) (glyph_count C.copied) =
-    ap (map (λ d. d.now)) c.deref.ensures.value ∙ c.in_ok-listed.ensures D c.variations_of-second.ensures in
+    ap (map (λ d. d.now)) c.deref.ensures.value ∙ c.in_ok-listed.ensures.listed D c.variations_of-second.ensures in
     subst (λ (l : List (List ℕ)). length (concat l) ≤ MAX_FILE + MAX_FILE) (sym same)
     (either_fits C D c.requires.first c.requires.second c.requires.count)
 
@@ -35,7 +35,7 @@ returns-clause-table g c =
     let C : Content = g.K.Source.content_of c.args.k.now in
     let D : Content = g.L.Source.content_of c.args.l.now in
     let same : map (λ d. d.now) c.deref.result.now ≡ listed_data (either_data C D) (glyph_count C.copied) =
-    ap (map (λ d. d.now)) c.deref.ensures.value ∙ c.in_ok-listed.ensures D c.variations_of-second.ensures in
+    ap (map (λ d. d.now)) c.deref.ensures.value ∙ c.in_ok-listed.ensures.listed D c.variations_of-second.ensures in
     let opened : opened_gvar C.copied ≡ Some c.in-Some.variations =
     sym c.variations_of-first.ensures ∙ c.in-Some.is in
     table_with C.copied c.in-Some.variations opened (either_data C D) (glyph_count C.copied)

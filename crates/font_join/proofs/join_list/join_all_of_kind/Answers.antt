@@ -10,7 +10,8 @@ use Rattle.font_join.proofs.join_list.join_all_of_kind.Goals as goal
 pub returns-clause-small : goal.returns-clause-small
 returns-clause-small g c =
     let bytes = map (λ v. v.items) c.args.files.now in
-    MatchResult-weaker c.join_in_turn.result c.join_in_turn.ensures (λ z all. small_joined (kind_is c.args.kind) bytes
+    MatchResult-weaker c.join_in_turn.result c.join_in_turn.ensures.exact
+    (λ z all. small_joined (kind_is c.args.kind) bytes
     z.items all) (λ e r. tt)
 
 pub returns-clause-laws : goal.returns-clause-laws
@@ -18,23 +19,23 @@ returns-clause-laws g c =
     let bytes = map (λ v. v.items) c.args.files.now in
     laws_of_join (kind_is c.args.kind) bytes c.join_in_turn.result (λ z v. v.items ≡ z)
     (IsForSizeOf (format_of c.args.kind))
-    (MatchResult-weaker c.join_in_turn.result c.join_in_turn.ensures (λ z all. (z.items, all, refl))
+    (MatchResult-weaker c.join_in_turn.result c.join_in_turn.ensures.exact (λ z all. (z.items, all, refl))
     (λ e r F A are. cuts_refused_in_turn (kind_is c.args.kind) bytes F A are e r))
 
 pub returns-clause-clash : goal.returns-clause-clash
 returns-clause-clash g c =
     let bytes = map (λ v. v.items) c.args.files.now in
-    MatchResult-weaker c.join_in_turn.result c.join_in_turn.ensures (λ z all. tt)
+    MatchResult-weaker c.join_in_turn.result c.join_in_turn.ensures.exact (λ z all. tt)
     (λ e r forms t over few d. clash_differs (kind_is c.args.kind) bytes e r d forms t over few)
 
 pub returns-clause-upper : goal.returns-clause-upper
 returns-clause-upper g c =
     let bytes = map (λ v. v.items) c.args.files.now in
-    MatchResult-weaker c.join_in_turn.result c.join_in_turn.ensures
+    MatchResult-weaker c.join_in_turn.result c.join_in_turn.ensures.exact
     (λ z all. least_of_all (kind_is c.args.kind) bytes z.items all) (λ e r. tt)
 
 pub returns-clause-refused : goal.returns-clause-refused
 returns-clause-refused g c =
     let bytes = map (λ v. v.items) c.args.files.now in
-    MatchResult-weaker c.join_in_turn.result c.join_in_turn.ensures (λ z all. tt)
+    MatchResult-weaker c.join_in_turn.result c.join_in_turn.ensures.exact (λ z all. tt)
     (λ e r. true_refusal_of_all (kind_is c.args.kind) bytes e r)

@@ -9,7 +9,7 @@ use Rattle.font_join.proofs.join_pair.join_of_kind.Goals as goal
 
 pub returns-clause-cuts : goal.returns-clause-cuts
 returns-clause-cuts g c = λ F A B accepted ex ey sx sy.
-    MatchResult-weaker c.join_exactly.result c.join_exactly.ensures
+    MatchResult-weaker c.join_exactly.result c.join_exactly.ensures.exact
     (λ z. cuts_joined (kind_is c.args.kind) F A B c.args.x.now c.args.y.now ((kind_is c.args.kind).fault_is F
     ∙ accepted) ex ey sx sy z.items)
     (λ e. cuts_refused (kind_is c.args.kind) F A B c.args.x.now c.args.y.now ((kind_is c.args.kind).fault_is F
@@ -17,7 +17,7 @@ returns-clause-cuts g c = λ F A B accepted ex ey sx sy.
 
 pub returns-clause-itself : goal.returns-clause-itself
 returns-clause-itself g c = λ accepted form same.
-    MatchResult-weaker c.join_exactly.result c.join_exactly.ensures
+    MatchResult-weaker c.join_exactly.result c.join_exactly.ensures.exact
     (λ z ok. self_joined (kind_is c.args.kind) c.args.x.now ((kind_is c.args.kind).fault_is c.args.x.now
     ∙ accepted) form z.items (subst (λ (y : List ℕ). IsJoin (format_of c.args.kind) c.args.x.now y z.items) same
     ok))
@@ -26,7 +26,7 @@ returns-clause-itself g c = λ accepted form same.
 
 pub returns-clause-renewal : goal.returns-clause-renewal
 returns-clause-renewal g c = λ form same.
-    MatchResult-weaker c.join_exactly.result c.join_exactly.ensures
+    MatchResult-weaker c.join_exactly.result c.join_exactly.ensures.exact
     (λ z ok. renewed_joined (kind_is c.args.kind) c.args.x.now form z.items
     (subst (λ (y : List ℕ). IsJoin (format_of c.args.kind) c.args.x.now y z.items) same ok))
     (λ e r. renewed_refused (kind_is c.args.kind) c.args.x.now form e
@@ -34,15 +34,18 @@ returns-clause-renewal g c = λ form same.
 
 pub returns-clause-upper : goal.returns-clause-upper
 returns-clause-upper g c =
-    MatchResult-weaker c.join_exactly.result c.join_exactly.ensures (λ z. least_upper (kind_is c.args.kind) c.args.x.now
+    MatchResult-weaker c.join_exactly.result c.join_exactly.ensures.exact
+    (λ z. least_upper (kind_is c.args.kind) c.args.x.now
     c.args.y.now z.items) (λ e r. tt)
 
 pub returns-clause-small : goal.returns-clause-small
 returns-clause-small g c =
-    MatchResult-weaker c.join_exactly.result c.join_exactly.ensures (λ z. small_join (kind_is c.args.kind) c.args.x.now
+    MatchResult-weaker c.join_exactly.result c.join_exactly.ensures.exact
+    (λ z. small_join (kind_is c.args.kind) c.args.x.now
     c.args.y.now z.items) (λ e r. tt)
 
 pub returns-clause-refused : goal.returns-clause-refused
 returns-clause-refused g c =
-    MatchResult-weaker c.join_exactly.result c.join_exactly.ensures (λ z r. tt) (λ e. true_refusal (kind_is c.args.kind)
+    MatchResult-weaker c.join_exactly.result c.join_exactly.ensures.exact (λ z r. tt)
+    (λ e. true_refusal (kind_is c.args.kind)
     c.args.x.now c.args.y.now e)

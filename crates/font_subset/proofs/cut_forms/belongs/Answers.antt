@@ -14,14 +14,14 @@ Told font b file kind =
 
 pub returns-clause-exact : goal.returns-clause-exact
 returns-clause-exact g c =
-    let ok = subst (λ (kind : Kind). fault_of kind c.args.cut.now.1 ≡ None) c.requires c.kind-cut_kind.ensures.sound in
-    MatchResult-weaker c.is_cut_for_own.result c.is_cut_for_own.ensures (λ b e. is_under c.args.font.now.0 b
-    c.args.cut.now.1 c.args.font.now.1 ok c.kind-kind.ensures.sound
+    let ok = subst (λ (kind : Kind). fault_of kind c.args.cut.now.1 ≡ None) c.requires c.recall_accepted.ensures in
+    MatchResult-weaker c.is_cut_for_own.result c.is_cut_for_own.ensures.written (λ b e. is_under c.args.font.now.0 b
+    c.args.cut.now.1 c.args.font.now.1 ok c.recall_accepted-2.ensures
     (subst (Told c.args.font.now b c.args.cut.now.1) c.requires e)) (λ e h. tt)
 
 pub returns-clause-some_wanted : goal.returns-clause-some_wanted
 returns-clause-some_wanted g c =
-    let ok = subst (λ (kind : Kind). fault_of kind c.args.cut.now.1 ≡ None) c.requires c.kind-cut_kind.ensures.sound in
-    MatchResult-weaker c.is_cut_for_own.result c.is_cut_for_own.ensures
-    (λ b e. is_cut_for_some c.args.font.now.0 b c.args.cut.now.1 c.args.font.now.1 ok c.kind-kind.ensures.sound
+    let ok = subst (λ (kind : Kind). fault_of kind c.args.cut.now.1 ≡ None) c.requires c.recall_accepted.ensures in
+    MatchResult-weaker c.is_cut_for_own.result c.is_cut_for_own.ensures.written
+    (λ b e. is_cut_for_some c.args.font.now.0 b c.args.cut.now.1 c.args.font.now.1 ok c.recall_accepted-2.ensures
     (subst (Told c.args.font.now b c.args.cut.now.1) c.requires e)) (λ e h. tt)

@@ -7,5 +7,5 @@ use Rattle.font_subset.proofs.cut_forms.cut_form.Goals as goal
 
 pub returns-clause-form : goal.returns-clause-form
 returns-clause-form g c =
-    MatchResult-weaker c.form_of_kind.result c.form_of_kind.ensures (λ form e. form_told form c.args.font.now
+    MatchResult-weaker c.form_of_kind.result c.form_of_kind.ensures.exact (λ form e. form_told form c.args.font.now
     c.recall_accepted.ensures (e ∙ ap (λ (f : Kind × List ℕ). form_as f.0 f.1) c.full-full.ensures)) (λ e h. tt)

@@ -7,14 +7,14 @@ use Rattle.font_subset.specs.KeptGlyphs.{asked, wanted_in, written_of}
 use Rattle.font_subset.proofs.KindSourceLemmas.{written_spelled}
 use Rattle.font_subset.proofs.cut_forms.is_cut_for.Goals as goal
 
-pub returns : goal.returns
-returns g c =
+pub returns-clause-written : goal.returns-clause-written
+returns-clause-written g c =
     let kind : Kind = c.args.font.now.0 in
     let R : Format = format_of kind in
     let font : List ℕ = c.args.font.now.1 in
     let W : Wanted = wanted_in (asked (Some c.args.codes.now) (Some c.args.glyphs.now)) in
     let spells : written_of c.in_ok-source.source ≡ spelled_by kind (content (R.font font) W) =
-    ap written_of c.in_ok-source.ensures
+    ap written_of c.in_ok-source.ensures.source
     ∙ written_spelled (kind, (font, asked (Some c.args.codes.now) (Some c.args.glyphs.now))) in
     let told = c.is_written.ensures _ (subst (λ (k : Kind). written_of c.in_ok-source.source
     ≡ spelled_by k (content (R.font font) W)) (sym c.kind.ensures.kind) spells) in

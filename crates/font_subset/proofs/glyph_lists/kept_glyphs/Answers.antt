@@ -8,11 +8,11 @@ use Rattle.font_subset.proofs.GlyphListLemmas.{same_numbers_in}
 use Rattle.font_subset.proofs.SourceLemmas.{Held}
 use Rattle.font_subset.proofs.glyph_lists.kept_glyphs.Goals as goal
 
-pub returns : goal.returns
-returns g c =
+pub returns-clause-glyphs : goal.returns-clause-glyphs
+returns-clause-glyphs g c =
     let count : c.glyph_count-count.result ≡ glyph_count_of c.args.font.now.1 =
     c.glyph_count-count.ensures.count ∙ ap glyph_count_of (c.tables.ensures.tables ∙ c.font.ensures.font) in
-    c.in_ok-listed.ensures ∙ ap (numbers_in (has c.kept.result.now)) count
+    c.in_ok-listed.ensures.glyphs ∙ ap (numbers_in (has c.kept.result.now)) count
     ∙ same_numbers_in _ _ (glyph_count_of c.args.font.now.1)
     (λ h low. c.kept.ensures.kept h
-    ∙ ap (λ (v : Held). is_kept (font_as v.0 v.1.0) (wanted_in v.1.1) h) c.in_ok-selection.ensures)
+    ∙ ap (λ (v : Held). is_kept (font_as v.0 v.1.0) (wanted_in v.1.1) h) c.in_ok-selection.ensures.selection)

@@ -7,7 +7,7 @@ use Rattle.font_subset.proofs.kept_variations.kept_data.Goals as goal
 pub loop-g-init : goal.loop-g-init
 loop-g-init g c =
     data_start c.args.selection.now c.args.variations.now.0 _ c.glyph_count-count.result c.next_kept-g.result
-    c.in_ok-listed.ensures (c.glyph_count-count.ensures.count ∙ c.requires) c.next_kept-g.ensures
+    c.in_ok-listed.ensures.listed (c.glyph_count-count.ensures.count ∙ c.requires) c.next_kept-g.ensures
 
 pub next_kept-g-requires-in-loop-g : goal.next_kept-g-requires-in-loop-g
 next_kept-g-requires-in-loop-g g c =

@@ -13,10 +13,10 @@ returns-in_ok-bytes-in-Some-clause-table g c =
     blank_made copied c.args.header c.args.slot c.glyph_count-count.result c.pairs_by-pairs.result
     c.unwrap_or.result.now c.in-Some.table.now c.in_ok-bytes-in-Some.bytes.items
     c.in-Some.ensures.table header c.glyph_count-count.ensures c.pairs_by-pairs.ensures.pairs
-    c.in_ok-bytes-in-Some.ensures
+    c.in_ok-bytes-in-Some.ensures.table
 
 pub returns-in_ok-bytes-in-Some-clause-small : goal.returns-in_ok-bytes-in-Some-clause-small
 returns-in_ok-bytes-in-Some-clause-small g c =
-    let same = ap (λ (l : List ℕ). length l) c.in_ok-bytes-in-Some.ensures in
+    let same = ap (λ (l : List ℕ). length l) c.in_ok-bytes-in-Some.ensures.table in
     let size = length-blank c.pairs_by-pairs.result c.glyph_count-count.result c.in-Some.table.now in
     omega (arith, c.in-Some.ensures.small)

@@ -26,11 +26,11 @@ returns-in_ok-bytes-in-Some-clause-table g c =
     c.unwrap_or.result.now c.in-Some.table.now c.in_ok-bytes-in-Some.bytes.items
     (λ h. is_some ((g.S.Source.content_of c.args.source.now).outline h))
     (λ h. is_some ((g.S.Source.content_of c.args.source.now).outline h)) c.in-Some.ensures.table header
-    c.glyph_count-count.ensures c.pairs_by-pairs.ensures.pairs c.in_ok-bytes-in-Some.ensures (λ h. refl)
+    c.glyph_count-count.ensures c.pairs_by-pairs.ensures.pairs c.in_ok-bytes-in-Some.ensures.table (λ h. refl)
 
 pub returns-in_ok-bytes-in-Some-clause-small : goal.returns-in_ok-bytes-in-Some-clause-small
 returns-in_ok-bytes-in-Some-clause-small g c =
-    let same = ap (λ (l : List ℕ). length l) c.in_ok-bytes-in-Some.ensures in
+    let same = ap (λ (l : List ℕ). length l) c.in_ok-bytes-in-Some.ensures.table in
     let size = length-cleared (λ h. is_some ((g.S.Source.content_of c.args.source.now).outline h))
     c.pairs_by-pairs.result (glyph_count (g.S.Source.content_of c.args.source.now).copied) c.in-Some.table.now in
     omega (arith, c.in-Some.ensures.small)

@@ -11,5 +11,5 @@ returns-then-post-lt-POST_LENGTH-clause-table g c =
 
 pub returns-in_ok-bytes-in-Some-clause-small : goal.returns-in_ok-bytes-in-Some-clause-small
 returns-in_ok-bytes-in-Some-clause-small g c =
-    let same = ap (λ (l : List ℕ). length l) c.in_ok-bytes-in-Some.ensures in
+    let same = ap (λ (l : List ℕ). length l) c.in_ok-bytes-in-Some.ensures.table in
     omega (arith, same, length-thin_post c.in-Some.post.now, c.in-Some.ensures.small)

@@ -4,8 +4,8 @@ use Rattle.font_theory.specs.Bytes.{bytes32}
 use Rattle.font_subset.proofs.LeanTableLemmas.{thin_post_is}
 use Rattle.font_subset.proofs.lean_tables.unnamed.Goals as goal
 
-pub returns : goal.returns
-returns g c =
+pub returns-clause-table : goal.returns-clause-table
+returns-clause-table g c =
     let items : c.in_ok-bytes.bytes.items ≡ take 32 c.args.post.now = search rules in
     let same : length c.put_version.new.post ≡ c.in_ok-bytes.bytes.len =
     omega (arith, c.put_version.ensures.size, c.deref_mut.ensures.len) in

@@ -5,8 +5,8 @@ use Rattle.font_subset.specs.KeptGlyphs.{glyphs_wanted}
 use Rattle.font_subset.proofs.PresenceLemmas.{none_there}
 use Rattle.font_subset.proofs.presence.glyphs_there.Goals as goal
 
-pub returns-in-Full : goal.returns-in-Full
-returns-in-Full g c = λ h.
+pub returns-in-Full-clause-glyphs : goal.returns-in-Full-clause-glyphs
+returns-in-Full-clause-glyphs g c = λ h.
     ap (λ (l : List ℕ). glyphs_wanted (Some l) h) c.new.ensures.items
     ∙ sym (ap (λ (k : Kind). (font_as k c.args.font.now.1).there h) (sym c.kind.ensures.kind ∙ c.in-Full.is)
     ∙ none_there c.args.font.now.1 h)

@@ -2,7 +2,7 @@ use Rattle.std.proofs.Common.{◌∙◌, ℕ, List, ap, option_copied, subst, sy
 use Rattle.font_tables.specs.Fields.{glyph_count_of}
 use Rattle.font_theory.specs.Kinds.{font_as}
 use Rattle.font_theory.specs.declared.kinds.Kind.{Kind}
-use Rattle.font_subset.specs.KeptGlyphs.{asked, glyphs_wanted, wanted_in}
+use Rattle.font_subset.specs.KeptGlyphs.{glyphs_wanted}
 use Rattle.font_subset.specs.Inside.{AreNumbered, IsOpenedFor}
 use Rattle.font_subset.proofs.SeedLemmas.{roots_full, roots_numbered}
 use Rattle.font_subset.proofs.selection.mark_roots.Goals as goal
@@ -10,20 +10,25 @@ use Rattle.font_subset.proofs.selection.mark_roots.Goals as goal
 pub with_numbers-requires : goal.with_numbers-requires
 with_numbers-requires g c =
     let same = subst (λ o. IsOpenedFor c.args.kind c.args.font.now (option_copied o)) c.in-Some.is c.requires.opened in
-    c.in_ok-seeds.ensures.count ∙ ap (λ (v : Kind × List ℕ). glyph_count_of v.1) (sym same)
+    c.requires.count ∙ ap (λ (v : Kind × List ℕ). glyph_count_of v.1) (sym same)
 
 pub returns-in-Some : goal.returns-in-Some
 returns-in-Some g c =
     let same = subst (λ o. IsOpenedFor c.args.kind c.args.font.now (option_copied o)) c.in-Some.is c.requires.opened in
-    roots_numbered c.args.kind c.args.font.now
-    (wanted_in (asked (option_copied c.args.wanted) (option_copied c.args.numbers))) c.in_ok-seeds.seeds
-    c.with_numbers.result c.in_ok-seeds.ensures
-    (subst (λ (v : Kind × List ℕ). AreNumbered (font_as v.0 v.1).there (glyphs_wanted (option_copied c.args.numbers))
-    c.in_ok-seeds.seeds c.with_numbers.result) same c.with_numbers.ensures)
+    let numbered = subst (λ (v : Kind × List ℕ). AreNumbered (font_as v.0 v.1).there
+    (glyphs_wanted (option_copied c.args.numbers)) c.args.seeds c.with_numbers.result) same c.with_numbers.ensures in
+    record {
+      count = numbered.count ∙ c.requires.count;
+      roots = λ codes is. roots_numbered c.args.kind c.args.font.now
+          (record { codes = codes; glyphs = glyphs_wanted (option_copied c.args.numbers) }) c.args.seeds
+          c.with_numbers.result is numbered;
+    }
 
 pub returns-in-None : goal.returns-in-None
 returns-in-None g c =
     let full = subst (λ o. IsOpenedFor c.args.kind c.args.font.now (option_copied o)) c.in-None.is c.requires.opened in
-    roots_full c.args.kind c.args.font.now
-    (wanted_in (asked (option_copied c.args.wanted) (option_copied c.args.numbers))) c.in_ok-seeds.seeds full
-    c.in_ok-seeds.ensures
+    record {
+      count = c.requires.count;
+      roots = λ codes is. roots_full c.args.kind c.args.font.now
+          (record { codes = codes; glyphs = glyphs_wanted (option_copied c.args.numbers) }) c.args.seeds full is;
+    }

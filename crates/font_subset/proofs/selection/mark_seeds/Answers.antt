@@ -23,8 +23,8 @@ loop-run-preserved g c =
           c.loop-run.invariant.seeds c.mark_run.ensures;
     }
 
-pub returns : goal.returns
-returns g c =
+pub returns-clause-seeds : goal.returns-clause-seeds
+returns-clause-seeds g c =
     let m : ℕ → ℕ = restricted (codes_wanted (option_copied c.args.wanted)) (map_of c.args.font.now) in
     record {
       count = c.loop-run.invariant.count;

@@ -11,14 +11,14 @@ pub returns-in_err-first-clause-exact : goal.returns-in_err-first-clause-exact
 returns-in_err-first-clause-exact c = passed_on _ _ c.from_residual.result _ c.from_residual.ensures.1 (
   refl,
   (
-    c.in_err-first.ensures (format_of c.args.kind),
-    true_refusal_of_all (kind_is c.args.kind) _ _ (c.in_err-first.ensures (format_of c.args.kind)),
+    c.in_err-first.ensures.exact (format_of c.args.kind),
+    true_refusal_of_all (kind_is c.args.kind) _ _ (c.in_err-first.ensures.exact (format_of c.args.kind)),
   ),
 )
 
 pub returns-in_err-first-clause-named : goal.returns-in_err-first-clause-named
 returns-in_err-first-clause-named c = passed_on _ _ c.from_residual.result _ c.from_residual.ensures.1
-    (names_file c.args.kind _ c.in_err-first.field-0.0 (c.in_err-first.ensures (format_of c.args.kind)))
+    (names_file c.args.kind _ c.in_err-first.field-0.0 (c.in_err-first.ensures.exact (format_of c.args.kind)))
 
 pub returns-clause-exact : goal.returns-clause-exact
 returns-clause-exact c = join_answered (format_of c.args.kind) _ _ c.in_ok-union.ensures.exact

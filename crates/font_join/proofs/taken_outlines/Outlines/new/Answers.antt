@@ -5,13 +5,13 @@ use Rattle.font_join.proofs.taken_outlines.Outlines.new.Goals as goal
 
 pub invariant_of-result : goal.invariant_of-result
 invariant_of-result g c =
-    let is : c.in_ok-outlines.outlines.items ≡ replicate c.args.count None = search rules in
+    let is : c.in_ok-outlines.outlines.items ≡ replicate c.args.count None = c.in_ok-outlines.ensures.values in
     let low : c.args.count < 65536 = search rules in
     subst (λ xs. HaveLength (map (λ x. option_copied x) xs) 0) (sym is) (counted_none (λ x. option_copied x) None refl
     c.args.count low)
 
 pub returns-clause-none : goal.returns-clause-none
 returns-clause-none g c =
-    let is : c.in_ok-outlines.outlines.items ≡ replicate c.args.count None = search rules in
+    let is : c.in_ok-outlines.outlines.items ≡ replicate c.args.count None = c.in_ok-outlines.ensures.values in
     λ h. ap (λ xs. listed_outline (map (λ x. option_copied x) xs) h) is
     ∙ outline_none (λ x. option_copied x) None refl c.args.count h

@@ -1,8 +1,7 @@
-use Rattle.std.proofs.Common.{◌≡◌, ℕ, ◌∙◌, sym, None}
+use Rattle.std.proofs.Common.{◌≡◌, ◌∙◌, sym, None}
 use Rattle.font_glyph.specs.RecordMap.{Records}
 use Rattle.font_theory.specs.Content.{content, everything}
 use Rattle.font_theory.specs.Kinds.{font_as}
-use Rattle.font_join.specs.Inside.{AreTaken}
 use Rattle.font_join.specs.Union.{listed_outline}
 use Rattle.font_join.proofs.AddLemmas.{none_other}
 use Rattle.font_join.proofs.OutlineListLemmas.{taken_whole, union_of_none}

@@ -14,69 +14,72 @@ use Rattle.font_join.proofs.JoinLemmas.{form_whole}
 use Rattle.font_subset.proofs.CutLemmas.{passed_on}
 use Rattle.font_join.proofs.union.Union.add.Goals as goal
 
-pub returns-in_err-opened : goal.returns-in_err-opened
-returns-in_err-opened g c = λ kind K same h.
+pub returns-in_err-opened-clause-exact : goal.returns-in_err-opened-clause-exact
+returns-in_err-opened-clause-exact g c = λ kind K same h.
     let error = c.in_err-opened.field-0.0 in
     passed_on _ _ c.from_residual.result _ c.from_residual.ensures.1
     (form_refused (format_of kind) K c.args.font.now error
     (subst (λ (q : Kind). IsFormRefusal (format_of q) Second c.args.font.now error) (c.kind.ensures.kind
-    ∙ ap (λ (v : Held). v.kind) c.self.view_is ∙ same) c.in_err-opened.ensures))
+    ∙ ap (λ (v : Held). v.kind) c.self.view_is ∙ same) c.in_err-opened.ensures.exact))
 
-pub returns-in_err-file : goal.returns-in_err-file
-returns-in_err-file g c = λ kind K same h.
+pub returns-in_err-file-clause-exact : goal.returns-in_err-file-clause-exact
+returns-in_err-file-clause-exact g c = λ kind K same h.
     let error = c.in_err-file.field-0.0 in
-    let told = subst (λ (v : Kind × List ℕ). IsFormRefusal (format_of v.0) Second v.1 error) c.in_ok-opened.ensures
-    c.in_err-file.ensures in
+    let told = subst (λ (v : Kind × List ℕ). IsFormRefusal (format_of v.0) Second v.1 error)
+    c.in_ok-opened.ensures.exact
+    c.in_err-file.ensures.exact in
     passed_on _ _ c.from_residual-in_err-file.result _ c.from_residual-in_err-file.ensures.1
     (form_refused (format_of kind) K c.args.font.now error
     (subst (λ (q : Kind). IsFormRefusal (format_of q) Second c.args.font.now error) (c.kind.ensures.kind
     ∙ ap (λ (v : Held). v.kind) c.self.view_is ∙ same) told))
 
 pub tested-requires-clause-same : goal.tested-requires-clause-same
-tested-requires-clause-same g c = ap (λ (v : Kind × List ℕ). v.0) (c.in_ok-file.ensures.0 ∙ c.in_ok-opened.ensures)
+tested-requires-clause-same g c = ap (λ (v : Kind × List ℕ). v.0)
+    (c.in_ok-file.ensures.exact.0 ∙ c.in_ok-opened.ensures.exact)
     ∙ c.kind.ensures.kind ∙ ap (λ (v : Held). v.kind) c.self.view_is
 
 pub tested-requires-clause-form : goal.tested-requires-clause-form
 tested-requires-clause-form g c =
-    let form = subst (λ (v : Kind × List ℕ). IsCut (format_of v.0) v.1) (sym c.in_ok-file.ensures.0)
-    c.in_ok-file.ensures.1 in
+    let form = subst (λ (v : Kind × List ℕ). IsCut (format_of v.0) v.1) (sym c.in_ok-file.ensures.exact.0)
+    c.in_ok-file.ensures.exact.1 in
     subst (λ (q : Kind). IsCut (format_of q) c.in_ok-file.file.1) (tested-requires-clause-same g c) form
 
 pub merged-requires-clause-same : goal.merged-requires-clause-same
-merged-requires-clause-same g c = ap (λ (v : Kind × List ℕ). v.0) (c.in_ok-file.ensures.0 ∙ c.in_ok-opened.ensures)
+merged-requires-clause-same g c = ap (λ (v : Kind × List ℕ). v.0)
+    (c.in_ok-file.ensures.exact.0 ∙ c.in_ok-opened.ensures.exact)
     ∙ c.kind.ensures.kind ∙ ap (λ (v : Held). v.kind) c.self.view_is
 
 pub merged-requires-clause-form : goal.merged-requires-clause-form
 merged-requires-clause-form g c =
-    let form = subst (λ (v : Kind × List ℕ). IsCut (format_of v.0) v.1) (sym c.in_ok-file.ensures.0)
-    c.in_ok-file.ensures.1 in
+    let form = subst (λ (v : Kind × List ℕ). IsCut (format_of v.0) v.1) (sym c.in_ok-file.ensures.exact.0)
+    c.in_ok-file.ensures.exact.1 in
     subst (λ (q : Kind). IsCut (format_of q) c.in_ok-file.file.1) (merged-requires-clause-same g c) form
 
-pub returns-in_err-tested : goal.returns-in_err-tested
-returns-in_err-tested g c = λ kind K same h.
+pub returns-in_err-tested-clause-exact : goal.returns-in_err-tested-clause-exact
+returns-in_err-tested-clause-exact g c = λ kind K same h.
     let error = c.in_err-tested.field-0.0 in
     let spells : SpellsIn c.args.self.kind (content_in c.args.self) K =
     subst (λ (q : Kind). SpellsIn q (content_in c.args.self) K) (sym same) h in
-    let file = c.in_ok-file.ensures.0 ∙ c.in_ok-opened.ensures in
+    let file = c.in_ok-file.ensures.exact.0 ∙ c.in_ok-opened.ensures.exact in
     passed_on _ _ c.from_residual-in_err-tested.result _ c.from_residual-in_err-tested.ensures.1
     (subst (λ (q : Kind). IsAddRefusal (format_of q) K c.args.font.now error) same
     (subst (λ (v : Kind × List ℕ). IsAddRefusal (format_of c.args.self.kind) K v.1 error) file
-    (c.in_err-tested.ensures K spells)))
+    (c.in_err-tested.ensures.exact K spells)))
 
-pub returns : goal.returns
-returns g c = λ kind K same h.
+pub returns-clause-exact : goal.returns-clause-exact
+returns-clause-exact g c = λ kind K same h.
     let R : Format = format_of c.args.self.kind in
     let y : List ℕ = c.args.font.now in
     let spells : SpellsIn c.args.self.kind (content_in c.args.self) K =
     subst (λ (q : Kind). SpellsIn q (content_in c.args.self) K) (sym same) h in
-    let file = c.in_ok-file.ensures.0 ∙ c.in_ok-opened.ensures in
+    let file = c.in_ok-file.ensures.exact.0 ∙ c.in_ok-opened.ensures.exact in
     let held : c.kind.result ≡ c.args.self.kind = c.kind.ensures.kind ∙ ap (λ (v : Held). v.kind) c.self.view_is in
     let form : IsCut R y =
     subst (λ (q : Kind). IsCut (format_of q) y) held (subst (λ (v : Kind × List ℕ). IsCut (format_of v.0) v.1)
-    c.in_ok-opened.ensures c.in_ok-file.ensures.1) in
+    c.in_ok-opened.ensures.exact c.in_ok-file.ensures.exact.1) in
     subst (λ (q : Kind). MatchResult c.merged.result (λ union. IsGrown q y K union
     × (add_fault (format_of q) K y ≡ None)) (IsAddRefusal (format_of q) K y)) same
-    (MatchResult-weaker c.merged.result (c.merged.ensures K spells)
+    (MatchResult-weaker c.merged.result (c.merged.ensures.exact K spells)
     (λ union merged.
     let grown = subst (λ (v : Kind × List ℕ). IsGrown c.args.self.kind v.1 K union) file merged in (
       grown,

@@ -14,8 +14,8 @@ pub blank-requires : goal.blank-requires
 blank-requires g c = fine_file c.args.file.now.0 c.args.file.now.1
     (subst (λ (k : Kind). IsCut (format_of k) c.args.file.now.1) (sym c.requires.same) c.requires.form)
 
-pub returns-then-not-divides_tables : goal.returns-then-not-divides_tables
-returns-then-not-divides_tables g c = λ K h.
+pub returns-then-not-divides_tables-clause-difference : goal.returns-then-not-divides_tables-clause-difference
+returns-then-not-divides_tables-clause-difference g c = λ K h.
     let u : Held = c.args.self.now in
     let none : divides_tables u.kind ≡ false =
     is_divided _ u c.self.view_is c.kind.result false c.kind.ensures.kind c.if-not-divides_tables.ensures in
@@ -25,8 +25,8 @@ returns-then-not-divides_tables g c = λ K h.
     ∙ early_plain u.kind none (content_in u) (content (font_as u.kind c.args.file.now.1) everything) K
     (content_of_all (format_of u.kind) c.args.file.now.1) h (spells_file u.kind c.args.file.now.1 c.requires.form)
 
-pub returns : goal.returns
-returns g c = λ K h.
+pub returns-clause-difference : goal.returns-clause-difference
+returns-clause-difference g c = λ K h.
     let u : Held = c.args.self.now in
     let some : divides_tables u.kind ≡ true =
     is_divided _ u c.self.view_is c.kind.result true c.kind.ensures.kind c.if-not-divides_tables.ensures in

@@ -50,11 +50,12 @@ gvar_of_both-requires-clause-count g c =
     spells (spells_file v.kind y c.requires.form) (c.requires.early K spells)
     ∙ ap (λ (k : Kind). glyph_count (tables_as k y)) (sym c.requires.same)
 
-pub returns-in_err-gvar : goal.returns-in_err-gvar
-returns-in_err-gvar g c = λ K spells. passed_on _ _ c.from_residual.result NoMemory c.from_residual.ensures.1 tt
+pub returns-in_err-gvar-clause-exact : goal.returns-in_err-gvar-clause-exact
+returns-in_err-gvar-clause-exact g c = λ K spells. passed_on _ _ c.from_residual.result NoMemory
+    c.from_residual.ensures.1 tt
 
-pub returns-in-Some : goal.returns-in-Some
-returns-in-Some g c = subst (λ (v : Held). (K : Content) → SpellsIn v.kind (content_in v) K
+pub returns-in-Some-clause-exact : goal.returns-in-Some-clause-exact
+returns-in-Some-clause-exact g c = subst (λ (v : Held). (K : Content) → SpellsIn v.kind (content_in v) K
     → IsAddRefusal (format_of v.kind) K c.args.file.1 (DifferentGlyph c.in-Some.g)) c.self.view_is (λ K spells.
     let u : Held = record {
       kind = c.self.inside.first.0;
@@ -99,7 +100,7 @@ with-requires-clause-agree g c =
     (c.glyph_count-count.ensures.count ∙ ap glyph_count_of (c.tables.ensures.tables ∙ c.font.ensures.font))
     c.take-other.result c.other_parts-parts.result c.take-other.ensures.differs c.other_parts-parts.ensures K spells
     (sym c.least.ensures ∙ c.in_default.is) in
-    subst (λ (m : ℕ → ℕ). AreCompatible (map_in u.runs) m) (sym c.in_ok-runs.ensures.spelled_map)
+    subst (λ (m : ℕ → ℕ). AreCompatible (map_in u.runs) m) (sym c.in_ok-runs.ensures.runs.spelled_map)
     (compatible u c.args.file.1 K spells form agree)
 
 pub invariant_of-result : goal.invariant_of-result
@@ -117,11 +118,12 @@ invariant_of-result g c =
     c.take-other.result c.other_parts-parts.result c.take-other.ensures.differs c.other_parts-parts.ensures (sym
     c.least.ensures ∙ c.in_default.is) c.in_ok-map.map c.take-other.new.self c.laid_over-own.result
     (option_map (λ v. v.items) c.in_ok-gvar.gvar) c.self.invariant.count c.take-other.ensures.taken
-    (c.in_ok-map.ensures.map ∙ ap (united (map_in u.runs)) c.in_ok-runs.ensures.spelled_map) c.in_ok-gvar.ensures.table
+    (c.in_ok-map.ensures.map ∙ ap (united (map_in u.runs)) c.in_ok-runs.ensures.runs.spelled_map)
+    c.in_ok-gvar.ensures.table
     c.laid_over-own.ensures c.self.invariant.whole c.self.invariant.spells c.self.inside.blanks c.self.invariant
 
-pub returns : goal.returns
-returns g c = subst (λ (v : Held). (K : Content) → SpellsIn v.kind (content_in v) K
+pub returns-clause-exact : goal.returns-clause-exact
+returns-clause-exact g c = subst (λ (v : Held). (K : Content) → SpellsIn v.kind (content_in v) K
     → IsGrown v.kind c.args.file.1 K (record {
       kind = c.self.inside.first.0;
       tables = c.self.inside.first.1;
@@ -142,13 +144,14 @@ returns g c = subst (λ (v : Held). (K : Content) → SpellsIn v.kind (content_i
     c.take-other.result c.other_parts-parts.result c.take-other.ensures.differs c.other_parts-parts.ensures (sym
     c.least.ensures ∙ c.in_default.is) c.in_ok-map.map c.take-other.new.self c.laid_over-own.result
     (option_map (λ v. v.items) c.in_ok-gvar.gvar) c.self.invariant.count c.take-other.ensures.taken
-    (c.in_ok-map.ensures.map ∙ ap (united (map_in u.runs)) c.in_ok-runs.ensures.spelled_map) c.in_ok-gvar.ensures.table
+    (c.in_ok-map.ensures.map ∙ ap (united (map_in u.runs)) c.in_ok-runs.ensures.runs.spelled_map)
+    c.in_ok-gvar.ensures.table
     c.laid_over-own.ensures K spells)
 
-pub returns-in_err-runs : goal.returns-in_err-runs
-returns-in_err-runs g c = λ K spells. passed_on _ _ c.from_residual-in_err-runs.result NoMemory
+pub returns-in_err-runs-clause-exact : goal.returns-in_err-runs-clause-exact
+returns-in_err-runs-clause-exact g c = λ K spells. passed_on _ _ c.from_residual-in_err-runs.result NoMemory
     c.from_residual-in_err-runs.ensures.1 tt
 
-pub returns-in_err-map : goal.returns-in_err-map
-returns-in_err-map g c = λ K spells. passed_on _ _ c.from_residual-in_err-map.result NoMemory
+pub returns-in_err-map-clause-exact : goal.returns-in_err-map-clause-exact
+returns-in_err-map-clause-exact g c = λ K spells. passed_on _ _ c.from_residual-in_err-map.result NoMemory
     c.from_residual-in_err-map.ensures.1 tt

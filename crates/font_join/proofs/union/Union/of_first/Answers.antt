@@ -12,54 +12,59 @@ use Rattle.font_join.proofs.MergeLemmas.{fine_file, spells_first, union_first}
 use Rattle.font_subset.proofs.CutLemmas.{passed_on}
 use Rattle.font_join.proofs.union.Union.of_first.Goals as goal
 
-pub returns-in_err-file : goal.returns-in_err-file
-returns-in_err-file g c =
+pub returns-in_err-file-clause-exact : goal.returns-in_err-file-clause-exact
+returns-in_err-file-clause-exact g c =
     passed_on _ _ c.from_residual-in_err-file.result _ c.from_residual-in_err-file.ensures.1
     (subst (λ (v : Kind × List ℕ). IsFormRefusal (format_of v.0) First v.1 c.in_err-file.field-0.0)
-    c.in_ok-opened.ensures c.in_err-file.ensures)
+    c.in_ok-opened.ensures.exact c.in_err-file.ensures.exact)
 
 pub blank_for_kind-requires : goal.blank_for_kind-requires
 blank_for_kind-requires g c =
     subst (λ (v : Kind × List ℕ). HasFineGvar (content (font_as v.0 v.1) everything).copied)
-    (sym c.in_ok-file.ensures.0)
-    (fine_file c.in_ok-opened.opened.0 c.in_ok-opened.opened.1 c.in_ok-file.ensures.1)
+    (sym c.in_ok-file.ensures.exact.0)
+    (fine_file c.in_ok-opened.opened.0 c.in_ok-opened.opened.1 c.in_ok-file.ensures.exact.1)
 
 pub of_file-requires : goal.of_file-requires
 of_file-requires g c =
-    subst (λ (v : Kind × List ℕ). IsCut (format_of v.0) v.1) (sym c.in_ok-file.ensures.0) c.in_ok-file.ensures.1
+    subst (λ (v : Kind × List ℕ). IsCut (format_of v.0) v.1) (sym c.in_ok-file.ensures.exact.0)
+    c.in_ok-file.ensures.exact.1
 
 pub invariant_of-result : goal.invariant_of-result
 invariant_of-result g c =
     let file : Kind × List ℕ = c.in_ok-file.file in
     let form : IsCut (format_of file.0) file.1 =
-    subst (λ (v : Kind × List ℕ). IsCut (format_of v.0) v.1) (sym c.in_ok-file.ensures.0) c.in_ok-file.ensures.1 in
-    let kind : (c.args.kind, c.args.font.now) ≡ file = sym (c.in_ok-file.ensures.0 ∙ c.in_ok-opened.ensures) in
+    subst (λ (v : Kind × List ℕ). IsCut (format_of v.0) v.1) (sym c.in_ok-file.ensures.exact.0)
+    c.in_ok-file.ensures.exact.1 in
+    let kind : (c.args.kind, c.args.font.now) ≡ file = sym
+    (c.in_ok-file.ensures.exact.0 ∙ c.in_ok-opened.ensures.exact) in
     let copies : c.in_ok-own.own ≡ own_in file.0 (tables_as file.0 file.1) =
-    c.in_ok-own.ensures ∙ ap (λ (v : Kind × List ℕ). own_in v.0 (tables_as file.0 file.1)) kind in
+    c.in_ok-own.ensures.tables ∙ ap (λ (v : Kind × List ℕ). own_in v.0 (tables_as file.0 file.1)) kind in
     subst (λ (v : Kind × List ℕ). IsUnion (record {
       kind = v.0;
       tables = v.1;
       runs = c.of_runs.result;
       outlines = c.in_ok-outlines.outlines;
       own = c.in_ok-own.own;
-    }) c.in_ok-blanks.blanks) c.in_ok-file.ensures.0
+    }) c.in_ok-blanks.blanks) c.in_ok-file.ensures.exact.0
     (union_first file.0 file.1 form c.of_runs.result c.in_ok-outlines.outlines c.in_ok-own.own
-    (c.of_runs.ensures ∙ c.in_ok-runs.ensures.spelled_map) c.in_ok-outlines.ensures.outlines copies
+    (c.of_runs.ensures ∙ c.in_ok-runs.ensures.runs.spelled_map) c.in_ok-outlines.ensures.outlines copies
     c.in_ok-blanks.blanks
     (subst (λ (v : Kind × List ℕ).
     HasBlanks v.0 (content (font_as file.0 file.1) everything).copied c.in_ok-blanks.blanks) kind
-    c.in_ok-blanks.ensures) c.in_ok-outlines.ensures.count)
+    c.in_ok-blanks.ensures.blanks) c.in_ok-outlines.ensures.count)
 
-pub returns : goal.returns
-returns g c =
+pub returns-clause-exact : goal.returns-clause-exact
+returns-clause-exact g c =
     let file : Kind × List ℕ = c.in_ok-file.file in
     let form : IsCut (format_of file.0) file.1 =
-    subst (λ (v : Kind × List ℕ). IsCut (format_of v.0) v.1) (sym c.in_ok-file.ensures.0) c.in_ok-file.ensures.1 in
-    let kind : (c.args.kind, c.args.font.now) ≡ file = sym (c.in_ok-file.ensures.0 ∙ c.in_ok-opened.ensures) in
+    subst (λ (v : Kind × List ℕ). IsCut (format_of v.0) v.1) (sym c.in_ok-file.ensures.exact.0)
+    c.in_ok-file.ensures.exact.1 in
+    let kind : (c.args.kind, c.args.font.now) ≡ file = sym
+    (c.in_ok-file.ensures.exact.0 ∙ c.in_ok-opened.ensures.exact) in
     let copies : c.in_ok-own.own ≡ own_in file.0 (tables_as file.0 file.1) =
-    c.in_ok-own.ensures ∙ ap (λ (v : Kind × List ℕ). own_in v.0 (tables_as file.0 file.1)) kind in
+    c.in_ok-own.ensures.tables ∙ ap (λ (v : Kind × List ℕ). own_in v.0 (tables_as file.0 file.1)) kind in
     let spells = spells_first file.0 file.1 form c.of_runs.result c.in_ok-outlines.outlines c.in_ok-own.own
-    (c.of_runs.ensures ∙ c.in_ok-runs.ensures.spelled_map) c.in_ok-outlines.ensures.outlines copies in
+    (c.of_runs.ensures ∙ c.in_ok-runs.ensures.runs.spelled_map) c.in_ok-outlines.ensures.outlines copies in
     let held : Kind × List ℕ → Held = λ v. record {
       kind = v.0;
       tables = v.1;
@@ -67,18 +72,19 @@ returns g c =
       outlines = c.in_ok-outlines.outlines;
       own = c.in_ok-own.own;
     } in (
-      ap (λ (v : Kind × List ℕ). v.0) c.in_ok-opened.ensures,
+      ap (λ (v : Kind × List ℕ). v.0) c.in_ok-opened.ensures.exact,
       subst (λ (v : Kind × List ℕ). SpellsIn v.0 (content_in (held c.in_ok-opened.opened))
-          (content_of_all (format_of v.0) v.1)) c.in_ok-opened.ensures
+          (content_of_all (format_of v.0) v.1)) c.in_ok-opened.ensures.exact
           (subst (λ (v : Kind × List ℕ). SpellsIn v.0 (content_in (held v)) (content_of_all (format_of v.0) v.1))
-          c.in_ok-file.ensures.0 spells),
-      subst (λ (v : Kind × List ℕ). IsCut (format_of v.0) v.1) c.in_ok-opened.ensures c.in_ok-file.ensures.1,
+          c.in_ok-file.ensures.exact.0 spells),
+      subst (λ (v : Kind × List ℕ). IsCut (format_of v.0) v.1) c.in_ok-opened.ensures.exact
+          c.in_ok-file.ensures.exact.1,
     )
 
-pub returns-in_err-blanks : goal.returns-in_err-blanks
-returns-in_err-blanks g c =
+pub returns-in_err-blanks-clause-exact : goal.returns-in_err-blanks-clause-exact
+returns-in_err-blanks-clause-exact g c =
     passed_on _ _ c.from_residual-in_err-blanks.result NoMemory c.from_residual-in_err-blanks.ensures.1 tt
 
-pub returns-in_err-outlines : goal.returns-in_err-outlines
-returns-in_err-outlines g c =
+pub returns-in_err-outlines-clause-exact : goal.returns-in_err-outlines-clause-exact
+returns-in_err-outlines-clause-exact g c =
     passed_on _ _ c.from_residual-in_err-outlines.result NoMemory c.from_residual-in_err-outlines.ensures.1 tt

@@ -19,15 +19,15 @@ refusal_of-requires g c = λ slot e.
     let L : Content = content_of_all (format_of c.args.self.now.kind) c.args.file.now.1 in
     let h : SpellsIn c.args.self.now.kind (content_in c.args.self.now) K =
     subst (λ (u : Held). SpellsIn u.kind (content_in u) K) c.self.view_is c.self.invariant.spells in
-    let told : c.in_ok-difference.field-0 ≡ early_difference K L = c.in_ok-difference.ensures K h in
+    let told : c.in_ok-difference.field-0 ≡ early_difference K L = c.in_ok-difference.ensures.difference K h in
     slot_below K L slot (difference-early K L c.in-Some.difference (sym told ∙ c.in-Some.is) ∙ ap Some e)
 
-pub returns-in-Some : goal.returns-in-Some
-returns-in-Some g c = λ K h.
+pub returns-in-Some-clause-exact : goal.returns-in-Some-clause-exact
+returns-in-Some-clause-exact g c = λ K h.
     let R : Format = format_of c.args.self.now.kind in
     let y = c.args.file.now.1 in
     let L : Content = content_of_all R y in
-    let told : c.in_ok-difference.field-0 ≡ early_difference K L = c.in_ok-difference.ensures K h in
+    let told : c.in_ok-difference.field-0 ≡ early_difference K L = c.in_ok-difference.ensures.difference K h in
     subst (IsAddRefusal R K y) (sym c.refusal_of.ensures)
     (difference_refused R K y c.in-Some.difference (form_whole R Second y c.requires.form.accepted
     (is_cut-of R (kind_is c.args.self.now.kind).law y c.requires.form))

@@ -7,5 +7,5 @@ use Rattle.font_subset.proofs.font_to_cut.FontToCut.font.Goals as goal
 pub returns-clause-sound : goal.returns-clause-sound
 returns-clause-sound g c =
     subst (λ (v : Kind × (List ℕ × Bool)). cutting_fault v.1.1 v.0 v.1.0 ≡ None) c.self.view_is
-    (opened_fine c.self.inside.font.0 c.self.inside.font.1 c.self.inside.links c.kind-kind.ensures.sound
+    (opened_fine c.self.inside.font.0 c.self.inside.font.1 c.self.inside.links c.recall_accepted.ensures
     c.self.invariant)

@@ -13,7 +13,7 @@ Read gsub o = MatchOption o (is_bad_layout gsub ≡ true) (λ listed. (is_bad_la
 pub returns-in_err-listed-clause-exact : goal.returns-in_err-listed-clause-exact
 returns-in_err-listed-clause-exact g c =
     passed_on _ _ c.from_residual.result _ c.from_residual.ensures.1
-    (layout_kept c.args.font.0 c.args.font.1 c.gsub_of.result.now c.gsub_of.ensures c.in_err-listed.ensures.memory)
+    (layout_kept c.args.font.0 c.args.font.1 c.gsub_of.result.now c.gsub_of.ensures c.in_err-listed.ensures.there)
 
 pub invariant_of-result : goal.invariant_of-result
 invariant_of-result g c =
@@ -25,11 +25,11 @@ invariant_of-result g c =
 pub returns-in-Some-clause-sound : goal.returns-in-Some-clause-sound
 returns-in-Some-clause-sound g c =
     let both = subst (Read c.gsub_of.result.now) c.in-Some.is c.in_ok-listed.ensures.links in
-    closing_by_gsub c.args.font.0 c.args.font.1 false c.kind-kind.ensures.sound
+    closing_by_gsub c.args.font.0 c.args.font.1 false c.recall_accepted.ensures
     (bad_links c.args.font.0 c.args.font.1 c.gsub_of.result.now false c.gsub_of.ensures both.0)
 
 pub returns-clause-exact : goal.returns-clause-exact
 returns-clause-exact g c =
-    closing_by_gsub c.args.font.0 c.args.font.1 true c.kind-kind.ensures.sound
+    closing_by_gsub c.args.font.0 c.args.font.1 true c.recall_accepted.ensures
     (bad_links c.args.font.0 c.args.font.1 c.gsub_of.result.now true c.gsub_of.ensures
     (subst (Read c.gsub_of.result.now) c.in-None.is c.in_ok-listed.ensures.links))

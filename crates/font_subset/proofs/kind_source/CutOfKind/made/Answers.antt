@@ -46,5 +46,5 @@ returns-then-slot-eq-GVAR-clause-small g c =
 pub returns-clause-table : goal.returns-clause-table
 returns-clause-table g c =
     subst (λ (v : Held). (written_of v).copied c.args.slot ≡ (selected v).copied c.args.slot) c.self.view_is
-    (other_slot c.self.inside.selection c.kind-kind.ensures.sound c.args.slot c.if-slot-eq-HMTX.false
+    (other_slot c.self.inside.selection c.recall_accepted.ensures c.args.slot c.if-slot-eq-HMTX.false
     c.if-slot-eq-POST.false c.if-slot-eq-VMTX.false c.if-slot-eq-GVAR.false)

@@ -8,4 +8,4 @@ use Rattle.font_subset.proofs.kind_source.CutOfKindSource.glyph_count.Goals as g
 pub returns : goal.returns
 returns g c =
     subst (λ (v : Held). c.glyph_count.result ≡ glyph_count (written_of v).copied) c.self.view_is
-    (c.glyph_count.ensures ∙ sym (in_count c.self.inside.selection c.kind-kind.ensures.sound))
+    (c.glyph_count.ensures ∙ sym (in_count c.self.inside.selection c.recall_accepted.ensures))

@@ -8,4 +8,4 @@ use Rattle.font_subset.proofs.kind_source.CutOfKindSource.head.Goals as goal
 pub returns-clause-head : goal.returns-clause-head
 returns-clause-head g c =
     subst (λ (v : Held). (written_of v).head ≡ cut_head c.head.result.now) c.self.view_is
-    (in_head c.self.inside.selection c.kind-kind.ensures.sound ∙ c.head.ensures.head)
+    (in_head c.self.inside.selection c.recall_accepted.ensures ∙ c.head.ensures.head)

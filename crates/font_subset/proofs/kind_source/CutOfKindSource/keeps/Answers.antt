@@ -8,4 +8,4 @@ use Rattle.font_subset.proofs.kind_source.CutOfKindSource.keeps.Goals as goal
 pub returns : goal.returns
 returns g c =
     subst (λ (v : Held). c.keeps.result ≡ is_some ((written_of v).outline c.args.g)) c.self.view_is
-    (c.keeps.ensures ∙ sym (in_keeps c.self.inside.selection c.kind-kind.ensures.sound c.args.g))
+    (c.keeps.ensures ∙ sym (in_keeps c.self.inside.selection c.recall_accepted.ensures c.args.g))

@@ -8,10 +8,10 @@ use Rattle.font_subset.proofs.kind_source.CutOfKindSource.next_kept.Goals as goa
 
 pub next_kept-requires : goal.next_kept-requires
 next_kept-requires g c =
-    subst (λ (n : ℕ). c.args.from ≤ n) (in_count c.self.inside.selection c.kind-kind.ensures.sound)
+    subst (λ (n : ℕ). c.args.from ≤ n) (in_count c.self.inside.selection c.recall_accepted.ensures)
     (subst (λ (v : Held). c.args.from ≤ glyph_count (written_of v).copied) (sym c.self.view_is) c.requires)
 
 pub returns : goal.returns
 returns g c =
     subst (λ (v : Held). IsNextKept (written_of v) c.args.from c.next_kept.result) c.self.view_is
-    (in_next c.self.inside.selection c.kind-kind.ensures.sound c.args.from c.next_kept.result c.next_kept.ensures)
+    (in_next c.self.inside.selection c.recall_accepted.ensures c.args.from c.next_kept.result c.next_kept.ensures)

@@ -10,4 +10,4 @@ returns g c =
     subst (λ (v : Held). MatchOption c.next_run.result (NoRun (written_of v).map c.args.from)
     (IsRun (written_of v).map c.args.from)) c.self.view_is
     (subst (λ (m : ℕ → ℕ). MatchOption c.next_run.result (NoRun m c.args.from) (IsRun m c.args.from))
-    (sym (in_map c.self.inside.selection c.kind-kind.ensures.sound)) c.next_run.ensures)
+    (sym (in_map c.self.inside.selection c.recall_accepted.ensures)) c.next_run.ensures)

@@ -10,5 +10,5 @@ pub returns-clause-outline : goal.returns-clause-outline
 returns-clause-outline g c =
     subst (λ (v : Held). IsSome ((written_of v).outline c.args.g) → (written_of v).outline c.args.g
     ≡ Some (padded c.outline_of.result.now)) c.self.view_is
-    (in_outline_at c.self.inside.selection c.kind-kind.ensures.sound c.args.g (padded c.outline_of.result.now)
+    (in_outline_at c.self.inside.selection c.recall_accepted.ensures c.args.g (padded c.outline_of.result.now)
     c.outline_of.ensures.outline)

@@ -8,8 +8,8 @@ use Rattle.font_subset.proofs.kind_source.CutOfKindSource.recall_laws.Goals as g
 pub returns-clause-writable : goal.returns-clause-writable
 returns-clause-writable g c =
     subst (λ (v : Held). IsWritable (written_of v)) c.self.view_is (in_writable c.self.inside.selection
-    c.kind-kind.ensures.sound)
+    c.recall_accepted.ensures)
 
 pub returns-clause-components : goal.returns-clause-components
 returns-clause-components g c = subst (λ (v : Held). KeepsComponents (written_of v)) c.self.view_is
-    (in_components c.self.inside.selection c.kind-kind.ensures.sound)
+    (in_components c.self.inside.selection c.recall_accepted.ensures)

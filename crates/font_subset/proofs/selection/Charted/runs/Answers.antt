@@ -1,4 +1,4 @@
-use Rattle.std.proofs.Common.{true, rules, ◌≡◌, ℕ, ◌+◌, List, [], ◌∷◌, ◌++◌, ap, ◌∙◌, subst, sym}
+use Rattle.std.proofs.Common.{true, ◌≡◌, ℕ, ◌+◌, List, [], ◌∷◌, ◌++◌, ap, ◌∙◌, subst, sym}
 use Rattle.codes.specs.CharacterMap.{IsCharacterMap, restricted}
 use Rattle.font_map.specs.Mapping.{mapping_of}
 use Rattle.codes.specs.Runs.{IsNext, IsPiece, IsRun, NoRun, groups_from}
@@ -20,7 +20,8 @@ loop-ahead-preserved g c =
     (subst (λ (m : ℕ → ℕ). IsPiece m c.loop-ahead.from c.in-Some.piece) (sym same) piece) in
     let run : IsRun M c.loop-ahead.from c.run_of-behind.result.0 =
     subst (λ (m : ℕ → ℕ). IsRun m c.loop-ahead.from c.run_of-behind.result.0) same found in
-    let pushed : c.push.new.self.items ≡ c.loop-ahead.runs.items ++ c.run_of-behind.result.0 ∷ [] = search rules in
+    let pushed : c.push.new.values.items ≡ c.loop-ahead.runs.items ++ c.run_of-behind.result.0 ∷ [] =
+    c.in_ok-push.ensures.pushed in
     record {
       done = ap (λ (runs : List Run). runs ++ groups_from M (c.run_of-behind.result.0.last + 1)) pushed
           ∙ groups_go_on M c.loop-ahead.from c.loop-ahead.runs.items (groups_from M 0) c.run_of-behind.result.0 map
@@ -29,8 +30,8 @@ loop-ahead-preserved g c =
           c.run_of-behind.ensures.behind;
     }
 
-pub returns : goal.returns
-returns g c =
+pub returns-clause-runs : goal.returns-clause-runs
+returns-clause-runs g c =
     let M : ℕ → ℕ = restricted (λ _. true) (map_of c.args.self.now) in
     let none : NoRun M c.loop-ahead.from =
     subst (IsNext M c.loop-ahead.from) c.in_default.is c.loop-ahead.invariant.next in
