@@ -24,9 +24,9 @@ Glyphs keep their numbers. If a font or a list of cuts is refused, the call rais
 text and the argument of the refusal. Arguments of a wrong form raise `TypeError` or `ValueError`. If memory runs out,
 the call raises `MemoryError`. The first call loads the library, and raises `LibraryMissing` if there is none.
 
-A lean cut has zero metrics for glyphs that it does not keep, and no glyph names. It is never longer than the full cut.
-Lean cuts join with lean cuts: `fontcut.join([lean, other_lean], kind="lean")`. One for characters alone is itself a full
-cut.
+A lean cut has zero metrics for glyphs that it does not keep, and no glyph names. Lean cuts join with lean cuts:
+`fontcut.join([lean, other_lean], kind="lean")`. One for characters alone is itself a full cut, and never longer than
+the full cut for the same characters.
 
 A layout cut is a lean cut with the layout tables (BASE, GDEF, GPOS, GSUB and kern, without their parts for variable
 fonts), and with each glyph that GSUB may substitute for those of its characters. Layout cuts join with layout cuts. A

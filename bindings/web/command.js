@@ -7,6 +7,7 @@ import { dirname, join as pathOf } from 'node:path';
 import { parseArgs } from 'node:util';
 import { belongs, check, codes, cutForm, FontcutError, glyphs, init, join, metrics, ranges, subset, version }
     from './fontcut.js';
+import { KINDS, SHAPED } from './kinds.js';
 import { needed } from './needed.js';
 
 const HELP = `fontcut in node: subsets that keep glyph ids, and their joins
@@ -18,28 +19,26 @@ const HELP = `fontcut in node: subsets that keep glyph ids, and their joins
   fontcut check FONT
   fontcut codes FONT [--glyphs]
 
-The words are those of the program, which has more of them: so say its manual page and its help. FONT and OUT may be -,
-for standard input and output. check prints no findings here, only whether the font is accepted, and subset does not say
-what a cut drops.
+Arguments are those of the program; its manual page lists more. FONT and OUT may be -, for standard input and output.
+--quiet stands anywhere: of messages only the first line is printed. check prints no findings here, only whether the
+font is accepted, and subset does not say what a cut drops.
 
 Exit status: 0 done; 1 a font is refused, belongs says no, or out of memory; 2 usage error; 3 a file cannot be read or
 written.
 `;
 const FLAG = { type: 'boolean' }, LIST = { type: 'string', multiple: true };
-const KINDS = { lean: FLAG, layout: FLAG, variable: FLAG };
-const ALL_KINDS = ['full', ...Object.keys(KINDS)];
-const SHAPED = ['layout', 'variable'];
+const KIND_FLAGS = { lean: FLAG, layout: FLAG, variable: FLAG };
 const LAYOUT_TABLES = ['BASE', 'GDEF', 'GPOS', 'GSUB', 'kern'];
-const NO_GLYPH = 102;
+const NO_MEMORY = 16, NO_GLYPH = 102;
 const COMMANDS = {
     subset: {
         run: runSubset, options: {
-            ...KINDS, text: LIST, 'text-file': LIST, unicodes: LIST, 'codes-file': LIST, gids: LIST, exactly: FLAG,
+            ...KIND_FLAGS, text: LIST, 'text-file': LIST, unicodes: LIST, 'codes-file': LIST, gids: LIST, exactly: FLAG,
             'no-layout-closure': FLAG, force: FLAG, quiet: FLAG,
         },
     },
-    join: { run: runJoin, options: { ...KINDS, output: { type: 'string', short: 'o' }, force: FLAG, quiet: FLAG } },
-    belongs: { run: runBelongs, options: { ...KINDS, full: FLAG, quiet: FLAG } },
+    join: { run: runJoin, options: { ...KIND_FLAGS, output: { type: 'string', short: 'o' }, force: FLAG, quiet: FLAG } },
+    belongs: { run: runBelongs, options: { ...KIND_FLAGS, full: FLAG, quiet: FLAG } },
     check: { run: runCheck, options: { quiet: FLAG } },
     codes: { run: runCodes, options: { glyphs: FLAG, quiet: FLAG } },
 };
@@ -99,7 +98,7 @@ function writeAll(file, data) {
 const print = (text) => writeAll(1, Buffer.from(text));
 
 function kindOf(given) {
-    const kinds = ALL_KINDS.filter((kind) => given[kind]);
+    const kinds = KINDS.filter((kind) => given[kind]);
     if (kinds.length > 1) {
         throw new Failed(2, `--${kinds[0]} and --${kinds[1]} are two kinds of cuts`);
     }
@@ -114,11 +113,15 @@ function text(data, path) {
     }
 }
 
-// The codes of the texts of a line. Each text by itself brings what a shaper takes for it.
+const withoutControls = (one) => one.replace(/\p{Cc}/gu, '');
+
+// The codes of the texts of a line. Each text by itself brings what a shaper takes for it. The control characters of a
+// file are not kept, and are taken out last: no characters compose across them.
 function codesOfTexts(given, kind) {
-    const files = (given['text-file'] ?? []).map((path) => text(read(path), path).replace(/\p{Cc}/gu, ''));
     const brings = SHAPED.includes(kind) && !given.exactly ? needed : (one) => one;
-    return [...given.text ?? [], ...files].flatMap((one) => Array.from(brings(one), (letter) => letter.codePointAt(0)));
+    const files = (given['text-file'] ?? []).map((path) => text(read(path), path)).filter(withoutControls);
+    const wanted = [...(given.text ?? []).map(brings), ...files.map((one) => withoutControls(brings(one)))];
+    return wanted.flatMap((one) => Array.from(one, (letter) => letter.codePointAt(0)));
 }
 
 function codesOfLists(given, words) {
@@ -166,12 +169,13 @@ function runSubset(given, [font, out, ...words]) {
 }
 
 // The first of some kinds of cuts of which something is so, or undefined. A font may be refused for one kind alone.
-function kindWhere(isSo, kinds = ALL_KINDS) {
+// Throws if out of memory.
+function kindWhere(isSo, kinds = KINDS) {
     return kinds.find((kind) => {
         try {
             return isSo(kind);
         } catch (error) {
-            if (!(error instanceof FontcutError)) {
+            if (!(error instanceof FontcutError) || error.number === NO_MEMORY) {
                 throw error;
             }
             return false;
@@ -196,7 +200,7 @@ function recordsOf(font) {
     return new Map(places.map((at) => [font.toString('latin1', at, at + 4), at]));
 }
 
-// A font as if it lacked the tables of layout that a cut lacks, which may be one without them.
+// A font as if it lacked the layout tables that a cut lacks, which may be one without them.
 function withTablesOf(font, cut) {
     const made = Buffer.from(font), kept = recordsOf(cut);
     for (const [tag, at] of recordsOf(font)) {
@@ -205,7 +209,7 @@ function withTablesOf(font, cut) {
     return made;
 }
 
-// What stands at a path, or undefined where it cannot be read.
+// What stands at a path, or undefined if it cannot be read.
 function standing(path) {
     try {
         return readFileSync(path);
@@ -214,7 +218,7 @@ function standing(path) {
     }
 }
 
-// Fails where OUT has the font of which the file at a path is a cut: the names of files were exchanged.
+// Fails if OUT has the font of which the file at a path is a cut: the names of files were exchanged.
 function keepFont(given, out, path, data, advice) {
     const stands = isCut(data) ? standing(out) : undefined;
     if (!stands || isCut(stands)) {
@@ -266,10 +270,10 @@ function runBelongs(given, words) {
     if (words.length !== 2) {
         throw new Failed(2, 'belongs takes CUT and FONT');
     }
-    const [cut, font] = words.map(read), named = ALL_KINDS.some((kind) => given[kind]) ? kindOf(given) : undefined;
+    const [cut, font] = words.map(read), named = KINDS.some((kind) => given[kind]) ? kindOf(given) : undefined;
     let found = belongs(cut, font, { kind: named ?? 'full' }) ? named ?? 'full' : undefined;
     if (!named) {
-        found ??= kindWhere((kind) => belongs(cut, font, { kind }), Object.keys(KINDS));
+        found ??= kindWhere((kind) => belongs(cut, font, { kind }), Object.keys(KIND_FLAGS));
     }
     if (found && !named && !given.quiet) {
         process.stderr.write(`fontcut: ${words[0]}: a ${found} cut\n`);
@@ -311,8 +315,15 @@ function runCodes(given, words) {
     print(all.map((code, i) => `U+${hexOf(code)} ${numbers[i]} ${widths[i].advance}\n`).join(''));
 }
 
+// The arguments with the command first: as in the program, --quiet may stand before it.
+function commandFirst(words) {
+    const at = words.findIndex((word) => word !== '--quiet');
+    return at > 0 ? [words[at], ...words.slice(0, at), ...words.slice(at + 1)] : words;
+}
+
 // The exit status of a line, after what it says.
-async function statusOf([name, ...words]) {
+async function statusOf(line) {
+    const [name, ...words] = commandFirst(line);
     if (name === undefined || ['--help', '-h', 'help'].includes(name)) {
         print(HELP);
         return 0;
@@ -321,6 +332,9 @@ async function statusOf([name, ...words]) {
     if (['--version', '-V'].includes(name)) {
         print(`fontcut ${version()}\n`);
         return 0;
+    }
+    if (name.startsWith('-')) {
+        throw new Failed(2, `no option ${name} before a command in node: fontcut --help lists those that it has`);
     }
     if (!Object.hasOwn(COMMANDS, name)) {
         throw new Failed(2, `no command ${name}: node has ${Object.keys(COMMANDS).join(', ')}`);

@@ -6,12 +6,12 @@ export type Code = number | readonly [first: number, last: number];
 
 /**
  * The kind of a cut: a full one has the metrics and names of all glyphs, a lean one the metrics of the kept glyphs and
- * no names. A layout one is a lean one with the tables of layout and the glyphs that GSUB may put for its own, and a
+ * no names. A layout one is a lean one with the layout tables and the glyphs that GSUB may put for its own, and a
  * variable one is a layout one that keeps variations.
  */
 export type Kind = 'full' | 'lean' | 'layout' | 'variable';
 
-/** The options of a call; a kind that is not given is 'full'. */
+/** The options of a call; a kind that is not given is 'full', unless the call says otherwise. */
 export interface OfKind {
     kind?: Kind;
 }
@@ -46,7 +46,10 @@ export interface Exactly {
 
 export type Wanted = Characters & Glyphs & Closing & Exactly & OfKind;
 
-/** A font or a list of cuts is refused, with the number and the text that `fontcut` prints; 16 is out of memory. */
+/**
+ * A font or a list of cuts is refused, with the number and the text that `fontcut` prints; 16 is out of memory. The
+ * text for a number that is no glyph of the font names its place in the list.
+ */
 export class FontcutError extends Error {
     readonly number: number;
     readonly text: string;
@@ -58,7 +61,7 @@ export class FontcutError extends Error {
 
 /** A font that stays in the module's memory and is tested once. */
 export class Font {
-    /** @throws FontcutError where the font is refused */
+    /** @throws FontcutError if the font is refused */
     constructor(data: Bytes);
     /** Frees its memory. No call takes it then. */
     free(): void;
@@ -93,9 +96,9 @@ export function memory(): { bytes: number; inUse: number };
 /** The version of the module, such as '0.11.0'. */
 export function version(): string;
 
-/** @throws FontcutError where the font is not accepted */
+/** @throws FontcutError if the font is not accepted */
 export function check(font: Bytes | Font): void;
-/** The cut of a font for the wanted characters and glyphs. Characters that the font does not map are passed over. */
+/** The cut of a font for the wanted characters and glyphs. Characters that the font does not map are ignored. */
 export function subset(font: Bytes | Font, wanted: Wanted): Uint8Array;
 /** The length in bytes of the cut that `subset` makes. */
 export function subsetSize(font: Bytes | Font, wanted: Wanted): number;
@@ -121,7 +124,7 @@ export function keptGlyphs(font: Bytes | Font, options?: OfKind): Uint16Array;
 export function join(cuts: Iterable<Bytes | Font>, options?: OfKind): Uint8Array;
 /** In which form a font is a cut: 'old' is the first profile of the format. */
 export function cutForm(font: Bytes | Font, options?: OfKind): 'none' | 'current' | 'old';
-/** Whether a file is a cut of a font for some characters and glyphs, of a kind: a full one if none is named. */
+/** Whether a file is a cut of a font for some characters and glyphs: of a kind, or of any if none is named. */
 export function belongs(cut: Bytes | Font, font: Bytes | Font, options?: OfKind): boolean;
 /**
  * The code points that a list of ranges names, as ranges in ascending order that do not touch. It takes what the program
@@ -132,7 +135,7 @@ export function belongs(cut: Bytes | Font, font: Bytes | Font, options?: OfKind)
 export function ranges(words: string): [first: number, last: number][];
 /** The code points that a font maps, as ranges in ascending order. */
 export function codes(font: Bytes | Font): [first: number, last: number][];
-/** The glyph of each character of a text, or of each code point, 0 where there is none. */
+/** The glyph of each character of a text, or of each code point, 0 if there is none. */
 export function glyphs(font: Bytes | Font, wanted: string | Iterable<number>): Uint16Array;
 /** The advance width and the left side bearing of each glyph, in font units. */
 export function metrics(font: Bytes | Font, glyphs: Iterable<number>): Metric[];

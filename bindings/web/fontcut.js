@@ -9,12 +9,12 @@
 // A font is an ArrayBuffer or a view of one. Calls are synchronous: a worker keeps a long one off the page's thread.
 // Each call copies what it reads into the module's memory, and frees all that it took when it returns or throws.
 
+import { KINDS, SHAPED } from './kinds.js';
 import { needed } from './needed.js';
 
 const LAST_CODE = 0x10FFFF;
 const MOST_GLYPHS = 0xFFFF; // of a font: no glyph has this number
-const KINDS = ['full', 'lean', 'layout', 'variable'];
-const WITH_LINKS = [2, 3]; // the kinds whose cuts keep GSUB
+const WITH_LINKS = SHAPED.map((kind) => KINDS.indexOf(kind));
 const FORMS = ['none', 'current', 'old'];
 
 // Statuses of include/fontcut.h, and those whose detail is a tag or a number.
@@ -26,7 +26,10 @@ const OF_TAGS = [5, 6, 7, 21], OF_NUMBERS = [12, 15, 17, 22, 23, NO_GLYPH];
 
 const BYTES_OF_ANSWER = 24, BYTES_OF_INFO = 16, LONGEST_TEXT = 64;
 
-/** A font or a list of cuts is refused, or memory is: `number` and `text` are those that `fontcut` prints. */
+/**
+ * A font or a list of cuts is refused, or out of memory: `number` and `text` are those that `fontcut` prints, but for a
+ * number that is no glyph of the font, which is named by its place in the list.
+ */
 export class FontcutError extends Error {
     constructor(number, text, argument, file) {
         super(file === undefined ? text : `file ${file + 1}: ${text}`);
@@ -72,7 +75,7 @@ async function compiled(source) {
     if (!answer.ok) {
         throw new Error(`fontcut: ${answer.url} answers ${answer.status}`);
     }
-    // A browser compiles while the bytes arrive only where the server names their type.
+    // A browser compiles while the bytes arrive only if the server names their type.
     const isTyped = (answer.headers.get('content-type') ?? '').startsWith('application/wasm');
     return isTyped ? WebAssembly.compileStreaming(answer) : WebAssembly.compile(await answer.arrayBuffer());
 }
@@ -168,7 +171,7 @@ class Areas {
         return new DataView(this.#exports.memory.buffer, Number(at), length);
     }
 
-    // What a call of the module answers. Where it traps its memory may be half written, and is used no more.
+    // What a call of the module answers. If it traps, its memory may be half written, and is used no more.
     answer(name, ...given) {
         try {
             this.#exports[`fontcut_${name}`](this.#answer, ...given);
@@ -327,8 +330,8 @@ function integersOf(list, what) {
     return given;
 }
 
-// A Font was tested when it was made, so the calls that do not test it again are called.
-const untested = (name, font) => font instanceof Font ? `${name}_checked` : name;
+// The name of a call: for a Font, which was tested when it was made, the one that does not test it again.
+const checkedName = (name, font) => font instanceof Font ? `${name}_checked` : name;
 
 // Glyph numbers as C takes them: what is no glyph of any font is none of this one either.
 function glyphNumbersOf(list) {
@@ -339,7 +342,7 @@ function gidsOf(font, { gids = [] }) {
     return gids === 'all' ? Array.from({ length: info(font).glyphCount }, (_, i) => i) : glyphNumbersOf(gids);
 }
 
-// Whether cuts keep what GSUB may put, which they do where nothing is said.
+// Whether cuts keep what GSUB may put, which they do by default.
 const isClosedCut = ({ layoutClosure = true } = {}) => layoutClosure;
 
 // The closure of the ranges that `given` ends with and of glyphs, where so many others stand before these in all lists.
@@ -375,7 +378,7 @@ export function version() {
     return `${number >> 16}.${number >> 8 & 255}.${number & 255}`;
 }
 
-/** Returns where the font is accepted, and throws a FontcutError where it is not. */
+/** Returns if the font is accepted, and throws a FontcutError otherwise. */
 export function check(font) {
     within((areas) => { areas.done(areas.answer('check', ...areas.file(font))); });
 }
@@ -385,17 +388,17 @@ export function subsetSize(font, wanted) {
     const request = requestOf(font, wanted);
     return within((areas) => {
         const { name, given } = cutting(areas, font, request);
-        return areas.done(areas.answer(untested(`${name}_size`, font), ...given)).size;
+        return areas.done(areas.answer(checkedName(`${name}_size`, font), ...given)).size;
     });
 }
 
-/** The cut of a font for the wanted characters and glyphs. Characters that the font does not map are passed over. */
+/** The cut of a font for the wanted characters and glyphs. Characters that the font does not map are ignored. */
 export function subset(font, wanted) {
     const request = requestOf(font, wanted);
     return within((areas) => {
         const { name, given } = cutting(areas, font, request);
         // The room is just what the cut needs. The call that measures it tests the font, so the next one need not.
-        const { size } = areas.done(areas.answer(untested(`${name}_size`, font), ...given));
+        const { size } = areas.done(areas.answer(checkedName(`${name}_size`, font), ...given));
         return areas.written(size, 1, (...room) => areas.answer(`${name}_checked`, ...given, ...room));
     });
 }
@@ -483,7 +486,7 @@ export function codes(font) {
     return pairsIn(numbers);
 }
 
-/** The glyph of each character of a text, or of each code point, 0 where there is none. */
+/** The glyph of each character of a text, or of each code point, 0 if there is none. */
 export function glyphs(font, wanted) {
     const given = typeof wanted === 'string' ? charactersOf(wanted) : integersOf(wanted, 'code point');
     // No number above the last code point is mapped, and those below 0 are taken as such.
@@ -491,7 +494,7 @@ export function glyphs(font, wanted) {
     return new Uint16Array(within((areas) => {
         const [file, list] = [areas.file(font), areas.numbers(Uint32Array, known)];
         return areas.written(known.length, 2, (...room) =>
-            areas.answer(untested('glyphs', font), ...file, ...list, ...room));
+            areas.answer(checkedName('glyphs', font), ...file, ...list, ...room));
     }).buffer);
 }
 
@@ -501,7 +504,7 @@ export function metrics(font, glyphNumbers) {
     const view = new DataView(within((areas) => {
         const [file, list] = [areas.file(font), areas.numbers(Uint16Array, given)];
         return areas.written(given.length, 4, (...room) =>
-            areas.answer(untested('metrics', font), ...file, ...list, ...room));
+            areas.answer(checkedName('metrics', font), ...file, ...list, ...room));
     }).buffer);
     return given.map((_, i) => ({ advance: view.getUint16(4 * i, true), bearing: view.getInt16(4 * i + 2, true) }));
 }
@@ -526,13 +529,32 @@ export function cutForm(font, options) {
     return within((areas) => FORMS[areas.done(areas.answer('cut_form', kind, ...areas.file(font))).detail]);
 }
 
-/** Whether a file is a cut of a kind of a font, for some characters and glyphs. */
-export function belongs(cut, font, options) {
-    const kind = kindOf(options);
+// Whether a file is a cut of the kind of this number of a font.
+function isCutOf(cut, font, kind) {
     return within((areas) => {
         const files = [...areas.file(cut), ...areas.file(font)];
         return areas.done(areas.answer('belongs', kind, ...files), true).detail === 1;
     });
+}
+
+// The same, and false if one of the two is refused: a kind may refuse tables that full cuts do not read.
+function isCutIfAccepted(cut, font, kind) {
+    try {
+        return isCutOf(cut, font, kind);
+    } catch (error) {
+        if (error instanceof FontcutError && error.number !== NO_MEMORY) {
+            return false;
+        }
+        throw error;
+    }
+}
+
+/** Whether a file is a cut of a font for some characters and glyphs: of a kind, or of any if none is named. */
+export function belongs(cut, font, options) {
+    if (options?.kind !== undefined) {
+        return isCutOf(cut, font, kindOf(options));
+    }
+    return KINDS.some((kind, number) => number ? isCutIfAccepted(cut, font, number) : isCutOf(cut, font, number));
 }
 
 /** A font that stays in the module's memory and is tested once: each call takes it in the place of the bytes. */

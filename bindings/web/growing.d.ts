@@ -1,7 +1,7 @@
 import type { Kind } from './fontcut.js';
 
 export interface GrowingOptions {
-    /** 'lean' where it is not given. One of the kind 'layout' or 'variable' grows by all that a text needs. */
+    /** 'lean' by default. One of the kind 'layout' or 'variable' grows by all that a text needs. */
     kind?: Kind;
     /** Those of FontFace: weight, style and the like. A variable font has ranges in them: `{ weight: '100 900' }`. */
     descriptors?: FontFaceDescriptors;
@@ -13,8 +13,8 @@ export class GrowingFont {
     /** The bytes of the font as it is now, or undefined before the first text. */
     readonly bytes: Uint8Array | undefined;
     /**
-     * Returns when the font has what the text needs.
-     * @throws FontcutError where what the server sends is no cut, or a cut of another font; Error where a fetch fails
+     * Resolves when the font has what the text needs.
+     * @throws FontcutError if what the server sends is no cut, or a cut of another font; Error if a fetch fails
      */
     add(text: string): Promise<void>;
 }

@@ -1,4 +1,4 @@
-// A font of a page that grows with its text. Where the server sends the cuts that it is asked for, the font is byte for
+// A font of a page that grows with its text. If the server sends the cuts that it is asked for, the font is byte for
 // byte the cut for all characters so far.
 //
 //     import { GrowingFont } from 'fontcut/growing';
@@ -9,31 +9,16 @@
 // `&kind=layout` or `&kind=variable` in the place of `&lean=1` with the layout cut or the variable cut. These two grow
 // by all characters that a text needs.
 import { init, join } from './fontcut.js';
+import { SHAPED, rangeWords } from './kinds.js';
 import { needed } from './needed.js';
 
 // By its name what a query says of each kind of cut.
 const QUERIES = new Map([
     ['full', ''], ['lean', '&lean=1'], ['layout', '&kind=layout'], ['variable', '&kind=variable'],
 ]);
-// The kinds of fonts that are shaped.
-const SHAPED = ['layout', 'variable'];
 const MOST_RANGES = 500; // of one request, so that its query stays below 8,000 characters
 
 const isSurrogate = (code) => code >= 0xD800 && code <= 0xDFFF;
-const hexOf = (code) => code.toString(16).toUpperCase();
-
-// Code points in ascending order as words: 41 or 41-5A.
-function wordsOf(codes) {
-    const ranges = [];
-    for (const code of codes) {
-        if (ranges.length && code === ranges.at(-1)[1] + 1) {
-            ranges.at(-1)[1] = code;
-        } else {
-            ranges.push([code, code]);
-        }
-    }
-    return ranges.map(([first, last]) => first === last ? hexOf(first) : `${hexOf(first)}-${hexOf(last)}`);
-}
 
 export class GrowingFont {
     #family;
@@ -62,7 +47,7 @@ export class GrowingFont {
     }
 
     /**
-     * Returns when the font has what the text needs. Calls at the same time are done one after the other. Where one
+     * Resolves when the font has what the text needs. Calls at the same time are done one after the other. If one
      * fails, the font stays as it was, and the next call asks for these characters again.
      */
     add(text) {
@@ -78,7 +63,7 @@ export class GrowingFont {
         if (!missing.length) {
             return;
         }
-        const [parts] = await Promise.all([this.#fetched(wordsOf(missing)), init()]);
+        const [parts] = await Promise.all([this.#fetched(rangeWords(missing)), init()]);
         // A single part is joined too, so that what is no cut is refused. Cuts of another font are refused by the join.
         const bytes = join(this.#bytes ? [this.#bytes, ...parts] : parts, { kind: this.#kind });
         await this.#show(bytes);

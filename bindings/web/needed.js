@@ -110,7 +110,7 @@ function putIn(found) {
     ].filter(Boolean).join('');
 }
 
-/** The characters that a text needs, each once, in the order of their code points. Lone surrogates are passed over. */
+/** The characters that a text needs, each once, in the order of their code points. Lone surrogates are ignored. */
 export function needed(text) {
     const own = text.replace(/\p{Surrogate}/gu, ''), found = new Set(own);
     // No character of ASCII composes with those before it.

@@ -10,5 +10,9 @@ export type Handler = (request: Request) => Promise<Response>;
  */
 export function cutHandler(fonts: Readonly<Record<string, Bytes>>): Promise<Handler>;
 
-/** What `createServer` of node:http takes, for a function that answers a Request. */
+/**
+ * What `createServer` of node:http takes, for a function that answers a Request. A request that cannot be a Request is
+ * answered 400. If the function throws, or the body of its answer fails, the error goes to `console.error`, and the
+ * answer is 500; if headers were sent before, the connection is destroyed.
+ */
 export function listener(handle: Handler): (incoming: IncomingMessage, outgoing: ServerResponse) => Promise<void>;

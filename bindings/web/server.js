@@ -14,11 +14,11 @@
 import { createHash } from 'node:crypto';
 import { promisify } from 'node:util';
 import { brotliCompress, constants } from 'node:zlib';
-import { check, Font, FontcutError, init, ranges, subset } from './fontcut.js';
+import { Font, FontcutError, init, ranges, subset } from './fontcut.js';
+import { KINDS, SHAPED } from './kinds.js';
 import { needed } from './needed.js';
 
 const LONGEST_QUERY = 8000; // characters
-const KINDS = ['full', 'lean', 'layout', 'variable'], SHAPED = ['layout', 'variable'];
 const NO_MEMORY = 16;
 const HEADERS = {
     'Cache-Control': 'public, max-age=31536000, immutable', 'Content-Type': 'font/ttf',
@@ -86,7 +86,6 @@ function opened(data) {
     const bytes = ArrayBuffer.isView(data) ? new Uint8Array(data.buffer, data.byteOffset, data.byteLength)
         : new Uint8Array(data);
     try {
-        check(bytes);
         return { digest: digestOf(bytes), font: new Font(bytes) };
     } catch (error) {
         if (!(error instanceof FontcutError)) {
@@ -144,17 +143,40 @@ export async function cutHandler(fonts) {
     };
 }
 
-/** What `createServer` of node:http takes, for a function that answers a Request. */
+// The Request that a request of node:http stands for, or undefined if its URL or its headers cannot be one.
+function requestOf(incoming) {
+    try {
+        const url = new URL(incoming.url, `http://${incoming.headers.host ?? 'localhost'}`);
+        const headers = Object.entries(incoming.headers).map(([name, value]) => [name, String(value)]);
+        return new Request(url, { method: incoming.method, headers });
+    } catch {
+        return undefined;
+    }
+}
+
+/**
+ * What `createServer` of node:http takes, for a function that answers a Request. A request that cannot be a Request is
+ * answered 400. If the function throws, or the body of its answer fails, the error goes to `console.error`, and the
+ * answer is 500; if headers were sent before, the connection is destroyed.
+ */
 export function listener(handle) {
     return async (incoming, outgoing) => {
+        const request = requestOf(incoming);
+        if (!request) {
+            outgoing.writeHead(400).end();
+            return;
+        }
         try {
-            const url = new URL(incoming.url, `http://${incoming.headers.host ?? 'localhost'}`);
-            const headers = Object.entries(incoming.headers).map(([name, value]) => [name, String(value)]);
-            const answer = await handle(new Request(url, { method: incoming.method, headers }));
+            const answer = await handle(request), body = Buffer.from(await answer.arrayBuffer());
             outgoing.writeHead(answer.status, Object.fromEntries(answer.headers));
-            outgoing.end(Buffer.from(await answer.arrayBuffer()));
-        } catch {
-            outgoing.writeHead(outgoing.headersSent ? 200 : 400).end();
+            outgoing.end(body);
+        } catch (error) {
+            console.error(error);
+            if (outgoing.headersSent) {
+                outgoing.destroy(error);
+            } else {
+                outgoing.writeHead(500).end();
+            }
         }
     };
 }

@@ -8,6 +8,7 @@
 // The lists beside this file are fetched, or read in node, when they are first needed. They are those of the module for
 // Python, and lists/NOTICE.txt is Unicode's permission notice.
 import { codes, ranges } from './fontcut.js';
+import { rangeWords } from './kinds.js';
 
 // Each list by an address of its own, which bundlers see.
 const LISTS = {
@@ -63,20 +64,6 @@ async function linesOf(name) {
 const codesOf = (pairs) => pairs.flatMap(([first, last]) =>
     Array.from({ length: last - first + 1 }, (_, i) => first + i));
 const charactersOf = (text) => Array.from(text.replace(/[\s\uFEFF]/g, ''), (letter) => letter.codePointAt(0));
-
-// Codes in ascending order as a `unicode-range`.
-function wordsOf(given) {
-    const runs = [];
-    for (const code of given) {
-        if (runs.length && code === runs.at(-1)[1] + 1) {
-            runs.at(-1)[1] = code;
-        } else {
-            runs.push([code, code]);
-        }
-    }
-    const hex = (code) => code.toString(16).toUpperCase();
-    return runs.map(([first, last]) => first === last ? `U+${hex(first)}` : `U+${hex(first)}-${hex(last)}`).join(', ');
-}
 
 const numbered = (front, count) => Array.from({ length: count }, (_, i) =>
     `${front}${String(i + 1).padStart(String(count).length, '0')}`);
@@ -197,5 +184,5 @@ export async function slices(font, names, { order = '' } = {}) {
         throw new RangeError(`fontcut: two slices have the name ${twice}`);
     }
     const found = await inTurn(words, charactersOf(order), codesOf(codes(font)));
-    return found.map((one) => ({ name: one.name, unicodes: wordsOf(one.codes) }));
+    return found.map((one) => ({ name: one.name, unicodes: rangeWords(one.codes, 'U+').join(', ') }));
 }

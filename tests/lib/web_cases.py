@@ -97,6 +97,8 @@ def cuts_of(cases: Cases, name: str, font: bytes, kind: str, chance: random.Rand
     cases.add("join", [names[0], name], lambda: digest(library.join([parts[0], font], kind=kind)), kind=kind)
     cases.add("belongs", [names[0], name], lambda: library.belongs(parts[0], font, kind=kind), kind=kind)
     cases.add("belongs", [name, names[0]], lambda: library.belongs(font, parts[0], kind=kind), kind=kind)
+    cases.add("belongs", [names[0], name], lambda: library.belongs(parts[0], font))
+    cases.add("belongs", [name, names[0]], lambda: library.belongs(font, parts[0]))
     for file, data in (name, font), (names[0], parts[0]):
         cases.add("cutForm", [file], lambda: library._form(data, library._KINDS[kind]).name, kind=kind)
     return parts[0]
@@ -149,6 +151,7 @@ def of_broken(cases: Cases, data: bytes, good: tuple[str, bytes]) -> None:
     cases.add("closure", [name], lambda: library.closure(data, "AB", [1]), text="AB", gids=[1])
     cases.add("join", [good[0], name], lambda: digest(library.join([good[1], data], kind="lean")), kind="lean")
     cases.add("belongs", [name, good[0]], lambda: library.belongs(data, good[1], kind="lean"), kind="lean")
+    cases.add("belongs", [name, good[0]], lambda: library.belongs(data, good[1]))
 
 
 def make(folder: str, library: ModuleType, fonts: Iterable[str], small: bytes) -> list[Row]:

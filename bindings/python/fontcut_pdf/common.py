@@ -69,7 +69,8 @@ class Outcome(NamedTuple):
 
 
 def line(error: object) -> str:
-    """What an error says, in one line, without the name that `opened` gives all files. Raises `MemoryError` where it says that there is no memory."""
+    """What an error says, in one line, without the name that `opened` gives all files. Raises `MemoryError` if it says
+    that there is no memory."""
     text = re.sub(r"^(?:WARNING: )?file(?:: | (?=\())", "", " ".join(str(error).split())) or type(error).__name__
     if _OUT_OF_MEMORY.search(text):
         raise MemoryError(text)

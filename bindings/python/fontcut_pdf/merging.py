@@ -32,7 +32,8 @@ def _has_attachments(pdf: Pdf) -> bool:
 
 
 def not_kept(pdf: Pdf) -> List[str]:
-    """What a file has that its readers see and a merge does not keep: `title` and `attachments`. What is malformed is none."""
+    """What a file has that its readers see and a merge does not keep: `title` and `attachments`. Malformed ones do not
+    count."""
     try:
         found = {"title": _has_title(pdf), "attachments": _has_attachments(pdf)}
     except MALFORMED:

@@ -13,7 +13,7 @@ from fontcut_output import CommandParser, Progress, print_line, read, reason, wr
 from . import texts, use
 from .common import DISPLAYS, LAYOUT_TABLES, SHAPED, Missing, MissingProgram, Refused, UsageError, need, part
 from .presets import PARTS, SIZES, languages, web
-from .replaced import check_name, check_read, check_unpacked
+from .replaced import check_name, check_read, check_unpacked, check_whole
 from .sets import AUTO, MOST_EQUAL, WEB
 
 INSTALL = "pip install 'fontcut[web]'"
@@ -67,7 +67,8 @@ loads 2 to 12 slices, most of them small; with :{SIZES[1]}, as in {languages()[0
 --order FILE puts the characters of a text first, in their order there. In any order a page loads ten times the bytes
 of a cut for its text, or more: for text that is known, fontcut-web text is better.
 
-The scripts of FONT of which no character is in a slice are named, and with --strict nothing is written then.
+The scripts of FONT of which no character is in a slice are named, and with --strict nothing is written then. If a
+whole font would be replaced, nothing is written without --force.
 
 To a browser, slices are separate fonts: there is no kerning and no shaping across them. If that matters, put the
 characters of a script into one slice.
@@ -109,7 +110,8 @@ and a code, as home e88a. A name that is not there is refused, with the nearest 
 _PREPARE = """\
 Writes a font to OUT that has only what a site needs of FONT, and OUT.json, which says how it was made. Cuts of OUT are
 much smaller than cuts of FONT, and they join with each other. They do not join with cuts of FONT, or of a font that
-was prepared otherwise. Glyphs keep their numbers. The same options make the same file.
+was prepared otherwise. Glyphs keep their numbers. The same options make the same file. If OUT is another whole font,
+nothing is written without --force.
 
 What it is prepared for adds up:
   --languages LIST     the characters of languages by Unicode's CLDR, as de,fr,sr-Latn, with punctuation, currencies
@@ -173,12 +175,15 @@ def _dropped(given: argparse.Namespace) -> List[str]:
 def _run_slice(given: argparse.Namespace) -> None:
     need("fontTools", *["brotli"] if given.woff2 else [])
     slicing = part("slicing")
-    how = slicing.How(given.kind, given.woff2, given.css, given.display, given.strict, _dropped(given))
+    how = slicing.SliceOptions(given.kind, given.woff2, given.css, given.display, given.strict, _dropped(given))
     paths, wanted = use.fonts_and_slices(given)
     with Progress("fontcut-web") as progress:
         progress.say(f"reading {len(paths)} fonts")
         fonts = slicing.opened(paths, wanted, how)
-        check_read(given.fonts, slicing.paths_of(fonts, given.out, how))
+        written = slicing.paths_of(fonts, given.out, how)
+        check_read(given.fonts, written)
+        if not given.force:
+            check_whole(written)
         told = slicing.write_slices(fonts, given.out, how, progress)
     if given.json:
         print_line(json.dumps(told, indent=2))
@@ -235,7 +240,7 @@ def _add_slice(commands: argparse._SubParsersAction[CommandParser]) -> None:
         formatter_class=_RAW, epilog=_STATUS,
         usage="fontcut-web slice FONT.. --out DIR --slices SLICES [--lean | --layout | --variable | --full]\n"
               "                         [--drop TABLES] [--order FILE] [--woff2] [--css] [--display VALUE] [--strict]\n"
-              "                         [--quiet] [--json]")
+              "                         [--force] [--quiet] [--json]")
     command.add_argument("fonts", metavar="FONT", nargs="+")
     command.add_argument("--out", metavar="DIR", required=True, help="the folder that the files go to")
     command.add_argument("--slices", metavar="SLICES", action="append", required=True, help="a preset or a file")
@@ -249,6 +254,7 @@ def _add_slice(commands: argparse._SubParsersAction[CommandParser]) -> None:
                                                             "fonts and preloads the first slice")
     _display(command)
     command.add_argument("--strict", action="store_true", help="write nothing if a script of a FONT is in no slice")
+    command.add_argument("--force", action="store_true", help="write over whole fonts")
     command.add_argument("--quiet", action="store_true", help="do not say what the files lack of a FONT")
     command.add_argument("--json", action="store_true", help="print what was written")
     command.set_defaults(run=_run_slice)
@@ -320,8 +326,8 @@ def _add_prepare(commands: argparse._SubParsersAction[CommandParser]) -> None:
         "prepare", help="make a font smaller for a site, before it is cut", description=_PREPARE, formatter_class=_RAW,
         epilog=_STATUS,
         usage="fontcut-web prepare FONT OUT [--languages LIST] [--scripts LIST] [--unicodes LIST] [--features LIST]\n"
-              "                           [--no-hinting] [--instance LIST] [--names WHICH] [--kern WHEN] [--json]\n"
-              "                           [--pages PAGE..]")
+              "                           [--no-hinting] [--instance LIST] [--names WHICH] [--kern WHEN] [--force]\n"
+              "                           [--json] [--pages PAGE..]")
     command.add_argument("font", metavar="FONT")
     command.add_argument("out", metavar="OUT")
     for name in "languages", "scripts", "unicodes":
@@ -336,6 +342,7 @@ def _add_prepare(commands: argparse._SubParsersAction[CommandParser]) -> None:
                          help="keep all names of the font, or in English alone those that systems need (keep)")
     command.add_argument("--kern", choices=("auto", "keep", "drop"), default="auto",
                          help="keep the table kern: auto keeps it where GPOS has no kerning for a script (auto)")
+    command.add_argument("--force", action="store_true", help="write over another whole font")
     command.add_argument("--json", action="store_true", help="print OUT.json, and not what was dropped")
     command.set_defaults(run=_run_prepare)
 

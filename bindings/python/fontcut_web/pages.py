@@ -19,6 +19,8 @@ _INLINE = frozenset("""a abbr acronym b bdi bdo big cite code data del dfn em fo
 # Types of scripts that run, and of fields that readers write to.
 _RUNNING = "", "module", "text/javascript", "application/javascript"
 _WRITTEN = "", "text", "search", "email", "url", "tel", "password", "number", "date"
+# Values of the attribute contenteditable with which readers write to an element (HTML, contenteditable).
+_EDITED = "", "true", "plaintext-only"
 # What stands between words, beside the ends of lines.
 _CONTROLS = re.compile("[\0-\x09\x0b-\x20\x7f-\x9f]+")
 # What browsers add to elements: numbers of lists, and quotation marks.
@@ -99,7 +101,8 @@ class _Reader(HTMLParser):
         self.directions |= {"override"} if tag == "bdo" else {given.get("dir", "").lower()} & {"rtl"}
         if tag == "script" and given.get("type", "").lower() in _RUNNING or any(name[:2] == "on" for name in given):
             found["writers"].append("scripts")
-        if tag in ("textarea", "select") or tag == "input" and given.get("type", "").lower() in _WRITTEN:
+        is_field = tag in ("textarea", "select") or tag == "input" and given.get("type", "").lower() in _WRITTEN
+        if is_field or given.get("contenteditable", "false").lower() in _EDITED:
             found["writers"].append("fields")
         self.running.append(_MADE.get(tag, ""))
 

@@ -16,8 +16,8 @@ from fontcut_output import print_line, read, write
 from . import characters, preparing, shaping
 from .common import KINDS, Refused, UsageError
 from .inputs import accepted, as_file, mapped, read_pages
-from .preparing import How, Limit, Prepared
-from .replaced import is_same
+from .preparing import Limit, Prepared, PrepareOptions
+from .replaced import check_unpacked, is_same
 from .sets import range_words
 from .shaping import Setting, place_of
 
@@ -112,7 +112,7 @@ def _places(one: Prepared, limits: Mapping[str, Limit]) -> Iterator[Tuple[Dict[s
         yield {**pinned, **now}, now
 
 
-def _off(one: Prepared, how: How) -> Tuple[str, ...]:
+def _off(one: Prepared, how: PrepareOptions) -> Tuple[str, ...]:
     """The features that shapers use without being asked and a prepared font no longer has, as they are turned off."""
     gone = set() if how.features is None else set(preparing.default_features()) - set(how.features)
     gone |= {"kern"} if how.kern == "drop" else set()
@@ -120,7 +120,7 @@ def _off(one: Prepared, how: How) -> Tuple[str, ...]:
     return tuple(f"-{tag}" for tag in sorted(gone & had))
 
 
-def _check_shapes(path: str, font: fontcut.Font, one: Prepared, how: How, texts: Sequence[str]) -> None:
+def _check_shapes(path: str, font: fontcut.Font, one: Prepared, how: PrepareOptions, texts: Sequence[str]) -> None:
     """Raises `Refused` where texts are shaped otherwise by the prepared font, but for features that were dropped."""
     off, most = _off(one, how), _ROUNDED if how.limits else 0
     with tempfile.TemporaryDirectory() as folder, as_file(path, font) as whole:
@@ -140,6 +140,14 @@ def _is_prepared_from(path: str, font: str) -> bool:
     return False
 
 
+def _is_prepared(path: str) -> bool:
+    """Whether what stands beside a font says that it was prepared as it is."""
+    with contextlib.suppress(OSError, ValueError, LookupError, TypeError, RecursionError):
+        known: object = json.loads(read(f"{path}.json"))["out"]["sha256"]
+        return known == _digest(read(path))
+    return False
+
+
 def _check_out(given: argparse.Namespace) -> None:
     """Raises `UsageError` for an OUT that cannot be meant."""
     out = given.out
@@ -153,6 +161,8 @@ def _check_out(given: argparse.Namespace) -> None:
         raise UsageError(f"{out} is no file: OUT.json is written beside OUT")
     if _is_prepared_from(given.font, out):
         raise UsageError(f"{out} is the font, and {given.font} was prepared from it: nothing was written")
+    if not given.force and not _is_prepared(out):
+        check_unpacked(out, [])
 
 
 def _again(given: argparse.Namespace, codes: Sequence[int]) -> List[str]:
@@ -179,7 +189,7 @@ def _digest(data: bytes) -> str:
     return hashlib.sha256(data).hexdigest()
 
 
-def made_of(path: str, font: fontcut.Font, wanted: Wanted, how: How) -> Prepared:
+def made_of(path: str, font: fontcut.Font, wanted: Wanted, how: PrepareOptions) -> Prepared:
     """A font that is prepared, and accepted for each kind of cuts for which the font in a file is; where texts can be
     shaped, it shapes them as that font. Raises `Refused` otherwise."""
     try:
@@ -192,7 +202,7 @@ def made_of(path: str, font: fontcut.Font, wanted: Wanted, how: How) -> Prepared
     return one
 
 
-def _say(given: argparse.Namespace, wanted: Wanted, how: How, one: Prepared) -> None:
+def _say(given: argparse.Namespace, wanted: Wanted, how: PrepareOptions, one: Prepared) -> None:
     """Says on standard error what was dropped, and what the font lacks."""
     lines = list(preparing.dropped(one))
     if wanted.lacking:
@@ -214,7 +224,7 @@ def run(given: argparse.Namespace) -> None:
     features = preparing.features_of(given.features)
     font = accepted(given.font)
     wanted = _wanted(given, font)
-    how = How(wanted.codes, features, not given.no_hinting, limits, given.names, given.kern)
+    how = PrepareOptions(wanted.codes, features, not given.no_hinting, limits, given.names, given.kern)
     one = made_of(given.font, font, wanted, how)
     record = json.dumps(_record(given, read(given.font), wanted, one), indent=2, ensure_ascii=True) + "\n"
     write(given.out, one.data)

@@ -32,7 +32,7 @@ logging.getLogger("fontTools").addHandler(logging.NullHandler())
 Limit = Union[None, float, Tuple[float, float]]
 
 
-class How(NamedTuple):
+class PrepareOptions(NamedTuple):
     """What stays of a font: characters, features (all where it is `None`), hinting, axes, all names or the least, and
     table `kern`, always, never, or where GPOS has no kerning."""
 
@@ -125,7 +125,7 @@ def _kerned(table: Any, script: str) -> bool:
     return all(one and any(features[index].FeatureTag == _KERN for index in one.FeatureIndex) for one in languages)
 
 
-def _keeps_kern(font: TTFont, how: How, scripts: Iterable[str]) -> bool:
+def _keeps_kern(font: TTFont, how: PrepareOptions, scripts: Iterable[str]) -> bool:
     """Whether table `kern` stays."""
     if how.kern != "auto":
         return how.kern == "keep"
@@ -135,7 +135,7 @@ def _keeps_kern(font: TTFont, how: How, scripts: Iterable[str]) -> bool:
     return not table or not table.ScriptList or not all(_kerned(table, script) for script in scripts)
 
 
-def _options(how: How, keeps_kern: bool) -> Options:
+def _options(how: PrepareOptions, keeps_kern: bool) -> Options:
     """What fontTools is asked for."""
     options = Options(retain_gids=True, notdef_outline=True, hinting=how.hinting, legacy_kern=keeps_kern,
                       harfbuzz_repacker=False, layout_features=[_ALL] if how.features is None else list(how.features))
@@ -175,7 +175,7 @@ def _instance(data: bytes, limits: Mapping[str, Limit]) -> bytes:
     return _saved(font)
 
 
-def _subset(data: bytes, how: How, scripts: Iterable[str]) -> Prepared:
+def _subset(data: bytes, how: PrepareOptions, scripts: Iterable[str]) -> Prepared:
     """A font with the characters, features and names that are to stay."""
     font = TTFont(io.BytesIO(data), recalcBBoxes=False, recalcTimestamp=False, lazy=True)
     before = _counts(font, font["maxp"].numGlyphs)
@@ -189,7 +189,7 @@ def _subset(data: bytes, how: How, scripts: Iterable[str]) -> Prepared:
     return Prepared(made, before, _counts(TTFont(io.BytesIO(made), lazy=True), len(subsetter.glyphs_retained)))
 
 
-def prepared(data: bytes, how: How, scripts: Iterable[str]) -> Prepared:
+def prepared(data: bytes, how: PrepareOptions, scripts: Iterable[str]) -> Prepared:
     """A font that has what is to stay; its characters are of these scripts. Raises `Refused` where fontTools cannot
     read it, or an axis has other values."""
     try:

@@ -66,6 +66,13 @@ def check_read(paths: Sequence[str], written: Iterable[str]) -> None:
             raise UsageError(f"{out} is read, and would be replaced: name another folder")
 
 
+def check_whole(written: Iterable[str]) -> None:
+    """Raises `UsageError` where a file that is to be written is a font that is no cut."""
+    for out in written:
+        if is_whole_font(out):
+            raise UsageError(f"{out} is a font already, and no cut: name another folder; --force replaces {out}")
+
+
 def check_name(out: str, is_packed: bool) -> None:
     """Raises `UsageError` for an OUT that would not be what its name says. It may be WOFF2 where it is packed."""
     front, ending = os.path.splitext(out)

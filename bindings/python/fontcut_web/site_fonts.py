@@ -12,7 +12,7 @@ from .common import SHAPED, Refused
 from .faces import Face, face_of, is_variable, varying
 from .inputs import accepted, mapped
 from .prepare import made_of, wanted_of
-from .preparing import How
+from .preparing import PrepareOptions
 from .sets import range_words
 from .site_pages import EXACT, Modes, SitePage
 from .site_settings import FontSettings
@@ -91,7 +91,7 @@ def _prepared(run: Run, one: FontSettings, name: str, whole: fontcut.Font, pages
     codes, features = mapped(whole, letters), _features(one, pages)
     if not codes:
         raise Refused(f"{one.file}: it maps no character of its pages")
-    how = How(codes, features, one.hinting, preparing.limits_of(one.instance) if one.instance else {}, one.names,
+    how = PrepareOptions(codes, features, one.hinting, preparing.limits_of(one.instance) if one.instance else {}, one.names,
               one.kern)
     made = made_of(one.file, whole, wanted_of(whole, codes, letters, [page.shown.blocks for page in pages]), how)
     return FontState(digest(whole.data), _key(one, whole), run.place.put(run.place.work, name, ".ttf", made.data),

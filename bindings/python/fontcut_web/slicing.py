@@ -44,7 +44,7 @@ class Written(NamedTuple):
     woff2: Optional[Tuple[str, int]]
 
 
-class How(NamedTuple):
+class SliceOptions(NamedTuple):
     """How slices are written: of which kind of cut, and what besides; and the tables that fonts are taken to lack."""
 
     kind: str = "lean"
@@ -55,7 +55,7 @@ class How(NamedTuple):
     drop: Sequence[str] = ()
 
 
-def accepted(path: str, how: How) -> fontcut.Font:
+def accepted(path: str, how: SliceOptions) -> fontcut.Font:
     """The font in a file without the tables that are dropped, of which cuts can be made."""
     data = font_of(path)
     with refusing(path):
@@ -78,7 +78,7 @@ def _base(path: str, slices: Sequence[Slice], taken: Set[str]) -> str:
     return base
 
 
-def opened(paths: Sequence[str], asked: Sequence[Asked], how: How) -> List[Font]:
+def opened(paths: Sequence[str], asked: Sequence[Asked], how: SliceOptions) -> List[Font]:
     """The fonts and their slices. Raises `Refused` where one is refused, or maps none of the characters, or where two
     could not be told apart in a style sheet."""
     found: List[Font] = []
@@ -124,7 +124,7 @@ def _cuts(font: Font, kind: str) -> Iterator[Tuple[Slice, bytes]]:
         yield from zip(some, cuts)
 
 
-def _slices(fonts: Sequence[Font], folder: str, how: How, progress: Progress) -> Iterator[List[Written]]:
+def _slices(fonts: Sequence[Font], folder: str, how: SliceOptions, progress: Progress) -> Iterator[List[Written]]:
     """Writes the slices of each font."""
     count, number = sum(len(font.slices) for font in fonts), 0
     for font in fonts:
@@ -138,14 +138,14 @@ def _slices(fonts: Sequence[Font], folder: str, how: How, progress: Progress) ->
         yield made
 
 
-def paths_of(fonts: Sequence[Font], folder: str, how: How) -> List[str]:
+def paths_of(fonts: Sequence[Font], folder: str, how: SliceOptions) -> List[str]:
     """The paths of all files that are written for fonts."""
     endings = [".ttf", ".woff2"] if how.woff2 else [".ttf"]
     names = [f"{font.base}-{one.name}{ending}" for font in fonts for one in font.slices for ending in endings]
     return [os.path.join(folder, name) for name in [*names, *([SHEET, PAGE] if how.css else [])]]
 
 
-def write_slices(fonts: Sequence[Font], folder: str, how: How, progress: Progress) -> Dict[str, object]:
+def write_slices(fonts: Sequence[Font], folder: str, how: SliceOptions, progress: Progress) -> Dict[str, object]:
     """Writes the slices of fonts to a folder, and then, where they are wanted, a style sheet and a page. Returns what
     was written, as `--json` prints it."""
     os.makedirs(folder, exist_ok=True)

@@ -19,12 +19,12 @@ from .sets import Slice, range_words
 
 
 class Cut(NamedTuple):
-    """A cut of a font, its characters, and what is said of it beside them; in exact cuts with its glyphs."""
+    """A cut of a font and its characters; what `--json` reports of it beside them, as its glyphs, and lines that warn."""
 
     data: bytes
     codes: List[int]
-    told: Dict[str, object]
-    said: List[str]
+    report: Dict[str, object]
+    warnings: List[str]
 
 
 def _closed(given: argparse.Namespace, font: fontcut.Font, read: Sequence[pages.Page]) -> Cut:
@@ -128,10 +128,10 @@ def run(given: argparse.Namespace) -> None:
         part("drawn").check(paths, font.data, data)
     write(out, data)
     notices = _dropped(given, source, font, cut)
-    told = {**cut.told, **(_write_sheet(given, font, source, cut.codes) if given.css else {})}
+    told = {**cut.report, **(_write_sheet(given, font, source, cut.codes) if given.css else {})}
     if given.json:
         print_line(json.dumps({"file": out, "bytes": len(data), "characters": len(cut.codes),
                                "unicode_range": range_words(cut.codes), "lacking": range_words(lacking),
                                "notices": notices, **told}, indent=2))
-    for line in [] if given.json or given.quiet else [*cut.said, *notices]:
+    for line in [] if given.json or given.quiet else [*cut.warnings, *notices]:
         print(f"fontcut-web: {line}", file=sys.stderr)

@@ -162,7 +162,7 @@ extern "C" {
 }
 
 /// An empty vector with room for so many elements, or the answer that memory is refused. A vector that asks for its room
-/// by itself ends the process where it is refused.
+/// by itself ends the process if it is refused.
 fn with_room<T>(room: usize) -> Result<Vec<T>, Answer> {
     let mut out = Vec::new();
     match out.try_reserve_exact(room) {
@@ -181,7 +181,7 @@ fn with_room<T>(room: usize) -> Result<Vec<T>, Answer> {
 /// # Safety
 ///
 /// Where it is given a place and a room, `call` writes to no more than so many elements from that place on, and
-/// where it answers `DONE` it has written the first `size` of them.
+/// if it answers `DONE` it has written the first `size` of them.
 pub(crate) unsafe fn filled<T>(
     room: usize,
     call: impl Fn(*mut T, usize) -> Answer,

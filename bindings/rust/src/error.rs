@@ -35,7 +35,7 @@ pub struct Error {
 }
 
 impl Error {
-    /// The number of the refusal, as `fontcut` prints it and docs/FORMAT.md lists it; or 102 or 104, where glyphs are
+    /// The number of the refusal, as `fontcut` prints it and docs/FORMAT.md lists it; or 102 or 104, if glyphs are
     /// wanted that the font or the kind of cuts does not have.
     #[must_use]
     pub fn number(&self) -> u32 {
@@ -54,7 +54,7 @@ impl Error {
         self.argument
     }
 
-    /// The index, from 0, of the file that is refused, where several were given.
+    /// The index, from 0, of the file that is refused, if several were given.
     #[must_use]
     pub fn file(&self) -> Option<usize> {
         self.file

@@ -31,7 +31,7 @@ impl Font<'_> {
     }
 
     /// The cut of a kind for just what is wanted, and the components of that. Characters that the font does not map are
-    /// passed over.
+    /// ignored.
     ///
     /// Whoever has shaped a text has its glyphs: with these, and with the characters that docs/FORMAT.md says a text
     /// needs, the cut shapes the text that it was made for, and is smaller than that of [`Font::cut`], which has each
@@ -41,8 +41,8 @@ impl Font<'_> {
     ///
     /// # Errors
     ///
-    /// 104 where glyphs are wanted of [`Kind::Full`], whose cuts are for characters alone, and 102 where the font has
-    /// no glyph of a number. 16 where memory is refused, and 18 where the cut would be too large for a file. Of
+    /// 104 if glyphs are wanted of [`Kind::Full`], whose cuts are for characters alone, and 102 if the font has
+    /// no glyph of a number. 16 if out of memory, and 18 if the cut would be too large for a file. Of
     /// [`Kind::Layout`] also 5 and 6, and of [`Kind::Variable`] 5, 6 and 28.
     ///
     /// ```
@@ -156,7 +156,7 @@ impl Font<'_> {
     ///
     /// # Errors
     ///
-    /// 102 where the font has no glyph of a number, and 16 where memory is refused. Of [`Kind::Layout`] also 5, 6 and
+    /// 102 if the font has no glyph of a number, and 16 if out of memory. Of [`Kind::Layout`] also 5, 6 and
     /// 27, and of [`Kind::Variable`] 5, 6, 27 and 28.
     ///
     /// ```
@@ -201,7 +201,7 @@ impl Font<'_> {
     ///
     /// # Errors
     ///
-    /// 16 where memory is refused. Of [`Kind::Layout`] also 5 and 6, and of [`Kind::Variable`] 5, 6 and 28.
+    /// 16 if out of memory. Of [`Kind::Layout`] also 5 and 6, and of [`Kind::Variable`] 5, 6 and 28.
     pub fn kept_glyphs(&self, kind: Kind) -> Result<Vec<u16>, Error> {
         let font = self.bytes;
         // SAFETY: as in `closure`.

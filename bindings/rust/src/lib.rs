@@ -48,17 +48,17 @@ pub enum Kind {
     Full = 0,
     /// Lean cuts: zeros for the metrics of glyphs that are not kept, and no names of glyphs.
     Lean = 1,
-    /// Layout cuts: lean cuts with the tables of layout (`BASE`, `GDEF`, `GPOS`, `GSUB` and `kern`, without their parts
+    /// Layout cuts: lean cuts with the layout tables (`BASE`, `GDEF`, `GPOS`, `GSUB` and `kern`, without their parts
     /// for variable fonts), and with each glyph that `GSUB` may put for those of the wanted characters.
     ///
     /// A call for them reads these tables, and refuses a font that is accepted as such: by 5 or 6 for one of them, and
-    /// by 27 where links of `GSUB` are to be followed and it cannot be read.
+    /// by 27 if links of `GSUB` are to be followed and it cannot be read.
     Layout = 2,
-    /// Variable cuts: layout cuts that keep variations, with the tables of layout whole, with `fvar`, `avar`, `cvar`,
+    /// Variable cuts: layout cuts that keep variations, with the layout tables whole, with `fvar`, `avar`, `cvar`,
     /// `HVAR`, `MVAR`, `STAT` and `VVAR`, and with `gvar` for the glyphs that are kept.
     ///
     /// A call for them reads these tables too, and refuses a font that is accepted as such: by 5 or 6 for one of them,
-    /// by 27 as layout cuts are, and by 28 where `gvar` cannot be read.
+    /// by 27 as layout cuts are, and by 28 if `gvar` cannot be read.
     Variable = 3,
 }
 
@@ -95,17 +95,17 @@ impl<'a> Font<'a> {
         self.bytes
     }
 
-    /// The cut of a kind for the wanted characters. Those that the font does not map are passed over. Layout and
+    /// The cut of a kind for the wanted characters. Those that the font does not map are ignored. Layout and
     /// variable cuts have each glyph that `GSUB` may put for them, for text of these characters in any order;
     /// [`Font::exact_cut`] has just what is asked for.
     ///
     /// # Errors
     ///
-    /// 16 where memory is refused, and 18 where the cut would be too large for a file. Of [`Kind::Layout`] also 5, 6
+    /// 16 if out of memory, and 18 if the cut would be too large for a file. Of [`Kind::Layout`] also 5, 6
     /// and 27, and of [`Kind::Variable`] 5, 6, 27 and 28.
     pub fn cut(&self, kind: Kind, wanted: &Ranges) -> Result<Cut, Error> {
         let (font, ranges) = (self.bytes, wanted.as_slice());
-        // A cut is seldom longer than its font; where it is, the call says how long.
+        // A cut is seldom longer than its font; if it is, the call says how long.
         let room = font.len().saturating_add(4096);
         // SAFETY: `new` has accepted these bytes, which nobody changes while they are borrowed. The places and lengths are
         // those of slices; the call writes to its room alone, which is a vector's own, and to the front of it as many
@@ -205,7 +205,7 @@ impl<'a> Font<'a> {
     ///
     /// # Errors
     ///
-    /// 16 where memory is refused.
+    /// 16 if out of memory.
     pub fn codes(&self) -> Result<Ranges, Error> {
         let font = self.bytes;
         // SAFETY: as in `cut`; a range of C has two numbers of 32 bits, as ours has.
@@ -221,7 +221,7 @@ impl<'a> Font<'a> {
     ///
     /// # Errors
     ///
-    /// 16 where memory is refused. Of [`Kind::Layout`] also 5 and 6, and of [`Kind::Variable`] 5, 6 and 28.
+    /// 16 if out of memory. Of [`Kind::Layout`] also 5 and 6, and of [`Kind::Variable`] 5, 6 and 28.
     pub fn form(&self, kind: Kind) -> Result<Option<Form>, Error> {
         // SAFETY: the place and the length are those of a slice, which the call reads.
         let answer =
@@ -237,7 +237,7 @@ impl<'a> Font<'a> {
     ///
     /// # Errors
     ///
-    /// 16 where memory is refused. Of [`Kind::Layout`] also 5 and 6, and of [`Kind::Variable`] 5, 6 and 28, with 0 as
+    /// 16 if out of memory. Of [`Kind::Layout`] also 5 and 6, and of [`Kind::Variable`] 5, 6 and 28, with 0 as
     /// the file for this font, and 1 for the other one.
     pub fn is_cut_of(&self, kind: Kind, font: &Font<'_>) -> Result<bool, Error> {
         // SAFETY: the places and lengths are those of slices, which the call reads.
@@ -258,7 +258,7 @@ impl<'a> Font<'a> {
         }
     }
 
-    /// The glyph to which the font maps each character or code point, in their order: 0 where it maps one to none.
+    /// The glyph to which the font maps each character or code point, in their order: 0 if it maps one to none.
     ///
     /// ```
     /// # fn main() -> Result<(), Box<dyn std::error::Error>> {
@@ -321,8 +321,7 @@ impl<'a> Font<'a> {
     pub fn metrics(&self, glyphs: &[u16]) -> Result<Vec<Metric>, NoGlyph> {
         let mut metrics = vec![Metric::default(); glyphs.len()];
         // SAFETY: `new` has accepted these bytes; the places and lengths are those of slices; the call writes to
-        // `metrics` alone, and a metric of C has
-        // two numbers of 16 bits, as ours has.
+        // `metrics` alone, and a metric of C has two numbers of 16 bits, as ours has.
         let answer = unsafe {
             let (first, count) = (glyphs.as_ptr(), glyphs.len());
             calls::fontcut_metrics_checked(
@@ -385,10 +384,10 @@ pub fn version() -> (u8, u8, u8) {
 ///
 /// # Errors
 ///
-/// The first refusal that applies, with the index of the file: 1 to 14 and 17 where it is no font that is accepted, 5
-/// and 6 for its tables of layout, of [`Kind::Layout`] and [`Kind::Variable`] alone, 28 for its `gvar`, of the latter
-/// alone, 20 where it is no cut of the kind, 21 to 23 where it is no cut of the font of those before it, 18 where the
-/// join would be too large for a file, 24 where there is no file, 16 where memory is refused.
+/// The first refusal that applies, with the index of the file: 1 to 14 and 17 if it is not an accepted font, 5
+/// and 6 for its layout tables, of [`Kind::Layout`] and [`Kind::Variable`] alone, 28 for its `gvar`, of the latter
+/// alone, 20 if it is not a cut of the kind, 21 to 23 if it is not a cut of the font of those before it, 18 if the
+/// join would be too large for a file, 24 if there is no file, 16 if out of memory.
 pub fn join<I>(kind: Kind, cuts: I) -> Result<Cut, Error>
 where
     I: IntoIterator,
