@@ -7,7 +7,7 @@ from typing import Iterable, NamedTuple, Optional, Sequence
 
 from checks import BABELSTONE, DEJAVU, FREEFONT, HANAZONO, LIBERATION, PROGRAM, check, end, read, run, skip
 from font_reading import table, u16
-from join_timing import COUNTS, SOURCE, Joined, time_join
+from join_timing import COUNTS, SOURCE, Joined, cuts_to_join, time_join
 from timing import (BENCHES, IDEOGRAPHS, LIB, Called, Timed, calls_in_turn, compiled, compiled_calls, in_turn,
                     put_ranges)
 
@@ -205,7 +205,12 @@ class Bench:
         if not os.path.exists(SOURCE):
             skip("joins", "Debian's package fonts-lxgw-wenkai is not installed")
             return []
-        return [time_join(self.folder, count, self.sum_and_write, self.runs) for count in self.effort.joins]
+        return list(map(self.joined, self.effort.joins))
+
+    def joined(self, count: int) -> Joined:
+        """The join of so many cuts."""
+        with cuts_to_join(self.folder, count) as cuts:
+            return time_join(cuts, self.sum_and_write, self.runs)
 
     def nothing(self) -> Timed:
         """What a program takes that does nothing."""

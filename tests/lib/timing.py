@@ -59,6 +59,11 @@ def timed(words: Iterable[str]) -> Timed:
     return Timed(least / 1e6, median / 1e6, processor / 1e6, processor_median / 1e6, peak)
 
 
+def least_of(one: Timed, other: Timed) -> Timed:
+    """The least times that two measurements of a program found, and the most memory."""
+    return Timed(*map(min, one[:4], other[:4]), max(one.peak, other.peak))
+
+
 def harfbuzz() -> Optional[list[str]]:
     """The words that a C program is compiled with to call HarfBuzz's subsetter, or None where that cannot be had."""
     try:
