@@ -57,7 +57,7 @@ pub record BreaksAfter {R : Type 0} (remaining : R → Option (List ℕ)) (old n
   pub before : AllWithin IsSpent new 0 at
   pub behind : drop (at + 1) new ≡ drop (at + 1) old
 
--- how inlets are left that were not all read: a read failed, or memory was refused
+-- how inlets are left that were not all read: a read failed, or memory ran out
 abbrev pub ReadStops : {R : Type 0} (remaining : R → Option (List ℕ)) (old new : List (Inlet R)) → RunError →
     Type 0
 ReadStops remaining old new (Read count) = BreaksAfter remaining old new count

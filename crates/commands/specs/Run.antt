@@ -212,7 +212,7 @@ of_cut_error cut_errors.NoMemory = Memory
 of_cut_error (cut_errors.TooLarge size) = TooLarge size
 of_cut_error (cut_errors.WriteFault count) = Write count
 
--- the error of a run whose files were not joined: wherever memory is refused it is one and the same
+-- the error of a run whose files were not joined: out of memory is one and the same error at each step
 abbrev pub of_join_error : JoinAllError → RunError
 of_join_error (At step join_errors.NoMemory) = Memory
 of_join_error error = Join error

@@ -21,7 +21,7 @@ pub use crate::drop_tables::without_tables;
 pub use crate::join::{run_join, run_join_of_kind};
 pub use crate::mapped_codes::{codes_laws, next_range, run_codes};
 pub use crate::mapped_glyphs::{glyphs_law, run_glyphs};
-pub use crate::run_error::{NO_GLYPH, RunError};
+pub use crate::run_error::{NO_GLYPH, RunError, no_glyph_number_is};
 pub use crate::show::run_show;
 pub use crate::subset::{
     run_subset, run_subset_of_font, run_subset_of_kind, run_subset_of_request,

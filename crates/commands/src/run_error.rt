@@ -3,6 +3,7 @@ ghost use Rattle.std.specs.Prelude.{◌≡◌, false, true, take, IfErr, OnErr, 
 ghost use Rattle.streams.specs.Outlet.{IsFlushed, WentOut, broken_of, fresh_of, written_of};
 ghost use Rattle.commands.specs.Run.{of_cut_error, of_join_error, of_join_into_error, of_open_error, of_read_error, run_error_number};
 ghost use Rattle.commands.specs.declared.run_error.RunError.TheVariants.{Font, Memory, Write};
+ghost use Rattle.commands.specs.declared.run_error.TheConstants.{NO_GLYPH as NO_GLYPH_NUMBER};
 
 use font_file::FontError;
 use font_join::{JoinAllError, JoinAllIntoError, JoinError, Which};
@@ -14,6 +15,11 @@ use thiserror::Error;
 
 /// The number of the refusal of a number that is no glyph, which is its status for C too.
 pub const NO_GLYPH: u8 = 102;
+
+/// `NO_GLYPH` is this number.
+pub fn no_glyph_number_is()
+    ensures { NO_GLYPH_NUMBER ≡ 102 }
+{}
 
 /// Why a run was not done.
 #[derive(Clone, Copy, Debug, PartialEq, Eq, Error)]

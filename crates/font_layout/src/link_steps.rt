@@ -38,7 +38,7 @@ impl<'a> Iterator for LinkSteps<'a> {
 
     ghost remaining = { item_count (λ s. s) };
 
-    // As a call it costs a step of the walk a copy of what it answers.
+    // A call would copy each link that it returns.
     #[inline(always)]
     fn next(&mut self) -> Option<Link> {
         loop {

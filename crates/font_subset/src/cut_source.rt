@@ -1,6 +1,6 @@
 //! What a full cut is made of: a font, the codes that are wanted of it, and the glyphs that these keep.
 //! OpenType 1.9, cmap; glyf, Composite Glyph Description.
-ghost use Rattle.std.specs.Prelude.{◌≡◌, None, Some, IfOk, OnErr};
+ghost use Rattle.std.specs.Prelude.{◌≡◌, Some, IfOk, OnErr};
 ghost use Rattle.sfnt_bytes.specs.Memory.{IsRefused};
 
 use crate::selection::Selection;
@@ -55,19 +55,6 @@ impl<'f, 'a, A: Memory + Copy> CutOf<'f, 'a, A> {
         ensures memory { OnErr result (IsRefused A.refuses) }
     {
         let selection = Selection::full(alloc, font, Some(wanted))?;
-        Ok(CutOf { selection })
-    }
-
-    /// Returns the content of the cut of a font for all codes.
-    ///
-    /// # Errors
-    ///
-    /// `NoMemory` if out of memory.
-    pub fn for_all_codes(alloc: A, font: &'f Font<'a>) -> Result<CutOf<'f, 'a, A>, NoMemory>
-        ensures source { IfOk result (λ source. source ≡ (font.entry.now, None)) }
-        ensures memory { OnErr result (IsRefused A.refuses) }
-    {
-        let selection = Selection::full(alloc, font, None)?;
         Ok(CutOf { selection })
     }
 }

@@ -27,7 +27,7 @@ fn added(alloc: Global, ranges: &[CodeRange]) -> Result<Wanted, NoMemory>
 {
     let mut wanted = Wanted::new(alloc);
     for range in ranges {
-        // No range is bad, so it is memory that is refused.
+        // No range is bad, so memory has run out.
         if wanted.add(range.first, range.last).is_err() {
             return Err(NoMemory);
         }

@@ -5,7 +5,7 @@ ghost use Rattle.sfnt_bytes.specs.Directory.{slot_tag};
 ghost use Rattle.sfnt_bytes.specs.Sums.{SumOfParts};
 ghost use Rattle.sfnt_bytes.specs.declared.directory.TheConstants.{MAX_FILE};
 ghost use Rattle.sfnt_bytes.specs.declared.numbers.TheConstants.{BAD_CMAP, BAD_GLYPH, BAD_HEAD, BAD_HHEA, BAD_HMTX, BAD_LAYOUT, BAD_LOCA, BAD_MAXP, BAD_RANGE, BAD_VARIATIONS, BAD_WORD, COLLECTION, DIFFERENT_GLYPH, DIFFERENT_MAPPING, DIFFERENT_TABLE, DUPLICATE_TABLE, FILE_TOO_LARGE, MISSING_TABLE, NOTHING_TO_JOIN, NOT_A_CUT, NOT_TRUETYPE, NO_MAPPING, NO_MEMORY, READ_FAULT, TABLE_OUT_OF_FILE, TOO_LARGE, TRUNCATED, WRITE_FAULT};
-ghost use Rattle.sfnt_bytes.specs.declared.tag.TheConstants.{CMAP, GLYF, HEAD, HEAD_TAG, HHEA, HMTX, LAYOUT, LAYOUT_AND_VARIATIONS, LOCA, MAXP, POST, SLOTS, VHEA, VMTX};
+ghost use Rattle.sfnt_bytes.specs.declared.tag.TheConstants.{ALL_SLOTS, CMAP, FIRST_VARIATION, GLYF, HEAD, HEAD_TAG, HHEA, HMTX, IN_ORDER, LAYOUT, LAYOUT_AND_VARIATIONS, LOCA, MAXP, POST, SLOTS, VHEA, VMTX};
 
 /// The checksum of bytes whose length is a multiple of 4, followed by others, is the sum modulo 2^32 of
 /// the checksums of both. So a file can be summed table by table, each table padded, while it is sent.
@@ -34,6 +34,18 @@ pub fn other_tags_are()
         × (map (λ tag. tag.0) LAYOUT_AND_VARIATIONS ≡ codes "BASE" ∷ codes "GDEF" ∷ codes "GPOS" ∷ codes "GSUB"
         ∷ codes "HVAR" ∷ codes "MVAR" ∷ codes "STAT" ∷ codes "VVAR" ∷ codes "avar"
         ∷ codes "cvar" ∷ codes "fvar" ∷ codes "gvar" ∷ codes "kern" ∷ []) × (HEAD_TAG.0 ≡ codes "head") }
+{}
+
+/// The tables of a cut stand in the order of `IN_ORDER`, which is ascending by tag; those of variations have the slots
+/// from 21 on.
+pub fn slots_in_order_are()
+    ensures { (ALL_SLOTS ≡ 29) × (FIRST_VARIATION ≡ 21)
+        × (map (λ slot. (slot_tag slot).0) IN_ORDER ≡ codes "BASE" ∷ codes "GDEF" ∷ codes "GPOS" ∷ codes "GSUB"
+        ∷ codes "HVAR" ∷ codes "MVAR" ∷ codes "OS/2" ∷ codes "STAT" ∷ codes "VVAR" ∷ codes "avar"
+        ∷ codes "cmap" ∷ codes "cvar" ∷ codes "cvt " ∷ codes "fpgm" ∷ codes "fvar" ∷ codes "gasp"
+        ∷ codes "glyf" ∷ codes "gvar" ∷ codes "head" ∷ codes "hhea" ∷ codes "hmtx" ∷ codes "kern"
+        ∷ codes "loca" ∷ codes "maxp" ∷ codes "name" ∷ codes "post" ∷ codes "prep" ∷ codes "vhea"
+        ∷ codes "vmtx" ∷ []) }
 {}
 
 /// A file has at most this number of bytes.

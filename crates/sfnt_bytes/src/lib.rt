@@ -19,7 +19,8 @@ pub use crate::base6::BASE6;
 pub use crate::directory::{DirError, Directory, MAX_FILE, NoMemory, search_fields};
 pub use crate::findings::{Finding, Findings};
 pub use crate::laws::{
-    file_limit_is, kept_slots_are, other_tags_are, refusal_numbers_are, sum_of_parts,
+    file_limit_is, kept_slots_are, other_tags_are, refusal_numbers_are, slots_in_order_are,
+    sum_of_parts,
 };
 pub use crate::memory::Memory;
 pub use crate::number::{be16, be32};

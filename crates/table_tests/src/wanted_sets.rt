@@ -1,4 +1,4 @@
-//! Wanted sets, that they stay right where memory is refused, and the runs of a mapping on one.
+//! Wanted sets, that they stay right if memory runs out, and the runs of a mapping on one.
 use fakes::Refusing;
 use font_map::{CodeRange, Groups, Mapping, Run, Wanted, WantedError, WordError};
 use sfnt_bytes::{BASE6, NoMemory};
