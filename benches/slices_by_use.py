@@ -126,7 +126,7 @@ def css_sizes(slices: Sequence[sets.Slice]) -> tuple[int, int]:
     """The bytes of the style sheet of slices, as it is and after Brotli."""
     face = Face("Font", "normal", "400", "100%")
     placed = [sheet.Placed(one, f"Font-{one.name}.woff2") for one in slices]
-    text = sheet.style_sheet([sheet.Styled(face, face, placed)], "swap").encode()
+    text = sheet.style_sheet([sheet.Styled(face, face, placed)], "swap", "slice").encode()
     packed = woff.compressed_size(text)
     return len(text), packed or 0
 

@@ -215,9 +215,9 @@ fontcut_answer fontcut_cuts_glyphs(uint32_t kind, const uint8_t *font, size_t fo
 /* Writes the glyphs that a shaper may put to the front of `out`, ascending: those that GSUB, as cuts of a fontcut_kind keep
  * it, leads to from .notdef, from the glyphs of the codes of the ranges, and from these glyphs; size: how many they are.
  * With these and the ranges fontcut_subset_glyphs makes a cut for text of the characters in whatever order and with
- * whatever features; without glyphs given it is the cut of fontcut_subset, byte for byte. `room` is in glyphs, of which a
- * font has 65,535 at most. Statuses: 101; those of fontcut_check, then 15, 102, for FONTCUT_LAYOUT 5, 6 and 27, for
- * FONTCUT_VARIABLE 5, 6, 27 and 28, then 16, 100. */
+ * whatever features; without glyphs given it is the cut of fontcut_subset, byte for byte, but for FONTCUT_FULL. `room` is
+ * in glyphs, of which a font has 65,535 at most. Statuses: 101; those of fontcut_check, then 15, 102, for FONTCUT_LAYOUT
+ * 5, 6 and 27, for FONTCUT_VARIABLE 5, 6, 27 and 28, then 16, 100. */
 fontcut_answer fontcut_closure(uint32_t kind, const uint8_t *font, size_t font_length, const fontcut_range *ranges,
                                size_t range_count, const uint16_t *glyphs, size_t glyph_count, uint16_t *out,
                                size_t room);
@@ -279,11 +279,11 @@ fontcut_answer fontcut_is_cut_of(const uint8_t *cut, size_t cut_length, const ui
 
 /* Writes the join of all files, cuts of one font and of a fontcut_kind in any order, to the front of `out`: that font's
  * cut for all their codes and glyphs, and of any files the least one of which all are cuts; size: its bytes. Full cuts
- * may come in either form, and what is written is of today. Statuses: 101; 24; of the first file that is refused, with
+ * may come in either form; the join is written in the current one. Statuses: 101; 24; of the first file that is refused, with
  * its index as step, those of fontcut_check, for FONTCUT_LAYOUT 5 and 6, for FONTCUT_VARIABLE 5, 6 and 28, then 20, 21
  * to 23 where it differs from the join of the files before it, and 18 where the join with it is too large; 16, with the
- * index of the file that was being joined as step; 100. But for 1, 16, 18 and 24 a refusal means that no file has all as
- * cuts. */
+ * index of the file that was being joined as step; 100. But for 1, 16, 18, 24 and those from 100 on, a refusal means that no
+ * file has all as cuts. */
 fontcut_answer fontcut_join(uint32_t kind, const fontcut_bytes *files, size_t file_count, uint8_t *out, size_t room);
 
 FONTCUT_DEPRECATED("call fontcut_join")

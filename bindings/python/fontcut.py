@@ -353,7 +353,7 @@ _LOOKS_LIKE_RANGES = re.compile(rf"\s*(?:unicode-range:\s*)?{_PREFIXED}(?:[\s,;]
 
 
 def _warn_of_ranges(text: str) -> None:
-    """Warns whoever called `cut`, `cut_size`, `slices` or `missing` of a text that was probably meant as ranges."""
+    """Warns the caller of `cut`, `cut_size`, `slices`, `closure` or `missing` of a text that probably means ranges."""
     if _LOOKS_LIKE_RANGES.fullmatch(text):
         shown = text if len(text) <= 40 else text[:40] + ".."
         warnings.warn(f"{shown!r} is taken as characters: for its ranges write fontcut.ranges({shown!r})", FontcutWarning,
@@ -464,8 +464,13 @@ class Font:
     def __init__(self, data: Bytes):
         if isinstance(data, (str, os.PathLike)):
             raise TypeError(f"a font is given as its bytes, and not as the path {data!r}")
-        self.data = data if isinstance(data, bytes) else bytes(memoryview(data).cast("B"))
-        check(self.data)
+        self._data = data if isinstance(data, bytes) else bytes(memoryview(data).cast("B"))
+        check(self._data)
+
+    @property
+    def data(self) -> bytes:
+        """The bytes of the font, which were tested."""
+        return self._data
 
 
 def _call(name: str, file: _File) -> Callable[..., _Answer]:

@@ -4,6 +4,8 @@ command is."""
 from __future__ import annotations
 
 import argparse
+import contextlib
+import errno
 import os
 import shutil
 import sys
@@ -58,7 +60,9 @@ def _replace(path: str, data: bytes) -> None:
             os.chmod(new, 0o666 & ~mask)
         os.replace(new, path)
     except BaseException:
-        os.unlink(new)
+        # An interrupt may come when the new file has just taken its place.
+        with contextlib.suppress(FileNotFoundError):
+            os.unlink(new)
         raise
 
 
@@ -80,6 +84,8 @@ def is_whole_font(path: str) -> bool:
 
 def print_line(line: str) -> None:
     """Prints a line at once, the bytes of a path that are no text as `\\udcff`. Raises `OSError` where that fails."""
+    if sys.stdout is None:  # it was closed when Python began
+        raise OSError(errno.EBADF, os.strerror(errno.EBADF), "standard output")
     encoding = sys.stdout.encoding or "utf-8"
     try:
         print(line.encode(encoding, "backslashreplace").decode(encoding), flush=True)

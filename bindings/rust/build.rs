@@ -6,14 +6,19 @@ use std::process::Command;
 
 /// The folder of the static library, where it lies beside this crate or is named.
 fn folder() -> Option<PathBuf> {
-    let beside = Path::new(&env::var("CARGO_MANIFEST_DIR").unwrap_or_default())
-        .join("lib")
-        .join(env::var("CARGO_CFG_TARGET_ARCH").unwrap_or_default());
     let named = env::var_os("FONTCUT_LIB_DIR").map(PathBuf::from);
-    named
-        .into_iter()
-        .chain([beside])
-        .find(|folder| folder.join("libfontcut.a").exists())
+    let folder = named.clone().unwrap_or_else(|| {
+        Path::new(&env::var("CARGO_MANIFEST_DIR").unwrap_or_default())
+            .join("lib")
+            .join(env::var("CARGO_CFG_TARGET_ARCH").unwrap_or_default())
+    });
+    let is_there = folder.join("libfontcut.a").exists();
+    assert!(
+        is_there || named.is_none(),
+        "FONTCUT_LIB_DIR: there is no libfontcut.a in {}",
+        folder.display()
+    );
+    is_there.then_some(folder)
 }
 
 /// The folders in which pkg-config says that the library lies; none where it does not know it.

@@ -1,9 +1,9 @@
 #!/usr/bin/env node
 // The commands of the program that node has, with its words, its bytes and its exit statuses.
 import { randomBytes } from 'node:crypto';
-import { chmodSync, closeSync, existsSync, openSync, readFileSync, realpathSync, renameSync, rmSync, statSync, writeFileSync,
-    writeSync } from 'node:fs';
-import { dirname, join as pathOf } from 'node:path';
+import { chmodSync, closeSync, existsSync, lstatSync, openSync, readFileSync, readlinkSync, realpathSync, renameSync, rmSync,
+    statSync, writeFileSync, writeSync } from 'node:fs';
+import { dirname, join as pathOf, resolve } from 'node:path';
 import { parseArgs } from 'node:util';
 import { belongs, check, codes, cutForm, FontcutError, glyphs, init, join, metrics, ranges, subset, version }
     from './fontcut.js';
@@ -51,8 +51,8 @@ class Failed extends Error {
     }
 }
 
-const reasonOf = (error) => ({ ENOENT: 'No such file or directory', EISDIR: 'Is a directory',
-    EACCES: 'Permission denied' })[error.code] ?? error.message;
+const reasonOf = (error) => ({ ENOENT: 'No such file or directory', EISDIR: 'Is a directory', EACCES: 'Permission denied',
+    EPIPE: 'Broken pipe', ENOSPC: 'No space left on device' })[error.code] ?? error.message;
 
 function read(path) {
     try {
@@ -62,14 +62,22 @@ function read(path) {
     }
 }
 
+// The file that a path leads to by links. It need not exist.
+function placeOf(path) {
+    const isLink = lstatSync(path, { throwIfNoEntry: false })?.isSymbolicLink();
+    return isLink ? placeOf(resolve(dirname(path), readlinkSync(path))) : path;
+}
+
 // Replaces a file when all of its bytes are written. Devices, pipes and folders stay what they are.
 function write(path, data) {
     try {
-        if (path === '-' || existsSync(path) && !statSync(path).isFile()) {
+        // It throws where links lead round.
+        const stats = path === '-' ? undefined : statSync(path, { throwIfNoEntry: false });
+        if (path === '-' || stats && !stats.isFile()) {
             writeAll(path === '-' ? 1 : openSync(path, 'w'), data);
             return;
         }
-        const isThere = existsSync(path), place = isThere ? realpathSync(path) : path;
+        const isThere = stats !== undefined, place = placeOf(path);
         const made = pathOf(dirname(place), `.fontcut-${randomBytes(6).toString('hex')}`);
         try {
             writeFileSync(made, data, { flag: 'wx' });
@@ -82,7 +90,7 @@ function write(path, data) {
             throw error;
         }
     } catch (error) {
-        throw new Failed(3, `${path}: ${reasonOf(error)}`);
+        throw new Failed(3, `${path === '-' ? 'standard output' : path}: ${reasonOf(error)}`);
     }
 }
 
@@ -95,7 +103,7 @@ function writeAll(file, data) {
     }
 }
 
-const print = (text) => writeAll(1, Buffer.from(text));
+const print = (text) => write('-', Buffer.from(text));
 
 function kindOf(given) {
     const kinds = KINDS.filter((kind) => given[kind]);
@@ -130,8 +138,10 @@ function codesOfLists(given, words) {
         throw new Failed(2, `bad word ${bad}: write U+41, U+41-5A or all, and texts with --text`);
     }
     const files = (given['codes-file'] ?? []).map((path) => text(read(path), path));
-    const lists = [...words.map((word) => word === 'everything' ? 'all' : word), ...given.unicodes ?? [], ...files];
-    return lists.flatMap((list) => ranges(list));
+    // Only in a file can a line have the columns of `codes --glyphs`, which have blanks between them.
+    const lists = (given.unicodes ?? []).map((list) => list.replaceAll(' ', ','));
+    const every = [...words.map((word) => word === 'everything' ? 'all' : word), ...lists, ...files];
+    return every.flatMap((list) => ranges(list));
 }
 
 // Glyph numbers of lists, such as 5,7-9,0x1F.

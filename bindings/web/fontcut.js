@@ -264,13 +264,14 @@ function rangeOfWord(word) {
     throw new RangeError(`fontcut: bad word ${word}: a range is written U+41, U+41-5A, U+4?? or all`);
 }
 
-// A line that `fontcut codes --glyphs` prints: a code, the number of its glyph and an advance width.
-const COLUMNS = /^[ \t\r,;]*(U\+[0-9A-F]{1,6})[ \t\r,;]+[0-9]{1,5}[ \t\r,;]+[0-9]{1,5}[ \t\r,;]*$/i;
+// A line that `fontcut codes --glyphs` prints: a code, the number of its glyph and an advance width, each after a blank.
+const COLUMNS = /^[ \t\r,;]*(U\+[0-9A-Fa-f]{1,6}) [ \t\r,;]*[0-9]{1,5} [ \t\r,;]*[0-9]{1,5}(?![0-9,;])[ \t\r,;]*$/;
 
 // The words of a list: what `--codes-file` of the program reads, with comments, and as CSS has it.
 function wordsOf(list) {
-    const lines = list.replace(/^\uFEFF/, '').replace(/#.*/g, '').replace(/(^|[\s,;])(unicode-range:)+/g, '$1 ').split('\n');
-    return lines.flatMap((line) => COLUMNS.exec(line)?.[1] ?? line.split(/[\s,;]+/)).filter(Boolean);
+    const plain = list.replace(/^\uFEFF/, '').replace(/#[^\n]*/g, '');
+    const lines = plain.replace(/(^|[ \t\r\n,;])(unicode-range:)+/g, '$1 ').split('\n');
+    return lines.flatMap((line) => COLUMNS.exec(line)?.[1] ?? line.split(/[ \t\r,;]+/)).filter(Boolean);
 }
 
 // The characters that a text stands for: in cuts that are to be shaped, those that a shaper takes for it too.

@@ -61,7 +61,8 @@ def timed(words: Iterable[str]) -> Timed:
 
 def least_of(one: Timed, other: Timed) -> Timed:
     """The least times that two measurements of a program found, and the most memory."""
-    return Timed(*map(min, one[:4], other[:4]), max(one.peak, other.peak))
+    return Timed(min(one.least, other.least), min(one.median, other.median), min(one.processor, other.processor),
+                 min(one.processor_median, other.processor_median), max(one.peak, other.peak))
 
 
 def harfbuzz() -> Optional[list[str]]:

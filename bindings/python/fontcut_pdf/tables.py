@@ -37,7 +37,7 @@ def prepared(font: bytes, cmap: bytes = _NO_CHARACTERS) -> bytes:
     if len({record[0] for record in kept}) < len(kept):
         raise ValueError("a table is listed twice")
     begin = 12 + 16 * (len(kept) + 1)
-    # The font stands behind the new directory and the cmap as it is. fontcut reads no sums.
+    # The font comes after the new directory and the cmap as it is. fontcut reads no sums.
     rows = [struct.pack(">4s3I", b"cmap", 0, begin, len(cmap))]
     rows += [struct.pack(">4s3I", tag, 0, offset + begin + len(cmap), length) for tag, _, offset, length in kept]
     return b"".join([font[:4], struct.pack(">H6x", len(rows)), *rows, cmap, font])

@@ -13,7 +13,7 @@ from fontcut_output import CommandParser, Progress, print_line, read, reason, wr
 from . import texts, use
 from .common import DISPLAYS, LAYOUT_TABLES, SHAPED, Missing, MissingProgram, Refused, UsageError, need, part
 from .presets import PARTS, SIZES, languages, web
-from .replaced import check_name, check_read, check_unpacked, check_whole
+from .replaced import check_name, check_read, check_unpacked, check_whole, check_written
 from .sets import AUTO, MOST_EQUAL, WEB
 
 INSTALL = "pip install 'fontcut[web]'"
@@ -68,7 +68,8 @@ loads 2 to 12 slices, most of them small; with :{SIZES[1]}, as in {languages()[0
 of a cut for its text, or more: for text that is known, fontcut-web text is better.
 
 The scripts of FONT of which no character is in a slice are named, and with --strict nothing is written then. If a
-whole font would be replaced, nothing is written without --force.
+whole font would be replaced, or a style sheet or a page that fontcut-web did not write, nothing is written without
+--force.
 
 To a browser, slices are separate fonts: there is no kerning and no shaping across them. If that matters, put the
 characters of a script into one slice.
@@ -105,6 +106,9 @@ class, as icon-home, and icons.html, which shows them.
 Names are those of the ligatures of FONT, of its table post, or of a file of code points: that of --codepoints, or the
 one beside FONT that has its name and the ending .codepoints, as MaterialIcons-Regular.codepoints. Its lines have a name
 and a code, as home e88a. A name that is not there is refused, with the nearest ones.
+
+If a whole font would be replaced, or a style sheet or a page that fontcut-web did not write, nothing is written without
+--force.
 """
 
 _PREPARE = """\
@@ -184,6 +188,7 @@ def _run_slice(given: argparse.Namespace) -> None:
         check_read(given.fonts, written)
         if not given.force:
             check_whole(written)
+            check_written(path for path in written if path.endswith((".css", ".html")))
         told = slicing.write_slices(fonts, given.out, how, progress)
     if given.json:
         print_line(json.dumps(told, indent=2))
@@ -254,7 +259,7 @@ def _add_slice(commands: argparse._SubParsersAction[CommandParser]) -> None:
                                                             "fonts and preloads the first slice")
     _display(command)
     command.add_argument("--strict", action="store_true", help="write nothing if a script of a FONT is in no slice")
-    command.add_argument("--force", action="store_true", help="write over whole fonts")
+    command.add_argument("--force", action="store_true", help="write over whole fonts, style sheets and pages of others")
     command.add_argument("--quiet", action="store_true", help="do not say what the files lack of a FONT")
     command.add_argument("--json", action="store_true", help="print what was written")
     command.set_defaults(run=_run_slice)
@@ -292,7 +297,8 @@ def _add_text(commands: argparse._SubParsersAction[CommandParser]) -> None:
     command.add_argument("--css", action="store_true", help="write OUT's style sheet, whose name ends in .css")
     _display(command)
     command.add_argument("--strict", action="store_true", help="write nothing if the font lacks a character")
-    command.add_argument("--force", action="store_true", help="write over FONT, or over the font that FONT is a cut of")
+    command.add_argument("--force", action="store_true", help="write over FONT, the font that FONT is a cut of, or a style sheet "
+                                                                "of others")
     command.add_argument("--quiet", action="store_true", help="do not say what the font or its cut lacks")
     command.add_argument("--json", action="store_true", help="print what was written")
     command.set_defaults(run=texts.run)
@@ -307,12 +313,13 @@ def _add_icons(commands: argparse._SubParsersAction[CommandParser]) -> None:
     command = commands.add_parser(
         "icons", help="cut an icon font for some icons, with classes for them", description=_ICONS, formatter_class=_RAW,
         epilog=_STATUS,
-        usage="fontcut-web icons FONT NAME.. --out DIR [--codepoints FILE] [--lean | --variable] [--json]")
+        usage="fontcut-web icons FONT NAME.. --out DIR [--codepoints FILE] [--lean | --variable] [--force] [--json]")
     command.add_argument("font", metavar="FONT")
     command.add_argument("names", metavar="NAME", nargs="+")
     command.add_argument("--out", metavar="DIR", required=True, help="the folder that the files go to")
     command.add_argument("--codepoints", metavar="FILE", help="names and codes of icons")
     _kinds(command, "lean", lean="write a lean cut (the default)", variable="write a variable cut, which keeps the axes")
+    command.add_argument("--force", action="store_true", help="write over whole fonts, style sheets and pages of others")
     command.add_argument("--json", action="store_true", help="print what was written")
     command.set_defaults(run=_run_icons)
 

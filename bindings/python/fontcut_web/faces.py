@@ -3,15 +3,14 @@
 from __future__ import annotations
 
 import io
-import struct
+import os
 from typing import Dict, NamedTuple, Tuple, Union
 
 from fontTools.misc.textTools import Tag
-from fontTools.ttLib import TTFont, TTLibError
+from fontTools.ttLib import TTFont
 
-# What fontTools raises where a table is malformed.
-MALFORMED = (TTLibError, struct.error, AssertionError, AttributeError, IndexError, KeyError, OverflowError, TypeError,
-              ValueError)
+from .malformed import MALFORMED
+
 # The widths that usWidthClass stands for, from 1 on (CSS Fonts 4, 2.5).
 _WIDTHS = "50%", "62.5%", "75%", "87.5%", "100%", "112.5%", "125%", "150%", "200%"
 _ITALIC, _OBLIQUE = 0x001, 0x200
@@ -31,9 +30,9 @@ class Face(NamedTuple):
 
 
 def face_of(data: bytes, name: str) -> Face:
-    """The face of a font. One without a name of its own has this one."""
+    """The face of a font. One without a name of its own has this one of a file, which may be no UTF-8."""
     font = TTFont(io.BytesIO(data), lazy=True)
-    return Face(_family(font) or name, _style(font), _weight(font), _stretch(font))
+    return Face(_family(font) or os.fsencode(name).decode("utf-8", "replace"), _style(font), _weight(font), _stretch(font))
 
 
 def varying(data: bytes, face: Face) -> Face:

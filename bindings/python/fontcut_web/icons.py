@@ -9,17 +9,18 @@ import json
 import os
 import re
 from typing import Dict, Iterator, List, NamedTuple, Optional, Sequence, Tuple
-from urllib.parse import quote
 
 import fontcut
 from fontcut_output import print_line, read, write
 from fontTools.ttLib import TTFont
 
 from .common import Refused, UsageError
-from .faces import MALFORMED, Face, face_of, varying
-from .inputs import accepted
+from .faces import Face, face_of, varying
+from .inputs import accepted, refusing
+from .malformed import MALFORMED
+from .replaced import check_read, check_whole, check_written
 from .sets import codes_of
-from .sheet import block, declarations
+from .sheet import address_of, block, declarations, page_of, sheet_of
 from .woff import packed
 
 SHEET, PAGE = "icons.css", "icons.html"
@@ -129,38 +130,48 @@ def _selector(name: str) -> str:
 
 def style_sheet(face: Face, file: str, icons: Sequence[Icon]) -> str:
     """The rule of the font, one for what icons have in common, and one for each."""
-    source = f'src: url("{quote(file)}") format("woff2");'
+    source = f'src: url("{address_of(file)}") format("woff2");'
     every = ",\n".join(f"{_selector(icon.name)}::before" for icon in icons)
     shared = [*declarations(face), "font-feature-settings: normal;", "letter-spacing: normal;", "line-height: 1;",
               "text-transform: none;"]
     rules = [block(f"{_selector(icon.name)}::before", [f'content: "\\{icon.code:x}";']) for icon in icons]
-    return "".join(['@charset "utf-8";\n', block("@font-face", [*declarations(face), "font-display: block;", source]),
-                    block(every, shared), *rules])
+    return sheet_of("icons", [block("@font-face", [*declarations(face), "font-display: block;", source]),
+                              block(every, shared), *rules])
 
 
 def page(icons: Sequence[Icon]) -> str:
     """A page that shows icons, each with its name."""
     rows = [f'<p><span class="icon-{html.escape(icon.name)}" aria-hidden="true"></span> {html.escape(icon.name)}</p>\n'
             for icon in icons]
-    return "".join(['<!DOCTYPE html>\n<html lang="en">\n<head>\n<meta charset="utf-8">\n<title>Icons</title>\n',
-                    f'<link rel="stylesheet" href="{SHEET}">\n<style>\nspan {{\n  font-size: 32px;\n}}\n</style>\n',
-                    "</head>\n<body>\n", *rows, "</body>\n</html>\n"])
+    return page_of("icons", "Icons", [
+        f'<link rel="stylesheet" href="{SHEET}">\n<style>\nspan {{\n  font-size: 32px;\n}}\n</style>\n',
+        "</head>\n<body>\n", *rows])
+
+
+def _check_out(given: argparse.Namespace, fonts: Sequence[str], points: Optional[str]) -> None:
+    """Raises `UsageError` for a file in DIR that must not be replaced."""
+    sheets = [os.path.join(given.out, name) for name in (SHEET, PAGE)]
+    paths = [os.path.join(given.out, name) for name in fonts]
+    check_read([given.font, *([points] if points else [])], [*paths, *sheets])
+    if not given.force:
+        check_whole(paths)
+        check_written(sheets)
 
 
 def run(given: argparse.Namespace) -> None:
     """Writes the cut for some icons, as it is and as WOFF2, its style sheet and a page."""
     font = accepted(given.font)
-    base = os.path.splitext(os.path.basename(given.font))[0]
-    try:
-        icons = chosen(given.names, known(font, given.codepoints or _points_beside(given.font)))
+    base, points = os.path.splitext(os.path.basename(given.font))[0], given.codepoints or _points_beside(given.font)
+    file, packed_file = f"{base}-icons.ttf", f"{base}-icons.woff2"
+    _check_out(given, [file, packed_file], points)
+    with refusing(given.font):
+        icons = chosen(given.names, known(font, points))
         cut = fontcut.cut(font, [icon.code for icon in icons], kind=given.kind)
-    except (Refused, fontcut.Refused) as refusal:
-        raise Refused(f"{given.font}: {refusal}") from refusal
+        packed_cut = packed(cut)
     shown = face_of(font.data, base)
     face = varying(font.data, shown) if given.kind == "variable" else shown
-    packed_cut, file = packed(cut), f"{base}-icons.woff2"
     os.makedirs(given.out, exist_ok=True)
-    files = {f"{base}-icons.ttf": cut, file: packed_cut, SHEET: style_sheet(face, file, icons).encode(),
+    files = {file: cut, packed_file: packed_cut, SHEET: style_sheet(face, packed_file, icons).encode(),
              PAGE: page(icons).encode()}
     # The style sheet names a file that is there, and the page names the style sheet.
     for name, data in files.items():

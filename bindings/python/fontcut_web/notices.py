@@ -9,7 +9,7 @@ from fontTools import unicodedata as properties
 from fontTools.ttLib import TTFont
 
 from .common import SHAPED
-from .faces import MALFORMED
+from .malformed import MALFORMED
 
 _DEFAULT = "DFLT"
 

@@ -5,25 +5,22 @@ from __future__ import annotations
 import io
 import logging
 import re
-import struct
 from typing import Any, Dict, Iterable, Iterator, List, Mapping, NamedTuple, Optional, Sequence, Set, Tuple, Union
 
 import fontTools
 from fontTools import unicodedata as properties
 from fontTools.subset import Options, Subsetter
-from fontTools.ttLib import TTFont, TTLibError
+from fontTools.ttLib import TTFont
 from fontTools.varLib.instancer import instantiateVariableFont
 
 from .common import Refused, UsageError
+from .malformed import MALFORMED
 
 VERSION: str = fontTools.version
 _KERN, _ALL = "kern", "*"
 _TAG = re.compile(r"[\x20-\x7e]{4}")
 _NUMBER = r"-?\d+(?:\.\d+)?"
 _LIMIT = re.compile(rf"([\x21-\x7e]{{4}})=(?:(drop)|({_NUMBER})(?::({_NUMBER}))?)")
-# What fontTools raises where a table is malformed.
-MALFORMED = (TTLibError, struct.error, ArithmeticError, AssertionError, AttributeError, LookupError,
-              NotImplementedError, TypeError, ValueError)
 
 # It tells what it drops, which is told here otherwise.
 logging.getLogger("fontTools").addHandler(logging.NullHandler())

@@ -1,4 +1,5 @@
-"""Files that a command would replace, and that cannot be meant: those that it reads, and whole fonts of cuts."""
+"""Files that a command would replace, and that cannot be meant: those that it reads, whole fonts of cuts, and style
+sheets and pages of others."""
 from __future__ import annotations
 
 import contextlib
@@ -8,7 +9,7 @@ from typing import Iterable, Optional, Sequence
 import fontcut
 from fontcut_output import is_whole_font, read
 
-from .common import KINDS, WOFF, WOFF2, UsageError
+from .common import KINDS, WOFF, WOFF2, UsageError, part
 
 
 def is_same(one: str, other: str) -> bool:
@@ -71,6 +72,13 @@ def check_whole(written: Iterable[str]) -> None:
     for out in written:
         if is_whole_font(out):
             raise UsageError(f"{out} is a font already, and no cut: name another folder; --force replaces {out}")
+
+
+def check_written(paths: Iterable[str]) -> None:
+    """Raises `UsageError` where a style sheet or a page that is to be written would replace one of somebody else."""
+    for path in filter(os.path.isfile, paths):
+        if not part("sheet").is_written(read(path)):
+            raise UsageError(f"{path} is not written by fontcut-web: name another folder; --force replaces {path}")
 
 
 def check_name(out: str, is_packed: bool) -> None:

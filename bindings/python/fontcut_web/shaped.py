@@ -12,8 +12,8 @@ from fontTools.ttLib import TTFont
 from . import shaping
 from .common import MissingProgram, Refused
 from .inputs import mapped
+from .malformed import MALFORMED
 from .pages import Page, lines_of, shown
-from .preparing import MALFORMED
 from .shaping import Setting, place_of
 from .styles import Features, Styles, cased, sheets_of, styles_of
 

@@ -1,7 +1,8 @@
-"""The style sheet of slices, and a page that shows them."""
+"""The style sheet of slices, a page that shows them, and how such files are known again."""
 from __future__ import annotations
 
 import html
+import os
 import re
 import unicodedata
 from typing import Iterable, Iterator, List, NamedTuple, Sequence
@@ -14,6 +15,12 @@ from .sets import Slice, range_words
 _SHOWN_SLICES, _SHOWN_CHARACTERS = 8, 40
 _FORMATS = {".ttf": "truetype", ".woff2": "woff2"}
 _TYPES = {".ttf": "font/ttf", ".woff2": "font/woff2"}
+# How style sheets and pages begin whose comment does not say yet that fontcut-web wrote them.
+_CHARSET, _HEAD = '@charset "utf-8";\n', '<!DOCTYPE html>\n'
+_EARLIER = tuple(text.encode() for text in (
+    f"{_CHARSET}@font-face {{\n  font-family: ",
+    *(f'{_HEAD}<html lang="en">\n<head>\n<meta charset="utf-8">\n<title>{title}</title>\n'
+      for title in ("Fonts in slices", "Icons"))))
 
 
 class Placed(NamedTuple):
@@ -36,6 +43,11 @@ class Styled(NamedTuple):
     placed: List[Placed]
 
 
+def address_of(name: str) -> str:
+    """The name of a file as an address has it, whatever its bytes are."""
+    return quote(os.fsencode(name))
+
+
 def string(text: str) -> str:
     """A text as a string of CSS, fit for a style element of HTML too."""
     escaped = re.sub(r'["\\]', r"\\\g<0>", text)
@@ -52,16 +64,37 @@ def block(selector: str, declarations: Iterable[str]) -> str:
     return "".join([f"{selector} {{\n", *(f"  {line}\n" for line in declarations), "}\n"])
 
 
-def style_sheet(fonts: Sequence[Styled], display: str) -> str:
+def mark(command: str) -> str:
+    """What the comment says at the beginning of a file that a command of fontcut-web writes."""
+    return f"Written by fontcut-web {command}."
+
+
+def is_written(text: bytes) -> bool:
+    """Whether a style sheet or a page was written by fontcut-web."""
+    return b"Written by fontcut-web " in text[:200] or text.startswith(_EARLIER)
+
+
+def sheet_of(command: str, rules: Iterable[str]) -> str:
+    """A style sheet of these rules, written by a command."""
+    return "".join([_CHARSET, f"/* {mark(command)} */\n", *rules])
+
+
+def page_of(command: str, title: str, lines: Iterable[str]) -> str:
+    """A page with this title whose other lines are these, written by a command."""
+    return "".join([_HEAD, f"<!-- {mark(command)} -->\n", '<html lang="en">\n<head>\n<meta charset="utf-8">\n',
+                    f"<title>{title}</title>\n", *lines, "</body>\n</html>\n"])
+
+
+def style_sheet(fonts: Sequence[Styled], display: str, command: str) -> str:
     """A rule for each slice. A browser loads a slice when a page has one of its characters."""
-    rules = ['@charset "utf-8";\n']
+    rules = []
     for font in fonts:
         for placed in font.placed:
             rules.append(block("@font-face", [
                 *declarations(font.face), f"font-display: {display};",
-                f'src: url("{quote(placed.file)}") format("{_FORMATS[placed.ending]}");',
+                f'src: url("{address_of(placed.file)}") format("{_FORMATS[placed.ending]}");',
                 f"unicode-range: {range_words(placed.slice.codes)};"]))
-    return "".join(rules)
+    return sheet_of(command, rules)
 
 
 def preload(placed: Placed, address: str) -> str:
@@ -71,7 +104,7 @@ def preload(placed: Placed, address: str) -> str:
 
 def preloads(fonts: Sequence[Styled]) -> List[str]:
     """Such a line for the first slice of each font, for a page beside it."""
-    return [preload(first, quote(first.file)) for first in (font.placed[0] for font in fonts)]
+    return [preload(first, address_of(first.file)) for first in (font.placed[0] for font in fonts)]
 
 
 def _letters(codes: Iterable[int]) -> str:
@@ -94,9 +127,8 @@ def _shown(number: int, font: Styled) -> Iterator[str]:
 def page(fonts: Sequence[Styled], sheet: str) -> str:
     """A page that shows letters of the slices of each font."""
     classes = [block(f".font-{number}", declarations(font.shown)) for number, font in enumerate(fonts, 1)]
-    return "".join([
-        '<!DOCTYPE html>\n<html lang="en">\n<head>\n<meta charset="utf-8">\n<title>Fonts in slices</title>\n',
+    return page_of("slice", "Fonts in slices", [
         *(f"{line}\n" for line in preloads(fonts)),
         f'<link rel="stylesheet" href="{sheet}">\n<style>\nsection {{\n  font-size: 32px;\n}}\n', *classes,
         "</style>\n</head>\n<body>\n",
-        *(part for number, font in enumerate(fonts, 1) for part in _shown(number, font)), "</body>\n</html>\n"])
+        *(part for number, font in enumerate(fonts, 1) for part in _shown(number, font))])

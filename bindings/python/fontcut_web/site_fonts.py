@@ -10,7 +10,7 @@ from fontcut_output import Progress
 from . import characters, drawn, preparing, shaped, shaping
 from .common import SHAPED, Refused
 from .faces import Face, face_of, is_variable, varying
-from .inputs import accepted, mapped
+from .inputs import accepted, mapped, refusing
 from .prepare import made_of, wanted_of
 from .preparing import PrepareOptions
 from .sets import range_words
@@ -80,7 +80,8 @@ def _packed_size(run: Run, name: str, whole: fontcut.Font, old: Optional[FontSta
     if old and old.source == digest(whole.data):
         return old.whole
     run.progress.say(f"{name}: packing the whole font, to compare its bytes")
-    return len(packed(whole.data))
+    with refusing(name):
+        return len(packed(whole.data))
 
 
 def _prepared(run: Run, one: FontSettings, name: str, whole: fontcut.Font, pages: Sequence[SitePage],
@@ -187,7 +188,8 @@ def section_of(run: Run, base: Base, name: str, pages: Sequence[SitePage], modes
     if old and data == before and run.place.kept(run.place.output, old.woff2) is not None:
         return old._replace(pages=keys)
     run.progress.say(f"{base.name}: packing it for {name}")
-    small = packed(data)
+    with refusing(base.name):
+        small = packed(data)
     _check_pages(run, base, changed, small)
     file_name = f"{base.name}-{name}"
     return SectionState(_cuts_of(base), keys, run.place.put(run.place.work, file_name, ".ttf", data),

@@ -3,7 +3,6 @@ from __future__ import annotations
 
 import os
 from typing import List, NamedTuple, Sequence, Set
-from urllib.parse import unquote, urlsplit
 
 from . import shaped
 from .common import UsageError
@@ -11,6 +10,7 @@ from .inputs import read_pages
 from .shaped import Shown
 from .site_settings import FontSettings, Settings, named, page_names, sections_of
 from .site_state import digest_of
+from .styles import parts_of
 
 EXACT, CLOSED = "exact", "closed"
 
@@ -44,8 +44,8 @@ class Modes(NamedTuple):
 
 def _is_own(settings: Settings, name: str, address: str) -> bool:
     """Whether a page links a style sheet of the output, which says nothing of its text."""
-    path = unquote(urlsplit(address).path)
-    if settings.address and path.startswith(f"{urlsplit(settings.address).path.rstrip('/')}/"):
+    path = parts_of(address)[1]
+    if settings.address and path.startswith(f"{parts_of(settings.address)[1].rstrip('/')}/"):
         return True
     found = os.path.normpath(os.path.join(os.path.dirname(name), path))
     return found.startswith(f"{settings.out}{os.sep}")

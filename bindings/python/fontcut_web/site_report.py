@@ -5,21 +5,20 @@ from __future__ import annotations
 import json
 import os
 from typing import Dict, Iterator, List, Mapping, NamedTuple, Sequence, Tuple
-from urllib.parse import quote
 
 import fontcut
 
 from .common import Refused
 from .faces import Face
 from .sets import Slice
-from .sheet import Placed, Styled, preload, style_sheet
+from .sheet import Placed, Styled, address_of, mark, preload, style_sheet
 from .site_pages import SitePage
 from .site_settings import Settings
 from .site_state import SectionState
 
 REPORT = "site.json"
 # What each text that is written begins with, by which it is known.
-_WRITTEN = "Written by fontcut-web site."
+_WRITTEN = mark("site")
 
 
 class Made(NamedTuple):
@@ -43,9 +42,7 @@ def _sheet(section: str, made: Sequence[Made], display: str) -> str:
         if other != one.font:
             raise Refused(f"{one.font}: it has the family, style, weight and width of {other} on pages of {section}: "
                           f"{one.face}")
-    styled = [Styled(one.face, one.face, [_placed(one)]) for one in made]
-    first, rules = style_sheet(styled, display).split("\n", 1)
-    return f"{first}\n/* {_WRITTEN} */\n{rules}"
+    return style_sheet([Styled(one.face, one.face, [_placed(one)]) for one in made], display, "site")
 
 
 def _placed(one: Made) -> Placed:
@@ -67,9 +64,9 @@ def is_ours(text: bytes) -> bool:
 def _address(settings: Settings, page: SitePage, name: str) -> str:
     """How a page addresses a file of the output."""
     if settings.address:
-        return f"{settings.address.rstrip('/')}/{quote(name)}"
+        return f"{settings.address.rstrip('/')}/{address_of(name)}"
     path = os.path.relpath(os.path.join(settings.out, name), os.path.dirname(page.name) or os.curdir)
-    return quote(path.replace(os.sep, "/"))
+    return address_of(path.replace(os.sep, "/"))
 
 
 def _row(settings: Settings, page: SitePage, made: Sequence[Made]) -> Dict[str, object]:
@@ -95,7 +92,8 @@ def lacking(pages: Sequence[SitePage], fonts: Mapping[str, Sequence[fontcut.Font
 def report(settings: Settings, pages: Sequence[SitePage], made: Sequence[Made]) -> str:
     """What is told of the site, as JSON."""
     rows = {page.name: _row(settings, page, [one for one in made if page.name in one.state.pages]) for page in pages}
-    return json.dumps({"made": _WRITTEN, "pages": rows}, indent=2, ensure_ascii=False) + "\n"
+    # Names of files that are no UTF-8 are escaped.
+    return json.dumps({"made": _WRITTEN, "pages": rows}, indent=2) + "\n"
 
 
 def lines(told: str) -> Iterator[str]:

@@ -148,7 +148,7 @@ def settings_of(folder: str) -> Settings:
     inside = os.path.relpath(os.path.realpath(found.output), os.path.realpath(folder))
     if inside == os.curdir or inside.split(os.sep)[0] in (os.pardir, WORK):
         raise UsageError(f"{path}: out has to be a folder below that of the site")
-    return found._replace(out=os.path.normpath(found.out))
+    return found._replace(out=inside if os.path.isabs(found.out) else os.path.normpath(found.out))
 
 
 def _matching(folder: str, pattern: str) -> Iterator[str]:

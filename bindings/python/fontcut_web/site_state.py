@@ -142,7 +142,7 @@ class Place:
         # Where this run is killed before it has removed them, the next one does.
         self._begin({*before.outputs(), *before.works()} - {*state.outputs(), *state.works()})
         put_text(self.work, _STATE, f"{json.dumps(told, indent=1, sort_keys=True)}\n")
-        begun = (held(self.work, _BEGUN) or b"").decode().splitlines()
+        begun = (held(self.work, _BEGUN) or b"").decode(errors="surrogateescape").splitlines()
         _remove(self.output, {*begun} - {*state.outputs()})
         _remove(self.work, {*begun} - {*state.works()})
         _remove(self.work, [_BEGUN])
@@ -151,7 +151,7 @@ class Place:
         """Notes the names of files that are removed, if no state names them in the end."""
         lines = "".join(f"{name}\n" for name in names)
         if lines:
-            with open(os.path.join(self.work, _BEGUN), "a", encoding="utf-8") as begun:
+            with open(os.path.join(self.work, _BEGUN), "a", encoding="utf-8", errors="surrogateescape") as begun:
                 begun.write(lines)
 
     def kept(self, folder: str, file: File) -> Optional[bytes]:

@@ -133,8 +133,10 @@ def _slices(fonts: Sequence[Font], folder: str, how: SliceOptions, progress: Pro
             number += 1
             progress.say(f"slice {number} of {count}")
             name = f"{font.base}-{one.name}"
+            with refusing(font.path):
+                small = packed(cut) if how.woff2 else None
             made.append(Written(one, _put(folder, f"{name}.ttf", cut),
-                                _put(folder, f"{name}.woff2", packed(cut)) if how.woff2 else None))
+                                None if small is None else _put(folder, f"{name}.woff2", small)))
         yield made
 
 
@@ -155,7 +157,7 @@ def write_slices(fonts: Sequence[Font], folder: str, how: SliceOptions, progress
         styled = [Styled(font.face, font.shown, [Placed(one.slice, (one.woff2 or one.cut)[0]) for one in made])
                   for font, made in zip(fonts, written)]
         # The style sheet names files that are all there, and the page names the style sheet.
-        sheet = style_sheet(styled, how.display).encode()
+        sheet = style_sheet(styled, how.display, "slice").encode()
         _put(folder, SHEET, sheet)
         _put(folder, PAGE, page(styled, SHEET).encode())
         told.update(css=SHEET, css_bytes=len(sheet), css_brotli_bytes=compressed_size(sheet), page=PAGE,

@@ -166,11 +166,20 @@ def styles_of(sheets: Sequence[str]) -> Styles:
                   _once(found.unread))
 
 
+def parts_of(address: str) -> Tuple[str, str]:
+    """The scheme and the host of an address, and its path. Both are empty where it is malformed, or no file has it."""
+    try:
+        parts = urlsplit(address)
+    except ValueError:
+        return "", ""
+    path = unquote(parts.path)
+    return ("", "") if "\0" in path else (parts.scheme + parts.netloc, path)
+
+
 def _file_of(address: str, folder: str) -> str:
     """The path of a style sheet that a page or another style sheet in a folder names, or an empty text."""
-    parts = urlsplit(address)
-    path = unquote(parts.path)
-    return "" if parts.scheme or parts.netloc or not path or path.startswith("/") else os.path.join(folder, path)
+    host, path = parts_of(address)
+    return "" if host or not path or path.startswith("/") else os.path.join(folder, path)
 
 
 def _linked(address: str, folder: str, seen: Set[str], lost: List[str]) -> Iterator[str]:

@@ -13,8 +13,8 @@ from fontcut_output import print_line, write
 
 from . import pages
 from .common import SHAPED, Missing, Refused, UsageError, need, part
-from .inputs import accepted, as_file, mapped, read_pages
-from .replaced import check_font, check_name, is_same
+from .inputs import accepted, as_file, mapped, read_pages, refusing
+from .replaced import check_font, check_name, check_written, is_same
 from .sets import Slice, range_words
 
 
@@ -69,7 +69,7 @@ def _check_words(given: argparse.Namespace) -> None:
 
 def _lacking(given: argparse.Namespace, source: str, font: fontcut.Font, read: Sequence[pages.Page]) -> List[int]:
     """The characters of the pages that a font lacks, which are told. Raises `Refused` where that is asked for."""
-    codes = sorted(map(ord, pages.shown("".join(page.text for page in read)) | set(given.text)))
+    codes = sorted(map(ord, pages.shown("".join([*(page.text for page in read), given.text]))))
     lacking = fontcut.missing(font, codes)
     if lacking:
         said = f"{source} lacks {len(lacking)} of {len(codes)} characters: {range_words(lacking)}"
@@ -88,16 +88,21 @@ def _dropped(given: argparse.Namespace, source: str, font: fontcut.Font, cut: Cu
     return []
 
 
+def _sheet_beside(out: str) -> str:
+    """The path of the style sheet beside OUT."""
+    return f"{os.path.splitext(out)[0]}.css"
+
+
 def _write_sheet(given: argparse.Namespace, font: fontcut.Font, source: str, codes: List[int]) -> Dict[str, object]:
-    """Writes a style sheet beside OUT, in which the cut is called what the font is; what is told of it."""
+    """Writes a style sheet beside OUT that gives the cut the family of the font. Returns what `--json` reports of it."""
     out: str = given.files[-1]
     faces, sheet = part("faces"), part("sheet")
     face = faces.face_of(font.data, os.path.splitext(os.path.basename(source))[0])
     face = faces.varying(font.data, face) if given.kind == "variable" else face
     placed = sheet.Placed(Slice(os.path.basename(out), codes), os.path.basename(out))
     styled = [sheet.Styled(face, face, [placed])]
-    path = f"{os.path.splitext(out)[0]}.css"
-    write(path, sheet.style_sheet(styled, given.display).encode())
+    path = _sheet_beside(out)
+    write(path, sheet.style_sheet(styled, given.display, "text").encode())
     return {"css": path, "preload": sheet.preloads(styled)[0]}
 
 
@@ -118,12 +123,15 @@ def run(given: argparse.Namespace) -> None:
     font = accepted(source)
     if not given.force:
         check_font(source, font, out)
+        if given.css:
+            check_written([_sheet_beside(out)])
     lacking = _lacking(given, source, font, read)
     try:
         cut = _exact(given, font, paths, source, read) if given.shaped else _closed(given, font, read)
     except fontcut.Refused as refusal:
         raise Refused(f"{source}: {refusal}") from refusal
-    data = part("woff").packed(cut.data) if out.lower().endswith(".woff2") else cut.data
+    with refusing(source):
+        data = part("woff").packed(cut.data) if out.lower().endswith(".woff2") else cut.data
     if given.check:
         part("drawn").check(paths, font.data, data)
     write(out, data)

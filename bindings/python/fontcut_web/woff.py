@@ -1,27 +1,39 @@
 """WOFF2 is written, WOFF and WOFF2 are read, and tables are dropped, by fontTools."""
 from __future__ import annotations
 
+import contextlib
 import io
 import struct
 import zlib
-from typing import Iterable, Optional
+from typing import Iterable, Iterator, Optional
 
-from fontTools.ttLib import TTFont, TTLibError, woff2
+from fontTools.ttLib import TTFont, woff2
 
 from .common import WOFF, WOFF2, Refused, need
+from .malformed import MALFORMED
 
 # What fontcut takes at most, unpacked.
 MOST_UNPACKED = 128 << 20
-# What fontTools and what it calls raise where a file is malformed.
-_MALFORMED = (TTLibError, struct.error, zlib.error, ArithmeticError, AssertionError, AttributeError, LookupError,
-              TypeError, ValueError, *([woff2.brotli.error] if woff2.haveBrotli else []))
+# What is raised where a file is malformed that is packed.
+_MALFORMED = (*MALFORMED, zlib.error, *([woff2.brotli.error] if woff2.haveBrotli else []))
+
+
+@contextlib.contextmanager
+def _refusing(why: str) -> Iterator[None]:
+    """Within it, what is raised for a malformed file is a refusal, which begins like this."""
+    try:
+        yield
+    except _MALFORMED as error:
+        raise Refused(f"{why}: {' '.join(str(error).split()) or type(error).__name__}") from error
 
 
 def packed(data: bytes) -> bytes:
-    """A font as WOFF2."""
+    """A font as WOFF2, which encodes outlines anew. Raises `Refused` where these are malformed, which fontcut takes as
+    they are."""
     need("brotli")
     made = io.BytesIO()
-    woff2.compress(io.BytesIO(data), made)
+    with _refusing("fontTools cannot pack it as WOFF2"):
+        woff2.compress(io.BytesIO(data), made)
     return made.getvalue()
 
 
@@ -39,20 +51,19 @@ def unpacked(data: bytes) -> bytes:
     # The length that it says the font has (WOFF 1.0, 4; WOFF 2.0, 4.1).
     if len(data) < 20 or struct.unpack_from(">I", data, 16)[0] > MOST_UNPACKED:
         raise Refused(f"it is damaged, or has more than {MOST_UNPACKED} bytes of tables")
-    try:
+    with _refusing("it is damaged"):
         return _unpacked(data)
-    except _MALFORMED as error:
-        raise Refused(f"it is damaged: {' '.join(str(error).split()) or type(error).__name__}") from error
 
 
 def without(data: bytes, tags: Iterable[str]) -> bytes:
-    """A font as if it lacked some tables."""
-    font = TTFont(io.BytesIO(data), recalcBBoxes=False, recalcTimestamp=False, lazy=True)
-    for tag in set(tags).intersection(font.keys()):
-        del font[tag]
-    made = io.BytesIO()
-    font.save(made, reorderTables=None)
-    return made.getvalue()
+    """A font as if it lacked some tables. Raises `Refused` where it is malformed."""
+    with _refusing("fontTools cannot read it"):
+        font = TTFont(io.BytesIO(data), recalcBBoxes=False, recalcTimestamp=False, lazy=True)
+        for tag in set(tags).intersection(font.keys()):
+            del font[tag]
+        made = io.BytesIO()
+        font.save(made, reorderTables=None)
+        return made.getvalue()
 
 
 def _unpacked(data: bytes) -> bytes:

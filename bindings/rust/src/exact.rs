@@ -33,7 +33,7 @@ impl Font<'_> {
     /// The cut of a kind for just what is wanted, and the components of that. Characters that the font does not map are
     /// ignored.
     ///
-    /// Whoever has shaped a text has its glyphs: with these, and with the characters that docs/FORMAT.md says a text
+    /// A shaper gives the glyphs of a text: with these, and with the characters that docs/FORMAT.md says a text
     /// needs, the cut shapes the text that it was made for, and is smaller than that of [`Font::cut`], which has each
     /// glyph that `GSUB` may put. **Other text may vanish in it**, without a fallback font: a glyph that `GSUB` puts
     /// and the cut lacks is blank. [`Font::closure`] gives the glyphs that serve other text. Such cuts join with all

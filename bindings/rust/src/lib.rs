@@ -65,9 +65,9 @@ pub enum Kind {
 /// In which form a font is a cut.
 #[derive(Clone, Copy, Debug, PartialEq, Eq, Hash)]
 pub enum Form {
-    /// As it is written today.
+    /// As it is written now.
     Current,
-    /// As the first profile of the format had it. A join takes it, and writes the form of today.
+    /// As the first profile of the format had it. A join takes it, and writes the current form.
     Old,
 }
 

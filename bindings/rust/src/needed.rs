@@ -23,8 +23,8 @@ const PUT_IN: [(u32, &[u32]); 8] = [
     (0x2011, &[0x2010, 0x2D]),
 ];
 
-/// The letters of Hangul from which syllables are composed, by the code before the first of them and their number (The
-/// Unicode Standard, 3.12).
+/// The letters of Hangul from which syllables are composed, by the first code, of trailing letters by the one before it,
+/// and their number (The Unicode Standard, 3.12).
 const SYLLABLES: u32 = 0xAC00;
 const LEADING: (u32, u32) = (0x1100, 19);
 const VOWELS: (u32, u32) = (0x1161, 21);
