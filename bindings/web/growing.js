@@ -5,17 +5,12 @@
 //     const font = new GrowingFont('Wenkai', '/LXGWWenKai-Regular.ttf');
 //     await font.add('漢字');                  // fetches a cut for what is missing, and joins it to what is there
 //
-// The server answers `?unicodes=6F22,5B57&lean=1` with the lean cut for these code points, as examples/server does, and
-// `&kind=layout` or `&kind=variable` in the place of `&lean=1` with the layout cut or the variable cut. These two grow
-// by all characters that a text needs.
+// The server answers `?unicodes=6F22,5B57&kind=lean` with the lean cut for these code points, as examples/server does, and
+// with the layout cut or the variable cut where that is the kind. These two grow by all characters that a text needs.
 import { init, join } from './fontcut.js';
-import { SHAPED, rangeWords } from './kinds.js';
+import { KINDS, SHAPED, rangeWords } from './kinds.js';
 import { needed } from './needed.js';
 
-// By its name what a query says of each kind of cut.
-const QUERIES = new Map([
-    ['full', ''], ['lean', '&lean=1'], ['layout', '&kind=layout'], ['variable', '&kind=variable'],
-]);
 const MOST_RANGES = 500; // of one request, so that its query stays below 8,000 characters
 
 const isSurrogate = (code) => code >= 0xD800 && code <= 0xDFFF;
@@ -32,7 +27,7 @@ export class GrowingFont {
 
     /** `url` is where cuts of the font are fetched; `descriptors` are those of FontFace. */
     constructor(family, url, { kind = 'lean', descriptors = {} } = {}) {
-        if (!QUERIES.has(kind)) {
+        if (!KINDS.includes(kind)) {
             throw new RangeError(`fontcut: no kind of cut: ${kind}: it is full, lean, layout or variable`);
         }
         this.#family = family;
@@ -80,7 +75,7 @@ export class GrowingFont {
     }
 
     async #fetchedOne(words) {
-        const query = `unicodes=${words.join(',')}${QUERIES.get(this.#kind)}`;
+        const query = `unicodes=${words.join(',')}${this.#kind === 'full' ? '' : `&kind=${this.#kind}`}`;
         const url = `${this.#url}${this.#url.includes('?') ? '&' : '?'}${query}`;
         const answer = await fetch(url);
         if (!answer.ok) {

@@ -230,7 +230,7 @@ class Page {
 
 const growing = {
     'the font is the cut for all text so far, of each kind': async () => {
-        const kinds = [['lean', '&lean=1'], ['full', ''], ['layout', '&kind=layout'], ['variable', '&kind=variable']];
+        const kinds = [['lean', '&kind=lean'], ['full', ''], ['layout', '&kind=layout'], ['variable', '&kind=variable']];
         for (const [kind, query] of kinds) {
             const page = new Page(), font = new GrowingFont('Grown', '/font.ttf?version=1', { kind });
             for (const text of ['Hello', 'Hello, world', 'ABC']) {
@@ -249,7 +249,7 @@ const growing = {
         const page = new Page(), font = new GrowingFont('Grown', '/font.ttf');
         await Promise.all([font.add('abc'), font.add('bcd'), font.add('abcd')]);
         page.shows(cutFor('abcd'));
-        assert.deepEqual(page.asked, ['/font.ttf?unicodes=61-63&lean=1', '/font.ttf?unicodes=64&lean=1']);
+        assert.deepEqual(page.asked, ['/font.ttf?unicodes=61-63&kind=lean', '/font.ttf?unicodes=64&kind=lean']);
     },
 
     'a fetch that fails leaves the font, and is tried again': async () => {

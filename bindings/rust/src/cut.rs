@@ -13,7 +13,7 @@ use std::ops::Deref;
 /// let font = Font::new(&file)?;
 /// let cut: Cut = font.cut(Kind::Lean, &"Hello".chars().collect())?;
 /// assert!(cut.len() < font.bytes().len());
-/// assert!(cut.font().is_cut_of(cut.kind(), &font)?);
+/// assert!(cut.font().belongs_to(cut.kind(), &font)?);
 /// # Ok(())
 /// # }
 /// ```

@@ -239,7 +239,7 @@ impl<'a> Font<'a> {
     ///
     /// 16 if out of memory. Of [`Kind::Layout`] also 5 and 6, and of [`Kind::Variable`] 5, 6 and 28, with 0 as
     /// the file for this font, and 1 for the other one.
-    pub fn is_cut_of(&self, kind: Kind, font: &Font<'_>) -> Result<bool, Error> {
+    pub fn belongs_to(&self, kind: Kind, font: &Font<'_>) -> Result<bool, Error> {
         // SAFETY: the places and lengths are those of slices, which the call reads.
         let answer = unsafe {
             let (cut, cut_length) = (self.bytes.as_ptr(), self.bytes.len());
@@ -256,6 +256,16 @@ impl<'a> Font<'a> {
         } else {
             Err(Error::of_several_files(answer))
         }
+    }
+
+    /// The older name of [`Font::belongs_to`].
+    ///
+    /// # Errors
+    ///
+    /// Those of [`Font::belongs_to`].
+    #[deprecated(note = "call belongs_to")]
+    pub fn is_cut_of(&self, kind: Kind, font: &Font<'_>) -> Result<bool, Error> {
+        self.belongs_to(kind, font)
     }
 
     /// The glyph to which the font maps each character or code point, in their order: 0 if it maps one to none.

@@ -44,8 +44,8 @@ fn cuts_and_joins() -> Result<(), Error> {
         assert_eq!((both.kind(), both.font().bytes()), (kind, cut.bytes()));
         assert_eq!(Vec::from(both.clone()), both.clone().into_bytes());
         assert_eq!(cut.form(kind)?, Some(Form::Current));
-        assert!(cut.is_cut_of(kind, &font)?);
-        assert!(!font.is_cut_of(kind, &cut)?);
+        assert!(cut.belongs_to(kind, &font)?);
+        assert!(!font.belongs_to(kind, &cut)?);
         assert_eq!(cut.codes()?, letters("Helowrd"));
     }
     assert_eq!(font.form(Kind::Full)?, None);
@@ -151,7 +151,7 @@ fn cuts_for_glyphs() -> Result<(), Error> {
         let both = wanted("if", &[68, 36, 700]);
         assert_eq!(join(kind, &cuts)?, font.exact_cut(kind, &both)?);
         assert_eq!(one.font().form(kind)?, Some(Form::Current));
-        assert!(one.font().is_cut_of(kind, &font)?);
+        assert!(one.font().belongs_to(kind, &font)?);
         assert_eq!(one.font().codes()?, letters("fi"));
         let kept = one.font().kept_glyphs(kind)?;
         assert!([0, 36, 700].iter().all(|glyph| kept.contains(glyph)));
