@@ -7,7 +7,7 @@ import { dirname, join as pathOf, resolve } from 'node:path';
 import { parseArgs } from 'node:util';
 import { belongs, check, codes, cutForm, FontcutError, glyphs, init, join, metrics, ranges, subset, version }
     from './fontcut.js';
-import { KINDS, SHAPED } from './kinds.js';
+import { KINDS, LAYOUT_TABLES, NO_GLYPH, NO_MEMORY, SHAPED, rangeWord } from './kinds.js';
 import { needed } from './needed.js';
 
 const HELP = `fontcut in node: subsets that keep glyph ids, and their joins
@@ -28,8 +28,6 @@ written.
 `;
 const FLAG = { type: 'boolean' }, LIST = { type: 'string', multiple: true };
 const KIND_FLAGS = { lean: FLAG, layout: FLAG, variable: FLAG };
-const LAYOUT_TABLES = ['BASE', 'GDEF', 'GPOS', 'GSUB', 'kern'];
-const NO_MEMORY = 16, NO_GLYPH = 102;
 const COMMANDS = {
     subset: {
         run: runSubset, options: {
@@ -309,20 +307,18 @@ function runCheck(_, words) {
     return 0;
 }
 
-const hexOf = (code) => code.toString(16).toUpperCase();
-
 function runCodes(given, words) {
     if (words.length !== 1) {
         throw new Failed(2, 'codes takes FONT');
     }
     const font = read(words[0]), pairs = codes(font);
     if (!given.glyphs) {
-        print(pairs.map(([first, last]) => `U+${hexOf(first)}${first === last ? '' : `-${hexOf(last)}`}\n`).join(''));
+        print(pairs.map((pair) => `${rangeWord(pair, 'U+')}\n`).join(''));
         return;
     }
     const all = pairs.flatMap(([first, last]) => Array.from({ length: last - first + 1 }, (_, i) => first + i));
     const numbers = glyphs(font, all), widths = metrics(font, numbers);
-    print(all.map((code, i) => `U+${hexOf(code)} ${numbers[i]} ${widths[i].advance}\n`).join(''));
+    print(all.map((code, i) => `${rangeWord([code, code], 'U+')} ${numbers[i]} ${widths[i].advance}\n`).join(''));
 }
 
 // The arguments with the command first: as in the program, --quiet may stand before it.

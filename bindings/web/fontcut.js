@@ -9,20 +9,14 @@
 // A font is an ArrayBuffer or a view of one. Calls are synchronous: a worker keeps a long one off the page's thread.
 // Each call copies what it reads into the module's memory, and frees all that it took when it returns or throws.
 
-import { KINDS, SHAPED } from './kinds.js';
+import { DONE, KINDS, NO_GLYPH, NO_MEMORY, NO_NUMBERS, NOTHING_TO_JOIN, OF_NUMBERS, OF_TAGS, SHAPED, SMALL_ROOM, TOO_LARGE }
+    from './kinds.js';
 import { needed } from './needed.js';
 
 const LAST_CODE = 0x10FFFF;
 const MOST_GLYPHS = 0xFFFF; // of a font: no glyph has this number
 const WITH_LINKS = SHAPED.map((kind) => KINDS.indexOf(kind));
 const FORMS = ['none', 'current', 'old'];
-
-// Statuses of include/fontcut.h, and those whose detail is a tag or a number.
-const DONE = 0, SMALL_ROOM = 100, NO_GLYPH = 102, NO_NUMBERS = 104;
-// Written by tools/write_refusals from include/refusals.txt:
-const NO_MEMORY = 16, TOO_LARGE = 18, NOTHING_TO_JOIN = 24;
-const OF_TAGS = [5, 6, 7, 21], OF_NUMBERS = [12, 15, 17, 22, 23, NO_GLYPH];
-// End of what tools/write_refusals writes.
 
 const BYTES_OF_ANSWER = 24, BYTES_OF_INFO = 16, LONGEST_TEXT = 64;
 

@@ -1,9 +1,26 @@
-// The kinds of cuts and ranges of codes as words, which the other files share.
+// The kinds of cuts, statuses, and ranges of codes as words, which the other files share.
 
 /** The kinds of cuts, in the order of their numbers in include/fontcut.h. */
 export const KINDS = ['full', 'lean', 'layout', 'variable'];
 /** The kinds whose cuts keep GSUB, so that their text is shaped. */
 export const SHAPED = ['layout', 'variable'];
+
+/** The tables that only these keep, and that a cut may lack. */
+export const LAYOUT_TABLES = ['BASE', 'GDEF', 'GPOS', 'GSUB', 'kern'];
+
+/** Statuses of include/fontcut.h, and those whose detail is a tag or a number. */
+export const DONE = 0, SMALL_ROOM = 100, NO_GLYPH = 102, NO_NUMBERS = 104;
+// Written by tools/write_refusals from include/refusals.txt:
+export const NO_MEMORY = 16, TOO_LARGE = 18, NOTHING_TO_JOIN = 24;
+export const OF_TAGS = [5, 6, 7, 21], OF_NUMBERS = [12, 15, 17, 22, 23, NO_GLYPH];
+// End of what tools/write_refusals writes.
+
+const hexOf = (code) => code.toString(16).toUpperCase();
+
+/** A range of codes as a word, such as 41 or 41-5A, after a prefix. */
+export function rangeWord([first, last], prefix = '') {
+    return `${prefix}${hexOf(first)}${first === last ? '' : `-${hexOf(last)}`}`;
+}
 
 /** Code points in ascending order as words, such as 41 and 41-5A, each after a prefix. */
 export function rangeWords(codes, prefix = '') {
@@ -15,6 +32,5 @@ export function rangeWords(codes, prefix = '') {
             ranges.push([code, code]);
         }
     }
-    const hexOf = (code) => code.toString(16).toUpperCase();
-    return ranges.map(([first, last]) => `${prefix}${hexOf(first)}${first === last ? '' : `-${hexOf(last)}`}`);
+    return ranges.map((range) => rangeWord(range, prefix));
 }

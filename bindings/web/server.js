@@ -15,11 +15,10 @@ import { createHash } from 'node:crypto';
 import { promisify } from 'node:util';
 import { brotliCompress, constants } from 'node:zlib';
 import { Font, FontcutError, init, ranges, subset } from './fontcut.js';
-import { KINDS, SHAPED } from './kinds.js';
+import { KINDS, NO_MEMORY, SHAPED } from './kinds.js';
 import { needed } from './needed.js';
 
 const LONGEST_QUERY = 8000; // characters
-const NO_MEMORY = 16;
 const HEADERS = {
     'Cache-Control': 'public, max-age=31536000, immutable', 'Content-Type': 'font/ttf',
     'Access-Control-Allow-Origin': '*', Vary: 'Accept-Encoding',
@@ -62,7 +61,7 @@ function wantedBy(query) {
     const texts = asked.getAll('text').map((text) => SHAPED.includes(kind) ? needed(text) : text);
     const letters = Array.from(texts.join(''), (letter) => `U+${letter.codePointAt(0).toString(16)}`);
     try {
-        return { kind, wanted: ranges([...lists, ...letters].join(' ')) };
+        return { kind, wanted: ranges([...lists, ...letters].join('\n')) };
     } catch (error) {
         throw new Answer(400, error.message.replace('fontcut: ', ''));
     }
