@@ -14,6 +14,7 @@ from urllib.request import pathname2url
 from fontcut_output import read
 
 from .common import MissingProgram, Refused
+from .inputs import file_in
 from .pages import decoded
 
 _PROGRAMS = "chromium", "chromium-browser", "google-chrome"
@@ -58,12 +59,6 @@ def _page(path: str, font: str) -> str:
     return f"{text[:start]}{base}{text[start:]}{_STYLE.format(_address(font))}"
 
 
-def _write(path: str, data: bytes) -> str:
-    with open(path, "wb") as out:
-        out.write(data)
-    return path
-
-
 def _picture(program: str, page: str, font: bytes) -> Optional[bytes]:
     """The picture of a page, which is drawn in a font, as PNG; None where the browser makes none."""
     folder = tempfile.mkdtemp()
@@ -76,14 +71,14 @@ def _picture(program: str, page: str, font: bytes) -> Optional[bytes]:
 
 def _drawn(program: str, folder: str, page: str, font: bytes) -> Optional[bytes]:
     """The same, in a folder."""
-    shown = _write(os.path.join(folder, "page.html"), _page(page, _write(os.path.join(folder, "font"), font)).encode())
+    shown = file_in(folder, "page.html", _page(page, file_in(folder, "font", font)).encode())
     picture = os.path.join(folder, "picture.png")
     words: List[str] = [
         program, "--headless=new", "--disable-gpu", "--hide-scrollbars", "--force-device-scale-factor=1",
         f"--window-size={_WIDTH},{_HEIGHT}", "--font-render-hinting=none", "--virtual-time-budget=10000",
         "--allow-file-access-from-files", f"--user-data-dir={folder}/profile", f"--screenshot={picture}",
         *(["--no-sandbox"] if os.geteuid() == 0 else []), _address(shown)]
-    known = {**os.environ, "FONTCONFIG_FILE": _write(os.path.join(folder, "fonts.conf"), _UNHINTED.encode())}
+    known = {**os.environ, "FONTCONFIG_FILE": file_in(folder, "fonts.conf", _UNHINTED.encode())}
     with contextlib.suppress(subprocess.TimeoutExpired):
         subprocess.run(words, stdin=subprocess.DEVNULL, capture_output=True, check=False, env=known, timeout=_SECONDS)
     return read(picture) if os.path.exists(picture) else None

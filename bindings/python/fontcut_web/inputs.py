@@ -1,7 +1,8 @@
-"""What commands read: pages and fonts."""
+"""What commands read: pages and fonts; and files of these for other programs."""
 from __future__ import annotations
 
 import contextlib
+import hashlib
 import os
 import tempfile
 from typing import Iterable, Iterator, List, Sequence
@@ -54,6 +55,19 @@ def accepted(path: str) -> fontcut.Font:
     data = font_of(path)
     with refusing(path):
         return fontcut.Font(data)
+
+
+def sha256(data: bytes) -> str:
+    """The digest of a file, as sha256sum prints it."""
+    return hashlib.sha256(data).hexdigest()
+
+
+def file_in(folder: str, name: str, data: bytes) -> str:
+    """The path of a new file in a folder that has these bytes, which other programs read."""
+    path = os.path.join(folder, name)
+    with open(path, "wb") as out:
+        out.write(data)
+    return path
 
 
 @contextlib.contextmanager

@@ -3,7 +3,6 @@ from __future__ import annotations
 
 import argparse
 import contextlib
-import hashlib
 import json
 import os
 import sys
@@ -15,7 +14,7 @@ from fontcut_output import print_line, read, write
 
 from . import characters, preparing, shaping
 from .common import KINDS, Refused, UsageError
-from .inputs import accepted, as_file, mapped, read_pages
+from .inputs import accepted, as_file, file_in, mapped, read_pages, sha256
 from .preparing import Limit, Prepared, PrepareOptions
 from .replaced import check_unpacked, is_same
 from .sets import range_words
@@ -124,7 +123,7 @@ def _check_shapes(path: str, font: fontcut.Font, one: Prepared, how: PrepareOpti
     """Raises `Refused` where texts are shaped otherwise by the prepared font, but for features that were dropped."""
     off, most = _off(one, how), _ROUNDED if how.limits else 0
     with tempfile.TemporaryDirectory() as folder, as_file(path, font) as whole:
-        made = shaping.held_as_file(folder, "prepared.ttf", one.data)
+        made = file_in(folder, "prepared.ttf", one.data)
         for before, now in _places(one, how.limits):
             settings = Setting(features=off, place=place_of(before)), Setting(features=off, place=place_of(now))
             text = shaping.difference((whole, made), texts, settings, most)
@@ -136,7 +135,7 @@ def _is_prepared_from(path: str, font: str) -> bool:
     """Whether what stands beside a prepared font says that it was made of the font in a file."""
     with contextlib.suppress(OSError, ValueError, LookupError, TypeError, RecursionError):
         known: object = json.loads(read(f"{path}.json"))["font"]["sha256"]
-        return known == _digest(read(font))
+        return known == sha256(read(font))
     return False
 
 
@@ -144,7 +143,7 @@ def _is_prepared(path: str) -> bool:
     """Whether what stands beside a font says that it was prepared as it is."""
     with contextlib.suppress(OSError, ValueError, LookupError, TypeError, RecursionError):
         known: object = json.loads(read(f"{path}.json"))["out"]["sha256"]
-        return known == _digest(read(path))
+        return known == sha256(read(path))
     return False
 
 
@@ -178,15 +177,11 @@ def _record(given: argparse.Namespace, whole: bytes, wanted: Wanted, one: Prepar
     names = "languages", "scripts", "unicodes", "pages"
     asked = {name: getattr(given, name) for name in names if getattr(given, name)}
     return {
-        "font": {"file": os.path.basename(given.font), "bytes": len(whole), "sha256": _digest(whole)},
-        "out": {"file": os.path.basename(given.out), "bytes": len(one.data), "sha256": _digest(one.data)},
+        "font": {"file": os.path.basename(given.font), "bytes": len(whole), "sha256": sha256(whole)},
+        "out": {"file": os.path.basename(given.out), "bytes": len(one.data), "sha256": sha256(one.data)},
         "prepared_for": asked, "lacking": range_words(wanted.lacking), "options": _again(given, wanted.codes),
         "said": list(preparing.dropped(one)),
         "versions": {"fontcut-web": fontcut.__version__, "fontTools": preparing.VERSION}}
-
-
-def _digest(data: bytes) -> str:
-    return hashlib.sha256(data).hexdigest()
 
 
 def made_of(path: str, font: fontcut.Font, wanted: Wanted, how: PrepareOptions) -> Prepared:

@@ -97,11 +97,3 @@ def difference(paths: Tuple[str, str], texts: Sequence[str], settings: Tuple[Set
 def place_of(values: Mapping[str, float]) -> Tuple[Tuple[str, float], ...]:
     """A place of axes as a setting has it."""
     return tuple(sorted(values.items()))
-
-
-def held_as_file(folder: str, name: str, data: bytes) -> str:
-    """The path of a file in a folder that has these bytes, which hb-shape reads."""
-    path = os.path.join(folder, name)
-    with open(path, "wb") as out:
-        out.write(data)
-    return path

@@ -17,7 +17,7 @@ from .site_fonts import Base, Run, based, programs, section_of
 from .site_pages import Modes, SitePage, modes_of, pages_of
 from .site_report import REPORT, Made, is_ours, lacking, lines, report, sheets
 from .site_settings import Settings, named, settings_of
-from .site_state import NOTHING, FontState, Place, State, held, put_text
+from .site_state import NOTHING, FontState, Place, State, bytes_at, put_text
 
 
 def _names(settings: Settings) -> List[str]:
@@ -63,7 +63,7 @@ def _made(run: Run, base: Base, pages: Sequence[SitePage], modes: Modes) -> List
 def _check_ours(place: Place, before: State, names: Sequence[str]) -> None:
     """Raises `Refused` where a file would be replaced that this command has not written."""
     for name in names:
-        data = held(place.output, name)
+        data = bytes_at(place.output, name)
         if data is not None and name not in before.sheets and not is_ours(data):
             raise Refused(f"{os.path.join(place.output, name)} is not written by fontcut-web site: move it away, or "
                           "name another folder as out")
@@ -114,7 +114,7 @@ def run(given: argparse.Namespace) -> None:
     need("fontTools", "brotli", "tomli")
     settings = settings_of(given.folder)
     place, said = Place(settings.output, settings.work), []  # type: Place, List[str]
-    with place.held(), Progress("fontcut-web") as progress:
+    with place.locked(), Progress("fontcut-web") as progress:
         before = NOTHING if given.anew else place.state()
         if before.programs and before.programs != programs():
             said.append("all fonts are made anew: a program has another version")

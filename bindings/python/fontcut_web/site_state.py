@@ -16,6 +16,7 @@ from typing import Any, Dict, Iterable, Iterator, List, Mapping, NamedTuple, Opt
 from fontcut_output import read, write
 
 from .common import Refused
+from .inputs import sha256
 
 _STATE, _LOCK, _BEGUN = "state.json", "lock", "begun.txt"
 # What `write` makes beside a file before it replaces it, and a killed run leaves.
@@ -31,11 +32,6 @@ def digest(*parts: bytes) -> str:
         found.update(b"%d:" % len(part))
         found.update(part)
     return found.hexdigest()
-
-
-def _sum(data: bytes) -> str:
-    """The digest of a file, as sha256sum prints it."""
-    return hashlib.sha256(data).hexdigest()
 
 
 def digest_of(value: object) -> str:
@@ -110,7 +106,7 @@ class Place:
         self.output, self.work = output, work
 
     @contextlib.contextmanager
-    def held(self) -> Iterator[None]:
+    def locked(self) -> Iterator[None]:
         """Keeps other runs away. What a killed run left is removed."""
         os.makedirs(self.output, exist_ok=True)
         os.makedirs(self.work, exist_ok=True)
@@ -142,7 +138,7 @@ class Place:
         # Where this run is killed before it has removed them, the next one does.
         self._begin({*before.outputs(), *before.works()} - {*state.outputs(), *state.works()})
         put_text(self.work, _STATE, f"{json.dumps(told, indent=1, sort_keys=True)}\n")
-        begun = (held(self.work, _BEGUN) or b"").decode(errors="surrogateescape").splitlines()
+        begun = (bytes_at(self.work, _BEGUN) or b"").decode(errors="surrogateescape").splitlines()
         _remove(self.output, {*begun} - {*state.outputs()})
         _remove(self.work, {*begun} - {*state.works()})
         _remove(self.work, [_BEGUN])
@@ -156,12 +152,12 @@ class Place:
 
     def kept(self, folder: str, file: File) -> Optional[bytes]:
         """The bytes of a file, or None where it is not there or has others."""
-        data = held(folder, file.name)
-        return data if data is not None and _sum(data) == file.digest else None
+        data = bytes_at(folder, file.name)
+        return data if data is not None and sha256(data) == file.digest else None
 
     def put(self, folder: str, base: str, ending: str, data: bytes) -> File:
         """Writes a file whose name ends with digits of its digest, and returns what is kept of it."""
-        found = _sum(data)
+        found = sha256(data)
         file = File(f"{base}-{found[:_DIGITS]}{ending}", found, len(data))
         if self.kept(folder, file) is None:
             self._begin([file.name])
@@ -169,7 +165,7 @@ class Place:
         return file
 
 
-def held(folder: str, name: str) -> Optional[bytes]:
+def bytes_at(folder: str, name: str) -> Optional[bytes]:
     """The bytes of a file, or None where it is not there."""
     try:
         return read(os.path.join(folder, name))
@@ -180,7 +176,7 @@ def held(folder: str, name: str) -> Optional[bytes]:
 def put_text(folder: str, name: str, text: str) -> bool:
     """Replaces a file by a text where it has another, and returns whether it had."""
     data = text.encode()
-    if held(folder, name) == data:
+    if bytes_at(folder, name) == data:
         return False
     write(os.path.join(folder, name), data)
     return True
