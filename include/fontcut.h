@@ -9,7 +9,7 @@
  * written; no room overlaps another area of the same call; and no length is 2^63 bytes or more.
  *
  * A room that is written to holds all of the answer at its front, and the rest of it is as it was. Where the
- * status is not FONTCUT_DONE all of it is as it was, where memory is refused too.
+ * status is not FONTCUT_DONE all of it is as it was, also if it is out of memory.
  *
  * The cut of a font for Latin text, where `room` bytes at `out` are enough for it:
  *

@@ -161,7 +161,7 @@ extern "C" {
     pub(crate) fn fontcut_refusal_text(answer: Answer, out: *mut u8, room: usize) -> Answer;
 }
 
-/// An empty vector with room for so many elements, or the answer that memory is refused. A vector that asks for its room
+/// An empty vector with room for so many elements, or the answer that it is out of memory. A vector that asks for its room
 /// by itself ends the process if it is refused.
 fn with_room<T>(room: usize) -> Result<Vec<T>, Answer> {
     let mut out = Vec::new();
