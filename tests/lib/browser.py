@@ -18,7 +18,7 @@ import threading
 import time
 from typing import Any, Callable, Iterable, Iterator, Mapping, Optional
 
-from checks import put
+from checks import built, put, skip, skip_all
 
 CHROMIUM = ["chromium", "--headless=new", "--no-sandbox", "--disable-gpu", "--hide-scrollbars",
             "--force-device-scale-factor=1", "--window-size=1000,1500"]
@@ -40,6 +40,15 @@ CONFIGURATION = """<?xml version="1.0"?>
 
 KINDS = {".js": "text/javascript", ".mjs": "text/javascript", ".html": "text/html; charset=utf-8",
          ".wasm": "application/wasm", ".css": "text/css", ".json": "application/json"}
+
+
+def pages_built() -> None:
+    """Builds the program. Where there is no browser the script ends here."""
+    built()
+    if not shutil.which("chromium"):
+        skip_all("pages", "Debian's package chromium is not installed")
+    if not shutil.which("woff2_compress"):
+        skip("cuts as WOFF2", "Debian's package woff2 is not installed")
 
 
 class Failed(Exception):

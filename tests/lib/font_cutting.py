@@ -31,6 +31,11 @@ def ranges(words: str) -> list[tuple[int, int]]:
     return [(int(pair[0], 16), int(pair[-1], 16)) for pair in ends]
 
 
+def codes_of(words: str) -> list[int]:
+    """The codes of range words."""
+    return [code for first, last in ranges(words.replace(",", " ")) for code in range(first, last + 1)]
+
+
 def ranges_of(codes: Iterable[int]) -> list[tuple[int, int]]:
     """The fewest ranges of these codes."""
     found: list[tuple[int, int]] = []

@@ -1,13 +1,15 @@
 """What is shaped in tests of layout cuts: words of texts, strings that are made by chance of the letters of a script,
 and the characters that a shaper takes for them besides their own."""
 import itertools
+import os
 import random
 import re
+import shutil
 import unicodedata
 from functools import lru_cache
 from typing import Iterable, Iterator, Mapping, NamedTuple
 
-from checks import run
+from checks import NOTO, built, run, skip_all
 from font_cutting import whole_map
 from font_joining import file_refusal
 from font_reading import tables_of, u16
@@ -34,6 +36,15 @@ ZERO_WIDTH_JOINERS = "\u200c\u200d"
 PARTS_OF_VOWELS = {0x17BE: [0x17C1], 0x17BF: [0x17C1], 0x17C0: [0x17C1], 0x17C4: [0x17C1], 0x17C5: [0x17C1],
                    0x0E33: [0x0E4D, 0x0E32], 0x0EB3: [0x0ECD, 0x0EB2]}
 MIRRORED = {**dict(zip(map(ord, "()[]{}<>«»‹›"), map(ord, ")(][}{><»«›‹")))}
+
+
+def shaping_built() -> None:
+    """Builds the program. If a package is missing, the script ends here."""
+    built()
+    if not shutil.which("hb-shape"):
+        skip_all("shaping", "Debian's package libharfbuzz-bin is not installed")
+    if not os.path.isdir(NOTO):
+        skip_all("shaping", "Debian's package fonts-noto-core is not installed")
 
 
 class Script(NamedTuple):

@@ -10,7 +10,7 @@ import fontcut
 from fontTools import unicodedata as properties
 
 from . import pages
-from .common import UsageError
+from .common import UsageError, codes_in
 from .languages import EVERY, TABLE
 
 # Languages of thousands of characters have those of a standard of their country, which Python knows as an encoding.
@@ -57,7 +57,7 @@ def _encoded(encoding: str) -> Set[str]:
 
 
 def _letters(words: str) -> Set[str]:
-    return {chr(code) for first, last in fontcut.ranges(words) for code in range(first, last + 1)}
+    return set(map(chr, codes_in(fontcut.ranges(words))))
 
 
 def _with_needed(letters: Iterable[str]) -> Set[str]:
@@ -91,7 +91,7 @@ def of_scripts(scripts: Sequence[str], font: fontcut.Font) -> Set[str]:
     """The characters of a font that are of scripts, marks of any script, and the characters that every language has,
     with what a shaper takes for them. Raises `UsageError` for a script that is not known."""
     wanted = {*_script_names(scripts), _INHERITED}
-    letters = (chr(code) for first, last in fontcut.codes(font) for code in range(first, last + 1))
+    letters = map(chr, codes_in(fontcut.codes(font)))
     return _with_needed({*_letters(EVERY), *(one for one in letters if wanted & properties.script_extension(one))})
 
 

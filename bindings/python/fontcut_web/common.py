@@ -1,11 +1,11 @@
-"""What the modules of the package share: errors, and the packages that a command needs."""
+"""What the modules of the package share: errors, the packages that a command needs, and the codes of ranges."""
 from __future__ import annotations
 
 import importlib
 import sys
 from importlib.util import find_spec
 from types import ModuleType
-from typing import Dict, List, Sequence, Tuple
+from typing import Dict, Iterable, Iterator, List, Sequence, Tuple
 
 # The modules that a package may be imported as. fontTools takes either of those for Brotli; newer Pythons bring tomli
 # by another name.
@@ -43,6 +43,11 @@ class MissingProgram(Exception):
 
     def __init__(self, program: str, install: str):
         super().__init__(f"needs {program}: {install}")
+
+
+def codes_in(ranges: Iterable[Tuple[int, int]]) -> Iterator[int]:
+    """The codes of ranges, in their order."""
+    return (code for first, last in ranges for code in range(first, last + 1))
 
 
 def need(*packages: str) -> None:

@@ -13,11 +13,11 @@ import fontcut
 from fontcut_output import print_line, read, write
 
 from . import characters, preparing, shaping
-from .common import KINDS, Refused, UsageError
+from .common import KINDS, Refused, UsageError, codes_in
 from .inputs import accepted, as_file, file_in, mapped, read_pages, sha256
 from .preparing import Limit, Prepared, PrepareOptions
 from .replaced import check_unpacked, is_same
-from .sets import range_words
+from .sets import codes_of, range_words
 from .shaping import Setting, place_of
 
 # By how many units an instance of fontTools may differ from what HarfBuzz makes of the variable font: each rounds other
@@ -46,10 +46,9 @@ def _unicodes(words: Optional[str], font: fontcut.Font) -> Set[str]:
         ranges = fontcut.ranges(words or "")
     except ValueError as error:
         raise UsageError(f"--unicodes: {error}") from error
-    known = (code for first, last in fontcut.codes(font) for code in range(first, last + 1))
     if ranges == fontcut.ranges("all"):
-        return set(map(chr, known))
-    return {chr(code) for first, last in ranges for code in range(first, last + 1) if not 0xD800 <= code <= 0xDFFF}
+        return set(map(chr, codes_of(font)))
+    return {chr(code) for code in codes_in(ranges) if not 0xD800 <= code <= 0xDFFF}
 
 
 def _wanted(given: argparse.Namespace, font: fontcut.Font) -> Wanted:

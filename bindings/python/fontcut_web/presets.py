@@ -9,6 +9,8 @@ from typing import Dict, List, NamedTuple, Tuple, TypedDict
 
 import fontcut
 
+from .common import codes_in
+
 _FOLDER = os.path.join(os.path.dirname(os.path.abspath(__file__)), "lists")
 # How the first slices of a language are made: by default so that a page loads few bytes.
 SIZES = FEW_BYTES, FEW_FILES = "few-bytes", "few-files"
@@ -79,7 +81,7 @@ def language(name: str) -> Language:
     """What is known of a language. Its order ends with the ideographs of which nothing is known, by their codes."""
     said = _languages()[name]
     order = dict.fromkeys(characters_of(_text(f"{name}.txt")))
-    order.update((code, None) for first, last in fontcut.ranges(_IDEOGRAPHS) for code in range(first, last + 1))
+    order.update((code, None) for code in codes_in(fontcut.ranges(_IDEOGRAPHS)))
     rows = {FEW_BYTES: said["few-bytes"], FEW_FILES: said["few-files"]}
     sizes = {size: [each for count, each in rows[size] for _ in range(count)] for size in SIZES}
     return Language(fontcut.ranges(said["signs"]), list(order), sizes)

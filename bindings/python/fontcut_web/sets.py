@@ -11,7 +11,7 @@ import fontcut
 from fontcut_output import read
 
 from . import presets
-from .common import UsageError
+from .common import UsageError, codes_in
 
 # All subsets of Google Fonts, and the presets of all scripts that a font has.
 WEB, AUTO = "web", "auto"
@@ -209,9 +209,9 @@ def _lines(path: str) -> Iterator[Listed]:
                 raise UsageError(f"{path}: line {number}: {error}") from error
 
 
-def codes_of(font: fontcut.Font) -> List[int]:
+def codes_of(font: Union[bytes, fontcut.Font]) -> List[int]:
     """The characters that a font maps, in ascending order."""
-    return [code for first, last in fontcut.codes(font) for code in range(first, last + 1)]
+    return list(codes_in(fontcut.codes(font)))
 
 
 def named_codes(wanted: Iterable[Asked]) -> List[int]:
@@ -221,7 +221,7 @@ def named_codes(wanted: Iterable[Asked]) -> List[int]:
         if isinstance(one, (Equal, Auto)):
             raise UsageError("equal, pages and auto are for a font: name it by --font")
         ranges = one.ranges if isinstance(one, Listed) else presets.language(one.name).signs
-        found.update(code for first, last in ranges for code in range(first, last + 1))
+        found.update(codes_in(ranges))
         found.update(presets.language(one.name).order if isinstance(one, Ranked) else ())
     return sorted(found)
 

@@ -11,7 +11,7 @@ from fontcut_output import Progress, print_line
 
 from .common import Refused, need
 from .inputs import mapped
-from .sets import range_words
+from .sets import codes_of, range_words
 from .shaped import BY_FEATURES
 from .site_fonts import Base, Run, based, programs, section_of
 from .site_pages import Modes, SitePage, modes_of, pages_of
@@ -54,8 +54,7 @@ def _made(run: Run, base: Base, pages: Sequence[SitePage], modes: Modes) -> List
         state = section_of(run, base, name, [page for page in pages if page.section == name], modes)
         old = base.state.sections.get(name)
         cut = run.place.kept(run.place.work, state.cut) or b""
-        codes = [code for first, last in fontcut.codes(cut) for code in range(first, last + 1)]
-        found.append(Made(base.settings.file, name, base.face, codes, base.state.whole, state,
+        found.append(Made(base.settings.file, name, base.face, codes_of(cut), base.state.whole, state,
                           old is None or old.woff2 != state.woff2))
     return found
 

@@ -8,7 +8,7 @@ import fontcut
 from fontcut_output import Progress
 
 from . import characters, drawn, preparing, shaped, shaping
-from .common import SHAPED, Refused
+from .common import SHAPED, Refused, codes_in
 from .faces import Face, face_of, is_variable, varying
 from .inputs import accepted, mapped, refusing
 from .prepare import made_of, wanted_of
@@ -50,7 +50,7 @@ def programs() -> Dict[str, str]:
 
 
 def _codes(words: str) -> Set[int]:
-    return {code for first, last in fontcut.ranges(words) for code in range(first, last + 1)}
+    return set(codes_in(fontcut.ranges(words)))
 
 
 def _features(one: FontSettings, pages: Sequence[SitePage]) -> Optional[List[str]]:
