@@ -183,8 +183,8 @@ class Bench:
         return 1000 * (time.perf_counter() - begin) if ran.returncode == 0 else None
 
     def in_process(self, font: Font, wanted: Wanted) -> Calls:
-        """A cut in memory, and one of a font that was accepted before, beside a lean cut, HarfBuzz's call, the same of a
-        face that is kept, and a copy with a sum."""
+        """A cut in memory, and one of a font that was accepted before, beside a lean cut, HarfBuzz's call, the same of
+        a face that is kept, and a copy with a sum."""
         ranges = os.path.join(self.folder, "ranges")
         put_ranges(ranges, wanted.ranges)
         took = calls_in_turn(self.calls, font.path, ranges, self.effort.call_ms, self.effort.least_calls)

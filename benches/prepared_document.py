@@ -2,8 +2,9 @@
 from typing import Iterator, Optional, Sequence
 
 from document import Cells, held_row, mean, ratio, table
-from prepared_sizes import (CLOSED, EXACT, FOR_LANGUAGES, FOR_PAGES, FOR_RANGES, GROUPS, HB, HB_ALL, HB_BARE, HB_RENUMBERED, ICON, KEPT,
-                            LATIN, LEAN, NO_HINTING, PYFTSUBSET, SHAPED, TYPED, VARYING, Sized)
+from prepared_sizes import (CLOSED, EXACT, FOR_LANGUAGES, FOR_PAGES, FOR_RANGES, GROUPS, HB, HB_ALL, HB_BARE,
+                            HB_RENUMBERED, ICON, KEPT, LATIN, LEAN, NO_HINTING, PYFTSUBSET, SHAPED, TYPED, VARYING,
+                            Sized)
 
 BY_LANGUAGES, BY_RANGES = f"{FOR_LANGUAGES}{KEPT}", f"{FOR_RANGES}{KEPT}"
 # What is compared with names kept and the characters that a shaper takes on both sides, and what as it is typed.
@@ -11,7 +12,8 @@ WAYS = [LEAN, CLOSED, EXACT,
         *(f"{way} {target}{more}" for target in (BY_LANGUAGES, BY_RANGES) for more in ("", NO_HINTING)
           for way in (CLOSED, EXACT)),
         HB, HB_BARE, HB_ALL, HB_RENUMBERED, PYFTSUBSET]
-TYPED_WAYS = [LEAN, CLOSED, EXACT, *(f"{way} {FOR_PAGES}{more}" for more in ("", NO_HINTING) for way in (CLOSED, EXACT)),
+TYPED_WAYS = [LEAN, CLOSED, EXACT,
+              *(f"{way} {FOR_PAGES}{more}" for more in ("", NO_HINTING) for way in (CLOSED, EXACT)),
               *(f"{way} {FOR_LANGUAGES}" for way in (CLOSED, EXACT)),
               *(f"{way}{TYPED}" for way in (HB, HB_BARE, HB_ALL, HB_RENUMBERED, PYFTSUBSET))]
 # What was set: a way, a group, what it stands beside, and the ratio at most, as a geometric mean or of each font.
@@ -21,8 +23,9 @@ MEANS = [(f"{CLOSED} {BY_RANGES}", LATIN, HB, 1.2), (f"{EXACT} {BY_RANGES}", LAT
 EACH = [(f"{EXACT} {FOR_PAGES}", LATIN, 1.17), (f"{EXACT} {FOR_PAGES}", SHAPED, 0.95),
         (f"{EXACT} {FOR_LANGUAGES}", LATIN, 1.47), (f"{EXACT} {FOR_LANGUAGES}", SHAPED, 1.45)]
 # The table of the README: which fonts it has, what they are called there, and what the ways are called and are for.
-TAKEN_FONTS = {"NotoSans-Regular": "Latin", "NotoNaskhArabic-Regular": "Arabic", "NotoSansDevanagari-Regular": "Devanagari",
-               "NotoSansKhmer-Regular": "Khmer", "MaterialIcons-Regular": "icons", "Inter.var": "Inter, variable"}
+TAKEN_FONTS = {"NotoSans-Regular": "Latin", "NotoNaskhArabic-Regular": "Arabic",
+               "NotoSansDevanagari-Regular": "Devanagari", "NotoSansKhmer-Regular": "Khmer",
+               "MaterialIcons-Regular": "icons", "Inter.var": "Inter, variable"}
 TAKEN = {f"{CLOSED} {FOR_LANGUAGES}": "text that readers write: closed cut, font prepared for languages",
          f"{EXACT} {FOR_PAGES}": "text that is published: exact cut, font prepared for the page",
          f"{EXACT} {FOR_PAGES}{NO_HINTING}": "the same, without hinting", LEAN: "letters alone: lean cut",
@@ -62,7 +65,8 @@ def means_table(rows: Sequence[Sized], ways: Sequence[str], other: str) -> str:
 def bytes_table(rows: Sequence[Sized], ways: Sequence[str]) -> str:
     """The bytes of each page."""
     return table(["font", "characters", *ways],
-                 [[row.page.font, row.characters, *(f"{row.made[way]:,}" if way in row.made else NOTHING for way in ways)]
+                 [[row.page.font, row.characters,
+                   *(f"{row.made[way]:,}" if way in row.made else NOTHING for way in ways)]
                   for row in rows])
 
 
@@ -71,7 +75,8 @@ def taken_table(rows: Sequence[Sized]) -> str:
     taken = [row for font in TAKEN_FONTS for row in rows if row.page.font == font]
     titles = ["a page, bytes as WOFF2", *(TAKEN_FONTS[row.page.font] for row in taken),
               f"{len(rows)} pages : `hb-subset --retain-gids`"]
-    return table(titles, [[name, *(f"{row.made[way]:,}" if way in row.made else NOTHING for row in taken), mean_cell(rows, way, HB + TYPED)]
+    return table(titles, [[name, *(f"{row.made[way]:,}" if way in row.made else NOTHING for row in taken),
+                           mean_cell(rows, way, HB + TYPED)]
                           for way, name in TAKEN.items()])
 
 
@@ -93,7 +98,8 @@ def held_rows(rows: Sequence[Sized]) -> Iterator[Cells]:
 def tables(rows: Optional[Sequence[Sized]]) -> dict[str, str]:
     """All tables, by their names in the template."""
     if not rows:
-        return dict.fromkeys(("prepared_taken", "prepared_held", "prepared_means", "prepared_typed", "prepared_bytes", "prepared_typed_bytes"),
+        return dict.fromkeys(("prepared_taken", "prepared_held", "prepared_means", "prepared_typed", "prepared_bytes",
+                              "prepared_typed_bytes"),
                              "Not measured, for a program was not there.")
     return {"prepared_taken": taken_table(rows),
             "prepared_held": table(["what", "at most", "measured", "the farthest", "held"], held_rows(rows)),

@@ -1,5 +1,5 @@
-"""What a page of text weighs as WOFF2 by each way of cutting its font: closed and exact cuts, of the font as it is and of
-the font that `fontcut-web prepare` makes for languages or for the page, beside hb-subset and pyftsubset."""
+"""What a page of text weighs as WOFF2 by each way of cutting its font: closed and exact cuts, of the font as it is and
+of the font that `fontcut-web prepare` makes for languages or for the page, beside hb-subset and pyftsubset."""
 import html
 import os
 import shutil
@@ -18,22 +18,23 @@ CHARIS, LATO, ROBOTO = f"{TRUETYPE}/charis", f"{TRUETYPE}/lato", f"{TRUETYPE}/ro
 OPEN_SANS, CARLITO = f"{TRUETYPE}/open-sans", f"{TRUETYPE}/crosextra"
 FIRA_CODE, JETBRAINS = f"{TRUETYPE}/firacode", f"{TRUETYPE}/jetbrains-mono"
 LXGW, ICONS = f"{TRUETYPE}/lxgw-wenkai", f"{TRUETYPE}/material-design-icons-iconfont"
-PACKAGES = {NOTO: "fonts-noto-core", DEJAVU: "fonts-dejavu-core", LIBERATION: "fonts-liberation2", CHARIS: "fonts-sil-charis",
-            LATO: "fonts-lato", ROBOTO: "fonts-roboto-unhinted", OPEN_SANS: "fonts-open-sans",
-            CARLITO: "fonts-crosextra-carlito", FIRA_CODE: "fonts-firacode", JETBRAINS: "fonts-jetbrains-mono",
-            VLGOTHIC: "fonts-vlgothic", LXGW: "fonts-lxgw-wenkai", ICONS: "fonts-material-design-icons-iconfont",
-            INTER: "fonts-inter-variable"}
+PACKAGES = {NOTO: "fonts-noto-core", DEJAVU: "fonts-dejavu-core", LIBERATION: "fonts-liberation2",
+            CHARIS: "fonts-sil-charis", LATO: "fonts-lato", ROBOTO: "fonts-roboto-unhinted",
+            OPEN_SANS: "fonts-open-sans", CARLITO: "fonts-crosextra-carlito", FIRA_CODE: "fonts-firacode",
+            JETBRAINS: "fonts-jetbrains-mono", VLGOTHIC: "fonts-vlgothic", LXGW: "fonts-lxgw-wenkai",
+            ICONS: "fonts-material-design-icons-iconfont", INTER: "fonts-inter-variable"}
 
 LATIN, PROGRAMS, SHAPED, HAN, ICON, VARYING = GROUPS = (
     "Latin", "program text", "shaped scripts", "Chinese, Japanese", "icons", "Inter, variable")
 
 # The lines of pages: languages, and how a text begins.
 LATIN_LINES = [("en", "All human"), ("en", "Official"), ("fr", "Tous les"), ("de", "Alle Menschen")]
-PROGRAM_LINES = ["if (a != b && c >= 10) { return x->y <= z || !w; } // ok", "let f = |n: u32| -> u32 { n * 0xFF }; /* => */",
+PROGRAM_LINES = ["if (a != b && c >= 10) { return x->y <= z || !w; } // ok",
+                 "let f = |n: u32| -> u32 { n * 0xFF }; /* => */",
                  "www <!-- --> === !== ++ -- :: .. ... ## <=> |> ~> [0..9]"]
 NAMES = """home search settings menu close check_circle add delete favorite share star person info help warning
-    shopping_cart email phone lock visibility expand_more arrow_back arrow_forward account_circle print cloud_queue folder
-    alarm map place""".split()
+    shopping_cart email phone lock visibility expand_more arrow_back arrow_forward account_circle print cloud_queue
+    folder alarm map place""".split()
 SHAPED_LINES = [
     (f"{NOTO}/NotoNaskhArabic-Regular.ttf", [("ar", "يولد"), ("ar", "وقد"), ("ar", "بِسْمِ")]),
     (f"{NOTO}/NotoNastaliqUrdu-Regular.ttf", [("ur", "تمام انسان")]),
@@ -52,8 +53,8 @@ LATIN_FONTS = [f"{NOTO}/NotoSans-Regular.ttf", f"{NOTO}/NotoSerif-Regular.ttf", 
                f"{ROBOTO}/Roboto-Regular.ttf", f"{OPEN_SANS}/OpenSans-Regular.ttf", f"{CARLITO}/Carlito-Regular.ttf",
                f"{LIBERATION}/LiberationSerif-Regular.ttf"]
 
-# What fonts for Latin pages are prepared for by ranges: ASCII, Latin-1, two letters of French, nine combining marks, and
-# punctuation.
+# What fonts for Latin pages are prepared for by ranges: ASCII, Latin-1, two letters of French, nine combining marks,
+# and punctuation.
 RANGES = ("--unicodes=U+20-7E,U+A0-FF,U+152-153,U+300-304,U+308,U+30A,U+30C,U+327,U+2010-2015,U+2018-201E,U+2020-2022,"
           "U+2026,U+2039-203A,U+20AC,U+2122")
 
@@ -139,11 +140,11 @@ class Sizes:
         return status == 0
 
     def cuts(self, page: Page, font: str, name: str) -> Iterator[tuple[str, int]]:
-        """The closed and the exact cut of a font, which is the page's or was made of it. Both shape its lines as that."""
+        """The closed and the exact cut of a font, which is the page's or was made of it. Both shape its lines so."""
         for way, words in ((CLOSED, [page.kind]), (EXACT, [page.kind, "--shaped"])):
             self.web("text", self.page, font, self.out, *words)
-            need(f"{page.font}, {way}{name}: it shapes the page as the font", shaped(page.path, self.texts, "--shapers=ot") ==
-                 shaped(self.out, self.texts, "--shapers=ot"))
+            need(f"{page.font}, {way}{name}: it shapes the page as the font",
+                 shaped(page.path, self.texts, "--shapers=ot") == shaped(self.out, self.texts, "--shapers=ot"))
             yield f"{way}{name}", length_of(self.out).woff2 or 0
 
     def ours(self, page: Page) -> Iterator[tuple[str, int]]:
@@ -152,12 +153,15 @@ class Sizes:
             self.web("text", self.page, page.path, self.out, "--lean")
             yield LEAN, length_of(self.out).woff2 or 0
         yield from self.cuts(page, page.path, "")
-        rows = [(FOR_LANGUAGES, KEPT, ["--names=keep"]), (FOR_LANGUAGES, KEPT + NO_HINTING, ["--names=keep", "--no-hinting"]),
+        rows = [(FOR_LANGUAGES, KEPT, ["--names=keep"]),
+                (FOR_LANGUAGES, KEPT + NO_HINTING, ["--names=keep", "--no-hinting"]),
                 (FOR_LANGUAGES, "", ["--names=least"]), (FOR_PAGES, "", ["--names=least"]),
                 (FOR_PAGES, NO_HINTING, ["--names=least", "--no-hinting"])]
         if page.group in (LATIN, VARYING):
-            rows += [(FOR_RANGES, KEPT, ["--names=keep"]), (FOR_RANGES, KEPT + NO_HINTING, ["--names=keep", "--no-hinting"])]
-        options = {FOR_LANGUAGES: [*page.prepared, "--pages", self.page], FOR_PAGES: ["--pages", self.page], FOR_RANGES: [RANGES]}
+            rows += [(FOR_RANGES, KEPT, ["--names=keep"]),
+                     (FOR_RANGES, KEPT + NO_HINTING, ["--names=keep", "--no-hinting"])]
+        options = {FOR_LANGUAGES: [*page.prepared, "--pages", self.page], FOR_PAGES: ["--pages", self.page],
+                   FOR_RANGES: [RANGES]}
         for target, name, words in rows:
             self.web("prepare", page.path, self.prepared, *words, *options[target])
             yield from self.cuts(page, self.prepared, f" {target}{name}")
@@ -181,7 +185,8 @@ class Sizes:
         """All of a page."""
         print(f"{page.font}: bytes of a page", file=sys.stderr, flush=True)
         texts = [text for _, text in page.lines]
-        put(self.page, "".join(f"<p lang={language}>{html.escape(text)}</p>\n" for language, text in page.lines).encode())
+        put(self.page,
+            "".join(f"<p lang={language}>{html.escape(text)}</p>\n" for language, text in page.lines).encode())
         put(self.texts, "".join(f"{text}\n" for text in texts).encode())
         text = set("".join(texts))
         characters = text.union(*map(needed, texts))

@@ -72,7 +72,8 @@ def first_table(text: str) -> str:
     pages = {row["a page, bytes as WOFF2"]: row["Arabic"] for row in rows_of(text, "a page, bytes as WOFF2")}
     return table(["beside other subsetters", "fontcut", "hb-subset", "pyftsubset"], [
         *time_rows(text),
-        ["the same, ASCII as WOFF2, bytes", *(last(ascii_sizes[way]) for way in ("lean cut", "hb-subset", "pyftsubset"))],
+        ["the same, ASCII as WOFF2, bytes",
+         *(last(ascii_sizes[way]) for way in ("lean cut", "hb-subset", "pyftsubset"))],
         ["the same, 100 slices as WOFF2, seconds", slices["`fontcut-web slice`"], NOTHING,
          slices["`pyftsubset`, a call a slice"]],
         ["a page of Arabic with layout, as WOFF2, bytes", *(pages[way] for way in PAGE_WAYS)],

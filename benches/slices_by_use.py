@@ -56,8 +56,8 @@ BY_CODE = "by code, 100 equal"
 
 
 class Row(NamedTuple):
-    """What a way of slicing comes to for the pages of a kind: slices and bytes that a page loads, and how many times the
-    bytes of its own cut; and the bytes of the style sheet, as it is and after Brotli."""
+    """What a way of slicing comes to for the pages of a kind: slices and bytes that a page loads, and how many times
+    the bytes of its own cut; and the bytes of the style sheet, as it is and after Brotli."""
 
     language: str
     way: str
@@ -77,8 +77,8 @@ def text_of(path: str) -> str:
 
 
 def parts(text: str, known: set[int]) -> Iterator[set[int]]:
-    """The sets of ranked characters of a text: the whole of a short page, and each 200th different character of a longer
-    one begins the next part."""
+    """The sets of ranked characters of a text: the whole of a short page, and each 200th different character of a
+    longer one begins the next part."""
     found: set[int] = set()
     whole = set(map(ord, text)) & known
     if len(whole) <= MOST:
@@ -133,7 +133,7 @@ def css_sizes(slices: Sequence[sets.Slice]) -> tuple[int, int]:
 
 def measured_way(folder: str, opened: fontcut.Font, language: Language, way: str, slices: list[sets.Slice],
                  pages: dict[str, list[set[int]]], own: dict[str, list[int]]) -> Iterator[Row]:
-    """What a way of slicing comes to, for the pages of each kind. Slices that none of these pages has are not packed."""
+    """What a way of slicing comes to, for the pages of each kind. Slices that none of them has are not packed."""
     size = functools.lru_cache(maxsize=None)(lambda number: woff2_size(folder, opened, slices[number].codes))
     css = css_sizes(slices)
     for kind, found in pages.items():
@@ -163,7 +163,8 @@ def measured(folder: str, library: str) -> list[Row]:
     os.environ["FONTCUT_LIBRARY"] = library
     found: list[Row] = []
     for language in LANGUAGES:
-        if not os.path.exists(language.font) or not shutil.which("woff2_compress") or not glob.glob(language.manuals[0]):
+        if (not os.path.exists(language.font) or not shutil.which("woff2_compress")
+                or not glob.glob(language.manuals[0])):
             skip(f"slices by use, {language.name}", "the package of its font, of its pages or woff2 is not installed")
             continue
         print(f"slices by use: {language.name}", file=sys.stderr, flush=True)
@@ -173,8 +174,8 @@ def measured(folder: str, library: str) -> list[Row]:
 
 def table(rows: Sequence[Row]) -> str:
     """The table of the document."""
-    lines = ["| language | slices | pages | slices of a page: median (90 %) | of 8 at most | KB of a page | times its own "
-             "cut | style sheet, KB (Brotli) |", "| --- | --- | --- | --: | --: | --: | --: | --: |"]
+    lines = ["| language | slices | pages | slices of a page: median (90 %) | of 8 at most | KB of a page | times its "
+             "own cut | style sheet, KB (Brotli) |", "| --- | --- | --- | --: | --: | --: | --: | --: |"]
     for row in rows:
         touched, few = row.touched, sum(count <= GOAL for count in row.touched)
         size = f"{row.loaded / 1000:,.0f}" if row.loaded else "–"

@@ -43,7 +43,8 @@ def wire_table(rows: Iterable[Wire]) -> str:
 def taken_table(rows: Iterable[Wire]) -> str:
     """The bytes on the wire for all texts: a row for each font and kind."""
     return table(["font and cuts", *TAKEN.values()],
-                 [[f"{row.font}, {row.kind}", *(f"{sum(row.sizes[way]):,}" if row.sizes.get(way) else NOTHING for way in TAKEN)]
+                 [[f"{row.font}, {row.kind}",
+                   *(f"{sum(row.sizes[way]):,}" if row.sizes.get(way) else NOTHING for way in TAKEN)]
                   for row in rows])
 
 

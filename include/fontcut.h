@@ -98,11 +98,11 @@ typedef struct fontcut_answer {
     uint64_t step;   /* of several files the index, from 0, of the one that is refused */
 } fontcut_answer;
 
-/* The numbers of the refusals are those that the program `fontcut` prints. A file is refused by the first that
- * applies, in the order of their numbers, but for FONTCUT_BAD_GLYPH, which comes after FONTCUT_BAD_CMAP. Layout tables
- * are refused for layout and variable cuts alone, variation tables for variable cuts alone, and both after all else of
- * the font. Where a call lists FONTCUT_NO_MEMORY, it may come in place of each status that is listed after
- * those of fontcut_check, 15 and 102. A tag is the number of its four bytes, the first one highest: 0x676C7966 is `glyf`. */
+/* The numbers of the refusals are those that the program `fontcut` prints. A file is refused by the first that applies,
+ * in the order of their numbers, but for FONTCUT_BAD_GLYPH, which comes after FONTCUT_BAD_CMAP. Layout tables are
+ * refused for layout and variable cuts alone, variation tables for variable cuts alone, and both after all else of the
+ * font. Where a call lists FONTCUT_NO_MEMORY, it may come in place of each status that is listed after those of
+ * fontcut_check, 15 and 102. A tag is the number of its four bytes, the first one highest: 0x676C7966 is `glyf`. */
 typedef enum fontcut_status {
     FONTCUT_DONE = 0,
     /* Written by tools/write_refusals from include/refusals.txt: */
@@ -181,14 +181,14 @@ fontcut_answer fontcut_cuts(uint32_t kind, const uint8_t *font, size_t font_leng
                             size_t range_count, const uint64_t *counts, size_t set_count, uint8_t *out, size_t room,
                             uint64_t *sizes, size_t sizes_length);
 
-/* The calls for glyphs by number, which are for FONTCUT_LEAN, FONTCUT_LAYOUT and FONTCUT_VARIABLE. What is wanted is two
- * sets, the codes of the ranges and the glyphs of these numbers, in any order and as often as they come; the cut has the
- * glyphs of both and what these are made of, and the characters of the ranges alone. Glyphs that a font has blank, without
- * an outline, metrics or variation data, are not kept for their number. Such cuts join as others do.
+/* The calls for glyphs by number, which are for FONTCUT_LEAN, FONTCUT_LAYOUT and FONTCUT_VARIABLE. What is wanted is
+ * two sets, the codes of the ranges and the glyphs of these numbers, in any order and as often as they come; the cut
+ * has the glyphs of both and what these are made of, and the characters of the ranges alone. Glyphs that a font has
+ * blank, without an outline, metrics or variation data, are not kept for their number. Such cuts join as others do.
  *
  * No links of GSUB are followed: pass the glyphs that a shaper returned for a text, and the cut shapes this text as the
- * font does. OTHER TEXT MAY VANISH IN IT: a glyph that GSUB puts and the cut does not keep is blank, and no other
- * font steps in for it. For text that is not known give what fontcut_closure writes, too, as fontcut_subset does.
+ * font does. OTHER TEXT MAY VANISH IN IT: a glyph that GSUB puts and the cut does not keep is blank, and no other font
+ * steps in for it. For text that is not known give what fontcut_closure writes, too, as fontcut_subset does.
  *
  * Gives the size in bytes of the cut. No cut is made. Statuses: 101, 104; those of fontcut_check, then 15, 102, for
  * FONTCUT_LAYOUT 5 and 6, for FONTCUT_VARIABLE 5, 6 and 28, then 16 and 18. */
@@ -202,31 +202,31 @@ fontcut_answer fontcut_subset_glyphs(uint32_t kind, const uint8_t *font, size_t 
                                      const fontcut_range *ranges, size_t range_count, const uint16_t *glyphs,
                                      size_t glyph_count, uint8_t *out, size_t room);
 
-/* Writes such cuts of a font for many sets, as fontcut_cuts does. `glyphs` has the glyphs of all sets, those of the first
- * set first, and glyph_counts[i] says how many of them are of the set i; the sets after the last count have none.
+/* Writes such cuts of a font for many sets, as fontcut_cuts does. `glyphs` has the glyphs of all sets, those of the
+ * first set first, and glyph_counts[i] says how many of them are of the set i; the sets after the last count have none.
  * Statuses: 101, 104, 103; those of fontcut_check, then 15 and 102, whose details are indexes in all ranges and in all
- * glyphs, for FONTCUT_LAYOUT 5 and 6, for FONTCUT_VARIABLE 5, 6 and 28, then 16, 18 and 100 as fontcut_cuts has them. */
+ * glyphs, for FONTCUT_LAYOUT 5 and 6, for FONTCUT_VARIABLE 5, 6 and 28, then 16, 18 and 100 as for fontcut_cuts. */
 fontcut_answer fontcut_cuts_glyphs(uint32_t kind, const uint8_t *font, size_t font_length, const fontcut_range *ranges,
                                    size_t range_count, const uint64_t *counts, size_t set_count,
                                    const uint16_t *glyphs, size_t glyph_count, const uint64_t *glyph_counts,
                                    size_t glyph_counts_length, uint8_t *out, size_t room, uint64_t *sizes,
                                    size_t sizes_length);
 
-/* Writes the glyphs that a shaper may put to the front of `out`, ascending: those that GSUB, as cuts of a fontcut_kind keep
- * it, leads to from .notdef, from the glyphs of the codes of the ranges, and from these glyphs; size: how many they are.
- * With these and the ranges fontcut_subset_glyphs makes a cut for text of the characters in whatever order and with
- * whatever features; without glyphs given it is the cut of fontcut_subset, byte for byte, but for FONTCUT_FULL. `room` is
- * in glyphs, of which a font has 65,535 at most. Statuses: 101; those of fontcut_check, then 15, 102, for FONTCUT_LAYOUT
- * 5, 6 and 27, for FONTCUT_VARIABLE 5, 6, 27 and 28, then 16, 100. */
+/* Writes the glyphs that a shaper may put to the front of `out`, ascending: those that GSUB, as cuts of a fontcut_kind
+ * keep it, leads to from .notdef, from the glyphs of the codes of the ranges, and from these glyphs; size: how many
+ * they are. With these and the ranges fontcut_subset_glyphs makes a cut for text of the characters in whatever order
+ * and with whatever features; without glyphs given it is the cut of fontcut_subset, byte for byte, but for
+ * FONTCUT_FULL. `room` is in glyphs, of which a font has 65,535 at most. Statuses: 101; those of fontcut_check, then
+ * 15, 102, for FONTCUT_LAYOUT 5, 6 and 27, for FONTCUT_VARIABLE 5, 6, 27 and 28, then 16, 100. */
 fontcut_answer fontcut_closure(uint32_t kind, const uint8_t *font, size_t font_length, const fontcut_range *ranges,
                                size_t range_count, const uint16_t *glyphs, size_t glyph_count, uint16_t *out,
                                size_t room);
 
-/* Writes the glyphs that a file keeps as a cut of a fontcut_kind to the front of `out`, ascending: .notdef, the glyphs of
- * its characters, in all but full cuts those that have an outline, metrics of their own or, for FONTCUT_VARIABLE,
+/* Writes the glyphs that a file keeps as a cut of a fontcut_kind to the front of `out`, ascending: .notdef, the glyphs
+ * of its characters, in all but full cuts those that have an outline, metrics of their own or, for FONTCUT_VARIABLE,
  * variation data, and what these are made of; size: how many they are. A file that is a cut is that of its font for
- * these and for the codes that fontcut_codes writes. `room` is in glyphs. Statuses: 101; those of fontcut_check, then for
- * FONTCUT_LAYOUT 5 and 6, and for FONTCUT_VARIABLE 5, 6 and 28; 16, 100. */
+ * these and for the codes that fontcut_codes writes. `room` is in glyphs. Statuses: 101; those of fontcut_check, then
+ * for FONTCUT_LAYOUT 5 and 6, and for FONTCUT_VARIABLE 5, 6 and 28; 16, 100. */
 fontcut_answer fontcut_kept(uint32_t kind, const uint8_t *font, size_t font_length, uint16_t *out, size_t room);
 
 /* The calls whose names end in _checked do what the calls without that ending do, and do not test the font again. For a
@@ -250,13 +250,13 @@ fontcut_answer fontcut_glyphs_checked(const uint8_t *font, size_t font_length, c
 fontcut_answer fontcut_metrics_checked(const uint8_t *font, size_t font_length, const uint16_t *glyphs,
                                        size_t glyph_count, fontcut_metric *out, size_t room);
 
-/* Says whether a font is a cut of a fontcut_kind, and in which form; detail: a fontcut_form. A font that is a lean
- * cut for characters alone is a full cut too. Statuses: 101; those of fontcut_check, then for FONTCUT_LAYOUT 5 and 6, and
+/* Says whether a font is a cut of a fontcut_kind, and in which form; detail: a fontcut_form. A font that is a lean cut
+ * for characters alone is a full cut too. Statuses: 101; those of fontcut_check, then for FONTCUT_LAYOUT 5 and 6, and
  * for FONTCUT_VARIABLE 5, 6 and 28; 16. */
 fontcut_answer fontcut_cut_form(uint32_t kind, const uint8_t *font, size_t font_length);
 
-/* Says whether the first file is a cut of the second one for some codes and some glyphs, of a fontcut_kind, a full cut in
- * either form; detail: 1 or 0. Statuses: 101; those of fontcut_check, of the first file with step 0, and then of the
+/* Says whether the first file is a cut of the second one for some codes and some glyphs, of a fontcut_kind, a full cut
+ * in either form; detail: 1 or 0. Statuses: 101; those of fontcut_check, of the first file with step 0, and then of the
  * second one with step 1; for FONTCUT_LAYOUT 5 and 6, for FONTCUT_VARIABLE 5, 6 and 28, of the first file and then of
  * the second one; 16. */
 fontcut_answer fontcut_belongs(uint32_t kind, const uint8_t *cut, size_t cut_length, const uint8_t *font,
@@ -279,11 +279,11 @@ fontcut_answer fontcut_is_cut_of(const uint8_t *cut, size_t cut_length, const ui
 
 /* Writes the join of all files, cuts of one font and of a fontcut_kind in any order, to the front of `out`: that font's
  * cut for all their codes and glyphs, and of any files the least one of which all are cuts; size: its bytes. Full cuts
- * may come in either form; the join is written in the current one. Statuses: 101; 24; of the first file that is refused, with
- * its index as step, those of fontcut_check, for FONTCUT_LAYOUT 5 and 6, for FONTCUT_VARIABLE 5, 6 and 28, then 20, 21
- * to 23 where it differs from the join of the files before it, and 18 where the join with it is too large; 16, with the
- * index of the file that was being joined as step; 100. But for 1, 16, 18, 24 and those from 100 on, a refusal means that no
- * file has all as cuts. */
+ * may come in either form; the join is written in the current one. Statuses: 101; 24; of the first file that is
+ * refused, with its index as step, those of fontcut_check, for FONTCUT_LAYOUT 5 and 6, for FONTCUT_VARIABLE 5, 6 and
+ * 28, then 20, 21 to 23 where it differs from the join of the files before it, and 18 where the join with it is too
+ * large; 16, with the index of the file that was being joined as step; 100. But for 1, 16, 18, 24 and those from 100
+ * on, a refusal means that no file has all as cuts. */
 fontcut_answer fontcut_join(uint32_t kind, const fontcut_bytes *files, size_t file_count, uint8_t *out, size_t room);
 
 FONTCUT_DEPRECATED("call fontcut_join")

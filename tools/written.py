@@ -1,4 +1,4 @@
-"""What scripts share that write a document from the sources: texts, the crates, and writing or checking the document."""
+"""What scripts share that write documents from the sources: texts, the crates, and writing or checking a document."""
 from __future__ import annotations
 
 import os
@@ -21,8 +21,8 @@ def crates() -> List[str]:
 
 
 def write(document: str, written: Callable[[], str], usage: Optional[str], differs: str) -> None:
-    """Writes a document of docs if it is not what the function returns. With the word --check it writes nothing: it says
-    then that the document differs, and the status is 1."""
+    """Writes a document of docs if it is not what the function returns. With the word --check it writes nothing: it
+    says then that the document differs, and the status is 1."""
     if sys.argv[1:] not in ([], ["--check"]):
         sys.exit(usage)
     path = os.path.join(TOP, "docs", document)

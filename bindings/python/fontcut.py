@@ -165,7 +165,8 @@ class Refused(FontcutError):
     number    the number of the refusal, as `fontcut` prints it
     text      its text, such as `bad loca at 7`
     argument  what it is about: a tag as `str`, or an index, glyph, code or size; None if it is about the whole file
-    file      the index of the refused file, from 0, if several were given; the message counts from 1, as the program does
+    file      the index of the refused file, from 0, if several were given; the message counts from 1, as the program
+              does
     """
 
     def __init__(self, number: int, text: str, argument: Union[None, int, str], file: Optional[int]):
@@ -356,8 +357,8 @@ def _warn_of_ranges(text: str) -> None:
     """Warns the caller of `cut`, `cut_size`, `slices`, `closure` or `missing` of a text that probably means ranges."""
     if _LOOKS_LIKE_RANGES.fullmatch(text):
         shown = text if len(text) <= 40 else text[:40] + ".."
-        warnings.warn(f"{shown!r} is taken as characters: for its ranges write fontcut.ranges({shown!r})", FontcutWarning,
-                      stacklevel=6)
+        warnings.warn(f"{shown!r} is taken as characters: for its ranges write fontcut.ranges({shown!r})",
+                      FontcutWarning, stacklevel=6)
 
 
 def _pairs(wanted: Codes) -> List[Tuple[int, int]]:
@@ -537,8 +538,8 @@ def cut(font: Union[Bytes, Font], wanted: Codes, *, lean: bool = False, kind: Op
     """The cut of a font for the wanted characters and for the glyphs with the numbers `gids`, of a kind. Characters
     that the font does not map are ignored. A full cut is for characters alone.
 
-    For a `str`, a layout or variable cut has all characters that `needed` returns for it, as `fontcut subset --text` has;
-    with `exactly=True` it has those of the text alone.
+    For a `str`, a layout or variable cut has all characters that `needed` returns for it, as `fontcut subset --text`
+    has; with `exactly=True` it has those of the text alone.
 
     A layout or variable cut also keeps each glyph that GSUB may substitute for what is wanted. With
     `layout_closure=False` it does not, and is exact: with the glyph numbers of a shaped text, and the characters that
@@ -556,8 +557,8 @@ def cut(font: Union[Bytes, Font], wanted: Codes, *, lean: bool = False, kind: Op
 def closure(font: Union[Bytes, Font], wanted: Codes, gids: Gids = (), *, kind: str = "layout",
             exactly: bool = False) -> List[int]:
     """The glyphs that a shaper may put for text of the wanted characters and glyphs, ascending: .notdef, the glyphs of
-    the characters, those of `gids`, and what GSUB leads to from these. Full and lean cuts have no GSUB to follow. A `str`
-    means the characters that it means for `cut`.
+    the characters, those of `gids`, and what GSUB leads to from these. Full and lean cuts have no GSUB to follow. A
+    `str` means the characters that it means for `cut`.
 
     These as `gids`, with the same characters, make an exact cut that serves text of these characters in any order and
     with any features: the one that `cut` makes with `layout_closure`. Raises `Refused` and `NoGlyph`, as `cut` does."""
@@ -628,15 +629,15 @@ def slices(font: Union[Bytes, Font], sets: Iterable[Codes], *, lean: bool = Fals
     def made(room: _Room, size: int) -> _Answer:
         return call(room, size, sizes, len(wanted))
 
-    # A guess would seldom serve: each cut repeats the tables that it copies, and the font alone says how long they are. So
-    # the first call has no room. It measures the cuts, and the second one has room for just all of them.
+    # A guess would seldom serve: each cut repeats the tables that it copies, and the font alone says how long they are.
+    # So the first call has no room. It measures the cuts, and the second one has room for just all of them.
     out, _ = _filled(0, made)
     ends = itertools.accumulate(sizes[:len(wanted)])
     return [ctypes.string_at(ctypes.byref(out, end - size), size) for end, size in zip(ends, sizes)]
 
 
 def _filled(room: int, call: _Writing, several: bool = False) -> Tuple[_Room, int]:
-    """Room for so many bytes, or for as many as a call then says that it needs, and how many bytes the call wrote to it."""
+    """Room for so many bytes, or for as many as a call then says that it needs, and how many bytes were written."""
     out = ctypes.create_string_buffer(room)
     answer = call(out, room)
     if answer.status == _SMALL_ROOM:

@@ -44,9 +44,10 @@ RANGES = [
     ("U+41 36 1401,", [(0x36, 0x36), (0x41, 0x41), (0x1401, 0x1401)]),
     ("U+41 36 100140", [(0x36, 0x36), (0x41, 0x41), (0x100140, 0x100140)]),
     ("u+41 36 1401", [(0x36, 0x36), (0x41, 0x41), (0x1401, 0x1401)])]
-NO_RANGES = ["ALL", "U+", "U+41-", "-41", "U+0000041", "0000041", "U+42-41", "U+110000", "U+41:U+42", "V+41", "U+4?4", "U+4?-5?",
-             "??????", "U+1100??", "4???????", "?-41", "**", "U+U+41", "unicode-range", "x unicode-range:41",
-             "xunicode-range:41", "U+41\x0cU+42", "\u00e9", "41-5A-61", "unicode-range :41", "\ufeff\ufeff41", "U+41 36 1g01"]
+NO_RANGES = ["ALL", "U+", "U+41-", "-41", "U+0000041", "0000041", "U+42-41", "U+110000", "U+41:U+42", "V+41", "U+4?4",
+             "U+4?-5?", "??????", "U+1100??", "4???????", "?-41", "**", "U+U+41", "unicode-range", "x unicode-range:41",
+             "xunicode-range:41", "U+41\x0cU+42", "\u00e9", "41-5A-61", "unicode-range :41", "\ufeff\ufeff41",
+             "U+41 36 1g01"]
 
 # The font of six glyphs with a `post` of version 1.0, whose names of glyphs a lean cut does not have.
 NAMED = font_cutting.assembled({**font_reading.tables_of(BASE6), b"post": struct.pack(">I", 0x10000) + bytes(28)})
@@ -112,7 +113,8 @@ class Cutting(unittest.TestCase):
             for wanted in SETS:
                 for kind in ("full", "lean"):
                     self.assertEqual(fontcut.cut(font, wanted, kind=kind), fontcut.cut(BASE6, wanted, kind=kind))
-                    self.assertEqual(fontcut.cut_size(font, wanted, kind=kind), fontcut.cut_size(BASE6, wanted, kind=kind))
+                    self.assertEqual(fontcut.cut_size(font, wanted, kind=kind),
+                                     fontcut.cut_size(BASE6, wanted, kind=kind))
             self.assertEqual(fontcut.glyphs(font, "AB\u00c1?"), [1, 5, 3, 0])
             self.assertEqual(fontcut.metrics(font, range(6)), font_reading.metrics(BASE6))
             self.assertEqual(fontcut.missing(font, "AB?"), [0x3F])
@@ -158,7 +160,8 @@ class Cutting(unittest.TestCase):
             lambda font, text: fontcut.slices(font, [text])]
         for text in ("U+41-5A", "u+41", "U+41, U+4??", " U+41-U+5A;\n", "unicode-range: U+41;"):
             for call in calls:
-                with self.assertWarnsRegex(fontcut.FontcutWarning, r"is taken as characters: .* fontcut\.ranges\(") as told:
+                with self.assertWarnsRegex(fontcut.FontcutWarning,
+                                           r"is taken as characters: .* fontcut\.ranges\(") as told:
                     call(BASE6, text)
                 self.assertEqual(os.path.basename(told.filename), os.path.basename(__file__))
         with warnings.catch_warnings():
@@ -183,8 +186,8 @@ class Cutting(unittest.TestCase):
             ([65, "U+41-5A"], TypeError, r"item 1 is 'U\+41-5A', .* read by ranges"),
             ("A\ud800", ValueError, r"item 1 is the lone surrogate U\+D800"), ([None], TypeError, "item 0 is None"),
             ([True], TypeError, "item 0 is True"), ([65, 66.0], TypeError, r"item 1 is 66\.0"),
-            (7, TypeError, "7 is no list"), (b"AB", TypeError, "bytes are no list"), ([(65, "B")], TypeError, "item 0 is 'B'"),
-            ([range(65, 70)], TypeError, r"item 0 is range\(65, 70\)"),
+            (7, TypeError, "7 is no list"), (b"AB", TypeError, "bytes are no list"),
+            ([(65, "B")], TypeError, "item 0 is 'B'"), ([range(65, 70)], TypeError, r"item 0 is range\(65, 70\)"),
         ):
             for call in calls:
                 with self.assertRaisesRegex(error, text):

@@ -1,8 +1,8 @@
 #!/usr/bin/env node
 // The commands of the program that node has, with its words, its bytes and its exit statuses.
 import { randomBytes } from 'node:crypto';
-import { chmodSync, closeSync, existsSync, lstatSync, openSync, readFileSync, readlinkSync, realpathSync, renameSync, rmSync,
-    statSync, writeFileSync, writeSync } from 'node:fs';
+import { chmodSync, closeSync, existsSync, lstatSync, openSync, readFileSync, readlinkSync, realpathSync, renameSync,
+    rmSync, statSync, writeFileSync, writeSync } from 'node:fs';
 import { dirname, join as pathOf, resolve } from 'node:path';
 import { parseArgs } from 'node:util';
 import { belongs, check, codes, cutForm, FontcutError, glyphs, init, join, metrics, ranges, subset, version }
@@ -35,7 +35,9 @@ const COMMANDS = {
             'no-layout-closure': FLAG, force: FLAG, quiet: FLAG,
         },
     },
-    join: { run: runJoin, options: { ...KIND_FLAGS, output: { type: 'string', short: 'o' }, force: FLAG, quiet: FLAG } },
+    join: {
+        run: runJoin, options: { ...KIND_FLAGS, output: { type: 'string', short: 'o' }, force: FLAG, quiet: FLAG },
+    },
     belongs: { run: runBelongs, options: { ...KIND_FLAGS, full: FLAG, quiet: FLAG } },
     check: { run: runCheck, options: { quiet: FLAG } },
     codes: { run: runCodes, options: { glyphs: FLAG, quiet: FLAG } },
@@ -49,8 +51,9 @@ class Failed extends Error {
     }
 }
 
-const reasonOf = (error) => ({ ENOENT: 'No such file or directory', EISDIR: 'Is a directory', EACCES: 'Permission denied',
-    EPIPE: 'Broken pipe', ENOSPC: 'No space left on device' })[error.code] ?? error.message;
+const reasonOf = (error) => ({ ENOENT: 'No such file or directory', EISDIR: 'Is a directory',
+    EACCES: 'Permission denied', EPIPE: 'Broken pipe',
+    ENOSPC: 'No space left on device' })[error.code] ?? error.message;
 
 function read(path) {
     try {

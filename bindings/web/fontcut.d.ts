@@ -127,8 +127,8 @@ export function cutForm(font: Bytes | Font, options?: OfKind): 'none' | 'current
 /** Whether a file is a cut of a font for some characters and glyphs: of a kind, or of any if none is named. */
 export function belongs(cut: Bytes | Font, font: Bytes | Font, options?: OfKind): boolean;
 /**
- * The code points that a list of ranges names, as ranges in ascending order that do not touch. It takes what the program
- * takes from `--codes-file`: U+41, U+41-5A, U+4??, all, a `unicode-range` of CSS, and comments after #.
+ * The code points that a list of ranges names, as ranges in ascending order that do not touch. It takes what the
+ * program takes from `--codes-file`: U+41, U+41-5A, U+4??, all, a `unicode-range` of CSS, and comments after #.
  *
  * @throws RangeError for any other word
  */

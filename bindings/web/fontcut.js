@@ -258,7 +258,7 @@ function rangeOfWord(word) {
     throw new RangeError(`fontcut: bad word ${word}: a range is written U+41, U+41-5A, U+4?? or all`);
 }
 
-// A line that `fontcut codes --glyphs` prints: a code, the number of its glyph and an advance width, each after a blank.
+// A line that `fontcut codes --glyphs` prints: a code, its glyph number and an advance width, each after a blank.
 const COLUMNS = /^[ \t\r,;]*(U\+[0-9A-Fa-f]{1,6}) [ \t\r,;]*[0-9]{1,5} [ \t\r,;]*[0-9]{1,5}(?![0-9,;])[ \t\r,;]*$/;
 
 // The words of a list: what `--codes-file` of the program reads, with comments, and as CSS has it.

@@ -4,9 +4,9 @@
 //     import { needed } from 'fontcut/needed';
 //     const cut = subset(font, { text: needed('e\u0301'), kind: 'layout' });      // with U+00E9 and U+25CC too
 //
-// docs/FORMAT.md has the table; the program keeps the same ones with `--layout` and `--variable`, and so does `needed` of
-// the module for Python. Normalization and marks are those of the engine's own Unicode, and the tables below those of
-// Unicode 15.
+// docs/FORMAT.md has the table; the program keeps the same ones with `--layout` and `--variable`, and so does `needed`
+// of the module for Python. Normalization and marks are those of the engine's own Unicode, and the tables below those
+// of Unicode 15.
 
 const SPACE = ' ', DOTTED_CIRCLE = '\u25CC', JOINERS = '\u200C\u200D';
 

@@ -5,8 +5,8 @@ import type { Bytes } from './fontcut.js';
 export type Handler = (request: Request) => Promise<Response>;
 
 /**
- * What answers a Request for a cut of one of the fonts, which are bytes by the names of their URLs: `/NAME` with a query
- * of `unicodes` or `text`, and of `kind`. It is what `GrowingFont` asks for.
+ * What answers a Request for a cut of one of the fonts, which are bytes by the names of their URLs: `/NAME` with a
+ * query of `unicodes` or `text`, and of `kind`. It is what `GrowingFont` asks for.
  */
 export function cutHandler(fonts: Readonly<Record<string, Bytes>>): Promise<Handler>;
 

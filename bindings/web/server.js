@@ -2,15 +2,15 @@
 //
 //     import { createServer } from 'node:http';
 //     import { cutHandler, listener } from 'fontcut/server';
-//     const handle = await cutHandler({ 'Naskh.ttf': await readFile('Naskh.ttf') });     // a Request in, a Response out
+//     const handle = await cutHandler({ 'Naskh.ttf': await readFile('Naskh.ttf') });    // a Request in, a Response out
 //     createServer(listener(handle)).listen(8000);
 //
 //     GET /Naskh.ttf?unicodes=U+20-7E,U+4??        the cut of that font for these code points
 //     GET /Naskh.ttf?text=Hello                    for these characters
 //     GET /Naskh.ttf?unicodes=20-7E&kind=lean      the lean cut, with kind=layout or kind=variable the cut of that kind
 //
-// examples/server answers the same. The bytes of the font, the kind and the set determine an answer, so its ETag is made
-// from these, and caches may keep it forever: a font that changes gets another name.
+// examples/server answers the same. The bytes of the font, the kind and the set determine an answer, so its ETag is
+// made from these, and caches may keep it forever: a font that changes gets another name.
 import { createHash } from 'node:crypto';
 import { promisify } from 'node:util';
 import { brotliCompress, constants } from 'node:zlib';

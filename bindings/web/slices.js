@@ -26,7 +26,7 @@ const MOST_EQUAL = 9999;
 const FEW_BYTES = 'few-bytes';
 // What an order ranks after the characters that it lists.
 const IDEOGRAPHS = [[0x3400, 0x4DBF], [0x4E00, 0x9FFF], [0xF900, 0xFAFF], [0x20000, 0x323AF]];
-// The scripts of which a preset has another name, and how many of a language's first characters tell that a font is of it.
+// The scripts whose presets have other names, and how many of a language's first characters tell that a font is of it.
 const OF_WEB = [['latin', 'latin-ext', 'vietnamese'], ['greek', 'greek-ext'], ['cyrillic', 'cyrillic-ext']];
 const OF_LANGUAGES = ['han', 'hangul', 'hiragana', 'katakana', 'bopomofo'];
 const TELLING = 2000;
@@ -173,8 +173,8 @@ async function inTurn(names, order, all) {
 }
 
 /**
- * The slices of a font that have a character, by the names of presets. A character is only in the first slice that names
- * it. `order` is a text whose characters come first in slices by use.
+ * The slices of a font that have a character, by the names of presets. A character is only in the first slice that
+ * names it. `order` is a text whose characters come first in slices by use.
  */
 export async function slices(font, names, { order = '' } = {}) {
     const words = (await Promise.all(Array.from(names, async (name) =>

@@ -102,8 +102,8 @@ def replace(out: str, data: bytes) -> None:
 
 def connected(scheduler: str) -> Client:
     """A client of the scheduler."""
-    # Or Dask and asyncio write to standard error what they try when the scheduler is gone, and what was not waited for when
-    # a client was closed. What matters is said by `main`.
+    # Or Dask and asyncio write to standard error what they try when the scheduler is gone, and what was not waited for
+    # when a client was closed. What matters is said by `main`.
     logging.disable()
     return Client(scheduler, set_as_default=False)
 

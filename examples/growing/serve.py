@@ -70,7 +70,8 @@ def say_what_lacks() -> None:
     """Names the modules that compress cuts and that this Python does not have."""
     for module, package, loss in COMPRESSING:
         if not importlib.util.find_spec(module):
-            print(f"{sys.executable} has no module {module}: {loss}; Debian's package {package} has it", file=sys.stderr)
+            print(f"{sys.executable} has no module {module}: {loss}; Debian's package {package} has it",
+                  file=sys.stderr)
 
 
 def compressed(environ: WSGIEnvironment, start_response: StartResponse, cuts: WSGIApplication) -> Iterable[bytes]:

@@ -3,8 +3,9 @@ import random
 from typing import Container
 
 WORDS = """the of and to in that it was for on are with his they at be this from have or by one had not but what all
-    were when we there can an your which their said if do will each about how up out them then she many some so these would
-    other into has more her two like him see time could no make than first been its who now people my made over did down
+    were when we there can an your which their said if do will each about how up out them then she many some so these
+    would other into has more her two like him see time could no make than first been its who now people my made over
+    did down
     Ængström Łódź façade naïve Ÿ čeština ñandú œuvre ß 1234567890 (quoted) “marks” – 50 % § ©
     ξεσκεπάζω την ψυχοφθόρα βδελυγμία Γαζίες καὶ μυρτιὲς δὲν θὰ βρῶ πιὰ στὸ χρυσαφὶ ξέφωτο
     съешь же ещё этих мягких французских булок да выпей чаю Широкая электрификация южных губерний""".split()

@@ -1,5 +1,6 @@
 """Cuts that version 0.11.0 wrote, before there were cuts for glyph numbers: of each kind, for two texts, of the font
-`letters(VARIED)` (layout_making.py and worked_variations.py). Each file is compressed by zlib and written in base 85."""
+`letters(VARIED)` (layout_making.py and worked_variations.py). Each file is compressed by zlib and written in base
+85."""
 import base64
 import zlib
 

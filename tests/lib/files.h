@@ -9,7 +9,7 @@
 #include <sys/stat.h>
 #include <unistd.h>
 
-/* The bytes of a file, filled with zeros to a whole word, or NULL where it cannot be read. Their number goes to size. */
+/* The bytes of a file, filled with zeros to a whole word, or NULL where it cannot be read. size is their number. */
 static unsigned char *read_file(const char *path, size_t *size)
 {
     struct stat about;

@@ -220,7 +220,7 @@ def mapping(cmap: bytes, count: int) -> dict[int, int]:
 
 
 def metrics(file: bytes) -> list[tuple[int, int]]:
-    """The advance width and the left side bearing of each glyph: past the pairs of `hmtx` with the last pair's advance."""
+    """The advance width and the left side bearing of each glyph: past the pairs of `hmtx` the last advance."""
     hmtx, pairs = table(file, b"hmtx"), u16(table(file, b"hhea"), 34)
     count = u16(table(file, b"maxp"), 4)
     found = [(u16(hmtx, 4 * glyph), struct.unpack_from(">h", hmtx, 4 * glyph + 2)[0]) for glyph in range(pairs)]

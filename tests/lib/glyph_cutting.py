@@ -77,9 +77,9 @@ def glyphs_in(file: bytes, data_in: Callable[[bytes], Sequence[bytes]]) -> list[
 
 
 class CutKind(NamedTuple):
-    """A kind of cuts: its name, the tables of a cut of a font for characters that keeps these glyphs, the variation data
-    of each glyph, the GSUB whose links are followed, and the first refusal of a font that is accepted as such, for cuts
-    and for closures."""
+    """A kind of cuts: its name, the tables of a cut of a font for characters that keeps these glyphs, the variation
+    data of each glyph, the GSUB whose links are followed, and the first refusal of a font that is accepted as such, for
+    cuts and for closures."""
 
     name: str
     tables: Callable[[bytes, Ranges, Container[int]], dict[bytes, bytes]]
@@ -150,7 +150,7 @@ def no_links(_: bytes) -> bytes:
 
 
 def layout_exact_refusal(file: bytes) -> Optional[Refusal]:
-    """The first refusal for layout cuts of a font that is accepted. A GSUB that cannot be read refuses closures alone."""
+    """The first refusal for layout cuts of an accepted font. A GSUB that cannot be read refuses closures alone."""
     refused: Optional[Refusal] = record_refusal(file, LAYOUT)
     return refused
 

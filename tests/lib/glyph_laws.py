@@ -1,5 +1,5 @@
-"""Laws of cuts for characters and glyph numbers, and of their joins, as a second reading makes them: what has to hold of
-each font that is accepted, and of any files."""
+"""Laws of cuts for characters and glyph numbers, and of their joins, as a second reading makes them: what has to hold
+of each font that is accepted, and of any files."""
 import random
 from itertools import product
 from typing import Iterator, Mapping, Optional, Sequence
@@ -35,7 +35,7 @@ def reached(font: bytes, wanted: Wanted) -> set[int]:
 
 
 def within(cuts: CutKind, made: bytes, wanted: Wanted) -> Wanted:
-    """What is wanted of a cut, as it is wanted of the font: the characters that it maps, and the glyphs that are there."""
+    """What is wanted of a cut, as it is wanted of the font: the characters that it maps, and the glyphs it has."""
     return Wanted(ranges_of(wanted_map(made, wanted.codes)), wanted.glyphs & cuts.there(made))
 
 
@@ -114,8 +114,10 @@ def laws_of_closure(cuts: CutKind, font: bytes, first: Wanted, second: Wanted) -
     yield "a closure is closed under links", all(links.get(glyph, set()) <= closed.glyphs for glyph in roots)
     made, whole = cuts.cut(font, second), cuts.closed_cut(font, either(first, second))
     inner = Wanted(ranges_of(wanted_map(made, first.codes)), first.glyphs)
-    yield "on a cut the closure is that on the font", cuts.closure(made, first).glyphs == cuts.closure(font, inner).glyphs
-    yield "a closed cut of a closed cut is that of the font", cuts.closed_cut(whole, first) == cuts.closed_cut(font, first)
+    yield ("on a cut the closure is that on the font",
+           cuts.closure(made, first).glyphs == cuts.closure(font, inner).glyphs)
+    yield ("a closed cut of a closed cut is that of the font",
+           cuts.closed_cut(whole, first) == cuts.closed_cut(font, first))
     of_codes = Wanted(first.codes)
     yield "a cut of before is the closed cut for characters", cuts.closed_cut(font, of_codes) == BEFORE[cuts.name](
         font, first.codes)

@@ -39,8 +39,8 @@ def made_of(glyph: int) -> Part:
 
 def font_of(parts: Sequence[Part], codes: Mapping[int, int], pairs: Optional[int] = None,
             is_variable: bool = False) -> bytes:
-    """A font of these glyphs in the form of a cut. It has a pair of metrics for each glyph or so many, and a `gvar` if it
-    is variable."""
+    """A font of these glyphs in the form of a cut. It has a pair of metrics for each glyph or so many, and a `gvar` if
+    it is variable."""
     pairs = len(parts) if pairs is None else pairs
     tables = base6_tables()
     head, hhea, maxp = tables[b"head"], tables[b"hhea"], tables[b"maxp"]

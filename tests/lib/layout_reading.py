@@ -206,8 +206,8 @@ def layout_refusal(file: bytes) -> Optional[tuple[int, str]]:
 
 @lru_cache(32)  # of a few cuts of one font, and of their joins
 def linked(gsub: bytes, glyphs: frozenset[int]) -> frozenset[int]:
-    """What links of a GSUB lead to from .notdef and these glyphs, in any number of steps. Some of these numbers may be no
-    glyphs of the font."""
+    """What links of a GSUB lead to from .notdef and these glyphs, in any number of steps. Some of these numbers may be
+    no glyphs of the font."""
     links = links_of(gsub)
     assert links is not None, "the font is refused"
     reached: set[int] = set()

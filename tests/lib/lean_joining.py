@@ -1,5 +1,5 @@
-"""A small join of lean cuts, apart from the program: the bytes that `fontcut join --lean` has to write, or why it writes
-none.
+"""A small join of lean cuts, apart from the program: the bytes that `fontcut join --lean` has to write, or why it
+writes none.
 
 It follows docs/FORMAT.md and the definition of lean cuts: of `hmtx` and `vmtx` two files share what belongs to no
 single glyph, and what belongs to a glyph is compared and united with its outline. Another kind of cut that is joined
@@ -22,8 +22,8 @@ def no_tables(_: bytes, __: bytes) -> dict[bytes, bytes]:
 
 class Kind(NamedTuple):
     """What is particular to joins of a kind of cuts: the tags of its tables in order, what two cuts of one font have in
-    common of their copied tables, and the kind. If glyphs have more than outlines and metrics, there are also the tables
-    with that of the join of two files."""
+    common of their copied tables, and the kind. If glyphs have more than outlines and metrics, there are also the
+    tables with that of the join of two files."""
 
     tags: Sequence[bytes]
     shared: Callable[[bytes], dict[bytes, bytes]]

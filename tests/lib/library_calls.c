@@ -4,9 +4,9 @@
  *     size KIND FONT RANGES..         KIND is a number; a range is FIRST-LAST, in hexadecimal digits
  *     cut KIND FONT OUT ROOM RANGES.. ROOM is a number of bytes, or - for just as many as are needed
  *     cuts KIND FONT OUT ROOM PLACES SETS..
- *                                     a set is the word + and its ranges; +N gives it a count that is N larger than that;
- *                                     PLACES is a number of sizes, or - for just as many as there are sets; OUT gets the
- *                                     sizes, as numbers of 64 bits, and then the cuts
+ *                                     a set is the word + and its ranges; +N gives it a count that is N larger than
+ *                                     that; PLACES is a number of sizes, or - for just as many as there are sets; OUT
+ *                                     gets the sizes, as numbers of 64 bits, and then the cuts
  *     exact_size KIND FONT GLYPHS RANGES..
  *     exact_cut KIND FONT OUT ROOM GLYPHS RANGES..
  *     exact_cuts KIND FONT OUT ROOM PLACES GLYPHS COUNTS SETS..
@@ -22,8 +22,8 @@
  *                                     bytes; ROOM is a number of glyphs
  *     metrics FONT GLYPHS OUT ROOM    the same, of glyphs and their metrics
  *     info FONT OUT                   OUT gets the bytes of the numbers
- *     nothing KIND FONT               each call with areas of no bytes, for the font where it takes one: prints `same` where
- *                                     it answers the same for NULL and for an address
+ *     nothing KIND FONT               each call with areas of no bytes, for the font where it takes one: prints `same`
+ *                                     where it answers the same for NULL and for an address
  *     version                         prints the version alone
  *     text STATUS DETAIL SIZE STEP    also prints the text
  *
@@ -443,7 +443,8 @@ static void do_glyphs(int is_first, char **words)
     const uint32_t *given = (const uint32_t *)(const void *)codes.at;
     fontcut_answer answer = fontcut_glyphs(font.at, font.length, given, count, (uint16_t *)(void *)out, room);
     if (is_first && is_accepted(font) &&
-        (!is_same(answer, fontcut_glyphs_checked(font.at, font.length, given, count, (uint16_t *)(void *)other, room)) ||
+        (!is_same(answer,
+                  fontcut_glyphs_checked(font.at, font.length, given, count, (uint16_t *)(void *)other, room)) ||
          memcmp(out - GUARD, other - GUARD, room * sizeof(uint16_t) + 2 * GUARD)))
         printf("otherwise checked ");
     free(other - GUARD);

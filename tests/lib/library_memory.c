@@ -1,7 +1,7 @@
-/* Does each call of fontcut.h again and again, while the first, the second, .. request for memory is refused, and prints
- * for each call how many requests it makes. Words: a font, and a cut of it of each kind. It is linked with
- * --wrap=malloc,--wrap=realloc. The status is 0 where each refused request was answered by FONTCUT_NO_MEMORY and left the
- * room as it was. */
+/* Does each call of fontcut.h again and again, while the first, the second, .. request for memory is refused, and
+ * prints for each call how many requests it makes. Words: a font, and a cut of it of each kind. It is linked with
+ * --wrap=malloc,--wrap=realloc. The status is 0 where each refused request was answered by FONTCUT_NO_MEMORY and left
+ * the room as it was. */
 #define FONTCUT_DEPRECATED(text)
 #include "fontcut.h"
 

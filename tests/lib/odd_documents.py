@@ -32,8 +32,8 @@ def form(pdf: Pdf, body: bytes, resources: Dictionary) -> Stream:
 
 
 def shared_glyphs(path: str, fonts: Sequence[bytes], embed: Embed) -> None:
-    """Two Type 3 fonts have one stream for their glyph, which shows text in another font by the resources of each. By the
-    same resources two forms show other letters."""
+    """Two Type 3 fonts have one stream for their glyph, which shows text in another font by the resources of each. By
+    the same resources two forms show other letters."""
     pdf, drawn, forms, body = Pdf.new(), Dictionary(), Dictionary(), b""
     used = [embed(pdf, font, "Aa Bb") for font in fonts]
     glyph = Stream(pdf, b"300 0 d0 BT /G 12 Tf 5 10 Td " + used[0].show("Aa") + b" Tj ET")
@@ -41,8 +41,9 @@ def shared_glyphs(path: str, fonts: Sequence[bytes], embed: Embed) -> None:
         whole(pdf, one, font)
         resources = pdf.make_indirect(Dictionary(Font=Dictionary(G=one.font)))
         drawn[f"/T{number}"] = pdf.make_indirect(Dictionary(
-            Type=Name.Font, Subtype=Name.Type3, FontBBox=Array([0, 0, 300, 40]), FontMatrix=Array([.01, 0, 0, .01, 0, 0]),
-            CharProcs=Dictionary(a=glyph), FirstChar=97, LastChar=97, Widths=Array([300]), Resources=resources,
+            Type=Name.Font, Subtype=Name.Type3, FontBBox=Array([0, 0, 300, 40]),
+            FontMatrix=Array([.01, 0, 0, .01, 0, 0]), CharProcs=Dictionary(a=glyph), FirstChar=97, LastChar=97,
+            Widths=Array([300]), Resources=resources,
             Encoding=Dictionary(Type=Name.Encoding, Differences=Array([97, Name.a]))))
         forms[f"/X{number}"] = form(pdf, b"BT /G 30 Tf 5 10 Td " + one.show("Bb") + b" Tj ET", resources)
         body += b"BT /T%d 100 Tf 0 %d Td (a) Tj ET q 1 0 0 1 0 %d cm /X%d Do Q " % (

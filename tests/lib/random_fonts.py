@@ -1,5 +1,5 @@
-"""Small fonts made at random, all of them accepted: with few glyphs, few pairs of metrics, tables of vertical metrics that
-are described or not, and `post` of any length."""
+"""Small fonts made at random, all of them accepted: with few glyphs, few pairs of metrics, tables of vertical metrics
+that are described or not, and `post` of any length."""
 import random
 import struct
 from typing import Iterable

@@ -99,8 +99,8 @@ DIFFERENCES = ("20 not a", "21 different table", "22 different mapping", "23 dif
 
 def join_as_joiner(folder: str, joins: int, files_of: Callable[[], list[bytes]], join_all: Joiner, *words: str,
                    differences: Sequence[str] = DIFFERENCES) -> None:
-    """Joins random files, so often, and compares with a joiner of a second reading. The words say of which kind the files
-    are. Each of the differences is to be met, and a third of the files to be joined."""
+    """Joins random files, so often, and compares with a joiner of a second reading. The words say of which kind the
+    files are. Each of the differences is to be met, and a third of the files to be joined."""
     differing, out = [], os.path.join(folder, "out.ttf")
     answers: Counter[str] = Counter()
     for number in range(joins):
@@ -119,8 +119,8 @@ def join_as_joiner(folder: str, joins: int, files_of: Callable[[], list[bytes]],
 
 
 class Trees(NamedTuple):
-    """Random trees over cuts of a real font: the option for their kind, what makes them by a second reading, the seed, how
-    many cuts and trees there are, and how many more codes a cut has than one."""
+    """Random trees over cuts of a real font: the option for their kind, what makes them by a second reading, the seed,
+    how many cuts and trees there are, and how many more codes a cut has than one."""
 
     option: str
     cut: Callable[[bytes, Ranges], bytes]

@@ -51,7 +51,8 @@ import sys
 import fontcut
 with open(sys.argv[1], "rb") as opened:
     font = opened.read()
-made = {"latin": fontcut.cut(font, [(0x20, 0x7E), (0xA0, 0xFF)]), "lean": fontcut.cut(font, range(0x41, 0x5B), kind="lean"),
+made = {"latin": fontcut.cut(font, [(0x20, 0x7E), (0xA0, 0xFF)]),
+        "lean": fontcut.cut(font, range(0x41, 0x5B), kind="lean"),
         "other": fontcut.cut(font, range(0x61, 0x7B), kind="lean")}
 made["join"] = fontcut.join([made["other"], made["lean"]], kind="lean")
 for name, data in made.items():
@@ -95,5 +96,6 @@ def joined(cuts: list[bytes]) -> bytes:
 
 
 both: bytes = joined(slices("font.ttf", [(0x41, 0x5A), (0x61, 0x7A)]))
-print(fontcut.form(both) is Form.LEAN, fontcut.belongs(both, memoryview(both), kind="lean"), fontcut.__version__.upper())
+print(fontcut.form(both) is Form.LEAN, fontcut.belongs(both, memoryview(both), kind="lean"),
+      fontcut.__version__.upper())
 '''

@@ -120,8 +120,8 @@ class System:
 
     def run_with_proc(self, *words: str) -> Ran:
         """Runs words there that look into /proc, which is mounted for them alone."""
-        return run("unshare", "--mount", "sh", "-euc", 'mount --rbind /proc "$1/proc"; exec chroot "$@"', "sh", self.root,
-                   *words)
+        return run("unshare", "--mount", "sh", "-euc", 'mount --rbind /proc "$1/proc"; exec chroot "$@"', "sh",
+                   self.root, *words)
 
     def sh(self, name: str, line: str, **how: str) -> bytes:
         """Runs a line of the shell there, which has to end well."""

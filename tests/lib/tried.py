@@ -30,8 +30,8 @@ class Tried:
         return quiet(command, *line, *words)
 
     def made(self, command: str, *files: bytes, words: Sequence[str] = ()) -> bytes:
-        """The cut or the join that the program makes, or what it says in its place, which is a text: no check takes that
-        for a file."""
+        """The cut or the join that the program makes, or what it says in its place, which is a text: no check takes
+        that for a file."""
         status, out, err = self.run(command, *files, words=words)
         said = err.decode().removeprefix("fontcut: ").removesuffix("\n")
         return out if (status, err) == (0, b"") else cast(bytes, said)

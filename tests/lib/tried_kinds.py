@@ -33,8 +33,9 @@ BAD_FONTS = [("a font without a mapping", {b"cmap": b""}, "13 no mapping"),
 
 
 class TriedKind(NamedTuple):
-    """A kind of cuts by its second reading: the first refusal of a font that is accepted, for cuts for codes, these cuts,
-    the kind for cuts in which no links are followed, and the join of files or the line that says why there is none."""
+    """A kind of cuts by its second reading: the first refusal of a font that is accepted, for cuts for codes, these
+    cuts, the kind for cuts in which no links are followed, and the join of files or the line that says why there is
+    none."""
 
     name: str
     refusal: Callable[[bytes], Optional[Refusal]]
@@ -82,9 +83,9 @@ def of_itself(kind: TriedKind, name: str, folder: str, path: str, made: bytes) -
 
 
 def refused_as(kind: TriedKind, folder: str, name: str, font: bytes, line: str) -> None:
-    """Checks that each command that makes cuts for codes refuses a font for cuts of the kind with this line, and OUT stays
-    as it was, and that `join` and `belongs` answer what the second reading says, since they follow no links. Full and
-    lean cuts are made of it, and are those of the font of ten glyphs without tables of layout and of variations."""
+    """Checks that each command that makes cuts for codes refuses a font for cuts of the kind with this line, and OUT
+    stays as it was, and that `join` and `belongs` answer what the second reading says, since they follow no links. Full
+    and lean cuts are made of it, and are those of the font of ten glyphs without tables of layout and of variations."""
     path, out, slices = (os.path.join(folder, name) for name in ("font.ttf", "out.ttf", "slices"))
     put(path, font)
     put(out, b"as it was")

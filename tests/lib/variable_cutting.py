@@ -40,8 +40,8 @@ def variable_kept(file: bytes, glyphs: Iterable[int]) -> set[int]:
 
 
 def variable_tables(file: bytes, wanted: Ranges, kept: Optional[Container[int]] = None) -> dict[bytes, bytes]:
-    """The tables of the variable cut of a font for wanted ranges of codes, by tag; with other kept glyphs where these are
-    given."""
+    """The tables of the variable cut of a font for wanted ranges of codes, by tag; with other kept glyphs where these
+    are given."""
     if kept is None:
         kept = variable_kept(file, wanted_map(file, wanted).values())
     tables = {**lean_tables(file, wanted, kept), **copied_tables(file)}

@@ -87,8 +87,8 @@ def own_gsub(file: bytes) -> bytes:
 
 
 def exact_refusal(file: bytes) -> Optional[Refusal]:
-    """The number and text of the first refusal that applies to a font, which is accepted without its tables of layout and
-    of variations, for variable cuts for which no links are followed, or None."""
+    """The number and text of the first refusal that applies to a font, which is accepted without its tables of layout
+    and of variations, for variable cuts for which no links are followed, or None."""
     refusal: Optional[Refusal] = record_refusal(file, ADDED)
     if refusal is None and b"gvar" in tables_of(file) and variations_of(file) is None:
         return BAD_VARIATIONS
@@ -96,8 +96,8 @@ def exact_refusal(file: bytes) -> Optional[Refusal]:
 
 
 def variable_refusal(file: bytes) -> Optional[Refusal]:
-    """The same for variable cuts for which links are followed, which a GSUB that cannot be read refuses before `gvar` is
-    looked at."""
+    """The same for variable cuts for which links are followed, which a GSUB that cannot be read refuses before `gvar`
+    is looked at."""
     refusal: Optional[Refusal] = record_refusal(file, ADDED)
     if refusal is None and links_of(own_gsub(file)) is None:
         return 27, "bad layout"

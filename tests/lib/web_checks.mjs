@@ -76,7 +76,8 @@ const checks = {
         }
         assert.deepEqual([...fontcut.keptGlyphs(wanted, { kind })], [0, ...set].sort((one, other) => one - other));
         for (const kind of ['lean', 'layout', 'variable']) {
-            const text = 'fi', cut = fontcut.subset(bytes, { text, kind }), gids = fontcut.closure(bytes, { text, kind });
+            const text = 'fi', cut = fontcut.subset(bytes, { text, kind });
+            const gids = fontcut.closure(bytes, { text, kind });
             assert.deepEqual(fontcut.subset(bytes, { text, gids, kind, layoutClosure: false }), cut);
             const all = fontcut.subset(bytes, { unicodes: 'all', gids: 'all', kind });
             assert.deepEqual(fontcut.subset(all, { unicodes: 'all', gids: 'all', kind }), all);

@@ -213,7 +213,8 @@ REGION = 14_913_024
 
 def optional_tables() -> dict[bytes, bytes]:
     """These tables, of zeros, `vhea` and `vmtx` without their last four bytes."""
-    return {tag: bytes(REGION - 4 if tag in (b"vhea", b"vmtx") else REGION) for tag in KEPT if tag not in base6_tables()}
+    return {tag: bytes(REGION - 4 if tag in (b"vhea", b"vmtx") else REGION)
+            for tag in KEPT if tag not in base6_tables()}
 
 
 def wide_font(path: str) -> None:

@@ -14,8 +14,8 @@ RECORDS = [BASE6[192:204], BASE6[204:218], BASE6[218:228], BASE6[228:250], b"", 
 
 
 def composite(components: Iterable[tuple[int, int]], rest: bytes = b"") -> bytes:
-    """The record of a composite: each component is flags and a glyph, and has two bytes of arguments, whatever its flags
-    say."""
+    """The record of a composite: each component is flags and a glyph, and has two bytes of arguments, whatever its
+    flags say."""
     parts = b"".join(struct.pack(">HHH", flags, glyph, 0) for flags, glyph in components)
     return b"\xff\xff" + bytes(8) + parts + rest
 

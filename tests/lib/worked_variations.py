@@ -200,8 +200,8 @@ VARIED = {
     **{tag: tag + b"\1\2\3" for tag in VARIATIONS}, b"fvar": ONE_AXIS, b"gvar": LONG,
 }
 
-# What the cut of LETTERS with VARIED for U+0041 has of each glyph, and tables with this that no cut has; the first one has
-# data of another glyph too.
+# What the cut of LETTERS with VARIED for U+0041 has of each glyph, and tables with this that no cut has; the first one
+# has data of another glyph too.
 KEPT_DATA = [DATA[0], DATA[1], *[b""] * 7, DATA[9]]
 MORE_DATA = gvar([*KEPT_DATA[:2], b"\1", *KEPT_DATA[3:]], TUPLES)
 NO_CUTS = {

@@ -28,7 +28,8 @@ from .survey import fonts
 
 _LIMITS = f"""\
 Limits: unpacked, at most {MOST_OF_CONTENT >> 20} MiB of the content of a page, of a form or of a glyph are read, or
-{MOST_OF_OTHER >> 20} MiB if it has comments or pictures; of a font {MOST_OF_PROGRAM >> 20} MiB, and of its ToUnicode {MOST_OF_TEXTS >> 20} MiB.
+{MOST_OF_OTHER >> 20} MiB if it has comments or pictures; of a font {MOST_OF_PROGRAM >> 20} MiB, and of its ToUnicode \
+{MOST_OF_TEXTS >> 20} MiB.
 If there is more, the fonts in question stay as they are. A file is refused if its fonts have more than
 {MOST_WORK // 1_000_000} million widths and texts, or if its page tree is more than {DEEPEST} nodes deep.
 Of fonts of one name that do not join with each other, only the first {MOST_CLASSES} are compared with the others.

@@ -66,8 +66,8 @@ def streams_of(content: Object) -> List[Stream]:
 
 
 def shown(pdf: Pdf, content: Object) -> Tuple[Shown, int]:
-    """The strings that a page, or a stream of content, shows in the font of each name, and how many bytes it has. `q` and
-    `Q` keep the font and bring it back."""
+    """The strings that a page, or a stream of content, shows in the font of each name, and how many bytes it has. `q`
+    and `Q` keep the font and bring it back."""
     with strictly(pdf):
         streams = streams_of(content)
         check_length("its content", streams, MOST_OF_CONTENT)

@@ -1,6 +1,6 @@
 """What draws the pages of a file, as a graph: pages, streams of content, and the dictionaries of resources by whose
-names they go (ISO 32000-1, 7.8). Each is one node, however many others name it, so that a walk takes time that grows with
-the file. What a stream shows depends on the resources that it is drawn with: with other ones it is another node."""
+names they go (ISO 32000-1, 7.8). Each is one node, however many others name it, so that a walk takes time that grows
+with the file. What a stream shows depends on the resources that it is drawn with: with others it is another node."""
 from __future__ import annotations
 
 from typing import Callable, Dict, Hashable, Iterable, Iterator, List, Optional, Set, Tuple
@@ -58,8 +58,8 @@ def reached(starts: Iterable[Node], following: Callable[[Node], Iterable[Node]])
 
 
 def pages_of(pdf: Pdf) -> List[Object]:
-    """The pages of a file in their order (ISO 32000-1, 7.7.3), as qpdf finds them. It looks through all pages for each of
-    its own list."""
+    """The pages of a file in their order (ISO 32000-1, 7.7.3), as qpdf finds them. It looks through all pages for each
+    of its own list."""
     len(pdf.pages)
     found: List[Object] = []
     waiting = [pdf.Root.Pages]
@@ -136,7 +136,7 @@ class Drawing:
         return node
 
     def _inner(self, kind: str, holder: Node, key: str) -> Optional[Node]:
-        """The node of the dictionary at a key of another one. Where it has no number, it is named by where it stands."""
+        """The node of the dictionary at a key of another one. One without a number is named by where it stands."""
         inner = holder.thing.get(key)
         if not isinstance(inner, Dictionary):
             return None

@@ -24,8 +24,8 @@ class _File(io.BufferedReader):
 @contextmanager
 def opened(path: str) -> Iterator[Pdf]:
     """A PDF file that is neither damaged nor encrypted. Raises `Refused` for others, and `OSError` where it cannot be
-    read. What qpdf would mend is refused too, for other programs may mend it in another way. The bytes of streams are not
-    looked at here: what is damaged in one that is needed is found where it is read."""
+    read. What qpdf would mend is refused too, for other programs may mend it in another way. The bytes of streams are
+    not looked at here: what is damaged in one that is needed is found where it is read."""
     # pikepdf takes no path that is no text, but the file.
     with _File(io.FileIO(path)) as file, ExitStack() as stack:
         try:
@@ -46,8 +46,8 @@ def opened(path: str) -> Iterator[Pdf]:
 
 
 def _refuse_deep_pages(pdf: Pdf) -> None:
-    """qpdf calls itself for each node of the page tree below another (ISO 32000-1, 7.7.3), so that a very deep tree ends
-    the process. The nodes are looked at in the order in which qpdf does it."""
+    """qpdf calls itself for each node of the page tree below another (ISO 32000-1, 7.7.3), so that a very deep tree
+    ends the process. The nodes are looked at in the order in which qpdf does it."""
     waiting: List[Tuple[Object, int]] = [(pdf.Root.get("/Pages"), 0)]
     seen: Set[Id] = set()
     while waiting:

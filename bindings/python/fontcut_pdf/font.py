@@ -40,8 +40,8 @@ class Reading:
             raise Refused(f"its fonts have more than {MOST_WORK} widths and texts")
 
     def texts_of(self, pdf: Pdf, to_unicode: Object) -> Optional[Dict[int, bytes]]:
-        """The text that ToUnicode states for each glyph, or None where it has other things than texts of single glyphs and
-        ranges."""
+        """The text that ToUnicode states for each glyph, or None where it has other things than texts of single glyphs
+        and ranges."""
         if to_unicode.objgen not in self.texts or not to_unicode.is_indirect:
             try:
                 with strictly(pdf):
@@ -117,7 +117,7 @@ class Programs:
         self._by_bytes: Dict[bytes, Program] = {}
 
     def of(self, stream: Stream) -> Program:
-        """The program of a stream. That of two streams is one where their bytes are the same, packed in the same way."""
+        """The program of a stream. That of two streams is one where their bytes are the same, packed alike."""
         known = self._by_stream.get(stream.objgen)
         if known is None:
             said = copied(stream.stream_dict, "/Length").unparse(resolved=True)
@@ -176,8 +176,8 @@ class Font:
         descriptor = self.descriptor
         if not isinstance(descriptor, Dictionary):
             return None
-        return next((key for key in ("/FontFile", "/FontFile2", "/FontFile3") if isinstance(descriptor.get(key), Stream)),
-                    None)
+        return next((key for key in ("/FontFile", "/FontFile2", "/FontFile3")
+                     if isinstance(descriptor.get(key), Stream)), None)
 
     @property
     def kind(self) -> str:

@@ -98,8 +98,8 @@ def _box(members: Sequence[_Member]) -> Array:
 
 
 def _unite(members: Sequence[_Member], joined: bytes) -> Tuple[Name, int]:
-    """Puts the join in the place of the programs of some fonts. Those that are plain become one font. Returns its name, and
-    the bytes that its program takes in a file."""
+    """Puts the join in the place of the programs of some fonts. Those that are plain become one font. Returns its name,
+    and the bytes that its program takes in a file."""
     first, plain = members[0].font, [member for member in members if member.font.is_plain]
     name, (program, size) = tagged(first.name, joined), program_stream(first.pdf, joined)
     if plain:

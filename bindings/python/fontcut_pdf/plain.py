@@ -7,8 +7,9 @@ import re
 from typing import FrozenSet, Iterable, List, Match, Optional, Sequence, Tuple
 
 # The operators of content streams (ISO 32000-1, annex A). A stream that has another one may be read in several ways.
-OPERATORS: FrozenSet[str] = frozenset("""b B b* B* BDC BMC BT BX c cm CS cs d d0 d1 Do DP EMC ET EX f F f* G g gs h i j J
-    K k l m M MP n q Q re RG rg ri s S SC sc SCN scn sh T* Tc Td TD Tf Tj TJ TL Tm Tr Ts Tw Tz v w W W* y ' \"""".split())
+OPERATORS: FrozenSet[str] = frozenset("""b B b* B* BDC BMC BT BX c cm CS cs d d0 d1 Do DP EMC ET EX f F f* G g gs h i j
+    J K k l m M MP n q Q re RG rg ri s S SC sc SCN scn sh T* Tc Td TD Tf Tj TJ TL Tm Tr Ts Tw Tz v w W W* y '
+    \"""".split())
 # Those that choose a font, show text, or keep the font and bring it back.
 OF_TEXT: FrozenSet[str] = frozenset("""BT ET q Q Tf Tj TJ ' \"""".split())
 
@@ -23,11 +24,12 @@ _NAME = rb"/[A-Za-z0-9_.+*-]+" + _END
 _ESCAPE = rb"\\(?:[nrtbf()\\]|[0-3][0-7]{2})"
 _STRING = rb"(?:\([^()\\\r]*(?:" + _ESCAPE + rb"[^()\\\r]*)*\)|<[0-9A-Fa-f]*>)"
 _SPACE = rb"[\t\n\r ]"
-# In all of these there is one way to match what stands there, so that a search takes time that grows with it; and a match
-# takes memory for each part, so that there are not too many.
+# In all of these there is one way to match what stands there, so that a search takes time that grows with it; and a
+# match takes memory for each part, so that there are not too many.
 _NUMBERS = rb"\[(?:" + _SPACE + rb"|" + _NUMBER + rb"){0,999}\]"
 # A dictionary of marked content.
-_MARKS = rb"<<(?:" + _SPACE + rb"*" + _NAME + _SPACE + rb"*(?:" + _NAME + rb"|" + _NUMBER + rb")){1,99}" + _SPACE + rb"*>>"
+_MARKS = (rb"<<(?:" + _SPACE + rb"*" + _NAME + _SPACE + rb"*(?:" + _NAME + rb"|" + _NUMBER + rb")){1,99}" + _SPACE
+          + rb"*>>")
 _TEXTS = rb"\[(?:" + _SPACE + rb"|" + _NUMBER + rb"|" + _STRING + rb"){0,9999}\]"
 # The end of an operator, and the space up to what comes next.
 _DONE = rb"(?:" + _SPACE + rb"+|(?=[/\[(<])|\Z)"
@@ -39,7 +41,8 @@ def _one_of(operators: Iterable[str]) -> bytes:
     return rb"(?:" + rb"|".join(escaped) + rb")" + _DONE
 
 
-_OTHER = rb"(?:(?:" + rb"|".join((_NUMBER, _NAME, _NUMBERS, _MARKS)) + rb")" + _SPACE + rb"*){0,99}" + _one_of(OPERATORS - OF_TEXT)
+_OTHER = (rb"(?:(?:" + rb"|".join((_NUMBER, _NAME, _NUMBERS, _MARKS)) + rb")" + _SPACE + rb"*){0,99}"
+          + _one_of(OPERATORS - OF_TEXT))
 _TEXT = rb"(?:" + _STRING + _SPACE + rb"*(?:Tj|')" + _DONE + rb"|" + _TEXTS + _SPACE + rb"*TJ" + _DONE + rb")"
 # Text that is shown in one font, and operators that do not change it and have no strings.
 _RUN = re.compile(rb"(?:" + _TEXT + rb"|" + _OTHER + rb"){1,1000}")

@@ -98,8 +98,8 @@ def _found(program: bytes, subtable: bytes, codes: Sequence[int]) -> Dict[int, i
 
 
 def subtables_of(program: bytes) -> Optional[Subtables]:
-    """What each subtable of the cmap of a program has for the codes by which viewers may look for bytes, or None where it
-    is malformed or odd."""
+    """What each subtable of the cmap of a program has for the codes by which viewers may look for bytes, or None where
+    it is malformed or odd."""
     codes = sorted({code for byte in range(256) for code in _codes(byte)})
     found: Subtables = {}
     try:

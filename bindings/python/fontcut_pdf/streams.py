@@ -10,9 +10,9 @@ from pikepdf import Array, Name, Stream
 
 from .common import MALFORMED, Unclear
 
-# The most bytes that are read of the content of a page, a form or a glyph; of such content as is not plain, of which each
-# operator takes hundreds of bytes of memory; of a font program, which is what fontcut takes at most; of ToUnicode; and
-# of CIDToGIDMap, which has two bytes for each of 65,536 numbers.
+# The most bytes that are read of the content of a page, a form or a glyph; of such content as is not plain, of which
+# each operator takes hundreds of bytes of memory; of a font program, which is what fontcut takes at most; of ToUnicode;
+# and of CIDToGIDMap, which has two bytes for each of 65,536 numbers.
 MOST_OF_CONTENT, MOST_OF_OTHER, MOST_OF_PROGRAM, MOST_OF_TEXTS = 16 << 20, 2 << 20, 128 << 20, 4 << 20
 MOST_OF_MAP = 128 << 10
 
@@ -59,8 +59,8 @@ def _from_ascii85(data: bytes) -> bytes:
 
 
 def _counted(packed: bytes, filters: List[str], most: int) -> int:
-    """How many bytes come out by filters: the exact number by Flate and ASCII85, with which nearly all streams are packed,
-    and an upper bound by other ones. Any number above the most stands for what is more."""
+    """How many bytes come out by filters: the exact number by Flate and ASCII85, with which nearly all streams are
+    packed, and an upper bound by other ones. Any number above the most stands for what is more."""
     unpacked: Iterable[bytes] = _pieces(packed)
     while filters and filters[0] in _FLATE + _ASCII85:
         is_flate, filters = filters[0] in _FLATE, filters[1:]
@@ -74,7 +74,7 @@ def _counted(packed: bytes, filters: List[str], most: int) -> int:
 
 
 def _afford(size: int) -> None:
-    """Raises `MemoryError` where there are not so many bytes of memory. qpdf says of a stream then that it is damaged."""
+    """Raises `MemoryError` where there is not so much memory. qpdf says of a stream then that it is damaged."""
     bytearray(size)
 
 

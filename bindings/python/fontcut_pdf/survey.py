@@ -17,9 +17,9 @@ _MOST_OF_NAME = 60
 
 
 class Survey:
-    """The fonts of a PDF file, where they stand, and what is shown in those that are asked for: by its pages, and by what
-    no page shows, as hidden pages (ISO 32000-1, 7.7.4, Templates) and the icons of buttons, since all of these may share
-    resources. Content is read only where it may show something in such a font."""
+    """The fonts of a PDF file, where they stand, and what is shown in those that are asked for: by its pages, and by
+    what no page shows, as hidden pages (ISO 32000-1, 7.7.4, Templates) and the icons of buttons, since all of these may
+    share resources. Content is read only where it may show something in such a font."""
 
     def __init__(self, pdf: Pdf, is_asked: Callable[[Font], bool]):
         self.pdf = pdf
@@ -155,8 +155,8 @@ def refusing() -> Iterator[None]:
 
 
 def surveyed(pdf: Pdf, is_asked: Callable[[Font], bool]) -> List[Font]:
-    """The embedded fonts of a file, which has one at least. Their programs are read, and what is shown in those that are
-    asked for."""
+    """The embedded fonts of a file, which has one at least. Their programs are read, and what is shown in those that
+    are asked for."""
     with refusing():
         found = Survey(pdf, is_asked).embedded
     if not found:

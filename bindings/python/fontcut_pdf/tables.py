@@ -23,7 +23,7 @@ def tables_of(font: bytes) -> Dict[bytes, bytes]:
 
 
 def is_sound(font: bytes) -> bool:
-    """Whether each table is listed once and lies within the file. Raises `struct.error` where the directory does not."""
+    """Whether each table is listed once and lies in the file. Raises `struct.error` where the directory does not."""
     records = _records(font)
     return (len({tag for tag, *_ in records}) == len(records)
             and all(offset + length <= len(font) for _, _, offset, length in records))

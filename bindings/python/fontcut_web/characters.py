@@ -106,8 +106,8 @@ def scripts_of(letters: Iterable[str]) -> Set[str]:
 
 
 def samples(letters: Iterable[str]) -> List[str]:
-    """Texts of characters: each character that a line may have, and words of the letters and marks of each script that are
-    made by chance, the same each time."""
+    """Texts of characters: each character that a line may have, and words of the letters and marks of each script that
+    are made by chance, the same each time."""
     found = sorted(letter for letter in letters if unicodedata.category(letter) not in ("Cc", "Cs"))
     scripts: Dict[str, List[str]] = {}
     for letter in found:

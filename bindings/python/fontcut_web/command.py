@@ -253,13 +253,15 @@ def _add_slice(commands: argparse._SubParsersAction[CommandParser]) -> None:
     _kinds(command, "lean", lean="write lean cuts (the default)", layout="write layout cuts",
            variable="write variable cuts, whose rules have ranges", full="write full cuts")
     command.add_argument("--drop", metavar="TABLES", action="append",
-                         help="with --layout or --variable, cut fonts as if they lacked these layout tables, as GSUB,kern")
+                         help="with --layout or --variable, cut fonts as if they lacked these layout tables, as "
+                              "GSUB,kern")
     command.add_argument("--woff2", action="store_true", help="write FONT-SLICE.woff2 too, which browsers load")
     command.add_argument("--css", action="store_true", help="write fonts.css, and index.html, a page that shows the "
                                                             "fonts and preloads the first slice")
     _display(command)
     command.add_argument("--strict", action="store_true", help="write nothing if a script of a FONT is in no slice")
-    command.add_argument("--force", action="store_true", help="write over whole fonts, style sheets and pages of others")
+    command.add_argument("--force", action="store_true",
+                         help="write over whole fonts, style sheets and pages of others")
     command.add_argument("--quiet", action="store_true", help="do not say what the files lack of a FONT")
     command.add_argument("--json", action="store_true", help="print what was written")
     command.set_defaults(run=_run_slice)
@@ -297,8 +299,8 @@ def _add_text(commands: argparse._SubParsersAction[CommandParser]) -> None:
     command.add_argument("--css", action="store_true", help="write OUT's style sheet, whose name ends in .css")
     _display(command)
     command.add_argument("--strict", action="store_true", help="write nothing if the font lacks a character")
-    command.add_argument("--force", action="store_true", help="write over FONT, the font that FONT is a cut of, or a style sheet "
-                                                                "of others")
+    command.add_argument("--force", action="store_true",
+                         help="write over FONT, the font that FONT is a cut of, or a style sheet of others")
     command.add_argument("--quiet", action="store_true", help="do not say what the font or its cut lacks")
     command.add_argument("--json", action="store_true", help="print what was written")
     command.set_defaults(run=texts.run)
@@ -311,15 +313,17 @@ def _run_icons(given: argparse.Namespace) -> None:
 
 def _add_icons(commands: argparse._SubParsersAction[CommandParser]) -> None:
     command = commands.add_parser(
-        "icons", help="cut an icon font for some icons, with classes for them", description=_ICONS, formatter_class=_RAW,
-        epilog=_STATUS,
+        "icons", help="cut an icon font for some icons, with classes for them", description=_ICONS,
+        formatter_class=_RAW, epilog=_STATUS,
         usage="fontcut-web icons FONT NAME.. --out DIR [--codepoints FILE] [--lean | --variable] [--force] [--json]")
     command.add_argument("font", metavar="FONT")
     command.add_argument("names", metavar="NAME", nargs="+")
     command.add_argument("--out", metavar="DIR", required=True, help="the folder that the files go to")
     command.add_argument("--codepoints", metavar="FILE", help="names and codes of icons")
-    _kinds(command, "lean", lean="write a lean cut (the default)", variable="write a variable cut, which keeps the axes")
-    command.add_argument("--force", action="store_true", help="write over whole fonts, style sheets and pages of others")
+    _kinds(command, "lean", lean="write a lean cut (the default)",
+           variable="write a variable cut, which keeps the axes")
+    command.add_argument("--force", action="store_true",
+                         help="write over whole fonts, style sheets and pages of others")
     command.add_argument("--json", action="store_true", help="print what was written")
     command.set_defaults(run=_run_icons)
 

@@ -32,7 +32,8 @@ class Face(NamedTuple):
 def face_of(data: bytes, name: str) -> Face:
     """The face of a font. One without a name of its own has this one of a file, which may be no UTF-8."""
     font = TTFont(io.BytesIO(data), lazy=True)
-    return Face(_family(font) or os.fsencode(name).decode("utf-8", "replace"), _style(font), _weight(font), _stretch(font))
+    return Face(_family(font) or os.fsencode(name).decode("utf-8", "replace"), _style(font), _weight(font),
+                _stretch(font))
 
 
 def varying(data: bytes, face: Face) -> Face:

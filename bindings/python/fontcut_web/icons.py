@@ -93,8 +93,8 @@ def _glyph_names(font: fontcut.Font) -> Iterator[Tuple[str, int]]:
 
 
 def known(font: fontcut.Font, points: Optional[str]) -> Dict[str, int]:
-    """The codes of the icons of a font, by their names: those of `post`, those of ligatures, and those of a file of code
-    points, of which the last count."""
+    """The codes of the icons of a font, by their names: those of `post`, those of ligatures, and those of a file of
+    code points, of which the last count."""
     codes = _codes(font)
     try:
         found = {name: codes[glyph] for name, glyph in _glyph_names(font) if codes.get(glyph)}
@@ -112,7 +112,7 @@ def _points_beside(path: str) -> Optional[str]:
 
 
 def chosen(names: Sequence[str], codes: Dict[str, int]) -> List[Icon]:
-    """The icons of some names, each once. Raises `Refused` for names that are not there, with those that are nearest."""
+    """The icons of some names, each once. Raises `Refused` for names that are not there, with the nearest."""
     said = []
     for name in dict.fromkeys(names):
         near = difflib.get_close_matches(name, codes, _NEAR)

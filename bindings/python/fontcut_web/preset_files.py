@@ -1,5 +1,5 @@
-"""The presets of slices that need no font as files, which `fontcut slice` finds by their names: what `fontcut-web slices`
-prints of each, after a line that says what it was made from."""
+"""The presets of slices that need no font as files, which `fontcut slice` finds by their names: what
+`fontcut-web slices` prints of each, after a line that says what it was made from."""
 from __future__ import annotations
 
 from typing import Dict

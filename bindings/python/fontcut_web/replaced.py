@@ -41,8 +41,8 @@ def _is_packed(path: str) -> bool:
 
 
 def check_font(source: str, font: fontcut.Font, out: str) -> None:
-    """Raises `UsageError` where OUT is the font of which the font in a file is a cut. A cut that was packed is no cut when
-    it is unpacked, so what is made of a packed font replaces no font but cuts."""
+    """Raises `UsageError` where OUT is the font of which the font in a file is a cut. A cut that was packed is no cut
+    when it is unpacked, so what is made of a packed font replaces no font but cuts."""
     whole = _whole(out) if os.path.isfile(out) else None
     if whole is None:
         return
@@ -54,8 +54,8 @@ def check_font(source: str, font: fontcut.Font, out: str) -> None:
 
 
 def check_unpacked(out: str, fonts: Sequence[bytes]) -> None:
-    """Raises `UsageError` where OUT has a font that is no cut, and is none of these, which a command makes of a file and
-    can make again."""
+    """Raises `UsageError` where OUT has a font that is no cut, and is none of these, which a command makes of a file
+    and can make again."""
     if is_whole_font(out) and read(out) not in fonts:
         raise UsageError(f"{out} is a font already, and no cut: name another file; --force replaces {out}")
 

@@ -19,7 +19,7 @@ MOST_EQUAL = 9999
 _EQUAL = re.compile(r"(equal|pages):([1-9][0-9]*)")
 # A name that a file can have in each folder and in a style sheet, as the program has it.
 _NAME = re.compile(r"[A-Za-z0-9][A-Za-z0-9._-]*")
-# The scripts of which a preset has another name, and how many of a language's first characters tell that a font is of it.
+# The scripts whose presets have other names, and how many of a language's first characters tell that a font is of it.
 _OF_WEB = {"latin": ("latin", "latin-ext", "vietnamese"), "greek": ("greek", "greek-ext"),
            "cyrillic": ("cyrillic", "cyrillic-ext")}
 _OF_LANGUAGES = "han", "hangul", "hiragana", "katakana", "bopomofo"

@@ -92,8 +92,8 @@ def _prepared(run: Run, one: FontSettings, name: str, whole: fontcut.Font, pages
     codes, features = mapped(whole, letters), _features(one, pages)
     if not codes:
         raise Refused(f"{one.file}: it maps no character of its pages")
-    how = PrepareOptions(codes, features, one.hinting, preparing.limits_of(one.instance) if one.instance else {}, one.names,
-              one.kern)
+    how = PrepareOptions(codes, features, one.hinting, preparing.limits_of(one.instance) if one.instance else {},
+                         one.names, one.kern)
     made = made_of(one.file, whole, wanted_of(whole, codes, letters, [page.shown.blocks for page in pages]), how)
     return FontState(digest(whole.data), _key(one, whole), run.place.put(run.place.work, name, ".ttf", made.data),
                      range_words(codes), features, _packed_size(run, name, whole, old), {})

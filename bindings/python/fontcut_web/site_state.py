@@ -96,7 +96,8 @@ def _section(told: Mapping[str, Any]) -> SectionState:
 
 def _font(told: Mapping[str, Any]) -> FontState:
     sections = {name: _section(section) for name, section in told["sections"].items()}
-    return FontState(told["source"], told["key"], File(*told["prepared"]), told["codes"], told["features"], told["whole"], sections)
+    return FontState(told["source"], told["key"], File(*told["prepared"]), told["codes"], told["features"],
+                     told["whole"], sections)
 
 
 class Place:

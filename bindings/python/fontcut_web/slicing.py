@@ -23,8 +23,8 @@ _AT_ONCE = 16
 class Font(NamedTuple):
     """A font that is accepted, with the slices that are wanted of it. `face` is what the style sheet says of it,
     `shown` the face of its default instance, `base` begins the names of the files, and `unsliced` has the scripts of
-    which no character is in a slice, with how many characters the font has of each. `notices` are the lines that are said
-    of all this, and of what the cuts drop."""
+    which no character is in a slice, with how many characters the font has of each. `notices` are the lines that are
+    said of all this, and of what the cuts drop."""
 
     path: str
     font: fontcut.Font
@@ -171,4 +171,5 @@ def _told(font: Font, made: Sequence[Written]) -> Dict[str, object]:
         row = {"name": one.slice.name, "file": one.cut[0], "bytes": one.cut[1], "characters": len(one.slice.codes),
                "unicode_range": range_words(one.slice.codes)}
         rows.append({**row, **({"woff2": one.woff2[0], "woff2_bytes": one.woff2[1]} if one.woff2 else {})})
-    return {"font": font.path, **font.face._asdict(), "slices": rows, "in_no_slice": font.unsliced, "notices": font.notices}
+    return {"font": font.path, **font.face._asdict(), "slices": rows, "in_no_slice": font.unsliced,
+            "notices": font.notices}

@@ -19,7 +19,7 @@ from .sets import Slice, range_words
 
 
 class Cut(NamedTuple):
-    """A cut of a font and its characters; what `--json` reports of it beside them, as its glyphs, and lines that warn."""
+    """A cut of a font and its characters; what `--json` reports beside them, as its glyphs, and lines that warn."""
 
     data: bytes
     codes: List[int]
@@ -94,7 +94,7 @@ def _sheet_beside(out: str) -> str:
 
 
 def _write_sheet(given: argparse.Namespace, font: fontcut.Font, source: str, codes: List[int]) -> Dict[str, object]:
-    """Writes a style sheet beside OUT that gives the cut the family of the font. Returns what `--json` reports of it."""
+    """Writes a style sheet beside OUT that gives the cut the font's family. Returns what `--json` reports of it."""
     out: str = given.files[-1]
     faces, sheet = part("faces"), part("sheet")
     face = faces.face_of(font.data, os.path.splitext(os.path.basename(source))[0])

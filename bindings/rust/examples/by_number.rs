@@ -1,5 +1,5 @@
-//! Cuts a font for two halves of ASCII and for every seventh glyph of it, from the first and from the fourth one on, and
-//! joins the cuts. Prints the closure of what the first half wants, and the glyphs that the join keeps:
+//! Cuts a font for two halves of ASCII and for every seventh glyph of it, from the first and from the fourth one on,
+//! and joins the cuts. Prints the closure of what the first half wants, and the glyphs that the join keeps:
 //!
 //!     by_number FONT lean|layout|variable OUT
 use fontcut::{join, Font, Kind, Ranges, Wanted};

@@ -1,5 +1,5 @@
-//! Cuts a font for each text FOLDER/0.txt, FOLDER/1.txt and so on, and writes FOLDER/0.ttf and so on. A last word takes the
-//! characters of the texts alone:
+//! Cuts a font for each text FOLDER/0.txt, FOLDER/1.txt and so on, and writes FOLDER/0.ttf and so on. A last word takes
+//! the characters of the texts alone:
 //!
 //!     by_text FONT full|lean|layout|variable FOLDER [exactly]
 use fontcut::{Font, Kind};

@@ -1,5 +1,5 @@
-//! Prints the numbers of a font in a line, and a line for each character that it maps, with its glyph and the metrics of
-//! that:
+//! Prints the numbers of a font in a line, and a line for each character that it maps, with its glyph and the metrics
+//! of that:
 //!
 //!     numbers FONT
 use fontcut::Font;

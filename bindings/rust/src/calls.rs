@@ -161,8 +161,8 @@ extern "C" {
     pub(crate) fn fontcut_refusal_text(answer: Answer, out: *mut u8, room: usize) -> Answer;
 }
 
-/// An empty vector with room for so many elements, or the answer that it is out of memory. A vector that asks for its room
-/// by itself ends the process if it is refused.
+/// An empty vector with room for so many elements, or the answer that it is out of memory. A vector that asks for its
+/// room by itself ends the process if it is refused.
 fn with_room<T>(room: usize) -> Result<Vec<T>, Answer> {
     let mut out = Vec::new();
     match out.try_reserve_exact(room) {

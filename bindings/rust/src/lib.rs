@@ -107,9 +107,9 @@ impl<'a> Font<'a> {
         let (font, ranges) = (self.bytes, wanted.as_slice());
         // A cut is seldom longer than its font; if it is, the call says how long.
         let room = font.len().saturating_add(4096);
-        // SAFETY: `new` has accepted these bytes, which nobody changes while they are borrowed. The places and lengths are
-        // those of slices; the call writes to its room alone, which is a vector's own, and to the front of it as many
-        // bytes as it says.
+        // SAFETY: `new` has accepted these bytes, which nobody changes while they are borrowed. The places and lengths
+        // are those of slices; the call writes to its room alone, which is a vector's own, and to the front of it as
+        // many bytes as it says.
         let made = unsafe {
             filled(room, |out, room| {
                 let (first, count) = (ranges.as_ptr(), ranges.len());
@@ -128,8 +128,8 @@ impl<'a> Font<'a> {
             .map_err(Error::of_one_file)
     }
 
-    /// The cuts of a kind for many sets of wanted characters: what [`Font::cut`] makes for each set, in the order of the
-    /// sets. The font is looked through once for all of them.
+    /// The cuts of a kind for many sets of wanted characters: what [`Font::cut`] makes for each set, in the order of
+    /// the sets. The font is looked through once for all of them.
     ///
     /// # Errors
     ///
@@ -155,10 +155,10 @@ impl<'a> Font<'a> {
         let (ranges, counts) = end_to_end(sets.into_iter().map(Ranges::as_slice));
         let (font, mut sizes) = (self.bytes, vec![0; counts.len()]);
         let (places, place_count) = (sizes.as_mut_ptr(), sizes.len());
-        // How long the cuts are cannot be guessed, for each repeats the tables that it copies: the first call has no room
-        // and says it.
-        // SAFETY: the places and lengths are those of slices; the call writes to its room and to `sizes` alone, which are
-        // vectors' own, and to the front of its room as many bytes as it says.
+        // How long the cuts are cannot be guessed, for each repeats the tables that it copies: the first call has no
+        // room and says it.
+        // SAFETY: the places and lengths are those of slices; the call writes to its room and to `sizes` alone, which
+        // are vectors' own, and to the front of its room as many bytes as it says.
         let made = unsafe {
             filled(0, |out, room| {
                 calls::fontcut_cuts(
@@ -290,8 +290,8 @@ impl<'a> Font<'a> {
     {
         let codes: Vec<u32> = codes.into_iter().map(Into::into).collect();
         let mut glyphs = vec![0; codes.len()];
-        // SAFETY: `new` has accepted these bytes; the places and lengths are those of slices; the call writes to `glyphs`
-        // alone.
+        // SAFETY: `new` has accepted these bytes; the places and lengths are those of slices; the call writes to
+        // `glyphs` alone.
         let answer = unsafe {
             let (first, count) = (codes.as_ptr(), codes.len());
             calls::fontcut_glyphs_checked(
@@ -367,8 +367,8 @@ impl<'a> Font<'a> {
     #[must_use]
     pub fn info(&self) -> Info {
         let mut info = Info::default();
-        // SAFETY: the place and the length are those of a slice; the call writes to `info` alone, which has the numbers of
-        // C in their order.
+        // SAFETY: the place and the length are those of a slice; the call writes to `info` alone, which has the numbers
+        // of C in their order.
         let answer =
             unsafe { calls::fontcut_info(self.bytes.as_ptr(), self.bytes.len(), &mut info) };
         assert_eq!(answer.status, DONE, "the font was accepted");

@@ -23,15 +23,15 @@ const PUT_IN: [(u32, &[u32]); 8] = [
     (0x2011, &[0x2010, 0x2D]),
 ];
 
-/// The letters of Hangul from which syllables are composed, by the first code, of trailing letters by the one before it,
-/// and their number (The Unicode Standard, 3.12).
+/// The letters of Hangul from which syllables are composed, by the first code, of trailing letters by the one before
+/// it, and their number (The Unicode Standard, 3.12).
 const SYLLABLES: u32 = 0xAC00;
 const LEADING: (u32, u32) = (0x1100, 19);
 const VOWELS: (u32, u32) = (0x1161, 21);
 const TRAILING: (u32, u32) = (0x11A7, 28);
 
-/// The characters that a text needs: its own, and those that a shaper takes for them or puts in beside them. A layout or
-/// variable cut for these shapes the text as the whole font does. [`Font::cut_text`] wants them.
+/// The characters that a text needs: its own, and those that a shaper takes for them or puts in beside them. A layout
+/// or variable cut for these shapes the text as the whole font does. [`Font::cut_text`] wants them.
 ///
 /// ```
 /// use fontcut::needed;
@@ -102,8 +102,8 @@ fn put_in(found: &BTreeSet<u32>) -> Vec<u32> {
     added
 }
 
-/// Adds the characters of the decomposed text, and those that its starters compose to with some of what follows, step by
-/// step. Those of the composed text are among them.
+/// Adds the characters of the decomposed text, and those that its starters compose to with some of what follows, step
+/// by step. Those of the composed text are among them.
 fn add_forms(text: &str, found: &mut BTreeSet<u32>) {
     let mut heads: BTreeSet<u32> = BTreeSet::new();
     for (part, class) in decomposed(text) {

@@ -33,7 +33,7 @@ impl Ranges {
         }
     }
 
-    /// Adds the code points of a range, which are surrogates too where it has them. What lies above U+10FFFF is left out.
+    /// Adds the code points of a range, also its surrogates where it has them. What lies above U+10FFFF is left out.
     pub fn insert(&mut self, codes: RangeInclusive<u32>) {
         let (first, last) = (*codes.start(), (*codes.end()).min(LAST_CODE));
         if codes.is_empty() || first > last {
