@@ -9,8 +9,8 @@
 // A font is an ArrayBuffer or a view of one. Calls are synchronous: a worker keeps a long one off the page's thread.
 // Each call copies what it reads into the module's memory, and frees all that it took when it returns or throws.
 
-import { DONE, KINDS, NO_GLYPH, NO_MEMORY, NO_NUMBERS, NOTHING_TO_JOIN, OF_NUMBERS, OF_TAGS, SHAPED, SMALL_ROOM, TOO_LARGE }
-    from './kinds.js';
+import { DONE, KINDS, NO_GLYPH, NO_MEMORY, NO_NUMBERS, NOTHING_TO_JOIN, OF_NUMBERS, OF_TAGS, SHAPED, SMALL_ROOM,
+    TOO_LARGE } from './kinds.js';
 import { needed } from './needed.js';
 
 const LAST_CODE = 0x10FFFF;

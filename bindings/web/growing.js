@@ -5,8 +5,8 @@
 //     const font = new GrowingFont('Wenkai', '/LXGWWenKai-Regular.ttf');
 //     await font.add('漢字');                  // fetches a cut for what is missing, and joins it to what is there
 //
-// The server answers `?unicodes=6F22,5B57&kind=lean` with the lean cut for these code points, as examples/server does, and
-// with the layout cut or the variable cut where that is the kind. These two grow by all characters that a text needs.
+// The server answers `?unicodes=6F22,5B57&kind=lean` with the lean cut for these code points, as examples/server does,
+// and with the layout cut or the variable cut if that is the kind. These two grow by all characters that a text needs.
 import { init, join } from './fontcut.js';
 import { KINDS, SHAPED, rangeWords } from './kinds.js';
 import { needed } from './needed.js';

@@ -231,7 +231,7 @@ class Page {
 
 const growing = {
     'the font is the cut for all text so far, of each kind': async () => {
-        const kinds = [['lean', '&kind=lean'], ['full', ''], ['layout', '&kind=layout'], ['variable', '&kind=variable']];
+        const kinds = [['full', ''], ...['lean', 'layout', 'variable'].map((kind) => [kind, `&kind=${kind}`])];
         for (const [kind, query] of kinds) {
             const page = new Page(), font = new GrowingFont('Grown', '/font.ttf?version=1', { kind });
             for (const text of ['Hello', 'Hello, world', 'ABC']) {
