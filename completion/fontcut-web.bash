@@ -12,7 +12,7 @@ _fontcut_web_options() {
         echo '--out --slices --order --lean --layout --variable --full --drop --woff2 --css --display --strict --force --quiet --json --help'
         ;;
     slices) echo '--font --order --help' ;;
-    icons) echo '--out --codepoints --lean --variable --json --help' ;;
+    icons) echo '--out --codepoints --lean --variable --force --json --help' ;;
     site) echo '--anew --check --json --help' ;;
     text)
         echo '--lean --layout --variable --full --text --shaped --features --check --css --display --strict --force --quiet --json --help'
