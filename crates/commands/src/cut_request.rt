@@ -8,8 +8,9 @@ use std::alloc::{Allocator, Global};
 pub struct CutRequest<'a, A: Allocator = Global> {
     /// The kind of cut.
     pub kind: Kind,
-    /// Whether the cut has all glyphs that links of `GSUB` lead to, too: then it serves text of these codes in whatever
-    /// order and with whatever features. It counts for layout and variable cuts alone.
+    /// Whether the cut also has each glyph that links of `GSUB` lead to from what is wanted, whatever the order of the
+    /// text and its features. It counts for layout and variable cuts alone. A shaper may first replace characters, as
+    /// U+65 U+301 by U+E9: the codes have to include those that the text needs.
     pub closes: bool,
     /// The wanted codes.
     pub codes: &'a Wanted<A>,

@@ -136,8 +136,9 @@ fn cut_of_opened<A: Memory + Copy>(
 /// codes, or for all if no set is given, and for the glyphs of these numbers, or for all if no list is given. Every glyph
 /// keeps its number. Numbers of glyphs that are not there do not count, nor do numbers at all in full cuts.
 ///
-/// If the font was opened for cuts that are closed, the cut has all that links of `GSUB` lead to from there: what a
-/// shaper may put for text of these codes, in whatever order and with whatever features.
+/// If the font was opened for cuts that are closed, the cut also has each glyph that links of `GSUB` lead to from there,
+/// whatever the order of the text and its features. A shaper may first replace characters, as U+65 U+301 by U+E9: the
+/// wanted codes have to include those that the text needs.
 ///
 /// # Errors
 ///

@@ -478,9 +478,10 @@ pub extern "C" fn fontcut_glyphs(
 
 /// Writes the glyphs that a shaper may put for text to the front of `out`, ascending: those that chains of links of `GSUB`
 /// lead to, as cuts of the kind that the number names keep it, from .notdef, from the glyphs of the codes of the ranges, and
-/// from these glyphs. `size` counts glyphs. A cut for the same ranges and for these glyphs serves all text of these
-/// characters, in whatever order and with whatever features. A refusal leaves `out` as it was. Status 101 where the number
-/// names no kind, which is asked before all else, and 102 where a number is no glyph of the font.
+/// from these glyphs. `size` counts glyphs. A cut for the same ranges and for these glyphs is closed: it has every glyph to
+/// which links lead from the glyphs of its characters. A shaper may first replace characters, as U+65 U+301 by U+E9: the
+/// ranges have to include those that the text needs. A refusal leaves `out` as it was. Status 101 where the number names no
+/// kind, which is asked before all else, and 102 where a number is no glyph of the font.
 #[unsafe(no_mangle)]
 pub extern "C" fn fontcut_closure(
     alloc: Global,

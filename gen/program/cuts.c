@@ -1,0 +1,8556 @@
+/* The part cuts of the program fontcut, in C.
+ * It is made of the crates of this repository and of the kit's libraries, which were proved and compiled to LLVM's IR
+ * by rattle; tools/translator has translated that. Do not edit it: tools/generate writes it. */
+
+#include "program.h"
+
+static const u8 table_18327a07[4] = {0};
+static const u8 table_62a9c92b[4] = {0,3};
+static const u8 table_87e6e93c[2] = {0,1};
+static const _Alignas(2) u8 table_d0e67785[1] = {0};
+static const _Alignas(8) u8 table_faed1f12[232] = {16,0,0,0,0,0,0,0,17,0,0,0,0,0,0,0,18,0,0,0,0,0,0,0,19,0,0,0,0,0,0,0,21,0,0,0,0,0,0,0,22,0,0,0,0,0,0,0,
+0,0,0,0,0,0,0,0,23,0,0,0,0,0,0,0,24,0,0,0,0,0,0,0,25,0,0,0,0,0,0,0,1,0,0,0,0,0,0,0,26,0,0,0,0,0,0,0,2,
+0,0,0,0,0,0,0,3,0,0,0,0,0,0,0,27,0,0,0,0,0,0,0,4,0,0,0,0,0,0,0,5,0,0,0,0,0,0,0,28,0,0,0,0,0,0,0,6,0,0,
+0,0,0,0,0,7,0,0,0,0,0,0,0,8,0,0,0,0,0,0,0,20,0,0,0,0,0,0,0,9,0,0,0,0,0,0,0,10,0,0,0,0,0,0,0,11,0,0,0,
+0,0,0,0,12,0,0,0,0,0,0,0,13,0,0,0,0,0,0,0,14,0,0,0,0,0,0,0,15};
+static const u8 text_BASEGDEFGPOSGSUBHVARMVAR[52] = "BASEGDEFGPOSGSUBHVARMVARSTATVVARavarcvarfvargvarkern";
+static const u8 text_BASEGDEFGPOSGSUBkern[20] = "BASEGDEFGPOSGSUBkern";
+
+static void font_layout_entry_read_entry(u8 *v0, u8 *v1, u64 v2, u8 *v3, u16 v4, u64 v5);
+static void font_layout_layout_Layout_open(u8 *v0, u8 *v1, u64 v2);
+static void font_layout_lookup_subtable_read_plain(u8 *v0, u8 *v1, u64 v2, u16 v3, u64 v4, u32 v5);
+static void font_layout_rule_read_reverse_rule(u8 *v0, u8 *v1, u64 v2, u64 v3);
+static NOINLINE void font_layout_walk_Steps_next_part(u8 *v0, u8 *v1);
+static void font_subset_font_to_cut_closing_refusal(u8 *v0, u8 *v1, u8 *v2);
+static void font_subset_further_tables_FixedTable_of_1948(u8 *v0, u8 *v1, u64 v2);
+static void font_subset_further_tables_FurtherTables_variations(u8 *v0, u8 *v1);
+static void font_subset_kind_source_metrics_table_21da(u8 *v0, u8 *v1, u64 v2, u64 v3);
+static void font_subset_lean_tables_copy_kept(u8 *v0, u8 *v1, u64 v2, u8 *v3, u64 v4);
+static void font_subset_presence_mark_between(u8 *v0, u8 *v1, u16 v2, u16 v3);
+static void font_subset_selection_mark_roots(u8 *v0, u8 *v1, u8 *v2, u8 *v3);
+static u8_u64 font_write_size_table_length_895b(u8 *v0, u8 *v1, u64 v2);
+static u8_u64 font_write_size_table_length_a65d(u8 *v0, u8 v1, u8 *v2, u64 v3);
+static flag font_write_whole_file_is_whole_file(u8 *v0, u8 v1, u8 *v2, u8 *v3, u64 v4);
+
+static void font_layout_entry_read_entry(u8 *v0, u8 *v1, u64 v2, u8 *v3, u16 v4, u64 v5) {
+    u64 v82, v84;
+    u32 v83;
+    u16 v85, v86;
+    u64 v9 = at(u64_1, v3 + 8);
+    u64 v11 = at(u64_1, v3 + 16);
+    switch (at(u8, v3)) {
+    case 0: goto v13;
+    case 1: goto v14;
+    case 2: goto v15;
+    case 3: goto v16;
+    default: __builtin_trap();
+    }
+v13:;
+    v82 = 0; v83 = 0; v84 = 1; v85 = (u16)(at(u16_1, v3 + 2) + v4); v86 = 0; goto v20;
+v14:;
+    if (!(v5 < v11)) { v82 = 0; v83 = 0; v84 = 0; v85 = 0; v86 = 3; goto v20; }
+    v82 = 0; v83 = 0; v84 = 1; v85 = bswap16(at(u16_1, (v1 + (i64)v9) + (i64)(v5 << 1))); v86 = 0; goto v20;
+v15:;
+    if (!(v5 < v11)) { v82 = 0; v83 = 0; v84 = 0; v85 = 0; v86 = 3; goto v20; }
+    u16 v34 = at(u16_1, (v1 + (i64)v9 + 6) + (i64)(v5 << 1));
+    if (v34 == 0) { v82 = 0; v83 = 1; v84 = 0; v85 = 0; v86 = 3; goto v20; }
+    u64 v39 = v9 + ((u64)bswap16(v34));
+    if (v2 < 2) { v82 = 0; v83 = 1; v84 = 1; v85 = 0; v86 = 3; goto v20; }
+    u64 v42 = v2 - 2;
+    if (v42 < v39) { v82 = 0; v83 = 1; v84 = 1; v85 = 0; v86 = 3; goto v20; }
+    u64 v48 = (u64)bswap16(at(u16_1, v1 + (i64)v39));
+    if ((v42 - v39) < (v48 << 1)) { v82 = 0; v83 = 1; v84 = 1; v85 = 0; v86 = 3; goto v20; }
+    v82 = v39 + 2; v83 = 1; v84 = v48; v85 = 0; v86 = 1; goto v20;
+v16:;
+    if (!(v5 < v11)) { v82 = 0; v83 = 0; v84 = 0; v85 = 0; v86 = 3; goto v20; }
+    u16 v61 = at(u16_1, (v1 + (i64)v9 + 6) + (i64)(v5 << 1));
+    if (v61 == 0) { v82 = 0; v83 = 1; v84 = 0; v85 = 0; v86 = 3; goto v20; }
+    u64 v66 = v9 + ((u64)bswap16(v61));
+    if (v2 < 2) { v82 = 0; v83 = 1; v84 = 1; v85 = 0; v86 = 3; goto v20; }
+    u64 v69 = v2 - 2;
+    if (v69 < v66) { v82 = 0; v83 = 1; v84 = 1; v85 = 0; v86 = 3; goto v20; }
+    u16 v74 = bswap16(at(u16_1, v1 + (i64)v66));
+    u64 v75 = (u64)v74;
+    if ((v69 - v66) < (v75 << 1)) { v82 = 0; v83 = 1; v84 = 1; v85 = 0; v86 = 3; goto v20; }
+    v82 = v66; v83 = ((u32)v74) + 1; v84 = v75; v85 = 0; v86 = 2;
+v20:;
+    at(u16_1, v0) = v86;
+    at(u16_1, v0 + 2) = v85;
+    at(u32_1, v0 + 4) = 0;
+    at(u64_1, v0 + 8) = v82;
+    at(u64_1, v0 + 16) = v84;
+    at(u32_1, v0 + 24) = v83;
+    at(u32_1, v0 + 28) = 0;
+    return;
+}
+
+static void font_layout_layout_Layout_open(u8 *v0, u8 *v1, u64 v2) {
+    _Alignas(8) u8 v4[32], v5[24], v7[304];
+    _Alignas(4) u8 v6[12];
+    u64 v31, v32;
+    u32 v74, v77, v79, v82, v169, v178;
+    u8 v133, v167, v177;
+    u16 v134, v135, v168, v179;
+    if (v2 < 10u) goto v9;
+    if (!(at(u16_1, v1) == 256u)) goto v9;
+    u16 v15 = at(u16_1, v1 + 8);
+    if (v15 == 0) { v31 = 0; v32 = 0; goto v17; }
+    u64 v20 = (u64)bswap16(v15);
+    u64 v21 = v2 - 2;
+    if (v21 < v20) goto v9;
+    u64 v27 = (u64)bswap16(at(u16_1, v1 + (i64)v20));
+    if ((v21 - v20) < (v27 << 1)) goto v9;
+    v31 = v20; v32 = v27;
+v17:;
+    at(ptr, v7) = v1;
+    at(u64, v7 + 8) = v2;
+    at(u64, v7 + 16) = v31;
+    at(u64, v7 + 24) = 0;
+    at(u64, v7 + 32) = v32;
+    at(ptr, v7 + 40) = v1;
+    at(u64, v7 + 48) = v2;
+    memset(v7 + 56, 0, 40u);
+    at(ptr, v7 + 96) = v1;
+    at(u64, v7 + 104) = v2;
+    memset(v7 + 112, 0, 72u);
+    at(ptr, v7 + 184) = v1;
+    at(u64, v7 + 192) = v2;
+    memset(v7 + 200, 0, 48u);
+    at(ptr, v7 + 248) = v1;
+    at(u64, v7 + 256) = v2;
+    at(u64, v7 + 264) = 0;
+    at(u16, v7 + 272) = 3;
+    memset(v7 + 274, 0, 30u);
+    v74 = 1048576u; v77 = 0; v79 = 0;
+v73:;
+    v82 = v74;
+v81:;
+    memset(v6, 0, 12u);
+    memset(v4, 0, 32u);
+    at(u64, v5) = 0;
+    u64 v85 = at(u64, v7 + 296);
+    if (!(v85 == 0)) goto v88;
+    u64 v140 = at(u64, v7 + 240);
+    if (!(v140 == 0)) goto v143;
+    font_layout_walk_Steps_next_part(v6, v7);
+    if (at(u8, v6) == 1) { v177 = at(u8, v6 + 4); v178 = at(u32, v6 + 8); v179 = at(u16, v6 + 6); goto v170; }
+    at(u8, v0) = 0;
+    at(ptr_1, v0 + 8) = v1;
+    at(u64_1, v0 + 16) = v2;
+    at(u64_1, v0 + 24) = v32;
+    at(u32_1, v0 + 32) = v77;
+    at(u32_1, v0 + 36) = v79;
+    return;
+v143:;
+    u64 v145 = at(u64, v7 + 232);
+    u16 v147 = (u16)(at(u16, v7 + 224) + ((u16)v145));
+    u8 *v151 = at(ptr, v7 + 184);
+    u64 v152 = at(u64, v7 + 192);
+    u64 v150 = v145 + ((u64)at(u16, v7 + 228));
+    at(u16, v5) = (u16)at(u8, v7 + 200);
+    at(u16, v5 + 2) = at(u16, v7 + 202);
+    at(u64, v5 + 8) = at(u64, v7 + 208);
+    at(u64, v5 + 16) = at(u64, v7 + 216);
+    font_layout_entry_read_entry(v4, v151, v152, v5, v147, v150);
+    u16 v159 = at(u16, v4 + 2);
+    u64 v160 = at(u64, v4 + 8);
+    u64 v161 = at(u64, v4 + 16);
+    u16 v162 = (u16)at(u8, v4);
+    at(ptr, v7 + 248) = v151;
+    at(u64, v7 + 256) = v152;
+    at(u16, v7 + 264) = v147;
+    memset(v7 + 266, 0, 6);
+    at(u16, v7 + 272) = v162;
+    at(u16, v7 + 274) = v159;
+    at(u32, v7 + 276) = 0;
+    at(u64, v7 + 280) = v160;
+    at(u64, v7 + 288) = 0;
+    at(u64, v7 + 296) = v161;
+    at(u64, v7 + 232) = v145 + 1;
+    at(u64, v7 + 240) = v140 - 1;
+    v167 = 0; v168 = 0; v169 = at(u32, v4 + 24) + 1; goto v139;
+v88:;
+    u8 *v89 = at(ptr, v7 + 248);
+    u64 v90 = at(u64, v7 + 256);
+    u16 v91 = at(u16, v7 + 264);
+    u64 v94 = at(u64, v7 + 280);
+    u64 v95 = at(u64, v7 + 288);
+    switch (at(u8, v7 + 272)) {
+    case 0: v133 = 1; v134 = at(u16, v7 + 274); v135 = v91; goto v97;
+    case 1: goto v98;
+    case 2: goto v99;
+    case 3: goto v100;
+    default: __builtin_trap();
+    }
+v98:;
+    v133 = 1; v134 = bswap16(at(u16_1, (v89 + (i64)v94) + (i64)(v95 << 1))); v135 = v91; goto v97;
+v99:;
+    u16 v110 = at(u16_1, (v89 + (i64)v94 + 2) + (i64)(v95 << 1));
+    if (v110 == 0) { v133 = 0; v134 = 0; v135 = 0; goto v97; }
+    u64 v115 = v94 + ((u64)bswap16(v110));
+    if (v90 < 4) { v133 = 2; v134 = 0; v135 = 0; goto v97; }
+    u64 v118 = v90 - 4;
+    if (v118 < v115) { v133 = 2; v134 = 0; v135 = 0; goto v97; }
+    if ((v118 - v115) < (usub_sat64((u64)bswap16(at(u16_1, v89 + (i64)v115 + 2)), 1) << 1)) { v133 = 2; v134 = 0; v135 = 0; goto v97; }
+    v133 = 1; v134 = bswap16(at(u16_1, v89 + (i64)v115)); v135 = v91; goto v97;
+v100:;
+    v133 = 2; v134 = 0; v135 = 0;
+v97:;
+    at(u64, v7 + 288) = v95 + 1;
+    at(u64, v7 + 296) = v85 - 1;
+    v167 = v133; v168 = v135; v169 = (u32)v134;
+v139:;
+    v177 = v167; v178 = v169; v179 = v168;
+v170:;
+    switch (v177) {
+    case 0: goto v181;
+    case 1: goto v182;
+    case 2: goto v183;
+    default: __builtin_trap();
+    }
+v181:;
+    if (v82 < v178) goto v183;
+    v82 = v82 - v178; goto v81;
+v182:;
+    if (v82 == 0) goto v183;
+    v74 = v82 - 1; v77 = v77 + 1; v79 = umax32(umax32(v79, ((u32)v179) + 1), (v178 & 65535u) + 1); goto v73;
+v183:;
+    at(u8, v0) = 1;
+    memset(v0 + 8, 0, 32u);
+    return;
+v9:;
+    at(u8, v0) = 1;
+    memset(v0 + 8, 0, 32u);
+    return;
+}
+
+static void font_layout_lookup_subtable_read_plain(u8 *v0, u8 *v1, u64 v2, u16 v3, u64 v4, u32 v5) {
+    _Alignas(8) u8 v7[32];
+    u8 v8[7], v63, v80, v112;
+    u16 v64, v79;
+    u64 v65, v66, v77, v78, v113, v114;
+    if (!(((u16)(v3 + 65531u)) < 2)) goto v12;
+    at(u64_1, v0) = 1;
+    memset(v0 + 8, 0, 48u);
+    at(u32_1, v0 + 56) = v5;
+    at(u32_1, v0 + 60) = 0;
+    return;
+v12:;
+    memset(v7 + 8, 0, 24u);
+    if ((v2 < 6) | ((v2 - 6) < v4)) goto v22;
+    u16 v25 = at(u16_1, v1 + (i64)v4);
+    flag v26 = v3 == 1;
+    if (!(v26 & (v25 == 512u))) goto v30;
+    u64 v34 = (u64)bswap16(at(u16_1, v1 + (i64)v4 + 4));
+    if (((v2 - v4) - 6) < (v34 << 1)) goto v22;
+    v63 = 1; v64 = 0; v65 = v4 + 6; v66 = v34; goto v41;
+v30:;
+    if (!(v25 == 256u)) goto v22;
+    if (!v26) goto v45;
+    v63 = 0; v64 = bswap16(at(u16_1, v1 + (i64)v4 + 4)); v65 = 0; v66 = 0; goto v41;
+v45:;
+    switch (v3) {
+    case 8: goto v49;
+    case 2: case 3: case 4: goto v50;
+    default: goto v22;
+    }
+v49:;
+    font_layout_rule_read_reverse_rule(v7, v1, v2, v4);
+    if (at(u8, v7) == 1) { v77 = at(u64, v7 + 24); v78 = at(u64, v7 + 16); v79 = at(u16, v7 + 10); v80 = at(u8, v7 + 8); goto v67; }
+    goto v62;
+v50:;
+    u64 v54 = (u64)bswap16(at(u16_1, v1 + (i64)v4 + 4));
+    if (((v2 - v4) - 6) < (v54 << 1)) goto v22;
+    v63 = (v3 == 4) ? 3 : 2; v64 = 0; v65 = v4; v66 = v54;
+v41:;
+    v77 = v66; v78 = v65; v79 = v64; v80 = v63;
+v67:;
+    u16 v82 = at(u16_1, v1 + (i64)v4 + 2);
+    if (v82 == 0) { v112 = 0; v113 = 0; v114 = 0; goto v84; }
+    u64 v88 = v4 + ((u64)bswap16(v82));
+    if ((v2 - 4) < v88) goto v91;
+    u16 v94 = at(u16_1, v1 + (i64)v88);
+    if (!(((u16)(bswap16(v94) + 65535u)) < 2)) goto v91;
+    flag v99 = v94 == 512u;
+    u64 v104 = (u64)bswap16(at(u16_1, v1 + (i64)v88 + 2));
+    if (((v2 - v88) - 4) < ((v99 ? 6 : 2) * v104)) goto v91;
+    v112 = (u8)v99; v113 = v88 + 4; v114 = v104;
+v84:;
+    memset(v8, 0, 7);
+    at(u64_1, v0) = 1;
+    at(u16_1, v0 + 8) = (u16)v80;
+    at(u16_1, v0 + 10) = v79;
+    at(u32_1, v0 + 12) = 0;
+    at(u64_1, v0 + 16) = v78;
+    at(u64_1, v0 + 24) = v77;
+    at(u8, v0 + 32) = v112;
+    memcpy(v0 + 33, v8, 7);
+    at(u64_1, v0 + 40) = v113;
+    at(u64_1, v0 + 48) = v114;
+    at(u32_1, v0 + 56) = v5 + 1;
+    at(u32_1, v0 + 60) = 0;
+    return;
+v91:;
+    memset(v0, 0, 64u);
+    return;
+v22:;
+v62:;
+    memset(v0, 0, 64u);
+    return;
+}
+
+static void font_layout_rule_read_reverse_rule(u8 *v0, u8 *v1, u64 v2, u64 v3) {
+    u64 v5 = v3 + 4;
+    u64 v6 = v2 - 2;
+    if (v6 < v5) goto v8;
+    u64 v15 = ((u64)bswap16(at(u16_1, v1 + (i64)v5))) << 1;
+    if (!((v6 - v5) < v15)) goto v17;
+v8:;
+    at(u64_1, v0) = 0;
+    at(u16_1, v0 + 8) = 0;
+    at(u16_1, v0 + 10) = 0;
+    memset(v0 + 16, 0, 16u);
+    return;
+v17:;
+    u64 v19 = (v3 + 6) + v15;
+    if (v6 < v19) goto v21;
+    u64 v28 = ((u64)bswap16(at(u16_1, v1 + (i64)v19))) << 1;
+    if (!((v6 - v19) < v28)) goto v30;
+v21:;
+    at(u64_1, v0) = 0;
+    at(u16_1, v0 + 8) = 0;
+    at(u16_1, v0 + 10) = 0;
+    memset(v0 + 16, 0, 16u);
+    return;
+v30:;
+    u64 v37 = ((v3 + 8) + v15) + v28;
+    if (v6 < v37) goto v39;
+    u64 v44 = (u64)bswap16(at(u16_1, v1 + (i64)v37));
+    if (!((v6 - v37) < (v44 << 1))) goto v48;
+v39:;
+    at(u64_1, v0) = 0;
+    at(u16_1, v0 + 8) = 0;
+    at(u16_1, v0 + 10) = 0;
+    memset(v0 + 16, 0, 16u);
+    return;
+v48:;
+    at(u64_1, v0) = 1;
+    at(u16_1, v0 + 8) = 1;
+    at(u16_1, v0 + 10) = 0;
+    at(u64_1, v0 + 16) = v37 + 2;
+    at(u64_1, v0 + 24) = v44;
+    return;
+}
+
+static NOINLINE void font_layout_walk_Steps_next_part(u8 *v0, u8 *v1) {
+    _Alignas(8) u8 v3[64], v4[64], v5[32], v6[24], v7[40];
+    _Alignas(2) u8 v8[6];
+    u16 v343, v168, v169, v170, v68, v69, v70, v126, v127, v294, v295;
+    u64 v344, v345, v291;
+    u8 v265, v268;
+    u32 v128, v296;
+    memset(v8, 0, 6);
+    memset(v5, 0, 32u);
+    at(u64, v6) = 0;
+    u64 v14 = at(u64, v1 + 296);
+    if (!(v14 == 0)) goto v17;
+    u64 v76 = at(u64, v1 + 240);
+    if (!(v76 == 0)) goto v79;
+    u64 v131 = at(u64, v1 + 176);
+    if (!(v131 == 0)) goto v134;
+    u64 v201 = at(u64, v1 + 88);
+    if (!(v201 == 0)) goto v204;
+    u64 v301 = at(u64, v1 + 32);
+    if (!(v301 == 0)) goto v304;
+    memset(v0, 0, 12u);
+    return;
+v304:;
+    u8 *v305 = at(ptr_1, v1);
+    u64 v308 = at(u64, v1 + 16);
+    u64 v310 = at(u64, v1 + 24);
+    u16 v315 = at(u16_1, (v305 + (i64)v308 + 2) + (i64)(v310 << 1));
+    u64 v316 = at(u64, v1 + 8);
+    if (v315 == 0) { v343 = 0; v344 = 0; v345 = 0; goto v318; }
+    u64 v322 = v308 + ((u64)bswap16(v315));
+    u64 v323 = v322 + 4;
+    if (v316 < 2) goto v325;
+    u64 v327 = v316 - 2;
+    if (v327 < v323) goto v325;
+    u64 v333 = (u64)bswap16(at(u16_1, v305 + (i64)v323));
+    if ((v327 - v323) < (v333 << 1)) goto v325;
+    u16 v340 = bswap16(at(u16_1, v305 + (i64)v322));
+    if (!(((u16)(v340 + 65527u)) < 65528u)) { v343 = v340; v344 = v322; v345 = v333; goto v318; }
+v325:;
+    at(u64, v1 + 24) = v310 + 1;
+    at(u64, v1 + 32) = v301 - 1;
+    at(u32_1, v0) = 1;
+    at(u16_1, v0 + 4) = 2;
+    at(u16_1, v0 + 6) = 0;
+    at(u32_1, v0 + 8) = 0;
+    return;
+v318:;
+    memset(v8, 0, 6);
+    at(u64, v1 + 24) = v310 + 1;
+    at(u64, v1 + 32) = v301 - 1;
+    at(ptr, v1 + 40) = v305;
+    at(u64, v1 + 48) = v316;
+    at(u16, v1 + 56) = v343;
+    memcpy(v1 + 58, v8, 6);
+    at(u64, v1 + 64) = v344;
+    at(u64, v1 + 72) = v345;
+    at(u64, v1 + 80) = 0;
+    at(u64, v1 + 88) = v345;
+    at(ptr, v1 + 96) = v305;
+    at(u64, v1 + 104) = v316;
+    memset(v1 + 112, 0, 72u);
+    at(ptr, v1 + 184) = v305;
+    at(u64, v1 + 192) = v316;
+    memset(v1 + 200, 0, 48u);
+    at(ptr, v1 + 248) = v305;
+    at(u64, v1 + 256) = v316;
+    at(u64, v1 + 264) = 0;
+    at(u16, v1 + 272) = 3;
+    memset(v1 + 274, 0, 30u);
+    at(u32_1, v0) = 1;
+    at(u16_1, v0 + 4) = 0;
+    at(u16_1, v0 + 6) = 0;
+    at(u32_1, v0 + 8) = 1;
+    return;
+v204:;
+    u8 *v205 = at(ptr_1, v1 + 40);
+    u64 v209 = at(u64, v1 + 64);
+    u64 v211 = at(u64, v1 + 80);
+    u16 v216 = at(u16_1, (v205 + (i64)v209 + 6) + (i64)(v211 << 1));
+    u64 v217 = at(u64, v1 + 48);
+    u16 v218 = at(u16, v1 + 56);
+    memset(v4, 0, 64u);
+    if (!(v216 == 0)) goto v221;
+    at(u64, v1 + 80) = v211 + 1;
+    at(u64, v1 + 88) = v201 - 1;
+    v291 = 1; goto v224;
+v221:;
+    u64 v227 = v209 + ((u64)bswap16(v216));
+    if (!(v218 == 7)) goto v230;
+    memset(v3, 0, 64u);
+    if ((v217 < 8) | ((v217 - 8) < v227)) goto v235;
+    if (!(at(u16_1, v205 + (i64)v227) == 256u)) goto v235;
+    u16 v243 = at(u16_1, v205 + (i64)v227 + 2);
+    u16 v244 = bswap16(v243);
+    if (!((v243 == 1792u) | (((u16)(v244 + 65527u)) < 65528u))) goto v250;
+    memset(v4, 0, 64u);
+    v265 = 0; goto v241;
+v250:;
+    u32 v252 = at(u32_1, v205 + (i64)v227 + 4);
+    if (!(v252 == 0)) goto v255;
+    memset(v3 + 8, 0, 48u);
+    at(u32, v3 + 56) = 2;
+    memcpy(v4 + 8, v3 + 8, 56u);
+    v265 = 1; goto v241;
+v255:;
+    font_layout_lookup_subtable_read_plain(v3, v205, v217, v244, v227 + ((u64)bswap32(v252)), 2);
+    u8 v262 = at(u8, v3);
+    memcpy(v4 + 8, v3 + 8, 56u);
+    v265 = v262; goto v241;
+v235:;
+    memset(v4, 0, 64u);
+    v265 = 0;
+v241:;
+    v268 = v265; goto v266;
+v230:;
+    font_layout_lookup_subtable_read_plain(v4, v205, v217, v218, v227, 1);
+    v268 = at(u8, v4);
+v266:;
+    u64 v271 = at(u64, v4 + 56);
+    memcpy(v7, v4 + 8, 40u);
+    u64 v273 = at(u64, v4 + 48);
+    at(u64, v1 + 80) = v211 + 1;
+    at(u64, v1 + 88) = v201 - 1;
+    if (!(v268 == 1)) { v294 = 2; v295 = 0; v296 = 0; goto v129; }
+    if (v273 == 0) { v291 = v271; goto v224; }
+    at(ptr_1, v1 + 96) = v205;
+    at(u64_1, v1 + 104) = v217;
+    memcpy(v1 + 112, v7, 40u);
+    at(u64_1, v1 + 152) = v273;
+    at(u64_1, v1 + 160) = v271;
+    at(u64_1, v1 + 168) = 0;
+    at(u64_1, v1 + 176) = v273;
+    at(ptr_1, v1 + 184) = v205;
+    at(u64_1, v1 + 192) = v217;
+    memset(v1 + 200, 0, 48u);
+    at(ptr_1, v1 + 248) = v205;
+    at(u64_1, v1 + 256) = v217;
+    at(u64_1, v1 + 264) = 0;
+    at(u16_1, v1 + 272) = 3;
+    memset(v1 + 274, 0, 30u);
+    v291 = v271;
+v224:;
+    v294 = 0; v295 = 0; v296 = (u32)v291; goto v129;
+v134:;
+    u8 *v135 = at(ptr_1, v1 + 96);
+    u64 v142 = at(u64, v1 + 168);
+    u64 v140 = at(u64_1, v1 + 144);
+    if (!(at(u8, v1 + 136) & 1)) goto v146;
+    u64 v155 = v142 * 6;
+    u16 v158 = bswap16(at(u16_1, (v135 + (i64)v140) + (i64)v155));
+    u16 v161 = bswap16(at(u16_1, (v135 + (i64)v140) + (i64)v155 + 2));
+    u16 v164 = bswap16(at(u16_1, (v135 + (i64)v140) + (i64)v155 + 4));
+    at(u64, v1 + 168) = v142 + 1;
+    at(u64, v1 + 176) = v131 - 1;
+    if (v158 > v161) { v294 = 0; v295 = 0; v296 = 1; goto v129; }
+    v168 = v164; v169 = v161; v170 = v158; goto v154;
+v146:;
+    u16 v150 = bswap16(at(u16_1, (v135 + (i64)v140) + (i64)(v142 << 1)));
+    at(u64, v1 + 168) = v142 + 1;
+    at(u64, v1 + 176) = v131 - 1;
+    v168 = (u16)v142; v169 = v150; v170 = v150;
+v154:;
+    u64 v172 = at(u64_1, v1 + 104);
+    u16 v174 = (u16)at(u8, v1 + 112);
+    u16 v176 = at(u16_1, v1 + 114);
+    u64 v178 = at(u64_1, v1 + 120);
+    u64 v180 = at(u64_1, v1 + 128);
+    at(ptr_1, v1 + 184) = v135;
+    at(u64_1, v1 + 192) = v172;
+    at(u16_1, v1 + 200) = v174;
+    at(u16_1, v1 + 202) = v176;
+    at(u32_1, v1 + 204) = 0;
+    at(u64_1, v1 + 208) = v178;
+    at(u64_1, v1 + 216) = v180;
+    at(u16_1, v1 + 224) = v170;
+    at(u16_1, v1 + 226) = v169;
+    at(u16_1, v1 + 228) = v168;
+    at(u16_1, v1 + 230) = 0;
+    at(u64_1, v1 + 232) = 0;
+    at(u64_1, v1 + 240) = usub_sat64(((u64)v169) + 1, (u64)v170);
+    at(ptr_1, v1 + 248) = v135;
+    at(u64_1, v1 + 256) = v172;
+    at(u64_1, v1 + 264) = 0;
+    at(u16_1, v1 + 272) = 3;
+    memset(v1 + 274, 0, 30u);
+    v294 = 0; v295 = 0; v296 = 1; goto v129;
+v79:;
+    u64 v83 = at(u64, v1 + 232);
+    u16 v85 = (u16)(at(u16, v1 + 224) + ((u16)v83));
+    u8 *v90 = at(ptr, v1 + 184);
+    u64 v92 = at(u64, v1 + 192);
+    u64 v89 = v83 + ((u64)at(u16, v1 + 228));
+    at(u16, v6) = (u16)at(u8, v1 + 200);
+    at(u16, v6 + 2) = at(u16, v1 + 202);
+    at(u64, v6 + 8) = at(u64, v1 + 208);
+    at(u64, v6 + 16) = at(u64, v1 + 216);
+    font_layout_entry_read_entry(v5, v90, v92, v6, v85, v89);
+    u16 v107 = at(u16, v5 + 2);
+    u64 v109 = at(u64, v5 + 8);
+    u64 v111 = at(u64, v5 + 16);
+    u16 v112 = (u16)at(u8, v5);
+    at(ptr, v1 + 248) = v90;
+    at(u64, v1 + 256) = v92;
+    at(u16, v1 + 264) = v85;
+    memset(v1 + 266, 0, 6);
+    at(u16, v1 + 272) = v112;
+    at(u16, v1 + 274) = v107;
+    at(u32, v1 + 276) = 0;
+    at(u64, v1 + 280) = v109;
+    at(u64, v1 + 288) = 0;
+    at(u64, v1 + 296) = v111;
+    at(u64, v1 + 232) = v83 + 1;
+    at(u64, v1 + 240) = v76 - 1;
+    v126 = 0; v127 = 0; v128 = at(u32, v5 + 24) + 1; goto v74;
+v17:;
+    u8 *v18 = at(ptr_1, v1 + 248);
+    u64 v20 = at(u64_1, v1 + 256);
+    u16 v22 = at(u16, v1 + 264);
+    u64 v28 = at(u64_2, v1 + 280);
+    u64 v30 = at(u64, v1 + 288);
+    switch (at(u8, v1 + 272)) {
+    case 0: v68 = 1; v69 = at(u16, v1 + 274); v70 = v22; goto v32;
+    case 1: goto v33;
+    case 2: goto v34;
+    case 3: goto v35;
+    default: __builtin_trap();
+    }
+v33:;
+    v68 = 1; v69 = bswap16(at(u16_1, (v18 + (i64)v28) + (i64)(v30 << 1))); v70 = v22; goto v32;
+v34:;
+    u16 v45 = at(u16_1, (v18 + (i64)v28 + 2) + (i64)(v30 << 1));
+    if (v45 == 0) { v68 = 0; v69 = 0; v70 = 0; goto v32; }
+    u64 v50 = v28 + ((u64)bswap16(v45));
+    if (v20 < 4) { v68 = 2; v69 = 0; v70 = 0; goto v32; }
+    u64 v53 = v20 - 4;
+    if (v53 < v50) { v68 = 2; v69 = 0; v70 = 0; goto v32; }
+    if ((v53 - v50) < (usub_sat64((u64)bswap16(at(u16_1, v18 + (i64)v50 + 2)), 1) << 1)) { v68 = 2; v69 = 0; v70 = 0; goto v32; }
+    v68 = 1; v69 = bswap16(at(u16_1, v18 + (i64)v50)); v70 = v22; goto v32;
+v35:;
+    v68 = 2; v69 = 0; v70 = 0;
+v32:;
+    at(u64, v1 + 288) = v30 + 1;
+    at(u64, v1 + 296) = v14 - 1;
+    v126 = v68; v127 = v70; v128 = (u32)v69;
+v74:;
+    v294 = v126; v295 = v127; v296 = v128;
+v129:;
+    at(u32_1, v0) = 1;
+    at(u16_1, v0 + 4) = v294;
+    at(u16_1, v0 + 6) = v295;
+    at(u32_1, v0 + 8) = v296;
+    return;
+}
+
+void font_subset_accepted_copied(u8 *v0, u8 *v1, u64 v2) {
+    _Alignas(4) u8 v4[64];
+    u64 v44, v76, v78;
+    u8 *v77;
+    switch (v2) {
+    case 1: case 5: case 6: case 9: goto v6;
+    default: goto v5;
+    }
+v5:;
+    if (v2 > 15u) goto v6;
+    u8 *v10 = at(ptr_1, v1);
+    at(u32, v4) = 841962319u;
+    at(u32, v4 + 4) = 1885433187u;
+    at(u32, v4 + 8) = 544503395u;
+    at(u32, v4 + 12) = 1835495526u;
+    at(u32, v4 + 16) = 1886609767u;
+    at(u32, v4 + 20) = 1719233639u;
+    at(u32, v4 + 24) = 1684104552u;
+    at(u32, v4 + 28) = 1634035816u;
+    at(u32, v4 + 32) = 2020896104u;
+    at(u32, v4 + 36) = 1633906540u;
+    at(u32, v4 + 40) = 1886937453u;
+    at(u32, v4 + 44) = 1701667182u;
+    at(u32, v4 + 48) = 1953722224u;
+    at(u32, v4 + 52) = 1885696624u;
+    at(u32, v4 + 56) = 1634035830u;
+    at(u32, v4 + 60) = 2020896118u;
+    u32 v28 = at(u32, v4 + (v2 << 2));
+    u16 v30 = at(u16_1, v10 + 4);
+    u64 v32 = (u64)bswap16(v30);
+    if (v30 == 0) { v76 = 0; v77 = (u8 *)0; v78 = 0; goto v34; }
+    u8 v36 = (u8)v28;
+    u8 v38 = (u8)(v28 >> 16u);
+    u8 v40 = (u8)(v28 >> 8);
+    v44 = 0;
+v41:;
+    u64 v46 = v44 << 4;
+    if (!((((at(u8, v10 + (i64)v46 + 12) == v36) ? (at(u8, v10 + (i64)v46 + 13) == v40) : 0) ? (at(u8, v10 + (i64)v46 + 14) == v38) : 0) ? (((((u32)at(u8, v10 + (i64)v46 + 15)) << 24u) ^ v28) < 16777216u) : 0)) goto v42;
+    v76 = 1; v77 = v10 + (i64)((u64)bswap32(at(u32_1, v10 + (i64)v46 + 20))); v78 = (u64)bswap32(at(u32_1, v10 + (i64)v46 + 24)); goto v34;
+v42:;
+    u64 v43 = v44 + 1;
+    if (v43 == v32) { v76 = 0; v77 = (u8 *)0; v78 = 0; } else { v44 = v43; goto v41; }
+v34:;
+    at(u64_1, v0) = v76;
+    at(ptr_1, v0 + 8) = v77;
+    at(u64_1, v0 + 16) = v78;
+    return;
+v6:;
+    memset(v0, 0, 24u);
+    return;
+}
+
+void font_subset_cut_font_cut_of_kind(u8 *v0, u8 *v1, u8 *v2) {
+    u8 v4[1], v5[1024], v7[1024], v28[327], *v136, *v168, *v212, *v250, *v262, *v280, *v213, *v335, *v505, *v570, *v618, *v619, *v623, *v630, *v506, *v694, *v711, *v758, *v771, *v800, *v817, *v867, *v895, *v1007, *v1015, *v1016;
+    _Alignas(4) u8 v6[16], v10[64], v11[20], v12[32];
+    _Alignas(8) u8 v8[48], v9[24], v13[32], v14[24], v15[24], v16[384], v17[384], v18[328], v19[200], v20[144], v21[24], v22[16], v23[144], v24[320], v25[152], v26[40], v27[24], v29[320], v30[320];
+    u16 v155, v156, v157, v512, v1024, v1026;
+    u64 v169, v170, v215, v217, v221, v263, v264, v281, v282, v216, v218, v338, v340, v342, v1073, v1074, v1097, v1108, v1111, v1119, v1121, v404, v405, v417, v434, v446, v447, v470, v477, v490, v493, v500, v508, v510, v514, v556, v557, v571, v572, v594, v605, v608, v616, v624, v620, v621, v622, v631, v632, v633, v511, v647, v663, v670, v683, v686, v515, v695, v696, v712, v713, v728, v759, v772, v773, v783, v801, v802, v818, v819, v837, v843, v834, v850, v868, v869, v877, v896, v897, v920, v931, v934, v942, v944, v962, v969, v982, v985, v992, v1008, v1009, v1018, v1020, v1021, v1043, v1051, v1052, v1128, v1129, v341, v1145, v1157, v1158, v1162, v1163, v1164, v1165;
+    u32 v219, v410, v414, v411, v1022;
+    u8x16 v479, v672, v971;
+    u8 v31 = at(u8, v2);
+    memcpy(v22, v2 + 8, 16u);
+    memset(v24, 0, 320u);
+    memset(v25, 0, 152u);
+    memset(v26, 0, 40u);
+    memset(v28, 0, 327u);
+    memset(v29, 0, 320u);
+    memset(v30, 0, 320u);
+    font_subset_selection_Seeds_of(v25, at(ptr, v1 + 8), 0, (u8 *)0);
+    u64 v37 = at(u64, v25 + 120);
+    if (!(at(u8, v25) == 0)) { v1162 = 1; v1163 = 0; v1164 = 0; v1165 = 0; goto v40; }
+    u64 v46 = (u64)at(u8, v25 + 112);
+    memcpy(v23, v25 + 8, 104u);
+    at(u64, v23 + 104) = v46;
+    at(u64, v23 + 112) = v37;
+    memcpy(v23 + 120, v25 + 128, 24u);
+    at(u64, v27) = (u64)v31;
+    memcpy(v27 + 8, v22, 16u);
+    font_subset_font_to_cut_FontToCut_numbers_beside_19bd(v26, v1, v23, v27);
+    if (!(at(u8, v26) == 0)) goto v54;
+    u8 v56 = at(u8, v26 + 8);
+    u8 *v58 = at(ptr, v26 + 16);
+    u64 v62 = at(u64, v26 + 32);
+    flag v64 = v56 != 1;
+    u64 v66 = v64 ? 0 : at(u64, v26 + 24);
+    memset(v18, 0, 328u);
+    memset(v19, 0, 200u);
+    memcpy(v20, v25 + 8, 104u);
+    at(u64, v20 + 104) = v46;
+    at(u64, v20 + 112) = v37;
+    memcpy(v20 + 120, v25 + 128, 24u);
+    at(u64, v21) = (u64)v56;
+    at(ptr, v21 + 8) = v64 ? ((u8 *)0) : v58;
+    at(u64, v21 + 16) = v66;
+    font_subset_selection_Selection_of_seeds_4cdf(v19, v1, v20, v21);
+    if (!(at(u8, v19) == 0)) goto v75;
+    font_subset_kind_source_CutOfKind_of_1490(v18, v19 + 8);
+    u8 v78 = at(u8, v18);
+    memcpy(v28 + 7, v18 + 8, 320u);
+    if (!(v78 == 0)) goto v76;
+    memcpy(v24, v28 + 7, 320u);
+    memset(v16, 0, 384u);
+    memset(v14, 0, 24u);
+    font_write_size_file_size_22d8(v14, v24);
+    u64 v111 = at(u64, v14 + 16);
+    if (!(v111 < 134217729u)) goto v114;
+    u64 v115 = at(u64, v14);
+    memcpy(v15 + 8, v14 + 8, 16u);
+    at(u64, v15) = v115;
+    font_write_plan_plan_of(v16, v24, 1, v15);
+    u64 v119 = at(u64, v15 + 16);
+    u64 v120 = at(u64, v16);
+    memcpy(v17 + 8, v16 + 8, 376u);
+    at(u64, v17) = v120;
+    if (v119 == 0) { v136 = v4; goto v124; }
+    if (!((i64)v119 > (i64)0xffffffffffffffffu)) goto v128;
+    u64_u64 v130 = sys_rattle_alloc(v119, 1);
+    if (!(v130._0 & 1)) goto v128;
+    v136 = (u8 *)v130._1;
+v124:;
+    at(ptr, v13) = v136;
+    at(u64, v13 + 8) = 0;
+    at(u64, v13 + 16) = v119;
+    at(u64, v13 + 24) = (u64)134217728u - v119;
+    u16 v142 = at(u16, v17 + 352);
+    if (!(((u16)(v142 + 65535u)) < 4095u)) { v155 = 0; v156 = 0; v157 = 0; goto v146; }
+    u16 v148 = (u16)(ctlz16(v142) ^ 15u);
+    u16 v149 = (u16)((u32)16u << (v148 & 31));
+    v155 = bswap16((u16)(((u16)((u32)v142 << 4)) - v149)); v156 = (u16)((u32)v148 << 8); v157 = bswap16(v149);
+v146:;
+    u16 v158 = bswap16(v142);
+    if (!(v119 < 12u)) { v168 = v136; v169 = v119; v170 = 0; goto v161; }
+    if (!std_alloc_vec_Vec_grow_amortized_1cf2(v13, 12u)) goto v164;
+    v168 = at(ptr, v13); v169 = at(u64, v13 + 16); v170 = at(u64, v13 + 8); goto v161;
+v164:;
+    __builtin_trap();
+    __builtin_trap();
+v161:;
+    at(u8, v168 + (i64)v170) = 0;
+    at(u8, v168 + (i64)v170 + 1) = 1;
+    at(u8, v168 + (i64)v170 + 2) = 0;
+    at(u8, v168 + (i64)v170 + 3) = 0;
+    at(u16_1, v168 + (i64)v170 + 4) = v158;
+    at(u16_1, v168 + (i64)v170 + 6) = v157;
+    at(u16_1, v168 + (i64)v170 + 8) = v156;
+    at(u16_1, v168 + (i64)v170 + 10) = v155;
+    u64 v179 = v170 + 12u;
+    at(ptr, v13) = v168;
+    at(u64, v13 + 8) = v179;
+    at(u64, v13 + 16) = v169;
+    v212 = v168; v215 = v179; v217 = v169; v219 = (((u32)at(u16, v17 + 352)) << 4) | 12u; v221 = 0;
+v211:;
+    u64 v223 = v221 * 12u;
+    u32 v227 = at(u32, (v17 + 4) + v223 + 4);
+    u32 v229 = at(u32, (v17 + 4) + v223 + 8);
+    if (!(at(u8, (v17 + 4) + v223) & 1)) { v213 = v212; v216 = v215; v218 = v217; goto v214; }
+    u64 v234 = at(u64, (u8 *)table_faed1f12 + (v221 << 3));
+    if (!(v234 < 16u)) goto v237;
+    at(u32, v10) = 841962319u;
+    at(u32, v10 + 4) = 1885433187u;
+    at(u32, v10 + 8) = 544503395u;
+    at(u32, v10 + 12) = 1835495526u;
+    at(u32, v10 + 16) = 1886609767u;
+    at(u32, v10 + 20) = 1719233639u;
+    at(u32, v10 + 24) = 1684104552u;
+    at(u32, v10 + 28) = 1634035816u;
+    at(u32, v10 + 32) = 2020896104u;
+    at(u32, v10 + 36) = 1633906540u;
+    at(u32, v10 + 40) = 1886937453u;
+    at(u32, v10 + 44) = 1701667182u;
+    at(u32, v10 + 48) = 1953722224u;
+    at(u32, v10 + 52) = 1885696624u;
+    at(u32, v10 + 56) = 1634035830u;
+    at(u32, v10 + 60) = 2020896118u;
+    v250 = v10 + (v234 << 2); goto v240;
+v237:;
+    if (!(v234 < 21u)) goto v243;
+    at(u32, v11) = 1163084098u;
+    at(u32, v11 + 4) = 1178944583u;
+    at(u32, v11 + 8) = 1397706823u;
+    at(u32, v11 + 12) = 1112888135u;
+    at(u32, v11 + 16) = 1852990827u;
+    v250 = v11 + (i64)(v234 << 2) - 64; goto v240;
+v243:;
+    at(u32, v12) = 1380013640u;
+    at(u32, v12 + 4) = 1380013645u;
+    at(u32, v12 + 8) = 1413567571u;
+    at(u32, v12 + 12) = 1380013654u;
+    at(u32, v12 + 16) = 1918989921u;
+    at(u32, v12 + 20) = 1918989923u;
+    at(u32, v12 + 24) = 1918989926u;
+    at(u32, v12 + 28) = 1918989927u;
+    v250 = v12 + (i64)(v234 << 2) - 84;
+v240:;
+    u32 v251 = at(u32_1, v250);
+    if (!((v217 - v215) < 4)) { v262 = v212; v263 = v217; v264 = v215; goto v255; }
+    if (!std_alloc_vec_Vec_grow_amortized_1cf2(v13, 4)) goto v258;
+    v262 = at(ptr, v13); v263 = at(u64, v13 + 16); v264 = at(u64, v13 + 8); goto v255;
+v258:;
+    __builtin_trap();
+    __builtin_trap();
+v255:;
+    at(u32_1, v262 + (i64)v264) = v251;
+    u64 v266 = v264 + 4;
+    at(ptr, v13) = v262;
+    at(u64, v13 + 8) = v266;
+    at(u64, v13 + 16) = v263;
+    u32 v267 = bswap32(v229);
+    u32 v268 = bswap32(v219);
+    u32 v269 = bswap32(v227);
+    if (!((v263 - v266) < 12u)) { v280 = v262; v281 = v263; v282 = v266; goto v273; }
+    if (!std_alloc_vec_Vec_grow_amortized_1cf2(v13, 12u)) goto v276;
+    v280 = at(ptr, v13); v281 = at(u64, v13 + 16); v282 = at(u64, v13 + 8); goto v273;
+v276:;
+    __builtin_trap();
+    __builtin_trap();
+v273:;
+    at(u32_1, v280 + (i64)v282) = v267;
+    at(u32_1, v280 + (i64)v282 + 4) = v268;
+    at(u32_1, v280 + (i64)v282 + 8) = v269;
+    u64 v286 = v282 + 12u;
+    at(ptr, v13) = v280;
+    at(u64, v13 + 8) = v286;
+    at(u64, v13 + 16) = v281;
+    v213 = v280; v216 = v286; v218 = v281;
+v214:;
+    u64 v222 = v221 + 1;
+    if (!(v222 == 29u)) { v212 = v213; v215 = v216; v217 = v218; v219 = (v227 + v219) + (((u32)0 - v227) & 3); v221 = v222; goto v211; }
+    u64 v295 = (u64)v5;
+    v335 = v213; v338 = v216; v340 = v218; v342 = 0;
+v334:;
+    u64 v346 = at(u64, (u8 *)table_faed1f12 + (v342 << 3));
+    memset(v9, 0, 24u);
+    switch (v346) {
+    case 1: goto v348;
+    case 5: goto v349;
+    case 6: goto v350;
+    case 9: goto v351;
+    default: goto v347;
+    }
+v347:;
+    font_subset_kind_source_CutOfKindSource_copied(v9, v24, v346);
+    if (!(at(u8, v9) == 1)) goto v1056;
+    u8 *v1059 = at(ptr, v9 + 8);
+    u64 v1060 = (u64)v1059;
+    u64 v1061 = at(u64, v9 + 16);
+    u64 v1062 = at(u64, v13 + 16);
+    u64 v1063 = at(u64, v13 + 8);
+    if (!(v1061 > (v1062 - v1063))) { v1073 = v1062; v1074 = v1063; goto v1067; }
+    if (!std_alloc_vec_Vec_grow_amortized_1cf2(v13, v1061)) goto v1070;
+    v1073 = at(u64, v13 + 16); v1074 = at(u64, v13 + 8); goto v1067;
+v1070:;
+    __builtin_trap();
+    __builtin_trap();
+v1067:;
+    u8 *v1075 = at(ptr, v13);
+    u64 v1076 = (u64)v1075;
+    memset(v13 + 8, 0, 16u);
+    if (!((((u64)(v1075 + (i64)v1074)) - ((u64)v1059)) < v1061)) goto v1083;
+    if (v1061 < 4) { v1119 = 0; goto v1085; }
+    if (((v1074 + v1076) - v1060) < 32u) { v1119 = 0; goto v1085; }
+    if (v1061 < 16u) { v1108 = 0; goto v1092; }
+    u64 v1094 = v1061 & 12u;
+    u64 v1095 = v1061 & 0xfffffffffffffff0u;
+    v1097 = 0;
+v1096:;
+    at(u8x16_1, (v1075 + (i64)v1074) + v1097) = at(u8x16_1, v1059 + v1097);
+    u64 v1098 = v1097 + 16u;
+    if (!(v1098 == v1095)) { v1097 = v1098; goto v1096; }
+    if (v1061 == v1095) goto v1105;
+    if (v1094 == 0) { v1119 = v1095; goto v1085; }
+    v1108 = v1095;
+v1092:;
+    u64 v1109 = v1061 & 0xfffffffffffffffcu;
+    v1111 = v1108;
+v1110:;
+    at(u8x4_1, (v1075 + (i64)v1074) + v1111) = at(u8x4_1, v1059 + v1111);
+    u64 v1112 = v1111 + 4;
+    if (!(v1112 == v1109)) { v1111 = v1112; goto v1110; }
+    if (v1061 == v1109) goto v1105;
+    v1119 = v1109;
+v1085:;
+    v1121 = v1119;
+v1120:;
+    at(u8, (v1075 + (i64)v1074) + v1121) = at(u8, v1059 + v1121);
+    u64 v1122 = v1121 + 1;
+    if (v1122 == v1061) goto v1105;
+    v1121 = v1122; goto v1120;
+v1083:;
+    memmove_any(v1075 + (i64)v1074, v1059, v1061);
+v1105:;
+    u64 v1127 = v1074 + v1061;
+    at(ptr, v13) = v1075;
+    at(u64, v13 + 8) = v1127;
+    at(u64, v13 + 16) = v1073;
+    v1128 = v1127; v1129 = v1073; goto v453;
+v1056:;
+    v1128 = at(u64, v13 + 8); v1129 = at(u64, v13 + 16); goto v453;
+v348:;
+    u32 v353 = at(u32, v17 + 360);
+    u32 v356 = bswap32((v353 * 12u) + 16u);
+    u8 v357 = (u8)v356;
+    u8 v359 = (u8)(v356 >> 8);
+    u8 v361 = (u8)(v356 >> 16u);
+    u8 v363 = (u8)(v356 >> 24u);
+    u32 v364 = bswap32(v353);
+    u8 v365 = (u8)v364;
+    u8 v367 = (u8)(v364 >> 8);
+    u8 v369 = (u8)(v364 >> 16u);
+    u8 v371 = (u8)(v364 >> 24u);
+    flag v372 = at(u8, v17) == 0;
+    u64 v392 = v372 ? 28u : 36u;
+    at(u64, v8) = 0;
+    at(u8, v8 + 3) = v372 ? 1 : 2;
+    at(u8, v8 + 5) = v372 ? 3 : 0;
+    at(u8, v8 + 7) = v372 ? 10u : 4;
+    at(u8, v8 + 8) = 0;
+    at(u8, v8 + 9) = 0;
+    at(u8, v8 + 10) = 0;
+    at(u8, v8 + 11) = v372 ? 12u : 20u;
+    at(u8, v8 + 12) = 0;
+    at(u8, v8 + 13) = v372 ? 12u : 3;
+    at(u8, v8 + 14) = 0;
+    at(u8, v8 + 15) = v372 ? 0 : 10u;
+    at(u8, v8 + 16) = v372 ? v357 : 0;
+    at(u8, v8 + 17) = v372 ? v359 : 0;
+    at(u8, v8 + 18) = v372 ? v361 : 0;
+    at(u8, v8 + 19) = v372 ? v363 : 20u;
+    at(u8, v8 + 20) = 0;
+    at(u8, v8 + 21) = v372 ? 0 : 12u;
+    at(u8, v8 + 22) = 0;
+    at(u8, v8 + 23) = 0;
+    at(u8, v8 + 24) = v372 ? v365 : v357;
+    at(u8, v8 + 25) = v372 ? v367 : v359;
+    at(u8, v8 + 26) = v372 ? v369 : v361;
+    at(u8, v8 + 27) = v372 ? v371 : v363;
+    at(u32, v8 + 28) = 0;
+    at(u8, v8 + 32) = v372 ? 0 : v365;
+    at(u8, v8 + 33) = v372 ? 0 : v367;
+    at(u8, v8 + 34) = v372 ? 0 : v369;
+    at(u8, v8 + 35) = v372 ? 0 : v371;
+    at(u32, v8 + 36) = 0;
+    at(u64, v8 + 40) = v392;
+    u64 v393 = at(u64, v13 + 16);
+    u64 v394 = at(u64, v13 + 8);
+    if (!(v392 > (v393 - v394))) { v404 = v393; v405 = v394; goto v398; }
+    if (!std_alloc_vec_Vec_grow_amortized_1cf2(v13, v392)) goto v401;
+    v404 = at(u64, v13 + 16); v405 = at(u64, v13 + 8); goto v398;
+v401:;
+    __builtin_trap();
+    __builtin_trap();
+v398:;
+    u8 *v406 = at(ptr, v13);
+    memcpy_any(v406 + (i64)v405, v8, v392);
+    at(ptr, v13) = v406;
+    at(u64, v13 + 8) = v405 + v392;
+    at(u64, v13 + 16) = v404;
+    memset(v7, 0, 1024u);
+    v410 = 0;
+v409:;
+    memset(v6, 0, 16u);
+    v414 = v410; v417 = 0;
+v413:;
+    font_subset_kind_source_CutOfKindSource_next_run(v6, v24, v414);
+    if (!(at(u8, v6) == 1)) { v411 = v414; v434 = v417; goto v421; }
+    u32 v423 = at(u32, v6 + 8);
+    u64 v425 = v417 * 12u;
+    u16 v424 = at(u16, v6 + 12);
+    at(u32_1, v7 + v425) = bswap32(at(u32, v6 + 4));
+    at(u32_1, v7 + v425 + 4) = bswap32(v423);
+    at(u32_1, v7 + v425 + 8) = bswap32((u32)v424);
+    u32 v415 = v423 + 1;
+    u64 v418 = v417 + 1;
+    if (v418 == 85u) { v411 = v415; v434 = 85u; } else { v414 = v415; v417 = v418; goto v413; }
+v421:;
+    u64 v435 = v434 * 12u;
+    u64 v436 = at(u64, v13 + 16);
+    u64 v437 = at(u64, v13 + 8);
+    if (!(v435 > (v436 - v437))) { v446 = v436; v447 = v437; goto v412; }
+    if (!std_alloc_vec_Vec_grow_amortized_1cf2(v13, v435)) goto v443;
+    v446 = at(u64, v13 + 16); v447 = at(u64, v13 + 8); goto v412;
+v443:;
+    __builtin_trap();
+    __builtin_trap();
+v412:;
+    u8 *v448 = at(ptr, v13);
+    memcpy_any(v448 + (i64)v447, v7, v435);
+    u64 v450 = v447 + v435;
+    at(ptr, v13) = v448;
+    at(u64, v13 + 8) = v450;
+    at(u64, v13 + 16) = v446;
+    if (v434 == 85u) { v410 = v411; goto v409; }
+    v1128 = v450; v1129 = v446; goto v453;
+v349:;
+    u8 v454 = at(u8, v17);
+    u64 v455 = at(u64, v17 + 368);
+    u16 v458 = at(u16, at(ptr, v24 + 8) + 64);
+    u8 *v459 = at(ptr, v24 + 168);
+    u64 v460 = at(u64, v24 + 176);
+    if (v460 == 0) { v490 = 0; goto v462; }
+    if (at(u8, v459) & 1) { v500 = 0; goto v466; }
+    if (v460 < 64u) { v490 = 0; goto v462; }
+    v470 = 0;
+v469:;
+    if (v470 == 0xffffffffffffffc0u) goto v472;
+    v477 = 0; v479 = (u8x16){0};
+v476:;
+    u8x16 v480 = v479 | ((-(at(u8x16_1, (v459 + (i64)v470) + (i64)v477) & 1)));
+    u64 v478 = v477 + 16u;
+    if (!(v478 == 64u)) { v477 = v478; v479 = v480; goto v476; }
+    if (!(bits_u8x16(v480) == 0)) { v490 = v470; goto v462; }
+v472:;
+    u64 v471 = v470 + 64u;
+    if ((v460 - v471) < 64u) v490 = v471; else { v470 = v471; goto v469; }
+v462:;
+    if (v490 < v460) v493 = v490; else { v500 = v460; goto v466; }
+v492:;
+    if (at(u8, v459 + v493) & 1) { v500 = v493; goto v466; }
+    u64 v494 = v493 + 1;
+    if (v494 == v460) v500 = v460; else { v493 = v494; goto v492; }
+v466:;
+    u16 v501 = (u16)v500;
+    if (v458 > v501) { v505 = v335; v508 = v338; v510 = v340; v512 = v501; v514 = v500; } else { v694 = v335; v695 = v338; v696 = v340; goto v504; }
+v503:;
+    u8 *v516 = at(ptr, v24 + 8);
+    if (!(at(u16, v516 + 64) > v512)) goto v521;
+    u8 *v527 = at(ptr_1, v516 + 32);
+    u8 *v529 = at(ptr_1, v516 + 48);
+    u64 v530 = (u64)v529;
+    u64 v531 = v514 & 65535u;
+    if (!(at(u8, v516 + 70) == 0)) goto v534;
+    u64 v535 = v531 << 1;
+    v556 = ((u64)bswap16(at(u16_1, v527 + (i64)v535))) << 1; v557 = ((u64)bswap16(at(u16_1, v527 + (i64)v535 + 2))) << 1; goto v546;
+v534:;
+    u64 v547 = v531 << 2;
+    v556 = (u64)bswap32(at(u32_1, v527 + (i64)v547)); v557 = (u64)bswap32(at(u32_1, v527 + (i64)v547 + 4));
+v546:;
+    u64 v559 = v557 - v556;
+    if (!(v559 > (v510 - v508))) { v570 = v505; v571 = v510; v572 = v508; goto v563; }
+    if (!std_alloc_vec_Vec_grow_amortized_1cf2(v13, v559)) goto v566;
+    v570 = at(ptr, v13); v571 = at(u64, v13 + 16); v572 = at(u64, v13 + 8); goto v563;
+v566:;
+    __builtin_trap();
+    __builtin_trap();
+v563:;
+    u64 v573 = (u64)v570;
+    memset(v13 + 8, 0, 16u);
+    if (!((((u64)(v570 + (i64)v572)) - ((u64)(v529 + (i64)v556))) < v559)) { v618 = v570 + (i64)v572; v619 = v570; v620 = v572; v621 = v571; v622 = v559; v623 = v529 + (i64)v556; goto v523; }
+    if (v559 < 4) { v616 = 0; goto v581; }
+    if (((v572 + v573) - (v556 + v530)) < 32u) { v616 = 0; goto v581; }
+    if (v559 < 16u) { v605 = 0; goto v589; }
+    u64 v591 = v559 & 12u;
+    u64 v592 = v559 & 0xfffffffffffffff0u;
+    v594 = 0;
+v593:;
+    at(u8x16_1, (v570 + (i64)v572) + v594) = at(u8x16_1, (v529 + (i64)v556) + v594);
+    u64 v595 = v594 + 16u;
+    if (!(v595 == v592)) { v594 = v595; goto v593; }
+    if (v559 == v592) { v630 = v570; v631 = v572; v632 = v571; v633 = v559; goto v602; }
+    if (v591 == 0) { v616 = v592; goto v581; }
+    v605 = v592;
+v589:;
+    u64 v606 = v559 & 0xfffffffffffffffcu;
+    v608 = v605;
+v607:;
+    at(u8x4_1, (v570 + (i64)v572) + v608) = at(u8x4_1, (v529 + (i64)v556) + v608);
+    u64 v609 = v608 + 4;
+    if (!(v609 == v606)) { v608 = v609; goto v607; }
+    if (v559 == v606) { v630 = v570; v631 = v572; v632 = v571; v633 = v559; goto v602; }
+    v616 = v606;
+v581:;
+    v624 = v616;
+v617:;
+    at(u8, (v570 + (i64)v572) + v624) = at(u8, (v529 + (i64)v556) + v624);
+    u64 v625 = v624 + 1;
+    if (v625 == v559) { v630 = v570; v631 = v572; v632 = v571; v633 = v559; goto v602; }
+    v624 = v625; goto v617;
+v521:;
+    memset(v13 + 8, 0, 16u);
+    v618 = v505 + (i64)v508; v619 = v505; v620 = v508; v621 = v510; v622 = 0; v623 = (u8 *)table_d0e67785;
+v523:;
+    memmove_any(v618, v623, v622);
+    v630 = v619; v631 = v620; v632 = v621; v633 = v622;
+v602:;
+    u64 v634 = v633 + v631;
+    at(ptr, v13) = v630;
+    at(u64, v13 + 8) = v634;
+    at(u64, v13 + 16) = v632;
+    u64 v636 = ((u64)0 - v633) & 3;
+    if (!(v636 > (v632 - v634))) { v506 = v630; v511 = v632; v647 = v634; goto v640; }
+    if (!std_alloc_vec_Vec_grow_amortized_1cf2(v13, v636)) goto v643;
+    v506 = at(ptr, v13); v511 = at(u64, v13 + 16); v647 = at(u64, v13 + 8); goto v640;
+v643:;
+    __builtin_trap();
+    __builtin_trap();
+v640:;
+    memset_any(v506 + (i64)v647, 0, v636);
+    u64 v509 = v647 + v636;
+    at(ptr, v13) = v506;
+    at(u64, v13 + 8) = v509;
+    at(u64, v13 + 16) = v511;
+    u64 v650 = (v514 + 1) & 65535u;
+    u8 *v651 = at(ptr, v24 + 168);
+    u64 v652 = at(u64, v24 + 176);
+    if (!(v652 > v650)) goto v655;
+    if (at(u8, v651 + v650) & 1) { v515 = v650; goto v507; }
+v655:;
+    if ((v652 - v650) < 64u) { v683 = v650; goto v661; }
+    v663 = v650;
+v662:;
+    if (!(v663 < 0xffffffffffffffc0u)) goto v665;
+    v670 = 0; v672 = (u8x16){0};
+v669:;
+    u8x16 v673 = v672 | ((-(at(u8x16_1, (v651 + (i64)v663) + (i64)v670) & 1)));
+    u64 v671 = v670 + 16u;
+    if (!(v671 == 64u)) { v670 = v671; v672 = v673; goto v669; }
+    if (!(bits_u8x16(v673) == 0)) { v683 = v663; goto v661; }
+v665:;
+    u64 v664 = v663 + 64u;
+    if ((v652 - v664) < 64u) v683 = v664; else { v663 = v664; goto v662; }
+v661:;
+    if (v683 < v652) v686 = v683; else { v515 = v652; goto v507; }
+v685:;
+    if (at(u8, v651 + v686) & 1) { v515 = v686; goto v507; }
+    u64 v687 = v686 + 1;
+    if (v687 == v652) v515 = v652; else { v686 = v687; goto v685; }
+v507:;
+    u16 v513 = (u16)v515;
+    if (v458 > v513) { v505 = v506; v508 = v509; v510 = v511; v512 = v513; v514 = v515; goto v503; }
+    v694 = v506; v695 = v509; v696 = v511;
+v504:;
+    u64 v700 = (v454 == 0) ? 0 : ((v455 == 0) ? 4 : 0);
+    if (!(v700 > (v696 - v695))) { v711 = v694; v712 = v696; v713 = v695; goto v704; }
+    if (!std_alloc_vec_Vec_grow_amortized_1cf2(v13, v700)) goto v707;
+    v711 = at(ptr, v13); v712 = at(u64, v13 + 16); v713 = at(u64, v13 + 8); goto v704;
+v707:;
+    __builtin_trap();
+    __builtin_trap();
+v704:;
+    memset_any(v711 + (i64)v713, 0, v700);
+    u64 v715 = v713 + v700;
+    at(ptr, v13) = v711;
+    at(u64, v13 + 8) = v715;
+    at(u64, v13 + 16) = v712;
+    v1128 = v715; v1129 = v712; goto v453;
+v350:;
+    u32 v716 = at(u32, v17 + 376);
+    u8 *v718 = at(ptr_1, at(ptr, v24 + 8));
+    u16 v720 = at(u16_1, v718 + 4);
+    u64 v722 = (u64)bswap16(v720);
+    if (v720 == 0) { v758 = (u8 *)table_d0e67785; v759 = 0xffffffffffffffccu; goto v724; }
+    v728 = 0;
+v725:;
+    u64 v730 = v728 << 4;
+    if (!((((at(u8, v718 + (i64)v730 + 12) == 104u) & (at(u8, v718 + (i64)v730 + 13) == 101u)) & (at(u8, v718 + (i64)v730 + 14) == 97u)) & (at(u8, v718 + (i64)v730 + 15) == 100u))) goto v726;
+    v758 = v718 + (i64)((u64)bswap32(at(u32_1, v718 + (i64)v730 + 20))); v759 = ((u64)bswap32(at(u32_1, v718 + (i64)v730 + 24))) - 52u; goto v724;
+v726:;
+    u64 v727 = v728 + 1;
+    if (v727 == v722) { v758 = (u8 *)table_d0e67785; v759 = 0xffffffffffffffccu; } else { v728 = v727; goto v725; }
+v724:;
+    u64 v760 = (u64)v758;
+    if (!((v340 - v338) < 8)) { v771 = v335; v772 = v340; v773 = v338; goto v764; }
+    if (!std_alloc_vec_Vec_grow_amortized_1cf2(v13, 8)) goto v767;
+    v771 = at(ptr, v13); v772 = at(u64, v13 + 16); v773 = at(u64, v13 + 8); goto v764;
+v767:;
+    __builtin_trap();
+    __builtin_trap();
+v764:;
+    memset(v13 + 8, 0, 16u);
+    if ((((u64)(v771 + (i64)v773)) - ((u64)v758)) < 8) v783 = 0; else goto v780;
+v779:;
+    at(u8, (v771 + (i64)v773) + v783) = at(u8, v758 + v783);
+    u64 v784 = v783 + 1;
+    if (v784 == 8) goto v782;
+    v783 = v784; goto v779;
+v780:;
+    at(u64_1, v771 + (i64)v773) = at(u64_1, v758);
+v782:;
+    u64 v789 = v773 + 8;
+    at(ptr, v13) = v771;
+    at(u64, v13 + 8) = v789;
+    at(u64, v13 + 16) = v772;
+    if (!((v772 - v789) < 4)) { v800 = v771; v801 = v772; v802 = v789; goto v793; }
+    if (!std_alloc_vec_Vec_grow_amortized_1cf2(v13, 4)) goto v796;
+    v800 = at(ptr, v13); v801 = at(u64, v13 + 16); v802 = at(u64, v13 + 8); goto v793;
+v796:;
+    __builtin_trap();
+    __builtin_trap();
+v793:;
+    at(u32_1, v800 + (i64)v802) = bswap32(v716);
+    u64 v805 = v802 + 4;
+    at(ptr, v13) = v800;
+    at(u64, v13 + 8) = v805;
+    at(u64, v13 + 16) = v801;
+    if (!((v801 - v805) < 38u)) { v817 = v800; v818 = v801; v819 = v805; goto v810; }
+    if (!std_alloc_vec_Vec_grow_amortized_1cf2(v13, 38u)) goto v813;
+    v817 = at(ptr, v13); v818 = at(u64, v13 + 16); v819 = at(u64, v13 + 8); goto v810;
+v813:;
+    __builtin_trap();
+    __builtin_trap();
+v810:;
+    memset(v13 + 8, 0, 16u);
+    if (!((((u64)(v817 + (i64)v819)) - ((u64)(v758 + 12))) < 38u)) goto v826;
+    if ((((v819 - 12u) + ((u64)v817)) - v760) < 32u) { v834 = 0; goto v832; }
+    v837 = 0;
+v833:;
+    at(u8x16_1, (v817 + (i64)v819) + v837) = at(u8x16_1, (v758 + 12) + v837);
+    u64 v838 = v837 + 16u;
+    if (v838 == 32u) v843 = 32u; else { v837 = v838; goto v833; }
+v835:;
+    at(u8x4_1, (v817 + (i64)v819) + v843) = at(u8x4_1, (v758 + 12) + v843);
+    u64 v844 = v843 + 4;
+    if (v844 == 36u) v834 = 36u; else { v843 = v844; goto v835; }
+v832:;
+    v850 = v834;
+v836:;
+    at(u8, (v817 + (i64)v819) + v850) = at(u8, (v758 + 12) + v850);
+    u64 v851 = v850 + 1;
+    if (v851 == 38u) goto v849;
+    v850 = v851; goto v836;
+v826:;
+    memmove(v817 + (i64)v819, v758 + 12, 38u);
+v849:;
+    u64 v856 = v819 + 38u;
+    at(ptr, v13) = v817;
+    at(u64, v13 + 8) = v856;
+    at(u64, v13 + 16) = v818;
+    if (!((v818 - v856) < 2)) { v867 = v817; v868 = v818; v869 = v856; goto v860; }
+    if (!std_alloc_vec_Vec_grow_amortized_1cf2(v13, 2)) goto v863;
+    v867 = at(ptr, v13); v868 = at(u64, v13 + 16); v869 = at(u64, v13 + 8); goto v860;
+v863:;
+    __builtin_trap();
+    __builtin_trap();
+v860:;
+    if ((((u64)(v867 + (i64)v869)) - ((u64)(u8 *)table_87e6e93c)) < 2) v877 = 0; else goto v875;
+v874:;
+    at(u8, (v867 + (i64)v869) + v877) = at(u8, (u8 *)table_87e6e93c + v877);
+    u64 v878 = v877 + 1;
+    if (v878 == 2) goto v876;
+    v877 = v878; goto v874;
+v875:;
+    at(u16_1, v867 + (i64)v869) = 256u;
+v876:;
+    u64 v883 = v869 + 2;
+    at(ptr, v13) = v867;
+    at(u64, v13 + 8) = v883;
+    at(u64, v13 + 16) = v868;
+    if (!(v759 > (v868 - v883))) { v895 = v867; v896 = v868; v897 = v883; goto v888; }
+    if (!std_alloc_vec_Vec_grow_amortized_1cf2(v13, v759)) goto v891;
+    v895 = at(ptr, v13); v896 = at(u64, v13 + 16); v897 = at(u64, v13 + 8); goto v888;
+v891:;
+    __builtin_trap();
+    __builtin_trap();
+v888:;
+    u64 v898 = (u64)v895;
+    memset(v13 + 8, 0, 16u);
+    if (!((((u64)(v895 + (i64)v897)) - ((u64)(v758 + 52))) < v759)) goto v905;
+    if (v759 < 4) { v942 = 0; goto v907; }
+    if ((((v897 - 52u) + v898) - v760) < 32u) { v942 = 0; goto v907; }
+    if (v759 < 16u) { v931 = 0; goto v915; }
+    u64 v917 = v759 & 12u;
+    u64 v918 = v759 & 0xfffffffffffffff0u;
+    v920 = 0;
+v919:;
+    at(u8x16_1, (v895 + (i64)v897) + v920) = at(u8x16_1, (v758 + 52) + v920);
+    u64 v921 = v920 + 16u;
+    if (!(v921 == v918)) { v920 = v921; goto v919; }
+    if (v759 == v918) goto v928;
+    if (v917 == 0) { v942 = v918; goto v907; }
+    v931 = v918;
+v915:;
+    u64 v932 = v759 & 0xfffffffffffffffcu;
+    v934 = v931;
+v933:;
+    at(u8x4_1, (v895 + (i64)v897) + v934) = at(u8x4_1, (v758 + 52) + v934);
+    u64 v935 = v934 + 4;
+    if (!(v935 == v932)) { v934 = v935; goto v933; }
+    if (v759 == v932) goto v928;
+    v942 = v932;
+v907:;
+    v944 = v942;
+v943:;
+    at(u8, (v895 + (i64)v897) + v944) = at(u8, (v758 + 52) + v944);
+    u64 v945 = v944 + 1;
+    if (v945 == v759) goto v928;
+    v944 = v945; goto v943;
+v905:;
+    memmove_any(v895 + (i64)v897, v758 + 52, v759);
+v928:;
+    u64 v950 = v897 + v759;
+    at(ptr, v13) = v895;
+    at(u64, v13 + 8) = v950;
+    at(u64, v13 + 16) = v896;
+    v1128 = v950; v1129 = v896; goto v453;
+v351:;
+    memset(v5, 0, 1024u);
+    u8 *v951 = at(ptr, v24 + 168);
+    u64 v952 = at(u64, v24 + 176);
+    if (v952 == 0) { v982 = 0; goto v954; }
+    if (at(u8, v951) & 1) { v992 = 0; goto v958; }
+    if (v952 < 64u) { v982 = 0; goto v954; }
+    v962 = 0;
+v961:;
+    if (v962 == 0xffffffffffffffc0u) goto v964;
+    v969 = 0; v971 = (u8x16){0};
+v968:;
+    u8x16 v972 = v971 | ((-(at(u8x16_1, (v951 + (i64)v962) + (i64)v969) & 1)));
+    u64 v970 = v969 + 16u;
+    if (!(v970 == 64u)) { v969 = v970; v971 = v972; goto v968; }
+    if (!(bits_u8x16(v972) == 0)) { v982 = v962; goto v954; }
+v964:;
+    u64 v963 = v962 + 64u;
+    if ((v952 - v963) < 64u) v982 = v963; else { v962 = v963; goto v961; }
+v954:;
+    if (v982 < v952) v985 = v982; else { v992 = v952; goto v958; }
+v984:;
+    if (at(u8, v951 + v985) & 1) { v992 = v985; goto v958; }
+    u64 v986 = v985 + 1;
+    if (v986 == v952) v992 = v952; else { v985 = v986; goto v984; }
+v958:;
+    u16 v993 = (u16)v992;
+    u16 v996 = at(u16, at(ptr, v24 + 8) + 64);
+    if (!((v340 - v338) < 4)) { v1007 = v335; v1008 = v340; v1009 = v338; goto v1000; }
+    if (!std_alloc_vec_Vec_grow_amortized_1cf2(v13, 4)) goto v1003;
+    v1007 = at(ptr, v13); v1008 = at(u64, v13 + 16); v1009 = at(u64, v13 + 8); goto v1000;
+v1003:;
+    __builtin_trap();
+    __builtin_trap();
+v1000:;
+    at(u32_1, v1007 + (i64)v1009) = 0;
+    u64 v1011 = v1009 + 4;
+    at(ptr, v13) = v1007;
+    at(u64, v13 + 8) = v1011;
+    at(u64, v13 + 16) = v1008;
+    if (v996 == 0) { v1051 = v1011; v1052 = v1008; goto v1013; }
+    v1015 = v1007; v1018 = v1011; v1020 = v1008; v1022 = 0; v1024 = v993; v1026 = 0;
+v1014:;
+    u16 v1029 = umin16((u16)(v996 - v1026), 256u);
+    u16 v1027 = (u16)(v1029 + v1026);
+    u32_u16 v1030 = font_write_made_loca_gather_offsets(v24, v1026, v1027, v1022, v1024, v5);
+    u64 v1032 = (u64)((u16)((u32)v1029 << 2));
+    if (!((v1020 - v1018) < v1032)) { v1016 = v1015; v1021 = v1020; v1043 = v1018; goto v1036; }
+    if (!std_alloc_vec_Vec_grow_amortized_1cf2(v13, v1032)) goto v1039;
+    v1016 = at(ptr, v13); v1021 = at(u64, v13 + 16); v1043 = at(u64, v13 + 8); goto v1036;
+v1039:;
+    __builtin_trap();
+    __builtin_trap();
+v1036:;
+    if (!((((u64)(v1016 + (i64)v1043)) - v295) < v1032)) goto v1049;
+    memcpy_any(v1016 + (i64)v1043, v5, v1032);
+    goto v1017;
+v1049:;
+    memmove_any(v1016 + (i64)v1043, v5, v1032);
+v1017:;
+    u64 v1019 = v1043 + v1032;
+    at(ptr, v13) = v1016;
+    at(u64, v13 + 8) = v1019;
+    at(u64, v13 + 16) = v1021;
+    if (v1027 < v996) { v1015 = v1016; v1018 = v1019; v1020 = v1021; v1022 = v1030._0; v1024 = v1030._1; v1026 = v1027; goto v1014; }
+    v1051 = v1019; v1052 = v1021;
+v1013:;
+    v1128 = v1051; v1129 = v1052;
+v453:;
+    u64 v1136 = (u64)(((u32)0 - at(u32, v17 + (i64)(v342 * 12u) + 8)) & 3);
+    if (!((v1129 - v1128) < v1136)) { v341 = v1129; v1145 = v1128; goto v337; }
+    if (!std_alloc_vec_Vec_grow_amortized_1cf2(v13, v1136)) goto v1142;
+    v341 = at(u64, v13 + 16); v1145 = at(u64, v13 + 8); goto v337;
+v1142:;
+    __builtin_trap();
+    __builtin_trap();
+v337:;
+    u8 *v336 = at(ptr, v13);
+    memset_any(v336 + (i64)v1145, 0, v1136);
+    u64 v339 = v1145 + v1136;
+    at(ptr, v13) = v336;
+    at(u64, v13 + 8) = v339;
+    at(u64, v13 + 16) = v341;
+    u64 v343 = v342 + 1;
+    if (!(v343 == 29u)) { v335 = v336; v338 = v339; v340 = v341; v342 = v343; goto v334; }
+    u64 v1153 = (u64)v336;
+    memcpy(v30, v24, 320u);
+    font_subset_kind_source_CutOfKind_drop_3cda(v30);
+    if (v64 ? 1 : (v62 == 0)) { v1162 = 0; v1163 = v1153; v1164 = v339; v1165 = v341; goto v40; }
+    sys_rattle_dealloc(v58);
+    v1162 = 0; v1163 = v1153; v1164 = v339; v1165 = v341; goto v40;
+v128:;
+    v1157 = 0; v1158 = 0; goto v1149;
+v114:;
+    v1157 = v111; v1158 = 1;
+v1149:;
+    memcpy(v29, v24, 320u);
+    font_subset_kind_source_CutOfKind_drop_3cda(v29);
+    if (v64 ? 1 : (v62 == 0)) { v1162 = 1; v1163 = v1158; v1164 = v1157; v1165 = 0; goto v40; }
+    sys_rattle_dealloc(v58);
+    v1162 = 1; v1163 = v1158; v1164 = v1157; v1165 = 0; goto v40;
+v75:;
+v76:;
+    if (v64 ? 1 : (v62 == 0)) { v1162 = 1; v1163 = 0; v1164 = 0; v1165 = 0; goto v40; }
+    sys_rattle_dealloc(v58);
+    v1162 = 1; v1163 = 0; v1164 = 0; v1165 = 0; goto v40;
+v54:;
+    u8 v84 = at(u8, v23 + 16);
+    u8 *v86 = at(ptr, v23 + 24);
+    u64 v88 = at(u64, v23 + 40);
+    u8 v90 = at(u8, v23 + 56);
+    u8 *v92 = at(ptr, v23 + 64);
+    u64 v94 = at(u64, v23 + 80);
+    if (at(u64, v23 + 136) == 0) goto v98;
+    sys_rattle_dealloc(at(ptr, v23 + 120));
+v98:;
+    if ((v84 != 1) ? 1 : (v88 == 0)) goto v104;
+    sys_rattle_dealloc(v86);
+v104:;
+    if ((v90 != 1) ? 1 : (v94 == 0)) { v1162 = 1; v1163 = 0; v1164 = 0; v1165 = 0; goto v40; }
+    sys_rattle_dealloc(v92);
+    v1162 = 1; v1163 = 0; v1164 = 0; v1165 = 0;
+v40:;
+    at(u64_1, v0) = v1162;
+    at(u64_1, v0 + 8) = v1163;
+    at(u64_1, v0 + 16) = v1164;
+    at(u64_1, v0 + 24) = v1165;
+    return;
+}
+
+void font_subset_cut_font_cut_of_kind_into(u8 *v0, u8 *v1, u8 *v2, u8 *v3, u8 *v4) {
+    _Alignas(8) u8 v6[96], v7[96], v8[96], v9[96], v13[96], v14[96], v15[96], v19[96], v20[48], v22[24], v27[96], v30[24], v31[24], v32[384], v33[384], v34[328], v35[200], v36[144], v37[24], v38[56], v39[152], v40[104], v41[16], v44[144], v45[320], v47[24], v48[40], v49[24], v51[320], v52[320];
+    _Alignas(4) u8 v10[4], v16[16], v23[64], v24[20], v25[32], v26[4];
+    u8 v11[1024], v17[1024], v28[12], v46[111], v50[327], *v321, v621, v623, *v723, *v851, v1113, v1197;
+    u16 v180, v181, v182, v676, v1027, v1029;
+    u64 v198, v229, v238, v240, v252, v291, v383, v1122, v1157, v1168, v1171, v1179, v1181, v1191, v436, v471, v482, v485, v493, v495, v506, v520, v542, v543, v545, v580, v591, v594, v602, v604, v615, v641, v648, v661, v664, v671, v679, v718, v719, v722, v742, v749, v762, v765, v680, v779, v805, v822, v852, v859, v895, v906, v909, v917, v919, v930, v947, v954, v967, v970, v977, v983, v1004, v1016, v1037, v1072, v1083, v1086, v1094, v1096, v1107, v1208, v1234, v1252, v1253;
+    u32 v288, v513, v517, v514, v1024;
+    u8x16 v650, v751, v956;
+    u64 v12 = (u64)v11;
+    u64 v18 = (u64)v17;
+    u64 v21 = (u64)v20;
+    u64 v29 = (u64)v28;
+    u8 v42 = at(u8, v3);
+    memcpy(v41, v3 + 8, 16u);
+    memset(v44, 0, 144u);
+    memset(v45, 0, 320u);
+    memset(v46, 0, 111u);
+    memset(v47, 0, 24u);
+    memset(v48, 0, 40u);
+    memset(v49, 0, 24u);
+    memset(v50, 0, 327u);
+    memset(v51, 0, 320u);
+    memset(v52, 0, 320u);
+    u8 *v54 = at(ptr, v1 + 8);
+    memset(v39, 0, 152u);
+    memset(v38, 0, 56u);
+    font_map_chart_Chart_of_3518(v38, v54 + 72);
+    if (!(at(u8, v38) == 0)) goto v59;
+    u64 v62 = at(u64, v38 + 48);
+    u64 v66 = at(u64, v38 + 8);
+    u64 v68 = (u64)at(u8, v38 + 16);
+    memcpy(v40 + 24, v38 + 24, 24u);
+    at(ptr, v40) = v54;
+    at(u64, v40 + 8) = v66;
+    at(u64, v40 + 16) = v68;
+    at(u64, v40 + 48) = v62;
+    memset(v40 + 56, 0, 48u);
+    font_subset_selection_Seeds_in_chart(v39, v40, 1, v2);
+    u8 v74 = at(u8, v39);
+    memcpy(v46 + 7, v39 + 8, 104u);
+    u8 v78 = at(u8, v39 + 112);
+    u64 v80 = at(u64, v39 + 120);
+    memcpy(v47, v39 + 128, 24u);
+    if (!(v74 == 0)) goto v60;
+    u64 v85 = (u64)v78;
+    memcpy(v44, v46 + 7, 104u);
+    at(u64, v44 + 104) = v85;
+    at(u64, v44 + 112) = v80;
+    memcpy(v44 + 120, v47, 24u);
+    at(u64, v49) = (u64)v42;
+    memcpy(v49 + 8, v41, 16u);
+    font_subset_font_to_cut_FontToCut_numbers_beside_19bd(v48, v1, v44, v49);
+    if (!(at(u8, v48) == 0)) goto v93;
+    u8 v97 = at(u8, v48 + 8);
+    u8 *v99 = at(ptr, v48 + 16);
+    u64 v103 = at(u64, v48 + 32);
+    flag v105 = v97 != 1;
+    u64 v107 = v105 ? 0 : at(u64, v48 + 24);
+    memset(v34, 0, 328u);
+    memset(v35, 0, 200u);
+    memcpy(v36, v46 + 7, 104u);
+    at(u64, v36 + 104) = v85;
+    at(u64, v36 + 112) = v80;
+    memcpy(v36 + 120, v47, 24u);
+    at(u64, v37) = (u64)v97;
+    at(ptr, v37 + 8) = v105 ? ((u8 *)0) : v99;
+    at(u64, v37 + 16) = v107;
+    font_subset_selection_Selection_of_seeds_4cdf(v35, v1, v36, v37);
+    if (!(at(u8, v35) == 0)) goto v116;
+    font_subset_kind_source_CutOfKind_of_1490(v34, v35 + 8);
+    u8 v119 = at(u8, v34);
+    memcpy(v50 + 7, v34 + 8, 320u);
+    if (!(v119 == 0)) goto v117;
+    memcpy(v45, v50 + 7, 320u);
+    memset(v32, 0, 384u);
+    memset(v30, 0, 24u);
+    font_write_size_file_size_22d8(v30, v45);
+    u64 v154 = at(u64, v30 + 16);
+    if (!(v154 > 134217728u)) goto v157;
+    v1252 = 1; v1253 = v154; goto v1241;
+v157:;
+    u64 v158 = at(u64, v30);
+    memcpy(v31 + 8, v30 + 8, 16u);
+    at(u64, v31) = v158;
+    font_write_plan_plan_of(v32, v45, 1, v31);
+    u64 v162 = at(u64, v31 + 16);
+    u64 v163 = at(u64, v32);
+    memcpy(v33 + 8, v32 + 8, 376u);
+    at(u64, v33) = v163;
+    u16 v167 = at(u16, v33 + 352);
+    if (!(((u16)(v167 + 65535u)) < 4095u)) { v180 = 0; v181 = 0; v182 = 0; goto v171; }
+    u16 v173 = (u16)(ctlz16(v167) ^ 15u);
+    u16 v174 = (u16)((u32)16u << (v173 & 31));
+    v180 = bswap16((u16)(((u16)((u32)v167 << 4)) - v174)); v181 = (u16)((u32)v173 << 8); v182 = bswap16(v174);
+v171:;
+    at(u8, v28) = 0;
+    at(u8, v28 + 1) = 1;
+    at(u8, v28 + 2) = 0;
+    at(u8, v28 + 3) = 0;
+    at(u16_1, v28 + 4) = bswap16(v167);
+    at(u16_1, v28 + 6) = v182;
+    at(u16_1, v28 + 8) = v181;
+    at(u16_1, v28 + 10) = v180;
+    at(u8, v4 + 145) = 0;
+    v198 = 0;
+v197:;
+    u64 v202 = (u64)12u - v198;
+    memset(v27, 0, 96u);
+    u64 v203 = at(u64, v4 + 128);
+    u64 v204 = at(u64, v4 + 120);
+    if (!(v202 < (v203 - v204))) goto v208;
+    u64 v209 = v204 + v202;
+    u8 *v210 = at(ptr, v4 + 112);
+    u64 v211 = (u64)v210;
+    if (!((((u64)(v210 + (i64)v204)) - ((u64)(v28 + (i64)v198))) < v202)) goto v218;
+    if (v198 > 8) { v238 = 0; goto v220; }
+    if (((v204 + v211) - (v198 + v29)) < 32u) { v238 = 0; goto v220; }
+    u64 v227 = v202 & 12u;
+    v229 = 0;
+v228:;
+    at(u8x4_1, (v210 + (i64)v204) + v229) = at(u8x4_1, (v28 + (i64)v198) + v229);
+    u64 v230 = v229 + 4;
+    if (!(v230 == v227)) { v229 = v230; goto v228; }
+    if (v202 == v227) goto v237;
+    v238 = v227;
+v220:;
+    v240 = v238;
+v239:;
+    at(u8, (v210 + (i64)v204) + v240) = at(u8, (v28 + (i64)v198) + v240);
+    u64 v241 = v240 + 1;
+    if (v241 == v202) goto v237;
+    v240 = v241; goto v239;
+v218:;
+    memmove_any(v210 + (i64)v204, v28 + (i64)v198, v202);
+v237:;
+    at(ptr, v4 + 112) = v210;
+    at(u64, v4 + 120) = v209;
+    at(u64, v4 + 128) = v203;
+    v252 = v202; goto v200;
+v208:;
+    std_io_buffered_BufWriter_write_cold(v27, v4, v28 + (i64)v198, v202);
+    u64 v247 = at(u64, v27 + 8);
+    if (!((at(u8, v27) != 0) ? 1 : (v247 == 0))) { v252 = v247; goto v200; }
+    at(u8, v4 + 144) = 1;
+    goto v325;
+v200:;
+    u64 v199 = v252 + v198;
+    at(u64, v4 + 136) = at(u64, v4 + 136) + v252;
+    if (v199 < 12u) { v198 = v199; goto v197; }
+    v288 = (((u32)v167) << 4) | 12u; v291 = 0;
+v287:;
+    u64 v293 = v291 * 12u;
+    u32 v297 = at(u32, (v33 + 4) + v293 + 4);
+    u32 v299 = at(u32, (v33 + 4) + v293 + 8);
+    if (!(at(u8, (v33 + 4) + v293) & 1)) goto v302;
+    u64 v305 = at(u64, (u8 *)table_faed1f12 + (v291 << 3));
+    if (!(v305 < 16u)) goto v308;
+    at(u32, v23) = 841962319u;
+    at(u32, v23 + 4) = 1885433187u;
+    at(u32, v23 + 8) = 544503395u;
+    at(u32, v23 + 12) = 1835495526u;
+    at(u32, v23 + 16) = 1886609767u;
+    at(u32, v23 + 20) = 1719233639u;
+    at(u32, v23 + 24) = 1684104552u;
+    at(u32, v23 + 28) = 1634035816u;
+    at(u32, v23 + 32) = 2020896104u;
+    at(u32, v23 + 36) = 1633906540u;
+    at(u32, v23 + 40) = 1886937453u;
+    at(u32, v23 + 44) = 1701667182u;
+    at(u32, v23 + 48) = 1953722224u;
+    at(u32, v23 + 52) = 1885696624u;
+    at(u32, v23 + 56) = 1634035830u;
+    at(u32, v23 + 60) = 2020896118u;
+    v321 = v23 + (v305 << 2); goto v311;
+v308:;
+    if (!(v305 < 21u)) goto v314;
+    at(u32, v24) = 1163084098u;
+    at(u32, v24 + 4) = 1178944583u;
+    at(u32, v24 + 8) = 1397706823u;
+    at(u32, v24 + 12) = 1112888135u;
+    at(u32, v24 + 16) = 1852990827u;
+    v321 = v24 + (i64)(v305 << 2) - 64; goto v311;
+v314:;
+    at(u32, v25) = 1380013640u;
+    at(u32, v25 + 4) = 1380013645u;
+    at(u32, v25 + 8) = 1413567571u;
+    at(u32, v25 + 12) = 1380013654u;
+    at(u32, v25 + 16) = 1918989921u;
+    at(u32, v25 + 20) = 1918989923u;
+    at(u32, v25 + 24) = 1918989926u;
+    at(u32, v25 + 28) = 1918989927u;
+    v321 = v25 + (i64)(v305 << 2) - 84;
+v311:;
+    at(u32, v26) = at(u32_1, v321);
+    if (font_write_writer_send_entry_f0d8(v26, v299, v288, v297, v4) & 1) goto v325;
+    goto v290;
+v302:;
+v290:;
+    u64 v292 = v291 + 1;
+    if (!(v292 == 29u)) { v288 = (v297 + v288) + (((u32)0 - v297) & 3); v291 = v292; goto v287; }
+    v383 = 0;
+v382:;
+    u64 v388 = at(u64, (u8 *)table_faed1f12 + (v383 << 3));
+    memset(v22, 0, 24u);
+    switch (v388) {
+    case 1: goto v390;
+    case 5: goto v391;
+    case 6: goto v392;
+    case 9: goto v393;
+    default: goto v389;
+    }
+v389:;
+    font_subset_kind_source_CutOfKindSource_copied(v22, v45, v388);
+    if (!(at(u8, v22) == 1)) goto v777;
+    u8 *v1117 = at(ptr, v22 + 8);
+    u64 v1118 = (u64)v1117;
+    u64 v1119 = at(u64, v22 + 16);
+    at(u8, v4 + 145) = 0;
+    if (v1119 == 0) goto v777;
+    v1122 = 0;
+v1121:;
+    u64 v1126 = v1119 - v1122;
+    memset(v7, 0, 96u);
+    u64 v1127 = at(u64, v4 + 128);
+    u64 v1128 = at(u64, v4 + 120);
+    if (!(v1126 < (v1127 - v1128))) goto v1132;
+    u64 v1133 = v1128 + v1126;
+    u8 *v1134 = at(ptr, v4 + 112);
+    u64 v1135 = (u64)v1134;
+    memset(v4 + 120, 0, 16u);
+    if (!((((u64)(v1134 + (i64)v1128)) - ((u64)(v1117 + (i64)v1122))) < v1126)) goto v1142;
+    if (v1126 < 4) { v1179 = 0; goto v1144; }
+    if (((v1128 + v1135) - (v1122 + v1118)) < 32u) { v1179 = 0; goto v1144; }
+    if (v1126 < 16u) { v1168 = 0; goto v1152; }
+    u64 v1154 = v1126 & 12u;
+    u64 v1155 = v1126 & 0xfffffffffffffff0u;
+    v1157 = 0;
+v1156:;
+    at(u8x16_1, (v1134 + (i64)v1128) + v1157) = at(u8x16_1, (v1117 + (i64)v1122) + v1157);
+    u64 v1158 = v1157 + 16u;
+    if (!(v1158 == v1155)) { v1157 = v1158; goto v1156; }
+    if (v1126 == v1155) goto v1165;
+    if (v1154 == 0) { v1179 = v1155; goto v1144; }
+    v1168 = v1155;
+v1152:;
+    u64 v1169 = v1126 & 0xfffffffffffffffcu;
+    v1171 = v1168;
+v1170:;
+    at(u8x4_1, (v1134 + (i64)v1128) + v1171) = at(u8x4_1, (v1117 + (i64)v1122) + v1171);
+    u64 v1172 = v1171 + 4;
+    if (!(v1172 == v1169)) { v1171 = v1172; goto v1170; }
+    if (v1126 == v1169) goto v1165;
+    v1179 = v1169;
+v1144:;
+    v1181 = v1179;
+v1180:;
+    at(u8, (v1134 + (i64)v1128) + v1181) = at(u8, (v1117 + (i64)v1122) + v1181);
+    u64 v1182 = v1181 + 1;
+    if (v1182 == v1126) goto v1165;
+    v1181 = v1182; goto v1180;
+v1142:;
+    memmove_any(v1134 + (i64)v1128, v1117 + (i64)v1122, v1126);
+v1165:;
+    at(ptr, v4 + 112) = v1134;
+    at(u64, v4 + 120) = v1133;
+    at(u64, v4 + 128) = v1127;
+    v1191 = v1126; goto v1187;
+v1132:;
+    std_io_buffered_BufWriter_write_cold(v7, v4, v1117 + (i64)v1122, v1126);
+    if (at(u8, v7) == 0) v1191 = at(u64, v7 + 8); else goto v804;
+v1187:;
+    if (v1191 == 0) goto v804;
+    u64 v1123 = v1191 + v1122;
+    at(u64, v4 + 136) = at(u64, v4 + 136) + v1191;
+    if (v1123 < v1119) { v1122 = v1123; goto v1121; }
+    goto v777;
+v390:;
+    u32 v395 = at(u32, v33 + 360);
+    u32 v398 = bswap32((v395 * 12u) + 16u);
+    u8 v399 = (u8)v398;
+    u8 v401 = (u8)(v398 >> 8);
+    u8 v403 = (u8)(v398 >> 16u);
+    u8 v405 = (u8)(v398 >> 24u);
+    u32 v406 = bswap32(v395);
+    u8 v407 = (u8)v406;
+    u8 v409 = (u8)(v406 >> 8);
+    u8 v411 = (u8)(v406 >> 16u);
+    u8 v413 = (u8)(v406 >> 24u);
+    flag v414 = at(u8, v33) == 0;
+    u64 v434 = v414 ? 28u : 36u;
+    at(u64, v20) = 0;
+    at(u8, v20 + 3) = v414 ? 1 : 2;
+    at(u8, v20 + 5) = v414 ? 3 : 0;
+    at(u8, v20 + 7) = v414 ? 10u : 4;
+    at(u8, v20 + 8) = 0;
+    at(u8, v20 + 9) = 0;
+    at(u8, v20 + 10) = 0;
+    at(u8, v20 + 11) = v414 ? 12u : 20u;
+    at(u8, v20 + 12) = 0;
+    at(u8, v20 + 13) = v414 ? 12u : 3;
+    at(u8, v20 + 14) = 0;
+    at(u8, v20 + 15) = v414 ? 0 : 10u;
+    at(u8, v20 + 16) = v414 ? v399 : 0;
+    at(u8, v20 + 17) = v414 ? v401 : 0;
+    at(u8, v20 + 18) = v414 ? v403 : 0;
+    at(u8, v20 + 19) = v414 ? v405 : 20u;
+    at(u8, v20 + 20) = 0;
+    at(u8, v20 + 21) = v414 ? 0 : 12u;
+    at(u8, v20 + 22) = 0;
+    at(u8, v20 + 23) = 0;
+    at(u8, v20 + 24) = v414 ? v407 : v399;
+    at(u8, v20 + 25) = v414 ? v409 : v401;
+    at(u8, v20 + 26) = v414 ? v411 : v403;
+    at(u8, v20 + 27) = v414 ? v413 : v405;
+    at(u32, v20 + 28) = 0;
+    at(u8, v20 + 32) = v414 ? 0 : v407;
+    at(u8, v20 + 33) = v414 ? 0 : v409;
+    at(u8, v20 + 34) = v414 ? 0 : v411;
+    at(u8, v20 + 35) = v414 ? 0 : v413;
+    at(u32, v20 + 36) = 0;
+    at(u64, v20 + 40) = v434;
+    at(u8, v4 + 145) = 0;
+    v436 = 0;
+v435:;
+    u64 v440 = v434 - v436;
+    memset(v19, 0, 96u);
+    u64 v441 = at(u64, v4 + 128);
+    u64 v442 = at(u64, v4 + 120);
+    if (!(v440 < (v441 - v442))) goto v446;
+    u64 v447 = v442 + v440;
+    u8 *v448 = at(ptr, v4 + 112);
+    u64 v449 = (u64)v448;
+    if (!((((u64)(v448 + (i64)v442)) - ((u64)(v20 + (i64)v436))) < v440)) goto v456;
+    if (v440 < 4) { v493 = 0; goto v458; }
+    if (((v442 + v449) - (v436 + v21)) < 32u) { v493 = 0; goto v458; }
+    if (v440 < 16u) { v482 = 0; goto v466; }
+    u64 v468 = v440 & 12u;
+    u64 v469 = v440 & 48u;
+    v471 = 0;
+v470:;
+    at(u8x16_1, (v448 + (i64)v442) + v471) = at(u8x16_1, (v20 + (i64)v436) + v471);
+    u64 v472 = v471 + 16u;
+    if (!(v472 == v469)) { v471 = v472; goto v470; }
+    if (v440 == v469) goto v479;
+    if (v468 == 0) { v493 = v469; goto v458; }
+    v482 = v469;
+v466:;
+    u64 v483 = v440 & 60u;
+    v485 = v482;
+v484:;
+    at(u8x4_1, (v448 + (i64)v442) + v485) = at(u8x4_1, (v20 + (i64)v436) + v485);
+    u64 v486 = v485 + 4;
+    if (!(v486 == v483)) { v485 = v486; goto v484; }
+    if (v440 == v483) goto v479;
+    v493 = v483;
+v458:;
+    v495 = v493;
+v494:;
+    at(u8, (v448 + (i64)v442) + v495) = at(u8, (v20 + (i64)v436) + v495);
+    u64 v496 = v495 + 1;
+    if (v496 == v440) goto v479;
+    v495 = v496; goto v494;
+v456:;
+    memmove_any(v448 + (i64)v442, v20 + (i64)v436, v440);
+v479:;
+    at(ptr, v4 + 112) = v448;
+    at(u64, v4 + 120) = v447;
+    at(u64, v4 + 128) = v441;
+    v506 = v440; goto v501;
+v446:;
+    std_io_buffered_BufWriter_write_cold(v19, v4, v20 + (i64)v436, v440);
+    if (at(u8, v19) == 0) v506 = at(u64, v19 + 8); else goto v505;
+v501:;
+    if (v506 == 0) goto v505;
+    u64 v437 = v506 + v436;
+    at(u64, v4 + 136) = at(u64, v4 + 136) + v506;
+    if (v437 < v434) { v436 = v437; goto v435; }
+    memset(v17, 0, 1024u);
+    v513 = 0;
+v512:;
+    memset(v16, 0, 16u);
+    v517 = v513; v520 = 0;
+v516:;
+    font_subset_kind_source_CutOfKindSource_next_run(v16, v45, v517);
+    if (!(at(u8, v16) == 1)) goto v524;
+    u32 v526 = at(u32, v16 + 8);
+    u64 v528 = v520 * 12u;
+    u16 v527 = at(u16, v16 + 12);
+    at(u32_1, v17 + v528) = bswap32(at(u32, v16 + 4));
+    at(u32_1, v17 + v528 + 4) = bswap32(v526);
+    at(u32_1, v17 + v528 + 8) = bswap32((u32)v527);
+    u32 v518 = v526 + 1;
+    u64 v521 = v520 + 1;
+    if (!(v521 == 85u)) { v517 = v518; v520 = v521; goto v516; }
+    at(u8, v4 + 145) = 0;
+    v542 = 1020u; v543 = 85u; v514 = v518; goto v538;
+v524:;
+    at(u8, v4 + 145) = 0;
+    if (v520 == 0) { v621 = 0; goto v541; }
+    v542 = v520 * 12u; v543 = v520; v514 = v517;
+v538:;
+    v545 = 0;
+v544:;
+    u64 v549 = v542 - v545;
+    memset(v15, 0, 96u);
+    u64 v550 = at(u64, v4 + 128);
+    u64 v551 = at(u64, v4 + 120);
+    if (!(v549 < (v550 - v551))) goto v555;
+    u64 v556 = v551 + v549;
+    u8 *v557 = at(ptr, v4 + 112);
+    u64 v558 = (u64)v557;
+    if (!((((u64)(v557 + (i64)v551)) - ((u64)(v17 + (i64)v545))) < v549)) goto v565;
+    if (v549 < 4) { v602 = 0; goto v567; }
+    if (((v551 + v558) - (v545 + v18)) < 32u) { v602 = 0; goto v567; }
+    if (v549 < 16u) { v591 = 0; goto v575; }
+    u64 v577 = v549 & 12u;
+    u64 v578 = v549 & 0x7ffffffffffffff0u;
+    v580 = 0;
+v579:;
+    at(u8x16_1, (v557 + (i64)v551) + v580) = at(u8x16_1, (v17 + (i64)v545) + v580);
+    u64 v581 = v580 + 16u;
+    if (!(v581 == v578)) { v580 = v581; goto v579; }
+    if (v549 == v578) goto v588;
+    if (v577 == 0) { v602 = v578; goto v567; }
+    v591 = v578;
+v575:;
+    u64 v592 = v549 & 0x7ffffffffffffffcu;
+    v594 = v591;
+v593:;
+    at(u8x4_1, (v557 + (i64)v551) + v594) = at(u8x4_1, (v17 + (i64)v545) + v594);
+    u64 v595 = v594 + 4;
+    if (!(v595 == v592)) { v594 = v595; goto v593; }
+    if (v549 == v592) goto v588;
+    v602 = v592;
+v567:;
+    v604 = v602;
+v603:;
+    at(u8, (v557 + (i64)v551) + v604) = at(u8, (v17 + (i64)v545) + v604);
+    u64 v605 = v604 + 1;
+    if (v605 == v549) goto v588;
+    v604 = v605; goto v603;
+v565:;
+    memmove_any(v557 + (i64)v551, v17 + (i64)v545, v549);
+v588:;
+    at(ptr, v4 + 112) = v557;
+    at(u64, v4 + 120) = v556;
+    at(u64, v4 + 128) = v550;
+    v615 = v549; goto v610;
+v555:;
+    std_io_buffered_BufWriter_write_cold(v15, v4, v17 + (i64)v545, v549);
+    if (at(u8, v15) == 0) v615 = at(u64, v15 + 8); else goto v614;
+v610:;
+    if (v615 == 0) goto v614;
+    u64 v546 = v615 + v545;
+    at(u64, v4 + 136) = at(u64, v4 + 136) + v615;
+    if (v546 < v542) { v545 = v546; goto v544; }
+    if (v543 == 85u) { v513 = v514; goto v512; }
+    v621 = 0; goto v541;
+v614:;
+    at(u8, v4 + 144) = 1;
+    v621 = 1;
+v541:;
+    v623 = v621; goto v622;
+v505:;
+    at(u8, v4 + 144) = 1;
+    v623 = 1;
+v622:;
+    v1197 = v623; goto v624;
+v391:;
+    u8 v625 = at(u8, v33);
+    u64 v626 = at(u64, v33 + 368);
+    u16 v629 = at(u16, at(ptr, v45 + 8) + 64);
+    u8 *v630 = at(ptr, v45 + 168);
+    u64 v631 = at(u64, v45 + 176);
+    if (v631 == 0) { v661 = 0; goto v633; }
+    if (at(u8, v630) & 1) { v671 = 0; goto v637; }
+    if (v631 < 64u) { v661 = 0; goto v633; }
+    v641 = 0;
+v640:;
+    if (v641 == 0xffffffffffffffc0u) goto v643;
+    v648 = 0; v650 = (u8x16){0};
+v647:;
+    u8x16 v651 = v650 | ((-(at(u8x16_1, (v630 + (i64)v641) + (i64)v648) & 1)));
+    u64 v649 = v648 + 16u;
+    if (!(v649 == 64u)) { v648 = v649; v650 = v651; goto v647; }
+    if (!(bits_u8x16(v651) == 0)) { v661 = v641; goto v633; }
+v643:;
+    u64 v642 = v641 + 64u;
+    if ((v631 - v642) < 64u) v661 = v642; else { v641 = v642; goto v640; }
+v633:;
+    if (v661 < v631) v664 = v661; else { v671 = v631; goto v637; }
+v663:;
+    if (at(u8, v630 + v664) & 1) { v671 = v664; goto v637; }
+    u64 v665 = v664 + 1;
+    if (v665 == v631) v671 = v631; else { v664 = v665; goto v663; }
+v637:;
+    u16 v672 = (u16)v671;
+    if (v629 > v672) { v676 = v672; v679 = v671; } else goto v675;
+v674:;
+    u8 *v681 = at(ptr, v45 + 8);
+    if (!(at(u16, v681 + 64) > v676)) { v722 = 0; v723 = (u8 *)table_d0e67785; goto v686; }
+    u8 *v690 = at(ptr_1, v681 + 32);
+    u8 *v692 = at(ptr_1, v681 + 48);
+    u64 v693 = v679 & 65535u;
+    if (!(at(u8, v681 + 70) == 0)) goto v696;
+    u64 v697 = v693 << 1;
+    v718 = ((u64)bswap16(at(u16_1, v690 + (i64)v697))) << 1; v719 = ((u64)bswap16(at(u16_1, v690 + (i64)v697 + 2))) << 1; goto v708;
+v696:;
+    u64 v709 = v693 << 2;
+    v718 = (u64)bswap32(at(u32_1, v690 + (i64)v709)); v719 = (u64)bswap32(at(u32_1, v690 + (i64)v709 + 4));
+v708:;
+    v722 = v719 - v718; v723 = v692 + (i64)v718;
+v686:;
+    if (font_write_bytes_send_padded_823e(v723, v722, v4) & 1) goto v726;
+    u64 v729 = (v679 + 1) & 65535u;
+    u8 *v730 = at(ptr, v45 + 168);
+    u64 v731 = at(u64, v45 + 176);
+    if (!(v731 > v729)) goto v734;
+    if (at(u8, v730 + v729) & 1) { v680 = v729; goto v678; }
+v734:;
+    if ((v731 - v729) < 64u) { v762 = v729; goto v740; }
+    v742 = v729;
+v741:;
+    if (!(v742 < 0xffffffffffffffc0u)) goto v744;
+    v749 = 0; v751 = (u8x16){0};
+v748:;
+    u8x16 v752 = v751 | ((-(at(u8x16_1, (v730 + (i64)v742) + (i64)v749) & 1)));
+    u64 v750 = v749 + 16u;
+    if (!(v750 == 64u)) { v749 = v750; v751 = v752; goto v748; }
+    if (!(bits_u8x16(v752) == 0)) { v762 = v742; goto v740; }
+v744:;
+    u64 v743 = v742 + 64u;
+    if ((v731 - v743) < 64u) v762 = v743; else { v742 = v743; goto v741; }
+v740:;
+    if (v762 < v731) v765 = v762; else { v680 = v731; goto v678; }
+v764:;
+    if (at(u8, v730 + v765) & 1) { v680 = v765; goto v678; }
+    u64 v766 = v765 + 1;
+    if (v766 == v731) v680 = v731; else { v765 = v766; goto v764; }
+v678:;
+    u16 v677 = (u16)v680;
+    if (v629 > v677) { v676 = v677; v679 = v680; goto v674; }
+v675:;
+    flag v774 = v626 != 0;
+    u64 v775 = v774 ? 0 : 4;
+    at(u8, v4 + 145) = 0;
+    if ((v625 == 0) | v774) goto v777;
+    v779 = 0;
+v778:;
+    u64 v783 = v775 - v779;
+    memset(v14, 0, 96u);
+    u64 v784 = at(u64, v4 + 128);
+    u64 v785 = at(u64, v4 + 120);
+    if (!(v783 < (v784 - v785))) goto v789;
+    u64 v790 = v785 + v783;
+    u8 *v791 = at(ptr, v4 + 112);
+    if (!((((u64)(v791 + (i64)v785)) - ((u64)((u8 *)table_18327a07 + (i64)v779))) < v783)) goto v798;
+    memset_any(v791 + (i64)v785, 0, v783);
+    goto v799;
+v798:;
+    memcpy_any(v791 + (i64)v785, (u8 *)table_18327a07 + (i64)v779, v783);
+v799:;
+    at(ptr, v4 + 112) = v791;
+    at(u64, v4 + 120) = v790;
+    at(u64, v4 + 128) = v784;
+    v805 = v783; goto v800;
+v789:;
+    std_io_buffered_BufWriter_write_cold(v14, v4, (u8 *)table_18327a07 + (i64)v779, v783);
+    if (at(u8, v14) == 0) v805 = at(u64, v14 + 8); else goto v804;
+v800:;
+    if (v805 == 0) goto v804;
+    u64 v780 = v805 + v779;
+    at(u64, v4 + 136) = at(u64, v4 + 136) + v805;
+    if (v780 < v775) { v779 = v780; goto v778; }
+v777:;
+    goto v1196;
+v392:;
+    u32 v810 = at(u32, v33 + 376);
+    u8 *v812 = at(ptr_1, at(ptr, v45 + 8));
+    u16 v814 = at(u16_1, v812 + 4);
+    u64 v816 = (u64)bswap16(v814);
+    if (v814 == 0) { v851 = (u8 *)table_d0e67785; v852 = 0; goto v818; }
+    v822 = 0;
+v819:;
+    u64 v824 = v822 << 4;
+    if (!((((at(u8, v812 + (i64)v824 + 12) == 104u) & (at(u8, v812 + (i64)v824 + 13) == 101u)) & (at(u8, v812 + (i64)v824 + 14) == 97u)) & (at(u8, v812 + (i64)v824 + 15) == 100u))) goto v820;
+    v851 = v812 + (i64)((u64)bswap32(at(u32_1, v812 + (i64)v824 + 20))); v852 = (u64)bswap32(at(u32_1, v812 + (i64)v824 + 24)); goto v818;
+v820:;
+    u64 v821 = v822 + 1;
+    if (v821 == v816) { v851 = (u8 *)table_d0e67785; v852 = 0; } else { v822 = v821; goto v819; }
+v818:;
+    if (font_write_made_head_send_head_front_a2d5(v851, v810, v4) & 1) goto v726;
+    u64 v856 = (u64)v851;
+    at(u8, v4 + 145) = 0;
+    v859 = 0;
+v858:;
+    u64 v863 = (u64)38u - v859;
+    memset(v13, 0, 96u);
+    u64 v864 = at(u64, v4 + 128);
+    u64 v865 = at(u64, v4 + 120);
+    if (!(v863 < (v864 - v865))) goto v869;
+    u64 v870 = v865 + v863;
+    u8 *v871 = at(ptr, v4 + 112);
+    u64 v872 = (u64)v871;
+    memset(v4 + 120, 0, 16u);
+    if (!((((u64)(v871 + (i64)v865)) - ((u64)((v851 + 12) + (i64)v859))) < v863)) goto v879;
+    if (v859 > 34u) { v917 = 0; goto v881; }
+    if (((((v865 - v856) - 12u) + v872) - v859) < 32u) { v917 = 0; goto v881; }
+    if (v859 > 22u) { v906 = 0; goto v890; }
+    u64 v892 = v863 & 12u;
+    u64 v893 = v863 & 48u;
+    v895 = 0;
+v894:;
+    at(u8x16_1, (v871 + (i64)v865) + v895) = at(u8x16_1, ((v851 + 12) + (i64)v859) + v895);
+    u64 v896 = v895 + 16u;
+    if (!(v896 == v893)) { v895 = v896; goto v894; }
+    if (v863 == v893) goto v903;
+    if (v892 == 0) { v917 = v893; goto v881; }
+    v906 = v893;
+v890:;
+    u64 v907 = v863 & 60u;
+    v909 = v906;
+v908:;
+    at(u8x4_1, (v871 + (i64)v865) + v909) = at(u8x4_1, ((v851 + 12) + (i64)v859) + v909);
+    u64 v910 = v909 + 4;
+    if (!(v910 == v907)) { v909 = v910; goto v908; }
+    if (v863 == v907) goto v903;
+    v917 = v907;
+v881:;
+    v919 = v917;
+v918:;
+    at(u8, (v871 + (i64)v865) + v919) = at(u8, ((v851 + 12) + (i64)v859) + v919);
+    u64 v920 = v919 + 1;
+    if (v920 == v863) goto v903;
+    v919 = v920; goto v918;
+v879:;
+    memmove_any(v871 + (i64)v865, (v851 + 12) + (i64)v859, v863);
+v903:;
+    at(ptr, v4 + 112) = v871;
+    at(u64, v4 + 120) = v870;
+    at(u64, v4 + 128) = v864;
+    v930 = v863; goto v861;
+v869:;
+    std_io_buffered_BufWriter_write_cold(v13, v4, (v851 + 12) + (i64)v859, v863);
+    u64 v926 = at(u64, v13 + 8);
+    if (!((at(u8, v13) != 0) ? 1 : (v926 == 0))) { v930 = v926; goto v861; }
+v804:;
+    at(u8, v4 + 144) = 1;
+v726:;
+    goto v325;
+v861:;
+    u64 v860 = v930 + v859;
+    at(u64, v4 + 136) = at(u64, v4 + 136) + v930;
+    if (v860 < 38u) { v859 = v860; goto v858; }
+    u8 v935 = font_write_made_head_send_head_end_7cc9(v851, v852, v4);
+    v1197 = v935; goto v624;
+v393:;
+    memset(v11, 0, 1024u);
+    u8 *v936 = at(ptr, v45 + 168);
+    u64 v937 = at(u64, v45 + 176);
+    if (v937 == 0) { v967 = 0; goto v939; }
+    if (at(u8, v936) & 1) { v977 = 0; goto v943; }
+    if (v937 < 64u) { v967 = 0; goto v939; }
+    v947 = 0;
+v946:;
+    if (v947 == 0xffffffffffffffc0u) goto v949;
+    v954 = 0; v956 = (u8x16){0};
+v953:;
+    u8x16 v957 = v956 | ((-(at(u8x16_1, (v936 + (i64)v947) + (i64)v954) & 1)));
+    u64 v955 = v954 + 16u;
+    if (!(v955 == 64u)) { v954 = v955; v956 = v957; goto v953; }
+    if (!(bits_u8x16(v957) == 0)) { v967 = v947; goto v939; }
+v949:;
+    u64 v948 = v947 + 64u;
+    if ((v937 - v948) < 64u) v967 = v948; else { v947 = v948; goto v946; }
+v939:;
+    if (v967 < v937) v970 = v967; else { v977 = v937; goto v943; }
+v969:;
+    if (at(u8, v936 + v970) & 1) { v977 = v970; goto v943; }
+    u64 v971 = v970 + 1;
+    if (v971 == v937) v977 = v937; else { v970 = v971; goto v969; }
+v943:;
+    u16 v978 = (u16)v977;
+    u16 v981 = at(u16, at(ptr, v45 + 8) + 64);
+    at(u32, v10) = 0;
+    at(u8, v4 + 145) = 0;
+    v983 = 0;
+v982:;
+    u64 v987 = (u64)4 - v983;
+    memset(v9, 0, 96u);
+    u64 v988 = at(u64, v4 + 128);
+    u64 v989 = at(u64, v4 + 120);
+    if (!(v987 < (v988 - v989))) goto v993;
+    u64 v994 = v989 + v987;
+    u8 *v995 = at(ptr, v4 + 112);
+    if ((((u64)(v995 + (i64)v989)) - ((u64)(v10 + (i64)v983))) < v987) v1004 = 0; else goto v1002;
+v1001:;
+    at(u8, (v995 + (i64)v989) + v1004) = at(u8, (v10 + (i64)v983) + v1004);
+    u64 v1005 = v1004 + 1;
+    if (v1005 == v987) goto v1003;
+    v1004 = v1005; goto v1001;
+v1002:;
+    memmove_any(v995 + (i64)v989, v10 + (i64)v983, v987);
+v1003:;
+    at(ptr, v4 + 112) = v995;
+    at(u64, v4 + 120) = v994;
+    at(u64, v4 + 128) = v988;
+    v1016 = v987; goto v985;
+v993:;
+    std_io_buffered_BufWriter_write_cold(v9, v4, v10 + (i64)v983, v987);
+    u64 v1011 = at(u64, v9 + 8);
+    if (!((at(u8, v9) != 0) ? 1 : (v1011 == 0))) { v1016 = v1011; goto v985; }
+    at(u8, v4 + 144) = 1;
+    v1113 = 1; goto v1022;
+v985:;
+    u64 v984 = v1016 + v983;
+    at(u64, v4 + 136) = at(u64, v4 + 136) + v1016;
+    if (v984 < 4) { v983 = v984; goto v982; }
+    if (v981 == 0) { v1113 = 0; goto v1022; }
+    v1024 = 0; v1027 = v978; v1029 = 0;
+v1023:;
+    u16 v1032 = umin16((u16)(v981 - v1029), 256u);
+    u16 v1030 = (u16)(v1032 + v1029);
+    u32_u16 v1033 = font_write_made_loca_gather_offsets(v45, v1029, v1030, v1024, v1027, v11);
+    u64 v1035 = (u64)((u16)((u32)v1032 << 2));
+    at(u8, v4 + 145) = 0;
+    v1037 = 0;
+v1036:;
+    u64 v1041 = v1035 - v1037;
+    memset(v8, 0, 96u);
+    u64 v1042 = at(u64, v4 + 128);
+    u64 v1043 = at(u64, v4 + 120);
+    if (!(v1041 < (v1042 - v1043))) goto v1047;
+    u64 v1048 = v1043 + v1041;
+    u8 *v1049 = at(ptr, v4 + 112);
+    u64 v1050 = (u64)v1049;
+    if (!((((u64)(v1049 + (i64)v1043)) - ((u64)(v11 + (i64)v1037))) < v1041)) goto v1057;
+    if (v1041 < 4) { v1094 = 0; goto v1059; }
+    if (((v1043 + v1050) - (v1037 + v12)) < 32u) { v1094 = 0; goto v1059; }
+    if (v1041 < 16u) { v1083 = 0; goto v1067; }
+    u64 v1069 = v1041 & 12u;
+    u64 v1070 = v1041 & 2032u;
+    v1072 = 0;
+v1071:;
+    at(u8x16_1, (v1049 + (i64)v1043) + v1072) = at(u8x16_1, (v11 + (i64)v1037) + v1072);
+    u64 v1073 = v1072 + 16u;
+    if (!(v1073 == v1070)) { v1072 = v1073; goto v1071; }
+    if (v1041 == v1070) goto v1080;
+    if (v1069 == 0) { v1094 = v1070; goto v1059; }
+    v1083 = v1070;
+v1067:;
+    u64 v1084 = v1041 & 2044u;
+    v1086 = v1083;
+v1085:;
+    at(u8x4_1, (v1049 + (i64)v1043) + v1086) = at(u8x4_1, (v11 + (i64)v1037) + v1086);
+    u64 v1087 = v1086 + 4;
+    if (!(v1087 == v1084)) { v1086 = v1087; goto v1085; }
+    if (v1041 == v1084) goto v1080;
+    v1094 = v1084;
+v1059:;
+    v1096 = v1094;
+v1095:;
+    at(u8, (v1049 + (i64)v1043) + v1096) = at(u8, (v11 + (i64)v1037) + v1096);
+    u64 v1097 = v1096 + 1;
+    if (v1097 == v1041) goto v1080;
+    v1096 = v1097; goto v1095;
+v1057:;
+    memmove_any(v1049 + (i64)v1043, v11 + (i64)v1037, v1041);
+v1080:;
+    at(ptr, v4 + 112) = v1049;
+    at(u64, v4 + 120) = v1048;
+    at(u64, v4 + 128) = v1042;
+    v1107 = v1041; goto v1102;
+v1047:;
+    std_io_buffered_BufWriter_write_cold(v8, v4, v11 + (i64)v1037, v1041);
+    if (at(u8, v8) == 0) v1107 = at(u64, v8 + 8); else goto v1106;
+v1102:;
+    if (v1107 == 0) goto v1106;
+    u64 v1038 = v1107 + v1037;
+    at(u64, v4 + 136) = at(u64, v4 + 136) + v1107;
+    if (v1038 < v1035) { v1037 = v1038; goto v1036; }
+    if (v1030 < v981) { v1024 = v1033._0; v1027 = v1033._1; v1029 = v1030; goto v1023; }
+    v1113 = 0; goto v1022;
+v1106:;
+    at(u8, v4 + 144) = 1;
+    v1113 = 1;
+v1022:;
+    v1197 = v1113;
+v624:;
+    if (v1197 & 1) goto v325;
+v1196:;
+    u32 v1204 = ((u32)0 - at(u32, v33 + (i64)(v383 * 12u) + 8)) & 3;
+    u64 v1205 = (u64)v1204;
+    at(u8, v4 + 145) = 0;
+    if (v1204 == 0) goto v385;
+    v1208 = 0;
+v1207:;
+    u64 v1212 = v1205 - v1208;
+    memset(v6, 0, 96u);
+    u64 v1213 = at(u64, v4 + 128);
+    u64 v1214 = at(u64, v4 + 120);
+    if (!(v1212 < (v1213 - v1214))) goto v1218;
+    u64 v1219 = v1214 + v1212;
+    u8 *v1220 = at(ptr, v4 + 112);
+    if (!((((u64)(v1220 + (i64)v1214)) - ((u64)((u8 *)table_18327a07 + (i64)v1208))) < v1212)) goto v1227;
+    memset_any(v1220 + (i64)v1214, 0, v1212);
+    goto v1228;
+v1227:;
+    memcpy_any(v1220 + (i64)v1214, (u8 *)table_18327a07 + (i64)v1208, v1212);
+v1228:;
+    at(ptr, v4 + 112) = v1220;
+    at(u64, v4 + 120) = v1219;
+    at(u64, v4 + 128) = v1213;
+    v1234 = v1212; goto v1229;
+v1218:;
+    std_io_buffered_BufWriter_write_cold(v6, v4, (u8 *)table_18327a07 + (i64)v1208, v1212);
+    if (at(u8, v6) == 0) v1234 = at(u64, v6 + 8); else goto v1233;
+v1229:;
+    if (v1234 == 0) goto v1233;
+    u64 v1209 = v1234 + v1208;
+    at(u64, v4 + 136) = at(u64, v4 + 136) + v1234;
+    if (v1209 < v1205) { v1208 = v1209; goto v1207; }
+v385:;
+    u64 v384 = v383 + 1;
+    if (!(v384 == 29u)) { v383 = v384; goto v382; }
+    memcpy(v52, v45, 320u);
+    font_subset_kind_source_CutOfKind_drop_3cda(v52);
+    if (v105 ? 1 : (v103 == 0)) goto v1250;
+    sys_rattle_dealloc(v99);
+v1250:;
+    at(u64_1, v0) = 0;
+    at(u64_1, v0 + 8) = v162;
+    at(u64_1, v0 + 16) = 0;
+    return;
+v1233:;
+    at(u8, v4 + 144) = 1;
+v325:;
+    v1252 = 2; v1253 = at(u64, v4 + 136);
+v1241:;
+    memcpy(v51, v45, 320u);
+    font_subset_kind_source_CutOfKind_drop_3cda(v51);
+    if (v105 ? 1 : (v103 == 0)) goto v1256;
+    sys_rattle_dealloc(v99);
+v1256:;
+    at(u64_1, v0) = 1;
+    at(u64_1, v0 + 8) = v1252;
+    at(u64_1, v0 + 16) = v1253;
+    return;
+v116:;
+v117:;
+    if (v105 ? 1 : (v103 == 0)) goto v1245;
+    sys_rattle_dealloc(v99);
+v1245:;
+    at(u64_1, v0) = 1;
+    memset(v0 + 8, 0, 16u);
+    return;
+v93:;
+    u8 v125 = at(u8, v44 + 16);
+    u8 *v127 = at(ptr, v44 + 24);
+    u64 v129 = at(u64, v44 + 40);
+    u8 v131 = at(u8, v44 + 56);
+    u8 *v133 = at(ptr, v44 + 64);
+    u64 v135 = at(u64, v44 + 80);
+    if (at(u64, v44 + 136) == 0) goto v139;
+    sys_rattle_dealloc(at(ptr, v44 + 120));
+v139:;
+    if ((v125 != 1) ? 1 : (v129 == 0)) goto v145;
+    sys_rattle_dealloc(v127);
+v145:;
+    if ((v131 != 1) ? 1 : (v135 == 0)) goto v150;
+    sys_rattle_dealloc(v133);
+v150:;
+    at(u64_1, v0) = 1;
+    memset(v0 + 8, 0, 16u);
+    return;
+v59:;
+v60:;
+    at(u64_1, v0) = 1;
+    memset(v0 + 8, 0, 16u);
+    return;
+}
+
+u8_u8 font_subset_cut_forms_belongs(u8 *v0, u8 *v1) {
+    _Alignas(4) u8 v3[1], v15[16];
+    _Alignas(8) u8 v4[320], v5[328], v6[24], v7[320], v8[24], v9[56], v10[56], v11[16], v12[48], v13[32], v14[56], v16[32];
+    u8 v17[39], *v214, *v229, *v215, *v246, *v248, v266, v279, v280;
+    u64 v78, v82, v100, v105, v115, v116, v150, v153, v159, v160, v211, v230, v212, v245, v249;
+    u32 v85, v87, v98, v99, v103, v104;
+    u16 v216;
+    flag v244, v250;
+    memset(v16, 0, 32u);
+    memset(v17, 0, 39u);
+    u8 *v19 = at(ptr, v0 + 8);
+    memset(v14, 0, 56u);
+    memset(v15, 0, 16u);
+    font_map_chart_Chart_of_3518(v14, v19 + 72);
+    if (!(at(u8, v14) == 0)) goto v24;
+    u64 v26 = at(u64, v14 + 48);
+    u64 v32 = (u64)at(u8, v14 + 16);
+    at(u64, v12) = at(u64, v14 + 8);
+    at(u64, v12 + 8) = v32;
+    memcpy(v12 + 16, v14 + 24, 24u);
+    at(u64, v12 + 40) = v26;
+    at(ptr, v13) = v3;
+    memset(v13 + 8, 0, 24u);
+    font_map_chart_Chart_next_run_33e3(v15, v12, 0);
+    if (!(at(u8, v15) == 1)) goto v40;
+v45:;
+    u32 v46 = at(u32, v15 + 4);
+    u32 v47 = at(u32, v15 + 8);
+    if (!((v47 < v46) | (v47 > 1114111u))) goto v52;
+    __builtin_trap();
+    __builtin_trap();
+v52:;
+    u8 *v53 = at(ptr, v13);
+    u64 v54 = at(u64, v13 + 8);
+    u64 v55 = usub_sat64(v54, 1);
+    u32 v56 = usub_sat32(v46, 1);
+    at(ptr, v11) = v53;
+    at(u64, v11 + 8) = v54;
+    if (!(v54 > v55)) goto v59;
+    if (!(v56 > at(u32, v53 + (v55 << 3) + 4))) goto v59;
+    u64 v66 = v55 + 1;
+    if (!(v66 == v54)) goto v69;
+    v103 = v47; v104 = v46; v105 = v54; goto v70;
+v69:;
+    if (!(v56 > at(u32, v53 + (v66 << 3) + 4))) { v78 = v66; goto v76; }
+v59:;
+    u64 v77 = codes_search_searched_bc95(v11, v55, v56);
+    v78 = v77;
+v76:;
+    if (v78 < v54) { v82 = v78; v85 = v47; v87 = v46; } else { v98 = v46; v99 = v47; v100 = v54; goto v81; }
+v80:;
+    u64 v91 = at(u64_1, v53 + (v82 << 3));
+    u32 v92 = (u32)v91;
+    if (v85 < usub_sat32(v92, 1)) { v98 = v87; v99 = v85; v100 = v82; goto v81; }
+    u32 v88 = umin32(v92, v87);
+    u32 v86 = umax32((u32)(v91 >> 32u), v85);
+    u64 v83 = v82 + 1;
+    if (v83 == v54) { v98 = v88; v99 = v86; v100 = v54; } else { v82 = v83; v85 = v86; v87 = v88; goto v80; }
+v81:;
+    if (v78 == v100) { v103 = v99; v104 = v98; v105 = v78; } else goto v102;
+v70:;
+    u64 v106 = at(u64, v13 + 16);
+    if (!(v106 == v54)) { v115 = v106; v116 = v54; goto v109; }
+    if (!std_alloc_vec_Vec_grow_amortized_295f(v13)) goto v112;
+    v115 = at(u64, v13 + 16); v116 = at(u64, v13 + 8); goto v109;
+v112:;
+    if (at(u64, v13 + 16) == 0) goto v175;
+    sys_rattle_dealloc(at(ptr, v13));
+v175:;
+    if ((at(u8, v12 + 8) != 1) ? 1 : (at(u64, v12 + 32) == 0)) goto v24;
+    sys_rattle_dealloc(at(ptr, v12 + 16));
+    goto v24;
+v109:;
+    if (!(v116 < v115)) goto v119;
+    std_alloc_vec_Vec_put_at_aaa0(v13, v105, v104, v103);
+    goto v120;
+v119:;
+    if (!(v115 == v116)) goto v123;
+    if (std_alloc_vec_Vec_grow_amortized_295f(v13)) goto v123;
+    __builtin_trap();
+    __builtin_trap();
+v123:;
+    std_alloc_vec_Vec_put_at_aaa0(v13, v105, v104, v103);
+    goto v120;
+v102:;
+    u64 v126 = v78 << 3;
+    at(u32_1, v53 + (i64)v126) = v98;
+    at(u32_1, v53 + (i64)v126 + 4) = v99;
+    u64 v129 = v78 + 1;
+    u64 v130 = v100 - v129;
+    u64 v131 = v54 - v130;
+    core_slice_edits_slice_T_rotate_left(v53 + (i64)(v129 << 3), v54 - v129, v130);
+    u64 v135 = v131 << 3;
+    if (!(v130 > 15u)) goto v139;
+    u64 v146 = v130 >> 1;
+    core_slice_edits_mirror_fc6a(v53 + (i64)v135, 0, (v53 + (i64)v135) + (i64)((v130 - v146) << 3), v146);
+    goto v142;
+v139:;
+    if (!(v130 > 1)) goto v142;
+    u64 v144 = (v130 - 2) >> 1;
+    v150 = 0; v153 = v130;
+v145:;
+    u64 v154 = v153 - 1;
+    if (v150 < v154) { v159 = v150; v160 = v154; goto v156; }
+    if (v154 < v150) { v159 = v154; v160 = v150; } else goto v152;
+v156:;
+    u64 v161 = v159 << 3;
+    u64 v163 = v160 << 3;
+    u64 v165 = at(u64_1, (v53 + (i64)v135) + v161);
+    at(u64_1, (v53 + (i64)v135) + v161) = at(u64_1, (v53 + (i64)v135) + v163);
+    at(u64_1, (v53 + (i64)v135) + v163) = v165;
+v152:;
+    if (!(v150 == v144)) { v150 = v150 + 1; v153 = v154; goto v145; }
+v142:;
+    if (!(v131 < v54)) goto v120;
+    at(u64, v13 + 8) = v131;
+v120:;
+    font_map_chart_Chart_next_run_33e3(v15, v12, v47 + 1);
+    if (at(u8, v15) == 1) goto v45;
+v40:;
+    if ((at(u8, v12 + 8) != 1) ? 1 : (at(u64, v12 + 32) == 0)) goto v192;
+    sys_rattle_dealloc(at(ptr, v12 + 16));
+v192:;
+    memcpy(v17 + 7, v13, 32u);
+    memcpy(v16, v17 + 7, 32u);
+    memset(v9, 0, 56u);
+    if (at(u8, v0) == 0) { v248 = v3; v249 = 0; v250 = 1; goto v198; }
+    font_subset_presence_Presence_of(v9, v0);
+    memcpy(v10, v9, 56u);
+    at(ptr, v8) = v3;
+    memset(v8 + 8, 0, 16u);
+    u16 v205 = at(u16, at(ptr, at(ptr, v10) + 8) + 64);
+    if (v205 == 0) { v244 = 1; v245 = 0; v246 = v3; goto v207; }
+    v211 = 0; v214 = v3; v216 = 0;
+v210:;
+    if (!font_subset_presence_Presence_has(v10, v216)) { v212 = v211; v215 = v214; goto v213; }
+    if (!(at(u64, v8 + 16) == v211)) { v229 = v214; v230 = v211; goto v223; }
+    if (!std_alloc_vec_Vec_grow_amortized_1aee(v8, 1)) goto v226;
+    v229 = at(ptr, v8); v230 = at(u64, v8 + 8); goto v223;
+v226:;
+    if (at(u64, v8 + 16) == 0) goto v238;
+    sys_rattle_dealloc(at(ptr, v8));
+v238:;
+    if (at(u64, v16 + 16) == 0) { v279 = 0; v280 = 1; goto v247; }
+    sys_rattle_dealloc(at(ptr, v16));
+    v279 = 0; v280 = 1; goto v247;
+v223:;
+    at(u16, v229 + (v230 << 1)) = v216;
+    u64 v233 = v230 + 1;
+    at(u64, v8 + 8) = v233;
+    v212 = v233; v215 = v229;
+v213:;
+    u16 v217 = (u16)(v216 + 1);
+    if (!(v217 == v205)) { v211 = v212; v214 = v215; v216 = v217; goto v210; }
+    v244 = at(u64, v8 + 16) == 0; v245 = v212; v246 = at(ptr, v8);
+v207:;
+    v248 = v246; v249 = v245; v250 = v244;
+v198:;
+    u8 *v251 = at(ptr, v0 + 8);
+    u8 *v252 = at(ptr_1, v251);
+    u64 v254 = at(u64_1, v251 + 8);
+    memset(v5, 0, 328u);
+    at(u64, v6) = 1;
+    at(ptr, v6 + 8) = v248;
+    at(u64, v6 + 16) = v249;
+    font_subset_kind_source_CutOfKind_new_991b(v5, v1, 1, v16, v6);
+    u8 v257 = at(u8, v5);
+    if (!(v257 == 0)) { v266 = 0; goto v260; }
+    memcpy(v4, v5 + 8, 320u);
+    u8 v265 = (u8)(font_subset_forms_form_of_file(at(u8, v1), v4, v252, v254) != 0);
+    memcpy(v7, v4, 320u);
+    font_subset_kind_source_CutOfKind_drop_3cda(v7);
+    v266 = v265;
+v260:;
+    if (v250) goto v267;
+    sys_rattle_dealloc(v248);
+v267:;
+    if (at(u64, v16 + 16) == 0) { v279 = v266; v280 = v257; goto v247; }
+    sys_rattle_dealloc(at(ptr, v16));
+    v279 = v266; v280 = v257; goto v247;
+v24:;
+    v279 = 0; v280 = 1;
+v247:;
+    return (u8_u8){v280, v279};
+}
+
+void font_subset_font_of_kind_FontOfKind_drop_b0ec(u8 *v0) {
+    u8 v5 = at(u8, v0 + 56);
+    u8 *v7 = at(ptr_1, v0 + 64);
+    u64 v9 = at(u64_1, v0 + 80);
+    u8 v11 = at(u8, v0 + 112);
+    u8 *v13 = at(ptr_1, v0 + 120);
+    u64 v15 = at(u64_1, v0 + 136);
+    u8 v17 = at(u8, v0 + 168);
+    u8 *v19 = at(ptr_1, v0 + 176);
+    u64 v21 = at(u64_1, v0 + 192);
+    u8 v23 = at(u8, v0 + 224);
+    u8 *v25 = at(ptr_1, v0 + 232);
+    u64 v27 = at(u64_1, v0 + 248);
+    u8 *v29 = at(ptr_1, v0 + 288);
+    if (!(at(u8, v0 + 16) == 1)) return;
+    if ((at(u8, v0 + 280) != 1) ? 1 : (at(u64_1, v0 + 304) == 0)) goto v40;
+    sys_rattle_dealloc(v29);
+v40:;
+    if ((v23 != 1) ? 1 : (v27 == 0)) goto v45;
+    sys_rattle_dealloc(v25);
+v45:;
+    if ((v17 != 1) ? 1 : (v21 == 0)) goto v50;
+    sys_rattle_dealloc(v19);
+v50:;
+    if ((v11 != 1) ? 1 : (v15 == 0)) goto v55;
+    sys_rattle_dealloc(v13);
+v55:;
+    if ((v5 != 1) ? 1 : (v9 == 0)) return;
+    sys_rattle_dealloc(v7);
+    return;
+}
+
+void font_subset_font_of_kind_FontOfKind_further_6e0a(u8 *v0, u8 *v1, u64 v2) {
+    _Alignas(4) u8 v4[20], v5[32];
+    u64 v11, v41, v42, v43, v47, v48, v49, v73, v92, v124, v126;
+    u8 *v72, *v125;
+    switch (at(u8, v1)) {
+    case 0: case 1: v124 = 0; v125 = (u8 *)0; v126 = 0; goto v8;
+    case 2: v11 = 21u; goto v9;
+    case 3: goto v10;
+    default: __builtin_trap();
+    }
+v10:;
+    v11 = 29u;
+v9:;
+    if (!(v11 > v2)) { v124 = 0; v125 = (u8 *)0; v126 = 0; goto v8; }
+    if (!(at(u8, v1 + 16) == 1)) goto v18;
+    switch (v2) {
+    case 16u: goto v20;
+    case 17u: goto v21;
+    case 18u: goto v22;
+    case 19u: goto v23;
+    default: goto v19;
+    }
+v19:;
+    if (at(u8, v1 + 280) == 1) { v47 = 288u; v48 = 296u; v49 = 1; goto v27; }
+    v41 = 256u; v42 = 264u; v43 = 272u; goto v28;
+v20:;
+    if (at(u8, v1 + 56) == 1) { v47 = 64u; v48 = 72u; v49 = 1; goto v27; }
+    v41 = 32u; v42 = 40u; v43 = 48u; goto v28;
+v21:;
+    if (at(u8, v1 + 112) == 1) { v47 = 120u; v48 = 128u; v49 = 1; goto v27; }
+    v41 = 88u; v42 = 96u; v43 = 104u; goto v28;
+v22:;
+    if (at(u8, v1 + 168) == 1) { v47 = 176u; v48 = 184u; v49 = 1; goto v27; }
+    v41 = 144u; v42 = 152u; v43 = 160u; goto v28;
+v23:;
+    if (at(u8, v1 + 224) == 1) { v47 = 232u; v48 = 240u; v49 = 1; goto v27; }
+    v41 = 200u; v42 = 208u; v43 = 216u;
+v28:;
+    v47 = v42; v48 = v43; v49 = (u64)at(u8, v1 + (i64)v41);
+v27:;
+    v124 = v49; v125 = at(ptr_1, v1 + (i64)v47); v126 = at(u64_1, v1 + (i64)v48); goto v8;
+v18:;
+    u8 *v56 = at(ptr_1, at(ptr, v1 + 8));
+    if (!(v2 < 21u)) goto v59;
+    at(u32, v4) = 1163084098u;
+    at(u32, v4 + 4) = 1178944583u;
+    at(u32, v4 + 8) = 1397706823u;
+    at(u32, v4 + 12) = 1112888135u;
+    at(u32, v4 + 16) = 1852990827u;
+    v72 = v4; v73 = 0xffffffffffffffc0u; goto v64;
+v59:;
+    at(u32, v5) = 1380013640u;
+    at(u32, v5 + 4) = 1380013645u;
+    at(u32, v5 + 8) = 1413567571u;
+    at(u32, v5 + 12) = 1380013654u;
+    at(u32, v5 + 16) = 1918989921u;
+    at(u32, v5 + 20) = 1918989923u;
+    at(u32, v5 + 24) = 1918989926u;
+    at(u32, v5 + 28) = 1918989927u;
+    v72 = v5; v73 = 0xffffffffffffffacu;
+v64:;
+    u32 v77 = at(u32, (v72 + (i64)(v2 << 2)) + (i64)v73);
+    u16 v79 = at(u16_1, v56 + 4);
+    u64 v81 = (u64)bswap16(v79);
+    if (v79 == 0) { v124 = 0; v125 = (u8 *)0; v126 = 0; goto v8; }
+    u8 v84 = (u8)v77;
+    u8 v86 = (u8)(v77 >> 16u);
+    u8 v88 = (u8)(v77 >> 8);
+    v92 = 0;
+v89:;
+    u64 v94 = v92 << 4;
+    if (!((((at(u8, v56 + (i64)v94 + 12) == v84) ? (at(u8, v56 + (i64)v94 + 13) == v88) : 0) ? (at(u8, v56 + (i64)v94 + 14) == v86) : 0) ? (((((u32)at(u8, v56 + (i64)v94 + 15)) << 24u) ^ v77) < 16777216u) : 0)) goto v90;
+    v124 = 1; v125 = v56 + (i64)((u64)bswap32(at(u32_1, v56 + (i64)v94 + 20))); v126 = (u64)bswap32(at(u32_1, v56 + (i64)v94 + 24)); goto v8;
+v90:;
+    u64 v91 = v92 + 1;
+    if (v91 == v81) { v124 = 0; v125 = (u8 *)0; v126 = 0; } else { v92 = v91; goto v89; }
+v8:;
+    at(u64_1, v0) = v124;
+    at(ptr_1, v0 + 8) = v125;
+    at(u64_1, v0 + 16) = v126;
+    return;
+}
+
+void font_subset_font_of_kind_FontOfKind_open_25ca(u8 *v0, u8 v1, u8 *v2) {
+    _Alignas(8) u8 v4[16], v5[16], v6[16], v7[16], v8[16], v9[24], v10[16], v11[16], v12[16], v13[16], v14[16], v15[24], v22[64], v23[64], v24[64], v25[64], v26[64], v27[16], v28[16], v29[16], v30[16], v31[16], v32[24], v39[16], v40[16], v41[16], v42[16], v43[16], v44[24], v47[16], v48[16], v49[16], v50[16], v51[16], v52[24], v53[16], v54[16], v55[16], v56[16], v57[16], v58[24], v59[312], v60[16], v61[16], v62[16], v63[16], v64[16], v65[24], v66[16], v67[16], v68[16], v69[16], v70[16], v71[24], v72[88], v73[288], v74[72], v75[312], v76[288], v77[72];
+    u8 v16[16], v17[16], v18[16], v19[16], v20[16], v21[24], v33[16], v34[16], v35[16], v36[16], v37[16], v38[24], v45[6], v46[6], v98, v99, *v240, *v243, *v248, *v253, *v258, *v265, *v268, *v273, *v278, *v283, *v291, *v294, *v299, *v304, *v309, *v317, *v320, *v325, *v330, *v335, *v342, *v345, *v350, *v355, *v360, v371, v372, *v376, *v379, *v384, *v389, *v394, *v404, *v407, *v412, *v417, *v422, v429, v479, v480, v488, v489;
+    u32 v100, v370, v373, v403, v428, v477, v478, v481, v486, v487, v490;
+    flag v239, v315, v369;
+    u64 v241, v242, v244, v245, v246, v247, v249, v250, v251, v252, v254, v255, v256, v257, v259, v260, v261, v262, v266, v267, v269, v270, v271, v272, v274, v275, v276, v277, v279, v280, v281, v282, v284, v285, v286, v287, v292, v293, v295, v296, v297, v298, v300, v301, v302, v303, v305, v306, v307, v308, v310, v311, v312, v313, v314, v316, v318, v319, v321, v322, v323, v324, v326, v327, v328, v329, v331, v332, v333, v334, v336, v337, v338, v339, v343, v344, v346, v347, v348, v349, v351, v352, v353, v354, v356, v357, v358, v359, v361, v362, v363, v364, v365, v374, v375, v377, v378, v380, v381, v382, v383, v385, v386, v387, v388, v390, v391, v392, v393, v395, v396, v397, v398, v405, v406, v408, v409, v410, v411, v413, v414, v415, v416, v418, v419, v420, v421, v423, v424, v425, v426, v427, v430, v482, v483, v484, v485, v491, v492, v493, v494;
+    memset(v76, 0, 288u);
+    memset(v77, 0, 72u);
+    if (!(v1 < 2)) goto v80;
+    u64 v81 = (u64)v2;
+    memset(v76, 0, 288u);
+    v486 = 0; v487 = 0; v488 = v1; v489 = 0; v490 = 0; v491 = v81; v492 = v81 & 0xffffffff00000000u; v493 = 0; v494 = 0; goto v83;
+v80:;
+    memset(v59, 0, 312u);
+    memset(v60, 0, 16u);
+    memset(v61, 0, 16u);
+    memset(v62, 0, 16u);
+    memset(v63, 0, 16u);
+    memset(v64, 0, 16u);
+    memset(v65, 0, 24u);
+    memset(v66, 0, 16u);
+    memset(v67, 0, 16u);
+    memset(v68, 0, 16u);
+    memset(v69, 0, 16u);
+    memset(v70, 0, 16u);
+    memset(v71, 0, 24u);
+    memset(v72, 0, 88u);
+    memset(v73, 0, 288u);
+    memset(v74, 0, 72u);
+    memset(v75, 0, 312u);
+    memset(v47, 0, 16u);
+    memset(v48, 0, 16u);
+    memset(v49, 0, 16u);
+    memset(v50, 0, 16u);
+    memset(v51, 0, 16u);
+    memset(v52, 0, 24u);
+    memset(v53, 0, 16u);
+    memset(v54, 0, 16u);
+    memset(v55, 0, 16u);
+    memset(v56, 0, 16u);
+    memset(v57, 0, 16u);
+    memset(v58, 0, 24u);
+    if (!(v1 == 3)) goto v86;
+    memset(v45, 0, 6);
+    sfnt_bytes_directory_Directory_check_tags(v45, v2, (u8 *)text_BASEGDEFGPOSGSUBHVARMVAR, 13u);
+    v98 = at(u8, v45); v99 = at(u8, v45 + 1); v100 = at(u32_1, v45 + 2); goto v92;
+v86:;
+    memset(v46, 0, 6);
+    sfnt_bytes_directory_Directory_check_tags(v46, v2, (u8 *)text_BASEGDEFGPOSGSUBkern, 5);
+    v98 = at(u8, v46); v99 = at(u8, v46 + 1); v100 = at(u32_1, v46 + 2);
+v92:;
+    if (!(v98 == 1)) goto v103;
+    memset(v66, 0, 16u);
+    memset(v67, 0, 16u);
+    memset(v68, 0, 16u);
+    memset(v69, 0, 16u);
+    memset(v70, 0, 16u);
+    memset(v71, 0, 24u);
+    v369 = 0; v370 = 1; v371 = 0; v372 = v99; v373 = v100; v374 = 0; v375 = 0; v376 = (u8 *)0; v377 = 0; v378 = 0; v379 = (u8 *)0; v380 = 0; v381 = 0; v382 = 0; v383 = 0; v384 = (u8 *)0; v385 = 0; v386 = 0; v387 = 0; v388 = 0; v389 = (u8 *)0; v390 = 0; v391 = 0; v392 = 0; v393 = 0; v394 = (u8 *)0; v395 = 0; v396 = 0; v397 = 0; v398 = 0; goto v104;
+v103:;
+    memset(v27, 0, 16u);
+    memset(v28, 0, 16u);
+    memset(v29, 0, 16u);
+    memset(v30, 0, 16u);
+    memset(v31, 0, 16u);
+    memset(v32, 0, 24u);
+    memset(v33, 0, 16u);
+    memset(v34, 0, 16u);
+    memset(v35, 0, 16u);
+    memset(v36, 0, 16u);
+    memset(v37, 0, 16u);
+    memset(v38, 0, 24u);
+    if (!(v1 == 2)) { v291 = (u8 *)0; v292 = 0; v293 = 0; v294 = (u8 *)0; v295 = 0; v296 = 0; v297 = 0; v298 = 0; v299 = (u8 *)0; v300 = 0; v301 = 0; v302 = 0; v303 = 0; v304 = (u8 *)0; v305 = 0; v306 = 0; v307 = 0; v308 = 0; v309 = (u8 *)0; v310 = 0; v311 = 0; v312 = 0; v313 = 0; v314 = 0; goto v107; }
+    memset(v22, 0, 64u);
+    memset(v23, 0, 64u);
+    memset(v24, 0, 64u);
+    memset(v25, 0, 64u);
+    memset(v26, 0, 64u);
+    font_subset_further_tables_FixedTable_of_1948(v22, v2, 16u);
+    u8 v110 = at(u8, v22 + 32);
+    if (!(at(u8, v22) == 0)) goto v113;
+    u8 *v118 = at(ptr, v22 + 40);
+    u64 v120 = at(u64, v22 + 48);
+    u64 v122 = at(u64, v22 + 56);
+    u64 v123 = (u64)at(u8, v22 + 8);
+    u64 v124 = (u64)v110;
+    font_subset_further_tables_FixedTable_of_1948(v23, v2, 17u);
+    u8 v127 = at(u8, v23 + 32);
+    if (!(at(u8, v23) == 0)) goto v130;
+    u8 *v136 = at(ptr, v23 + 40);
+    u64 v138 = at(u64, v23 + 48);
+    u64 v140 = at(u64, v23 + 56);
+    u64 v141 = (u64)at(u8, v23 + 8);
+    u64 v142 = (u64)v127;
+    font_subset_further_tables_FixedTable_of_1948(v24, v2, 18u);
+    u8 v145 = at(u8, v24 + 32);
+    if (!(at(u8, v24) == 0)) goto v148;
+    u8 *v158 = at(ptr, v24 + 40);
+    u64 v160 = at(u64, v24 + 48);
+    u64 v162 = at(u64, v24 + 56);
+    u64 v163 = (u64)at(u8, v24 + 8);
+    u64 v164 = (u64)v145;
+    font_subset_further_tables_FixedTable_of_1948(v25, v2, 19u);
+    u8 v167 = at(u8, v25 + 8);
+    u8 v169 = at(u8, v25 + 32);
+    if (!(at(u8, v25) == 0)) goto v172;
+    u8 *v184 = at(ptr, v25 + 40);
+    u64 v186 = at(u64, v25 + 48);
+    u64 v188 = at(u64, v25 + 56);
+    font_subset_further_tables_FixedTable_of_1948(v26, v2, 20u);
+    if (!(at(u8, v26) == 0)) goto v192;
+    u64 v217 = (u64)at(u8, v26 + 8);
+    u64 v218 = (u64)at(u8, v26 + 32);
+    memcpy(v39, v22 + 16, 16u);
+    memcpy(v40, v23 + 16, 16u);
+    memcpy(v41, v24 + 16, 16u);
+    memcpy(v42, v25 + 16, 16u);
+    memcpy(v43, v26 + 16, 16u);
+    memcpy(v44, v26 + 40, 24u);
+    v239 = 1; v240 = v2; v241 = v123; v242 = v124; v243 = v118; v244 = v120; v245 = v122; v246 = v141; v247 = v142; v248 = v136; v249 = v138; v250 = v140; v251 = v163; v252 = v164; v253 = v158; v254 = v160; v255 = v162; v256 = (u64)v167; v257 = (u64)v169; v258 = v184; v259 = v186; v260 = v188; v261 = v217; v262 = v218; goto v131;
+v192:;
+    if ((v169 != 1) ? 1 : (v188 == 0)) goto v222;
+    sys_rattle_dealloc(v184);
+v222:;
+    if ((v145 != 1) ? 1 : (v162 == 0)) goto v227;
+    sys_rattle_dealloc(v158);
+v227:;
+    if ((v127 != 1) ? 1 : (v140 == 0)) goto v232;
+    sys_rattle_dealloc(v136);
+v232:;
+    if ((v110 != 1) ? 1 : (v122 == 0)) goto v237;
+    sys_rattle_dealloc(v118);
+v237:;
+    memset(v39, 0, 16u);
+    memset(v40, 0, 16u);
+    memset(v41, 0, 16u);
+    memset(v42, 0, 16u);
+    memset(v43, 0, 16u);
+    memset(v44, 0, 24u);
+    v239 = 0; v240 = (u8 *)0; v241 = 0; v242 = 0; v243 = (u8 *)0; v244 = 0; v245 = 0; v246 = 0; v247 = 0; v248 = (u8 *)0; v249 = 0; v250 = 0; v251 = 0; v252 = 0; v253 = (u8 *)0; v254 = 0; v255 = 0; v256 = 0; v257 = 0; v258 = (u8 *)0; v259 = 0; v260 = 0; v261 = 0; v262 = 0; goto v131;
+v172:;
+    if ((v145 != 1) ? 1 : (v162 == 0)) goto v196;
+    sys_rattle_dealloc(v158);
+v196:;
+    if ((v127 != 1) ? 1 : (v140 == 0)) goto v201;
+    sys_rattle_dealloc(v136);
+v201:;
+    if ((v110 != 1) ? 1 : (v122 == 0)) goto v206;
+    sys_rattle_dealloc(v118);
+v206:;
+    memset(v39, 0, 16u);
+    memset(v40, 0, 16u);
+    memset(v41, 0, 16u);
+    memset(v42, 0, 16u);
+    memset(v43, 0, 16u);
+    memset(v44, 0, 24u);
+    v239 = 0; v240 = (u8 *)0; v241 = 0; v242 = 0; v243 = (u8 *)0; v244 = 0; v245 = 0; v246 = 0; v247 = 0; v248 = (u8 *)0; v249 = 0; v250 = 0; v251 = 0; v252 = 0; v253 = (u8 *)0; v254 = 0; v255 = 0; v256 = 0; v257 = 0; v258 = (u8 *)0; v259 = 0; v260 = 0; v261 = 0; v262 = 0; goto v131;
+v148:;
+    if ((v127 != 1) ? 1 : (v140 == 0)) goto v176;
+    sys_rattle_dealloc(v136);
+v176:;
+    if ((v110 != 1) ? 1 : (v122 == 0)) goto v181;
+    sys_rattle_dealloc(v118);
+v181:;
+    memset(v39, 0, 16u);
+    memset(v40, 0, 16u);
+    memset(v41, 0, 16u);
+    memset(v42, 0, 16u);
+    memset(v43, 0, 16u);
+    memset(v44, 0, 24u);
+    v239 = 0; v240 = (u8 *)0; v241 = 0; v242 = 0; v243 = (u8 *)0; v244 = 0; v245 = 0; v246 = 0; v247 = 0; v248 = (u8 *)0; v249 = 0; v250 = 0; v251 = 0; v252 = 0; v253 = (u8 *)0; v254 = 0; v255 = 0; v256 = 0; v257 = 0; v258 = (u8 *)0; v259 = 0; v260 = 0; v261 = 0; v262 = 0; goto v131;
+v130:;
+    if ((v110 != 1) ? 1 : (v122 == 0)) goto v152;
+    sys_rattle_dealloc(v118);
+v152:;
+    memset(v39, 0, 16u);
+    memset(v40, 0, 16u);
+    memset(v41, 0, 16u);
+    memset(v42, 0, 16u);
+    memset(v43, 0, 16u);
+    memset(v44, 0, 24u);
+    v239 = 0; v240 = (u8 *)0; v241 = 0; v242 = 0; v243 = (u8 *)0; v244 = 0; v245 = 0; v246 = 0; v247 = 0; v248 = (u8 *)0; v249 = 0; v250 = 0; v251 = 0; v252 = 0; v253 = (u8 *)0; v254 = 0; v255 = 0; v256 = 0; v257 = 0; v258 = (u8 *)0; v259 = 0; v260 = 0; v261 = 0; v262 = 0; goto v131;
+v113:;
+    memset(v39, 0, 16u);
+    memset(v40, 0, 16u);
+    memset(v41, 0, 16u);
+    memset(v42, 0, 16u);
+    memset(v43, 0, 16u);
+    memset(v44, 0, 24u);
+    v239 = 0; v240 = (u8 *)0; v241 = 0; v242 = 0; v243 = (u8 *)0; v244 = 0; v245 = 0; v246 = 0; v247 = 0; v248 = (u8 *)0; v249 = 0; v250 = 0; v251 = 0; v252 = 0; v253 = (u8 *)0; v254 = 0; v255 = 0; v256 = 0; v257 = 0; v258 = (u8 *)0; v259 = 0; v260 = 0; v261 = 0; v262 = 0;
+v131:;
+    memset(v16, 0, 16u);
+    memset(v17, 0, 16u);
+    memset(v18, 0, 16u);
+    memset(v19, 0, 16u);
+    memset(v20, 0, 16u);
+    memset(v21, 0, 24u);
+    if (!v239) { v265 = (u8 *)0; v266 = 0; v267 = 0; v268 = (u8 *)0; v269 = 0; v270 = 0; v271 = 0; v272 = 0; v273 = (u8 *)0; v274 = 0; v275 = 0; v276 = 0; v277 = 0; v278 = (u8 *)0; v279 = 0; v280 = 0; v281 = 0; v282 = 0; v283 = (u8 *)0; v284 = 0; v285 = 0; v286 = 0; v287 = 0; goto v264; }
+    memcpy(v16, v39, 16u);
+    memcpy(v17, v40, 16u);
+    memcpy(v18, v41, 16u);
+    memcpy(v19, v42, 16u);
+    memcpy(v20, v43, 16u);
+    memcpy(v21, v44, 24u);
+    v265 = v240; v266 = v241; v267 = v242; v268 = v243; v269 = v244; v270 = v245; v271 = v246; v272 = v247; v273 = v248; v274 = v249; v275 = v250; v276 = v251; v277 = v252; v278 = v253; v279 = v254; v280 = v255; v281 = v256; v282 = v257; v283 = v258; v284 = v259; v285 = v260; v286 = v261; v287 = v262;
+v264:;
+    memcpy(v33, v16, 16u);
+    memcpy(v34, v17, 16u);
+    memcpy(v35, v18, 16u);
+    memcpy(v36, v19, 16u);
+    memcpy(v37, v20, 16u);
+    memcpy(v38, v21, 24u);
+    if (!v239) goto v289;
+    memcpy(v27, v33, 16u);
+    memcpy(v28, v34, 16u);
+    memcpy(v29, v35, 16u);
+    memcpy(v30, v36, 16u);
+    memcpy(v31, v37, 16u);
+    memcpy(v32, v38, 24u);
+    v291 = v265; v292 = v266; v293 = v267; v294 = v268; v295 = v269; v296 = v270; v297 = v271; v298 = v272; v299 = v273; v300 = v274; v301 = v275; v302 = v276; v303 = v277; v304 = v278; v305 = v279; v306 = v280; v307 = v281; v308 = v282; v309 = v283; v310 = v284; v311 = v285; v312 = v286; v313 = v287; v314 = 1; goto v107;
+v289:;
+    memset(v53, 0, 16u);
+    memset(v54, 0, 16u);
+    memset(v55, 0, 16u);
+    memset(v56, 0, 16u);
+    memset(v57, 0, 16u);
+    memset(v58, 0, 24u);
+    v315 = 0; v316 = 0; v317 = (u8 *)0; v318 = 0; v319 = 0; v320 = (u8 *)0; v321 = 0; v322 = 0; v323 = 0; v324 = 0; v325 = (u8 *)0; v326 = 0; v327 = 0; v328 = 0; v329 = 0; v330 = (u8 *)0; v331 = 0; v332 = 0; v333 = 0; v334 = 0; v335 = (u8 *)0; v336 = 0; v337 = 0; v338 = 0; v339 = 0; goto v290;
+v107:;
+    memcpy(v53, v27, 16u);
+    memcpy(v54, v28, 16u);
+    memcpy(v55, v29, 16u);
+    memcpy(v56, v30, 16u);
+    memcpy(v57, v31, 16u);
+    memcpy(v58, v32, 24u);
+    v315 = 1; v316 = v314; v317 = v291; v318 = v292; v319 = v293; v320 = v294; v321 = v295; v322 = v296; v323 = v297; v324 = v298; v325 = v299; v326 = v300; v327 = v301; v328 = v302; v329 = v303; v330 = v304; v331 = v305; v332 = v306; v333 = v307; v334 = v308; v335 = v309; v336 = v310; v337 = v311; v338 = v312; v339 = v313;
+v290:;
+    memset(v10, 0, 16u);
+    memset(v11, 0, 16u);
+    memset(v12, 0, 16u);
+    memset(v13, 0, 16u);
+    memset(v14, 0, 16u);
+    memset(v15, 0, 24u);
+    if (!v315) { v342 = (u8 *)0; v343 = 0; v344 = 0; v345 = (u8 *)0; v346 = 0; v347 = 0; v348 = 0; v349 = 0; v350 = (u8 *)0; v351 = 0; v352 = 0; v353 = 0; v354 = 0; v355 = (u8 *)0; v356 = 0; v357 = 0; v358 = 0; v359 = 0; v360 = (u8 *)0; v361 = 0; v362 = 0; v363 = 0; v364 = 0; v365 = 0; goto v341; }
+    memcpy(v10, v53, 16u);
+    memcpy(v11, v54, 16u);
+    memcpy(v12, v55, 16u);
+    memcpy(v13, v56, 16u);
+    memcpy(v14, v57, 16u);
+    memcpy(v15, v58, 24u);
+    v342 = v317; v343 = v318; v344 = v319; v345 = v320; v346 = v321; v347 = v322; v348 = v323; v349 = v324; v350 = v325; v351 = v326; v352 = v327; v353 = v328; v354 = v329; v355 = v330; v356 = v331; v357 = v332; v358 = v333; v359 = v334; v360 = v335; v361 = v336; v362 = v337; v363 = v338; v364 = v339; v365 = v316;
+v341:;
+    memcpy(v47, v10, 16u);
+    memcpy(v48, v11, 16u);
+    memcpy(v49, v12, 16u);
+    memcpy(v50, v13, 16u);
+    memcpy(v51, v14, 16u);
+    memcpy(v52, v15, 24u);
+    if (!v315) goto v367;
+    memcpy(v66, v47, 16u);
+    memcpy(v67, v48, 16u);
+    memcpy(v68, v49, 16u);
+    memcpy(v69, v50, 16u);
+    memcpy(v70, v51, 16u);
+    memcpy(v71, v52, 24u);
+    v369 = 1; v370 = 0; v371 = v1; v372 = 0; v373 = 0; v374 = (u64)v2; v375 = v365; v376 = v342; v377 = v343; v378 = v344; v379 = v345; v380 = v346; v381 = v347; v382 = v348; v383 = v349; v384 = v350; v385 = v351; v386 = v352; v387 = v353; v388 = v354; v389 = v355; v390 = v356; v391 = v357; v392 = v358; v393 = v359; v394 = v360; v395 = v361; v396 = v362; v397 = v363; v398 = v364; goto v104;
+v367:;
+    memset(v66, 0, 16u);
+    memset(v67, 0, 16u);
+    memset(v68, 0, 16u);
+    memset(v69, 0, 16u);
+    memset(v70, 0, 16u);
+    memset(v71, 0, 24u);
+    v369 = 0; v370 = 0; v371 = 0; v372 = 0; v373 = 0; v374 = 0; v375 = 0; v376 = (u8 *)0; v377 = 0; v378 = 0; v379 = (u8 *)0; v380 = 0; v381 = 0; v382 = 0; v383 = 0; v384 = (u8 *)0; v385 = 0; v386 = 0; v387 = 0; v388 = 0; v389 = (u8 *)0; v390 = 0; v391 = 0; v392 = 0; v393 = 0; v394 = (u8 *)0; v395 = 0; v396 = 0; v397 = 0; v398 = 0;
+v104:;
+    memset(v4, 0, 16u);
+    memset(v5, 0, 16u);
+    memset(v6, 0, 16u);
+    memset(v7, 0, 16u);
+    memset(v8, 0, 16u);
+    memset(v9, 0, 24u);
+    if (!v369) goto v400;
+    memcpy(v4, v66, 16u);
+    memcpy(v5, v67, 16u);
+    memcpy(v6, v68, 16u);
+    memcpy(v7, v69, 16u);
+    memcpy(v8, v70, 16u);
+    memcpy(v9, v71, 24u);
+    v403 = 0; v404 = v376; v405 = v377; v406 = v378; v407 = v379; v408 = v380; v409 = v381; v410 = v382; v411 = v383; v412 = v384; v413 = v385; v414 = v386; v415 = v387; v416 = v388; v417 = v389; v418 = v390; v419 = v391; v420 = v392; v421 = v393; v422 = v394; v423 = v395; v424 = v396; v425 = v397; v426 = v398; v427 = v374; v428 = 0; v429 = 0; v430 = v375; goto v401;
+v400:;
+    v403 = v373; v404 = (u8 *)0; v405 = 0; v406 = 0; v407 = (u8 *)0; v408 = 0; v409 = 0; v410 = 0; v411 = 0; v412 = (u8 *)0; v413 = 0; v414 = 0; v415 = 0; v416 = 0; v417 = (u8 *)0; v418 = 0; v419 = 0; v420 = 0; v421 = 0; v422 = (u8 *)0; v423 = 0; v424 = 0; v425 = 0; v426 = 0; v427 = v374 & 0xffffffffu; v428 = v370; v429 = v372; v430 = 0;
+v401:;
+    memcpy(v60, v4, 16u);
+    memcpy(v61, v5, 16u);
+    memcpy(v62, v6, 16u);
+    memcpy(v63, v7, 16u);
+    memcpy(v64, v8, 16u);
+    memcpy(v65, v9, 24u);
+    if (!v369) goto v432;
+    at(u8, v59) = v371;
+    at(u64, v59 + 8) = v427;
+    at(u64, v59 + 16) = v430;
+    at(ptr, v59 + 24) = v404;
+    at(u64, v59 + 32) = v405;
+    memcpy(v59 + 40, v60, 16u);
+    at(u64, v59 + 56) = v406;
+    at(ptr, v59 + 64) = v407;
+    at(u64, v59 + 72) = v408;
+    at(u64, v59 + 80) = v409;
+    at(u64, v59 + 88) = v410;
+    memcpy(v59 + 96, v61, 16u);
+    at(u64, v59 + 112) = v411;
+    at(ptr, v59 + 120) = v412;
+    at(u64, v59 + 128) = v413;
+    at(u64, v59 + 136) = v414;
+    at(u64, v59 + 144) = v415;
+    memcpy(v59 + 152, v62, 16u);
+    at(u64, v59 + 168) = v416;
+    at(ptr, v59 + 176) = v417;
+    at(u64, v59 + 184) = v418;
+    at(u64, v59 + 192) = v419;
+    at(u64, v59 + 200) = v420;
+    memcpy(v59 + 208, v63, 16u);
+    at(u64, v59 + 224) = v421;
+    at(ptr, v59 + 232) = v422;
+    at(u64, v59 + 240) = v423;
+    at(u64, v59 + 248) = v424;
+    at(u64, v59 + 256) = v425;
+    memcpy(v59 + 264, v64, 16u);
+    at(u64, v59 + 280) = v426;
+    memcpy(v59 + 288, v65, 24u);
+    font_subset_further_tables_FurtherTables_variations(v72, v59);
+    if (!(at(u8, v72) == 0)) goto v467;
+    u64 v472 = (u64)at(u8, v72 + 8);
+    memcpy(v76, v59 + 24, 288u);
+    memcpy(v77, v72 + 16, 72u);
+    v477 = 0; v478 = 0; v479 = v371; v480 = 0; v481 = 0; v482 = v427; v483 = v427 & 0xffffffff00000000u; v484 = v430; v485 = v472; goto v468;
+v467:;
+    at(u8, v75) = v371;
+    at(u64, v75 + 8) = v427;
+    at(u64, v75 + 16) = v430;
+    memcpy(v75 + 24, v59 + 24, 288u);
+    font_subset_further_tables_FurtherTables_drop(v75);
+    memcpy(v76, v73, 288u);
+    memcpy(v77, v74, 72u);
+    v477 = 1; v478 = 1; v479 = 5; v480 = 0; v481 = 0; v482 = 0; v483 = 0; v484 = 0; v485 = 0; goto v468;
+v432:;
+    memset(v76, 0, 288u);
+    memset(v77, 0, 72u);
+    v477 = 1; v478 = v428; v479 = v371; v480 = v429; v481 = v403; v482 = v427; v483 = 0; v484 = 0; v485 = 0;
+v468:;
+    v486 = v477; v487 = v478; v488 = v479; v489 = v480; v490 = v481; v491 = v482; v492 = v483; v493 = v484; v494 = v485;
+v83:;
+    at(u32_1, v0) = v486;
+    at(u32_1, v0 + 4) = v487;
+    at(u8, v0 + 8) = v488;
+    at(u8, v0 + 9) = v489;
+    at(u32_1, v0 + 10) = v490;
+    at(u16_1, v0 + 14) = 0;
+    at(u64_1, v0 + 16) = v492 | (v491 & 0xffffffffu);
+    at(u64_1, v0 + 24) = v493;
+    memcpy(v0 + 32, v76, 288u);
+    at(u64_1, v0 + 320) = v494;
+    memcpy(v0 + 328, v77, 72u);
+    return;
+}
+
+void font_subset_font_to_cut_FontToCut_numbers_beside_19bd(u8 *v0, u8 *v1, u8 *v2, u8 *v3) {
+    _Alignas(2) u8 v5[1];
+    _Alignas(8) u8 v6[24], v7[32], v8[24], v9[24];
+    u8 *v104, *v197, *v219, *v198, *v240, *v243, *v275, *v280, *v302, *v276, *v281, *v241, *v244, *v418, *v428, *v473, *v474, *v546, *v63, v72, v73, *v74;
+    u64 v124, v135, v138, v146, v148, v157, v194, v199, v220, v195, v245, v265, v266, v278, v282, v303, v279, v246, v343, v356, v359, v370, v372, v406, v416, v420, v419, v439, v446, v459, v463, v470, v476, v478, v490, v504, v511, v524, v527, v479, v535, v547, v548, v52, v61, v65, v64, v75;
+    u8x16 v448, v513;
+    u8 v10 = at(u8, v3);
+    u8 *v12 = at(ptr_1, v3 + 8);
+    u64 v13 = (u64)v12;
+    u64 v15 = at(u64_1, v3 + 16);
+    flag v19 = v10 == 1;
+    if (!(at(u8, v1 + 392) == 1)) goto v21;
+    if (!v19) { v546 = (u8 *)0; v547 = 0; v548 = 0; goto v23; }
+    memset(v9, 0, 24u);
+    u16 v85 = at(u16, at(ptr, v1 + 8) + 64);
+    u8 *v87 = at(ptr, v2 + 120);
+    u64 v88 = (u64)v87;
+    u64 v90 = at(u64, v2 + 128);
+    flag v91 = v90 == 0;
+    if (v91) { v104 = v5; goto v92; }
+    if (!((i64)v90 > (i64)0xffffffffffffffffu)) goto v96;
+    u64_u64 v98 = sys_rattle_alloc(v90, 1);
+    if (!(v98._0 & 1)) goto v96;
+    v104 = (u8 *)v98._1;
+v92:;
+    if (!((((u64)v104) - ((u64)v87)) < v90)) goto v110;
+    if ((v90 < 4) | ((((u64)v104) - v88) < 32u)) { v146 = 0; goto v116; }
+    if (v90 < 16u) { v135 = 0; goto v119; }
+    u64 v121 = v90 & 12u;
+    u64 v122 = v90 & 0xfffffffffffffff0u;
+    v124 = 0;
+v123:;
+    at(u8x16_1, v104 + v124) = at(u8x16_1, v87 + v124);
+    u64 v125 = v124 + 16u;
+    if (!(v125 == v122)) { v124 = v125; goto v123; }
+    if (v90 == v122) goto v132;
+    if (v121 == 0) { v146 = v122; goto v116; }
+    v135 = v122;
+v119:;
+    u64 v136 = v90 & 0xfffffffffffffffcu;
+    v138 = v135;
+v137:;
+    at(u8x4_1, v104 + v138) = at(u8x4_1, v87 + v138);
+    u64 v139 = v138 + 4;
+    if (!(v139 == v136)) { v138 = v139; goto v137; }
+    if (v90 == v136) goto v132;
+    v146 = v136;
+v116:;
+    v148 = v146;
+v147:;
+    at(u8, v104 + v148) = at(u8, v87 + v148);
+    u64 v149 = v148 + 1;
+    if (v149 == v90) goto v132;
+    v148 = v149; goto v147;
+v110:;
+    memmove_any(v104, v87, v90);
+v132:;
+    flag v154 = v15 == 0;
+    if (v154) goto v155;
+    v157 = 0;
+v156:;
+    u16 v162 = at(u16, v12 + (i64)(v157 << 1));
+    if (!(v162 < v85)) goto v159;
+    at(u8, v104 + (i64)((u64)v162)) = 1;
+v159:;
+    u64 v158 = v157 + 1;
+    if (!(v158 == v15)) { v157 = v158; goto v156; }
+v155:;
+    at(ptr, v8) = v104;
+    at(u64, v8 + 8) = v90;
+    at(u64, v8 + 16) = v90;
+    memset(v7, 0, 32u);
+    font_glyph_closure_marked_6b3c(v7, v8, v85);
+    if (!(at(u8, v7) == 0)) goto v173;
+    u8 *v175 = at(ptr, v7 + 8);
+    u64 v177 = at(u64, v7 + 16);
+    u64 v179 = at(u64, v7 + 24);
+    u64_u64 v181 = sys_rattle_alloc(65536u, 1);
+    if (!(v181._0 & 1)) goto v185;
+    u8 *v187 = (u8 *)v181._1;
+    memset(v187, 0, 65536u);
+    at(ptr, v6) = v5;
+    memset(v6 + 8, 0, 16u);
+    if (v177 == 0) goto v190;
+    v194 = 0; v197 = v5; v199 = 0;
+v193:;
+    u64 v201 = v199 << 1;
+    u64 v204 = (u64)at(u16, v175 + (i64)v201);
+    if (at(u8, v187 + (i64)v204) & 1) { v195 = v194; v198 = v197; goto v196; }
+    at(u8, v187 + (i64)v204) = 1;
+    u16 v209 = at(u16, v175 + (i64)v201);
+    if (!(at(u64, v6 + 16) == v194)) { v219 = v197; v220 = v194; goto v213; }
+    if (!std_alloc_vec_Vec_grow_amortized_1aee(v6, 1)) goto v216;
+    v219 = at(ptr, v6); v220 = at(u64, v6 + 8); goto v213;
+v216:;
+    if (at(u64, v6 + 16) == 0) goto v236;
+    sys_rattle_dealloc(at(ptr, v6));
+v236:;
+    sys_rattle_dealloc(v187);
+    if (v179 == 0) goto v173;
+    goto v233;
+v213:;
+    at(u16, v219 + (v220 << 1)) = v209;
+    u64 v223 = v220 + 1;
+    at(u64, v6 + 8) = v223;
+    v195 = v223; v198 = v219;
+v196:;
+    u64 v200 = v199 + 1;
+    if (!(v200 == v177)) { v194 = v195; v197 = v198; v199 = v200; goto v193; }
+    if (v195 == 0) goto v190;
+    u8 *v230 = at(ptr, v6);
+    v240 = v230; v243 = v230; v245 = v195;
+v231:;
+    u64 v247 = v245 - 1;
+    at(u64, v6 + 8) = v247;
+    u16 v250 = at(u16, v243 + (v247 << 1));
+    u64 v251 = (u64)v250;
+    if (!(at(u64, v1 + 408) > v251)) { v246 = v247; v241 = v240; v244 = v243; goto v242; }
+    u8 *v255 = at(ptr, v1 + 400);
+    u8 *v256 = at(ptr, v1 + 424);
+    if (v250 == 0) { v265 = 0; v266 = 0; goto v258; }
+    u64 v260 = v251 << 2;
+    v265 = v260; v266 = (u64)at(u32, v255 + (i64)v260 - 4);
+v258:;
+    u64 v269 = (u64)at(u32, v255 + v265);
+    u64 v270 = v266 << 1;
+    u64 v272 = v269 - v266;
+    if (v266 == v269) { v246 = v247; v241 = v240; v244 = v243; goto v242; }
+    v275 = v240; v278 = v247; v280 = v243; v282 = 0;
+v274:;
+    u64 v284 = v282 << 1;
+    u64 v287 = (u64)at(u16, (v256 + (i64)v270) + (i64)v284);
+    if (at(u8, v187 + (i64)v287) & 1) { v276 = v275; v279 = v278; v281 = v280; goto v277; }
+    at(u8, v187 + (i64)v287) = 1;
+    u16 v292 = at(u16, (v256 + (i64)v270) + (i64)v284);
+    if (!(at(u64, v6 + 16) == v278)) { v302 = v275; v303 = v278; goto v296; }
+    if (!std_alloc_vec_Vec_grow_amortized_1aee(v6, 1)) goto v299;
+    v302 = at(ptr, v6); v303 = at(u64, v6 + 8); goto v296;
+v299:;
+    if (at(u64, v6 + 16) == 0) goto v311;
+    sys_rattle_dealloc(at(ptr, v6));
+v311:;
+    sys_rattle_dealloc(v187);
+    if (v179 == 0) goto v173;
+    goto v233;
+v296:;
+    at(u16, v302 + (v303 << 1)) = v292;
+    u64 v306 = v303 + 1;
+    at(u64, v6 + 8) = v306;
+    v276 = v302; v279 = v306; v281 = v302;
+v277:;
+    u64 v283 = v282 + 1;
+    if (v283 == v272) { v246 = v279; v241 = v276; v244 = v281; } else { v275 = v276; v278 = v279; v280 = v281; v282 = v283; goto v274; }
+v242:;
+    if (!(v246 == 0)) { v240 = v241; v243 = v244; v245 = v246; goto v231; }
+v190:;
+    u64 v315 = (u64)v85;
+    if (at(u64, v6 + 16) == 0) goto v319;
+    sys_rattle_dealloc(at(ptr, v6));
+v319:;
+    if (v179 == 0) goto v323;
+    sys_rattle_dealloc(v175);
+v323:;
+    flag v325 = v85 == 0;
+    if (v325) goto v326;
+    if (v85 < 4) { v370 = 0; goto v329; }
+    if (((u64)(v104 + (i64)v315) > (u64)v187) & ((u64)v104 < (u64)(v187 + (i64)v315))) { v370 = 0; goto v329; }
+    if (v85 < 16u) { v356 = 0; goto v338; }
+    u64 v340 = v315 & 12u;
+    u64 v341 = v315 & 65520u;
+    v343 = 0;
+v342:;
+    at(u8x16_1, v187 + v343) = at(u8x16_1, v187 + v343) & (at(u8x16_1, v104 + v343) ^ (u8x16){1, 1, 1, 1, 1, 1, 1, 1, 1, 1, 1, 1, 1, 1, 1, 1});
+    u64 v344 = v343 + 16u;
+    if (!(v344 == v341)) { v343 = v344; goto v342; }
+    if (v341 == v315) goto v326;
+    if (v340 == 0) { v370 = v341; goto v329; }
+    v356 = v341;
+v338:;
+    u64 v357 = v315 & 65532u;
+    v359 = v356;
+v358:;
+    at(u8x4_1, v187 + v359) = at(u8x4_1, v187 + v359) & (at(u8x4_1, v104 + v359) ^ (u8x4){1, 1, 1, 1});
+    u64 v360 = v359 + 4;
+    if (!(v360 == v357)) { v359 = v360; goto v358; }
+    if (v357 == v315) goto v326;
+    v370 = v357;
+v329:;
+    v372 = v370;
+v371:;
+    at(u8, v187 + v372) = (u8)(at(u8, v187 + v372) & ((u8)(at(u8, v104 + v372) ^ 1)));
+    u64 v373 = v372 + 1;
+    if (!(v373 == v315)) { v372 = v373; goto v371; }
+v326:;
+    if (v154) { v418 = v5; v419 = 0; goto v381; }
+    if (!(v15 < 0x4000000000000000u)) goto v385;
+    u64 v386 = v15 << 1;
+    u64_u64 v388 = sys_rattle_alloc(v386, 2);
+    if (!(v388._0 & 1)) goto v385;
+    u64 v392 = v388._1;
+    u8 *v393 = (u8 *)v392;
+    if (!((v392 - ((u64)v12)) < v386)) { v418 = v393; v419 = v386; goto v381; }
+    if ((v15 < 8) ? 1 : ((v392 - v13) < 32u)) { v416 = 0; goto v402; }
+    u64 v404 = v15 & 0x3ffffffffffffff8u;
+    v406 = 0;
+v405:;
+    u64 v408 = v406 << 1;
+    at(u16x8_2, v393 + v408) = at(u16x8_2, v12 + v408);
+    u64 v407 = v406 + 8;
+    if (!(v407 == v404)) { v406 = v407; goto v405; }
+    if (v15 == v404) { v428 = v393; goto v415; }
+    v416 = v404;
+v402:;
+    v420 = v416;
+v417:;
+    u64 v422 = v420 << 1;
+    at(u16, v393 + v422) = at(u16, v12 + v422);
+    u64 v421 = v420 + 1;
+    if (v421 == v15) { v428 = v393; goto v415; }
+    v420 = v421; goto v417;
+v381:;
+    memmove_any(v418, v12, v419);
+    v428 = v418;
+v415:;
+    at(ptr, v9) = v428;
+    at(u64, v9 + 8) = v15;
+    at(u64, v9 + 16) = v15;
+    if (v325) { v459 = 0; goto v431; }
+    if (at(u8, v187) & 1) { v470 = 0; goto v435; }
+    if (v85 < 64u) { v459 = 0; goto v431; }
+    v439 = 0;
+v438:;
+    if (v439 == 0xffffffffffffffc0u) goto v441;
+    v446 = 0; v448 = (u8x16){0};
+v445:;
+    u8x16 v449 = v448 | ((-(at(u8x16_1, (v187 + (i64)v439) + (i64)v446) & 1)));
+    u64 v447 = v446 + 16u;
+    if (!(v447 == 64u)) { v446 = v447; v448 = v449; goto v445; }
+    if (!(bits_u8x16(v449) == 0)) { v459 = v439; goto v431; }
+v441:;
+    u64 v440 = v439 + 64u;
+    if ((v315 - v440) < 64u) v459 = v440; else { v439 = v440; goto v438; }
+v431:;
+    if (v459 < v315) v463 = v459; else { v535 = v15; goto v462; }
+v461:;
+    if (at(u8, v187 + v463) & 1) v470 = v463; else goto v465;
+v435:;
+    if (v470 < v315) { v473 = v428; v476 = v15; v478 = v470; } else { v535 = v15; goto v462; }
+v472:;
+    u16 v480 = (u16)v478;
+    if (!(at(u64, v9 + 16) == v476)) { v474 = v473; v490 = v476; goto v484; }
+    if (!std_alloc_vec_Vec_grow_amortized_1aee(v9, 1)) goto v487;
+    v474 = at(ptr, v9); v490 = at(u64, v9 + 8); goto v484;
+v487:;
+    if (at(u64, v9 + 16) == 0) goto v540;
+    sys_rattle_dealloc(at(ptr, v9));
+v540:;
+    sys_rattle_dealloc(v187);
+    if (v91) goto v96;
+    goto v427;
+v484:;
+    at(u16, v474 + (v490 << 1)) = v480;
+    u64 v477 = v490 + 1;
+    at(u64, v9 + 8) = v477;
+    u64 v493 = v478 + 1;
+    if (!(v493 < v315)) goto v496;
+    if (at(u8, v187 + v493) & 1) { v479 = v493; goto v475; }
+v496:;
+    if ((v315 - v493) < 64u) { v524 = v493; goto v502; }
+    v504 = v493;
+v503:;
+    if (!(v504 < 0xffffffffffffffc0u)) goto v506;
+    v511 = 0; v513 = (u8x16){0};
+v510:;
+    u8x16 v514 = v513 | ((-(at(u8x16_1, (v187 + (i64)v504) + (i64)v511) & 1)));
+    u64 v512 = v511 + 16u;
+    if (!(v512 == 64u)) { v511 = v512; v513 = v514; goto v510; }
+    if (!(bits_u8x16(v514) == 0)) { v524 = v504; goto v502; }
+v506:;
+    u64 v505 = v504 + 64u;
+    if ((v315 - v505) < 64u) v524 = v505; else { v504 = v505; goto v503; }
+v502:;
+    if (v524 < v315) v527 = v524; else { v535 = v477; goto v462; }
+v526:;
+    if (at(u8, v187 + v527) & 1) v479 = v527; else goto v529;
+v475:;
+    if (v479 < v315) { v473 = v474; v476 = v477; v478 = v479; goto v472; }
+    v535 = v477; goto v462;
+v529:;
+    u64 v528 = v527 + 1;
+    if (v528 == v315) { v535 = v477; goto v462; }
+    v527 = v528; goto v526;
+v465:;
+    u64 v464 = v463 + 1;
+    if (v464 == v315) v535 = v15; else { v463 = v464; goto v461; }
+v462:;
+    sys_rattle_dealloc(v187);
+    if (v91) goto v536;
+    sys_rattle_dealloc(v104);
+v536:;
+    v546 = at(ptr, v9); v547 = v535; v548 = at(u64, v9 + 16); goto v23;
+v385:;
+    sys_rattle_dealloc(v187);
+    if (v91) goto v96;
+    goto v427;
+v185:;
+    if (v179 == 0) goto v173;
+v233:;
+    sys_rattle_dealloc(v175);
+v173:;
+    if (v91) goto v96;
+v427:;
+    sys_rattle_dealloc(v104);
+v96:;
+    at(u8, v0) = 1;
+    memset(v0 + 8, 0, 32u);
+    return;
+v23:;
+    at(u8, v0) = 0;
+    at(u64_1, v0 + 8) = (u64)v10;
+    at(ptr_1, v0 + 16) = v546;
+    at(u64_1, v0 + 24) = v547;
+    at(u64_1, v0 + 32) = v548;
+    return;
+v21:;
+    if (!v19) { v72 = 0; v73 = v10; v74 = (u8 *)0; v75 = 0; goto v26; }
+    if (v15 == 0) { v63 = v5; v64 = 0; goto v28; }
+    if (!(v15 < 0x4000000000000000u)) { v72 = 1; v73 = 0; v74 = (u8 *)0; v75 = 0; goto v26; }
+    u64 v32 = v15 << 1;
+    u64_u64 v34 = sys_rattle_alloc(v32, 2);
+    if (!(v34._0 & 1)) { v72 = 1; v73 = 0; v74 = (u8 *)0; v75 = 0; goto v26; }
+    u64 v38 = v34._1;
+    u8 *v39 = (u8 *)v38;
+    if (!((v38 - ((u64)v12)) < v32)) { v63 = v39; v64 = v32; goto v28; }
+    if ((v15 < 8) ? 1 : ((v38 - v13) < 32u)) { v61 = 0; goto v48; }
+    u64 v50 = v15 & 0x3ffffffffffffff8u;
+    v52 = 0;
+v51:;
+    u64 v54 = v52 << 1;
+    at(u16x8_2, v39 + v54) = at(u16x8_2, v12 + v54);
+    u64 v53 = v52 + 8;
+    if (!(v53 == v50)) { v52 = v53; goto v51; }
+    if (v15 == v50) { v72 = 0; v73 = 1; v74 = v39; v75 = v15; goto v26; }
+    v61 = v50;
+v48:;
+    v65 = v61;
+v62:;
+    u64 v67 = v65 << 1;
+    at(u16, v39 + v67) = at(u16, v12 + v67);
+    u64 v66 = v65 + 1;
+    if (v66 == v15) { v72 = 0; v73 = 1; v74 = v39; v75 = v15; goto v26; }
+    v65 = v66; goto v62;
+v28:;
+    memmove_any(v63, v12, v64);
+    v72 = 0; v73 = 1; v74 = v63; v75 = v15;
+v26:;
+    at(u8, v0) = v72;
+    at(u64_1, v0 + 8) = (u64)v73;
+    at(ptr_1, v0 + 16) = v74;
+    at(u64_1, v0 + 24) = v75;
+    at(u64_1, v0 + 32) = v75;
+    return;
+}
+
+void font_subset_font_to_cut_FontToCut_open_4492(u8 *v0, u8 v1, flag v2, u8 *v3) {
+    _Alignas(4) u8 v5[1], v10[12], v18[16], v23[80], v24[16];
+    _Alignas(8) u8 v6[312], v7[312], v8[32], v9[24], v11[24], v12[304], v13[40], v14[24], v17[80], v19[400], v20[400];
+    _Alignas(2) u8 v15[6], v21[6];
+    u8 v16[295], v22[295], *v104, *v152, *v285, *v323, *v356, *v358, v251, *v153, v367, v371, v372, v373, *v375, *v377, v399, v403, v404, v405, *v407, *v409;
+    u64 v155, v289, v304, v324, v327, v355, v357, v263, v374, v376, v378, v406, v408, v410;
+    u32 v302, v242, v252, v368, v369, v370, v400, v401, v402;
+    u16 v206, v207, v208, v240, v241;
+    memset(v18, 0, 16u);
+    memset(v19, 0, 400u);
+    memset(v21, 0, 6);
+    memset(v22, 0, 295u);
+    memset(v23, 0, 80u);
+    memset(v24, 0, 16u);
+    if (!v2) goto v26;
+    font_subset_font_of_kind_FontOfKind_open_25ca(v20, v1, v3);
+    if (!(at(u8, v20) == 0)) goto v55;
+    u8 v57 = at(u8, v20 + 8);
+    u8 v59 = at(u8, v20 + 9);
+    memcpy(v15, v20 + 10, 6);
+    u64 v62 = at(u64, v20 + 16);
+    u8 v64 = at(u8, v20 + 24);
+    memcpy(v16, v20 + 25, 295u);
+    memcpy(v17, v20 + 320, 80u);
+    memset(v14, 0, 24u);
+    font_subset_font_of_kind_FontOfKind_further_6e0a(v14, v20 + 8, 19u);
+    u8 *v69 = at(ptr, v14 + 8);
+    u64 v71 = at(u64, v14 + 16);
+    flag v72 = at(u8, v14) != 1;
+    memset(v13, 0, 40u);
+    if (v72 ? 1 : (v71 == 0)) { v355 = 0; v356 = v5; v357 = 0; v358 = v5; goto v75; }
+    font_layout_layout_Layout_open(v13, v69, v71);
+    if (!(at(u8, v13) == 0)) goto v80;
+    u8 *v82 = at(ptr, v13 + 8);
+    u64 v84 = at(u64, v13 + 16);
+    u64 v86 = at(u64, v13 + 24);
+    u32 v88 = at(u32, v13 + 32);
+    u32 v90 = at(u32, v13 + 36);
+    u64 v91 = (u64)v88;
+    if (v88 == 0) { v104 = v5; goto v93; }
+    u64_u64 v97 = sys_rattle_alloc(v91 << 2, 2);
+    if (!(v97._0 & 1)) goto v101;
+    v104 = (u8 *)v97._1;
+v93:;
+    at(ptr, v11) = v104;
+    at(u64, v11 + 8) = 0;
+    at(u64, v11 + 16) = v91;
+    u64 v110 = (u64)bswap16(at(u16_1, v82 + 8));
+    at(ptr, v12) = v82;
+    at(u64, v12 + 8) = v84;
+    at(u64, v12 + 16) = v110;
+    at(u64, v12 + 24) = 0;
+    at(u64, v12 + 32) = v86;
+    at(ptr, v12 + 40) = v82;
+    at(u64, v12 + 48) = v84;
+    memset(v12 + 56, 0, 40u);
+    at(ptr, v12 + 96) = v82;
+    at(u64, v12 + 104) = v84;
+    memset(v12 + 112, 0, 72u);
+    at(ptr, v12 + 184) = v82;
+    at(u64, v12 + 192) = v84;
+    memset(v12 + 200, 0, 48u);
+    at(ptr, v12 + 248) = v82;
+    at(u64, v12 + 256) = v84;
+    at(u64, v12 + 264) = 0;
+    at(u16, v12 + 272) = 3;
+    memset(v12 + 274, 0, 30u);
+    v152 = v104; v155 = 0;
+v151:;
+v157:;
+    memset(v10, 0, 12u);
+    memset(v8, 0, 32u);
+    at(u64, v9) = 0;
+    u64 v158 = at(u64, v12 + 296);
+    if (!(v158 == 0)) goto v161;
+    u64 v213 = at(u64, v12 + 240);
+    if (!(v213 == 0)) goto v216;
+    font_layout_walk_Steps_next_part(v10, v12);
+    if (at(u8, v10) == 1) { v251 = at(u8, v10 + 4); v252 = at(u32_2, v10 + 6); goto v245; }
+    u8 *v270 = at(ptr, v11);
+    u64 v271 = at(u64, v11 + 16);
+    u64 v272 = (u64)v90;
+    flag v273 = v90 == 0;
+    if (v273) { v285 = v5; goto v274; }
+    u64 v276 = v272 << 2;
+    u64_u64 v278 = sys_rattle_alloc(v276, 4);
+    if (!(v278._0 & 1)) goto v282;
+    u8 *v284 = (u8 *)v278._1;
+    memset_any(v284, 0, v276);
+    v285 = v284;
+v274:;
+    flag v286 = v155 == 0;
+    if (v286) goto v287;
+    v289 = 0;
+v288:;
+    u64 v295 = ((u64)at(u16, v270 + (i64)(v289 << 2))) << 2;
+    at(u32, v285 + v295) = at(u32, v285 + v295) + 1;
+    u64 v290 = v289 + 1;
+    if (!(v290 == v155)) { v289 = v290; goto v288; }
+v287:;
+    if (v273) { v323 = v5; v324 = 0; goto v300; }
+    v302 = 0; v304 = 0;
+v301:;
+    u64 v306 = v304 << 2;
+    u32 v308 = at(u32, v285 + (i64)v306);
+    at(u32, v285 + (i64)v306) = v302;
+    u32 v303 = v308 + v302;
+    u64 v305 = v304 + 1;
+    if (!(v305 == v272)) { v302 = v303; v304 = v305; goto v301; }
+    u64 v311 = (u64)v303;
+    if (v303 == 0) { v323 = v5; v324 = 0; goto v300; }
+    u64 v314 = v311 << 1;
+    u64_u64 v316 = sys_rattle_alloc(v314, 2);
+    if (!(v316._0 & 1)) goto v320;
+    u8 *v322 = (u8 *)v316._1;
+    memset_any(v322, 0, v314);
+    v323 = v322; v324 = v311;
+v300:;
+    if (v286) goto v325;
+    v327 = 0;
+v326:;
+    u64 v329 = v327 << 2;
+    u64 v335 = ((u64)at(u16_1, v270 + (i64)v329)) << 2;
+    at(u16, v323 + (((u64)at(u32, v285 + v335)) << 1)) = at(u16_1, v270 + (i64)v329 + 2);
+    at(u32, v285 + v335) = at(u32, v285 + v335) + 1;
+    u64 v328 = v327 + 1;
+    if (!(v328 == v155)) { v327 = v328; goto v326; }
+v325:;
+    if (v271 == 0) { v355 = v324; v356 = v323; v357 = v272; v358 = v285; goto v75; }
+    sys_rattle_dealloc(v270);
+    v355 = v324; v356 = v323; v357 = v272; v358 = v285;
+v75:;
+    memcpy(v21, v15, 6);
+    memcpy(v22, v16, 295u);
+    memcpy(v23, v17, 80u);
+    v367 = v64; v368 = (u32)(v62 >> 32u); v369 = (u32)v62; v370 = 0; v371 = 0; v372 = v57; v373 = v59; v374 = 1; v375 = v358; v376 = v357; v377 = v356; v378 = v355; goto v354;
+v320:;
+    sys_rattle_dealloc(v285);
+v282:;
+    if (v271 == 0) goto v344;
+    sys_rattle_dealloc(v270);
+    goto v344;
+v216:;
+    u64 v218 = at(u64, v12 + 232);
+    u16 v220 = (u16)(at(u16, v12 + 224) + ((u16)v218));
+    u8 *v224 = at(ptr, v12 + 184);
+    u64 v225 = at(u64, v12 + 192);
+    u64 v223 = v218 + ((u64)at(u16, v12 + 228));
+    at(u16, v9) = (u16)at(u8, v12 + 200);
+    at(u16, v9 + 2) = at(u16, v12 + 202);
+    at(u64, v9 + 8) = at(u64, v12 + 208);
+    at(u64, v9 + 16) = at(u64, v12 + 216);
+    font_layout_entry_read_entry(v8, v224, v225, v9, v220, v223);
+    u16 v232 = at(u16, v8 + 2);
+    u64 v233 = at(u64, v8 + 8);
+    u64 v234 = at(u64, v8 + 16);
+    u16 v235 = (u16)at(u8, v8);
+    at(ptr, v12 + 248) = v224;
+    at(u64, v12 + 256) = v225;
+    at(u16, v12 + 264) = v220;
+    memset(v12 + 266, 0, 6);
+    at(u16, v12 + 272) = v235;
+    at(u16, v12 + 274) = v232;
+    at(u32, v12 + 276) = 0;
+    at(u64, v12 + 280) = v233;
+    at(u64, v12 + 288) = 0;
+    at(u64, v12 + 296) = v234;
+    at(u64, v12 + 232) = v218 + 1;
+    at(u64, v12 + 240) = v213 - 1;
+    v240 = 0; v241 = 0; v242 = at(u32, v8 + 24) + 1; goto v212;
+v161:;
+    u8 *v162 = at(ptr, v12 + 248);
+    u64 v163 = at(u64, v12 + 256);
+    u16 v164 = at(u16, v12 + 264);
+    u64 v167 = at(u64, v12 + 280);
+    u64 v168 = at(u64, v12 + 288);
+    switch (at(u8, v12 + 272)) {
+    case 0: v206 = 1; v207 = at(u16, v12 + 274); v208 = v164; goto v170;
+    case 1: goto v171;
+    case 2: goto v172;
+    case 3: goto v173;
+    default: __builtin_trap();
+    }
+v171:;
+    v206 = 1; v207 = bswap16(at(u16_1, (v162 + (i64)v167) + (i64)(v168 << 1))); v208 = v164; goto v170;
+v172:;
+    u16 v183 = at(u16_1, (v162 + (i64)v167 + 2) + (i64)(v168 << 1));
+    if (v183 == 0) { v206 = 0; v207 = 0; v208 = 0; goto v170; }
+    u64 v188 = v167 + ((u64)bswap16(v183));
+    if (v163 < 4) { v206 = 2; v207 = 0; v208 = 0; goto v170; }
+    u64 v191 = v163 - 4;
+    if (v191 < v188) { v206 = 2; v207 = 0; v208 = 0; goto v170; }
+    if ((v191 - v188) < (usub_sat64((u64)bswap16(at(u16_1, v162 + (i64)v188 + 2)), 1) << 1)) { v206 = 2; v207 = 0; v208 = 0; goto v170; }
+    v206 = 1; v207 = bswap16(at(u16_1, v162 + (i64)v188)); v208 = v164; goto v170;
+v173:;
+    v206 = 2; v207 = 0; v208 = 0;
+v170:;
+    at(u64, v12 + 288) = v168 + 1;
+    at(u64, v12 + 296) = v158 - 1;
+    v240 = v208; v241 = v206; v242 = (u32)v207;
+v212:;
+    at(u32, v10) = 1;
+    at(u16, v10 + 4) = v241;
+    at(u16, v10 + 6) = v240;
+    at(u32, v10 + 8) = v242;
+    v251 = (u8)v241; v252 = at(u32_2, v10 + 6);
+v245:;
+    if (!(v251 == 1)) goto v157;
+    if (!(at(u64, v11 + 16) == v155)) { v153 = v152; v263 = v155; goto v154; }
+    if (!std_alloc_vec_Vec_grow_amortized_23b5(v11)) goto v260;
+    v153 = at(ptr, v11); v263 = at(u64, v11 + 8); goto v154;
+v260:;
+    if (at(u64, v11 + 16) == 0) goto v101;
+    sys_rattle_dealloc(at(ptr, v11));
+    goto v101;
+v154:;
+    at(u32_1, v153 + (v263 << 2)) = v252;
+    u64 v156 = v263 + 1;
+    at(u64, v11 + 8) = v156;
+    v152 = v153; v155 = v156; goto v151;
+v101:;
+v344:;
+    at(u64, v7) = 0;
+    at(u8, v7) = v57;
+    at(u64, v7 + 8) = v62;
+    at(u64, v7 + 16) = (u64)v64;
+    memcpy(v7 + 24, v16 + 7, 288u);
+    font_subset_further_tables_FurtherTables_drop(v7);
+    memset(v21, 0, 6);
+    memset(v22, 0, 295u);
+    memset(v23, 0, 80u);
+    v367 = 0; v368 = 0; v369 = 0; v370 = 1; v371 = 0; v372 = 0; v373 = 0; v374 = 0; v375 = (u8 *)0; v376 = 0; v377 = (u8 *)0; v378 = 0; goto v354;
+v80:;
+    at(u64, v6) = 0;
+    at(u8, v6) = v57;
+    at(u64, v6 + 8) = v62;
+    at(u64, v6 + 16) = (u64)v64;
+    memcpy(v6 + 24, v20 + 32, 288u);
+    font_subset_further_tables_FurtherTables_drop(v6);
+    memset(v21, 0, 6);
+    memset(v22, 0, 295u);
+    memset(v23, 0, 80u);
+    v367 = 0; v368 = 0; v369 = 0; v370 = 1; v371 = 1; v372 = 4; v373 = 0; v374 = 0; v375 = (u8 *)0; v376 = 0; v377 = (u8 *)0; v378 = 0;
+v354:;
+    v399 = v367; v400 = v368; v401 = v369; v402 = v370; v403 = v371; v404 = v372; v405 = v373; v406 = v374; v407 = v375; v408 = v376; v409 = v377; v410 = v378; goto v379;
+v55:;
+    at(u32, v18) = (u32)at(u8, v20 + 4);
+    at(u8, v18 + 4) = at(u8, v20 + 8);
+    at(u8, v18 + 5) = at(u8, v20 + 9);
+    memcpy(v18 + 6, v20 + 10, 10u);
+    font_subset_font_to_cut_closing_refusal(v24, v3, v18);
+    u8 v391 = at(u8, v24);
+    u8 v393 = at(u8, v24 + 4);
+    u8 v395 = at(u8, v24 + 5);
+    memcpy(v21, v24 + 6, 6);
+    v399 = 0; v400 = 0; v401 = at(u32, v24 + 12); v402 = 1; v403 = v391; v404 = v393; v405 = v395; v406 = 0; v407 = (u8 *)0; v408 = 0; v409 = (u8 *)0; v410 = 0;
+v379:;
+    at(u32_1, v0) = v402;
+    at(u32_1, v0 + 4) = (u32)v403;
+    at(u8, v0 + 8) = v404;
+    at(u8, v0 + 9) = v405;
+    memcpy(v0 + 10, v21, 6);
+    at(u32_1, v0 + 16) = v401;
+    at(u32_1, v0 + 20) = v400;
+    at(u8, v0 + 24) = v399;
+    memcpy(v0 + 25, v22, 295u);
+    memcpy(v0 + 320, v23, 80u);
+    at(u64_1, v0 + 400) = v406;
+    at(ptr_1, v0 + 408) = v407;
+    at(u64_1, v0 + 416) = v408;
+    at(u64_1, v0 + 424) = v408;
+    at(ptr_1, v0 + 432) = v409;
+    at(u64_1, v0 + 440) = v410;
+    at(u64_1, v0 + 448) = v410;
+    return;
+v26:;
+    font_subset_font_of_kind_FontOfKind_open_25ca(v19, v1, v3);
+    u8 v29 = at(u8, v19 + 8);
+    u8 v31 = at(u8, v19 + 9);
+    if (!(at(u8, v19) == 0)) goto v35;
+    at(u32_1, v0) = 0;
+    at(u32_1, v0 + 4) = 0;
+    at(u8, v0 + 8) = v29;
+    at(u8, v0 + 9) = v31;
+    memcpy(v0 + 10, v19 + 10, 10u);
+    memcpy(v0 + 20, v19 + 20, 380u);
+    memset(v0 + 400, 0, 56u);
+    return;
+v35:;
+    u32 v46 = (u32)at(u8, v19 + 4);
+    at(u32_1, v0) = 1;
+    at(u32_1, v0 + 4) = v46;
+    at(u8, v0 + 8) = v29;
+    at(u8, v0 + 9) = v31;
+    memcpy(v0 + 10, v19 + 10, 10u);
+    memset(v0 + 20, 0, 436u);
+    return;
+}
+
+static void font_subset_font_to_cut_closing_refusal(u8 *v0, u8 *v1, u8 *v2) {
+    _Alignas(8) u8 v4[40];
+    _Alignas(2) u8 v5[10], v12[10], v13[10];
+    u64 v30;
+    u8 v66, v68, v69, v70, v71;
+    u8 v6 = at(u8, v2);
+    u8 v8 = at(u8, v2 + 4);
+    u8 v10 = at(u8, v2 + 5);
+    memset(v12, 0, 10u);
+    if (v6 == 0) { v70 = 0; v71 = 0; goto v15; }
+    if (!(v8 == 5)) goto v19;
+    u8 *v20 = at(ptr_1, v1);
+    u16 v22 = at(u16_1, v20 + 4);
+    u64 v24 = (u64)bswap16(v22);
+    if (v22 == 0) { v66 = 5; goto v26; }
+    v30 = 0;
+v27:;
+    u64 v32 = v30 << 4;
+    if (!((((at(u8, v20 + (i64)v32 + 12) == 71u) & (at(u8, v20 + (i64)v32 + 13) == 83u)) & (at(u8, v20 + (i64)v32 + 14) == 85u)) & (at(u8, v20 + (i64)v32 + 15) == 66u))) goto v28;
+    u32 v51 = at(u32_1, v20 + (i64)v32 + 20);
+    u32 v53 = at(u32_1, v20 + (i64)v32 + 24);
+    memset(v4, 0, 40u);
+    if (!(v53 == 0)) goto v56;
+    v66 = 5; goto v26;
+v56:;
+    font_layout_layout_Layout_open(v4, v20 + (i64)((u64)bswap32(v51)), (u64)bswap32(v53));
+    v66 = (u8)(((u8)(at(u8, v4) & 1)) ^ 5); goto v26;
+v28:;
+    u64 v29 = v30 + 1;
+    if (v29 == v24) v66 = 5; else { v30 = v29; goto v27; }
+v26:;
+    memset(v5, 0, 10u);
+    v68 = v66; v69 = 0; goto v67;
+v19:;
+    memcpy(v5, v2 + 6, 10u);
+    v68 = v8; v69 = v10;
+v67:;
+    memcpy(v13, v5, 10u);
+    memcpy(v12, v13, 10u);
+    v70 = v68; v71 = v69;
+v15:;
+    at(u32_1, v0) = (u32)v6;
+    at(u8, v0 + 4) = v70;
+    at(u8, v0 + 5) = v71;
+    memcpy(v0 + 6, v12, 10u);
+    return;
+}
+
+u8 font_subset_forms_form_of_file(u8 v0, u8 *v1, u8 *v2, u64 v3) {
+    _Alignas(8) u8 v5[24], v6[24];
+    u64 v13, v15;
+    memset(v5, 0, 24u);
+    font_write_size_file_size_22d8(v5, v1);
+    if (font_write_whole_file_is_whole_file(v1, 1, v5, v2, v3)) return 2;
+    if (v0 == 0) { v13 = 12u; v15 = 0; } else goto v12;
+v11:;
+    u8_u64 v20 = font_write_size_table_length_a65d(v1, 0, v5, at(u64, (u8 *)table_faed1f12 + (v15 << 3)));
+    u64 v23 = v20._1;
+    u64 v14 = ((v20._0 == 1) ? ((v23 + 16u) + (((u64)0 - v23) & 3)) : 0) + v13;
+    u64 v16 = v15 + 1;
+    if (!(v16 == 29u)) { v13 = v14; v15 = v16; goto v11; }
+    memcpy(v6, v5, 16u);
+    at(u64, v6 + 16) = v14;
+    if (font_write_whole_file_is_whole_file(v1, 0, v6, v2, v3)) return 1;
+v12:;
+    return 0;
+}
+
+static void font_subset_further_tables_FixedTable_of_1948(u8 *v0, u8 *v1, u64 v2) {
+    _Alignas(4) u8 v4[20];
+    u64 v30, v112, v123, v126, v134, v136, v145, v147;
+    u8 *v146;
+    u8 *v5 = at(ptr_1, v1);
+    u64 v6 = (u64)v5;
+    at(u32, v4) = 1163084098u;
+    at(u32, v4 + 4) = 1178944583u;
+    at(u32, v4 + 8) = 1397706823u;
+    at(u32, v4 + 12) = 1112888135u;
+    at(u32, v4 + 16) = 1852990827u;
+    u32 v14 = at(u32, v4 + (i64)(v2 << 2) - 64);
+    u16 v16 = at(u16_1, v5 + 4);
+    u64 v18 = (u64)bswap16(v16);
+    if (v16 == 0) goto v20;
+    u8 v22 = (u8)v14;
+    u8 v24 = (u8)(v14 >> 16u);
+    u8 v26 = (u8)(v14 >> 8);
+    v30 = 0;
+v27:;
+    u64 v32 = v30 << 4;
+    if (!((((at(u8, v5 + (i64)v32 + 12) == v22) ? (at(u8, v5 + (i64)v32 + 13) == v26) : 0) ? (at(u8, v5 + (i64)v32 + 14) == v24) : 0) ? (((((u32)at(u8, v5 + (i64)v32 + 15)) << 24u) ^ v14) < 16777216u) : 0)) goto v28;
+    u32 v58 = bswap32(at(u32_1, v5 + (i64)v32 + 24));
+    u64 v59 = (u64)bswap32(at(u32_1, v5 + (i64)v32 + 20));
+    u64 v60 = (u64)v58;
+    flag v62 = v2 == 17u;
+    flag v63 = v2 == 16u;
+    if (!((v2 < 20u) & ((v63 ? 12u : (v62 ? 18u : 14u)) <= v60))) { v145 = 0; v146 = (u8 *)0; v147 = 0; goto v70; }
+    if (!(at(u16_1, v5 + (i64)v59) == 256u)) { v145 = 0; v146 = (u8 *)0; v147 = 0; goto v70; }
+    if ((v62 ? 3 : 1) > bswap16(at(u16_1, v5 + (i64)v59 + 2))) { v145 = 0; v146 = (u8 *)0; v147 = 0; goto v70; }
+    u64 v81 = v63 ? 8 : (v62 ? 14u : 10u);
+    if (at(u32_1, (v5 + (i64)v59) + (i64)v81) == 0) { v145 = 0; v146 = (u8 *)0; v147 = 0; goto v70; }
+    u64_u64 v87 = sys_rattle_alloc(v60, 1);
+    if (!(v87._0 & 1)) goto v91;
+    u64 v92 = v87._1;
+    u8 *v93 = (u8 *)v92;
+    if (!((v92 - ((u64)(v5 + (i64)v59))) < v60)) goto v98;
+    if (v58 < 4) { v134 = 0; goto v100; }
+    if ((v92 - (v6 + v59)) < 32u) { v134 = 0; goto v100; }
+    if (v58 < 16u) { v123 = 0; goto v107; }
+    u64 v109 = v60 & 12u;
+    u64 v110 = v60 & 0xfffffff0u;
+    v112 = 0;
+v111:;
+    at(u8x16_1, v93 + v112) = at(u8x16_1, (v5 + (i64)v59) + v112);
+    u64 v113 = v112 + 16u;
+    if (!(v113 == v110)) { v112 = v113; goto v111; }
+    if (v110 == v60) goto v120;
+    if (v109 == 0) { v134 = v110; goto v100; }
+    v123 = v110;
+v107:;
+    u64 v124 = v60 & 0xfffffffcu;
+    v126 = v123;
+v125:;
+    at(u8x4_1, v93 + v126) = at(u8x4_1, (v5 + (i64)v59) + v126);
+    u64 v127 = v126 + 4;
+    if (!(v127 == v124)) { v126 = v127; goto v125; }
+    if (v124 == v60) goto v120;
+    v134 = v124;
+v100:;
+    v136 = v134;
+v135:;
+    at(u8, v93 + v136) = at(u8, (v5 + (i64)v59) + v136);
+    u64 v137 = v136 + 1;
+    if (v137 == v60) goto v120;
+    v136 = v137; goto v135;
+v98:;
+    memmove_any(v93, v5 + (i64)v59, v60);
+v120:;
+    at(u32_1, v93 + (i64)v81) = 0;
+    v145 = 1; v146 = v93; v147 = v60; goto v70;
+v91:;
+    at(u8, v0) = 1;
+    memset(v0 + 8, 0, 56u);
+    return;
+v70:;
+    at(u8, v0) = 0;
+    at(u64_1, v0 + 8) = 1;
+    at(ptr_1, v0 + 16) = v5 + (i64)v59;
+    at(u64_1, v0 + 24) = v60;
+    at(u64_1, v0 + 32) = v145;
+    at(ptr_1, v0 + 40) = v146;
+    at(u64_1, v0 + 48) = v147;
+    at(u64_1, v0 + 56) = v147;
+    return;
+v28:;
+    u64 v29 = v30 + 1;
+    if (!(v29 == v18)) { v30 = v29; goto v27; }
+v20:;
+    at(u8, v0) = 0;
+    memset(v0 + 8, 0, 56u);
+    return;
+}
+
+void font_subset_further_tables_FurtherTables_drop(u8 *v0) {
+    u8 v5 = at(u8, v0 + 56);
+    u8 *v7 = at(ptr_1, v0 + 64);
+    u64 v9 = at(u64_1, v0 + 80);
+    u8 v11 = at(u8, v0 + 112);
+    u8 *v13 = at(ptr_1, v0 + 120);
+    u64 v15 = at(u64_1, v0 + 136);
+    u8 v17 = at(u8, v0 + 168);
+    u8 *v19 = at(ptr_1, v0 + 176);
+    u64 v21 = at(u64_1, v0 + 192);
+    u8 v23 = at(u8, v0 + 224);
+    u8 *v25 = at(ptr_1, v0 + 232);
+    u64 v27 = at(u64_1, v0 + 248);
+    u8 *v29 = at(ptr_1, v0 + 288);
+    if (!(at(u8, v0 + 16) == 1)) return;
+    if ((at(u8, v0 + 280) != 1) ? 1 : (at(u64_1, v0 + 304) == 0)) goto v40;
+    sys_rattle_dealloc(v29);
+v40:;
+    if ((v23 != 1) ? 1 : (v27 == 0)) goto v45;
+    sys_rattle_dealloc(v25);
+v45:;
+    if ((v17 != 1) ? 1 : (v21 == 0)) goto v50;
+    sys_rattle_dealloc(v19);
+v50:;
+    if ((v11 != 1) ? 1 : (v15 == 0)) goto v55;
+    sys_rattle_dealloc(v13);
+v55:;
+    if ((v5 != 1) ? 1 : (v9 == 0)) return;
+    sys_rattle_dealloc(v7);
+    return;
+}
+
+static void font_subset_further_tables_FurtherTables_variations(u8 *v0, u8 *v1) {
+    _Alignas(8) u8 v3[80], v4[24], v5[72];
+    u64 v24, v56, v86, v88, v99;
+    u8 *v87;
+    memset(v3, 0, 80u);
+    memset(v5, 0, 72u);
+    if (!(at(u8, v1) == 3)) goto v9;
+    u8 *v13 = at(ptr, v1 + 8);
+    u8 *v14 = at(ptr_1, v13);
+    u16 v16 = at(u16_1, v14 + 4);
+    u64 v18 = (u64)bswap16(v16);
+    if (v16 == 0) goto v20;
+    v24 = 0;
+v21:;
+    u64 v26 = v24 << 4;
+    if (!((((at(u8, v14 + (i64)v26 + 12) == 103u) & (at(u8, v14 + (i64)v26 + 13) == 118u)) & (at(u8, v14 + (i64)v26 + 14) == 97u)) & (at(u8, v14 + (i64)v26 + 15) == 114u))) goto v22;
+    u64 v51 = (u64)bswap32(at(u32_1, v14 + (i64)v26 + 24));
+    u64 v50 = (u64)bswap32(at(u32_1, v14 + (i64)v26 + 20));
+    v56 = 0;
+v53:;
+    u64 v59 = v56 << 4;
+    if (!((((at(u8, v14 + (i64)v59 + 12) == 102u) & (at(u8, v14 + (i64)v59 + 13) == 118u)) & (at(u8, v14 + (i64)v59 + 14) == 97u)) & (at(u8, v14 + (i64)v59 + 15) == 114u))) goto v54;
+    v86 = 1; v87 = v14 + (i64)((u64)bswap32(at(u32_1, v14 + (i64)v59 + 20))); v88 = (u64)bswap32(at(u32_1, v14 + (i64)v59 + 24)); goto v58;
+v54:;
+    u64 v55 = v56 + 1;
+    if (v55 == v18) { v86 = 0; v87 = (u8 *)0; v88 = 0; } else { v56 = v55; goto v53; }
+v58:;
+    at(u64, v4) = v86;
+    at(ptr, v4 + 8) = v87;
+    at(u64, v4 + 16) = v88;
+    font_variations_gvar_Variations_open(v3, v14 + (i64)v50, v51, v4, at(u16, v13 + 64));
+    u8 v93 = at(u8, v3);
+    if (!(v93 == 0)) { v99 = 0; goto v96; }
+    memcpy(v5, v3 + 8, 72u);
+    v99 = 1;
+v96:;
+    at(u8, v0) = v93;
+    at(u64_1, v0 + 8) = v99;
+    memcpy(v0 + 16, v5, 72u);
+    return;
+v22:;
+    u64 v23 = v24 + 1;
+    if (!(v23 == v18)) { v24 = v23; goto v21; }
+v20:;
+    at(u8, v0) = 0;
+    memset(v0 + 8, 0, 80u);
+    return;
+v9:;
+    at(u8, v0) = 0;
+    memset(v0 + 8, 0, 80u);
+    return;
+}
+
+void font_subset_kind_source_CutOfKindSource_copied(u8 *v0, u8 *v1, u64 v2) {
+    _Alignas(8) u8 v4[24], v5[24];
+    u8 v63, *v67, v68, *v72;
+    u64 v73, v74;
+    switch (v2) {
+    case 8: goto v7;
+    case 12u: goto v8;
+    case 15u: goto v9;
+    case 28u: goto v10;
+    default: goto v6;
+    }
+v6:;
+    memset(v5, 0, 24u);
+    if (v2 < 16u) goto v47;
+    goto v42;
+v7:;
+    if (!(at(u8, v1 + 192) == 1)) goto v15;
+    v72 = at(ptr, v1 + 200); v73 = at(u64, v1 + 208); v74 = 1; goto v20;
+v8:;
+    if (!(at(u8, v1 + 224) == 1)) goto v15;
+    v72 = at(ptr, v1 + 232); v73 = at(u64, v1 + 240); v74 = 1; goto v20;
+v9:;
+    if (!(at(u8, v1 + 256) == 1)) goto v15;
+    v72 = at(ptr, v1 + 264); v73 = at(u64, v1 + 272); v74 = 1; goto v20;
+v15:;
+    memset(v5, 0, 24u);
+v47:;
+    font_subset_accepted_copied(v5, at(ptr, v1 + 8), v2);
+    v67 = at(ptr, v5 + 8); v68 = at(u8, v5); goto v54;
+v10:;
+    if (!(at(u8, v1 + 288) == 1)) goto v41;
+    v72 = at(ptr, v1 + 296); v73 = at(u64, v1 + 304); v74 = 1; goto v20;
+v41:;
+v42:;
+    memset(v4, 0, 24u);
+    if (!(at(u8, v1 + 112) == 1)) { v63 = 0; goto v59; }
+    font_subset_font_of_kind_FontOfKind_further_6e0a(v4, at(ptr, v1 + 120), v2);
+    v63 = at(u8, v4);
+v59:;
+    memcpy(v5 + 8, v4 + 8, 16u);
+    v67 = at(ptr, v5 + 8); v68 = v63;
+v54:;
+    v72 = v67; v73 = at(u64, v5 + 16); v74 = (u64)v68;
+v20:;
+    at(u64_1, v0) = v74;
+    at(ptr_1, v0 + 8) = v72;
+    at(u64_1, v0 + 16) = v73;
+    return;
+}
+
+void font_subset_kind_source_CutOfKindSource_next_run(u8 *v0, u8 *v1, u32 v2) {
+    _Alignas(4) u8 v4[16], v5[16], v7[16], v8[16];
+    _Alignas(8) u8 v6[16];
+    u32 v36, v51, v52, v120, v121;
+    u8 v50, *v104, v105, v110, v119;
+    u16 v53, v54, v122, v123;
+    if (!(at(u8, v1 + 128) == 1)) goto v13;
+    u8 *v15 = at(ptr_1, v1 + 136);
+    at(ptr, v6) = v1 + 16;
+    at(ptr, v6 + 8) = v15;
+    memset(v5, 0, 16u);
+    font_map_within_WithinPieces_piece_2760(v5, v6, v2);
+    if (!(at(u8, v5) == 1)) { v50 = 0; v51 = 0; v52 = 0; v53 = 0; v54 = 0; goto v21; }
+    u32 v23 = at(u32, v5 + 4);
+    u16 v27 = at(u16, v5 + 12);
+    u16 v29 = at(u16, v5 + 14);
+    u32 v25 = at(u32, v5 + 8);
+    memset(v4, 0, 16u);
+    u32 v34 = ((u32)v27) - v23;
+    v36 = v25;
+v35:;
+    u32 v39 = v36 + 1;
+    font_map_within_WithinPieces_piece_2760(v4, v6, v39);
+    if (!(at(u8, v4) == 1)) goto v42;
+    if ((at(u32, v4 + 4) == v39) ? ((v34 + v39) == ((u32)at(u16, v4 + 12))) : 0) { v36 = at(u32, v4 + 8); goto v35; }
+v42:;
+    v50 = 1; v51 = v23; v52 = v36; v53 = v27; v54 = v29;
+v21:;
+    v119 = v50; v120 = v51; v121 = v52; v122 = v53; v123 = v54; goto v55;
+v13:;
+    memset(v8, 0, 16u);
+    if (!(at(u8, v1 + 64) == 1)) goto v60;
+    u8 *v62 = at(ptr, v1 + 72);
+    u64 v64 = at(u64, v1 + 80);
+    memset(v7, 0, 16u);
+    u64 v69 = uadd_sat64(at(u64, v1 + 104), at(u64, v1 + 96));
+    if (!((v69 != 0) & (v64 > v69))) goto v74;
+    u64 v75 = v69 * 12u;
+    if (!(v2 > at(u32, v62 + (i64)v75 - 8))) goto v74;
+    if (at(u32, v62 + (i64)v75 + 4) < v2) goto v74;
+    at(u64_1, v1 + 96) = v69;
+    u32 v85 = at(u32_1, v62 + (i64)v75);
+    u32 v86 = at(u32_1, v62 + (i64)v75 + 4);
+    u16 v90 = at(u16_1, v62 + (i64)v75 + 10);
+    u16 v96 = (u16)(((v2 > v85) ? ((u16)(v2 - v85)) : 0) + at(u16_1, v62 + (i64)v75 + 8));
+    at(u32, v7 + 4) = umax32(v2, v85);
+    at(u32, v7 + 8) = v86;
+    at(u16, v7 + 12) = v96;
+    at(u16, v7 + 14) = v90;
+    v104 = v7 + 4; v105 = 1; goto v101;
+v74:;
+    map_union_run_list_run_searched(v7, v62, v64, v1 + 96, v2);
+    v104 = v7 + 4; v105 = at(u8, v7);
+v101:;
+    memcpy(v8 + 4, v104, 12u);
+    v110 = v105; goto v107;
+v60:;
+    font_map_chart_Chart_next_run_33e3(v8, v1 + 16, v2);
+    v110 = at(u8, v8);
+v107:;
+    v119 = v110; v120 = at(u32, v8 + 4); v121 = at(u32, v8 + 8); v122 = at(u16, v8 + 12); v123 = at(u16, v8 + 14);
+v55:;
+    at(u32_1, v0) = (u32)v119;
+    at(u32_1, v0 + 4) = v120;
+    at(u32_1, v0 + 8) = v121;
+    at(u16_1, v0 + 12) = v122;
+    at(u16_1, v0 + 14) = v123;
+    return;
+}
+
+void font_subset_kind_source_CutOfKind_drop_3cda(u8 *v0) {
+    u8 v3 = at(u8, v0 + 24);
+    u8 *v5 = at(ptr_1, v0 + 32);
+    u64 v7 = at(u64_1, v0 + 48);
+    u8 v9 = at(u8, v0 + 64);
+    u8 *v11 = at(ptr_1, v0 + 72);
+    u64 v13 = at(u64_1, v0 + 88);
+    u8 *v15 = at(ptr_1, v0 + 168);
+    u64 v17 = at(u64_1, v0 + 184);
+    u8 v19 = at(u8, v0 + 192);
+    u8 *v21 = at(ptr_1, v0 + 200);
+    u64 v23 = at(u64_1, v0 + 216);
+    u8 v25 = at(u8, v0 + 224);
+    u8 *v27 = at(ptr_1, v0 + 232);
+    u64 v29 = at(u64_1, v0 + 248);
+    u8 v31 = at(u8, v0 + 256);
+    u8 *v33 = at(ptr_1, v0 + 264);
+    u64 v35 = at(u64_1, v0 + 280);
+    if ((at(u8, v0 + 288) != 1) ? 1 : (at(u64_1, v0 + 312) == 0)) goto v43;
+    sys_rattle_dealloc(at(ptr_1, v0 + 296));
+v43:;
+    if ((v31 != 1) ? 1 : (v35 == 0)) goto v50;
+    sys_rattle_dealloc(v33);
+v50:;
+    if ((v25 != 1) ? 1 : (v29 == 0)) goto v55;
+    sys_rattle_dealloc(v27);
+v55:;
+    if ((v19 != 1) ? 1 : (v23 == 0)) goto v60;
+    sys_rattle_dealloc(v21);
+v60:;
+    if (v17 == 0) goto v63;
+    sys_rattle_dealloc(v15);
+v63:;
+    if ((v3 != 1) ? 1 : (v7 == 0)) goto v68;
+    sys_rattle_dealloc(v5);
+v68:;
+    if ((v9 != 1) ? 1 : (v13 == 0)) return;
+    sys_rattle_dealloc(v11);
+    return;
+}
+
+void font_subset_kind_source_CutOfKind_new_991b(u8 *v0, u8 *v1, u8 v2, u8 *v3, u8 *v4) {
+    _Alignas(8) u8 v6[56], v7[152], v8[104], v9[200], v10[16], v12[24], v13[144], v14[24], v15[328], v20[192];
+    u8 v11[111], v19[199];
+    u64 v17 = (u64)at(u8, v4);
+    memset(v15, 0, 328u);
+    memset(v19, 0, 199u);
+    memset(v20, 0, 192u);
+    memcpy(v10, v4 + 8, 16u);
+    memset(v9, 0, 200u);
+    memset(v13, 0, 144u);
+    memset(v14, 0, 24u);
+    u8 *v22 = at(ptr, v1 + 8);
+    memset(v7, 0, 152u);
+    memset(v6, 0, 56u);
+    font_map_chart_Chart_of_3518(v6, v22 + 72);
+    if (!(at(u8, v6) == 0)) goto v27;
+    u64 v30 = at(u64, v6 + 48);
+    u64 v34 = at(u64, v6 + 8);
+    u64 v36 = (u64)at(u8, v6 + 16);
+    memcpy(v8 + 24, v6 + 24, 24u);
+    at(ptr, v8) = v22;
+    at(u64, v8 + 8) = v34;
+    at(u64, v8 + 16) = v36;
+    at(u64, v8 + 48) = v30;
+    memset(v8 + 56, 0, 48u);
+    font_subset_selection_Seeds_in_chart(v7, v8, v2, v3);
+    u8 v42 = at(u8, v7);
+    memcpy(v11 + 7, v7 + 8, 104u);
+    u8 v46 = at(u8, v7 + 112);
+    u64 v48 = at(u64, v7 + 120);
+    memcpy(v12, v7 + 128, 24u);
+    if (!(v42 == 0)) goto v28;
+    memcpy(v13, v11 + 7, 104u);
+    at(u64, v13 + 104) = (u64)v46;
+    at(u64, v13 + 112) = v48;
+    memcpy(v13 + 120, v12, 24u);
+    at(u64, v14) = v17;
+    memcpy(v14 + 8, v10, 16u);
+    font_subset_selection_Selection_of_seeds_4cdf(v9, v1, v13, v14);
+    u8 v58 = at(u8, v9);
+    memcpy(v19 + 7, v9 + 8, 192u);
+    if (!(v58 == 0)) goto v52;
+    memcpy(v20, v19 + 7, 192u);
+    font_subset_kind_source_CutOfKind_of_1490(v15, v20);
+    at(u8, v0) = at(u8, v15);
+    memcpy(v0 + 8, v15 + 8, 320u);
+    return;
+v27:;
+v28:;
+v52:;
+    at(u8, v0) = 1;
+    memset(v0 + 8, 0, 320u);
+    return;
+}
+
+void font_subset_kind_source_CutOfKind_new_d913(u8 *v0, u8 *v1, u8 v2, u8 *v3, u8 *v4) {
+    _Alignas(8) u8 v6[200], v7[16], v8[152], v9[144], v10[24], v11[328], v15[192];
+    u8 v14[192];
+    u8 v12 = at(u8, v4);
+    memset(v11, 0, 328u);
+    memset(v15, 0, 192u);
+    memcpy(v7, v4 + 8, 16u);
+    memset(v6, 0, 200u);
+    memset(v8, 0, 152u);
+    font_subset_selection_Seeds_of(v8, at(ptr, v1 + 8), v2, v3);
+    if (!(at(u8, v8) == 0)) goto v21;
+    u64 v25 = at(u64, v8 + 120);
+    u64 v30 = (u64)at(u8, v8 + 112);
+    memcpy(v9, v8 + 8, 104u);
+    at(u64, v9 + 104) = v30;
+    at(u64, v9 + 112) = v25;
+    memcpy(v9 + 120, v8 + 128, 24u);
+    at(u64, v10) = (u64)v12;
+    memcpy(v10 + 8, v7, 16u);
+    font_subset_selection_Selection_of_seeds_4cdf(v6, v1, v9, v10);
+    u8 v35 = at(u8, v6);
+    memcpy(v14, v6 + 8, 192u);
+    if (!(v35 == 0)) goto v22;
+    memcpy(v15, v14, 192u);
+    font_subset_kind_source_CutOfKind_of_1490(v11, v15);
+    at(u8, v0) = at(u8, v11);
+    memcpy(v0 + 8, v11 + 8, 320u);
+    return;
+v21:;
+v22:;
+    at(u8, v0) = 1;
+    memset(v0 + 8, 0, 320u);
+    return;
+}
+
+void font_subset_kind_source_CutOfKind_of_1490(u8 *v0, u8 *v1) {
+    _Alignas(8) u8 v3[1], v4[24], v7[192], v8[40], v9[40], v10[24], v14[24];
+    u8 v5[31], v6[31], v13[191], *v149, *v231, *v436, *v437, *v444, *v447, *v448, *v477, *v492, *v506, *v567, *v734, v816, v817, *v819, *v823, *v826, v830, v831, *v833, *v837, *v840;
+    u64 v46, v101, v94, v111, v148, v150, v225, v245, v252, v265, v268, v275, v284, v315, v316, v334, v341, v354, v357, v285, v384, v396, v397, v399, v401, v408, v449, v450, v461, v478, v479, v493, v494, v507, v508, v520, v521, v527, v530, v534, v531, v545, v556, v557, v571, v572, v585, v586, v610, v621, v624, v632, v634, v652, v655, v657, v656, v674, v697, v707, v710, v718, v720, v773, v818, v820, v821, v822, v824, v825, v827, v828, v829, v832, v834, v835, v836, v838, v839, v841, v842, v843;
+    flag v147;
+    u8x16 v254, v343;
+    u64x2 v386;
+    u32 v434, v435, v445, v446, v532, v558;
+    u8 v11 = at(u8, v1);
+    memset(v13, 0, 191u);
+    memset(v14, 0, 24u);
+    if (!(v11 == 0)) goto v17;
+    memcpy(v13, v1 + 1, 191u);
+    v830 = 0; v831 = 0; v832 = 0; v833 = (u8 *)0; v834 = 0; v835 = 0; v836 = 0; v837 = (u8 *)0; v838 = 0; v839 = 0; v840 = (u8 *)0; v841 = 0; v842 = 0; v843 = 0; goto v18;
+v17:;
+    memset(v8, 0, 40u);
+    memset(v9, 0, 40u);
+    memset(v10, 0, 24u);
+    at(u8, v7) = v11;
+    memcpy(v7 + 1, v1 + 1, 191u);
+    font_subset_kind_source_metrics_table_21da(v8, v7, 7, 8);
+    u8 v22 = at(u8, v8 + 8);
+    if (!(at(u8, v8) == 0)) goto v25;
+    u8 *v27 = at(ptr, v8 + 16);
+    u64 v29 = at(u64, v8 + 24);
+    u64 v31 = at(u64, v8 + 32);
+    u64 v32 = (u64)v22;
+    u8 *v35 = at(ptr_1, at(ptr, v7 + 8));
+    u64 v36 = (u64)v35;
+    u16 v38 = at(u16_1, v35 + 4);
+    u64 v40 = (u64)bswap16(v38);
+    if (v38 == 0) { v147 = 1; v148 = 0; v149 = (u8 *)0; v150 = 0; goto v42; }
+    v46 = 0;
+v43:;
+    u64 v48 = v46 << 4;
+    if (!((((at(u8, v35 + (i64)v48 + 12) == 112u) & (at(u8, v35 + (i64)v48 + 13) == 111u)) & (at(u8, v35 + (i64)v48 + 14) == 115u)) & (at(u8, v35 + (i64)v48 + 15) == 116u))) goto v44;
+    u64 v72 = (u64)bswap32(at(u32_1, v35 + (i64)v48 + 20));
+    if (bswap32(at(u32_1, v35 + (i64)v48 + 24)) < 32u) { v147 = 1; v148 = 0; v149 = (u8 *)0; v150 = 0; goto v42; }
+    u64_u64 v77 = sys_rattle_alloc(32u, 1);
+    if (!(v77._0 & 1)) goto v81;
+    u64 v82 = v77._1;
+    u8 *v83 = (u8 *)v82;
+    if (!((v82 - ((u64)(v35 + (i64)v72))) < 32u)) goto v88;
+    if ((v82 - (v36 + v72)) < 32u) v101 = 0; else { v94 = 0; goto v93; }
+v92:;
+    at(u8, v83 + v101) = at(u8, (v35 + (i64)v72) + v101);
+    u64 v102 = v101 + 1;
+    if (v102 == 32u) goto v100;
+    v101 = v102; goto v92;
+v93:;
+    at(u8x16_1, v83 + v94) = at(u8x16_1, (v35 + (i64)v72) + v94);
+    u64 v95 = v94 + 16u;
+    if (v95 == 32u) goto v100;
+    v94 = v95; goto v93;
+v88:;
+    memmove(v83, v35 + (i64)v72, 32u);
+v100:;
+    if ((v82 - ((u64)(u8 *)table_62a9c92b)) < 4) v111 = 0; else goto v110;
+v109:;
+    at(u8, v83 + v111) = at(u8, (u8 *)table_62a9c92b + v111);
+    u64 v112 = v111 + 1;
+    if (v112 == 4) { v147 = 0; v148 = 1; v149 = v83; v150 = 32u; goto v42; }
+    v111 = v112; goto v109;
+v110:;
+    at(u32_1, v83) = 768u;
+    v147 = 0; v148 = 1; v149 = v83; v150 = 32u; goto v42;
+v81:;
+    if ((v22 != 1) ? 1 : (v31 == 0)) goto v160;
+    sys_rattle_dealloc(v27);
+v160:;
+    u8 v163 = at(u8, v7 + 24);
+    u8 *v165 = at(ptr, v7 + 32);
+    u64 v167 = at(u64, v7 + 48);
+    u8 v169 = at(u8, v7 + 64);
+    u8 *v171 = at(ptr, v7 + 72);
+    u64 v173 = at(u64, v7 + 88);
+    if (at(u64, v7 + 184) == 0) goto v177;
+    sys_rattle_dealloc(at(ptr, v7 + 168));
+v177:;
+    if ((v163 != 1) ? 1 : (v167 == 0)) goto v184;
+    sys_rattle_dealloc(v165);
+v184:;
+    if ((v169 != 1) ? 1 : (v173 == 0)) goto v189;
+    sys_rattle_dealloc(v171);
+v189:;
+    memset(v13, 0, 191u);
+    memset(v14, 0, 24u);
+    v816 = 0; v817 = 1; v818 = 0; v819 = (u8 *)0; v820 = 0; v821 = 0; v822 = 0; v823 = (u8 *)0; v824 = 0; v825 = 0; v826 = (u8 *)0; v827 = 0; v828 = 0; v829 = 0; goto v146;
+v44:;
+    u64 v45 = v46 + 1;
+    if (v45 == v40) { v147 = 1; v148 = 0; v149 = (u8 *)0; v150 = 0; } else { v46 = v45; goto v43; }
+v42:;
+    font_subset_kind_source_metrics_table_21da(v9, v7, 14u, 15u);
+    u8 v153 = at(u8, v9 + 8);
+    if (!(at(u8, v9) == 0)) goto v156;
+    u8 *v192 = at(ptr, v9 + 16);
+    u64 v194 = at(u64, v9 + 24);
+    u64 v196 = at(u64, v9 + 32);
+    memset(v6, 0, 31u);
+    if (!(at(u8, v7 + 112) == 1)) goto v201;
+    u8 *v203 = at(ptr, v7 + 120);
+    if (!(at(u8, v203 + 312) == 1)) goto v201;
+    u16 v210 = at(u16, v203 + 386);
+    u64 v211 = (u64)v210;
+    flag v212 = v210 == 0;
+    if (v212) { v231 = v3; goto v213; }
+    u64_u64 v217 = sys_rattle_alloc(v211 << 4, 8);
+    if (!(v217._0 & 1)) goto v221;
+    u8 *v223 = (u8 *)v217._1;
+    v225 = 0;
+v224:;
+    u64 v227 = v225 << 4;
+    at(ptr_1, v223 + v227) = (u8 *)table_d0e67785;
+    at(u64_1, v223 + v227 + 8) = 0;
+    u64 v226 = v225 + 1;
+    if (v226 == v211) v231 = v223; else { v225 = v226; goto v224; }
+v213:;
+    u8 *v233 = at(ptr, v7 + 168);
+    u64 v235 = at(u64, v7 + 176);
+    if (v235 == 0) { v265 = 0; goto v237; }
+    if (at(u8, v233) & 1) { v275 = 0; goto v241; }
+    if (v235 < 64u) { v265 = 0; goto v237; }
+    v245 = 0;
+v244:;
+    if (v245 == 0xffffffffffffffc0u) goto v247;
+    v252 = 0; v254 = (u8x16){0};
+v251:;
+    u8x16 v255 = v254 | ((-(at(u8x16_1, (v233 + (i64)v245) + (i64)v252) & 1)));
+    u64 v253 = v252 + 16u;
+    if (!(v253 == 64u)) { v252 = v253; v254 = v255; goto v251; }
+    if (!(bits_u8x16(v255) == 0)) { v265 = v245; goto v237; }
+v247:;
+    u64 v246 = v245 + 64u;
+    if ((v235 - v246) < 64u) v265 = v246; else { v245 = v246; goto v244; }
+v237:;
+    if (v265 < v235) v268 = v265; else { v275 = v235; goto v241; }
+v267:;
+    if (at(u8, v233 + v268) & 1) { v275 = v268; goto v241; }
+    u64 v269 = v268 + 1;
+    if (v269 == v235) v275 = v235; else { v268 = v269; goto v267; }
+v241:;
+    if (!(v210 > ((u16)v275))) goto v279;
+    v284 = v275;
+v283:;
+    u8 *v288 = at(ptr_1, v203 + 336);
+    u8 *v289 = at(ptr_1, v203 + 352);
+    u64 v290 = v284 & 65535u;
+    if (!(at(u8, v203 + 384) == 0)) goto v293;
+    u64 v294 = v290 << 1;
+    v315 = ((u64)bswap16(at(u16_1, v288 + (i64)v294))) << 1; v316 = ((u64)bswap16(at(u16_1, v288 + (i64)v294 + 2))) << 1; goto v305;
+v293:;
+    u64 v306 = v290 << 2;
+    v315 = (u64)bswap32(at(u32_1, v288 + (i64)v306)); v316 = (u64)bswap32(at(u32_1, v288 + (i64)v306 + 4));
+v305:;
+    u64 v319 = v290 << 4;
+    at(ptr_1, v231 + (i64)v319) = v289 + (i64)v315;
+    at(u64_1, v231 + (i64)v319 + 8) = v316 - v315;
+    u64 v323 = (v284 + 1) & 65535u;
+    if (!(v235 > v323)) goto v326;
+    if (at(u8, v233 + v323) & 1) { v285 = v323; goto v286; }
+v326:;
+    if ((v235 - v323) < 64u) { v354 = v323; goto v332; }
+    v334 = v323;
+v333:;
+    if (!(v334 < 0xffffffffffffffc0u)) goto v336;
+    v341 = 0; v343 = (u8x16){0};
+v340:;
+    u8x16 v344 = v343 | ((-(at(u8x16_1, (v233 + (i64)v334) + (i64)v341) & 1)));
+    u64 v342 = v341 + 16u;
+    if (!(v342 == 64u)) { v341 = v342; v343 = v344; goto v340; }
+    if (!(bits_u8x16(v344) == 0)) { v354 = v334; goto v332; }
+v336:;
+    u64 v335 = v334 + 64u;
+    if ((v235 - v335) < 64u) v354 = v335; else { v334 = v335; goto v333; }
+v332:;
+    if (v354 < v235) v357 = v354; else { v285 = v235; goto v286; }
+v356:;
+    if (at(u8, v233 + v357) & 1) { v285 = v357; goto v286; }
+    u64 v358 = v357 + 1;
+    if (v358 == v235) v285 = v235; else { v357 = v358; goto v356; }
+v286:;
+    if (v210 > ((u16)v285)) { v284 = v285; goto v283; }
+v279:;
+    u8 *v367 = at(ptr_1, v203 + 320);
+    u8 *v369 = at(ptr_1, v203 + 368);
+    u64 v370 = (u64)v369;
+    u64 v372 = at(u64_1, v203 + 376);
+    memset(v5, 0, 31u);
+    memset(v4, 0, 24u);
+    u64 v374 = (v211 << 2) + 24u;
+    u64 v375 = v372 + v374;
+    if (v212) { v408 = 0; goto v376; }
+    if (v210 < 3) { v396 = 0; v397 = 0; goto v379; }
+    u64 v382 = (v211 | 0xfffffffffffffffeu) + v211;
+    v384 = 0; v386 = (u64x2){0};
+v383:;
+    u64x4 v391 = at(u64x4_8, v231 + (i64)(v384 << 4) + 8);
+    u64x2 v387 = (u64x2){v391[0], v391[2]} + v386;
+    u64 v385 = v384 + 2;
+    if (!(v385 == v382)) { v384 = v385; v386 = v387; goto v383; }
+    v396 = sum_u64x2(v387); v397 = v382;
+v379:;
+    v399 = v396; v401 = v397;
+v398:;
+    u64 v400 = at(u64, v231 + (i64)(v401 << 4) + 8) + v399;
+    u64 v402 = v401 + 1;
+    if (v402 == v211) v408 = v400; else { v399 = v400; v401 = v402; goto v398; }
+v376:;
+    u64 v409 = v408 + v375;
+    if (!(v409 == 0)) goto v412;
+    at(ptr, v4) = v3;
+    memset(v4 + 8, 0, 16u);
+    v434 = (u32)v375; v435 = (u32)v374; v436 = v4 + 16; v437 = v4 + 8; goto v417;
+v412:;
+    if (!((i64)v409 > (i64)0xffffffffffffffffu)) goto v420;
+    u64_u64 v422 = sys_rattle_alloc(v409, 1);
+    if (!(v422._0 & 1)) goto v420;
+    u8 *v427 = (u8 *)v422._1;
+    at(ptr, v4) = v427;
+    at(u64, v4 + 8) = 0;
+    at(u64, v4 + 16) = v409;
+    u32 v430 = (u32)v374;
+    u32 v431 = (u32)v375;
+    if (v409 < 8) { v434 = v431; v435 = v430; v436 = v4 + 16; v437 = v4 + 8; } else { v444 = v427; v445 = v431; v446 = v430; v447 = v4 + 16; v448 = v4 + 8; v449 = v409; v450 = 0; goto v433; }
+v417:;
+    if (!std_alloc_vec_Vec_grow_amortized_1cf2(v4, 8)) { v567 = v436; goto v440; }
+    v444 = at(ptr, v4); v445 = v434; v446 = v435; v447 = v436; v448 = v437; v449 = at(u64, v436); v450 = at(u64, v437);
+v433:;
+    u64 v451 = v450 + 8;
+    memset(v448, 0, 16u);
+    if ((((u64)(v444 + (i64)v450)) - ((u64)v367)) < 8) v461 = 0; else goto v458;
+v457:;
+    at(u8, (v444 + (i64)v450) + v461) = at(u8, v367 + v461);
+    u64 v462 = v461 + 1;
+    if (v462 == 8) goto v460;
+    v461 = v462; goto v457;
+v458:;
+    at(u64_1, v444 + (i64)v450) = at(u64_1, v367);
+v460:;
+    at(ptr, v4) = v444;
+    at(u64, v448) = v451;
+    at(u64, v447) = v449;
+    u32 v467 = bswap32(v446);
+    if (!((v449 - v451) < 4)) { v477 = v444; v478 = v449; v479 = v451; goto v471; }
+    if (!std_alloc_vec_Vec_grow_amortized_1cf2(v4, 4)) { v567 = v447; goto v440; }
+    v477 = at(ptr, v4); v478 = at(u64, v447); v479 = at(u64, v448);
+v471:;
+    u64 v480 = v479 + 4;
+    at(u32_1, v477 + (i64)v479) = v467;
+    at(ptr, v4) = v477;
+    at(u64, v448) = v480;
+    at(u64, v447) = v478;
+    u16 v482 = bswap16(v210);
+    if (!((v478 - v480) < 2)) { v492 = v477; v493 = v478; v494 = v480; goto v486; }
+    if (!std_alloc_vec_Vec_grow_amortized_1cf2(v4, 2)) { v567 = v447; goto v440; }
+    v492 = at(ptr, v4); v493 = at(u64, v447); v494 = at(u64, v448);
+v486:;
+    u64 v495 = v494 + 2;
+    at(u16_1, v492 + (i64)v494) = v482;
+    at(ptr, v4) = v492;
+    at(u64, v448) = v495;
+    at(u64, v447) = v493;
+    if (!((v493 - v495) < 2)) { v506 = v492; v507 = v493; v508 = v495; goto v500; }
+    if (!std_alloc_vec_Vec_grow_amortized_1cf2(v4, 2)) { v567 = v447; goto v440; }
+    v506 = at(ptr, v4); v507 = at(u64, v447); v508 = at(u64, v448);
+v500:;
+    u64 v509 = v508 + 2;
+    at(u16_1, v506 + (i64)v508) = 256u;
+    at(ptr, v4) = v506;
+    at(u64, v448) = v509;
+    at(u64, v447) = v507;
+    u32 v511 = bswap32(v445);
+    if (!((v507 - v509) < 4)) { v520 = v507; v521 = v509; goto v515; }
+    if (!std_alloc_vec_Vec_grow_amortized_1cf2(v4, 4)) { v567 = v447; goto v440; }
+    v520 = at(u64, v447); v521 = at(u64, v448); goto v515;
+v440:;
+    if (at(u64, v567) == 0) goto v420;
+    goto v570;
+v515:;
+    u64 v522 = v521 + 4;
+    at(u32_1, at(ptr, v4) + (i64)v521) = v511;
+    at(u64, v448) = v522;
+    at(u64, v447) = v520;
+    if (v212) { v556 = v522; v557 = v520; v558 = 0; goto v525; }
+    v527 = v522; v530 = v520; v532 = 0; v534 = 0;
+v526:;
+    u32 v536 = bswap32(v532);
+    if (!((v530 - v527) < 4)) { v531 = v530; v545 = v527; goto v529; }
+    if (!std_alloc_vec_Vec_grow_amortized_1cf2(v4, 4)) goto v542;
+    v531 = at(u64, v447); v545 = at(u64, v448);
+v529:;
+    u64 v528 = v545 + 4;
+    at(u32_1, at(ptr, v4) + (i64)v545) = v536;
+    at(u64, v448) = v528;
+    at(u64, v447) = v531;
+    u32 v533 = v532 + ((u32)at(u64, v231 + (i64)(v534 << 4) + 8));
+    u64 v535 = v534 + 1;
+    if (!(v535 == v211)) { v527 = v528; v530 = v531; v532 = v533; v534 = v535; goto v526; }
+    v556 = v528; v557 = v531; v558 = bswap32(v533);
+v525:;
+    if (!((v557 - v556) < 4)) { v571 = v557; v572 = v556; goto v562; }
+    if (!std_alloc_vec_Vec_grow_amortized_1cf2(v4, 4)) goto v542;
+    v571 = at(u64, v447); v572 = at(u64, v448); goto v562;
+v542:;
+    if (at(u64, v447) == 0) goto v420;
+    goto v570;
+v562:;
+    u64 v573 = v572 + 4;
+    at(u32_1, at(ptr, v4) + (i64)v572) = v558;
+    at(u64, v448) = v573;
+    at(u64, v447) = v571;
+    if (!(v372 > (v571 - v573))) { v585 = v571; v586 = v573; goto v579; }
+    if (!std_alloc_vec_Vec_grow_amortized_1cf2(v4, v372)) goto v582;
+    v585 = at(u64, v447); v586 = at(u64, v448); goto v579;
+v582:;
+    if (at(u64, v447) == 0) goto v420;
+    goto v570;
+v579:;
+    u64 v587 = v586 + v372;
+    u8 *v588 = at(ptr, v4);
+    u64 v589 = (u64)v588;
+    memset(v448, 0, 16u);
+    if (!((((u64)(v588 + (i64)v586)) - ((u64)v369)) < v372)) goto v596;
+    if (v372 < 4) { v632 = 0; goto v598; }
+    if (((v586 + v589) - v370) < 32u) { v632 = 0; goto v598; }
+    if (v372 < 16u) { v621 = 0; goto v605; }
+    u64 v607 = v372 & 12u;
+    u64 v608 = v372 & 0xfffffffffffffff0u;
+    v610 = 0;
+v609:;
+    at(u8x16_1, (v588 + (i64)v586) + v610) = at(u8x16_1, v369 + v610);
+    u64 v611 = v610 + 16u;
+    if (!(v611 == v608)) { v610 = v611; goto v609; }
+    if (v372 == v608) goto v618;
+    if (v607 == 0) { v632 = v608; goto v598; }
+    v621 = v608;
+v605:;
+    u64 v622 = v372 & 0xfffffffffffffffcu;
+    v624 = v621;
+v623:;
+    at(u8x4_1, (v588 + (i64)v586) + v624) = at(u8x4_1, v369 + v624);
+    u64 v625 = v624 + 4;
+    if (!(v625 == v622)) { v624 = v625; goto v623; }
+    if (v372 == v622) goto v618;
+    v632 = v622;
+v598:;
+    v634 = v632;
+v633:;
+    at(u8, (v588 + (i64)v586) + v634) = at(u8, v369 + v634);
+    u64 v635 = v634 + 1;
+    if (v635 == v372) goto v618;
+    v634 = v635; goto v633;
+v596:;
+    memmove_any(v588 + (i64)v586, v369, v372);
+v618:;
+    at(u64, v448) = v587;
+    at(u64, v447) = v585;
+    if (!v212) goto v643;
+    memcpy(v5 + 7, v4, 24u);
+    memcpy(v6 + 7, v5 + 7, 24u);
+    v734 = v6 + 7; goto v646;
+v643:;
+    v652 = at(u64, v4 + 8); v655 = at(u64, v4 + 16); v657 = 0;
+v651:;
+    u64 v659 = v657 << 4;
+    u64 v662 = at(u64, v231 + (i64)v659 + 8);
+    u8 *v663 = at(ptr, v231 + (i64)v659);
+    u64 v664 = (u64)v663;
+    if (!(v662 > (v655 - v652))) { v656 = v655; v674 = v652; goto v668; }
+    if (!std_alloc_vec_Vec_grow_amortized_1cf2(v4, v662)) goto v671;
+    v656 = at(u64, v4 + 16); v674 = at(u64, v4 + 8); goto v668;
+v671:;
+    if (at(u64, v447) == 0) goto v420;
+v570:;
+    sys_rattle_dealloc(at(ptr, v4));
+    goto v420;
+v668:;
+    u64 v653 = v674 + v662;
+    u8 *v675 = at(ptr, v4);
+    u64 v676 = (u64)v675;
+    if (!((((u64)(v675 + (i64)v674)) - ((u64)v663)) < v662)) goto v683;
+    if (v662 < 4) { v718 = 0; goto v685; }
+    if (((v674 + v676) - v664) < 32u) { v718 = 0; goto v685; }
+    if (v662 < 16u) { v707 = 0; goto v692; }
+    u64 v694 = v662 & 12u;
+    u64 v695 = v662 & 0xfffffffffffffff0u;
+    v697 = 0;
+v696:;
+    at(u8x16_1, (v675 + (i64)v674) + v697) = at(u8x16_1, v663 + v697);
+    u64 v698 = v697 + 16u;
+    if (!(v698 == v695)) { v697 = v698; goto v696; }
+    if (v662 == v695) goto v654;
+    if (v694 == 0) { v718 = v695; goto v685; }
+    v707 = v695;
+v692:;
+    u64 v708 = v662 & 0xfffffffffffffffcu;
+    v710 = v707;
+v709:;
+    at(u8x4_1, (v675 + (i64)v674) + v710) = at(u8x4_1, v663 + v710);
+    u64 v711 = v710 + 4;
+    if (!(v711 == v708)) { v710 = v711; goto v709; }
+    if (v662 == v708) goto v654;
+    v718 = v708;
+v685:;
+    v720 = v718;
+v719:;
+    at(u8, (v675 + (i64)v674) + v720) = at(u8, v663 + v720);
+    u64 v721 = v720 + 1;
+    if (v721 == v662) goto v654;
+    v720 = v721; goto v719;
+v683:;
+    memmove_any(v675 + (i64)v674, v663, v662);
+v654:;
+    at(u64, v4 + 8) = v653;
+    at(u64, v4 + 16) = v656;
+    u64 v658 = v657 + 1;
+    if (!(v658 == v211)) { v652 = v653; v655 = v656; v657 = v658; goto v651; }
+    memcpy(v5 + 7, v4, 24u);
+    memcpy(v6 + 7, v5 + 7, 24u);
+    sys_rattle_dealloc(v231);
+    v734 = v6 + 7;
+v646:;
+    memcpy(v10, v734, 24u);
+    v773 = 1; goto v366;
+v420:;
+    if (v212) goto v221;
+    sys_rattle_dealloc(v231);
+v221:;
+    if ((v153 != 1) ? 1 : (v196 == 0)) goto v778;
+    sys_rattle_dealloc(v192);
+v778:;
+    if (v147) goto v780;
+    sys_rattle_dealloc(v149);
+v780:;
+    if ((v22 != 1) ? 1 : (v31 == 0)) goto v785;
+    sys_rattle_dealloc(v27);
+v785:;
+    u8 v788 = at(u8, v7 + 24);
+    u8 *v790 = at(ptr, v7 + 32);
+    u64 v792 = at(u64, v7 + 48);
+    u8 v794 = at(u8, v7 + 64);
+    u8 *v796 = at(ptr, v7 + 72);
+    u64 v798 = at(u64, v7 + 88);
+    if (at(u64, v7 + 184) == 0) goto v802;
+    sys_rattle_dealloc(at(ptr, v7 + 168));
+v802:;
+    if ((v788 != 1) ? 1 : (v792 == 0)) goto v809;
+    sys_rattle_dealloc(v790);
+v809:;
+    if ((v794 != 1) ? 1 : (v798 == 0)) goto v814;
+    sys_rattle_dealloc(v796);
+v814:;
+    memset(v13, 0, 191u);
+    memset(v14, 0, 24u);
+    v816 = 0; v817 = 1; v818 = 0; v819 = (u8 *)0; v820 = 0; v821 = 0; v822 = 0; v823 = (u8 *)0; v824 = 0; v825 = 0; v826 = (u8 *)0; v827 = 0; v828 = 0; v829 = 0; goto v146;
+v201:;
+    memset(v10, 0, 24u);
+    v773 = 0;
+v366:;
+    memcpy(v13, v7 + 1, 191u);
+    memcpy(v14, v10, 24u);
+    v816 = v11; v817 = 0; v818 = v32; v819 = v27; v820 = v29; v821 = v31; v822 = v148; v823 = v149; v824 = v150; v825 = (u64)v153; v826 = v192; v827 = v194; v828 = v196; v829 = v773; goto v146;
+v156:;
+    if (v147) goto v737;
+    sys_rattle_dealloc(v149);
+v737:;
+    if ((v22 != 1) ? 1 : (v31 == 0)) goto v742;
+    sys_rattle_dealloc(v27);
+v742:;
+    u8 v745 = at(u8, v7 + 24);
+    u8 *v747 = at(ptr, v7 + 32);
+    u64 v749 = at(u64, v7 + 48);
+    u8 v751 = at(u8, v7 + 64);
+    u8 *v753 = at(ptr, v7 + 72);
+    u64 v755 = at(u64, v7 + 88);
+    if (at(u64, v7 + 184) == 0) goto v759;
+    sys_rattle_dealloc(at(ptr, v7 + 168));
+v759:;
+    if ((v745 != 1) ? 1 : (v749 == 0)) goto v766;
+    sys_rattle_dealloc(v747);
+v766:;
+    if ((v751 != 1) ? 1 : (v755 == 0)) goto v771;
+    sys_rattle_dealloc(v753);
+v771:;
+    memset(v13, 0, 191u);
+    memset(v14, 0, 24u);
+    v816 = 0; v817 = 1; v818 = 0; v819 = (u8 *)0; v820 = 0; v821 = 0; v822 = 0; v823 = (u8 *)0; v824 = 0; v825 = 0; v826 = (u8 *)0; v827 = 0; v828 = 0; v829 = 0; goto v146;
+v25:;
+    u8 v118 = at(u8, v7 + 24);
+    u8 *v120 = at(ptr, v7 + 32);
+    u64 v122 = at(u64, v7 + 48);
+    u8 v124 = at(u8, v7 + 64);
+    u8 *v126 = at(ptr, v7 + 72);
+    u64 v128 = at(u64, v7 + 88);
+    if (at(u64, v7 + 184) == 0) goto v132;
+    sys_rattle_dealloc(at(ptr, v7 + 168));
+v132:;
+    if ((v118 != 1) ? 1 : (v122 == 0)) goto v139;
+    sys_rattle_dealloc(v120);
+v139:;
+    if ((v124 != 1) ? 1 : (v128 == 0)) goto v144;
+    sys_rattle_dealloc(v126);
+v144:;
+    memset(v13, 0, 191u);
+    memset(v14, 0, 24u);
+    v816 = 0; v817 = 1; v818 = 0; v819 = (u8 *)0; v820 = 0; v821 = 0; v822 = 0; v823 = (u8 *)0; v824 = 0; v825 = 0; v826 = (u8 *)0; v827 = 0; v828 = 0; v829 = 0;
+v146:;
+    v830 = v816; v831 = v817; v832 = v818; v833 = v819; v834 = v820; v835 = v821; v836 = v822; v837 = v823; v838 = v824; v839 = v825; v840 = v826; v841 = v827; v842 = v828; v843 = v829;
+v18:;
+    at(u8, v0) = v831;
+    at(u8, v0 + 8) = v830;
+    memcpy(v0 + 9, v13, 191u);
+    at(u64_1, v0 + 200) = v832;
+    at(ptr_1, v0 + 208) = v833;
+    at(u64_1, v0 + 216) = v834;
+    at(u64_1, v0 + 224) = v835;
+    at(u64_1, v0 + 232) = v836;
+    at(ptr_1, v0 + 240) = v837;
+    at(u64_1, v0 + 248) = v838;
+    at(u64_1, v0 + 256) = v838;
+    at(u64_1, v0 + 264) = v839;
+    at(ptr_1, v0 + 272) = v840;
+    at(u64_1, v0 + 280) = v841;
+    at(u64_1, v0 + 288) = v842;
+    at(u64_1, v0 + 296) = v843;
+    memcpy(v0 + 304, v14, 24u);
+    return;
+}
+
+void font_subset_kind_source_blank_of(u8 *v0, u8 *v1, u64 v2, u64 v3) {
+    u8 v5[1], *v63, *v121, *v196;
+    _Alignas(8) u8 v6[24], v7[24];
+    u64 v83, v93, v96, v104, v106, v135, v164, v174, v177, v185, v187, v195;
+    u8 *v9 = at(ptr, v1 + 8);
+    u16 v11 = at(u16, v9 + 64);
+    memset(v7, 0, 24u);
+    font_subset_accepted_copied(v7, v9, v3);
+    u8 v12 = at(u8, v7);
+    u8 *v14 = at(ptr, v7 + 8);
+    u64 v15 = (u64)v14;
+    u64 v17 = at(u64, v7 + 16);
+    u64 v18 = (u64)v12;
+    if (v12 == 0) { v195 = 0; v196 = (u8 *)0; goto v20; }
+    memset(v6, 0, 24u);
+    font_subset_accepted_copied(v6, v9, v2);
+    u8 *v24 = at(ptr, v6 + 8);
+    if ((at(u8, v6) != 1) ? 1 : (at(u64, v6 + 16) < 36u)) goto v30;
+    u16 v33 = at(u16_1, v24 + 34);
+    u16 v35 = bswap16(v33);
+    if ((v33 == 0) | (v11 < v35)) goto v30;
+    u64 v39 = (u64)v35;
+    u64 v40 = v39 << 2;
+    if (!(v17 < ((((u64)((u16)(v11 - v35))) << 1) + v40))) goto v46;
+v30:;
+    if (v17 == 0) { v63 = v5; goto v48; }
+    if (!((i64)v17 > (i64)0xffffffffffffffffu)) goto v55;
+    u64_u64 v57 = sys_rattle_alloc(v17, 1);
+    if (!(v57._0 & 1)) goto v55;
+    v63 = (u8 *)v57._1;
+v48:;
+    if (!((((u64)v63) - ((u64)v14)) < v17)) goto v69;
+    if ((v17 < 4) ? 1 : ((((u64)v63) - v15) < 32u)) { v104 = 0; goto v75; }
+    if (v17 < 16u) { v93 = 0; goto v78; }
+    u64 v80 = v17 & 12u;
+    u64 v81 = v17 & 0xfffffffffffffff0u;
+    v83 = 0;
+v82:;
+    at(u8x16_1, v63 + v83) = at(u8x16_1, v14 + v83);
+    u64 v84 = v83 + 16u;
+    if (!(v84 == v81)) { v83 = v84; goto v82; }
+    if (v17 == v81) { v195 = v17; v196 = v63; goto v20; }
+    if (v80 == 0) { v104 = v81; goto v75; }
+    v93 = v81;
+v78:;
+    u64 v94 = v17 & 0xfffffffffffffffcu;
+    v96 = v93;
+v95:;
+    at(u8x4_1, v63 + v96) = at(u8x4_1, v14 + v96);
+    u64 v97 = v96 + 4;
+    if (!(v97 == v94)) { v96 = v97; goto v95; }
+    if (v17 == v94) { v195 = v17; v196 = v63; goto v20; }
+    v104 = v94;
+v75:;
+    v106 = v104;
+v105:;
+    at(u8, v63 + v106) = at(u8, v14 + v106);
+    u64 v107 = v106 + 1;
+    if (v107 == v17) { v195 = v17; v196 = v63; goto v20; }
+    v106 = v107; goto v105;
+v69:;
+    memmove_any(v63, v14, v17);
+    v195 = v17; v196 = v63; goto v20;
+v46:;
+    if (v17 == 0) { v121 = v5; goto v51; }
+    if (!((i64)v17 > (i64)0xffffffffffffffffu)) goto v55;
+    u64_u64 v115 = sys_rattle_alloc(v17, 1);
+    if (!(v115._0 & 1)) goto v55;
+    u8 *v120 = (u8 *)v115._1;
+    memset_any(v120, 0, v17);
+    v121 = v120;
+v51:;
+    u64 v122 = (u64)v121;
+    u64 v123 = (u64)v11;
+    u64 v124 = v40 - 4;
+    if ((((u64)(v121 + (i64)v124)) - ((u64)(v14 + (i64)v124))) < 2) v135 = 0; else goto v132;
+v131:;
+    at(u8, (v121 + (i64)v124) + v135) = at(u8, (v14 + (i64)v124) + v135);
+    u64 v136 = v135 + 1;
+    if (v136 == 2) goto v134;
+    v135 = v136; goto v131;
+v132:;
+    at(u16_1, v121 + (i64)v124) = at(u16_1, v14 + (i64)v124);
+v134:;
+    u64 v142 = (v39 + v123) << 1;
+    u64 v143 = v17 - v142;
+    if (!((((u64)(v121 + (i64)v142)) - ((u64)(v14 + (i64)v142))) < v143)) goto v151;
+    if ((v143 < 4) ? 1 : ((v122 - v15) < 32u)) { v185 = 0; goto v156; }
+    if (v143 < 16u) { v174 = 0; goto v159; }
+    u64 v161 = v143 & 12u;
+    u64 v162 = v143 & 0xfffffffffffffff0u;
+    v164 = 0;
+v163:;
+    at(u8x16_1, (v121 + (i64)v142) + v164) = at(u8x16_1, (v14 + (i64)v142) + v164);
+    u64 v165 = v164 + 16u;
+    if (!(v165 == v162)) { v164 = v165; goto v163; }
+    if (v143 == v162) { v195 = v17; v196 = v121; goto v20; }
+    if (v161 == 0) { v185 = v162; goto v156; }
+    v174 = v162;
+v159:;
+    u64 v175 = v143 & 0xfffffffffffffffcu;
+    v177 = v174;
+v176:;
+    at(u8x4_1, (v121 + (i64)v142) + v177) = at(u8x4_1, (v14 + (i64)v142) + v177);
+    u64 v178 = v177 + 4;
+    if (!(v178 == v175)) { v177 = v178; goto v176; }
+    if (v143 == v175) { v195 = v17; v196 = v121; goto v20; }
+    v185 = v175;
+v156:;
+    v187 = v185;
+v186:;
+    at(u8, (v121 + (i64)v142) + v187) = at(u8, (v14 + (i64)v142) + v187);
+    u64 v188 = v187 + 1;
+    if (v188 == v143) { v195 = v17; v196 = v121; goto v20; }
+    v187 = v188; goto v186;
+v151:;
+    memmove_any(v121 + (i64)v142, v14 + (i64)v142, v143);
+    v195 = v17; v196 = v121;
+v20:;
+    at(u8, v0) = 0;
+    at(u64_1, v0 + 8) = v18;
+    at(ptr_1, v0 + 16) = v196;
+    at(u64_1, v0 + 24) = v195;
+    at(u64_1, v0 + 32) = v195;
+    return;
+v55:;
+    at(u8, v0) = 1;
+    memset(v0 + 8, 0, 32u);
+    return;
+}
+
+static void font_subset_kind_source_metrics_table_21da(u8 *v0, u8 *v1, u64 v2, u64 v3) {
+    u8 v5[1], *v61, *v63;
+    _Alignas(8) u8 v6[24], v7[24];
+    u64 v64;
+    u8 *v9 = at(ptr, v1 + 8);
+    u16 v11 = at(u16, v9 + 64);
+    memset(v7, 0, 24u);
+    font_subset_accepted_copied(v7, v9, v3);
+    u8 v12 = at(u8, v7);
+    u64 v13 = (u64)v12;
+    u8 *v15 = at(ptr, v7 + 8);
+    u64 v17 = at(u64, v7 + 16);
+    if (v12 == 0) { v63 = (u8 *)0; v64 = 0; goto v19; }
+    memset(v6, 0, 24u);
+    font_subset_accepted_copied(v6, v9, v2);
+    u8 *v23 = at(ptr, v6 + 8);
+    if ((at(u8, v6) != 1) ? 1 : (at(u64, v6 + 16) < 36u)) goto v29;
+    u16 v32 = at(u16_1, v23 + 34);
+    u16 v34 = bswap16(v32);
+    if ((v32 == 0) | (v11 < v34)) goto v29;
+    u64 v38 = (u64)v34;
+    if (!(v17 < ((((u64)((u16)(v11 - v34))) << 1) + (v38 << 2)))) goto v45;
+v29:;
+    at(u8, v0) = 0;
+    memset(v0 + 8, 0, 32u);
+    return;
+v45:;
+    if (v17 == 0) { v61 = v5; goto v49; }
+    if (!((i64)v17 > (i64)0xffffffffffffffffu)) goto v53;
+    u64_u64 v55 = sys_rattle_alloc(v17, 1);
+    if (!(v55._0 & 1)) goto v53;
+    u8 *v60 = (u8 *)v55._1;
+    memset_any(v60, 0, v17);
+    v61 = v60;
+v49:;
+    font_subset_lean_tables_copy_kept(v61, v15, v17, v1, v38);
+    v63 = v61; v64 = v17;
+v19:;
+    at(u8, v0) = 0;
+    at(u64_1, v0 + 8) = v13;
+    at(ptr_1, v0 + 16) = v63;
+    at(u64_1, v0 + 24) = v64;
+    at(u64_1, v0 + 32) = v64;
+    return;
+v53:;
+    at(u8, v0) = 1;
+    memset(v0 + 8, 0, 32u);
+    return;
+}
+
+static void font_subset_lean_tables_copy_kept(u8 *v0, u8 *v1, u64 v2, u8 *v3, u64 v4) {
+    u64 v25, v54, v65, v68, v76, v78, v97, v104, v117, v120, v127, v133, v151, v168, v188, v195, v208, v211, v134;
+    u8x16 v106, v197;
+    u64 v6 = (u64)v1;
+    u64 v7 = (u64)v0;
+    u16 v11 = at(u16, at(ptr, v3 + 8) + 64);
+    u64 v12 = (u64)v11;
+    u64 v14 = (v4 << 2) - 4;
+    if ((((u64)(v0 + (i64)v14)) - ((u64)(v1 + (i64)v14))) < 2) v25 = 0; else goto v22;
+v21:;
+    at(u8, (v0 + (i64)v14) + v25) = at(u8, (v1 + (i64)v14) + v25);
+    u64 v26 = v25 + 1;
+    if (v26 == 2) goto v24;
+    v25 = v26; goto v21;
+v22:;
+    at(u16_1, v0 + (i64)v14) = at(u16_1, v1 + (i64)v14);
+v24:;
+    u64 v32 = (v4 + v12) << 1;
+    u64 v33 = v2 - v32;
+    if (!((((u64)(v0 + (i64)v32)) - ((u64)(v1 + (i64)v32))) < v33)) goto v41;
+    if ((v33 < 4) | ((v7 - v6) < 32u)) { v76 = 0; goto v46; }
+    if (v33 < 16u) { v65 = 0; goto v49; }
+    u64 v51 = v33 & 12u;
+    u64 v52 = v33 & 0xfffffffffffffff0u;
+    v54 = 0;
+v53:;
+    at(u8x16_1, (v0 + (i64)v32) + v54) = at(u8x16_1, (v1 + (i64)v32) + v54);
+    u64 v55 = v54 + 16u;
+    if (!(v55 == v52)) { v54 = v55; goto v53; }
+    if (v33 == v52) goto v62;
+    if (v51 == 0) { v76 = v52; goto v46; }
+    v65 = v52;
+v49:;
+    u64 v66 = v33 & 0xfffffffffffffffcu;
+    v68 = v65;
+v67:;
+    at(u8x4_1, (v0 + (i64)v32) + v68) = at(u8x4_1, (v1 + (i64)v32) + v68);
+    u64 v69 = v68 + 4;
+    if (!(v69 == v66)) { v68 = v69; goto v67; }
+    if (v33 == v66) goto v62;
+    v76 = v66;
+v46:;
+    v78 = v76;
+v77:;
+    at(u8, (v0 + (i64)v32) + v78) = at(u8, (v1 + (i64)v32) + v78);
+    u64 v79 = v78 + 1;
+    if (v79 == v33) goto v62;
+    v78 = v79; goto v77;
+v41:;
+    memmove_any(v0 + (i64)v32, v1 + (i64)v32, v33);
+v62:;
+    u8 *v85 = at(ptr, v3 + 168);
+    u64 v87 = at(u64, v3 + 176);
+    if (v87 == 0) { v117 = 0; goto v89; }
+    if (at(u8, v85) & 1) { v127 = 0; goto v93; }
+    if (v87 < 64u) { v117 = 0; goto v89; }
+    v97 = 0;
+v96:;
+    if (v97 == 0xffffffffffffffc0u) goto v99;
+    v104 = 0; v106 = (u8x16){0};
+v103:;
+    u8x16 v107 = v106 | ((-(at(u8x16_1, (v85 + (i64)v97) + (i64)v104) & 1)));
+    u64 v105 = v104 + 16u;
+    if (!(v105 == 64u)) { v104 = v105; v106 = v107; goto v103; }
+    if (!(bits_u8x16(v107) == 0)) { v117 = v97; goto v89; }
+v99:;
+    u64 v98 = v97 + 64u;
+    if ((v87 - v98) < 64u) v117 = v98; else { v97 = v98; goto v96; }
+v89:;
+    if (v117 < v87) v120 = v117; else { v127 = v87; goto v93; }
+v119:;
+    if (at(u8, v85 + v120) & 1) { v127 = v120; goto v93; }
+    u64 v121 = v120 + 1;
+    if (v121 == v87) v127 = v87; else { v120 = v121; goto v119; }
+v93:;
+    u64 v128 = v4 - 1;
+    if (v11 > ((u16)v127)) v133 = v127; else return;
+v131:;
+    u64 v136 = v133 & 65535u;
+    if (!(v136 < v128)) goto v139;
+    u64 v140 = v136 << 2;
+    if ((((u64)(v0 + (i64)v140)) - ((u64)(v1 + (i64)v140))) < 4) v151 = 0; else goto v148;
+v147:;
+    at(u8, (v0 + (i64)v140) + v151) = at(u8, (v1 + (i64)v140) + v151);
+    u64 v152 = v151 + 1;
+    if (v152 == 4) goto v150;
+    v151 = v152; goto v147;
+v148:;
+    at(u32_1, v0 + (i64)v140) = at(u32_1, v1 + (i64)v140);
+    goto v150;
+v139:;
+    u64 v158 = (v136 + v4) << 1;
+    if ((((u64)(v0 + (i64)v158)) - ((u64)(v1 + (i64)v158))) < 2) v168 = 0; else goto v166;
+v165:;
+    at(u8, (v0 + (i64)v158) + v168) = at(u8, (v1 + (i64)v158) + v168);
+    u64 v169 = v168 + 1;
+    if (v169 == 2) goto v150;
+    v168 = v169; goto v165;
+v166:;
+    at(u16_1, v0 + (i64)v158) = at(u16_1, v1 + (i64)v158);
+v150:;
+    u64 v175 = (v133 + 1) & 65535u;
+    u8 *v176 = at(ptr, v3 + 168);
+    u64 v177 = at(u64, v3 + 176);
+    if (!(v177 > v175)) goto v180;
+    if (at(u8, v176 + v175) & 1) { v134 = v175; goto v135; }
+v180:;
+    if ((v177 - v175) < 64u) { v208 = v175; goto v186; }
+    v188 = v175;
+v187:;
+    if (!(v188 < 0xffffffffffffffc0u)) goto v190;
+    v195 = 0; v197 = (u8x16){0};
+v194:;
+    u8x16 v198 = v197 | ((-(at(u8x16_1, (v176 + (i64)v188) + (i64)v195) & 1)));
+    u64 v196 = v195 + 16u;
+    if (!(v196 == 64u)) { v195 = v196; v197 = v198; goto v194; }
+    if (!(bits_u8x16(v198) == 0)) { v208 = v188; goto v186; }
+v190:;
+    u64 v189 = v188 + 64u;
+    if ((v177 - v189) < 64u) v208 = v189; else { v188 = v189; goto v187; }
+v186:;
+    if (v208 < v177) v211 = v208; else { v134 = v177; goto v135; }
+v210:;
+    if (at(u8, v176 + v211) & 1) { v134 = v211; goto v135; }
+    u64 v212 = v211 + 1;
+    if (v212 == v177) v134 = v177; else { v211 = v212; goto v210; }
+v135:;
+    if (v11 > ((u16)v134)) { v133 = v134; goto v131; }
+    return;
+}
+
+flag font_subset_presence_Presence_has(u8 *v0, u16 v1) {
+    u64 v35, v36, v114, v115;
+    u8 *v3 = at(ptr, v0);
+    u8 *v5 = at(ptr, v3 + 8);
+    u8 *v9 = at(ptr_1, v5 + 32);
+    u64 v10 = (u64)v1;
+    if (!(at(u8, v5 + 70) == 0)) goto v13;
+    u64 v14 = v10 << 1;
+    v35 = ((u64)bswap16(at(u16_1, v9 + (i64)v14))) << 1; v36 = ((u64)bswap16(at(u16_1, v9 + (i64)v14 + 2))) << 1; goto v25;
+v13:;
+    u64 v26 = v10 << 2;
+    v35 = (u64)bswap32(at(u32_1, v9 + (i64)v26)); v36 = (u64)bswap32(at(u32_1, v9 + (i64)v26 + 4));
+v25:;
+    if (!(v36 == v35)) return 1;
+    u64 v49 = at(u64, v0 + 24);
+    if (v49 == 0) goto v51;
+    u8 *v54 = at(ptr_1, v0 + 8);
+    if (!((v10 + 1) < v49)) goto v44;
+    if (at(u32_1, v54 + (i64)(v10 << 2)) == 0) goto v51;
+    return 1;
+v44:;
+    if (!(at(u16_1, v54 + (i64)((v49 + v10) << 1)) == 0)) return 1;
+v51:;
+    u64 v67 = at(u64, v0 + 48);
+    if (v67 == 0) goto v47;
+    u8 *v71 = at(ptr_1, v0 + 32);
+    if (!((v10 + 1) < v67)) goto v41;
+    if (at(u32_1, v71 + (i64)(v10 << 2)) == 0) goto v47;
+    return 1;
+v41:;
+    if (!(at(u16_1, v71 + (i64)((v67 + v10) << 1)) == 0)) return 1;
+v47:;
+    if (!(at(u8, v3 + 312) == 1)) return 0;
+    u8 *v90 = at(ptr_1, v3 + 336);
+    if (!(at(u8, v3 + 384) == 0)) goto v93;
+    u64 v94 = v10 << 1;
+    v114 = ((u64)bswap16(at(u16_1, v90 + (i64)v94))) << 1; v115 = ((u64)bswap16(at(u16_1, v90 + (i64)v94 + 2))) << 1; goto v46;
+v93:;
+    u64 v105 = v10 << 2;
+    v114 = (u64)bswap32(at(u32_1, v90 + (i64)v105)); v115 = (u64)bswap32(at(u32_1, v90 + (i64)v105 + 4));
+v46:;
+    return v115 != v114;
+}
+
+void font_subset_presence_Presence_of(u8 *v0, u8 *v1) {
+    u64 v17, v50, v96, v97, v101, v133, v178, v179, v182, v183;
+    u8 *v95, *v180, *v181;
+    u8 *v4 = at(ptr, v1 + 8);
+    u16 v6 = at(u16, v4 + 64);
+    u8 *v7 = at(ptr_2, v4);
+    u16 v9 = at(u16_1, v7 + 4);
+    u64 v11 = (u64)bswap16(v9);
+    if (v9 == 0) { v178 = 0; v179 = 0; v180 = (u8 *)table_d0e67785; v181 = (u8 *)table_d0e67785; v182 = 0; v183 = 0; goto v13; }
+    v17 = 0;
+v14:;
+    u64 v20 = v17 << 4;
+    if (!((((at(u8, v7 + (i64)v20 + 12) == 104u) & (at(u8, v7 + (i64)v20 + 13) == 109u)) & (at(u8, v7 + (i64)v20 + 14) == 116u)) & (at(u8, v7 + (i64)v20 + 15) == 120u))) goto v15;
+    u64 v45 = (u64)bswap32(at(u32_1, v7 + (i64)v20 + 24));
+    u64 v44 = (u64)bswap32(at(u32_1, v7 + (i64)v20 + 20));
+    v50 = 0;
+v47:;
+    u64 v52 = v50 << 4;
+    if (!((((at(u8, v7 + (i64)v52 + 12) == 104u) & (at(u8, v7 + (i64)v52 + 13) == 104u)) & (at(u8, v7 + (i64)v52 + 14) == 101u)) & (at(u8, v7 + (i64)v52 + 15) == 97u))) goto v48;
+    if (bswap32(at(u32_1, v7 + (i64)v52 + 24)) < 36u) { v95 = v7 + (i64)v44; v96 = v45; v97 = 0; goto v19; }
+    u16 v81 = at(u16_1, v7 + (i64)((u64)bswap32(at(u32_1, v7 + (i64)v52 + 20))) + 34);
+    u16 v83 = bswap16(v81);
+    if ((v81 == 0) | (v6 < v83)) { v95 = v7 + (i64)v44; v96 = v45; v97 = 0; goto v19; }
+    u64 v87 = (u64)v83;
+    v95 = v7 + (i64)v44; v96 = v45; v97 = (((((u64)((u16)(v6 - v83))) << 1) + (v87 << 2)) > v45) ? 0 : v87; goto v19;
+v48:;
+    u64 v49 = v50 + 1;
+    if (v49 == v11) { v95 = v7 + (i64)v44; v96 = v45; v97 = 0; goto v19; }
+    v50 = v49; goto v47;
+v15:;
+    u64 v16 = v17 + 1;
+    if (v16 == v11) { v95 = (u8 *)table_d0e67785; v96 = 0; v97 = 0; } else { v17 = v16; goto v14; }
+v19:;
+    v101 = 0;
+v98:;
+    u64 v103 = v101 << 4;
+    if (!((((at(u8, v7 + (i64)v103 + 12) == 118u) & (at(u8, v7 + (i64)v103 + 13) == 109u)) & (at(u8, v7 + (i64)v103 + 14) == 116u)) & (at(u8, v7 + (i64)v103 + 15) == 120u))) goto v99;
+    u64 v128 = (u64)bswap32(at(u32_1, v7 + (i64)v103 + 24));
+    u64 v127 = (u64)bswap32(at(u32_1, v7 + (i64)v103 + 20));
+    v133 = 0;
+v130:;
+    u64 v135 = v133 << 4;
+    if (!((((at(u8, v7 + (i64)v135 + 12) == 118u) & (at(u8, v7 + (i64)v135 + 13) == 104u)) & (at(u8, v7 + (i64)v135 + 14) == 101u)) & (at(u8, v7 + (i64)v135 + 15) == 97u))) goto v131;
+    if (bswap32(at(u32_1, v7 + (i64)v135 + 24)) < 36u) { v178 = v97; v179 = v96; v180 = v95; v181 = v7 + (i64)v127; v182 = v128; v183 = 0; goto v13; }
+    u16 v164 = at(u16_1, v7 + (i64)((u64)bswap32(at(u32_1, v7 + (i64)v135 + 20))) + 34);
+    u16 v166 = bswap16(v164);
+    if ((v164 == 0) | (v6 < v166)) { v178 = v97; v179 = v96; v180 = v95; v181 = v7 + (i64)v127; v182 = v128; v183 = 0; goto v13; }
+    u64 v170 = (u64)v166;
+    v178 = v97; v179 = v96; v180 = v95; v181 = v7 + (i64)v127; v182 = v128; v183 = (((((u64)((u16)(v6 - v166))) << 1) + (v170 << 2)) > v128) ? 0 : v170; goto v13;
+v131:;
+    u64 v132 = v133 + 1;
+    if (v132 == v11) { v178 = v97; v179 = v96; v180 = v95; v181 = v7 + (i64)v127; v182 = v128; v183 = 0; goto v13; }
+    v133 = v132; goto v130;
+v99:;
+    u64 v100 = v101 + 1;
+    if (v100 == v11) { v178 = v97; v179 = v96; v180 = v95; v181 = (u8 *)table_d0e67785; v182 = 0; v183 = 0; } else { v101 = v100; goto v98; }
+v13:;
+    at(ptr_1, v0) = v1;
+    at(ptr_1, v0 + 8) = v180;
+    at(u64_1, v0 + 16) = v179;
+    at(u64_1, v0 + 24) = v178;
+    at(ptr_1, v0 + 32) = v181;
+    at(u64_1, v0 + 40) = v182;
+    at(u64_1, v0 + 48) = v183;
+    return;
+}
+
+static void font_subset_presence_mark_between(u8 *v0, u8 *v1, u16 v2, u16 v3) {
+    u64 v25, v80, v81, v106, v140, v123, v127, v165, v181, v186, v199, v203, v232, v266, v249, v253, v302, v317, v322, v335, v339, v276, v280, v349;
+    u8 *v50;
+    u8x16 v108, v167, v234, v304;
+    flag v138, v124, v210, v182, v198, v201, v209, v264, v250, v272, v318, v334, v337, v345;
+    u32x4 v129, v188, v255, v324;
+    u8 *v5 = at(ptr, v1);
+    if (at(u8, v5 + 312) == 1) goto v9;
+    u8 *v12 = at(ptr, v5 + 8);
+    u8 v14 = at(u8, v12 + 70);
+    u8 *v15 = at(ptr_1, v12);
+    u16 v17 = at(u16_1, v15 + 4);
+    u64 v19 = (u64)bswap16(v17);
+    if (v17 == 0) { v50 = (u8 *)table_d0e67785; goto v21; }
+    v25 = 0;
+v22:;
+    u64 v27 = v25 << 4;
+    if (!((((at(u8, v15 + (i64)v27 + 12) == 108u) & (at(u8, v15 + (i64)v27 + 13) == 111u)) & (at(u8, v15 + (i64)v27 + 14) == 99u)) & (at(u8, v15 + (i64)v27 + 15) == 97u))) goto v23;
+    v50 = v15 + (i64)((u64)bswap32(at(u32_1, v15 + (i64)v27 + 20))); goto v21;
+v23:;
+    u64 v24 = v25 + 1;
+    if (v24 == v19) v50 = (u8 *)table_d0e67785; else { v25 = v24; goto v22; }
+v21:;
+    u64 v51 = (u64)v2;
+    if (!(v14 == 0)) goto v54;
+    v80 = ((u64)bswap16(at(u16_1, v50 + (i64)(v51 << 1)))) << 1; v81 = ((u64)bswap16(at(u16_1, v50 + (i64)(((u64)v3) << 1)))) << 1; goto v68;
+v54:;
+    v80 = (u64)bswap32(at(u32_1, v50 + (i64)(v51 << 2))); v81 = (u64)bswap32(at(u32_1, v50 + (i64)(((u64)v3) << 2)));
+v68:;
+    if (!(v80 == v81)) goto v9;
+    u64 v85 = (u64)v3;
+    u64 v87 = at(u64, v1 + 24);
+    if (v87 == 0) goto v89;
+    if (!(v87 > v85)) goto v93;
+    u8 *v94 = at(ptr_1, v1 + 8);
+    u64 v95 = v51 << 2;
+    u64 v97 = v85 - v51;
+    u64 v98 = v97 << 2;
+    if (v3 == v2) goto v89;
+    if (v98 < 16u) { v123 = 0; v124 = 0; goto v102; }
+    u64 v104 = v98 & 0xfffffffffffffff0u;
+    v106 = 0; v108 = (u8x16){0};
+v105:;
+    u8x16 v109 = v108 | ((u8x16)(at(u8x16_1, (v94 + (i64)v95) + v106) != (u8x16){0}));
+    u64 v107 = v106 + 16u;
+    if (!(v107 == v104)) { v106 = v107; v108 = v109; goto v105; }
+    flag v116 = bits_u8x16(v109) != 0;
+    if (v98 == v104) { v210 = v116; goto v118; }
+    if ((v97 & 3) == 0) { v138 = v116; v140 = v104; } else { v123 = v104; v124 = v116; goto v102; }
+v122:;
+    flag v139 = v138 | (at(u8, (v94 + (i64)v95) + v140) != 0);
+    u64 v141 = v140 + 1;
+    if (v141 == v98) { v210 = v139; goto v118; }
+    v138 = v139; v140 = v141; goto v122;
+v102:;
+    v127 = v123; v129 = (u32x4){-(u32)v124, 0, 0, 0};
+v126:;
+    u32x4 v130 = v129 | ((u32x4)__builtin_convertvector((i8x4)(u8x4)(at(u8x4_1, (v94 + (i64)v95) + v127) != (u8x4){0}), i32x4));
+    u64 v128 = v127 + 4;
+    if (!(v128 == v98)) { v127 = v128; v129 = v130; goto v126; }
+    v210 = bits_u32x4(v130) != 0;
+v118:;
+    if (v210) goto v9;
+    goto v89;
+v93:;
+    if (v87 > (v51 + 1)) goto v9;
+    u8 *v149 = at(ptr_1, v1 + 8);
+    u64 v151 = (v87 + v51) << 1;
+    u64 v153 = v85 - v51;
+    u64 v154 = v153 << 1;
+    if (v3 == v2) goto v89;
+    if (v154 < 4) { v198 = 0; v199 = 0; goto v158; }
+    if (v154 < 16u) { v181 = 0; v182 = 0; goto v161; }
+    u64 v163 = v154 & 0xfffffffffffffff0u;
+    v165 = 0; v167 = (u8x16){0};
+v164:;
+    u8x16 v168 = v167 | ((u8x16)(at(u8x16_1, (v149 + (i64)v151) + v165) != (u8x16){0}));
+    u64 v166 = v165 + 16u;
+    if (!(v166 == v163)) { v165 = v166; v167 = v168; goto v164; }
+    flag v175 = bits_u8x16(v168) != 0;
+    if (v154 == v163) { v209 = v175; goto v177; }
+    if ((v153 & 6) == 0) { v198 = v175; v199 = v163; goto v158; }
+    v181 = v163; v182 = v175;
+v161:;
+    u64 v183 = v154 & 0xfffffffffffffffcu;
+    v186 = v181; v188 = (u32x4){-(u32)v182, 0, 0, 0};
+v185:;
+    u32x4 v189 = v188 | ((u32x4)__builtin_convertvector((i8x4)(u8x4)(at(u8x4_1, (v149 + (i64)v151) + v186) != (u8x4){0}), i32x4));
+    u64 v187 = v186 + 4;
+    if (!(v187 == v183)) { v186 = v187; v188 = v189; goto v185; }
+    flag v196 = bits_u32x4(v189) != 0;
+    if (v154 == v183) { v209 = v196; goto v177; }
+    v198 = v196; v199 = v183;
+v158:;
+    v201 = v198; v203 = v199;
+v200:;
+    flag v202 = v201 | (at(u8, (v149 + (i64)v151) + v203) != 0);
+    u64 v204 = v203 + 1;
+    if (v204 == v154) v209 = v202; else { v201 = v202; v203 = v204; goto v200; }
+v177:;
+    if (v209) goto v9;
+v89:;
+    u64 v213 = at(u64, v1 + 48);
+    if (v213 == 0) return;
+    if (!(v213 > v85)) goto v219;
+    u8 *v220 = at(ptr_1, v1 + 32);
+    u64 v221 = v51 << 2;
+    u64 v223 = v85 - v51;
+    u64 v224 = v223 << 2;
+    if (v3 == v2) return;
+    if (v224 < 16u) { v249 = 0; v250 = 0; goto v228; }
+    u64 v230 = v224 & 0xfffffffffffffff0u;
+    v232 = 0; v234 = (u8x16){0};
+v231:;
+    u8x16 v235 = v234 | ((u8x16)(at(u8x16_1, (v220 + (i64)v221) + v232) != (u8x16){0}));
+    u64 v233 = v232 + 16u;
+    if (!(v233 == v230)) { v232 = v233; v234 = v235; goto v231; }
+    flag v242 = bits_u8x16(v235) != 0;
+    if (v224 == v230) { v272 = v242; goto v244; }
+    if ((v223 & 3) == 0) { v264 = v242; v266 = v230; } else { v249 = v230; v250 = v242; goto v228; }
+v248:;
+    flag v265 = v264 | (at(u8, (v220 + (i64)v221) + v266) != 0);
+    u64 v267 = v266 + 1;
+    if (v267 == v224) { v272 = v265; goto v244; }
+    v264 = v265; v266 = v267; goto v248;
+v228:;
+    v253 = v249; v255 = (u32x4){-(u32)v250, 0, 0, 0};
+v252:;
+    u32x4 v256 = v255 | ((u32x4)__builtin_convertvector((i8x4)(u8x4)(at(u8x4_1, (v220 + (i64)v221) + v253) != (u8x4){0}), i32x4));
+    u64 v254 = v253 + 4;
+    if (!(v254 == v224)) { v253 = v254; v255 = v256; goto v252; }
+    v272 = bits_u32x4(v256) != 0;
+v244:;
+    if (v272 & (v2 < v3)) { v276 = v85; v280 = v51; goto v275; }
+    return;
+v219:;
+    if (v213 > (v51 + 1)) goto v9;
+    u8 *v286 = at(ptr_1, v1 + 32);
+    u64 v288 = (v213 + v51) << 1;
+    u64 v290 = v85 - v51;
+    u64 v291 = v290 << 1;
+    if (v3 == v2) return;
+    if (v291 < 4) { v334 = 0; v335 = 0; goto v295; }
+    if (v291 < 16u) { v317 = 0; v318 = 0; goto v298; }
+    u64 v300 = v291 & 0xfffffffffffffff0u;
+    v302 = 0; v304 = (u8x16){0};
+v301:;
+    u8x16 v305 = v304 | ((u8x16)(at(u8x16_1, (v286 + (i64)v288) + v302) != (u8x16){0}));
+    u64 v303 = v302 + 16u;
+    if (!(v303 == v300)) { v302 = v303; v304 = v305; goto v301; }
+    flag v312 = bits_u8x16(v305) != 0;
+    if (v291 == v300) { v345 = v312; goto v279; }
+    if ((v290 & 6) == 0) { v334 = v312; v335 = v300; goto v295; }
+    v317 = v300; v318 = v312;
+v298:;
+    u64 v319 = v291 & 0xfffffffffffffffcu;
+    v322 = v317; v324 = (u32x4){-(u32)v318, 0, 0, 0};
+v321:;
+    u32x4 v325 = v324 | ((u32x4)__builtin_convertvector((i8x4)(u8x4)(at(u8x4_1, (v286 + (i64)v288) + v322) != (u8x4){0}), i32x4));
+    u64 v323 = v322 + 4;
+    if (!(v323 == v319)) { v322 = v323; v324 = v325; goto v321; }
+    flag v332 = bits_u32x4(v325) != 0;
+    if (v291 == v319) { v345 = v332; goto v279; }
+    v334 = v332; v335 = v319;
+v295:;
+    v337 = v334; v339 = v335;
+v336:;
+    flag v338 = v337 | (at(u8, (v286 + (i64)v288) + v339) != 0);
+    u64 v340 = v339 + 1;
+    if (v340 == v291) v345 = v338; else { v337 = v338; v339 = v340; goto v336; }
+v279:;
+    if (v345 & (v2 < v3)) { v276 = v85; v280 = v51; goto v275; }
+    return;
+v9:;
+    if (!(v2 < v3)) return;
+    v276 = (u64)v3; v280 = (u64)v2;
+v275:;
+    v349 = v280;
+v282:;
+    if (!(v349 < ((u64)at(u16, at(ptr, at(ptr, v1) + 8) + 64)))) goto v351;
+    u8 *v360 = at(ptr, v0);
+    if (at(u8, v360 + (i64)v349) & 1) goto v351;
+    if (!font_subset_presence_Presence_has(v1, (u16)v349)) goto v351;
+    at(u8, v360 + (i64)v349) = 1;
+v351:;
+    u64 v350 = v349 + 1;
+    if (v350 < v276) { v349 = v350; goto v282; }
+    return;
+}
+
+void font_subset_selection_Charted_runs(u8 *v0, u8 *v1) {
+    _Alignas(4) u8 v3[1];
+    _Alignas(8) u8 v4[24], v5[24], v6[24];
+    u64 v17, v87, v126;
+    u16 v46, v47, v62, v64, v109, v110, v65, v63;
+    u32 v48, v49, v66, v68, v73, v74, v111, v69, v67;
+    u8 *v59, *v60;
+    flag v116;
+    at(ptr, v6) = v3;
+    memset(v6 + 8, 0, 16u);
+    memset(v5, 0, 24u);
+    if (!(at(u8, v1 + 16) == 1)) goto v13;
+    u8 *v15 = at(ptr, v1 + 24);
+    v17 = 0;
+v16:;
+    u16 v22 = at(u16, v15 + (v17 << 1));
+    if (!(v22 == 0)) goto v24;
+    u64 v18 = v17 + 1;
+    if (!((v18 & 0xffffffffu) == 1114112u)) { v17 = v18; goto v16; }
+    goto v30;
+v24:;
+    u32 v25 = (u32)v17;
+    v46 = 0; v47 = v22; v48 = v25; v49 = v25; goto v26;
+v13:;
+    font_map_mapping_Mapping_piece_by_hint(v5, at(ptr, v1 + 8), at(u64, v1 + 48), 0);
+    u8 v34 = at(u8, v5);
+    u32 v36 = at(u32, v5 + 4);
+    u32 v38 = at(u32, v5 + 8);
+    u16 v40 = at(u16, v5 + 12);
+    u16 v42 = at(u16, v5 + 14);
+    at(u64, v1 + 48) = at(u64, v5 + 16);
+    if (v34 == 1) { v46 = v42; v47 = v40; v48 = v38; v49 = v36; } else goto v30;
+v26:;
+    v59 = v3; v62 = v46; v64 = v47; v66 = v48; v68 = v49;
+v58:;
+    u32 v71 = ((u32)v64) - v68;
+    v73 = v66;
+v72:;
+    u32 v76 = v73 + 1;
+    memset(v4, 0, 24u);
+    if (!(at(u8, v1 + 16) == 1)) goto v80;
+    u8 *v81 = at(ptr, v1 + 24);
+    if (!(v76 < 1114112u)) goto v84;
+    v87 = (u64)v76;
+v86:;
+    u16 v92 = at(u16, v81 + (v87 << 1));
+    if (!(v92 == 0)) goto v94;
+    u64 v88 = v87 + 1;
+    if ((v88 & 0xffffffffu) == 1114112u) goto v84;
+    v87 = v88; goto v86;
+v94:;
+    u32 v95 = (u32)v87;
+    v109 = 0; v110 = v92; v74 = v95; v111 = v95; goto v96;
+v84:;
+    v116 = 0; v69 = 0; v67 = 0; v65 = 0; v63 = 0; goto v99;
+v80:;
+    font_map_mapping_Mapping_piece_by_hint(v4, at(ptr, v1 + 8), at(u64, v1 + 48), v76);
+    u8 v102 = at(u8, v4);
+    u32 v103 = at(u32, v4 + 4);
+    u32 v104 = at(u32, v4 + 8);
+    u16 v105 = at(u16, v4 + 12);
+    u16 v106 = at(u16, v4 + 14);
+    at(u64, v1 + 48) = at(u64, v4 + 16);
+    if (v102 == 1) { v109 = v106; v110 = v105; v74 = v104; v111 = v103; } else { v116 = 0; v69 = 0; v67 = 0; v65 = 0; v63 = 0; goto v99; }
+v96:;
+    if (!(v111 == v76)) { v116 = 1; v69 = v111; v67 = v74; v65 = v110; v63 = v109; goto v99; }
+    if ((v71 + v76) == ((u32)v110)) { v73 = v74; goto v72; }
+    v116 = 1; v69 = v76; v67 = v74; v65 = v110; v63 = v109;
+v99:;
+    u64 v118 = at(u64, v6 + 8);
+    if (!(at(u64, v6 + 16) == v118)) { v60 = v59; v126 = v118; goto v61; }
+    if (!std_alloc_vec_Vec_grow_amortized_6671(v6, 1)) goto v123;
+    v60 = at(ptr, v6); v126 = at(u64, v6 + 8); goto v61;
+v123:;
+    if (at(u64, v6 + 16) == 0) goto v136;
+    sys_rattle_dealloc(at(ptr, v6));
+v136:;
+    at(u8, v0) = 1;
+    memset(v0 + 8, 0, 24u);
+    return;
+v61:;
+    u64 v127 = v126 * 12u;
+    at(u32_1, v60 + v127) = v68;
+    at(u32_1, v60 + v127 + 4) = v73;
+    at(u16_1, v60 + v127 + 8) = v64;
+    at(u16_1, v60 + v127 + 10) = v62;
+    at(u64, v6 + 8) = v126 + 1;
+    if (v116) { v59 = v60; v62 = v63; v64 = v65; v66 = v67; v68 = v69; goto v58; }
+v30:;
+    at(u8, v0) = 0;
+    memcpy(v0 + 8, v6, 24u);
+    return;
+}
+
+void font_subset_selection_Seeds_in_chart(u8 *v0, u8 *v1, u8 v2, u8 *v3) {
+    u8 v5[1], *v27, v122, v125, v79, v129;
+    _Alignas(4) u8 v6[16], v7[16], v9[16], v10[16];
+    _Alignas(8) u8 v8[16], v11[104];
+    u32 v50, v65, v80, v81, v130, v131, v160, v172, v176, v185, v187;
+    u16 v82, v132;
+    memcpy(v11, v1, 104u);
+    u16 v14 = at(u16, at(ptr, v11) + 64);
+    u64 v15 = (u64)v14;
+    if (v14 == 0) { v27 = v5; goto v17; }
+    u64_u64 v20 = sys_rattle_alloc(v15, 1);
+    if (!(v20._0 & 1)) goto v24;
+    u8 *v26 = (u8 *)v20._1;
+    memset_any(v26, 0, v15);
+    v27 = v26;
+v17:;
+    at(u8, v27) = 1;
+    flag v28 = v2 == 0;
+    v50 = 0;
+v49:;
+    if (!v28) goto v54;
+    memset(v10, 0, 16u);
+    if (!(at(u8, v11 + 56) == 1)) goto v87;
+    u8 *v88 = at(ptr, v11 + 64);
+    u64 v89 = at(u64, v11 + 72);
+    memset(v9, 0, 16u);
+    u64 v92 = uadd_sat64(at(u64, v11 + 96), at(u64, v11 + 88));
+    if (!((v92 != 0) & (v89 > v92))) goto v97;
+    u64 v98 = v92 * 12u;
+    if (!(v50 > at(u32, v88 + (i64)v98 - 8))) goto v97;
+    if (at(u32, v88 + (i64)v98 + 4) < v50) goto v97;
+    at(u64, v11 + 88) = v92;
+    u32 v108 = at(u32_1, v88 + (i64)v98);
+    u32 v109 = at(u32_1, v88 + (i64)v98 + 4);
+    u16 v113 = at(u16_1, v88 + (i64)v98 + 10);
+    u16 v119 = (u16)(((v50 > v108) ? ((u16)(v50 - v108)) : 0) + at(u16_1, v88 + (i64)v98 + 8));
+    at(u32, v9) = 1;
+    at(u32, v9 + 4) = umax32(v50, v108);
+    at(u32, v9 + 8) = v109;
+    at(u16, v9 + 12) = v119;
+    at(u16, v9 + 14) = v113;
+    v122 = 1; goto v120;
+v97:;
+    map_union_run_list_run_searched(v9, v88, v89, v11 + 88, v50);
+    v122 = at(u8, v9);
+v120:;
+    memcpy(v10 + 4, v9 + 4, 12u);
+    v125 = v122; goto v123;
+v87:;
+    font_map_chart_Chart_next_run_33e3(v10, v11 + 8, v50);
+    v125 = at(u8, v10);
+v123:;
+    v129 = v125; v130 = at(u32, v10 + 4); v131 = at(u32, v10 + 8); v132 = at(u16, v10 + 12); goto v83;
+v54:;
+    at(ptr, v8) = v11 + 8;
+    at(ptr, v8 + 8) = v3;
+    memset(v7, 0, 16u);
+    font_map_within_WithinPieces_piece_2760(v7, v8, v50);
+    if (!(at(u8, v7) == 1)) { v79 = 0; v80 = 0; v81 = 0; v82 = 0; goto v58; }
+    u32 v59 = at(u32, v7 + 4);
+    u16 v61 = at(u16, v7 + 12);
+    u32 v60 = at(u32, v7 + 8);
+    memset(v6, 0, 16u);
+    u32 v63 = ((u32)v61) - v59;
+    v65 = v60;
+v64:;
+    u32 v68 = v65 + 1;
+    font_map_within_WithinPieces_piece_2760(v6, v8, v68);
+    if (!(at(u8, v6) == 1)) goto v71;
+    if ((at(u32, v6 + 4) == v68) ? ((v63 + v68) == ((u32)at(u16, v6 + 12))) : 0) { v65 = at(u32, v6 + 8); goto v64; }
+v71:;
+    v79 = 1; v80 = v59; v81 = v65; v82 = v61;
+v58:;
+    v129 = v79; v130 = v80; v131 = v81; v132 = v82;
+v83:;
+    if (!(v129 == 1)) goto v135;
+    u32 v136 = (u32)v132;
+    u32 v139 = ((v131 - v130) + 1) + v136;
+    if (!(v139 > v136)) goto v52;
+    u32 v143 = (v131 + 1) - v130;
+    if (v143 < 4) { v185 = v136; goto v145; }
+    u32 v147 = v131 - v130;
+    if ((((u16)(v132 ^ 65535u)) < ((u16)v147)) | (v147 > 65535u)) { v185 = v136; goto v145; }
+    if (v143 < 16u) { v172 = 0; goto v155; }
+    u32 v157 = v143 & 12u;
+    u32 v158 = v143 & 0xfffffff0u;
+    v160 = 0;
+v159:;
+    at(u8x16_1, v27 + (i64)((u64)((v160 + v136) & 65535u))) = (u8x16){1, 1, 1, 1, 1, 1, 1, 1, 1, 1, 1, 1, 1, 1, 1, 1};
+    u32 v161 = v160 + 16u;
+    if (!(v161 == v158)) { v160 = v161; goto v159; }
+    if (v143 == v158) goto v52;
+    if (v157 == 0) { v185 = v158 + v136; goto v145; }
+    v172 = v158;
+v155:;
+    u32 v173 = v143 & 0xfffffffcu;
+    u32 v174 = v173 + v136;
+    v176 = v172;
+v175:;
+    at(u8x4_1, v27 + (i64)((u64)((v176 + v136) & 65535u))) = (u8x4){1, 1, 1, 1};
+    u32 v177 = v176 + 4;
+    if (!(v177 == v173)) { v176 = v177; goto v175; }
+    if (v143 == v173) goto v52;
+    v185 = v174;
+v145:;
+    v187 = v185;
+v186:;
+    at(u8, v27 + (i64)((u64)(v187 & 65535u))) = 1;
+    u32 v188 = v187 + 1;
+    if (!(v188 == v139)) { v187 = v188; goto v186; }
+v52:;
+    v50 = v131 + 1; goto v49;
+v135:;
+    at(u8, v0) = 0;
+    memcpy(v0 + 8, v11, 104u);
+    at(u64_1, v0 + 112) = (u64)v2;
+    at(u64_1, v0 + 120) = (u64)v3;
+    at(ptr_1, v0 + 128) = v27;
+    at(u64_1, v0 + 136) = v15;
+    at(u64_1, v0 + 144) = v15;
+    return;
+v24:;
+    if ((at(u8, v11 + 16) != 1) ? 1 : (at(u64, v11 + 40) == 0)) goto v209;
+    sys_rattle_dealloc(at(ptr, v11 + 24));
+v209:;
+    if ((at(u8, v11 + 56) != 1) ? 1 : (at(u64, v11 + 80) == 0)) goto v220;
+    sys_rattle_dealloc(at(ptr, v11 + 64));
+v220:;
+    at(u8, v0) = 1;
+    memset(v0 + 8, 0, 144u);
+    return;
+}
+
+void font_subset_selection_Seeds_of(u8 *v0, u8 *v1, u8 v2, u8 *v3) {
+    u8 v5[1], v13[111], *v48, v140, v143, v97, v147, v224, *v227;
+    _Alignas(4) u8 v6[16], v7[16], v9[16], v10[16];
+    _Alignas(8) u8 v8[16], v11[104], v12[56], v14[24];
+    u32 v68, v83, v98, v99, v148, v149, v178, v190, v194, v203, v205;
+    u16 v100, v150;
+    u64 v225, v226, v228;
+    memset(v13, 0, 111u);
+    memset(v12, 0, 56u);
+    font_map_chart_Chart_of_3518(v12, v1 + 72);
+    if (!(at(u8, v12) == 0)) goto v19;
+    u8 v23 = at(u8, v12 + 16);
+    u64 v21 = at(u64, v12 + 48);
+    u64 v25 = at(u64, v12 + 8);
+    memcpy(v14, v12 + 24, 24u);
+    at(ptr, v11) = v1;
+    at(u64, v11 + 8) = v25;
+    at(u64, v11 + 16) = (u64)v23;
+    memcpy(v11 + 24, v14, 24u);
+    at(u64, v11 + 48) = v21;
+    memset(v11 + 56, 0, 48u);
+    u16 v35 = at(u16, v1 + 64);
+    u64 v36 = (u64)v35;
+    if (v35 == 0) { v48 = v5; goto v38; }
+    u64_u64 v41 = sys_rattle_alloc(v36, 1);
+    if (!(v41._0 & 1)) goto v45;
+    u8 *v47 = (u8 *)v41._1;
+    memset_any(v47, 0, v36);
+    v48 = v47;
+v38:;
+    at(u8, v48) = 1;
+    flag v49 = v2 == 0;
+    v68 = 0;
+v67:;
+    if (!v49) goto v72;
+    memset(v10, 0, 16u);
+    if (!(at(u8, v11 + 56) == 1)) goto v105;
+    u8 *v106 = at(ptr, v11 + 64);
+    u64 v107 = at(u64, v11 + 72);
+    memset(v9, 0, 16u);
+    u64 v110 = uadd_sat64(at(u64, v11 + 96), at(u64, v11 + 88));
+    if (!((v110 != 0) & (v107 > v110))) goto v115;
+    u64 v116 = v110 * 12u;
+    if (!(v68 > at(u32, v106 + (i64)v116 - 8))) goto v115;
+    if (at(u32, v106 + (i64)v116 + 4) < v68) goto v115;
+    at(u64, v11 + 88) = v110;
+    u32 v126 = at(u32_1, v106 + (i64)v116);
+    u32 v127 = at(u32_1, v106 + (i64)v116 + 4);
+    u16 v131 = at(u16_1, v106 + (i64)v116 + 10);
+    u16 v137 = (u16)(((v68 > v126) ? ((u16)(v68 - v126)) : 0) + at(u16_1, v106 + (i64)v116 + 8));
+    at(u32, v9) = 1;
+    at(u32, v9 + 4) = umax32(v68, v126);
+    at(u32, v9 + 8) = v127;
+    at(u16, v9 + 12) = v137;
+    at(u16, v9 + 14) = v131;
+    v140 = 1; goto v138;
+v115:;
+    map_union_run_list_run_searched(v9, v106, v107, v11 + 88, v68);
+    v140 = at(u8, v9);
+v138:;
+    memcpy(v10 + 4, v9 + 4, 12u);
+    v143 = v140; goto v141;
+v105:;
+    font_map_chart_Chart_next_run_33e3(v10, v11 + 8, v68);
+    v143 = at(u8, v10);
+v141:;
+    v147 = v143; v148 = at(u32, v10 + 4); v149 = at(u32, v10 + 8); v150 = at(u16, v10 + 12); goto v101;
+v72:;
+    at(ptr, v8) = v11 + 8;
+    at(ptr, v8 + 8) = v3;
+    memset(v7, 0, 16u);
+    font_map_within_WithinPieces_piece_2760(v7, v8, v68);
+    if (!(at(u8, v7) == 1)) { v97 = 0; v98 = 0; v99 = 0; v100 = 0; goto v76; }
+    u32 v77 = at(u32, v7 + 4);
+    u16 v79 = at(u16, v7 + 12);
+    u32 v78 = at(u32, v7 + 8);
+    memset(v6, 0, 16u);
+    u32 v81 = ((u32)v79) - v77;
+    v83 = v78;
+v82:;
+    u32 v86 = v83 + 1;
+    font_map_within_WithinPieces_piece_2760(v6, v8, v86);
+    if (!(at(u8, v6) == 1)) goto v89;
+    if ((at(u32, v6 + 4) == v86) ? ((v81 + v86) == ((u32)at(u16, v6 + 12))) : 0) { v83 = at(u32, v6 + 8); goto v82; }
+v89:;
+    v97 = 1; v98 = v77; v99 = v83; v100 = v79;
+v76:;
+    v147 = v97; v148 = v98; v149 = v99; v150 = v100;
+v101:;
+    if (!(v147 == 1)) goto v153;
+    u32 v154 = (u32)v150;
+    u32 v157 = ((v149 - v148) + 1) + v154;
+    if (!(v157 > v154)) goto v70;
+    u32 v161 = (v149 + 1) - v148;
+    if (v161 < 4) { v203 = v154; goto v163; }
+    u32 v165 = v149 - v148;
+    if ((((u16)(v150 ^ 65535u)) < ((u16)v165)) | (v165 > 65535u)) { v203 = v154; goto v163; }
+    if (v161 < 16u) { v190 = 0; goto v173; }
+    u32 v175 = v161 & 12u;
+    u32 v176 = v161 & 0xfffffff0u;
+    v178 = 0;
+v177:;
+    at(u8x16_1, v48 + (i64)((u64)((v178 + v154) & 65535u))) = (u8x16){1, 1, 1, 1, 1, 1, 1, 1, 1, 1, 1, 1, 1, 1, 1, 1};
+    u32 v179 = v178 + 16u;
+    if (!(v179 == v176)) { v178 = v179; goto v177; }
+    if (v161 == v176) goto v70;
+    if (v175 == 0) { v203 = v176 + v154; goto v163; }
+    v190 = v176;
+v173:;
+    u32 v191 = v161 & 0xfffffffcu;
+    u32 v192 = v191 + v154;
+    v194 = v190;
+v193:;
+    at(u8x4_1, v48 + (i64)((u64)((v194 + v154) & 65535u))) = (u8x4){1, 1, 1, 1};
+    u32 v195 = v194 + 4;
+    if (!(v195 == v191)) { v194 = v195; goto v193; }
+    if (v161 == v191) goto v70;
+    v203 = v192;
+v163:;
+    v205 = v203;
+v204:;
+    at(u8, v48 + (i64)((u64)(v205 & 65535u))) = 1;
+    u32 v206 = v205 + 1;
+    if (!(v206 == v157)) { v205 = v206; goto v204; }
+v70:;
+    v68 = v149 + 1; goto v67;
+v153:;
+    memcpy(v13 + 7, v11, 104u);
+    v224 = 0; v225 = (u64)v2; v226 = (u64)v3; v227 = v48; v228 = v36; goto v214;
+v45:;
+    if ((v23 != 1) ? 1 : (at(u64, v11 + 40) == 0)) goto v220;
+    sys_rattle_dealloc(at(ptr, v11 + 24));
+v220:;
+    memset(v13 + 7, 0, 104u);
+    v224 = 1; v225 = 0; v226 = 0; v227 = (u8 *)0; v228 = 0;
+v214:;
+    at(u8, v0) = v224;
+    memcpy(v0 + 8, v13 + 7, 104u);
+    at(u64_1, v0 + 112) = v225;
+    at(u64_1, v0 + 120) = v226;
+    at(ptr_1, v0 + 128) = v227;
+    at(u64_1, v0 + 136) = v228;
+    at(u64_1, v0 + 144) = v228;
+    return;
+v19:;
+    at(u8, v0) = 1;
+    memset(v0 + 8, 0, 144u);
+    return;
+}
+
+void font_subset_selection_Selection_of_seeds_4cdf(u8 *v0, u8 *v1, u8 *v2, u8 *v3) {
+    u8 v5[1], v12[7], v13[7], v15[7], v16[7], v17[7], v18[16], v19[7], v20[7], v21[7], v22[16], *v76, *v145, *v148, *v198, *v203, *v207, *v245, *v199, *v204, *v146, *v149, *v292, v293, *v297, v298, *v300, v301, v302, *v308;
+    _Alignas(8) u8 v6[24], v7[32], v8[24], v9[24], v10[24], v11[16], v14[16], v23[16];
+    u64 v96, v107, v110, v118, v120, v150, v184, v185, v201, v205, v223, v246, v202, v151, v290, v291, v294, v295, v296, v299, v303, v304, v305, v306, v307, v309;
+    u64 v26 = (u64)at(u8, v2 + 104);
+    u64 v28 = at(u64_1, v2 + 112);
+    u64 v31 = (u64)at(u8, v3);
+    memset(v19, 0, 7);
+    memset(v20, 0, 7);
+    memset(v21, 0, 7);
+    memset(v22, 0, 16u);
+    memset(v23, 0, 16u);
+    u8 *v33 = at(ptr_1, v2);
+    u64 v35 = at(u64_1, v2 + 8);
+    u8 v37 = at(u8, v2 + 16);
+    memcpy(v12, v2 + 17, 7);
+    u8 *v40 = at(ptr_1, v2 + 24);
+    u64 v42 = at(u64_1, v2 + 32);
+    u64 v44 = at(u64_1, v2 + 40);
+    u64 v46 = at(u64_1, v2 + 48);
+    u8 v48 = at(u8, v2 + 56);
+    memcpy(v13, v2 + 57, 7);
+    u8 *v51 = at(ptr_1, v2 + 64);
+    u64 v53 = at(u64_1, v2 + 72);
+    u64 v55 = at(u64_1, v2 + 80);
+    memcpy(v14, v2 + 88, 16u);
+    memcpy(v9, v2 + 120, 24u);
+    u8 v57 = at(u8, v1);
+    memcpy(v10 + 8, v3 + 8, 16u);
+    memcpy(v11, v3 + 8, 16u);
+    memset(v15, 0, 7);
+    memset(v16, 0, 7);
+    memset(v17, 0, 7);
+    memset(v18, 0, 16u);
+    memset(v8, 0, 24u);
+    at(u64, v10) = v31;
+    font_subset_selection_mark_roots(v8, v9, v1, v10);
+    memset(v7, 0, 32u);
+    u8 *v59 = at(ptr, v8);
+    u64 v60 = (u64)v59;
+    u64 v62 = at(u64, v8 + 8);
+    flag v63 = v62 == 0;
+    if (v63) { v76 = v5; goto v64; }
+    if (!((i64)v62 > (i64)0xffffffffffffffffu)) goto v68;
+    u64_u64 v70 = sys_rattle_alloc(v62, 1);
+    if (!(v70._0 & 1)) goto v68;
+    v76 = (u8 *)v70._1;
+v64:;
+    if (!((((u64)v76) - ((u64)v59)) < v62)) goto v82;
+    if ((v62 < 4) | ((((u64)v76) - v60) < 32u)) { v118 = 0; goto v88; }
+    if (v62 < 16u) { v107 = 0; goto v91; }
+    u64 v93 = v62 & 12u;
+    u64 v94 = v62 & 0xfffffffffffffff0u;
+    v96 = 0;
+v95:;
+    at(u8x16_1, v76 + v96) = at(u8x16_1, v59 + v96);
+    u64 v97 = v96 + 16u;
+    if (!(v97 == v94)) { v96 = v97; goto v95; }
+    if (v62 == v94) goto v104;
+    if (v93 == 0) { v118 = v94; goto v88; }
+    v107 = v94;
+v91:;
+    u64 v108 = v62 & 0xfffffffffffffffcu;
+    v110 = v107;
+v109:;
+    at(u8x4_1, v76 + v110) = at(u8x4_1, v59 + v110);
+    u64 v111 = v110 + 4;
+    if (!(v111 == v108)) { v110 = v111; goto v109; }
+    if (v62 == v108) goto v104;
+    v118 = v108;
+v88:;
+    v120 = v118;
+v119:;
+    at(u8, v76 + v120) = at(u8, v59 + v120);
+    u64 v121 = v120 + 1;
+    if (v121 == v62) goto v104;
+    v120 = v121; goto v119;
+v82:;
+    memmove_any(v76, v59, v62);
+v104:;
+    font_glyph_closure_marked_6b3c(v7, v8, at(u16, v33 + 64));
+    if (!(at(u8, v7) == 0)) goto v131;
+    memcpy(v6, v7 + 8, 24u);
+    u64 v134 = at(u64, v6 + 8);
+    if (v134 == 0) goto v136;
+    u8 *v142 = at(ptr, v6);
+    v145 = v142; v148 = v142; v150 = v134;
+v143:;
+    u64 v152 = v150 - 1;
+    at(u64, v6 + 8) = v152;
+    u8 *v157 = at(ptr_1, v33 + 32);
+    u8 *v158 = at(ptr_1, v33 + 48);
+    u64 v159 = (u64)at(u16, v148 + (v152 << 1));
+    if (!(at(u8, v33 + 70) == 0)) goto v162;
+    u64 v163 = v159 << 1;
+    v184 = ((u64)bswap16(at(u16_1, v157 + (i64)v163))) << 1; v185 = ((u64)bswap16(at(u16_1, v157 + (i64)v163 + 2))) << 1; goto v174;
+v162:;
+    u64 v175 = v159 << 2;
+    v184 = (u64)bswap32(at(u32_1, v157 + (i64)v175)); v185 = (u64)bswap32(at(u32_1, v157 + (i64)v175 + 4));
+v174:;
+    u64 v187 = v185 - v184;
+    if (v185 == v184) { v151 = v152; v146 = v145; v149 = v148; goto v147; }
+    if ((i8)at(u8, v158 + (i64)v184) > (i8)255u) { v151 = v152; v146 = v145; v149 = v148; goto v147; }
+    u64 v193 = v187 - 10u;
+    if (!(v193 > 3)) { v151 = v152; v146 = v145; v149 = v148; goto v147; }
+    v198 = v145; v201 = v152; v203 = v148; v205 = v193; v207 = v158 + (i64)v184 + 10;
+v197:;
+    u16 v210 = bswap16(at(u16_1, v207));
+    u16 v212 = at(u16_1, v207 + 2);
+    if (!(((u16)(v210 & 8)) == 0)) { v223 = 2; goto v216; }
+    v223 = (u64)((((u16)(v210 & 64u)) == 0) ? ((u16)(((u16)(v210 >> 4)) & 8)) : 4);
+v216:;
+    u64 v227 = v223 + ((((u16)(v210 & 1)) == 0) ? 6 : 8);
+    if (v205 < v227) { v151 = v201; v146 = v198; v149 = v203; goto v147; }
+    u64 v206 = v205 - v227;
+    u16 v230 = bswap16(v212);
+    u64 v231 = (u64)v230;
+    if (at(u8, v76 + (i64)v231) & 1) { v199 = v198; v202 = v201; v204 = v203; goto v200; }
+    at(u8, v76 + (i64)v231) = 1;
+    if (!(at(u64, v6 + 16) == v201)) { v245 = v198; v246 = v201; goto v239; }
+    if (!std_alloc_vec_Vec_grow_amortized_1aee(v6, 1)) goto v242;
+    v245 = at(ptr, v6); v246 = at(u64, v6 + 8); goto v239;
+v242:;
+    if (at(u64, v6 + 16) == 0) goto v257;
+    sys_rattle_dealloc(at(ptr, v6));
+v257:;
+    if (v63) goto v68;
+    goto v144;
+v239:;
+    at(u16, v245 + (v246 << 1)) = v230;
+    u64 v249 = v246 + 1;
+    at(u64, v6 + 8) = v249;
+    v199 = v245; v202 = v249; v204 = v245;
+v200:;
+    if ((((u16)(v210 & 32u)) != 0) ? (v206 > 3) : 0) { v198 = v199; v201 = v202; v203 = v204; v205 = v206; v207 = v207 + (i64)v227; goto v197; }
+    v151 = v202; v146 = v199; v149 = v204;
+v147:;
+    if (!(v151 == 0)) { v145 = v146; v148 = v149; v150 = v151; goto v143; }
+v136:;
+    if (at(u64, v6 + 16) == 0) goto v263;
+    sys_rattle_dealloc(at(ptr, v6));
+v263:;
+    if (at(u64, v8 + 16) == 0) goto v269;
+    sys_rattle_dealloc(at(ptr, v8));
+v269:;
+    memcpy(v16, v12, 7);
+    memcpy(v17, v13, 7);
+    memcpy(v18, v14, 16u);
+    memcpy(v19, v15, 7);
+    memcpy(v20, v16, 7);
+    memcpy(v21, v17, 7);
+    memcpy(v22, v18, 16u);
+    memcpy(v23, v11, 16u);
+    v290 = v55; v291 = v53; v292 = v51; v293 = v48; v294 = v46; v295 = v44; v296 = v42; v297 = v40; v298 = v37; v299 = v35; v300 = v33; v301 = 0; v302 = v57; v303 = 1; v304 = (u64)v1; v305 = v26; v306 = v28; v307 = v31; v308 = v76; v309 = v62; goto v279;
+v131:;
+    if (v63) goto v68;
+v144:;
+    sys_rattle_dealloc(v76);
+v68:;
+    if (at(u64, v8 + 16) == 0) goto v275;
+    sys_rattle_dealloc(at(ptr, v8));
+v275:;
+    if ((v37 != 1) ? 1 : (v44 == 0)) goto v283;
+    sys_rattle_dealloc(v40);
+v283:;
+    if ((v48 != 1) ? 1 : (v55 == 0)) goto v288;
+    sys_rattle_dealloc(v51);
+v288:;
+    memset(v19, 0, 7);
+    memset(v20, 0, 7);
+    memset(v21, 0, 7);
+    memset(v22, 0, 16u);
+    memset(v23, 0, 16u);
+    v290 = 0; v291 = 0; v292 = (u8 *)0; v293 = 0; v294 = 0; v295 = 0; v296 = 0; v297 = (u8 *)0; v298 = 0; v299 = 0; v300 = (u8 *)0; v301 = 1; v302 = 0; v303 = 0; v304 = 0; v305 = 0; v306 = 0; v307 = 0; v308 = (u8 *)0; v309 = 0;
+v279:;
+    at(u8, v0) = v301;
+    at(u8, v0 + 8) = v302;
+    memcpy(v0 + 9, v19, 7);
+    at(ptr_1, v0 + 16) = v300;
+    at(u64_1, v0 + 24) = v299;
+    at(u8, v0 + 32) = v298;
+    memcpy(v0 + 33, v20, 7);
+    at(ptr_1, v0 + 40) = v297;
+    at(u64_1, v0 + 48) = v296;
+    at(u64_1, v0 + 56) = v295;
+    at(u64_1, v0 + 64) = v294;
+    at(u8, v0 + 72) = v293;
+    memcpy(v0 + 73, v21, 7);
+    at(ptr_1, v0 + 80) = v292;
+    at(u64_1, v0 + 88) = v291;
+    at(u64_1, v0 + 96) = v290;
+    memcpy(v0 + 104, v22, 16u);
+    at(u64_1, v0 + 120) = v303;
+    at(u64_1, v0 + 128) = v304;
+    at(u64_1, v0 + 136) = v305;
+    at(u64_1, v0 + 144) = v306;
+    at(u64_1, v0 + 152) = v307;
+    memcpy(v0 + 160, v23, 16u);
+    at(ptr_1, v0 + 176) = v308;
+    at(u64_1, v0 + 184) = v309;
+    at(u64_1, v0 + 192) = v309;
+    return;
+}
+
+static void font_subset_selection_mark_roots(u8 *v0, u8 *v1, u8 *v2, u8 *v3) {
+    _Alignas(8) u8 v5[24], v6[24], v7[56], v8[56], v9[56], v15[24], v16[24];
+    u64 v31;
+    u16 v58, v62;
+    u8 *v63;
+    u8 v10 = at(u8, v3);
+    u8 *v12 = at(ptr_1, v3 + 8);
+    u64 v14 = at(u64_1, v3 + 16);
+    memcpy(v16, v1, 24u);
+    memset(v7, 0, 56u);
+    memset(v9, 0, 56u);
+    memcpy(v5, v1, 24u);
+    if (at(u8, v2) == 0) { v63 = v16; goto v19; }
+    if (!(v10 == 1)) goto v23;
+    font_subset_presence_Presence_of(v7, v2);
+    memcpy(v8, v7, 56u);
+    if (v14 == 0) goto v25;
+    u8 *v27 = at(ptr, v8);
+    u8 *v29 = at(ptr, v5);
+    v31 = 0;
+v30:;
+    u16 v36 = at(u16, v12 + (i64)(v31 << 1));
+    if (!(v36 < at(u16, at(ptr, v27 + 8) + 64))) goto v33;
+    u64 v42 = (u64)v36;
+    if (at(u8, v29 + (i64)v42) & 1) goto v33;
+    if (!font_subset_presence_Presence_has(v8, v36)) goto v33;
+    at(u8, v29 + (i64)v42) = 1;
+v33:;
+    u64 v32 = v31 + 1;
+    if (v32 == v14) goto v25;
+    v31 = v32; goto v30;
+v23:;
+    font_subset_presence_Presence_of(v9, v2);
+    u16 v54 = at(u16, at(ptr, at(ptr, v9) + 8) + 64);
+    if (v54 > 64u) v58 = 0; else { v62 = 0; goto v57; }
+v56:;
+    u16 v59 = (u16)(v58 + 64u);
+    font_subset_presence_mark_between(v5, v9, v58, v59);
+    if (((u16)(v54 - v59)) > 64u) { v58 = v59; goto v56; }
+    v62 = v59;
+v57:;
+    font_subset_presence_mark_between(v5, v9, v62, v54);
+v25:;
+    memcpy(v6, v5, 24u);
+    v63 = v6;
+v19:;
+    memcpy(v15, v63, 24u);
+    memcpy(v0, v15, 24u);
+    return;
+}
+
+void font_variations_gvar_Variations_open(u8 *v0, u8 *v1, u64 v2, u8 *v3, u16 v4) {
+    u64 v77, v98, v102, v121, v142, v146, v180;
+    u16x8 v79;
+    flag v97, v100, v158, v141, v144, v159;
+    u32x4 v123;
+    u32 v178, v179;
+    u8 *v207;
+    u8 *v7 = at(ptr_1, v3 + 8);
+    if (v2 < 20u) goto v9;
+    if (((at(u8, v3) != 1) ? 1 : (at(u64_1, v3 + 16) < 10u)) | (at(u32_1, v1) != 256u)) goto v9;
+    u16 v22 = at(u16_1, v1 + 4);
+    if (!(v22 == at(u16_1, v7 + 8))) goto v9;
+    if (!(bswap16(at(u16_1, v1 + 12)) == v4)) goto v9;
+    u16 v33 = at(u16_1, v1 + 14);
+    if (bswap16(v33) > 1) goto v9;
+    flag v37 = v33 == 0;
+    u64 v38 = (u64)v4;
+    u64 v42 = ((v38 + 1) << ((v37 ? 1 : 2) & 63)) + 20u;
+    if (v2 < v42) goto v9;
+    u16 v46 = at(u16_1, v1 + 6);
+    u16 v47 = bswap16(v46);
+    if (v46 == 0) goto v49;
+    u64 v54 = (u64)bswap32(at(u32_1, v1 + 8));
+    if (v42 > v54) goto v9;
+    if ((v2 < v54) ? 1 : ((v2 - v54) < ((((u64)bswap16(v22)) << 1) * ((u64)v47)))) goto v9;
+v49:;
+    flag v67 = v4 == 0;
+    if (!v37) goto v69;
+    if (v67) goto v70;
+    if (v4 < 8) { v97 = 0; v98 = 0; goto v73; }
+    u64 v75 = v38 & 65528u;
+    v77 = 0; v79 = (u16x8){0};
+v76:;
+    u16x8 v80 = v79 | ((u16x8)(bswap_u16x8(at(u16x8_1, (v1 + 20) + (i64)(v77 << 1) + 2)) < bswap_u16x8(at(u16x8_1, (v1 + 20) + (i64)(v77 << 1)))));
+    u64 v78 = v77 + 8;
+    if (!(v78 == v75)) { v77 = v78; v79 = v80; goto v76; }
+    flag v94 = bits_u16x8(v80) != 0;
+    if (v75 == v38) { v158 = v94; goto v96; }
+    v97 = v94; v98 = v75;
+v73:;
+    v100 = v97; v102 = v98;
+v99:;
+    u64 v103 = v102 + 1;
+    flag v101 = v100 | (bswap16(at(u16_1, (v1 + 20) + (i64)(v103 << 1))) < bswap16(at(u16_1, (v1 + 20) + (i64)(v102 << 1))));
+    if (v103 == v38) v158 = v101; else { v100 = v101; v102 = v103; goto v99; }
+v96:;
+    if (v158) goto v9;
+v70:;
+    u32 v161 = at(u32_1, v1 + 16);
+    v178 = v161; v179 = bswap32(v161); v180 = ((u64)bswap16(at(u16_1, (v1 + 20) + (i64)(v38 << 1)))) << 1; goto v169;
+v69:;
+    if (v67) goto v114;
+    if (v4 < 4) { v141 = 0; v142 = 0; goto v117; }
+    u64 v119 = v38 & 65532u;
+    v121 = 0; v123 = (u32x4){0};
+v120:;
+    u32x4 v124 = v123 | ((u32x4)(bswap_u32x4(at(u32x4_1, (v1 + 20) + (i64)(v121 << 2) + 4)) < bswap_u32x4(at(u32x4_1, (v1 + 20) + (i64)(v121 << 2)))));
+    u64 v122 = v121 + 4;
+    if (!(v122 == v119)) { v121 = v122; v123 = v124; goto v120; }
+    flag v138 = bits_u32x4(v124) != 0;
+    if (v119 == v38) { v159 = v138; goto v140; }
+    v141 = v138; v142 = v119;
+v117:;
+    v144 = v141; v146 = v142;
+v143:;
+    u64 v147 = v146 + 1;
+    flag v145 = v144 | (bswap32(at(u32_1, (v1 + 20) + (i64)(v147 << 2))) < bswap32(at(u32_1, (v1 + 20) + (i64)(v146 << 2))));
+    if (v147 == v38) v159 = v145; else { v144 = v145; v146 = v147; goto v143; }
+v140:;
+    if (v159) goto v9;
+v114:;
+    u32 v171 = at(u32_1, v1 + 16);
+    v178 = v171; v179 = bswap32(v171); v180 = (u64)bswap32(at(u32_1, (v1 + 20) + (i64)(v38 << 2)));
+v169:;
+    u64 v181 = (u64)v179;
+    if ((v2 < v181) ? 1 : ((v2 - v181) < v180)) goto v9;
+    u64 v189 = v2 - 20u;
+    u64 v191 = (u64)bswap32(v178);
+    u64 v193 = v2 - v191;
+    u64 v198 = (((u64)bswap16(v22)) << 1) * ((u64)v47);
+    if (v198 == 0) { v207 = (u8 *)table_d0e67785; goto v200; }
+    v207 = v1 + (i64)((u64)bswap32(at(u32_1, v1 + 8)));
+v200:;
+    at(u8, v0) = 0;
+    at(ptr_1, v0 + 8) = v1;
+    at(u64_1, v0 + 16) = v2;
+    at(ptr_1, v0 + 24) = v1 + 20;
+    at(u64_1, v0 + 32) = v189;
+    at(ptr_1, v0 + 40) = v1 + (i64)v191;
+    at(u64_1, v0 + 48) = v193;
+    at(ptr_1, v0 + 56) = v207;
+    at(u64_1, v0 + 64) = v198;
+    at(u8, v0 + 72) = (u8)(v33 != 0);
+    at(u8, v0 + 73) = 0;
+    at(u16_1, v0 + 74) = v4;
+    at(u32_1, v0 + 76) = 0;
+    return;
+v9:;
+    at(u8, v0) = 1;
+    memset(v0 + 8, 0, 72u);
+    return;
+}
+
+u8 font_write_bytes_send_padded_6755(u8 *v0, u64 v1, u8 *v2) {
+    u64 v23, v24, v48, v59, v62, v70, v72, v99, v100;
+    u64 v4 = (u64)v0;
+    at(u8, v2 + 33) = 0;
+    if (v1 == 0) goto v7;
+    u64 v12 = at(u64, v2 + 16);
+    u64 v13 = at(u64, v2 + 8);
+    if (!(v1 > (v12 - v13))) { v23 = v12; v24 = v13; goto v17; }
+    if (!std_alloc_vec_Vec_grow_amortized_1cf2(v2, v1)) goto v20;
+    v23 = at(u64, v2 + 16); v24 = at(u64, v2 + 8); goto v17;
+v20:;
+    at(u8, v2 + 32) = 1;
+    return 1;
+v17:;
+    u64 v25 = v24 + v1;
+    u8 *v26 = at(ptr, v2);
+    u64 v27 = (u64)v26;
+    memset(v2 + 8, 0, 16u);
+    if (!((((u64)(v26 + (i64)v24)) - ((u64)v0)) < v1)) goto v34;
+    if (v1 < 4) { v70 = 0; goto v36; }
+    if (((v24 + v27) - v4) < 32u) { v70 = 0; goto v36; }
+    if (v1 < 16u) { v59 = 0; goto v43; }
+    u64 v45 = v1 & 12u;
+    u64 v46 = v1 & 0xfffffffffffffff0u;
+    v48 = 0;
+v47:;
+    at(u8x16_1, (v26 + (i64)v24) + v48) = at(u8x16_1, v0 + v48);
+    u64 v49 = v48 + 16u;
+    if (!(v49 == v46)) { v48 = v49; goto v47; }
+    if (v1 == v46) goto v56;
+    if (v45 == 0) { v70 = v46; goto v36; }
+    v59 = v46;
+v43:;
+    u64 v60 = v1 & 0xfffffffffffffffcu;
+    v62 = v59;
+v61:;
+    at(u8x4_1, (v26 + (i64)v24) + v62) = at(u8x4_1, v0 + v62);
+    u64 v63 = v62 + 4;
+    if (!(v63 == v60)) { v62 = v63; goto v61; }
+    if (v1 == v60) goto v56;
+    v70 = v60;
+v36:;
+    v72 = v70;
+v71:;
+    at(u8, (v26 + (i64)v24) + v72) = at(u8, v0 + v72);
+    u64 v73 = v72 + 1;
+    if (v73 == v1) goto v56;
+    v72 = v73; goto v71;
+v34:;
+    memmove_any(v26 + (i64)v24, v0, v1);
+v56:;
+    at(ptr, v2) = v26;
+    at(u64, v2 + 8) = v25;
+    at(u64, v2 + 16) = v23;
+    at(u64, v2 + 24) = at(u64, v2 + 24) + v1;
+v7:;
+    u64 v81 = ((u64)0 - v1) & 3;
+    at(u8, v2 + 33) = 0;
+    if (v81 == 0) return 0;
+    u64 v88 = at(u64, v2 + 16);
+    u64 v89 = at(u64, v2 + 8);
+    if (!(v81 > (v88 - v89))) { v99 = v88; v100 = v89; goto v93; }
+    if (!std_alloc_vec_Vec_grow_amortized_1cf2(v2, v81)) goto v96;
+    v99 = at(u64, v2 + 16); v100 = at(u64, v2 + 8); goto v93;
+v96:;
+    at(u8, v2 + 32) = 1;
+    return 1;
+v93:;
+    u8 *v102 = at(ptr, v2);
+    memset_any(v102 + (i64)v100, 0, v81);
+    at(ptr, v2) = v102;
+    at(u64, v2 + 8) = v100 + v81;
+    at(u64, v2 + 16) = v99;
+    at(u64, v2 + 24) = at(u64, v2 + 24) + v81;
+    return 0;
+}
+
+u8 font_write_bytes_send_padded_823e(u8 *v0, u64 v1, u8 *v2) {
+    _Alignas(8) u8 v5[96], v6[96];
+    u64 v17, v52, v63, v66, v74, v76, v87, v103, v128;
+    u64 v4 = (u64)v0;
+    at(u8, v2 + 145) = 0;
+    if (v1 == 0) goto v9;
+    v17 = 0;
+v16:;
+    u64 v21 = v1 - v17;
+    memset(v6, 0, 96u);
+    u64 v22 = at(u64, v2 + 128);
+    u64 v23 = at(u64, v2 + 120);
+    if (!(v21 < (v22 - v23))) goto v27;
+    u64 v28 = v23 + v21;
+    u8 *v29 = at(ptr, v2 + 112);
+    u64 v30 = (u64)v29;
+    memset(v2 + 120, 0, 16u);
+    if (!((((u64)(v29 + (i64)v23)) - ((u64)(v0 + (i64)v17))) < v21)) goto v37;
+    if (v21 < 4) { v74 = 0; goto v39; }
+    if (((v23 + v30) - (v17 + v4)) < 32u) { v74 = 0; goto v39; }
+    if (v21 < 16u) { v63 = 0; goto v47; }
+    u64 v49 = v21 & 12u;
+    u64 v50 = v21 & 0xfffffffffffffff0u;
+    v52 = 0;
+v51:;
+    at(u8x16_1, (v29 + (i64)v23) + v52) = at(u8x16_1, (v0 + (i64)v17) + v52);
+    u64 v53 = v52 + 16u;
+    if (!(v53 == v50)) { v52 = v53; goto v51; }
+    if (v21 == v50) goto v60;
+    if (v49 == 0) { v74 = v50; goto v39; }
+    v63 = v50;
+v47:;
+    u64 v64 = v21 & 0xfffffffffffffffcu;
+    v66 = v63;
+v65:;
+    at(u8x4_1, (v29 + (i64)v23) + v66) = at(u8x4_1, (v0 + (i64)v17) + v66);
+    u64 v67 = v66 + 4;
+    if (!(v67 == v64)) { v66 = v67; goto v65; }
+    if (v21 == v64) goto v60;
+    v74 = v64;
+v39:;
+    v76 = v74;
+v75:;
+    at(u8, (v29 + (i64)v23) + v76) = at(u8, (v0 + (i64)v17) + v76);
+    u64 v77 = v76 + 1;
+    if (v77 == v21) goto v60;
+    v76 = v77; goto v75;
+v37:;
+    memmove_any(v29 + (i64)v23, v0 + (i64)v17, v21);
+v60:;
+    at(ptr, v2 + 112) = v29;
+    at(u64, v2 + 120) = v28;
+    at(u64, v2 + 128) = v22;
+    v87 = v21; goto v82;
+v27:;
+    std_io_buffered_BufWriter_write_cold(v6, v2, v0 + (i64)v17, v21);
+    if (at(u8, v6) == 0) v87 = at(u64, v6 + 8); else goto v86;
+v82:;
+    if (v87 == 0) goto v86;
+    u64 v18 = v87 + v17;
+    at(u64, v2 + 136) = at(u64, v2 + 136) + v87;
+    if (v18 < v1) { v17 = v18; goto v16; }
+v9:;
+    u64 v93 = ((u64)0 - v1) & 3;
+    at(u8, v2 + 145) = 0;
+    if (v93 == 0) return 0;
+    v103 = 0;
+v102:;
+    u64 v107 = v93 - v103;
+    memset(v5, 0, 96u);
+    u64 v108 = at(u64, v2 + 128);
+    u64 v109 = at(u64, v2 + 120);
+    if (!(v107 < (v108 - v109))) goto v113;
+    u64 v114 = v109 + v107;
+    u8 *v115 = at(ptr, v2 + 112);
+    if (!((((u64)(v115 + (i64)v109)) - ((u64)((u8 *)table_18327a07 + (i64)v103))) < v107)) goto v122;
+    memset_any(v115 + (i64)v109, 0, v107);
+    goto v123;
+v122:;
+    memcpy_any(v115 + (i64)v109, (u8 *)table_18327a07 + (i64)v103, v107);
+v123:;
+    at(ptr, v2 + 112) = v115;
+    at(u64, v2 + 120) = v114;
+    at(u64, v2 + 128) = v108;
+    v128 = v107; goto v124;
+v113:;
+    std_io_buffered_BufWriter_write_cold(v5, v2, (u8 *)table_18327a07 + (i64)v103, v107);
+    if (at(u8, v5) == 0) v128 = at(u64, v5 + 8); else goto v86;
+v124:;
+    if (v128 == 0) goto v86;
+    u64 v104 = v128 + v103;
+    at(u64, v2 + 136) = at(u64, v2 + 136) + v128;
+    if (v104 < v93) { v103 = v104; goto v102; }
+    return 0;
+v86:;
+    at(u8, v2 + 144) = 1;
+    return 1;
+}
+
+u8 font_write_made_head_send_head_end_1854(u8 *v0, u64 v1, u8 *v2) {
+    u64 v20, v21, v30, v55, v56, v80, v91, v94, v102, v104;
+    u8 *v54;
+    u64 v4 = (u64)v0;
+    at(u8, v2 + 33) = 0;
+    u64 v9 = at(u64, v2 + 16);
+    u64 v10 = at(u64, v2 + 8);
+    if (!((v9 - v10) < 2)) { v20 = v9; v21 = v10; goto v14; }
+    if (!std_alloc_vec_Vec_grow_amortized_1cf2(v2, 2)) goto v17;
+    v20 = at(u64, v2 + 16); v21 = at(u64, v2 + 8); goto v14;
+v17:;
+    at(u8, v2 + 32) = 1;
+    return 1;
+v14:;
+    u64 v22 = v21 + 2;
+    u8 *v23 = at(ptr, v2);
+    if ((((u64)(v23 + (i64)v21)) - ((u64)(u8 *)table_87e6e93c)) < 2) v30 = 0; else goto v29;
+v28:;
+    at(u8, (v23 + (i64)v21) + v30) = at(u8, (u8 *)table_87e6e93c + v30);
+    u64 v31 = v30 + 1;
+    if (v31 == 2) goto v36;
+    v30 = v31; goto v28;
+v29:;
+    at(u16_1, v23 + (i64)v21) = 256u;
+v36:;
+    at(ptr, v2) = v23;
+    at(u64, v2 + 8) = v22;
+    at(u64, v2 + 16) = v20;
+    at(u64, v2 + 24) = at(u64, v2 + 24) + 2;
+    u64 v40 = v1 - 52u;
+    at(u8, v2 + 33) = 0;
+    if (v40 == 0) return 0;
+    if (!(v40 > (v20 - v22))) { v54 = v23; v55 = v20; v56 = v22; goto v47; }
+    if (!std_alloc_vec_Vec_grow_amortized_1cf2(v2, v40)) goto v50;
+    v54 = at(ptr, v2); v55 = at(u64, v2 + 16); v56 = at(u64, v2 + 8); goto v47;
+v50:;
+    at(u8, v2 + 32) = 1;
+    return 1;
+v47:;
+    u64 v57 = (u64)v54;
+    u64 v58 = v56 + v40;
+    memset(v2 + 8, 0, 16u);
+    if (!((((u64)(v54 + (i64)v56)) - ((u64)(v0 + 52))) < v40)) goto v65;
+    if (v40 < 4) { v102 = 0; goto v67; }
+    if ((((v56 + v57) - 52u) - v4) < 32u) { v102 = 0; goto v67; }
+    if (v40 < 16u) { v91 = 0; goto v75; }
+    u64 v77 = v40 & 12u;
+    u64 v78 = v40 & 0xfffffffffffffff0u;
+    v80 = 0;
+v79:;
+    at(u8x16_1, (v54 + (i64)v56) + v80) = at(u8x16_1, (v0 + 52) + v80);
+    u64 v81 = v80 + 16u;
+    if (!(v81 == v78)) { v80 = v81; goto v79; }
+    if (v40 == v78) goto v88;
+    if (v77 == 0) { v102 = v78; goto v67; }
+    v91 = v78;
+v75:;
+    u64 v92 = v40 & 0xfffffffffffffffcu;
+    v94 = v91;
+v93:;
+    at(u8x4_1, (v54 + (i64)v56) + v94) = at(u8x4_1, (v0 + 52) + v94);
+    u64 v95 = v94 + 4;
+    if (!(v95 == v92)) { v94 = v95; goto v93; }
+    if (v40 == v92) goto v88;
+    v102 = v92;
+v67:;
+    v104 = v102;
+v103:;
+    at(u8, (v54 + (i64)v56) + v104) = at(u8, (v0 + 52) + v104);
+    u64 v105 = v104 + 1;
+    if (v105 == v40) goto v88;
+    v104 = v105; goto v103;
+v65:;
+    memmove_any(v54 + (i64)v56, v0 + 52, v40);
+v88:;
+    at(ptr, v2) = v54;
+    at(u64, v2 + 8) = v58;
+    at(u64, v2 + 16) = v55;
+    at(u64, v2 + 24) = at(u64, v2 + 24) + v40;
+    return 0;
+}
+
+u8 font_write_made_head_send_head_end_7cc9(u8 *v0, u64 v1, u8 *v2) {
+    _Alignas(8) u8 v5[96], v6[96];
+    u64 v14, v35, v47, v59, v95, v106, v109, v117, v119, v129;
+    u64 v4 = (u64)v0;
+    at(u8, v2 + 145) = 0;
+    v14 = 0;
+v13:;
+    u64 v18 = (u64)2 - v14;
+    memset(v6, 0, 96u);
+    u64 v19 = at(u64, v2 + 128);
+    u64 v20 = at(u64, v2 + 120);
+    if (!(v18 < (v19 - v20))) goto v24;
+    u64 v25 = v20 + v18;
+    u8 *v26 = at(ptr, v2 + 112);
+    if ((((u64)(v26 + (i64)v20)) - ((u64)((u8 *)table_87e6e93c + (i64)v14))) < v18) v35 = 0; else goto v33;
+v32:;
+    at(u8, (v26 + (i64)v20) + v35) = at(u8, ((u8 *)table_87e6e93c + (i64)v14) + v35);
+    u64 v36 = v35 + 1;
+    if (v36 == v18) goto v34;
+    v35 = v36; goto v32;
+v33:;
+    memcpy_any(v26 + (i64)v20, (u8 *)table_87e6e93c + (i64)v14, v18);
+v34:;
+    at(ptr, v2 + 112) = v26;
+    at(u64, v2 + 120) = v25;
+    at(u64, v2 + 128) = v19;
+    v47 = v18; goto v16;
+v24:;
+    std_io_buffered_BufWriter_write_cold(v6, v2, (u8 *)table_87e6e93c + (i64)v14, v18);
+    u64 v42 = at(u64, v6 + 8);
+    if ((at(u8, v6) != 0) ? 1 : (v42 == 0)) goto v46;
+    v47 = v42;
+v16:;
+    u64 v15 = v47 + v14;
+    at(u64, v2 + 136) = at(u64, v2 + 136) + v47;
+    if (v15 < 2) { v14 = v15; goto v13; }
+    u64 v53 = v1 - 52u;
+    at(u8, v2 + 145) = 0;
+    if (v53 == 0) return 0;
+    v59 = 0;
+v58:;
+    u64 v63 = v53 - v59;
+    memset(v5, 0, 96u);
+    u64 v64 = at(u64, v2 + 128);
+    u64 v65 = at(u64, v2 + 120);
+    if (!(v63 < (v64 - v65))) goto v69;
+    u64 v70 = v65 + v63;
+    u8 *v71 = at(ptr, v2 + 112);
+    u64 v72 = (u64)v71;
+    memset(v2 + 120, 0, 16u);
+    if (!((((u64)(v71 + (i64)v65)) - ((u64)((v0 + 52) + (i64)v59))) < v63)) goto v79;
+    if (v63 < 4) { v117 = 0; goto v81; }
+    if (((((v65 - v4) - 52u) + v72) - v59) < 32u) { v117 = 0; goto v81; }
+    if (v63 < 16u) { v106 = 0; goto v90; }
+    u64 v92 = v63 & 12u;
+    u64 v93 = v63 & 0xfffffffffffffff0u;
+    v95 = 0;
+v94:;
+    at(u8x16_1, (v71 + (i64)v65) + v95) = at(u8x16_1, ((v0 + 52) + (i64)v59) + v95);
+    u64 v96 = v95 + 16u;
+    if (!(v96 == v93)) { v95 = v96; goto v94; }
+    if (v63 == v93) goto v103;
+    if (v92 == 0) { v117 = v93; goto v81; }
+    v106 = v93;
+v90:;
+    u64 v107 = v63 & 0xfffffffffffffffcu;
+    v109 = v106;
+v108:;
+    at(u8x4_1, (v71 + (i64)v65) + v109) = at(u8x4_1, ((v0 + 52) + (i64)v59) + v109);
+    u64 v110 = v109 + 4;
+    if (!(v110 == v107)) { v109 = v110; goto v108; }
+    if (v63 == v107) goto v103;
+    v117 = v107;
+v81:;
+    v119 = v117;
+v118:;
+    at(u8, (v71 + (i64)v65) + v119) = at(u8, ((v0 + 52) + (i64)v59) + v119);
+    u64 v120 = v119 + 1;
+    if (v120 == v63) goto v103;
+    v119 = v120; goto v118;
+v79:;
+    memmove_any(v71 + (i64)v65, (v0 + 52) + (i64)v59, v63);
+v103:;
+    at(ptr, v2 + 112) = v71;
+    at(u64, v2 + 120) = v70;
+    at(u64, v2 + 128) = v64;
+    v129 = v63; goto v125;
+v69:;
+    std_io_buffered_BufWriter_write_cold(v5, v2, (v0 + 52) + (i64)v59, v63);
+    if (at(u8, v5) == 0) v129 = at(u64, v5 + 8); else goto v46;
+v125:;
+    if (v129 == 0) goto v46;
+    u64 v60 = v129 + v59;
+    at(u64, v2 + 136) = at(u64, v2 + 136) + v129;
+    if (v60 < v53) { v59 = v60; goto v58; }
+    return 0;
+v46:;
+    at(u8, v2 + 144) = 1;
+    return 1;
+}
+
+u8 font_write_made_head_send_head_front_2b60(u8 *v0, u32 v1, u8 *v2) {
+    u64 v19, v20, v30, v52, v53;
+    u8 *v51;
+    at(u8, v2 + 33) = 0;
+    u64 v8 = at(u64, v2 + 16);
+    u64 v9 = at(u64, v2 + 8);
+    if (!((v8 - v9) < 8)) { v19 = v8; v20 = v9; goto v13; }
+    if (!std_alloc_vec_Vec_grow_amortized_1cf2(v2, 8)) goto v16;
+    v19 = at(u64, v2 + 16); v20 = at(u64, v2 + 8); goto v13;
+v16:;
+    at(u8, v2 + 32) = 1;
+    return 1;
+v13:;
+    u64 v21 = v20 + 8;
+    u8 *v22 = at(ptr, v2);
+    memset(v2 + 8, 0, 16u);
+    if ((((u64)(v22 + (i64)v20)) - ((u64)v0)) < 8) v30 = 0; else goto v29;
+v28:;
+    at(u8, (v22 + (i64)v20) + v30) = at(u8, v0 + v30);
+    u64 v31 = v30 + 1;
+    if (v31 == 8) goto v36;
+    v30 = v31; goto v28;
+v29:;
+    at(u64_1, v22 + (i64)v20) = at(u64_1, v0);
+v36:;
+    at(ptr, v2) = v22;
+    at(u64, v2 + 8) = v21;
+    at(u64, v2 + 16) = v19;
+    at(u64, v2 + 24) = at(u64, v2 + 24) + 8;
+    u32 v40 = bswap32(v1);
+    at(u8, v2 + 33) = 0;
+    if (!((v19 - v21) < 4)) { v51 = v22; v52 = v19; v53 = v21; goto v44; }
+    if (!std_alloc_vec_Vec_grow_amortized_1cf2(v2, 4)) goto v47;
+    v51 = at(ptr, v2); v52 = at(u64, v2 + 16); v53 = at(u64, v2 + 8); goto v44;
+v47:;
+    at(u8, v2 + 32) = 1;
+    return 1;
+v44:;
+    at(u32_1, v51 + (i64)v53) = v40;
+    at(ptr, v2) = v51;
+    at(u64, v2 + 8) = v53 + 4;
+    at(u64, v2 + 16) = v52;
+    at(u64, v2 + 24) = at(u64, v2 + 24) + 4;
+    return 0;
+}
+
+u8 font_write_made_head_send_head_front_a2d5(u8 *v0, u32 v1, u8 *v2) {
+    _Alignas(8) u8 v4[96], v6[96];
+    _Alignas(4) u8 v5[4];
+    u64 v14, v35, v47, v55, v76, v88;
+    u8 v94;
+    at(u8, v2 + 145) = 0;
+    v14 = 0;
+v13:;
+    u64 v18 = (u64)8 - v14;
+    memset(v6, 0, 96u);
+    u64 v19 = at(u64, v2 + 128);
+    u64 v20 = at(u64, v2 + 120);
+    if (!(v18 < (v19 - v20))) goto v24;
+    u64 v25 = v20 + v18;
+    u8 *v26 = at(ptr, v2 + 112);
+    memset(v2 + 120, 0, 16u);
+    if ((((u64)(v26 + (i64)v20)) - ((u64)(v0 + (i64)v14))) < v18) v35 = 0; else goto v33;
+v32:;
+    at(u8, (v26 + (i64)v20) + v35) = at(u8, (v0 + (i64)v14) + v35);
+    u64 v36 = v35 + 1;
+    if (v36 == v18) goto v34;
+    v35 = v36; goto v32;
+v33:;
+    memmove_any(v26 + (i64)v20, v0 + (i64)v14, v18);
+v34:;
+    at(ptr, v2 + 112) = v26;
+    at(u64, v2 + 120) = v25;
+    at(u64, v2 + 128) = v19;
+    v47 = v18; goto v16;
+v24:;
+    std_io_buffered_BufWriter_write_cold(v6, v2, v0 + (i64)v14, v18);
+    u64 v42 = at(u64, v6 + 8);
+    if (!((at(u8, v6) != 0) ? 1 : (v42 == 0))) { v47 = v42; goto v16; }
+    at(u8, v2 + 144) = 1;
+    return 1;
+v16:;
+    u64 v15 = v47 + v14;
+    at(u64, v2 + 136) = at(u64, v2 + 136) + v47;
+    if (v15 < 8) { v14 = v15; goto v13; }
+    at(u32, v5) = bswap32(v1);
+    at(u8, v2 + 145) = 0;
+    v55 = 0;
+v54:;
+    u64 v59 = (u64)4 - v55;
+    memset(v4, 0, 96u);
+    u64 v60 = at(u64, v2 + 128);
+    u64 v61 = at(u64, v2 + 120);
+    if (!(v59 < (v60 - v61))) goto v65;
+    u64 v66 = v61 + v59;
+    u8 *v67 = at(ptr, v2 + 112);
+    if ((((u64)(v67 + (i64)v61)) - ((u64)(v5 + (i64)v55))) < v59) v76 = 0; else goto v74;
+v73:;
+    at(u8, (v67 + (i64)v61) + v76) = at(u8, (v5 + (i64)v55) + v76);
+    u64 v77 = v76 + 1;
+    if (v77 == v59) goto v75;
+    v76 = v77; goto v73;
+v74:;
+    memmove_any(v67 + (i64)v61, v5 + (i64)v55, v59);
+v75:;
+    at(ptr, v2 + 112) = v67;
+    at(u64, v2 + 120) = v66;
+    at(u64, v2 + 128) = v60;
+    v88 = v59; goto v57;
+v65:;
+    std_io_buffered_BufWriter_write_cold(v4, v2, v5 + (i64)v55, v59);
+    u64 v83 = at(u64, v4 + 8);
+    if (!((at(u8, v4) != 0) ? 1 : (v83 == 0))) { v88 = v83; goto v57; }
+    at(u8, v2 + 144) = 1;
+    v94 = 1; goto v92;
+v57:;
+    u64 v56 = v88 + v55;
+    at(u64, v2 + 136) = at(u64, v2 + 136) + v88;
+    if (v56 < 4) { v55 = v56; goto v54; }
+    v94 = 0;
+v92:;
+    return v94;
+}
+
+u32_u16 font_write_made_loca_gather_offsets(u8 *v0, u16 v1, u16 v2, u32 v3, u16 v4, u8 *v5) {
+    u64 v16, v83, v90, v103, v106, v113, v17;
+    u16 v19, v20, v121;
+    u32 v21, v61, v62, v64, v22, v120;
+    u8x16 v92;
+    if (!(v1 < v2)) { v120 = v3; v121 = v4; goto v9; }
+    u64 v13 = (u64)v1;
+    u64 v14 = (u64)v2;
+    v16 = v13; v19 = v4; v21 = v3;
+v15:;
+    if (!(v16 < ((u64)v19))) goto v26;
+    v17 = v16 + 1; v20 = v19; v22 = v21; goto v18;
+v26:;
+    u8 *v28 = at(ptr, v0 + 8);
+    if (!(v16 < ((u64)at(u16, v28 + 64)))) { v64 = 0; goto v34; }
+    u8 *v38 = at(ptr_1, v28 + 32);
+    if (!(at(u8, v28 + 70) == 0)) goto v41;
+    u64 v42 = v16 << 1;
+    v61 = ((u32)bswap16(at(u16_1, v38 + (i64)v42))) << 1; v62 = ((u32)bswap16(at(u16_1, v38 + (i64)v42 + 2))) << 1; goto v53;
+v41:;
+    u64 v54 = v16 << 2;
+    v61 = bswap32(at(u32_1, v38 + (i64)v54)); v62 = bswap32(at(u32_1, v38 + (i64)v54 + 4));
+v53:;
+    v64 = v62 - v61;
+v34:;
+    u32 v68 = (v64 + v21) + (((u32)0 - v64) & 3);
+    u64 v69 = v16 + 1;
+    u8 *v70 = at(ptr, v0 + 168);
+    u64 v71 = at(u64, v0 + 176);
+    if (!(v71 > v69)) goto v74;
+    if (at(u8, v70 + v69) & 1) { v113 = v69; goto v78; }
+v74:;
+    if ((v71 - v69) < 64u) { v103 = v69; goto v81; }
+    v83 = v69;
+v82:;
+    if (!(v83 < 0xffffffffffffffc0u)) goto v85;
+    v90 = 0; v92 = (u8x16){0};
+v89:;
+    u8x16 v93 = v92 | ((-(at(u8x16_1, (v70 + (i64)v83) + (i64)v90) & 1)));
+    u64 v91 = v90 + 16u;
+    if (!(v91 == 64u)) { v90 = v91; v92 = v93; goto v89; }
+    if (!(bits_u8x16(v93) == 0)) { v103 = v83; goto v81; }
+v85:;
+    u64 v84 = v83 + 64u;
+    if ((v71 - v84) < 64u) v103 = v84; else { v83 = v84; goto v82; }
+v81:;
+    if (v103 < v71) v106 = v103; else { v113 = v71; goto v78; }
+v105:;
+    if (at(u8, v70 + v106) & 1) { v113 = v106; goto v78; }
+    u64 v107 = v106 + 1;
+    if (v107 == v71) v113 = v71; else { v106 = v107; goto v105; }
+v78:;
+    v17 = v69; v20 = (u16)v113; v22 = v68;
+v18:;
+    at(u32_1, v5 + ((v16 - v13) << 2)) = bswap32(v22);
+    if (v17 == v14) { v120 = v22; v121 = v20; } else { v16 = v17; v19 = v20; v21 = v22; goto v15; }
+v9:;
+    return (u32_u16){v120, v121};
+}
+
+void font_write_plan_plan_of(u8 *v0, u8 *v1, u8 v2, u8 *v3) {
+    _Alignas(4) u8 v5[64], v6[20], v7[32], v9[4], v10[4], v11[4], v15[348], v19[348], v20[348];
+    u8 v8[12], v16[351], *v610, *v615, *v623, *v138, *v266, *v271, *v279, *v369, *v380, *v418, *v423, *v431, *v723, *v797;
+    _Alignas(8) u8 v12[48], v13[24], v14[16], v18[16];
+    _Alignas(2) u8 v17[22];
+    u64 v106, v597, v611, v617, v622, v124, v140, v162, v169, v182, v185, v192, v207, v233, v234, v253, v267, v273, v278, v296, v303, v316, v319, v208, v339, v370, v382, v405, v419, v425, v430, v455, v462, v475, v478, v485, v542, v549, v562, v565, v572, v639, v689, v725, v766;
+    u32x4 v599, v126, v255, v407;
+    u32 v609, v613, v624, v136, v204, v265, v269, v280, v378, v417, v421, v432, v495, v498, v524, v525, v628, v629, v630, v721, v761, v764, v804, v805;
+    u8x16 v171, v305, v464, v551;
+    u16 v500, v687, v709, v710, v711;
+    u16x8 v641;
+    memset(v16, 0, 351u);
+    memset(v17, 0, 22u);
+    memset(v19, 0, 348u);
+    memset(v20, 0, 348u);
+    memcpy(v18, v3, 16u);
+    memcpy(v14, v3, 16u);
+    flag v24 = v2 == 0;
+    u8 v25 = v24 ? 1 : 2;
+    u8 v26 = v24 ? 3 : 0;
+    u8 v27 = v24 ? 10u : 4;
+    u8 v28 = v24 ? 12u : 20u;
+    u8 v29 = v24 ? 12u : 3;
+    u8 v30 = v24 ? 0 : 10u;
+    u8 v31 = v24 ? 0 : 12u;
+    u64 v32 = v24 ? 28u : 36u;
+    memset(v15, 0, 348u);
+    u32 v65 = at(u32, v14);
+    u32 v67 = at(u32, v14 + 4);
+    u32 v70 = bswap32((v65 * 12u) + 16u);
+    u8 v71 = (u8)v70;
+    u8 v73 = (u8)(v70 >> 8);
+    u8 v75 = (u8)(v70 >> 16u);
+    u8 v77 = (u8)(v70 >> 24u);
+    u32 v78 = bswap32(v65);
+    u8 v79 = (u8)v78;
+    u8 v81 = (u8)(v78 >> 8);
+    u8 v83 = (u8)(v78 >> 16u);
+    u8 v85 = (u8)(v78 >> 24u);
+    u8 v86 = v24 ? v71 : 0;
+    u8 v87 = v24 ? v73 : 0;
+    u8 v88 = v24 ? v75 : 0;
+    u8 v89 = v24 ? v77 : 20u;
+    u8 v90 = v24 ? v79 : v71;
+    u8 v91 = v24 ? v81 : v73;
+    u8 v92 = v24 ? v83 : v75;
+    u8 v93 = v24 ? v85 : v77;
+    u8 v94 = v24 ? 0 : v79;
+    u8 v95 = v24 ? 0 : v81;
+    u8 v96 = v24 ? 0 : v83;
+    u8 v97 = v24 ? 0 : v85;
+    u64 v100 = ((v32 + 60u) >> 2) & 12u;
+    u64 v101 = v100 << 2;
+    u64 v104 = v32 - (v100 << 2);
+    v106 = 0;
+v105:;
+    u64 v111 = at(u64, (u8 *)table_faed1f12 + (v106 << 3));
+    u8_u64 v112 = font_write_size_table_length_a65d(v1, v2, v14, v111);
+    u8 v113 = v112._0;
+    if (!(v113 == 1)) { v629 = 0; v630 = 0; goto v108; }
+    u32 v117 = (u32)v112._1;
+    memset(v13, 0, 24u);
+    switch (v111) {
+    case 1: goto v119;
+    case 5: goto v120;
+    case 6: goto v121;
+    case 9: goto v122;
+    default: goto v118;
+    }
+v118:;
+    font_subset_kind_source_CutOfKindSource_copied(v13, v1, v111);
+    if (!(at(u8, v13) == 1)) { v628 = 0; goto v147; }
+    u8 *v580 = at(ptr, v13 + 8);
+    u64 v581 = at(u64, v13 + 16);
+    if (!(v581 > 3)) { v622 = v581; v623 = v580; v624 = 0; goto v584; }
+    u64 v585 = v581 - 4;
+    u64 v587 = (v585 >> 2) + 1;
+    if (v585 < 12u) { v609 = 0; v610 = v580; v611 = v581; goto v589; }
+    u64 v591 = v587 & 0x7ffffffffffffffcu;
+    u64 v592 = v591 << 2;
+    u64 v595 = v581 - (v591 << 2);
+    v597 = 0; v599 = (u32x4){0};
+v596:;
+    u32x4 v600 = bswap_u32x4(at(u32x4_1, v580 + (i64)(v597 << 2))) + v599;
+    u64 v598 = v597 + 4;
+    if (!(v598 == v591)) { v597 = v598; v599 = v600; goto v596; }
+    u32 v607 = sum_u32x4(v600);
+    if (v587 == v591) { v622 = v595; v623 = v580 + (i64)v592; v624 = v607; goto v584; }
+    v609 = v607; v610 = v580 + (i64)v592; v611 = v595;
+v589:;
+    v613 = v609; v615 = v610; v617 = v611;
+v612:;
+    u32 v614 = bswap32(at(u32_1, v615)) + v613;
+    u64 v618 = v617 - 4;
+    if (v618 > 3) { v613 = v614; v615 = v615 + 4; v617 = v618; goto v612; }
+    v622 = v618; v623 = v615 + 4; v624 = v614;
+v584:;
+    at(u32, v9) = 0;
+    memcpy_any(v9, v623, v622);
+    v628 = bswap32(at(u32, v9)) + v624; goto v147;
+v119:;
+    at(u64, v12) = 0;
+    at(u8, v12 + 3) = v25;
+    at(u8, v12 + 5) = v26;
+    at(u8, v12 + 7) = v27;
+    at(u8, v12 + 8) = 0;
+    at(u8, v12 + 9) = 0;
+    at(u8, v12 + 10) = 0;
+    at(u8, v12 + 11) = v28;
+    at(u8, v12 + 12) = 0;
+    at(u8, v12 + 13) = v29;
+    at(u8, v12 + 14) = 0;
+    at(u8, v12 + 15) = v30;
+    at(u8, v12 + 16) = v86;
+    at(u8, v12 + 17) = v87;
+    at(u8, v12 + 18) = v88;
+    at(u8, v12 + 19) = v89;
+    at(u8, v12 + 20) = 0;
+    at(u8, v12 + 21) = v31;
+    at(u8, v12 + 22) = 0;
+    at(u8, v12 + 23) = 0;
+    at(u8, v12 + 24) = v90;
+    at(u8, v12 + 25) = v91;
+    at(u8, v12 + 26) = v92;
+    at(u8, v12 + 27) = v93;
+    at(u32, v12 + 28) = 0;
+    at(u8, v12 + 32) = v94;
+    at(u8, v12 + 33) = v95;
+    at(u8, v12 + 34) = v96;
+    at(u8, v12 + 35) = v97;
+    at(u32, v12 + 36) = 0;
+    at(u64, v12 + 40) = v32;
+    v124 = 0; v126 = (u32x4){0};
+v123:;
+    u32x4 v127 = bswap_u32x4(at(u32x4_8, v12 + (i64)(v124 << 2))) + v126;
+    u64 v125 = v124 + 4;
+    if (!(v125 == v100)) { v124 = v125; v126 = v127; goto v123; }
+    v136 = sum_u32x4(v127); v138 = v12 + (i64)v101; v140 = v104;
+v135:;
+    u32 v137 = bswap32(at(u32_1, v138)) + v136;
+    u64 v141 = v140 - 4;
+    if (!(v141 == 0)) { v136 = v137; v138 = v138 + 4; v140 = v141; goto v135; }
+    v628 = v137 + v67; goto v147;
+v120:;
+    u8 *v148 = at(ptr, v1 + 8);
+    u16 v150 = at(u16, v148 + 64);
+    u8 *v151 = at(ptr, v1 + 168);
+    u64 v152 = at(u64, v1 + 176);
+    if (v152 == 0) { v182 = 0; goto v154; }
+    if (at(u8, v151) & 1) { v192 = 0; goto v158; }
+    if (v152 < 64u) { v182 = 0; goto v154; }
+    v162 = 0;
+v161:;
+    if (v162 == 0xffffffffffffffc0u) goto v164;
+    v169 = 0; v171 = (u8x16){0};
+v168:;
+    u8x16 v172 = v171 | ((-(at(u8x16_1, (v151 + (i64)v162) + (i64)v169) & 1)));
+    u64 v170 = v169 + 16u;
+    if (!(v170 == 64u)) { v169 = v170; v171 = v172; goto v168; }
+    if (!(bits_u8x16(v172) == 0)) { v182 = v162; goto v154; }
+v164:;
+    u64 v163 = v162 + 64u;
+    if ((v152 - v163) < 64u) v182 = v163; else { v162 = v163; goto v161; }
+v154:;
+    if (v182 < v152) v185 = v182; else { v192 = v152; goto v158; }
+v184:;
+    if (at(u8, v151 + v185) & 1) { v192 = v185; goto v158; }
+    u64 v186 = v185 + 1;
+    if (v186 == v152) v192 = v152; else { v185 = v186; goto v184; }
+v158:;
+    if (!(v150 > ((u16)v192))) { v628 = 0; goto v147; }
+    u8 *v199 = at(ptr_1, v148 + 32);
+    u8 *v201 = at(ptr_1, v148 + 48);
+    flag v202 = at(u8, v148 + 70) == 0;
+    v204 = 0; v207 = v192;
+v203:;
+    u64 v209 = v207 & 65535u;
+    if (!v202) goto v211;
+    u64 v212 = v209 << 1;
+    v233 = ((u64)bswap16(at(u16_1, v199 + (i64)v212))) << 1; v234 = ((u64)bswap16(at(u16_1, v199 + (i64)v212 + 2))) << 1; goto v223;
+v211:;
+    u64 v224 = v209 << 2;
+    v233 = (u64)bswap32(at(u32_1, v199 + (i64)v224)); v234 = (u64)bswap32(at(u32_1, v199 + (i64)v224 + 4));
+v223:;
+    u64 v236 = v234 - v233;
+    if (!(v236 > 3)) { v278 = v236; v279 = v201 + (i64)v233; v280 = 0; goto v239; }
+    u64 v241 = (v234 - 4) - v233;
+    u64 v243 = (v241 >> 2) + 1;
+    if (v241 < 12u) { v265 = 0; v266 = v201 + (i64)v233; v267 = v236; goto v245; }
+    u64 v247 = v243 & 0x7ffffffffffffffcu;
+    u64 v248 = v247 << 2;
+    u64 v251 = v236 - (v247 << 2);
+    v253 = 0; v255 = (u32x4){0};
+v252:;
+    u32x4 v256 = bswap_u32x4(at(u32x4_1, (v201 + (i64)v233) + (i64)(v253 << 2))) + v255;
+    u64 v254 = v253 + 4;
+    if (!(v254 == v247)) { v253 = v254; v255 = v256; goto v252; }
+    u32 v263 = sum_u32x4(v256);
+    if (v243 == v247) { v278 = v251; v279 = (v201 + (i64)v233) + (i64)v248; v280 = v263; goto v239; }
+    v265 = v263; v266 = (v201 + (i64)v233) + (i64)v248; v267 = v251;
+v245:;
+    v269 = v265; v271 = v266; v273 = v267;
+v268:;
+    u32 v270 = bswap32(at(u32_1, v271)) + v269;
+    u64 v274 = v273 - 4;
+    if (v274 > 3) { v269 = v270; v271 = v271 + 4; v273 = v274; goto v268; }
+    v278 = v274; v279 = v271 + 4; v280 = v270;
+v239:;
+    at(u32, v11) = 0;
+    memcpy_any(v11, v279, v278);
+    u32 v205 = (v280 + v204) + bswap32(at(u32, v11));
+    u64 v285 = (v207 + 1) & 65535u;
+    if (!(v152 > v285)) goto v288;
+    if (at(u8, v151 + v285) & 1) { v208 = v285; goto v206; }
+v288:;
+    if ((v152 - v285) < 64u) { v316 = v285; goto v294; }
+    v296 = v285;
+v295:;
+    if (!(v296 < 0xffffffffffffffc0u)) goto v298;
+    v303 = 0; v305 = (u8x16){0};
+v302:;
+    u8x16 v306 = v305 | ((-(at(u8x16_1, (v151 + (i64)v296) + (i64)v303) & 1)));
+    u64 v304 = v303 + 16u;
+    if (!(v304 == 64u)) { v303 = v304; v305 = v306; goto v302; }
+    if (!(bits_u8x16(v306) == 0)) { v316 = v296; goto v294; }
+v298:;
+    u64 v297 = v296 + 64u;
+    if ((v152 - v297) < 64u) v316 = v297; else { v296 = v297; goto v295; }
+v294:;
+    if (v316 < v152) v319 = v316; else { v208 = v152; goto v206; }
+v318:;
+    if (at(u8, v151 + v319) & 1) { v208 = v319; goto v206; }
+    u64 v320 = v319 + 1;
+    if (v320 == v152) v208 = v152; else { v319 = v320; goto v318; }
+v206:;
+    if (v150 > ((u16)v208)) { v204 = v205; v207 = v208; goto v203; }
+    v628 = v205; goto v147;
+v121:;
+    u8 *v329 = at(ptr_1, at(ptr, v1 + 8));
+    u16 v331 = at(u16_1, v329 + 4);
+    u64 v333 = (u64)bswap16(v331);
+    if (v331 == 0) { v369 = (u8 *)table_d0e67785; v370 = 0xffffffffffffffccu; goto v335; }
+    v339 = 0;
+v336:;
+    u64 v341 = v339 << 4;
+    if (!((((at(u8, v329 + (i64)v341 + 12) == 104u) & (at(u8, v329 + (i64)v341 + 13) == 101u)) & (at(u8, v329 + (i64)v341 + 14) == 97u)) & (at(u8, v329 + (i64)v341 + 15) == 100u))) goto v337;
+    v369 = v329 + (i64)((u64)bswap32(at(u32_1, v329 + (i64)v341 + 20))); v370 = ((u64)bswap32(at(u32_1, v329 + (i64)v341 + 24))) - 52u; goto v335;
+v337:;
+    u64 v338 = v339 + 1;
+    if (v338 == v333) { v369 = (u8 *)table_d0e67785; v370 = 0xffffffffffffffccu; } else { v339 = v338; goto v336; }
+v335:;
+    u16 v372 = at(u16_1, v369 + 48);
+    u32 v375 = sum_u32x2(bswap_u32x2(at(u32x2_1, v369)));
+    v378 = 0; v380 = v369 + 12; v382 = 36u;
+v377:;
+    u32 v379 = bswap32(at(u32_1, v380)) + v378;
+    u64 v383 = v382 - 4;
+    if (!(v383 == 0)) { v378 = v379; v380 = v380 + 4; v382 = v383; goto v377; }
+    u32 v388 = (u32)v372;
+    if (!(v370 > 3)) { v430 = v370; v431 = v369 + 52; v432 = 0; goto v392; }
+    u64 v393 = v370 - 4;
+    u64 v395 = (v393 >> 2) + 1;
+    if (v393 < 12u) { v417 = 0; v418 = v369 + 52; v419 = v370; goto v397; }
+    u64 v399 = v395 & 0x7ffffffffffffffcu;
+    u64 v400 = v399 << 2;
+    u64 v403 = v370 - (v399 << 2);
+    v405 = 0; v407 = (u32x4){0};
+v404:;
+    u32x4 v408 = bswap_u32x4(at(u32x4_1, (v369 + 52) + (i64)(v405 << 2))) + v407;
+    u64 v406 = v405 + 4;
+    if (!(v406 == v399)) { v405 = v406; v407 = v408; goto v404; }
+    u32 v415 = sum_u32x4(v408);
+    if (v395 == v399) { v430 = v403; v431 = (v369 + 52) + (i64)v400; v432 = v415; goto v392; }
+    v417 = v415; v418 = (v369 + 52) + (i64)v400; v419 = v403;
+v397:;
+    v421 = v417; v423 = v418; v425 = v419;
+v420:;
+    u32 v422 = bswap32(at(u32_1, v423)) + v421;
+    u64 v426 = v425 - 4;
+    if (v426 > 3) { v421 = v422; v423 = v423 + 4; v425 = v426; goto v420; }
+    v430 = v426; v431 = v423 + 4; v432 = v422;
+v392:;
+    at(u32, v10) = 0;
+    memcpy_any(v10, v431, v430);
+    v628 = (((v375 + bswap32(v388 | 16777216u)) + v379) + v432) + bswap32(at(u32, v10)); goto v147;
+v122:;
+    u8 *v441 = at(ptr, v1 + 8);
+    u16 v443 = at(u16, v441 + 64);
+    u8 *v444 = at(ptr, v1 + 168);
+    u64 v445 = at(u64, v1 + 176);
+    if (v445 == 0) { v475 = 0; goto v447; }
+    if (at(u8, v444) & 1) { v485 = 0; goto v451; }
+    if (v445 < 64u) { v475 = 0; goto v447; }
+    v455 = 0;
+v454:;
+    if (v455 == 0xffffffffffffffc0u) goto v457;
+    v462 = 0; v464 = (u8x16){0};
+v461:;
+    u8x16 v465 = v464 | ((-(at(u8x16_1, (v444 + (i64)v455) + (i64)v462) & 1)));
+    u64 v463 = v462 + 16u;
+    if (!(v463 == 64u)) { v462 = v463; v464 = v465; goto v461; }
+    if (!(bits_u8x16(v465) == 0)) { v475 = v455; goto v447; }
+v457:;
+    u64 v456 = v455 + 64u;
+    if ((v445 - v456) < 64u) v475 = v456; else { v455 = v456; goto v454; }
+v447:;
+    if (v475 < v445) v478 = v475; else { v485 = v445; goto v451; }
+v477:;
+    if (at(u8, v444 + v478) & 1) { v485 = v478; goto v451; }
+    u64 v479 = v478 + 1;
+    if (v479 == v445) v485 = v445; else { v478 = v479; goto v477; }
+v451:;
+    u16 v486 = (u16)v485;
+    if (!(v443 > v486)) { v628 = 0; goto v147; }
+    u8 *v492 = at(ptr_1, v441 + 32);
+    flag v493 = at(u8, v441 + 70) == 0;
+    v495 = 0; v498 = 0; v500 = v486;
+v494:;
+    u64 v502 = (u64)v500;
+    if (!v493) goto v504;
+    u64 v505 = v502 << 1;
+    v524 = ((u32)bswap16(at(u16_1, v492 + (i64)v505))) << 1; v525 = ((u32)bswap16(at(u16_1, v492 + (i64)v505 + 2))) << 1; goto v516;
+v504:;
+    u64 v517 = v502 << 2;
+    v524 = bswap32(at(u32_1, v492 + (i64)v517)); v525 = bswap32(at(u32_1, v492 + (i64)v517 + 4));
+v516:;
+    u32 v526 = v525 - v524;
+    u32 v496 = (v526 + v495) + (((u32)0 - v526) & 3);
+    u64 v531 = (u64)((u16)(v500 + 1));
+    if (!(v445 > v531)) goto v534;
+    if (at(u8, v444 + v531) & 1) { v572 = v531; goto v497; }
+v534:;
+    if ((v445 - v531) < 64u) { v562 = v531; goto v540; }
+    v542 = v531;
+v541:;
+    if (!(v542 < 0xffffffffffffffc0u)) goto v544;
+    v549 = 0; v551 = (u8x16){0};
+v548:;
+    u8x16 v552 = v551 | ((-(at(u8x16_1, (v444 + (i64)v542) + (i64)v549) & 1)));
+    u64 v550 = v549 + 16u;
+    if (!(v550 == 64u)) { v549 = v550; v551 = v552; goto v548; }
+    if (!(bits_u8x16(v552) == 0)) { v562 = v542; goto v540; }
+v544:;
+    u64 v543 = v542 + 64u;
+    if ((v445 - v543) < 64u) v562 = v543; else { v542 = v543; goto v541; }
+v540:;
+    if (v562 < v445) v565 = v562; else { v572 = v445; goto v497; }
+v564:;
+    if (at(u8, v444 + v565) & 1) { v572 = v565; goto v497; }
+    u64 v566 = v565 + 1;
+    if (v566 == v445) v572 = v445; else { v565 = v566; goto v564; }
+v497:;
+    u16 v501 = (u16)v572;
+    u32 v499 = (v496 * ((u32)((u16)(v501 - v500)))) + v498;
+    if (v443 > v501) { v495 = v496; v498 = v499; v500 = v501; goto v494; }
+    v628 = v499;
+v147:;
+    v629 = v117; v630 = v628;
+v108:;
+    u64 v631 = v106 * 12u;
+    at(u8, v15 + v631) = v113;
+    memset(v15 + v631 + 1, 0, 3);
+    at(u32, v15 + v631 + 4) = v629;
+    at(u32, v15 + v631 + 8) = v630;
+    u64 v107 = v106 + 1;
+    if (!(v107 == 29u)) { v106 = v107; goto v105; }
+    memcpy(v20, v15, 348u);
+    memcpy(v19, v20, 348u);
+    v639 = 0; v641 = (u16x8){0};
+v638:;
+    u8 v666 = at(u8, v19 + (v639 * 12u));
+    u8 v667 = at(u8, v19 + (v639 * 12u) + 12);
+    u8 v668 = at(u8, v19 + (v639 * 12u) + 24);
+    u8 v669 = at(u8, v19 + (v639 * 12u) + 36);
+    u8 v670 = at(u8, v19 + (v639 * 12u) + 48);
+    u8 v671 = at(u8, v19 + (v639 * 12u) + 60);
+    u8 v672 = at(u8, v19 + (v639 * 12u) + 72);
+    u8 v673 = at(u8, v19 + (v639 * 12u) + 84);
+    u16x8 v642 = v641 + (__builtin_convertvector((u8x8){v666, v667, v668, v669, v670, v671, v672, v673}, u16x8));
+    u64 v640 = v639 + 8;
+    if (!(v640 == 24u)) { v639 = v640; v641 = v642; goto v638; }
+    v687 = sum_u16x8(v642); v689 = 24u;
+v686:;
+    u16 v688 = (u16)(v687 + ((u16)at(u8, v19 + (v689 * 12u))));
+    u64 v690 = v689 + 1;
+    if (!(v690 == 29u)) { v687 = v688; v689 = v690; goto v686; }
+    if (!(((u16)(v688 + 65535u)) < 4095u)) { v709 = 0; v710 = 0; v711 = 0; goto v700; }
+    u16 v702 = (u16)(ctlz16(v688) ^ 15u);
+    u16 v703 = (u16)((u32)16u << (v702 & 31));
+    v709 = bswap16((u16)(((u16)((u32)v688 << 4)) - v703)); v710 = (u16)((u32)v702 << 8); v711 = bswap16(v703);
+v700:;
+    at(u8, v8) = 0;
+    at(u8, v8 + 1) = 1;
+    at(u8, v8 + 2) = 0;
+    at(u8, v8 + 3) = 0;
+    at(u16_1, v8 + 4) = bswap16(v688);
+    at(u16_1, v8 + 6) = v711;
+    at(u16_1, v8 + 8) = v710;
+    at(u16_1, v8 + 10) = v709;
+    v721 = 0; v723 = v8; v725 = 12u;
+v720:;
+    u32 v722 = bswap32(at(u32_1, v723)) + v721;
+    u64 v726 = v725 - 4;
+    if (!(v726 == 0)) { v721 = v722; v723 = v723 + 4; v725 = v726; goto v720; }
+    v761 = v722; v764 = (((u32)v688) << 4) | 12u; v766 = 0;
+v760:;
+    u64 v768 = v766 * 12u;
+    u32 v772 = at(u32, v19 + v768 + 4);
+    u32 v774 = at(u32, v19 + v768 + 8);
+    if (!(at(u8, v19 + v768) & 1)) goto v777;
+    u64 v781 = at(u64, (u8 *)table_faed1f12 + (v766 << 3));
+    if (!(v781 < 16u)) goto v784;
+    at(u32, v5) = 841962319u;
+    at(u32, v5 + 4) = 1885433187u;
+    at(u32, v5 + 8) = 544503395u;
+    at(u32, v5 + 12) = 1835495526u;
+    at(u32, v5 + 16) = 1886609767u;
+    at(u32, v5 + 20) = 1719233639u;
+    at(u32, v5 + 24) = 1684104552u;
+    at(u32, v5 + 28) = 1634035816u;
+    at(u32, v5 + 32) = 2020896104u;
+    at(u32, v5 + 36) = 1633906540u;
+    at(u32, v5 + 40) = 1886937453u;
+    at(u32, v5 + 44) = 1701667182u;
+    at(u32, v5 + 48) = 1953722224u;
+    at(u32, v5 + 52) = 1885696624u;
+    at(u32, v5 + 56) = 1634035830u;
+    at(u32, v5 + 60) = 2020896118u;
+    v797 = v5 + (v781 << 2); goto v787;
+v784:;
+    if (!(v781 < 21u)) goto v790;
+    at(u32, v6) = 1163084098u;
+    at(u32, v6 + 4) = 1178944583u;
+    at(u32, v6 + 8) = 1397706823u;
+    at(u32, v6 + 12) = 1112888135u;
+    at(u32, v6 + 16) = 1852990827u;
+    v797 = v6 + (i64)(v781 << 2) - 64; goto v787;
+v790:;
+    at(u32, v7) = 1380013640u;
+    at(u32, v7 + 4) = 1380013645u;
+    at(u32, v7 + 8) = 1413567571u;
+    at(u32, v7 + 12) = 1380013654u;
+    at(u32, v7 + 16) = 1918989921u;
+    at(u32, v7 + 20) = 1918989923u;
+    at(u32, v7 + 24) = 1918989926u;
+    at(u32, v7 + 28) = 1918989927u;
+    v797 = v7 + (i64)(v781 << 2) - 84;
+v787:;
+    u32 v801 = v772 + v764;
+    v804 = v801; v805 = ((v774 << 1) + v801) + bswap32(at(u32_1, v797)); goto v763;
+v777:;
+    v804 = v772 + v764; v805 = 0;
+v763:;
+    u32 v762 = v805 + v761;
+    u64 v767 = v766 + 1;
+    if (!(v767 == 29u)) { v761 = v762; v764 = v804 + (((u32)0 - v772) & 3); v766 = v767; goto v760; }
+    memcpy(v16 + 3, v20, 348u);
+    memcpy(v17 + 6, v18, 16u);
+    at(u8, v0) = v2;
+    memcpy(v0 + 1, v16, 351u);
+    at(u16_1, v0 + 352) = v688;
+    memcpy(v0 + 354, v17, 22u);
+    at(u32_1, v0 + 376) = (u32)0xb1b0afbau - v762;
+    at(u32_1, v0 + 380) = 0;
+    return;
+}
+
+void font_write_size_file_size_092d(u8 *v0, u8 *v1) {
+    _Alignas(8) u8 v3[16], v5[16];
+    _Alignas(4) u8 v4[16];
+    u32 v14, v16, v27, v28;
+    u64 v40, v57, v80, v90, v94, v96;
+    u16 v51, v60;
+    font_join_union_UnionSource_next_run(v4, v1, 0);
+    if (!(at(u8, v4) == 1)) { v27 = 0; v28 = 0; goto v9; }
+    v14 = 0; v16 = 0;
+v13:;
+    u32 v19 = at(u32, v4 + 8);
+    u32 v15 = v14 + 1;
+    u32 v17 = ((at(u32, v4 + 4) + v16) + v19) + ((u32)at(u16, v4 + 12));
+    font_join_union_UnionSource_next_run(v4, v1, v19 + 1);
+    if (at(u8, v4) == 1) { v14 = v15; v16 = v17; goto v13; }
+    v27 = v17; v28 = v15;
+v9:;
+    u16 v32 = at(u16, at(ptr, v1 + 8) + 64);
+    if (v32 == 0) { v51 = 0; goto v34; }
+    u8 *v37 = at(ptr, v1 + 528);
+    u64 v38 = (u64)v32;
+    v40 = 0;
+v39:;
+    if (!(at(u8, v37 + (i64)(v40 * 24u)) & 1)) goto v42;
+    v51 = (u16)v40;
+v34:;
+    if (!(v51 < v32)) { v90 = 0; goto v50; }
+    u8 *v55 = at(ptr, v1 + 528);
+    v57 = 0; v60 = v51;
+v56:;
+    u64 v63 = ((u64)v60) * 24u;
+    u64 v70 = (at(u8, v55 + (i64)v63) == 1) ? at(u64_1, v55 + (i64)v63 + 16) : 0;
+    u64 v58 = (((((u64)0 - v70) & 3) + v70) & 0xffffffffu) + v57;
+    u16 v75 = (u16)(v60 + 1);
+    if (!(v75 < v32)) { v90 = v58; goto v50; }
+    v80 = (u64)v75;
+v79:;
+    if (!(at(u8, v55 + (i64)(v80 * 24u)) & 1)) goto v82;
+    u16 v61 = (u16)v80;
+    if (v32 > v61) { v57 = v58; v60 = v61; goto v56; }
+    v90 = v58; goto v50;
+v82:;
+    u64 v81 = v80 + 1;
+    if (v32 == ((u16)v81)) { v90 = v58; goto v50; }
+    v80 = v81; goto v79;
+v42:;
+    u64 v41 = v40 + 1;
+    if (v41 == v38) v90 = 0; else { v40 = v41; goto v39; }
+v50:;
+    at(u32, v3) = v28;
+    at(u32, v3 + 4) = v27;
+    at(u64, v3 + 8) = v90;
+    v94 = 12u; v96 = 0;
+v93:;
+    u8_u64 v101 = font_write_size_table_length_895b(v1, v3, at(u64, (u8 *)table_faed1f12 + (v96 << 3)));
+    u64 v104 = v101._1;
+    u64 v95 = ((v101._0 == 1) ? ((v104 + 16u) + (((u64)0 - v104) & 3)) : 0) + v94;
+    u64 v97 = v96 + 1;
+    if (!(v97 == 29u)) { v94 = v95; v96 = v97; goto v93; }
+    memcpy(v5, v3, 16u);
+    memcpy(v0, v5, 16u);
+    at(u64_1, v0 + 16) = v95;
+    return;
+}
+
+void font_write_size_file_size_22d8(u8 *v0, u8 *v1) {
+    _Alignas(8) u8 v3[16], v5[16];
+    _Alignas(4) u8 v4[16];
+    u32 v14, v16, v27, v28, v114, v115;
+    u64 v46, v53, v66, v69, v76, v87, v90, v133, v140, v153, v156, v91, v165, v169, v171;
+    u8x16 v55, v142;
+    memset(v4, 0, 16u);
+    font_subset_kind_source_CutOfKindSource_next_run(v4, v1, 0);
+    if (!(at(u8, v4) == 1)) { v27 = 0; v28 = 0; goto v9; }
+    v14 = 0; v16 = 0;
+v13:;
+    u32 v19 = at(u32, v4 + 8);
+    u32 v15 = v14 + 1;
+    u32 v17 = ((at(u32, v4 + 4) + v16) + v19) + ((u32)at(u16, v4 + 12));
+    font_subset_kind_source_CutOfKindSource_next_run(v4, v1, v19 + 1);
+    if (at(u8, v4) == 1) { v14 = v15; v16 = v17; goto v13; }
+    v27 = v17; v28 = v15;
+v9:;
+    u8 *v30 = at(ptr, v1 + 8);
+    u16 v32 = at(u16, v30 + 64);
+    u8 *v34 = at(ptr, v1 + 168);
+    u64 v36 = at(u64, v1 + 176);
+    if (v36 == 0) { v66 = 0; goto v38; }
+    if (at(u8, v34) & 1) { v76 = 0; goto v42; }
+    if (v36 < 64u) { v66 = 0; goto v38; }
+    v46 = 0;
+v45:;
+    if (v46 == 0xffffffffffffffc0u) goto v48;
+    v53 = 0; v55 = (u8x16){0};
+v52:;
+    u8x16 v56 = v55 | ((-(at(u8x16_1, (v34 + (i64)v46) + (i64)v53) & 1)));
+    u64 v54 = v53 + 16u;
+    if (!(v54 == 64u)) { v53 = v54; v55 = v56; goto v52; }
+    if (!(bits_u8x16(v56) == 0)) { v66 = v46; goto v38; }
+v48:;
+    u64 v47 = v46 + 64u;
+    if ((v36 - v47) < 64u) v66 = v47; else { v46 = v47; goto v45; }
+v38:;
+    if (v66 < v36) v69 = v66; else { v76 = v36; goto v42; }
+v68:;
+    if (at(u8, v34 + v69) & 1) { v76 = v69; goto v42; }
+    u64 v70 = v69 + 1;
+    if (v70 == v36) v76 = v36; else { v69 = v70; goto v68; }
+v42:;
+    if (!(v32 > ((u16)v76))) { v165 = 0; goto v80; }
+    u8 *v84 = at(ptr_1, v30 + 32);
+    flag v85 = at(u8, v30 + 70) == 0;
+    v87 = 0; v90 = v76;
+v86:;
+    u64 v92 = v90 & 65535u;
+    if (!v85) goto v94;
+    u64 v95 = v92 << 1;
+    v114 = ((u32)bswap16(at(u16_1, v84 + (i64)v95))) << 1; v115 = ((u32)bswap16(at(u16_1, v84 + (i64)v95 + 2))) << 1; goto v106;
+v94:;
+    u64 v107 = v92 << 2;
+    v114 = bswap32(at(u32_1, v84 + (i64)v107)); v115 = bswap32(at(u32_1, v84 + (i64)v107 + 4));
+v106:;
+    u32 v116 = v115 - v114;
+    u64 v88 = v87 + ((u64)((((u32)0 - v116) & 3) + v116));
+    u64 v122 = (v90 + 1) & 65535u;
+    if (!(v36 > v122)) goto v125;
+    if (at(u8, v34 + v122) & 1) { v91 = v122; goto v89; }
+v125:;
+    if ((v36 - v122) < 64u) { v153 = v122; goto v131; }
+    v133 = v122;
+v132:;
+    if (!(v133 < 0xffffffffffffffc0u)) goto v135;
+    v140 = 0; v142 = (u8x16){0};
+v139:;
+    u8x16 v143 = v142 | ((-(at(u8x16_1, (v34 + (i64)v133) + (i64)v140) & 1)));
+    u64 v141 = v140 + 16u;
+    if (!(v141 == 64u)) { v140 = v141; v142 = v143; goto v139; }
+    if (!(bits_u8x16(v143) == 0)) { v153 = v133; goto v131; }
+v135:;
+    u64 v134 = v133 + 64u;
+    if ((v36 - v134) < 64u) v153 = v134; else { v133 = v134; goto v132; }
+v131:;
+    if (v153 < v36) v156 = v153; else { v91 = v36; goto v89; }
+v155:;
+    if (at(u8, v34 + v156) & 1) { v91 = v156; goto v89; }
+    u64 v157 = v156 + 1;
+    if (v157 == v36) v91 = v36; else { v156 = v157; goto v155; }
+v89:;
+    if (v32 > ((u16)v91)) { v87 = v88; v90 = v91; goto v86; }
+    v165 = v88;
+v80:;
+    at(u32, v3) = v28;
+    at(u32, v3 + 4) = v27;
+    at(u64, v3 + 8) = v165;
+    v169 = 12u; v171 = 0;
+v168:;
+    u8_u64 v176 = font_write_size_table_length_a65d(v1, 1, v3, at(u64, (u8 *)table_faed1f12 + (v171 << 3)));
+    u64 v179 = v176._1;
+    u64 v170 = ((v176._0 == 1) ? ((v179 + 16u) + (((u64)0 - v179) & 3)) : 0) + v169;
+    u64 v172 = v171 + 1;
+    if (!(v172 == 29u)) { v169 = v170; v171 = v172; goto v168; }
+    memcpy(v5, v3, 16u);
+    memcpy(v0, v5, 16u);
+    at(u64_1, v0 + 16) = v170;
+    return;
+}
+
+static u8_u64 font_write_size_table_length_895b(u8 *v0, u8 *v1, u64 v2) {
+    _Alignas(8) u8 v4[24];
+    u64 v89, v31, v95;
+    u8 v94;
+    switch (v2) {
+    case 1: goto v6;
+    case 5: goto v7;
+    case 6: goto v8;
+    case 9: goto v9;
+    default: goto v5;
+    }
+v5:;
+    memset(v4, 0, 24u);
+    if (!(v2 < 16u)) goto v64;
+    font_subset_accepted_copied(v4, at(ptr, v0 + 8), v2);
+    goto v67;
+v64:;
+    font_subset_font_of_kind_FontOfKind_further_6e0a(v4, v0, v2);
+v67:;
+    u8 v69 = at(u8, v4);
+    u64 v71 = at(u64, v4 + 16);
+    if (at(u8, v0) == 0) goto v74;
+    switch (v2) {
+    case 8: goto v76;
+    case 15u: goto v77;
+    case 28u: goto v78;
+    default: goto v74;
+    }
+v74:;
+    v94 = v69; v95 = (v69 == 1) ? v71 : 0; goto v14;
+v76:;
+    u8 v80 = at(u8, v0 + 560);
+    if (v80 == 1) { v89 = 576u; goto v82; }
+    v94 = v80; v95 = 0; goto v14;
+v77:;
+    u8 v84 = at(u8, v0 + 592);
+    if (v84 == 1) { v89 = 608u; goto v82; }
+    v94 = v84; v95 = 0; goto v14;
+v78:;
+    u8 v87 = at(u8, v0 + 624);
+    if (v87 == 1) v89 = 640u; else { v94 = v87; v95 = 0; goto v14; }
+v82:;
+    v94 = 1; v95 = at(u64, v0 + (i64)v89); goto v14;
+v6:;
+    v94 = 1; v95 = (u64)((at(u32_1, v1) * 12u) + 36u); goto v14;
+v7:;
+    u64 v16 = at(u64_1, v1 + 8);
+    v94 = 1; v95 = ((v16 == 0) ? 4 : 0) + v16; goto v14;
+v8:;
+    u8 *v22 = at(ptr_1, at(ptr, v0 + 8));
+    u16 v24 = at(u16_1, v22 + 4);
+    u64 v26 = (u64)bswap16(v24);
+    if (v24 == 0) { v94 = 1; v95 = 0; goto v14; }
+    v31 = 0;
+v28:;
+    u64 v33 = v31 << 4;
+    if (!((((at(u8, v22 + (i64)v33 + 12) == 104u) & (at(u8, v22 + (i64)v33 + 13) == 101u)) & (at(u8, v22 + (i64)v33 + 14) == 97u)) & (at(u8, v22 + (i64)v33 + 15) == 100u))) goto v29;
+    v94 = 1; v95 = (u64)bswap32(at(u32_1, v22 + (i64)v33 + 24)); goto v14;
+v29:;
+    u64 v30 = v31 + 1;
+    if (v30 == v26) { v94 = 1; v95 = 0; goto v14; }
+    v31 = v30; goto v28;
+v9:;
+    v94 = 1; v95 = (((u64)at(u16, at(ptr, v0 + 8) + 64)) << 2) + 4;
+v14:;
+    return (u8_u64){v94, v95};
+}
+
+static u8_u64 font_write_size_table_length_a65d(u8 *v0, u8 v1, u8 *v2, u64 v3) {
+    _Alignas(8) u8 v5[24];
+    u64 v36, v73;
+    u8 v72;
+    switch (v3) {
+    case 1: goto v7;
+    case 5: goto v8;
+    case 6: goto v9;
+    case 9: goto v10;
+    default: goto v6;
+    }
+v6:;
+    font_subset_kind_source_CutOfKindSource_copied(v5, v0, v3);
+    u8 v67 = at(u8, v5);
+    v72 = v67; v73 = (v67 == 1) ? at(u64, v5 + 16) : 0; goto v17;
+v7:;
+    v72 = 1; v73 = (u64)((at(u32_1, v2) * 12u) + ((v1 == 0) ? 28u : 36u)); goto v17;
+v8:;
+    u64 v19 = at(u64_1, v2 + 8);
+    v72 = 1; v73 = ((v1 == 0) ? 0 : ((v19 == 0) ? 4 : 0)) + v19; goto v17;
+v9:;
+    u8 *v27 = at(ptr_1, at(ptr, v0 + 8));
+    u16 v29 = at(u16_1, v27 + 4);
+    u64 v31 = (u64)bswap16(v29);
+    if (v29 == 0) { v72 = 1; v73 = 0; goto v17; }
+    v36 = 0;
+v33:;
+    u64 v38 = v36 << 4;
+    if (!((((at(u8, v27 + (i64)v38 + 12) == 104u) & (at(u8, v27 + (i64)v38 + 13) == 101u)) & (at(u8, v27 + (i64)v38 + 14) == 97u)) & (at(u8, v27 + (i64)v38 + 15) == 100u))) goto v34;
+    v72 = 1; v73 = (u64)bswap32(at(u32_1, v27 + (i64)v38 + 24)); goto v17;
+v34:;
+    u64 v35 = v36 + 1;
+    if (v35 == v31) { v72 = 1; v73 = 0; goto v17; }
+    v36 = v35; goto v33;
+v10:;
+    v72 = 1; v73 = (((u64)at(u16, at(ptr, v0 + 8) + 64)) << 2) + 4;
+v17:;
+    return (u8_u64){v72, v73};
+}
+
+static flag font_write_whole_file_is_whole_file(u8 *v0, u8 v1, u8 *v2, u8 *v3, u64 v4) {
+    _Alignas(4) u8 v6[4], v7[4], v8[1024], v9[16], v10[1024], v13[4], v14[12], v15[64], v16[20], v17[32], v18[12];
+    _Alignas(8) u8 v11[48], v12[24], v19[24], v20[384], v21[384];
+    u16 v45, v46, v47, v1043, v1045;
+    u64 v62, v81, v90, v126, v129, v133, v173, v192, v201, v203, v216, v234, v243, v127, v130, v348, v349, v346, v1105, v1123, v1132, v367, v386, v395, v403, v414, v405, v441, v459, v402, v484, v491, v504, v507, v514, v527, v530, v556, v557, v569, v587, v596, v609, v619, v626, v641, v648, v661, v664, v531, v673, v683, v700, v707, v721, v752, v761, v780, v789, v802, v821, v830, v832, v843, v862, v871, v880, v893, v902, v916, v934, v943, v957, v964, v977, v980, v987, v1000, v1019, v1028, v1031, v1038, v1061, v1079, v1088, v1135, v344, v1149, v1159, v343;
+    u32 v131, v408, v411, v409, v1041;
+    u8 *v162, *v751;
+    u8x16 v493, v650, v966;
+    memcpy(v19, v2, 24u);
+    memset(v21, 0, 384u);
+    if (!(at(u64, v19 + 16) == v4)) return 0;
+    font_write_plan_plan_of(v21, v0, v1, v19);
+    memcpy(v20, v21, 384u);
+    u16 v32 = at(u16, v20 + 352);
+    if (!(((u16)(v32 + 65535u)) < 4095u)) { v45 = 0; v46 = 0; v47 = 0; goto v36; }
+    u16 v38 = (u16)(ctlz16(v32) ^ 15u);
+    u16 v39 = (u16)((u32)16u << (v38 & 31));
+    v45 = bswap16((u16)(((u16)((u32)v32 << 4)) - v39)); v46 = (u16)((u32)v38 << 8); v47 = bswap16(v39);
+v36:;
+    at(u8, v18) = 0;
+    at(u8, v18 + 1) = 1;
+    at(u8, v18 + 2) = 0;
+    at(u8, v18 + 3) = 0;
+    at(u16, v18 + 4) = bswap16(v32);
+    at(u16, v18 + 6) = v47;
+    at(u16, v18 + 8) = v46;
+    at(u16, v18 + 10) = v45;
+    u64 v56 = umin64(v4, 12u);
+    if (!(v4 < 4)) goto v59;
+    if (v4 == 0) goto v28;
+    v62 = 0;
+v61:;
+    if (!(at(u8, v3 + (i64)v62) == at(u8, v18 + (i64)v62))) goto v70;
+    u64 v63 = v62 + 1;
+    if (v63 == v56) { v90 = v56; goto v72; }
+    v62 = v63; goto v61;
+v70:;
+    if (v62 < v56) goto v74;
+    v90 = v56; goto v72;
+v59:;
+    if (!(at(u32_1, v3) == at(u32, v18))) goto v74;
+    if (core_cmp_slices_groups_equal(v3, v56, v18)) { v90 = v56; goto v72; }
+v74:;
+    v81 = 0;
+v80:;
+    if (!(at(u8, v3 + v81) == at(u8, v18 + v81))) { v90 = v81; goto v72; }
+    u64 v82 = v81 + 1;
+    if (v82 == v56) v90 = v56; else { v81 = v82; goto v80; }
+v72:;
+    if (v90 < 12u) goto v28;
+    v126 = v90; v129 = v90; v131 = (((u32)v32) << 4) | 12u; v133 = 0;
+v125:;
+    u64 v135 = v133 * 12u;
+    u32 v139 = at(u32, (v20 + 4) + v135 + 4);
+    u32 v141 = at(u32, (v20 + 4) + v135 + 8);
+    if (!(at(u8, (v20 + 4) + v135) & 1)) { v127 = v126; v130 = v129; goto v128; }
+    u64 v146 = at(u64, (u8 *)table_faed1f12 + (v133 << 3));
+    if (!(v146 < 16u)) goto v149;
+    at(u32, v15) = 841962319u;
+    at(u32, v15 + 4) = 1885433187u;
+    at(u32, v15 + 8) = 544503395u;
+    at(u32, v15 + 12) = 1835495526u;
+    at(u32, v15 + 16) = 1886609767u;
+    at(u32, v15 + 20) = 1719233639u;
+    at(u32, v15 + 24) = 1684104552u;
+    at(u32, v15 + 28) = 1634035816u;
+    at(u32, v15 + 32) = 2020896104u;
+    at(u32, v15 + 36) = 1633906540u;
+    at(u32, v15 + 40) = 1886937453u;
+    at(u32, v15 + 44) = 1701667182u;
+    at(u32, v15 + 48) = 1953722224u;
+    at(u32, v15 + 52) = 1885696624u;
+    at(u32, v15 + 56) = 1634035830u;
+    at(u32, v15 + 60) = 2020896118u;
+    v162 = v15 + (v146 << 2); goto v152;
+v149:;
+    if (!(v146 < 21u)) goto v155;
+    at(u32, v16) = 1163084098u;
+    at(u32, v16 + 4) = 1178944583u;
+    at(u32, v16 + 8) = 1397706823u;
+    at(u32, v16 + 12) = 1112888135u;
+    at(u32, v16 + 16) = 1852990827u;
+    v162 = v16 + (i64)(v146 << 2) - 64; goto v152;
+v155:;
+    at(u32, v17) = 1380013640u;
+    at(u32, v17 + 4) = 1380013645u;
+    at(u32, v17 + 8) = 1413567571u;
+    at(u32, v17 + 12) = 1380013654u;
+    at(u32, v17 + 16) = 1918989921u;
+    at(u32, v17 + 20) = 1918989923u;
+    at(u32, v17 + 24) = 1918989926u;
+    at(u32, v17 + 28) = 1918989927u;
+    v162 = v17 + (i64)(v146 << 2) - 84;
+v152:;
+    u32 v163 = at(u32_1, v162);
+    at(u32, v13) = v163;
+    u64 v165 = v4 - v129;
+    u64 v166 = umin64(v165, 4);
+    if (!(v165 < 4)) goto v169;
+    if (v4 == v129) goto v171;
+    v173 = 0;
+v172:;
+    if (!(at(u8, (v3 + (i64)v129) + (i64)v173) == at(u8, v13 + (i64)v173))) goto v181;
+    u64 v174 = v173 + 1;
+    if (v174 == v166) { v201 = v166; goto v183; }
+    v173 = v174; goto v172;
+v181:;
+    if (v173 < v166) goto v185;
+    v201 = v166; goto v183;
+v169:;
+    if (!(at(u32_1, v3 + (i64)v129) == v163)) goto v185;
+    if (core_cmp_slices_groups_equal(v3 + (i64)v129, v166, v13)) { v203 = v166; goto v190; }
+v185:;
+    v192 = 0;
+v191:;
+    if (!(at(u8, (v3 + (i64)v129) + v192) == at(u8, v13 + v192))) { v201 = v192; goto v183; }
+    u64 v193 = v192 + 1;
+    if (v193 == v166) v201 = v166; else { v192 = v193; goto v191; }
+v183:;
+    if (v201 < 4) goto v171;
+    v203 = v201;
+v190:;
+    u64 v204 = v203 + v129;
+    u32 v205 = bswap32(v141);
+    at(u32, v14) = v205;
+    at(u32, v14 + 4) = bswap32(v131);
+    at(u32, v14 + 8) = bswap32(v139);
+    u64 v209 = v4 - v204;
+    u64 v210 = umin64(v209, 12u);
+    if (!(v209 < 4)) goto v213;
+    if (v4 == v204) goto v171;
+    v216 = 0;
+v215:;
+    if (!(at(u8, (v3 + (i64)v204) + (i64)v216) == at(u8, v14 + (i64)v216))) goto v224;
+    u64 v217 = v216 + 1;
+    if (v217 == v210) { v243 = v210; goto v226; }
+    v216 = v217; goto v215;
+v224:;
+    if (v216 < v210) goto v228;
+    v243 = v210; goto v226;
+v213:;
+    if (!(at(u32_1, v3 + (i64)v204) == v205)) goto v228;
+    if (core_cmp_slices_groups_equal(v3 + (i64)v204, v210, v14)) { v243 = v210; goto v226; }
+v228:;
+    v234 = 0;
+v233:;
+    if (!(at(u8, (v3 + (i64)v204) + v234) == at(u8, v14 + v234))) { v243 = v234; goto v226; }
+    u64 v235 = v234 + 1;
+    if (v235 == v210) v243 = v210; else { v234 = v235; goto v233; }
+v226:;
+    if (!(v243 < 12u)) goto v245;
+v171:;
+    goto v28;
+v245:;
+    u64 v246 = v243 + v204;
+    v127 = v246; v130 = v246;
+v128:;
+    u64 v134 = v133 + 1;
+    if (!(v134 == 29u)) { v126 = v127; v129 = v130; v131 = (v139 + v131) + (((u32)0 - v139) & 3); v133 = v134; goto v125; }
+    u32 v294 = bswap32(at(u32, v20 + 376));
+    flag v297 = at(u8, v20) == 0;
+    u64 v300 = v297 ? 0 : ((at(u64, v20 + 368) == 0) ? 4 : 0);
+    u32 v301 = at(u32, v20 + 360);
+    u32 v304 = bswap32((v301 * 12u) + 16u);
+    u8 v305 = (u8)v304;
+    u8 v307 = (u8)(v304 >> 8);
+    u8 v309 = (u8)(v304 >> 16u);
+    u8 v311 = (u8)(v304 >> 24u);
+    u32 v312 = bswap32(v301);
+    u8 v313 = (u8)v312;
+    u8 v315 = (u8)(v312 >> 8);
+    u8 v317 = (u8)(v312 >> 16u);
+    u8 v319 = (u8)(v312 >> 24u);
+    u8 v320 = v297 ? 1 : 2;
+    u8 v321 = v297 ? 3 : 0;
+    u8 v322 = v297 ? 10u : 4;
+    u8 v323 = v297 ? 12u : 20u;
+    u8 v324 = v297 ? 12u : 3;
+    u8 v325 = v297 ? 0 : 10u;
+    u8 v326 = v297 ? v305 : 0;
+    u8 v327 = v297 ? v307 : 0;
+    u8 v328 = v297 ? v309 : 0;
+    u8 v329 = v297 ? v311 : 20u;
+    u8 v330 = v297 ? 0 : 12u;
+    u8 v331 = v297 ? v313 : v305;
+    u8 v332 = v297 ? v315 : v307;
+    u8 v333 = v297 ? v317 : v309;
+    u8 v334 = v297 ? v319 : v311;
+    u8 v335 = v297 ? 0 : v313;
+    u8 v336 = v297 ? 0 : v315;
+    u8 v337 = v297 ? 0 : v317;
+    u8 v338 = v297 ? 0 : v319;
+    u64 v339 = v297 ? 28u : 36u;
+    v348 = v127; v349 = v130; v346 = 0;
+v340:;
+    u64 v352 = at(u64, (u8 *)table_faed1f12 + (v346 << 3));
+    memset(v12, 0, 24u);
+    switch (v352) {
+    case 1: goto v354;
+    case 5: goto v355;
+    case 6: goto v356;
+    case 9: goto v357;
+    default: goto v353;
+    }
+v353:;
+    font_subset_kind_source_CutOfKindSource_copied(v12, v0, v352);
+    if (!(at(u8, v12) == 1)) { v344 = v348; goto v407; }
+    u8 *v1094 = at(ptr, v12 + 8);
+    u64 v1095 = at(u64, v12 + 16);
+    u64 v1098 = umin64(v1095, v4 - v348);
+    if (!(v1098 < 4)) goto v1101;
+    if (v1098 == 0) { v1132 = 0; goto v1103; }
+    v1105 = 0;
+v1104:;
+    if (!(at(u8, (v3 + (i64)v348) + (i64)v1105) == at(u8, v1094 + (i64)v1105))) goto v1113;
+    u64 v1106 = v1105 + 1;
+    if (v1106 == v1098) { v1132 = v1098; goto v1103; }
+    v1105 = v1106; goto v1104;
+v1113:;
+    if (v1105 < v1098) goto v1116;
+    v1132 = v1098; goto v1103;
+v1101:;
+    if (!(at(u32_1, v3 + (i64)v348) == at(u32_1, v1094))) goto v1116;
+    if (core_cmp_slices_groups_equal(v3 + (i64)v348, v1098, v1094)) { v1132 = v1098; goto v1103; }
+v1116:;
+    v1123 = 0;
+v1122:;
+    if (!(at(u8, (v3 + (i64)v348) + v1123) == at(u8, v1094 + v1123))) { v1132 = v1123; goto v1103; }
+    u64 v1124 = v1123 + 1;
+    if (v1124 == v1098) v1132 = v1098; else { v1123 = v1124; goto v1122; }
+v1103:;
+    if (v1132 < v1095) goto v599;
+    v344 = v1132 + v348; goto v407;
+v354:;
+    at(u64, v11) = 0;
+    at(u8, v11 + 3) = v320;
+    at(u8, v11 + 5) = v321;
+    at(u8, v11 + 7) = v322;
+    at(u8, v11 + 8) = 0;
+    at(u8, v11 + 9) = 0;
+    at(u8, v11 + 10) = 0;
+    at(u8, v11 + 11) = v323;
+    at(u8, v11 + 12) = 0;
+    at(u8, v11 + 13) = v324;
+    at(u8, v11 + 14) = 0;
+    at(u8, v11 + 15) = v325;
+    at(u8, v11 + 16) = v326;
+    at(u8, v11 + 17) = v327;
+    at(u8, v11 + 18) = v328;
+    at(u8, v11 + 19) = v329;
+    at(u8, v11 + 20) = 0;
+    at(u8, v11 + 21) = v330;
+    at(u8, v11 + 22) = 0;
+    at(u8, v11 + 23) = 0;
+    at(u8, v11 + 24) = v331;
+    at(u8, v11 + 25) = v332;
+    at(u8, v11 + 26) = v333;
+    at(u8, v11 + 27) = v334;
+    at(u32, v11 + 28) = 0;
+    at(u8, v11 + 32) = v335;
+    at(u8, v11 + 33) = v336;
+    at(u8, v11 + 34) = v337;
+    at(u8, v11 + 35) = v338;
+    at(u32, v11 + 36) = 0;
+    at(u64, v11 + 40) = v339;
+    u64 v359 = v4 - v349;
+    u64 v360 = umin64(v339, v359);
+    if (!(v359 < 4)) goto v363;
+    if (v4 == v349) goto v365;
+    v367 = 0;
+v366:;
+    if (!(at(u8, (v3 + (i64)v349) + (i64)v367) == at(u8, v11 + (i64)v367))) goto v375;
+    u64 v368 = v367 + 1;
+    if (v368 == v360) { v395 = v360; goto v377; }
+    v367 = v368; goto v366;
+v375:;
+    if (v367 < v360) goto v379;
+    v395 = v360; goto v377;
+v363:;
+    if (!(at(u32_1, v3 + (i64)v349) == at(u32, v11))) goto v379;
+    if (core_cmp_slices_groups_equal(v3 + (i64)v349, v360, v11)) { v395 = v360; goto v377; }
+v379:;
+    v386 = 0;
+v385:;
+    if (!(at(u8, (v3 + (i64)v349) + v386) == at(u8, v11 + v386))) { v395 = v386; goto v377; }
+    u64 v387 = v386 + 1;
+    if (v387 == v360) v395 = v360; else { v386 = v387; goto v385; }
+v377:;
+    if (!(v395 < v339)) goto v397;
+v365:;
+    goto v28;
+v397:;
+    memset(v10, 0, 1024u);
+    v403 = v395 + v349; v408 = 0;
+v399:;
+    memset(v9, 0, 16u);
+    v411 = v408; v414 = 0;
+v410:;
+    font_subset_kind_source_CutOfKindSource_next_run(v9, v0, v411);
+    if (!(at(u8, v9) == 1)) { v409 = v411; v405 = v414; goto v418; }
+    u32 v420 = at(u32, v9 + 8);
+    u64 v422 = v414 * 12u;
+    u16 v421 = at(u16, v9 + 12);
+    at(u32, v10 + v422) = bswap32(at(u32, v9 + 4));
+    at(u32, v10 + v422 + 4) = bswap32(v420);
+    at(u32, v10 + v422 + 8) = bswap32((u32)v421);
+    u32 v412 = v420 + 1;
+    u64 v415 = v414 + 1;
+    if (v415 == 85u) { v409 = v412; v405 = 85u; } else { v411 = v412; v414 = v415; goto v410; }
+v418:;
+    u64 v431 = v405 * 12u;
+    u64 v434 = umin64(v431, v4 - v403);
+    if (!(v434 < 4)) goto v437;
+    if (v434 == 0) { v402 = 0; goto v439; }
+    v441 = 0;
+v440:;
+    if (!(at(u8, (v3 + (i64)v403) + (i64)v441) == at(u8, v10 + (i64)v441))) goto v449;
+    u64 v442 = v441 + 1;
+    if (v442 == v434) { v402 = v434; goto v439; }
+    v441 = v442; goto v440;
+v449:;
+    if (v441 < v434) goto v452;
+    v402 = v434; goto v439;
+v437:;
+    if (!(at(u32_1, v3 + (i64)v403) == at(u32, v10))) goto v452;
+    if (core_cmp_slices_groups_equal(v3 + (i64)v403, v434, v10)) { v402 = v434; goto v439; }
+v452:;
+    v459 = 0;
+v458:;
+    if (!(at(u8, (v3 + (i64)v403) + v459) == at(u8, v10 + v459))) { v402 = v459; goto v439; }
+    u64 v460 = v459 + 1;
+    if (v460 == v434) v402 = v434; else { v459 = v460; goto v458; }
+v439:;
+    if (!(v402 < v431)) goto v400;
+    goto v28;
+v400:;
+    u64 v401 = v402 + v403;
+    if (v405 == 85u) { v403 = v401; v408 = v409; goto v399; }
+    v344 = v401; goto v407;
+v355:;
+    u8 *v470 = at(ptr, v0 + 8);
+    u16 v472 = at(u16, v470 + 64);
+    u8 *v473 = at(ptr, v0 + 168);
+    u64 v474 = at(u64, v0 + 176);
+    if (v474 == 0) { v504 = 0; goto v476; }
+    if (at(u8, v473) & 1) { v514 = 0; goto v480; }
+    if (v474 < 64u) { v504 = 0; goto v476; }
+    v484 = 0;
+v483:;
+    if (v484 == 0xffffffffffffffc0u) goto v486;
+    v491 = 0; v493 = (u8x16){0};
+v490:;
+    u8x16 v494 = v493 | ((-(at(u8x16_1, (v473 + (i64)v484) + (i64)v491) & 1)));
+    u64 v492 = v491 + 16u;
+    if (!(v492 == 64u)) { v491 = v492; v493 = v494; goto v490; }
+    if (!(bits_u8x16(v494) == 0)) { v504 = v484; goto v476; }
+v486:;
+    u64 v485 = v484 + 64u;
+    if ((v474 - v485) < 64u) v504 = v485; else { v484 = v485; goto v483; }
+v476:;
+    if (v504 < v474) v507 = v504; else { v514 = v474; goto v480; }
+v506:;
+    if (at(u8, v473 + v507) & 1) { v514 = v507; goto v480; }
+    u64 v508 = v507 + 1;
+    if (v508 == v474) v514 = v474; else { v507 = v508; goto v506; }
+v480:;
+    if (!(v472 > ((u16)v514))) { v673 = v349; goto v518; }
+    u8 *v522 = at(ptr_1, v470 + 32);
+    u8 *v524 = at(ptr_1, v470 + 48);
+    flag v525 = at(u8, v470 + 70) == 0;
+    v527 = v349; v530 = v514;
+v526:;
+    u64 v532 = v530 & 65535u;
+    if (!v525) goto v534;
+    u64 v535 = v532 << 1;
+    v556 = ((u64)bswap16(at(u16_1, v522 + (i64)v535))) << 1; v557 = ((u64)bswap16(at(u16_1, v522 + (i64)v535 + 2))) << 1; goto v546;
+v534:;
+    u64 v547 = v532 << 2;
+    v556 = (u64)bswap32(at(u32_1, v522 + (i64)v547)); v557 = (u64)bswap32(at(u32_1, v522 + (i64)v547 + 4));
+v546:;
+    u64 v559 = v557 - v556;
+    u64 v562 = umin64(v559, v4 - v527);
+    if (!(v562 < 4)) goto v565;
+    if (v562 == 0) { v596 = 0; goto v567; }
+    v569 = 0;
+v568:;
+    if (!(at(u8, (v3 + (i64)v527) + (i64)v569) == at(u8, (v524 + (i64)v556) + (i64)v569))) goto v577;
+    u64 v570 = v569 + 1;
+    if (v570 == v562) { v596 = v562; goto v567; }
+    v569 = v570; goto v568;
+v577:;
+    if (v569 < v562) goto v580;
+    v596 = v562; goto v567;
+v565:;
+    if (!(at(u32_1, v3 + (i64)v527) == at(u32_1, v524 + (i64)v556))) goto v580;
+    if (core_cmp_slices_groups_equal(v3 + (i64)v527, v562, v524 + (i64)v556)) { v596 = v562; goto v567; }
+v580:;
+    v587 = 0;
+v586:;
+    if (!(at(u8, (v3 + (i64)v527) + v587) == at(u8, (v524 + (i64)v556) + v587))) { v596 = v587; goto v567; }
+    u64 v588 = v587 + 1;
+    if (v588 == v562) v596 = v562; else { v587 = v588; goto v586; }
+v567:;
+    u64 v597 = v596 + v527;
+    if (v596 < v559) goto v599;
+    u64 v602 = ((u64)0 - v559) & 3;
+    u64 v605 = umin64(v602, v4 - v597);
+    if (v605 == 0) { v626 = 0; goto v607; }
+    v609 = 0;
+v608:;
+    if (!(at(u8, (v3 + (i64)v597) + (i64)v609) == 0)) goto v615;
+    u64 v610 = v609 + 1;
+    if (v610 == v605) { v626 = v605; goto v607; }
+    v609 = v610; goto v608;
+v615:;
+    if (v609 < v605) v619 = 0; else { v626 = v605; goto v607; }
+v618:;
+    if (!(at(u8, (v3 + (i64)v597) + v619) == 0)) { v626 = v619; goto v607; }
+    u64 v620 = v619 + 1;
+    if (v620 == v605) v626 = v605; else { v619 = v620; goto v618; }
+v607:;
+    u64 v528 = v626 + v597;
+    if (v626 < v602) goto v599;
+    u64 v630 = (v530 + 1) & 65535u;
+    if (!(v474 > v630)) goto v633;
+    if (at(u8, v473 + v630) & 1) { v531 = v630; goto v529; }
+v633:;
+    if ((v474 - v630) < 64u) { v661 = v630; goto v639; }
+    v641 = v630;
+v640:;
+    if (!(v641 < 0xffffffffffffffc0u)) goto v643;
+    v648 = 0; v650 = (u8x16){0};
+v647:;
+    u8x16 v651 = v650 | ((-(at(u8x16_1, (v473 + (i64)v641) + (i64)v648) & 1)));
+    u64 v649 = v648 + 16u;
+    if (!(v649 == 64u)) { v648 = v649; v650 = v651; goto v647; }
+    if (!(bits_u8x16(v651) == 0)) { v661 = v641; goto v639; }
+v643:;
+    u64 v642 = v641 + 64u;
+    if ((v474 - v642) < 64u) v661 = v642; else { v641 = v642; goto v640; }
+v639:;
+    if (v661 < v474) v664 = v661; else { v531 = v474; goto v529; }
+v663:;
+    if (at(u8, v473 + v664) & 1) { v531 = v664; goto v529; }
+    u64 v665 = v664 + 1;
+    if (v665 == v474) v531 = v474; else { v664 = v665; goto v663; }
+v529:;
+    if (v472 > ((u16)v531)) { v527 = v528; v530 = v531; goto v526; }
+    v673 = v528;
+v518:;
+    u64 v676 = umin64(v300, v4 - v673);
+    if (!(v676 < 4)) goto v679;
+    if (v676 == 0) { v707 = 0; goto v681; }
+    v683 = 0;
+v682:;
+    if (!(at(u8, (v3 + (i64)v673) + (i64)v683) == 0)) goto v689;
+    u64 v684 = v683 + 1;
+    if (v684 == v676) { v707 = v676; goto v681; }
+    v683 = v684; goto v682;
+v689:;
+    if (v683 < v676) goto v692;
+    v707 = v676; goto v681;
+v679:;
+    if (!(at(u32_1, v3 + (i64)v673) == 0)) goto v692;
+    if (!core_cmp_slices_groups_equal(v3 + (i64)v673, 4, (u8 *)table_18327a07)) goto v692;
+    v344 = v673 + 4; goto v407;
+v692:;
+    v700 = 0;
+v693:;
+    if (!(at(u8, (v3 + (i64)v673) + v700) == 0)) { v707 = v700; goto v681; }
+    u64 v701 = v700 + 1;
+    if (v701 == v676) v707 = v676; else { v700 = v701; goto v693; }
+v681:;
+    if (v707 < v300) goto v599;
+    v344 = v707 + v673; goto v407;
+v356:;
+    u8 *v711 = at(ptr_1, at(ptr, v0 + 8));
+    u16 v713 = at(u16_1, v711 + 4);
+    u64 v715 = (u64)bswap16(v713);
+    if (v713 == 0) { v751 = (u8 *)table_d0e67785; v752 = 0xffffffffffffffccu; goto v717; }
+    v721 = 0;
+v718:;
+    u64 v723 = v721 << 4;
+    if (!((((at(u8, v711 + (i64)v723 + 12) == 104u) & (at(u8, v711 + (i64)v723 + 13) == 101u)) & (at(u8, v711 + (i64)v723 + 14) == 97u)) & (at(u8, v711 + (i64)v723 + 15) == 100u))) goto v719;
+    v751 = v711 + (i64)((u64)bswap32(at(u32_1, v711 + (i64)v723 + 20))); v752 = ((u64)bswap32(at(u32_1, v711 + (i64)v723 + 24))) - 52u; goto v717;
+v719:;
+    u64 v720 = v721 + 1;
+    if (v720 == v715) { v751 = (u8 *)table_d0e67785; v752 = 0xffffffffffffffccu; } else { v721 = v720; goto v718; }
+v717:;
+    u64 v754 = v4 - v349;
+    u64 v755 = umin64(v754, 8);
+    if (!(v754 < 4)) goto v758;
+    if (v4 == v349) goto v599;
+    v761 = 0;
+v760:;
+    if (!(at(u8, (v3 + (i64)v349) + (i64)v761) == at(u8, v751 + (i64)v761))) goto v769;
+    u64 v762 = v761 + 1;
+    if (v762 == v755) { v789 = v755; goto v771; }
+    v761 = v762; goto v760;
+v769:;
+    if (v761 < v755) goto v773;
+    v789 = v755; goto v771;
+v758:;
+    if (!(at(u32_1, v3 + (i64)v349) == at(u32_1, v751))) goto v773;
+    if (core_cmp_slices_groups_equal(v3 + (i64)v349, v755, v751)) { v789 = v755; goto v771; }
+v773:;
+    v780 = 0;
+v779:;
+    if (!(at(u8, (v3 + (i64)v349) + v780) == at(u8, v751 + v780))) { v789 = v780; goto v771; }
+    u64 v781 = v780 + 1;
+    if (v781 == v755) v789 = v755; else { v780 = v781; goto v779; }
+v771:;
+    u64 v790 = v789 + v349;
+    if (v789 < 8) goto v599;
+    at(u32, v6) = v294;
+    u64 v794 = v4 - v790;
+    u64 v795 = umin64(v794, 4);
+    if (!(v794 < 4)) goto v798;
+    if (v4 == v790) goto v800;
+    v802 = 0;
+v801:;
+    if (!(at(u8, (v3 + (i64)v790) + (i64)v802) == at(u8, v6 + (i64)v802))) goto v810;
+    u64 v803 = v802 + 1;
+    if (v803 == v795) { v830 = v795; goto v812; }
+    v802 = v803; goto v801;
+v810:;
+    if (v802 < v795) goto v814;
+    v830 = v795; goto v812;
+v798:;
+    if (!(at(u32_1, v3 + (i64)v790) == v294)) goto v814;
+    if (core_cmp_slices_groups_equal(v3 + (i64)v790, v795, v6)) { v832 = v795; goto v819; }
+v814:;
+    v821 = 0;
+v820:;
+    if (!(at(u8, (v3 + (i64)v790) + v821) == at(u8, v6 + v821))) { v830 = v821; goto v812; }
+    u64 v822 = v821 + 1;
+    if (v822 == v795) v830 = v795; else { v821 = v822; goto v820; }
+v812:;
+    if (!(v830 < 4)) { v832 = v830; goto v819; }
+v800:;
+    goto v599;
+v819:;
+    u64 v833 = v832 + v790;
+    u64 v836 = v4 - v833;
+    u64 v837 = umin64(v836, 38u);
+    if (!(v836 < 4)) goto v840;
+    if (v4 == v833) goto v599;
+    v843 = 0;
+v842:;
+    if (!(at(u8, (v3 + (i64)v833) + (i64)v843) == at(u8, (v751 + 12) + (i64)v843))) goto v851;
+    u64 v844 = v843 + 1;
+    if (v844 == v837) { v871 = v837; goto v853; }
+    v843 = v844; goto v842;
+v851:;
+    if (v843 < v837) goto v855;
+    v871 = v837; goto v853;
+v840:;
+    if (!(at(u32_1, v3 + (i64)v833) == at(u32_1, v751 + 12))) goto v855;
+    if (core_cmp_slices_groups_equal(v3 + (i64)v833, v837, v751 + 12)) { v871 = v837; goto v853; }
+v855:;
+    v862 = 0;
+v861:;
+    if (!(at(u8, (v3 + (i64)v833) + v862) == at(u8, (v751 + 12) + v862))) { v871 = v862; goto v853; }
+    u64 v863 = v862 + 1;
+    if (v863 == v837) v871 = v837; else { v862 = v863; goto v861; }
+v853:;
+    u64 v872 = v871 + v833;
+    if (v871 < 38u) goto v599;
+    u64 v877 = umin64(v4 - v872, 2);
+    if (v4 == v872) goto v599;
+    v880 = 0;
+v879:;
+    if (!(at(u8, (v3 + (i64)v872) + (i64)v880) == at(u8, (u8 *)table_87e6e93c + (i64)v880))) goto v888;
+    u64 v881 = v880 + 1;
+    if (v881 == v877) { v902 = v877; goto v890; }
+    v880 = v881; goto v879;
+v888:;
+    if (v880 < v877) v893 = 0; else { v902 = v877; goto v890; }
+v892:;
+    if (!(at(u8, (v3 + (i64)v872) + v893) == at(u8, (u8 *)table_87e6e93c + v893))) { v902 = v893; goto v890; }
+    u64 v894 = v893 + 1;
+    if (v894 == v877) v902 = v877; else { v893 = v894; goto v892; }
+v890:;
+    u64 v903 = v902 + v872;
+    if (v902 < 2) goto v599;
+    u64 v909 = umin64(v752, v4 - v903);
+    if (!(v909 < 4)) goto v912;
+    if (v909 == 0) { v943 = 0; goto v914; }
+    v916 = 0;
+v915:;
+    if (!(at(u8, (v3 + (i64)v903) + (i64)v916) == at(u8, (v751 + 52) + (i64)v916))) goto v924;
+    u64 v917 = v916 + 1;
+    if (v917 == v909) { v943 = v909; goto v914; }
+    v916 = v917; goto v915;
+v924:;
+    if (v916 < v909) goto v927;
+    v943 = v909; goto v914;
+v912:;
+    if (!(at(u32_1, v3 + (i64)v903) == at(u32_1, v751 + 52))) goto v927;
+    if (core_cmp_slices_groups_equal(v3 + (i64)v903, v909, v751 + 52)) { v943 = v909; goto v914; }
+v927:;
+    v934 = 0;
+v933:;
+    if (!(at(u8, (v3 + (i64)v903) + v934) == at(u8, (v751 + 52) + v934))) { v943 = v934; goto v914; }
+    u64 v935 = v934 + 1;
+    if (v935 == v909) v943 = v909; else { v934 = v935; goto v933; }
+v914:;
+    if (!(v943 < v752)) { v344 = v943 + v903; goto v407; }
+v599:;
+    goto v28;
+v357:;
+    memset(v8, 0, 1024u);
+    u8 *v946 = at(ptr, v0 + 168);
+    u64 v947 = at(u64, v0 + 176);
+    if (v947 == 0) { v977 = 0; goto v949; }
+    if (at(u8, v946) & 1) { v987 = 0; goto v953; }
+    if (v947 < 64u) { v977 = 0; goto v949; }
+    v957 = 0;
+v956:;
+    if (v957 == 0xffffffffffffffc0u) goto v959;
+    v964 = 0; v966 = (u8x16){0};
+v963:;
+    u8x16 v967 = v966 | ((-(at(u8x16_1, (v946 + (i64)v957) + (i64)v964) & 1)));
+    u64 v965 = v964 + 16u;
+    if (!(v965 == 64u)) { v964 = v965; v966 = v967; goto v963; }
+    if (!(bits_u8x16(v967) == 0)) { v977 = v957; goto v949; }
+v959:;
+    u64 v958 = v957 + 64u;
+    if ((v947 - v958) < 64u) v977 = v958; else { v957 = v958; goto v956; }
+v949:;
+    if (v977 < v947) v980 = v977; else { v987 = v947; goto v953; }
+v979:;
+    if (at(u8, v946 + v980) & 1) { v987 = v980; goto v953; }
+    u64 v981 = v980 + 1;
+    if (v981 == v947) v987 = v947; else { v980 = v981; goto v979; }
+v953:;
+    u16 v990 = at(u16, at(ptr, v0 + 8) + 64);
+    at(u32, v7) = 0;
+    u64 v992 = v4 - v348;
+    u64 v993 = umin64(v992, 4);
+    if (!(v992 < 4)) goto v996;
+    if (v4 == v348) goto v998;
+    v1000 = 0;
+v999:;
+    if (!(at(u8, (v3 + (i64)v348) + (i64)v1000) == at(u8, v7 + (i64)v1000))) goto v1008;
+    u64 v1001 = v1000 + 1;
+    if (v1001 == v993) { v1028 = v993; goto v1010; }
+    v1000 = v1001; goto v999;
+v1008:;
+    if (v1000 < v993) goto v1012;
+    v1028 = v993; goto v1010;
+v996:;
+    if (!(at(u32_1, v3 + (i64)v348) == 0)) goto v1012;
+    if (core_cmp_slices_groups_equal(v3 + (i64)v348, v993, v7)) { v1031 = v993; goto v1017; }
+v1012:;
+    v1019 = 0;
+v1018:;
+    if (!(at(u8, (v3 + (i64)v348) + v1019) == at(u8, v7 + v1019))) { v1028 = v1019; goto v1010; }
+    u64 v1020 = v1019 + 1;
+    if (v1020 == v993) v1028 = v993; else { v1019 = v1020; goto v1018; }
+v1010:;
+    if (!(v1028 < 4)) { v1031 = v1028; goto v1017; }
+v998:;
+    goto v1030;
+v1017:;
+    u64 v1032 = v1031 + v348;
+    if (v990 == 0) { v1135 = v1032; goto v1034; }
+    v1038 = v1032; v1041 = 0; v1043 = (u16)v987; v1045 = 0;
+v1037:;
+    u16 v1048 = umin16((u16)(v990 - v1045), 256u);
+    u16 v1046 = (u16)(v1048 + v1045);
+    u32_u16 v1049 = font_write_made_loca_gather_offsets(v0, v1045, v1046, v1041, v1043, v8);
+    u64 v1051 = (u64)((u16)((u32)v1048 << 2));
+    u64 v1054 = umin64(v1051, v4 - v1038);
+    if (!(v1054 < 4)) goto v1057;
+    if (v1054 == 0) { v1088 = 0; goto v1059; }
+    v1061 = 0;
+v1060:;
+    if (!(at(u8, (v3 + (i64)v1038) + (i64)v1061) == at(u8, v8 + (i64)v1061))) goto v1069;
+    u64 v1062 = v1061 + 1;
+    if (v1062 == v1054) { v1088 = v1054; goto v1059; }
+    v1061 = v1062; goto v1060;
+v1069:;
+    if (v1061 < v1054) goto v1072;
+    v1088 = v1054; goto v1059;
+v1057:;
+    if (!(at(u32_1, v3 + (i64)v1038) == at(u32, v8))) goto v1072;
+    if (core_cmp_slices_groups_equal(v3 + (i64)v1038, v1054, v8)) { v1088 = v1054; goto v1059; }
+v1072:;
+    v1079 = 0;
+v1078:;
+    if (!(at(u8, (v3 + (i64)v1038) + v1079) == at(u8, v8 + v1079))) { v1088 = v1079; goto v1059; }
+    u64 v1080 = v1079 + 1;
+    if (v1080 == v1054) v1088 = v1054; else { v1079 = v1080; goto v1078; }
+v1059:;
+    if (!(v1088 < v1051)) goto v1040;
+v1030:;
+    goto v28;
+v1040:;
+    u64 v1039 = v1088 + v1038;
+    if (v1046 < v990) { v1038 = v1039; v1041 = v1049._0; v1043 = v1049._1; v1045 = v1046; goto v1037; }
+    v1135 = v1039;
+v1034:;
+    v344 = v1135;
+v407:;
+    u64 v1142 = (u64)(((u32)0 - at(u32, v20 + (i64)(v346 * 12u) + 8)) & 3);
+    u64 v1145 = umin64(v1142, v4 - v344);
+    if (v1145 == 0) { v343 = 0; goto v1147; }
+    v1149 = 0;
+v1148:;
+    if (!(at(u8, (v3 + (i64)v344) + (i64)v1149) == 0)) goto v1155;
+    u64 v1150 = v1149 + 1;
+    if (v1150 == v1145) { v343 = v1145; goto v1147; }
+    v1149 = v1150; goto v1148;
+v1155:;
+    if (v1149 < v1145) v1159 = 0; else { v343 = v1145; goto v1147; }
+v1158:;
+    if (!(at(u8, (v3 + (i64)v344) + v1159) == 0)) { v343 = v1159; goto v1147; }
+    u64 v1160 = v1159 + 1;
+    if (v1160 == v1145) v343 = v1145; else { v1159 = v1160; goto v1158; }
+v1147:;
+    if (!(v343 < v1142)) goto v341;
+v28:;
+    return 0;
+v341:;
+    u64 v342 = v343 + v344;
+    u64 v345 = v346 + 1;
+    if (!(v345 == 29u)) { v348 = v342; v349 = v342; v346 = v345; goto v340; }
+    return v342 == v4;
+}
+
+void font_write_whole_file_measure(u8 *v0, u8 *v1) {
+    _Alignas(4) u8 v3[64], v4[20], v5[32], v7[4], v9[4], v10[4], v13[348], v15[348], v16[344];
+    u8 v6[12], *v408, *v437, *v442, *v450, *v87, *v164, *v169, *v177, *v238, *v249, *v287, *v292, *v300, *v552, *v626;
+    _Alignas(8) u8 v8[24], v11[48], v12[16], v17[24], v18[344], v20[344];
+    _Alignas(2) u8 v14[6], v19[6], v21[6];
+    u64 v67, v399, v400, v407, v424, v438, v444, v449, v89, v105, v151, v165, v171, v176, v187, v208, v239, v251, v274, v288, v294, v299, v319, v360, v468, v518, v554, v595, v644, v645, v646, v649, v650;
+    u32x4 v426, v153, v276;
+    u32 v436, v440, v451, v85, v120, v163, v167, v178, v247, v286, v290, v301, v334, v337, v455, v456, v550, v590, v593, v633, v634, v648;
+    u16 v115, v123, v329, v339, v516, v538, v539, v540, v647;
+    u16x8 v470;
+    memset(v18, 0, 344u);
+    memset(v19, 0, 6);
+    memset(v20, 0, 344u);
+    memset(v21, 0, 6);
+    memset(v17, 0, 24u);
+    font_write_size_file_size_092d(v17, v1);
+    u64 v23 = at(u64, v17 + 16);
+    if (!(v23 > 134217728u)) goto v26;
+    v644 = 1; v645 = 0; v646 = 0; v647 = 0; v648 = 0; v649 = v23; v650 = 0; goto v643;
+v26:;
+    u64 v27 = at(u64, v17);
+    u64 v29 = at(u64, v17 + 8);
+    memset(v14, 0, 6);
+    memset(v15, 0, 348u);
+    memset(v16, 0, 344u);
+    at(u64, v12) = v27;
+    at(u64, v12 + 8) = v29;
+    memset(v13, 0, 348u);
+    u32 v59 = (u32)v27;
+    u32 v61 = (u32)(v27 >> 32u);
+    u32 v64 = bswap32((v59 * 12u) + 16u);
+    u32 v65 = bswap32(v59);
+    v67 = 0;
+v66:;
+    u64 v72 = at(u64, (u8 *)table_faed1f12 + (v67 << 3));
+    u8_u64 v73 = font_write_size_table_length_895b(v1, v12, v72);
+    u8 v74 = v73._0;
+    if (!(v74 == 1)) { v455 = 0; v456 = 0; goto v69; }
+    u32 v78 = (u32)v73._1;
+    switch (v72) {
+    case 1: goto v80;
+    case 5: goto v81;
+    case 6: goto v82;
+    case 9: goto v83;
+    default: goto v79;
+    }
+v79:;
+    memset(v8, 0, 24u);
+    if (!(v72 < 16u)) goto v379;
+    font_subset_accepted_copied(v8, at(ptr, v1 + 8), v72);
+    goto v381;
+v379:;
+    font_subset_font_of_kind_FontOfKind_further_6e0a(v8, v1, v72);
+v381:;
+    u8 v382 = at(u8, v8);
+    u8 *v383 = at(ptr, v8 + 8);
+    u64 v384 = at(u64, v8 + 16);
+    if (at(u8, v1) == 0) goto v387;
+    switch (v72) {
+    case 8: goto v389;
+    case 15u: goto v390;
+    case 28u: goto v391;
+    default: goto v387;
+    }
+v387:;
+    if (v382 == 1) { v407 = v384; v408 = v383; goto v405; }
+    v455 = v78; v456 = 0; goto v69;
+v389:;
+    if (at(u8, v1 + 560) == 1) { v399 = 568u; v400 = 576u; goto v394; }
+    v455 = v78; v456 = 0; goto v69;
+v390:;
+    if (at(u8, v1 + 592) == 1) { v399 = 600u; v400 = 608u; goto v394; }
+    v455 = v78; v456 = 0; goto v69;
+v391:;
+    if (at(u8, v1 + 624) == 1) { v399 = 632u; v400 = 640u; } else { v455 = v78; v456 = 0; goto v69; }
+v394:;
+    v407 = at(u64, v1 + (i64)v400); v408 = at(ptr, v1 + (i64)v399);
+v405:;
+    if (!(v407 > 3)) { v449 = v407; v450 = v408; v451 = 0; goto v411; }
+    u64 v412 = v407 - 4;
+    u64 v414 = (v412 >> 2) + 1;
+    if (v412 < 12u) { v436 = 0; v437 = v408; v438 = v407; goto v416; }
+    u64 v418 = v414 & 0x7ffffffffffffffcu;
+    u64 v419 = v418 << 2;
+    u64 v422 = v407 - (v418 << 2);
+    v424 = 0; v426 = (u32x4){0};
+v423:;
+    u32x4 v427 = bswap_u32x4(at(u32x4_1, v408 + (i64)(v424 << 2))) + v426;
+    u64 v425 = v424 + 4;
+    if (!(v425 == v418)) { v424 = v425; v426 = v427; goto v423; }
+    u32 v434 = sum_u32x4(v427);
+    if (v414 == v418) { v449 = v422; v450 = v408 + (i64)v419; v451 = v434; goto v411; }
+    v436 = v434; v437 = v408 + (i64)v419; v438 = v422;
+v416:;
+    v440 = v436; v442 = v437; v444 = v438;
+v439:;
+    u32 v441 = bswap32(at(u32_1, v442)) + v440;
+    u64 v445 = v444 - 4;
+    if (v445 > 3) { v440 = v441; v442 = v442 + 4; v444 = v445; goto v439; }
+    v449 = v445; v450 = v442 + 4; v451 = v441;
+v411:;
+    at(u32, v7) = 0;
+    memcpy_any(v7, v450, v449);
+    v455 = v78; v456 = bswap32(at(u32, v7)) + v451; goto v69;
+v80:;
+    at(u64, v11) = 0x400000002000000u;
+    at(u8, v11 + 8) = 0;
+    at(u8, v11 + 9) = 0;
+    at(u8, v11 + 10) = 0;
+    at(u8, v11 + 11) = 20u;
+    at(u8, v11 + 12) = 0;
+    at(u8, v11 + 13) = 3;
+    at(u8, v11 + 14) = 0;
+    at(u8, v11 + 15) = 10u;
+    at(u8, v11 + 16) = 0;
+    at(u8, v11 + 17) = 0;
+    at(u8, v11 + 18) = 0;
+    at(u8, v11 + 19) = 20u;
+    at(u8, v11 + 20) = 0;
+    at(u8, v11 + 21) = 12u;
+    at(u8, v11 + 22) = 0;
+    at(u8, v11 + 23) = 0;
+    at(u32, v11 + 24) = v64;
+    at(u32, v11 + 28) = 0;
+    at(u32, v11 + 32) = v65;
+    at(u32, v11 + 36) = 0;
+    at(u64, v11 + 40) = 36u;
+    v85 = 0; v87 = v11; v89 = 36u;
+v84:;
+    u32 v86 = bswap32(at(u32_1, v87)) + v85;
+    u64 v90 = v89 - 4;
+    if (!(v90 == 0)) { v85 = v86; v87 = v87 + 4; v89 = v90; goto v84; }
+    v455 = v78; v456 = v86 + v61; goto v69;
+v81:;
+    u16 v98 = at(u16, at(ptr, v1 + 8) + 64);
+    if (v98 == 0) { v115 = 0; goto v100; }
+    u8 *v102 = at(ptr, v1 + 528);
+    u64 v103 = (u64)v98;
+    v105 = 0;
+v104:;
+    if (!(at(u8, v102 + (i64)(v105 * 24u)) & 1)) goto v107;
+    v115 = (u16)v105;
+v100:;
+    if (!(v115 < v98)) { v455 = v78; v456 = 0; goto v69; }
+    u8 *v118 = at(ptr, v1 + 528);
+    v120 = 0; v123 = v115;
+v119:;
+    u64 v126 = ((u64)v123) * 24u;
+    if (!(at(u8, v118 + (i64)v126) == 1)) { v176 = 0; v177 = (u8 *)table_d0e67785; v178 = 0; goto v132; }
+    u64 v134 = at(u64_1, v118 + (i64)v126 + 16);
+    u8 *v136 = at(ptr_1, v118 + (i64)v126 + 8);
+    if (!(v134 > 3)) { v176 = v134; v177 = v136; v178 = 0; goto v132; }
+    u64 v139 = v134 - 4;
+    u64 v141 = (v139 >> 2) + 1;
+    if (v139 < 12u) { v163 = 0; v164 = v136; v165 = v134; goto v143; }
+    u64 v145 = v141 & 0x7ffffffffffffffcu;
+    u64 v146 = v145 << 2;
+    u64 v149 = v134 - (v145 << 2);
+    v151 = 0; v153 = (u32x4){0};
+v150:;
+    u32x4 v154 = bswap_u32x4(at(u32x4_1, v136 + (i64)(v151 << 2))) + v153;
+    u64 v152 = v151 + 4;
+    if (!(v152 == v145)) { v151 = v152; v153 = v154; goto v150; }
+    u32 v161 = sum_u32x4(v154);
+    if (v141 == v145) { v176 = v149; v177 = v136 + (i64)v146; v178 = v161; goto v132; }
+    v163 = v161; v164 = v136 + (i64)v146; v165 = v149;
+v143:;
+    v167 = v163; v169 = v164; v171 = v165;
+v166:;
+    u32 v168 = bswap32(at(u32_1, v169)) + v167;
+    u64 v172 = v171 - 4;
+    if (v172 > 3) { v167 = v168; v169 = v169 + 4; v171 = v172; goto v166; }
+    v176 = v172; v177 = v169 + 4; v178 = v168;
+v132:;
+    at(u32, v10) = 0;
+    memcpy_any(v10, v177, v176);
+    u32 v121 = (v178 + v120) + bswap32(at(u32, v10));
+    u16 v182 = (u16)(v123 + 1);
+    if (!(v182 < v98)) { v455 = v78; v456 = v121; goto v69; }
+    v187 = (u64)v182;
+v186:;
+    if (!(at(u8, v118 + (i64)(v187 * 24u)) & 1)) goto v189;
+    u16 v124 = (u16)v187;
+    if (v98 > v124) { v120 = v121; v123 = v124; goto v119; }
+    v455 = v78; v456 = v121; goto v69;
+v189:;
+    u64 v188 = v187 + 1;
+    if (v98 == ((u16)v188)) { v455 = v78; v456 = v121; goto v69; }
+    v187 = v188; goto v186;
+v107:;
+    u64 v106 = v105 + 1;
+    if (v106 == v103) { v455 = v78; v456 = 0; goto v69; }
+    v105 = v106; goto v104;
+v82:;
+    u8 *v198 = at(ptr_1, at(ptr, v1 + 8));
+    u16 v200 = at(u16_1, v198 + 4);
+    u64 v202 = (u64)bswap16(v200);
+    if (v200 == 0) { v238 = (u8 *)table_d0e67785; v239 = 0xffffffffffffffccu; goto v204; }
+    v208 = 0;
+v205:;
+    u64 v210 = v208 << 4;
+    if (!((((at(u8, v198 + (i64)v210 + 12) == 104u) & (at(u8, v198 + (i64)v210 + 13) == 101u)) & (at(u8, v198 + (i64)v210 + 14) == 97u)) & (at(u8, v198 + (i64)v210 + 15) == 100u))) goto v206;
+    v238 = v198 + (i64)((u64)bswap32(at(u32_1, v198 + (i64)v210 + 20))); v239 = ((u64)bswap32(at(u32_1, v198 + (i64)v210 + 24))) - 52u; goto v204;
+v206:;
+    u64 v207 = v208 + 1;
+    if (v207 == v202) { v238 = (u8 *)table_d0e67785; v239 = 0xffffffffffffffccu; } else { v208 = v207; goto v205; }
+v204:;
+    u16 v241 = at(u16_1, v238 + 48);
+    u32 v244 = sum_u32x2(bswap_u32x2(at(u32x2_1, v238)));
+    v247 = 0; v249 = v238 + 12; v251 = 36u;
+v246:;
+    u32 v248 = bswap32(at(u32_1, v249)) + v247;
+    u64 v252 = v251 - 4;
+    if (!(v252 == 0)) { v247 = v248; v249 = v249 + 4; v251 = v252; goto v246; }
+    u32 v257 = (u32)v241;
+    if (!(v239 > 3)) { v299 = v239; v300 = v238 + 52; v301 = 0; goto v261; }
+    u64 v262 = v239 - 4;
+    u64 v264 = (v262 >> 2) + 1;
+    if (v262 < 12u) { v286 = 0; v287 = v238 + 52; v288 = v239; goto v266; }
+    u64 v268 = v264 & 0x7ffffffffffffffcu;
+    u64 v269 = v268 << 2;
+    u64 v272 = v239 - (v268 << 2);
+    v274 = 0; v276 = (u32x4){0};
+v273:;
+    u32x4 v277 = bswap_u32x4(at(u32x4_1, (v238 + 52) + (i64)(v274 << 2))) + v276;
+    u64 v275 = v274 + 4;
+    if (!(v275 == v268)) { v274 = v275; v276 = v277; goto v273; }
+    u32 v284 = sum_u32x4(v277);
+    if (v264 == v268) { v299 = v272; v300 = (v238 + 52) + (i64)v269; v301 = v284; goto v261; }
+    v286 = v284; v287 = (v238 + 52) + (i64)v269; v288 = v272;
+v266:;
+    v290 = v286; v292 = v287; v294 = v288;
+v289:;
+    u32 v291 = bswap32(at(u32_1, v292)) + v290;
+    u64 v295 = v294 - 4;
+    if (v295 > 3) { v290 = v291; v292 = v292 + 4; v294 = v295; goto v289; }
+    v299 = v295; v300 = v292 + 4; v301 = v291;
+v261:;
+    at(u32, v9) = 0;
+    memcpy_any(v9, v300, v299);
+    v455 = v78; v456 = (((v244 + bswap32(v257 | 16777216u)) + v248) + v301) + bswap32(at(u32, v9)); goto v69;
+v83:;
+    u16 v312 = at(u16, at(ptr, v1 + 8) + 64);
+    if (v312 == 0) { v329 = 0; goto v314; }
+    u8 *v316 = at(ptr, v1 + 528);
+    u64 v317 = (u64)v312;
+    v319 = 0;
+v318:;
+    if (!(at(u8, v316 + (i64)(v319 * 24u)) & 1)) goto v321;
+    v329 = (u16)v319;
+v314:;
+    if (!(v329 < v312)) { v455 = v78; v456 = 0; goto v69; }
+    u8 *v332 = at(ptr, v1 + 528);
+    v334 = 0; v337 = 0; v339 = v329;
+v333:;
+    u64 v342 = ((u64)v339) * 24u;
+    u64 v349 = (at(u8, v332 + (i64)v342) == 1) ? at(u64_1, v332 + (i64)v342 + 16) : 0;
+    u32 v335 = v334 + ((u32)((((u64)0 - v349) & 3) + v349));
+    u16 v354 = (u16)(v339 + 1);
+    if (!(v354 < v312)) goto v357;
+    v360 = (u64)v354;
+v359:;
+    if (!(at(u8, v332 + (i64)(v360 * 24u)) & 1)) goto v362;
+    u16 v340 = (u16)v360;
+    u32 v338 = (v335 * ((u32)((u16)(v340 - v339)))) + v337;
+    if (v312 > v340) { v334 = v335; v337 = v338; v339 = v340; goto v333; }
+    v455 = v78; v456 = v338; goto v69;
+v362:;
+    u64 v361 = v360 + 1;
+    if (!(v312 == ((u16)v361))) { v360 = v361; goto v359; }
+v357:;
+    v455 = v78; v456 = (v335 * ((u32)((u16)(v312 - v339)))) + v337; goto v69;
+v321:;
+    u64 v320 = v319 + 1;
+    if (v320 == v317) { v455 = v78; v456 = 0; } else { v319 = v320; goto v318; }
+v69:;
+    u64 v457 = v67 * 12u;
+    at(u8, v13 + v457) = v74;
+    memset(v13 + v457 + 1, 0, 3);
+    at(u32, v13 + v457 + 4) = v455;
+    at(u32, v13 + v457 + 8) = v456;
+    u64 v68 = v67 + 1;
+    if (!(v68 == 29u)) { v67 = v68; goto v66; }
+    u32 v464 = at(u32, v13);
+    memcpy(v16, v13 + 4, 344u);
+    at(u32, v15) = v464;
+    memcpy(v15 + 4, v16, 344u);
+    v468 = 0; v470 = (u16x8){0};
+v467:;
+    u8 v495 = at(u8, v15 + (v468 * 12u));
+    u8 v496 = at(u8, v15 + (v468 * 12u) + 12);
+    u8 v497 = at(u8, v15 + (v468 * 12u) + 24);
+    u8 v498 = at(u8, v15 + (v468 * 12u) + 36);
+    u8 v499 = at(u8, v15 + (v468 * 12u) + 48);
+    u8 v500 = at(u8, v15 + (v468 * 12u) + 60);
+    u8 v501 = at(u8, v15 + (v468 * 12u) + 72);
+    u8 v502 = at(u8, v15 + (v468 * 12u) + 84);
+    u16x8 v471 = v470 + (__builtin_convertvector((u8x8){v495, v496, v497, v498, v499, v500, v501, v502}, u16x8));
+    u64 v469 = v468 + 8;
+    if (!(v469 == 24u)) { v468 = v469; v470 = v471; goto v467; }
+    v516 = sum_u16x8(v471); v518 = 24u;
+v515:;
+    u16 v517 = (u16)(v516 + ((u16)at(u8, v15 + (v518 * 12u))));
+    u64 v519 = v518 + 1;
+    if (!(v519 == 29u)) { v516 = v517; v518 = v519; goto v515; }
+    if (!(((u16)(v517 + 65535u)) < 4095u)) { v538 = 0; v539 = 0; v540 = 0; goto v529; }
+    u16 v531 = (u16)(ctlz16(v517) ^ 15u);
+    u16 v532 = (u16)((u32)16u << (v531 & 31));
+    v538 = bswap16((u16)(((u16)((u32)v517 << 4)) - v532)); v539 = (u16)((u32)v531 << 8); v540 = bswap16(v532);
+v529:;
+    at(u8, v6) = 0;
+    at(u8, v6 + 1) = 1;
+    at(u8, v6 + 2) = 0;
+    at(u8, v6 + 3) = 0;
+    at(u16_1, v6 + 4) = bswap16(v517);
+    at(u16_1, v6 + 6) = v540;
+    at(u16_1, v6 + 8) = v539;
+    at(u16_1, v6 + 10) = v538;
+    v550 = 0; v552 = v6; v554 = 12u;
+v549:;
+    u32 v551 = bswap32(at(u32_1, v552)) + v550;
+    u64 v555 = v554 - 4;
+    if (!(v555 == 0)) { v550 = v551; v552 = v552 + 4; v554 = v555; goto v549; }
+    v590 = v551; v593 = (((u32)v517) << 4) | 12u; v595 = 0;
+v589:;
+    u64 v597 = v595 * 12u;
+    u32 v601 = at(u32, v15 + v597 + 4);
+    u32 v603 = at(u32, v15 + v597 + 8);
+    if (!(at(u8, v15 + v597) & 1)) goto v606;
+    u64 v610 = at(u64, (u8 *)table_faed1f12 + (v595 << 3));
+    if (!(v610 < 16u)) goto v613;
+    at(u32, v3) = 841962319u;
+    at(u32, v3 + 4) = 1885433187u;
+    at(u32, v3 + 8) = 544503395u;
+    at(u32, v3 + 12) = 1835495526u;
+    at(u32, v3 + 16) = 1886609767u;
+    at(u32, v3 + 20) = 1719233639u;
+    at(u32, v3 + 24) = 1684104552u;
+    at(u32, v3 + 28) = 1634035816u;
+    at(u32, v3 + 32) = 2020896104u;
+    at(u32, v3 + 36) = 1633906540u;
+    at(u32, v3 + 40) = 1886937453u;
+    at(u32, v3 + 44) = 1701667182u;
+    at(u32, v3 + 48) = 1953722224u;
+    at(u32, v3 + 52) = 1885696624u;
+    at(u32, v3 + 56) = 1634035830u;
+    at(u32, v3 + 60) = 2020896118u;
+    v626 = v3 + (v610 << 2); goto v616;
+v613:;
+    if (!(v610 < 21u)) goto v619;
+    at(u32, v4) = 1163084098u;
+    at(u32, v4 + 4) = 1178944583u;
+    at(u32, v4 + 8) = 1397706823u;
+    at(u32, v4 + 12) = 1112888135u;
+    at(u32, v4 + 16) = 1852990827u;
+    v626 = v4 + (i64)(v610 << 2) - 64; goto v616;
+v619:;
+    at(u32, v5) = 1380013640u;
+    at(u32, v5 + 4) = 1380013645u;
+    at(u32, v5 + 8) = 1413567571u;
+    at(u32, v5 + 12) = 1380013654u;
+    at(u32, v5 + 16) = 1918989921u;
+    at(u32, v5 + 20) = 1918989923u;
+    at(u32, v5 + 24) = 1918989926u;
+    at(u32, v5 + 28) = 1918989927u;
+    v626 = v5 + (i64)(v610 << 2) - 84;
+v616:;
+    u32 v630 = v601 + v593;
+    v633 = v630; v634 = ((v603 << 1) + v630) + bswap32(at(u32_1, v626)); goto v592;
+v606:;
+    v633 = v601 + v593; v634 = 0;
+v592:;
+    u32 v591 = v634 + v590;
+    u64 v596 = v595 + 1;
+    if (!(v596 == 29u)) { v590 = v591; v593 = v633 + (((u32)0 - v601) & 3); v595 = v596; goto v589; }
+    memcpy(v20, v16, 344u);
+    memcpy(v21, v14, 6);
+    memcpy(v18, v20, 344u);
+    memcpy(v19, v21, 6);
+    v644 = 0; v645 = v27; v646 = v29; v647 = v517; v648 = (u32)0xb1b0afbau - v591; v649 = (((u64)v464) << 32u) | 1; v650 = v23;
+v643:;
+    at(u64_1, v0) = v644;
+    at(u64_1, v0 + 8) = v649;
+    memcpy(v0 + 16, v18, 344u);
+    at(u16_1, v0 + 360) = v647;
+    memcpy(v0 + 362, v19, 6);
+    at(u64_1, v0 + 368) = v645;
+    at(u64_1, v0 + 376) = v646;
+    at(u32_1, v0 + 384) = v648;
+    at(u32_1, v0 + 388) = 0;
+    at(u64_1, v0 + 392) = v650;
+    return;
+}
+
+u8 font_write_writer_send_entry_bb40(u8 *v0, u32 v1, u32 v2, u32 v3, u8 *v4) {
+    _Alignas(4) u8 v7[4];
+    u64 v23, v24, v50, v51;
+    u8 *v49;
+    u32 v6 = at(u32_1, v0);
+    at(u32, v7) = v6;
+    at(u8, v4 + 33) = 0;
+    u64 v12 = at(u64, v4 + 16);
+    u64 v13 = at(u64, v4 + 8);
+    if (!((v12 - v13) < 4)) { v23 = v12; v24 = v13; goto v17; }
+    if (!std_alloc_vec_Vec_grow_amortized_1cf2(v4, 4)) goto v20;
+    v23 = at(u64, v4 + 16); v24 = at(u64, v4 + 8); goto v17;
+v20:;
+    at(u8, v4 + 32) = 1;
+    return 1;
+v17:;
+    u64 v25 = v24 + 4;
+    u8 *v26 = at(ptr, v4);
+    at(u32_1, v26 + (i64)v24) = ((((u64)(v26 + (i64)v24)) - ((u64)v7)) < 4) ? at(u32, v7) : v6;
+    at(ptr, v4) = v26;
+    at(u64, v4 + 8) = v25;
+    at(u64, v4 + 16) = v23;
+    at(u64, v4 + 24) = at(u64, v4 + 24) + 4;
+    u32 v36 = bswap32(v1);
+    u32 v37 = bswap32(v2);
+    u32 v38 = bswap32(v3);
+    at(u8, v4 + 33) = 0;
+    if (!((v23 - v25) < 12u)) { v49 = v26; v50 = v23; v51 = v25; goto v42; }
+    if (!std_alloc_vec_Vec_grow_amortized_1cf2(v4, 12u)) goto v45;
+    v49 = at(ptr, v4); v50 = at(u64, v4 + 16); v51 = at(u64, v4 + 8); goto v42;
+v45:;
+    at(u8, v4 + 32) = 1;
+    return 1;
+v42:;
+    at(u32_1, v49 + (i64)v51) = v36;
+    at(u32_1, v49 + (i64)v51 + 4) = v37;
+    at(u32_1, v49 + (i64)v51 + 8) = v38;
+    at(ptr, v4) = v49;
+    at(u64, v4 + 8) = v51 + 12u;
+    at(u64, v4 + 16) = v50;
+    at(u64, v4 + 24) = at(u64, v4 + 24) + 12u;
+    return 0;
+}
+
+u8 font_write_writer_send_entry_f0d8(u8 *v0, u32 v1, u32 v2, u32 v3, u8 *v4) {
+    _Alignas(8) u8 v6[96], v7[96];
+    _Alignas(4) u8 v9[4], v10[12];
+    u64 v19, v40, v52, v64, v95, v104, v106, v117;
+    u64 v11 = (u64)v10;
+    u32 v8 = at(u32_1, v0);
+    memset(v10, 0, 12u);
+    at(u32, v9) = v8;
+    at(u8, v4 + 145) = 0;
+    v19 = 0;
+v18:;
+    u64 v23 = (u64)4 - v19;
+    memset(v7, 0, 96u);
+    u64 v24 = at(u64, v4 + 128);
+    u64 v25 = at(u64, v4 + 120);
+    if (!(v23 < (v24 - v25))) goto v29;
+    u64 v30 = v25 + v23;
+    u8 *v31 = at(ptr, v4 + 112);
+    if ((((u64)(v31 + (i64)v25)) - ((u64)(v9 + (i64)v19))) < v23) v40 = 0; else goto v38;
+v37:;
+    at(u8, (v31 + (i64)v25) + v40) = at(u8, (v9 + (i64)v19) + v40);
+    u64 v41 = v40 + 1;
+    if (v41 == v23) goto v39;
+    v40 = v41; goto v37;
+v38:;
+    memmove_any(v31 + (i64)v25, v9 + (i64)v19, v23);
+v39:;
+    at(ptr, v4 + 112) = v31;
+    at(u64, v4 + 120) = v30;
+    at(u64, v4 + 128) = v24;
+    v52 = v23; goto v21;
+v29:;
+    std_io_buffered_BufWriter_write_cold(v7, v4, v9 + (i64)v19, v23);
+    u64 v47 = at(u64, v7 + 8);
+    if ((at(u8, v7) != 0) ? 1 : (v47 == 0)) goto v51;
+    v52 = v47;
+v21:;
+    u64 v20 = v52 + v19;
+    at(u64, v4 + 136) = at(u64, v4 + 136) + v52;
+    if (v20 < 4) { v19 = v20; goto v18; }
+    at(u32, v10) = bswap32(v1);
+    at(u32, v10 + 4) = bswap32(v2);
+    at(u32, v10 + 8) = bswap32(v3);
+    at(u8, v4 + 145) = 0;
+    v64 = 0;
+v63:;
+    u64 v68 = (u64)12u - v64;
+    memset(v6, 0, 96u);
+    u64 v69 = at(u64, v4 + 128);
+    u64 v70 = at(u64, v4 + 120);
+    if (!(v68 < (v69 - v70))) goto v74;
+    u64 v75 = v70 + v68;
+    u8 *v76 = at(ptr, v4 + 112);
+    u64 v77 = (u64)v76;
+    if (!((((u64)(v76 + (i64)v70)) - ((u64)(v10 + (i64)v64))) < v68)) goto v84;
+    if (v64 > 8) { v104 = 0; goto v86; }
+    if (((v70 + v77) - (v64 + v11)) < 32u) { v104 = 0; goto v86; }
+    u64 v93 = v68 & 12u;
+    v95 = 0;
+v94:;
+    at(u8x4_1, (v76 + (i64)v70) + v95) = at(u8x4_1, (v10 + (i64)v64) + v95);
+    u64 v96 = v95 + 4;
+    if (!(v96 == v93)) { v95 = v96; goto v94; }
+    if (v68 == v93) goto v103;
+    v104 = v93;
+v86:;
+    v106 = v104;
+v105:;
+    at(u8, (v76 + (i64)v70) + v106) = at(u8, (v10 + (i64)v64) + v106);
+    u64 v107 = v106 + 1;
+    if (v107 == v68) goto v103;
+    v106 = v107; goto v105;
+v84:;
+    memmove_any(v76 + (i64)v70, v10 + (i64)v64, v68);
+v103:;
+    at(ptr, v4 + 112) = v76;
+    at(u64, v4 + 120) = v75;
+    at(u64, v4 + 128) = v69;
+    v117 = v68; goto v66;
+v74:;
+    std_io_buffered_BufWriter_write_cold(v6, v4, v10 + (i64)v64, v68);
+    u64 v113 = at(u64, v6 + 8);
+    if (!((at(u8, v6) != 0) ? 1 : (v113 == 0))) { v117 = v113; goto v66; }
+v51:;
+    at(u8, v4 + 144) = 1;
+    return 1;
+v66:;
+    u64 v65 = v117 + v64;
+    at(u64, v4 + 136) = at(u64, v4 + 136) + v117;
+    if (v65 < 12u) { v64 = v65; goto v63; }
+    return 0;
+}
