@@ -62,19 +62,17 @@ class Speeds:
 
 
 def module_size() -> Optional[int]:
-    """The length of the module as Brotli, or None where it cannot be built or packed."""
-    if not (shutil.which("wasm-opt") and shutil.which("brotli")):
-        skip("the length of the module", "Debian's package binaryen or brotli is not installed")
+    """The length of the module as Brotli, or None where it cannot be packed."""
+    if not shutil.which("brotli"):
+        skip("the length of the module", "Debian's package brotli is not installed")
         return None
     return by_brotli(read(os.path.join(built_package(), "fontcut.wasm")))
 
 
 def measured(bench: Bench, library: str, shared: str) -> list[Speed]:
     """What is measured of each font."""
-    wanted = {"node": "nodejs", "wasm-opt": "binaryen"}
-    lacking = [package for program, package in wanted.items() if not shutil.which(program)]
-    if lacking:
-        skip("calls in node", "; ".join(f"Debian's package {package} is not installed" for package in lacking))
+    if not shutil.which("node"):
+        skip("calls in node", "Debian's package nodejs is not installed")
         return []
     os.environ["FONTCUT_LIBRARY"] = shared
     maker = Speeds(bench, library)

@@ -186,9 +186,12 @@ fontcut_answer fontcut_cuts(uint32_t kind, const uint8_t *font, size_t font_leng
  * has the glyphs of both and what these are made of, and the characters of the ranges alone. Glyphs that a font has
  * blank, without an outline, metrics or variation data, are not kept for their number. Such cuts join as others do.
  *
- * No links of GSUB are followed: pass the glyphs that a shaper returned for a text, and the cut shapes this text as the
- * font does. OTHER TEXT MAY VANISH IN IT: a glyph that GSUB puts and the cut does not keep is blank, and no other font
- * steps in for it. For text that is not known give what fontcut_closure writes, too, as fontcut_subset does.
+ * No links of GSUB are followed. To cut for one text, pass the glyphs that a shaper returned for it, and the codes that
+ * the text needs: a shaper may take U+E9 for U+65 U+301 if the font maps it, so the codes of a text are not always
+ * enough. FORMAT.md lists what a text needs, and `fontcut subset --text` adds it. Tests shape texts with such cuts by
+ * HarfBuzz; what a shaper does is not proved. OTHER TEXT MAY VANISH IN THE CUT: a glyph that GSUB puts and the cut does
+ * not keep is blank, and no other font steps in for it. If the text is not known, also pass what fontcut_closure
+ * writes, as fontcut_subset does.
  *
  * Gives the size in bytes of the cut. No cut is made. Statuses: 101, 104; those of fontcut_check, then 15, 102, for
  * FONTCUT_LAYOUT 5 and 6, for FONTCUT_VARIABLE 5, 6 and 28, then 16 and 18. */
@@ -214,10 +217,11 @@ fontcut_answer fontcut_cuts_glyphs(uint32_t kind, const uint8_t *font, size_t fo
 
 /* Writes the glyphs that a shaper may put to the front of `out`, ascending: those that GSUB, as cuts of a fontcut_kind
  * keep it, leads to from .notdef, from the glyphs of the codes of the ranges, and from these glyphs; size: how many
- * they are. With these and the ranges fontcut_subset_glyphs makes a cut for text of the characters in whatever order
- * and with whatever features; without glyphs given it is the cut of fontcut_subset, byte for byte, but for
- * FONTCUT_FULL. `room` is in glyphs, of which a font has 65,535 at most. Statuses: 101; those of fontcut_check, then
- * 15, 102, for FONTCUT_LAYOUT 5, 6 and 27, for FONTCUT_VARIABLE 5, 6, 27 and 28, then 16, 100. */
+ * they are. With these and the ranges fontcut_subset_glyphs makes a cut that has every glyph to which GSUB leads from
+ * the glyphs of the characters, in any order and with any features. The characters that the text needs, as above, have
+ * to be among them. Without glyphs given it is the cut of fontcut_subset, byte for byte, but for FONTCUT_FULL. `room`
+ * is in glyphs, of which a font has 65,535 at most. Statuses: 101; those of fontcut_check, then 15, 102, for
+ * FONTCUT_LAYOUT 5, 6 and 27, for FONTCUT_VARIABLE 5, 6, 27 and 28, then 16, 100. */
 fontcut_answer fontcut_closure(uint32_t kind, const uint8_t *font, size_t font_length, const fontcut_range *ranges,
                                size_t range_count, const uint16_t *glyphs, size_t glyph_count, uint16_t *out,
                                size_t room);

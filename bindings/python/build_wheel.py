@@ -1,18 +1,20 @@
 """Builds the wheel, with the library and the program inside: the build backend that pyproject.toml names (PEP 517).
 
 The library is the file that the variable FONTCUT_LIBRARY names, and the program the one that FONTCUT_PROGRAM names;
-where these are not set, they are what `bindings/c/build` and `./fontcut` of the checkout make. The platform in the
-wheel's name is the oldest one that has what both need (PEP 600). With SOURCE_DATE_EPOCH as the time of all files, the
-same files give the same bytes. It needs Python 3.11, for `tomllib`, and `objdump`."""
+where these are not set, they are what `bindings/c/build` and `tools/program` of the checkout build: what was proved
+there, or what a C compiler makes of gen/. The platform in the wheel's name is the oldest one that has what both need
+(PEP 600), or this machine's where no such one is known. With SOURCE_DATE_EPOCH as the time of all files, the same files
+give the same bytes. It needs no other package, and `objdump`, which comes with a compiler."""
+import ast
 import base64
 import hashlib
 import os
 import re
 import subprocess
+import sysconfig
 import time
-import tomllib
 import zipfile
-from typing import Dict, List, Mapping, NoReturn, Optional, Tuple, TypedDict
+from typing import Any, Dict, List, Mapping, NoReturn, Optional, Tuple, TypedDict, cast
 
 from fontcut_web.preset_files import preset_files
 
@@ -24,6 +26,8 @@ SHARED = "fontcut_needed", "fontcut_output"
 PACKAGES = "fontcut_pdf", "fontcut_web"
 # Data of a package: presets of slices.
 LISTS = "fontcut_web/lists"
+# The licences of what is compiled into the library and the program.
+COMPILED_IN = "../../gen/NOTICE"
 # Where the program looks for presets by their names.
 SHARED_DATA = "fontcut/share/fontcut"
 LIBRARY, PROGRAM = "fontcut/libfontcut.so.0", "fontcut/bin/fontcut"
@@ -33,6 +37,8 @@ OLDEST = 17
 FIRST_TIME = 315532800
 # The processors' names in platforms, by their numbers in ELF files.
 PROCESSORS = {62: "x86_64", 183: "aarch64"}
+# What every such platform has: the GNU C Library and its loader.
+LIBRARIES = r"libc\.so\.6|ld-linux-(?:x86-64\.so\.2|aarch64\.so\.1)"
 
 
 class UnsupportedOperation(Exception):
@@ -50,64 +56,85 @@ def text_of(name: str) -> str:
         return opened.read()
 
 
-def library() -> str:
-    """The path of the shared library."""
-    named = os.environ.get("FONTCUT_LIBRARY")
+def built(name: str, variable: str, script: str) -> str:
+    """The path of the library or of the program: the one that a variable names, or the last that a script of the
+    checkout prints, which says on standard error what it cannot build."""
+    named = os.environ.get(variable)
     if named:
         return named
-    build = os.path.join(HERE, "..", "c", "build")
-    return subprocess.run([build], check=True, stdout=subprocess.PIPE, text=True).stdout.splitlines()[1]
+    path = os.path.normpath(os.path.join(HERE, script))
+    if not os.path.exists(path):
+        raise SystemExit(f"fontcut: {HERE} is in no checkout, whose {name} it takes: {variable} may name another one")
+    ran = subprocess.run([path], check=False, stdin=subprocess.DEVNULL, stdout=subprocess.PIPE, text=True)
+    if ran.returncode:
+        raise SystemExit(f"fontcut: {path} could not build the {name}")
+    return ran.stdout.splitlines()[-1]
+
+
+def library() -> str:
+    """The path of the shared library."""
+    return built("library", "FONTCUT_LIBRARY", "../c/build")
 
 
 def program() -> str:
     """The path of the program."""
-    named = os.environ.get("FONTCUT_PROGRAM")
-    if named:
-        return named
-    top = os.path.join(HERE, "..", "..")
-    subprocess.run([os.path.join(top, "fontcut"), "--version"], check=True, stdout=subprocess.DEVNULL)
-    return os.path.join(top, "crates", "fontcut", "out", "bin", "fontcut")
+    return built("program", "FONTCUT_PROGRAM", "../../tools/program")
 
 
-def oldest(path: str) -> int:
-    """The version of the C library that a library or a program asks for: the greatest one among those that it
-    needs."""
+def oldest(path: str) -> Optional[int]:
+    """The version of the GNU C Library that a library or a program asks for: the greatest one among those that it
+    needs. None where it needs another library too."""
     told = subprocess.run(["objdump", "-p", path], check=True, stdout=subprocess.PIPE, text=True,
                           env={**os.environ, "LC_ALL": "C"}).stdout
     needed = set(re.findall(r"^ +NEEDED +(\S+)$", told, re.M))
     versions = re.findall(r"^ +0x[0-9a-f]+ 0x[0-9a-f]+ \d+ (\S+)$", told, re.M)
     known = [match for version in versions if (match := re.fullmatch(r"GLIBC_2\.(\d+)(?:\.\d+)?", version))]
-    if not needed <= {"libc.so.6"} or len(known) != len(versions):
-        raise ValueError(f"{path}: no tag of a platform is known for {sorted(needed)}, {sorted(set(versions))}")
+    if len(known) != len(versions) or not all(re.fullmatch(LIBRARIES, name) for name in needed):
+        return None
     return max([OLDEST, *(int(match[1]) for match in known)])
 
 
-def processor(path: str) -> str:
-    """The name of the processor that a library or a program is for, by its header: ELF, 64 bits, little-endian."""
+def machine(path: str) -> int:
+    """The number of the processor that a library or a program is for, by its header: ELF, 64 bits, little-endian."""
     with open(path, "rb") as opened:
         header = opened.read(20)
-    name = PROCESSORS.get(int.from_bytes(header[18:], "little"))
-    if header[:6] != b"\x7fELF\x02\x01" or not name:
-        raise ValueError(f"{path}: no tag of a platform is known for its processor")
-    return name
+    if header[:6] != b"\x7fELF\x02\x01":
+        raise SystemExit(f"fontcut: {path} is no file of ELF for 64 bits, little-endian, as the wheel needs it")
+    return int.from_bytes(header[18:], "little")
 
 
 def platform_of(*paths: str) -> str:
-    """The platform that a library and a program ask for: their processor, and a version of the C library."""
-    processors = set(map(processor, paths))
-    if len(processors) > 1:
-        raise ValueError(f"{' and '.join(paths)} are for different processors")
-    return f"manylinux_2_{max(map(oldest, paths))}_{processors.pop()}"
+    """The platform that a library and a program ask for: their processor, and a version of the GNU C Library. Where
+    that is not known, it is that of this machine, whose compiler made them."""
+    machines = set(map(machine, paths))
+    if len(machines) > 1:
+        raise SystemExit(f"fontcut: {' and '.join(paths)} are for different processors")
+    processor, versions = PROCESSORS.get(machines.pop()), [oldest(path) for path in paths]
+    if not processor or None in versions:
+        return re.sub("[^0-9A-Za-z]", "_", sysconfig.get_platform())
+    return f"manylinux_2_{max(filter(None, versions))}_{processor}"
+
+
+def tables(text: str) -> Dict[str, Dict[str, Any]]:
+    """The tables of a file of TOML whose values are strings and lists of strings, which Python writes as TOML does:
+    older versions of Python have no `tomllib`."""
+    found: Dict[str, Dict[str, Any]] = {}
+    for name, key, value in re.findall(r'^(?:\[(.+)\]|([\w-]+) = (".*"|\[(?:[^]"]|"[^"]*")*\]))$', text, re.M):
+        if name:
+            found[name] = {}
+        else:
+            found[[*found][-1]][key] = ast.literal_eval(value)
+    return found
 
 
 def project() -> Project:
     """What pyproject.toml says of the project, and its version."""
-    said: Project = tomllib.loads(text_of("pyproject.toml"))["project"]
+    found = tables(text_of("pyproject.toml"))
     version = re.search(r'^__version__ = "(.*)"$', text_of("fontcut.py"), re.M)
     if not version:
         raise ValueError("fontcut.py says no version")
-    said["version"] = version[1]
-    return said
+    parts = {name: found[f"project.{name}"] for name in ("optional-dependencies", "scripts")}
+    return cast(Project, {**found["project"], **parts, "version": version[1]})
 
 
 def required(package: str, extra: str) -> str:
@@ -137,15 +164,16 @@ def packages() -> Dict[str, bytes]:
             if name.endswith((".py", ".txt", ".json")):
                 held[f"{folder}/{name}"] = text_of(os.path.join(folder, name)).encode()
     held[f"{SHARED_DATA}/NOTICE.txt"] = held[f"{LISTS}/NOTICE.txt"]
+    held[f"{MODULE}/NOTICE"] = text_of(COMPILED_IN).encode()
     held.update({f"{SHARED_DATA}/slices/{name}.txt": text.encode() for name, text in preset_files().items()})
     return held
 
 
-def files(said: Project, tag: str, built: Mapping[str, str]) -> Tuple[Dict[str, bytes], str]:
+def files(said: Project, tag: str, binaries: Mapping[str, str]) -> Tuple[Dict[str, bytes], str]:
     """What the wheel holds but for its list of files, in the order in which it stands, and the path of that list."""
     held, info = packages(), f"{said['name']}-{said['version']}.dist-info"
     scripts = [f"{name} = {call}\n" for name, call in said["scripts"].items()]
-    for name, path in built.items():
+    for name, path in binaries.items():
         with open(path, "rb") as opened:
             held[name] = opened.read()
     held = dict(sorted(held.items()))
@@ -177,9 +205,9 @@ def put(archive: zipfile.ZipFile, name: str, data: bytes) -> None:
 def build_wheel(wheel_directory: str, config_settings: Optional[Dict[str, object]] = None,
                 metadata_directory: Optional[str] = None) -> str:
     """Makes the wheel in a folder, and returns its name (PEP 517)."""
-    built, said = {LIBRARY: library(), PROGRAM: program()}, project()
-    tag = f"py3-none-{platform_of(*built.values())}"
-    held, listed = files(said, tag, built)
+    binaries, said = {LIBRARY: library(), PROGRAM: program()}, project()
+    tag = f"py3-none-{platform_of(*binaries.values())}"
+    held, listed = files(said, tag, binaries)
     name = f"{said['name']}-{said['version']}-{tag}.whl"
     with zipfile.ZipFile(os.path.join(wheel_directory, name), "w") as archive:
         for path, data in {**held, listed: record(held, listed)}.items():
@@ -188,5 +216,5 @@ def build_wheel(wheel_directory: str, config_settings: Optional[Dict[str, object
 
 
 def build_sdist(sdist_directory: str, config_settings: Optional[Dict[str, object]] = None) -> NoReturn:
-    """Refuses: the library is built from the checkout, by its own toolchain."""
+    """Refuses: the library is built from the whole checkout."""
     raise UnsupportedOperation("the library is built from the checkout of fontcut, not from an archive of this folder")

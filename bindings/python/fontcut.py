@@ -560,8 +560,9 @@ def closure(font: Union[Bytes, Font], wanted: Codes, gids: Gids = (), *, kind: s
     the characters, those of `gids`, and what GSUB leads to from these. Full and lean cuts have no GSUB to follow. A
     `str` means the characters that it means for `cut`.
 
-    These as `gids`, with the same characters, make an exact cut that serves text of these characters in any order and
-    with any features: the one that `cut` makes with `layout_closure`. Raises `Refused` and `NoGlyph`, as `cut` does."""
+    These as `gids`, with the same characters, make the cut that `cut` makes with `layout_closure`: it has every glyph
+    to which GSUB leads from these characters. A `str` brings the characters that its text needs; list them otherwise.
+    Raises `Refused` and `NoGlyph`, as `cut` does."""
     number = _kind(kind, False)
     return _closed(_File(font), number, _wanted(wanted, number, exactly), _gids(font, gids))
 

@@ -24,7 +24,6 @@ import glyph_cutting
 from glyph_cutting import Wanted
 from layout_making import coverage, gsub_of_one, letters, ligature, ligatures, with_sets
 import lean_cutting
-import variable_cutting
 import variable_making
 from worked_cuts import BASE6, LEAN_CUT_OF_AACUTE
 from worked_variations import VARIED

@@ -7,7 +7,7 @@ import { dirname, join as pathOf, resolve } from 'node:path';
 import { parseArgs } from 'node:util';
 import { belongs, check, codes, cutForm, FontcutError, glyphs, init, join, metrics, ranges, subset, version }
     from './fontcut.js';
-import { KINDS, LAYOUT_TABLES, NO_GLYPH, NO_MEMORY, SHAPED, rangeWord } from './kinds.js';
+import { KINDS, LAYOUT_TABLES, NO_GLYPH, SHAPED, kindWhere, rangeWord } from './kinds.js';
 import { needed } from './needed.js';
 
 const HELP = `fontcut in node: subsets that keep glyph ids, and their joins
@@ -72,7 +72,7 @@ function placeOf(path) {
 // Replaces a file when all of its bytes are written. Devices, pipes and folders stay what they are.
 function write(path, data) {
     try {
-        // It throws where links lead round.
+        // Throws if links lead back to themselves.
         const stats = path === '-' ? undefined : statSync(path, { throwIfNoEntry: false });
         if (path === '-' || stats && !stats.isFile()) {
             writeAll(path === '-' ? 1 : openSync(path, 'w'), data);
@@ -177,21 +177,6 @@ function runSubset(given, [font, out, ...words]) {
         keepFont(given, out, font, data, `subset ${out} OUT cuts the font`);
     }
     write(out, cutOf(data, { unicodes, gids, kind, layoutClosure: !given['no-layout-closure'] }));
-}
-
-// The first of some kinds of cuts of which something is so, or undefined. A font may be refused for one kind alone.
-// Throws if out of memory.
-function kindWhere(isSo, kinds = KINDS) {
-    return kinds.find((kind) => {
-        try {
-            return isSo(kind);
-        } catch (error) {
-            if (!(error instanceof FontcutError) || error.number === NO_MEMORY) {
-                throw error;
-            }
-            return false;
-        }
-    });
 }
 
 const isCut = (data) => kindWhere((kind) => cutForm(data, { kind }) !== 'none') !== undefined;

@@ -9,9 +9,11 @@
 // A font is an ArrayBuffer or a view of one. Calls are synchronous: a worker keeps a long one off the page's thread.
 // Each call copies what it reads into the module's memory, and frees all that it took when it returns or throws.
 
-import { DONE, KINDS, NO_GLYPH, NO_MEMORY, NO_NUMBERS, NOTHING_TO_JOIN, OF_NUMBERS, OF_TAGS, SHAPED, SMALL_ROOM,
-    TOO_LARGE } from './kinds.js';
+import { DONE, FontcutError, KINDS, NO_GLYPH, NO_MEMORY, NO_NUMBERS, NOTHING_TO_JOIN, OF_NUMBERS, OF_TAGS, SHAPED,
+    SMALL_ROOM, TOO_LARGE, kindWhere } from './kinds.js';
 import { needed } from './needed.js';
+
+export { FontcutError };
 
 const LAST_CODE = 0x10FFFF;
 const MOST_GLYPHS = 0xFFFF; // of a font: no glyph has this number
@@ -19,21 +21,6 @@ const WITH_LINKS = SHAPED.map((kind) => KINDS.indexOf(kind));
 const FORMS = ['none', 'current', 'old'];
 
 const BYTES_OF_ANSWER = 24, BYTES_OF_INFO = 16, LONGEST_TEXT = 64;
-
-/**
- * A font or a list of cuts is refused, or out of memory: `number` and `text` are those that `fontcut` prints, but for a
- * number that is no glyph of the font, which is named by its place in the list.
- */
-export class FontcutError extends Error {
-    constructor(number, text, argument, file) {
-        super(file === undefined ? text : `file ${file + 1}: ${text}`);
-        this.name = 'FontcutError';
-        this.number = number;
-        this.text = text;
-        this.argument = argument;
-        this.file = file;
-    }
-}
 
 // The compiled module, the exports of its one instance, and the limit of its memory as a 64-bit number.
 let module, instance, most = 2n ** 64n - 1n;
@@ -532,24 +519,13 @@ function isCutOf(cut, font, kind) {
     });
 }
 
-// The same, and false if one of the two is refused: a kind may refuse tables that full cuts do not read.
-function isCutIfAccepted(cut, font, kind) {
-    try {
-        return isCutOf(cut, font, kind);
-    } catch (error) {
-        if (error instanceof FontcutError && error.number !== NO_MEMORY) {
-            return false;
-        }
-        throw error;
-    }
-}
-
 /** Whether a file is a cut of a font for some characters and glyphs: of a kind, or of any if none is named. */
 export function belongs(cut, font, options) {
     if (options?.kind !== undefined) {
         return isCutOf(cut, font, kindOf(options));
     }
-    return KINDS.some((kind, number) => number ? isCutIfAccepted(cut, font, number) : isCutOf(cut, font, number));
+    const [full, ...others] = KINDS, isOf = (kind) => isCutOf(cut, font, KINDS.indexOf(kind));
+    return isOf(full) || kindWhere(isOf, others) !== undefined;
 }
 
 /** A font that stays in the module's memory and is tested once: each call takes it in the place of the bytes. */

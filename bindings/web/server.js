@@ -61,6 +61,7 @@ function wantedBy(query) {
     const texts = asked.getAll('text').map((text) => SHAPED.includes(kind) ? needed(text) : text);
     const letters = Array.from(texts.join(''), (letter) => `U+${letter.codePointAt(0).toString(16)}`);
     try {
+        // Each on a line of its own: a comment ends with its list, and no two lists read like a line of `codes`.
         return { kind, wanted: ranges([...lists, ...letters].join('\n')) };
     } catch (error) {
         throw new Answer(400, error.message.replace('fontcut: ', ''));

@@ -20,9 +20,15 @@ Item = TypeVar("Item")
 Answer = TypeVar("Answer")
 TOP = os.path.dirname(os.path.dirname(os.path.dirname(os.path.abspath(__file__))))
 FONTCUT = os.path.join(TOP, "fontcut")
-PROGRAM = os.path.join(TOP, "crates", "fontcut", "out", "bin", "fontcut")
-# The same proved code as rt links it, with the C library of the machine: a library can stand before that.
-DYNAMIC = os.path.join(TOP, "crates", "fontcut", "out", "fontcut")
+# Where the program is that was proved here, and where the one that was compiled from gen/.
+PROVED = os.path.join(TOP, "crates", "fontcut", "out")
+COMPILED = os.path.join(TOP, "gen", "out", re.sub(r"[^A-Za-z0-9._+-]", "_", os.environ.get("CC") or "cc"))
+# FONTCUT_BUILD says which of both is tested: `proved` or `generated`; otherwise the proved one, if there is one.
+IS_GENERATED = os.environ.get("FONTCUT_BUILD") == "generated" or (
+    not os.environ.get("FONTCUT_BUILD") and not os.path.exists(os.path.join(PROVED, "bin", "fontcut")))
+PROGRAM = os.path.join(COMPILED if IS_GENERATED else PROVED, "bin", "fontcut")
+# The same code, linked with the C library of the machine: a library can stand before that.
+DYNAMIC = os.path.join(COMPILED if IS_GENERATED else PROVED, "fontcut")
 
 # Debian's own Python sees what Debian's packages bring; another one may come first on PATH.
 PYTHON = "/usr/bin/python3"
@@ -198,17 +204,20 @@ def nothing() -> None:
 
 
 def built() -> None:
-    """Builds the program where it is not built yet; where that fails, the script ends here."""
-    ran = subprocess.run([FONTCUT, "--help"], stdin=subprocess.DEVNULL, stdout=subprocess.DEVNULL)
-    if ran.returncode:
-        check("the program is built", False, f"./fontcut --help has the status {ran.returncode}")
+    """Builds the program where it is not built yet; where that fails, or where another program than PROGRAM is the
+    current one, the script ends here."""
+    ran = subprocess.run([os.path.join(TOP, "tools", "program")], stdin=subprocess.DEVNULL, stdout=subprocess.PIPE,
+                         text=True, check=False)
+    if ran.returncode or ran.stdout.strip() != PROGRAM:
+        check("the program is built", False, f"tools/program has the status {ran.returncode} and prints {ran.stdout}",
+              f"{PROGRAM} is to be tested: FONTCUT_BUILD is `proved` or `generated` to choose")
         end()
 
 
 def built_library(*words: str) -> list[str]:
     """Builds the library for C where it is not built yet, which takes minutes, and returns the paths of the static one,
-    the shared one, and with the word `both` the static one by the other compiler. Where it cannot be built, the script
-    ends here."""
+    the shared one, and with the word `both`, if it was proved here, the static one by the other compiler. Where it
+    cannot be built, the script ends here."""
     ran = subprocess.run([os.path.join(TOP, "bindings", "c", "build"), *words], stdin=subprocess.DEVNULL,
                          capture_output=True, text=True)
     if ran.returncode:
@@ -218,8 +227,8 @@ def built_library(*words: str) -> list[str]:
 
 
 def built_package() -> str:
-    """Builds the package for browsers and node where it is not built yet, which takes a minute and `wasm-opt`, and
-    returns its folder. Where it cannot be built, the script ends here."""
+    """Builds the package for browsers and node where it is not built yet, and returns its folder. Where it cannot be
+    built, the script ends here."""
     status, told, err = run(os.path.join(TOP, "bindings", "web", "build"), timeout=1500)
     check("the package for browsers is built", status == 0, err.decode())
     if status:

@@ -35,7 +35,8 @@ def reached(font: bytes, wanted: Wanted) -> set[int]:
 
 
 def within(cuts: CutKind, made: bytes, wanted: Wanted) -> Wanted:
-    """What is wanted of a cut, as it is wanted of the font: the characters that it maps, and the glyphs it has."""
+    """What is wanted of a cut, as it is wanted of the font: the characters that it maps, and the glyphs that are
+    there."""
     return Wanted(ranges_of(wanted_map(made, wanted.codes)), wanted.glyphs & cuts.there(made))
 
 

@@ -4,7 +4,7 @@ import filecmp
 import os
 from contextlib import contextmanager
 from typing import Iterator, NamedTuple, Sequence
-from checks import PROGRAM, check, end, found_in, run, same
+from checks import PROGRAM, check, end, run, same
 from timing import Timed, in_turn, least_of
 
 SOURCE = "/usr/share/fonts/truetype/lxgw-wenkai/LXGWWenKai-Regular.ttf"  # Debian's package fonts-lxgw-wenkai
@@ -76,9 +76,3 @@ def time_join(cuts: Cuts, floor: str, runs: str, tries: int = 1, most: float = 0
         if took[0].processor <= most * took[1].processor:
             break
     return Joined(len(cuts.paths), cuts.read, cuts.written, *took)
-
-
-def instructions(cuts: Cuts) -> int:
-    """How many instructions the join of cuts takes, without those of the system, by valgrind's callgrind."""
-    ran = run("valgrind", "--tool=callgrind", "--callgrind-out-file=/dev/null", *cuts.line, timeout=900)
-    return int(found_in(ran[2].decode(), r"Collected : (\d+)")[1])

@@ -1,4 +1,5 @@
-"""The programs that `tests/release` runs over what a release has, and the files that the recipes of README.md read."""
+"""The programs that `tests/release` runs over what a release has, and `tests/from_clone` over what a clone builds, and
+the files that the recipes of README.md read."""
 
 # What the recipes read besides the font.
 DOCUMENTS = {"letter.txt": "Dear Áron,\nyours ever\n", "poem.txt": "Ξεσκεπάζω την ψυχοφθόρα\nβδελυγμία\n",
@@ -72,6 +73,15 @@ for path in sys.argv[1:]:
         cuts = fontcut.slices(font, [[(0x20, 0x7E)], [(0xA0, 0x17F)]], kind=kind)
         for data in *cuts, fontcut.join(cuts, kind=kind):
             print(hashlib.sha256(data).hexdigest())
+"""
+
+# Prints the lean cut of a font for ASCII, as a program in node gets it that has the package installed.
+FOR_NODE = """import { readFileSync } from 'node:fs';
+import { init, subset } from 'fontcut';
+import 'fontcut/growing';
+await init();
+const wanted = { unicodes: 'U+20-7E', kind: 'lean' };
+process.stdout.write(subset(readFileSync(process.argv[2]), wanted));
 """
 
 USER_OF_TYPES = '''

@@ -1,5 +1,5 @@
-"""Systems of Debian's without a toolchain, each in a folder, and what the files of a release do there. `tests/release`
-and `tests/release_arm64` share it."""
+"""Systems of Debian's without a toolchain, each in a folder, and what the files of a release do there. `tests/release`,
+`tests/release_arm64` and `tests/from_clone` share it."""
 from __future__ import annotations
 
 import glob
@@ -25,8 +25,6 @@ class Architecture(NamedTuple):
 
 
 FONT = f"{DEJAVU}/DejaVuSans.ttf"
-# What a system without a toolchain is made of: the least of Debian, xz for the archive, and Python.
-SYSTEM = ["--variant=minbase", "--include=xz-utils,python3-venv", "bookworm"]
 MIRROR = "http://deb.debian.org/debian"
 # What Debian's package qemu-user-static tells the kernel, so that it starts programs for arm64.
 STARTS_ARM64 = "/usr/lib/binfmt.d/qemu-aarch64.conf"
@@ -79,15 +77,21 @@ class System:
     """A system of this machine's architecture. `debootstrap` works in a namespace of its own, so that no mount is left
     when it has ended."""
 
+    # What is told of it, what it has beside the least of Debian, and how many seconds a command may take there.
+    name = "a system without a toolchain"
+    packages = "xz-utils,python3-venv"
+    patience = 300.0
+
     def __init__(self, folder: str, arch: Architecture) -> None:
         self.root, self.log, self.arch = os.path.join(folder, "system"), os.path.join(folder, "system.log"), arch
         self.making: Optional[subprocess.Popen[bytes]] = None
         self.began = time.monotonic()
         if os.geteuid() != 0:
-            skip("a system without a toolchain", "only root can make it")
+            skip(self.name, "only root can make it")
         elif tool("debootstrap", "debootstrap"):
             with open(self.log, "wb") as log:
-                words = ["unshare", "--mount", "debootstrap", *self.options(), *SYSTEM, self.root, MIRROR]
+                words = ["unshare", "--mount", "debootstrap", *self.options(), "--variant=minbase",
+                         f"--include={self.packages}", "bookworm", self.root, MIRROR]
                 self.making = subprocess.Popen(words, stdin=subprocess.DEVNULL, stdout=log, stderr=log,
                                                start_new_session=True)
 
@@ -101,7 +105,7 @@ class System:
             return False
         if made_within(self.making, 600):
             why = read(self.log).decode(errors="replace").splitlines()
-            skip("a system without a toolchain", f"debootstrap: {why[-1] if why else 'no word'}")
+            skip(self.name, f"debootstrap: {why[-1] if why else 'no word'}")
             return False
         os.makedirs(os.path.dirname(self.path(FONT)))
         shutil.copy(FONT, self.path(FONT))
@@ -116,7 +120,7 @@ class System:
         """Runs words there, as a user, in a folder."""
         line = ["chroot", f"--userspec={user}", self.root, "/usr/bin/env", "-i", f"--chdir={cwd}", f"PATH={path}",
                 "HOME=/tmp", "LC_ALL=C.UTF-8", "PYTHONDONTWRITEBYTECODE=1", *words]
-        return run(*self.entering(), *line)
+        return run(*self.entering(), *line, timeout=self.patience)
 
     def run_with_proc(self, *words: str) -> Ran:
         """Runs words there that look into /proc, which is mounted for them alone."""
@@ -159,7 +163,7 @@ class ForeignSystem(System):
         self.add_folders()
         why = self.hold()
         if why:
-            skip("a system without a toolchain", f"programs for {self.arch.debian} cannot be started: {why}")
+            skip(self.name, f"programs for {self.arch.debian} cannot be started: {why}")
         return not why
 
     def unpack(self, package: str) -> None:
@@ -279,13 +283,19 @@ def by_package(system: System) -> dict[str, str]:
             "PKG_CONFIG_ALLOW_SYSTEM_LIBS": "1"}
 
 
+def c_source(folder: str) -> str:
+    """The path of the program in C of README.md, which is written to a folder."""
+    calls = found_in(text_of("README.md"), r"(?:^    (?:fontcut_|if ).*\n){3}", re.M)[0]
+    source = os.path.join(folder, "prog.c")
+    put(source, C_PROGRAM.replace("CALLS", calls).encode())
+    return source
+
+
 def from_c(system: System, folder: str, wanted: Mapping[str, Optional[bytes]], compiler: str = "gcc") -> None:
     """The program in C of README.md, compiled over the packages' files and run on the system."""
     if not tool("pkg-config", "pkg-config") or not tool("gcc", "gcc"):
         return
-    calls = found_in(text_of("README.md"), r"(?:^    (?:fontcut_|if ).*\n){3}", re.M)[0]
-    source, libraries = os.path.join(folder, "prog.c"), system.path(f"/usr/lib/{system.arch.triple}")
-    put(source, C_PROGRAM.replace("CALLS", calls).encode())
+    source, libraries = c_source(folder), system.path(f"/usr/lib/{system.arch.triple}")
     status, told, err = run("pkg-config", "--cflags", "--libs", "fontcut", env={**os.environ, **by_package(system)})
     check("pkg-config knows the packages", status == 0 and not err, told, err)
     flags = told.decode().split()
@@ -315,13 +325,18 @@ def from_python(system: System, wanted: Mapping[str, Optional[bytes]]) -> None:
     system.sh("Python", "/usr/bin/python3 -m venv /venv")
     pip = install_lines(system.arch)["pip"].replace("pip install", "pip install --no-index --no-cache-dir -q")
     system.sh("Python", pip, cwd="/dist", path="/venv/bin:/usr/bin:/bin")
-    os.mkdir(system.path("/made"))
-    status, told, err = system.run("/venv/bin/python", "-c", FROM_PYTHON, FONT, "/made")
-    same("Python: it ends well", (0, f"{VERSION} True\n", b""), (status, told.decode(), err))
-    for name in wanted:
-        same_bytes(f"Python: {name}", wanted[name], held(system.path(f"/made/{name}.ttf")))
-    same("the program of the wheel", run(PROGRAM, "demo"), system.run("/venv/bin/fontcut", "demo"))
+    by_wheel("Python", system, wanted)
     named_preset("wheel", system, "/venv/bin/fontcut")
+
+
+def by_wheel(name: str, system: System, wanted: Mapping[str, Optional[bytes]]) -> None:
+    """A program over what is installed in that folder, and the program that the wheel brings."""
+    os.makedirs(system.path("/made"), exist_ok=True)
+    status, told, err = system.run("/venv/bin/python", "-c", FROM_PYTHON, FONT, "/made")
+    same(f"{name}: it ends well", (0, f"{VERSION} True\n", b""), (status, told.decode(), err))
+    for file in wanted:
+        same_bytes(f"{name}: {file}", wanted[file], held(system.path(f"/made/{file}.ttf")))
+    same(f"{name}: the program", run(PROGRAM, "demo"), system.run("/venv/bin/fontcut", "demo"))
 
 
 def by_debians_python(system: System) -> None:

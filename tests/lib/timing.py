@@ -2,7 +2,7 @@
 import os
 import subprocess
 from typing import Iterable, NamedTuple, Optional, Sequence
-from checks import TOP, run
+from checks import TOP, found_in, run
 
 LIB = os.path.join(TOP, "tests", "lib")
 BENCHES = os.path.join(TOP, "benches")
@@ -51,6 +51,13 @@ def in_turn(runs: str, out: str, programs: Iterable[Iterable[object]], milliseco
     if status:
         raise RuntimeError(err.decode(errors="replace"))
     return [None if line == "failed" else timed(line.split()) for line in lines.decode().splitlines()]
+
+
+def instructions(*words: str, folder: str = ".") -> int:
+    """How many instructions a program takes, without those of the system, by valgrind's callgrind: as many on every
+    machine."""
+    ran = run("valgrind", "--tool=callgrind", "--callgrind-out-file=/dev/null", *words, cwd=folder, timeout=900)
+    return int(found_in(ran[2].decode(errors="replace"), r"Collected : (\d+)")[1])
 
 
 def timed(words: Iterable[str]) -> Timed:

@@ -94,7 +94,8 @@ def all_hold(name: str, seen: Counter[str], broken: Broken) -> None:
 
 
 def is_answered_rightly(first: bytes, second: bytes, fonts: Sequence[bytes]) -> bool:
-    """Whether a join is made where both files are cuts of one of these fonts, and is its cut, or rightly refused."""
+    """Whether a join is made where both files are cuts of one of these fonts, and is a cut of it, or is refused
+    rightly."""
     able = VARIABLE.accepts(first) and VARIABLE.accepts(second)
     above = [font for font in fonts if able and VARIABLE.is_cut_of(first, font) and VARIABLE.is_cut_of(second, font)]
     return all(holds for _, holds in laws_of_pair(VARIABLE_CUTS, first, second, above))

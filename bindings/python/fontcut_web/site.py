@@ -17,7 +17,7 @@ from .site_fonts import Base, Run, based, programs, section_of
 from .site_pages import Modes, SitePage, modes_of, pages_of
 from .site_report import REPORT, Made, is_ours, lacking, lines, report, sheets
 from .site_settings import Settings, named, settings_of
-from .site_state import NOTHING, FontState, Place, State, bytes_at, put_text
+from .site_state import NOTHING, Place, State, bytes_at, put_text
 
 
 def _names(settings: Settings) -> List[str]:
