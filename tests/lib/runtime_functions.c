@@ -55,19 +55,20 @@ static void blocks(void) {
     }
 }
 
-/* The pointer of a refusal is not null, and a block that could not grow is as it was. A compiler may drop a request
- * whose block is not used. */
+/* The pointer of a refusal is not null, and a block that could not grow is as it was. The addresses are volatile, since
+ * gcc warns of a block that is read after realloc, as if that had not been refused. */
 static void no_memory(void) {
-    volatile u64 most = INT64_MAX, used;
+    volatile u64 most = INT64_MAX, used, place;
     u64_u64 block = sys_rattle_alloc(3, 1), none = sys_rattle_alloc(most, 1);
     used = none._1;
+    place = block._1;
     HOLDS(block._0 == 1 && none._0 == 0 && used != 0);
-    memcpy((u8 *)block._1, "abc", 3);
-    none = sys_rattle_realloc((u8 *)block._1, 3, most, 1);
+    memcpy((u8 *)place, "abc", 3);
+    none = sys_rattle_realloc((u8 *)place, 3, most, 1);
     HOLDS(none._0 == 0 && none._1 != 0);
     if (none._0 == 0) {
-        HOLDS(memcmp((u8 *)block._1, "abc", 3) == 0);
-        sys_rattle_dealloc((u8 *)block._1);
+        HOLDS(memcmp((u8 *)place, "abc", 3) == 0);
+        sys_rattle_dealloc((u8 *)place);
     }
 }
 
