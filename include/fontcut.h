@@ -131,6 +131,7 @@ typedef enum fontcut_status {
     FONTCUT_NOTHING_TO_JOIN = 24,    /* there is no file */
     FONTCUT_BAD_LAYOUT = 27,         /* GSUB cannot be read, which is asked where its links are followed alone */
     FONTCUT_BAD_VARIATIONS = 28,     /* gvar cannot be read, which is asked for variable cuts alone */
+    FONTCUT_TABLE_TOO_LONG = 29,     /* the parts of both do not fit in a table; detail: the tag */
     /* End of what tools/write_refusals writes. */
     FONTCUT_SMALL_ROOM = 100,        /* the room is too small; size: what is needed */
     FONTCUT_UNKNOWN_KIND = 101,      /* the number is no fontcut_kind, which is asked before all else; detail: it */
@@ -285,9 +286,10 @@ fontcut_answer fontcut_is_cut_of(const uint8_t *cut, size_t cut_length, const ui
  * cut for all their codes and glyphs, and of any files the least one of which all are cuts; size: its bytes. Full cuts
  * may come in either form; the join is written in the current one. Statuses: 101; 24; of the first file that is
  * refused, with its index as step, those of fontcut_check, for FONTCUT_LAYOUT 5 and 6, for FONTCUT_VARIABLE 5, 6 and
- * 28, then 20, 21 to 23 where it differs from the join of the files before it, and 18 where the join with it is too
- * large; 16, with the index of the file that was being joined as step; 100. But for 1, 16, 18, 24 and those from 100
- * on, a refusal means that no file has all as cuts. */
+ * 28, then 20, 21 to 23 where it differs from the join of the files before it, 29 where the parts of both do not fit in
+ * a table, which no kind of today meets, and 18 where the join with it is too large; 16, with the index of the file that
+ * was being joined as step; 100. But for 1, 16, 18, 24 and those from 100 on, a refusal means that no file has all as
+ * cuts. */
 fontcut_answer fontcut_join(uint32_t kind, const fontcut_bytes *files, size_t file_count, uint8_t *out, size_t room);
 
 FONTCUT_DEPRECATED("call fontcut_join")

@@ -83,7 +83,7 @@ Gids = Union[Literal["all"], Iterable[int]]
 
 # Written by tools/write_refusals from include/refusals.txt:
 _NO_MEMORY, _TOO_LARGE, _NOTHING_TO_JOIN = 16, 18, 24
-_OF_TAGS, _OF_NUMBERS = (5, 6, 7, 21), (12, 15, 17, 22, 23)
+_OF_TAGS, _OF_NUMBERS = (5, 6, 7, 21, 29), (12, 15, 17, 22, 23)
 # End of what tools/write_refusals writes.
 _SMALL_ROOM, _NO_GLYPH, _NO_NUMBERS = 100, 102, 104
 _LAST_CODE, _MOST_GLYPHS = 0x10FFFF, 0xFFFF

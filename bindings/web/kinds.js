@@ -12,7 +12,7 @@ export const LAYOUT_TABLES = ['BASE', 'GDEF', 'GPOS', 'GSUB', 'kern'];
 export const DONE = 0, SMALL_ROOM = 100, NO_GLYPH = 102, NO_NUMBERS = 104;
 // Written by tools/write_refusals from include/refusals.txt:
 export const NO_MEMORY = 16, TOO_LARGE = 18, NOTHING_TO_JOIN = 24;
-export const OF_TAGS = [5, 6, 7, 21], OF_NUMBERS = [12, 15, 17, 22, 23, NO_GLYPH];
+export const OF_TAGS = [5, 6, 7, 21, 29], OF_NUMBERS = [12, 15, 17, 22, 23, NO_GLYPH];
 // End of what tools/write_refusals writes.
 
 /**

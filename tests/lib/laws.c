@@ -318,7 +318,8 @@ static fontcut_answer join_refusal(fontcut_kind kind, bytes x, bytes y)
 
 static int is_difference(fontcut_answer answer)
 {
-    return answer.status >= FONTCUT_DIFFERENT_TABLE && answer.status <= FONTCUT_DIFFERENT_GLYPH && answer.step == 1;
+    int differs = answer.status >= FONTCUT_DIFFERENT_TABLE && answer.status <= FONTCUT_DIFFERENT_GLYPH;
+    return (differs || answer.status == FONTCUT_TABLE_TOO_LONG) && answer.step == 1;
 }
 
 /* Whether a table is in one of two files alone, or not the same in both. */

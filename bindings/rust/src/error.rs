@@ -101,7 +101,7 @@ impl Error {
 fn argument_of(answer: Answer) -> Argument {
     match answer.status {
         // Written by tools/write_refusals from include/refusals.txt:
-        5 | 6 | 7 | 21 => Argument::Table(answer.detail.to_be_bytes()),
+        5 | 6 | 7 | 21 | 29 => Argument::Table(answer.detail.to_be_bytes()),
         12 | 15 | 17 | 22 | 23 => Argument::Number(answer.detail),
         18 => Argument::Size(answer.size),
         // End of what tools/write_refusals writes.

@@ -10,7 +10,7 @@ use Rattle.font_join.specs.declared.join_error.JoinAllIntoError.TheVariants.{Not
 use Rattle.font_join.specs.declared.join_error.JoinAllError.{JoinAllError}
 use Rattle.font_join.specs.declared.join_error.JoinAllError.TheVariants.{At, NothingToJoin}
 use Rattle.font_join.specs.declared.join_error.JoinError.TheVariants.{DifferentGlyph, DifferentMapping, DifferentTable}
-use Rattle.font_join.specs.declared.join_error.JoinError.TheVariants.{Font, NoMemory, NotACut, TooLarge}
+use Rattle.font_join.specs.declared.join_error.JoinError.TheVariants.{Font, NoMemory, NotACut, TableTooLong, TooLarge}
 use Rattle.streams.specs.declared.outlet.Outlet.{Outlet}
 use Rattle.commands.specs.JoinRun.{AreGot, AreSpent, IsRightlyRefused, JoinStops, OnlySize, ReadStops}
 use Rattle.commands.specs.Run.{of_join_error, of_join_into_error}
@@ -31,6 +31,7 @@ only_size_of format F A files count long (At step (NotACut which)) is = absurd i
 only_size_of format F A files count long (At step (DifferentTable tag)) is = absurd is
 only_size_of format F A files count long (At step (DifferentMapping code)) is = absurd is
 only_size_of format F A files count long (At step (DifferentGlyph g)) is = absurd is
+only_size_of format F A files count long (At step (TableTooLong tag)) is = absurd is
 
 pub join_stopped : {R W : Type 0} (format : Format) (remaining : R → Option (List ℕ)) (contents : W → Option (List ℕ))
     (old new : List (Inlet R)) (o : Outlet W) (files : List (List ℕ)) → length new ≡ length old → AreSpent new
@@ -52,6 +53,8 @@ join_stopped format remaining contents old new o files same spent got (At step (
 join_stopped format remaining contents old new o files same spent got (At step (DifferentMapping code)) r =
     (spent, refl, refl, (files, got, r))
 join_stopped format remaining contents old new o files same spent got (At step (DifferentGlyph g)) r =
+    (spent, refl, refl, (files, got, r))
+join_stopped format remaining contents old new o files same spent got (At step (TableTooLong tag)) r =
     (spent, refl, refl, (files, got, r))
 
 pub only_size_into : (format : Format) (F : List ℕ) (A : ℕ → Wanted) (files : List (List ℕ)) (count : ℕ)
@@ -107,6 +110,7 @@ rightly_refused format remaining old files got (At step (NotACut which)) r = (fi
 rightly_refused format remaining old files got (At step (DifferentTable tag)) r = (files, got, r)
 rightly_refused format remaining old files got (At step (DifferentMapping code)) r = (files, got, r)
 rightly_refused format remaining old files got (At step (DifferentGlyph g)) r = (files, got, r)
+rightly_refused format remaining old files got (At step (TableTooLong tag)) r = (files, got, r)
 
 pub into_rightly_refused : {R : Type 0} (format : Format) (remaining : R → Option (List ℕ)) (old : List (Inlet R))
     (files : List (List ℕ)) → AreGot remaining old files → (error : JoinAllIntoError) → ((e : JoinAllError)

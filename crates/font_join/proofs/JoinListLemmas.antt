@@ -1,17 +1,21 @@
 -- What stands after joins in turn, and what follows from it.
-use Rattle.std.proofs.Common.{◌≡◌, ℕ, zero, suc, ◌+◌, ◌<◌, ◌≤◌, List, [], get_or, length, map, refl, sym}
+use Rattle.std.proofs.Common.{◌≡◌, ℕ, zero, suc, ◌+◌, ◌<◌, ◌≤◌, ◌⊎◌, inl, inr, List, [], get_or, length, map, refl, sym}
 use Rattle.std.proofs.Common.{subst, arith, Option, None, Result, Ok, Err, IfOk, IfErr, MatchResult}
 use Rattle.std.proofs.lemmas.List.{get_or-map}
 use Rattle.std.proofs.lemmas.Result.{MatchResult-weaker}
 use Rattle.sfnt_bytes.specs.declared.directory.TheConstants.{MAX_FILE}
+use Rattle.sfnt_bytes.specs.declared.tag.Tag.{Tag}
 use Rattle.font_file.specs.declared.font_error.FontError.{FontError}
 use Rattle.font_theory.specs.Content.{Content, Font as FontRead, Wanted}
-use Rattle.font_theory.specs.Cut.{Format, IsCurrent, IsCut, cut, renewed}
-use Rattle.font_theory.specs.Tree.{Differs, IsOver, IsSmall, JoinTree, Value, cuts, file_at, grown, union_below}
+use Rattle.font_theory.specs.Agreement.{both}
+use Rattle.font_theory.specs.Cut.{Format, IsCurrent, IsCut, content_of_all, cut, renewed}
+use Rattle.font_theory.specs.Tree.{Differs, IsOver, IsSmall, JoinTree, Overflows, Value, cuts, file_at, grown}
+use Rattle.font_theory.specs.Tree.{union_below}
 use Rattle.font_theory.proofs.FontLemmas.{size-accepted}
-use Rattle.font_theory.proofs.GrownLemmas.{Differs-grown, Value-grown, Value-grown_cuts, Value-grown_same, grown-cuts}
+use Rattle.font_theory.proofs.GrownLemmas.{Stops-grown, Value-grown, Value-grown_cuts, Value-grown_same, grown-cuts}
 use Rattle.font_theory.proofs.GrownLemmas.{grown-joins}
 use Rattle.font_theory.proofs.CutLemmas.{IsCut-current}
+use Rattle.font_theory.proofs.TreeLemmas.{Overflows-none}
 use Rattle.font_theory.specs.Kinds.{IsKind}
 use Rattle.font_join.specs.JoinList.{AreCuts, IsAllJoined, IsAllRefusal, IsForDifference, IsForSizeInto, IsForSizeOf}
 use Rattle.font_join.specs.JoinList.{IsRefusedAt, JoinLaws, Stands, StopsJoin}
@@ -23,8 +27,8 @@ use Rattle.streams.specs.declared.outlet.Outlet.{Outlet}
 use Rattle.font_join.specs.declared.join_error.JoinAllError.TheVariants.{At, NothingToJoin}
 use Rattle.font_join.specs.declared.join_error.JoinError.{JoinError}
 use Rattle.font_join.specs.declared.join_error.JoinError.TheVariants.{DifferentGlyph, DifferentMapping, DifferentTable}
-use Rattle.font_join.specs.declared.join_error.JoinError.TheVariants.{Font, NoMemory, NotACut, TooLarge}
-use Rattle.font_join.proofs.JoinLemmas.{font_accepted, joinable, least_upper, only_size, small_join}
+use Rattle.font_join.specs.declared.join_error.JoinError.TheVariants.{Font, NoMemory, NotACut, TableTooLong, TooLarge}
+use Rattle.font_join.proofs.JoinLemmas.{font_accepted, joinable, least_upper, never_too_long, only_size, small_join}
 
 pub file_at-map : {X : Type 0} (f : X → List ℕ) (xs : List X) (k : ℕ) (d : X) → k < length xs
     → f (get_or xs k d) ≡ file_at (map f xs) k
@@ -35,6 +39,12 @@ pub result_cases : {T E : Type 0} (P : T → Type 0) (Q : E → Type 0) (r : Res
     → MatchResult r P Q
 result_cases P Q (Ok x) a b = a
 result_cases P Q (Err e) a b = b
+
+-- no step is refused for a table that has no room, where each table always has
+pub never_too_long_of_all : (R : Format) (files : List (List ℕ)) → ((K : Content) → R.misfit K ≡ None) → (step : ℕ)
+    (tag : Tag) → IsAllRefusal R files (At step (TableTooLong tag)) → ⊥
+never_too_long_of_all R files all step tag r = never_too_long R r.before (file_at files step)
+    (all (both (content_of_all R r.before) (content_of_all R (file_at files step)))) tag r.refused
 
 module _ {R : Format} {fault : List ℕ → Option FontError} {font : List ℕ → FontRead} {spelled : Content
     → Content} (kind : IsKind R fault font spelled) where
@@ -105,29 +115,34 @@ module _ {R : Format} {fault : List ℕ → Option FontError} {font : List ℕ �
     -- a difference met in turn is met in each tree
     clash_at : (k : ℕ) (error : JoinError) → IsRefusedAt R files k error → ((n : ℕ) → IsForSize n error → ⊥)
         → ((i : ℕ) → i < length files → IsCut R (file_at files i)) → (t : JoinTree (List ℕ)) → IsOver files t
-        → IsSmall R t → Differs R t
+        → IsSmall R t → (Differs R t ⊎ Overflows R t) × (((K : Content) → R.misfit K ≡ None) → Differs R t)
     clash_at k error r other forms t over few =
         let low = r.below in
         let some : 0 < length files = omega arith in
         let x = r.before in
         let form = stands_cut k x (forms 0 some) r.stands in
         let small : length x ≤ MAX_FILE = size-accepted x (font_accepted kind x form.accepted) in
-        Differs-grown R kind.law files forms k low x (Value-stands k x r.stands) (to_most x small)
-        (λ agree. other _ (only_size kind x (file_at files k) (record {
+        let stops = Stops-grown R kind.law files forms k low x (Value-stands k x r.stands) (to_most x small)
+        (λ can. other _ (only_size kind x (file_at files k) (record {
           first = form;
           second = forms k low;
-          agree = agree;
-        }) error r.refused)) t over few
+          agree = can.0;
+          fit = can.1;
+        }) error r.refused)) t over few in (
+          stops,
+          λ all. elim stops [ inl d ↦ d | inr d ↦ absurd (Overflows-none R kind.law all t d) ],
+        )
 
     pub clash_differs : (error : JoinAllError) → IsAllRefusal R files error → IsForDifference error
         → ((i : ℕ) → i < length files → IsCut R (file_at files i)) → (t : JoinTree (List ℕ)) → IsOver files t
-        → IsSmall R t → Differs R t
+        → IsSmall R t → (Differs R t ⊎ Overflows R t) × (((K : Content) → R.misfit K ≡ None) → Differs R t)
     clash_differs NothingToJoin r d = absurd d
     clash_differs (At k (Font which f)) r d = absurd d
     clash_differs (At k (NotACut which)) r d = absurd d
     clash_differs (At k (DifferentTable tag)) r d = clash_at k _ r (λ n o. o)
     clash_differs (At k (DifferentMapping code)) r d = clash_at k _ r (λ n o. o)
     clash_differs (At k (DifferentGlyph g)) r d = clash_at k _ r (λ n o. o)
+    clash_differs (At k (TableTooLong tag)) r d = clash_at k _ r (λ n o. o)
     clash_differs (At k (TooLarge s)) r d = absurd d
     clash_differs (At k NoMemory) r d = absurd d
 

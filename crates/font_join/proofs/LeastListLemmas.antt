@@ -13,7 +13,7 @@ use Rattle.font_join.specs.declared.join_error.JoinAllError.{JoinAllError}
 use Rattle.font_join.specs.declared.join_error.JoinAllError.TheVariants.{At, NothingToJoin}
 use Rattle.font_join.specs.declared.join_error.JoinError.{JoinError}
 use Rattle.font_join.specs.declared.join_error.JoinError.TheVariants.{DifferentGlyph, DifferentMapping, DifferentTable}
-use Rattle.font_join.specs.declared.join_error.JoinError.TheVariants.{Font, NoMemory, NotACut, TooLarge}
+use Rattle.font_join.specs.declared.join_error.JoinError.TheVariants.{Font, NoMemory, NotACut, TableTooLong, TooLarge}
 use Rattle.font_join.proofs.JoinLemmas.{least_upper, true_refusal}
 
 module _ {R : Format} {fault : List ℕ → Option FontError} {font : List ℕ → FontRead} {spelled : Content
@@ -75,6 +75,9 @@ module _ {R : Format} {fault : List ℕ → Option FontError} {font : List ℕ �
       (before_under k r.before r.below r.stands F each) (each k r.below)
   step_refusal k (DifferentGlyph g) r = λ F each.
       true_refusal kind r.before (file_at files k) (DifferentGlyph g) r.refused F
+      (before_under k r.before r.below r.stands F each) (each k r.below)
+  step_refusal k (TableTooLong tag) r = λ F each.
+      true_refusal kind r.before (file_at files k) (TableTooLong tag) r.refused F
       (before_under k r.before r.below r.stands F each) (each k r.below)
   step_refusal k (TooLarge size) r =
       (r.before, r.stands, true_refusal kind r.before (file_at files k) (TooLarge size) r.refused)

@@ -238,8 +238,8 @@ module _ (u : Held) (y : List ℕ) (K : Content) (spells : SpellsIn u.kind (cont
   taken_merged outlines n e size are = taken_whole u.outlines outlines u.kind y n form (e ∙ count_merged) (size
       ∙ sym e) are
 
-  module _ (runs : TwoLists) (outlines : List (Option (List ℕ))) (own : ThreeTables) (maps : map_in runs
-      ≡ united (map_in u.runs) D.map)
+  module _ (fit : (format_of u.kind).misfit (both K L) ≡ None) (runs : TwoLists) (outlines : List (Option (List ℕ)))
+      (own : ThreeTables) (maps : map_in runs ≡ united (map_in u.runs) D.map)
       (taken : (g : ℕ) → listed_outline outlines g ≡ union_of (listed_outline u.outlines) D.outline g)
       (over : own ≡ laid_over D.copied u.own (united_gvar (content_in u) D)) where
     abbrev merged : Held
@@ -266,11 +266,11 @@ module _ (u : Held) (y : List ℕ) (K : Content) (spells : SpellsIn u.kind (cont
     there_merged =
         (λ i. there_by (settings u.kind) (tables_merged i) (record_in (outlines_merged i)))
         ∙ fun_ext (there-written (settings u.kind) (settings-are u.kind) (both K L)
-        (of_two K L spells.arises second.arises agree refl))
+        (of_two K L spells.arises second.arises agree fit refl))
 
     pub spells_merged : SpellsIn u.kind (content_in merged) (both K L)
     spells_merged = record {
-      arises = of_two K L spells.arises second.arises agree refl;
+      arises = of_two K L spells.arises second.arises agree fit refl;
       is = λ i. record {
         copied = tables_merged i;
         head = head_merged i;
@@ -291,6 +291,16 @@ module _ (u : Held) (y : List ℕ) (K : Content) (spells : SpellsIn u.kind (cont
           ok.has_blanks;
     }
 
+-- which table has no room for what both have in it, of a union that is held as u and known as v
+pub misfit_of_union : (u v : Held) → u ≡ v → (y : List ℕ) (unfit : Option ℕ)
+    → ((M : Content) → SpellsIn v.kind (content_in v) M → unfit
+    ≡ (format_of v.kind).misfit (both M (content_of_all (format_of v.kind) y)))
+    → (K : Content) → SpellsIn u.kind (content_in u) K
+    → unfit ≡ (format_of u.kind).misfit (both K (content_of_all (format_of u.kind) y))
+misfit_of_union u v same y unfit tells K spells =
+    subst (λ (w : Held). (M : Content) → SpellsIn w.kind (content_in w) M
+    → unfit ≡ (format_of w.kind).misfit (both M (content_of_all (format_of w.kind) y))) (sym same) tells K spells
+
 -- the union with a file that was taken into it, of which the same is known
 module _ (u v : Held) (same : u ≡ v) (q : Kind) (kind : q ≡ v.kind) (y : List ℕ) (cut : IsCut (format_of v.kind) y)
     (early : (M : Content) → SpellsIn v.kind (content_in v) M → early_difference M (content_of_all (format_of v.kind) y)
@@ -300,7 +310,10 @@ module _ (u v : Held) (same : u ≡ v) (q : Kind) (kind : q ≡ v.kind) (y : Lis
     (range_with_len 0 n))
     (told : (M : Content) → SpellsIn v.kind (content_in v) M → parts
     ≡ parts_told M (content_of_all (format_of v.kind) y))
-    (least : least_of parts other ≡ None) (runs : TwoLists) (outlines : List (Option (List ℕ))) (own : ThreeTables)
+    (least : least_of parts other ≡ None) (unfit : Option ℕ)
+    (tells : (M : Content) → SpellsIn v.kind (content_in v) M → unfit
+    ≡ (format_of v.kind).misfit (both M (content_of_all (format_of v.kind) y)))
+    (fits : unfit ≡ None) (runs : TwoLists) (outlines : List (Option (List ℕ))) (own : ThreeTables)
     (gvar : Option (List ℕ)) (of_glyphs : length u.outlines ≡ glyph_count_of u.tables)
     (taken : other ≡ None → AreTaken u.outlines outlines (content (font_as q y) everything).outline n)
     (maps : map_in runs ≡ united (map_in u.runs) (content (font_as q y) everything).map)
@@ -318,6 +331,9 @@ module _ (u v : Held) (same : u ≡ v) (q : Kind) (kind : q ≡ v.kind) (y : Lis
   agree : Agree K (content_of_all (format_of u.kind) y)
   agree = agree_of u v same q kind y cut early n count other parts differs told K spells least
 
+  fit : (format_of u.kind).misfit (both K (content_of_all (format_of u.kind) y)) ≡ None
+  fit = sym (misfit_of_union u v same y unfit tells K spells) ∙ fits
+
   are : AreTaken u.outlines outlines (content (font_as u.kind y) everything).outline n
   are = subst (λ (k : Kind). AreTaken u.outlines outlines (content (font_as k y) everything).outline n) here
       (taken (least_none parts other least))
@@ -334,13 +350,14 @@ module _ (u v : Held) (same : u ≡ v) (q : Kind) (kind : q ≡ v.kind) (y : Lis
   pub grown_of : IsGrown u.kind y K all
   grown_of = record {
     kind_is = refl;
-    spells = spells_merged u y K spells cut_here agree runs outlines own maps all_taken laid;
+    spells = spells_merged u y K spells cut_here agree fit runs outlines own maps all_taken laid;
     none = none_of u v same q kind y cut early n count other parts differs told K spells least;
+    fit = fit;
   }
 
   pub union_of_all : (blanks : ThreeTables) → IsUnion u blanks → IsUnion all blanks
   union_of_all blanks ok =
-      union_merged u y K spells cut_here agree runs outlines own maps all_taken laid blanks ok are.count
+      union_merged u y K spells cut_here agree fit runs outlines own maps all_taken laid blanks ok are.count
 
 -- a first file
 tables_of_first : (k : Kind) (c : Tables) (o : ThreeTables) → o ≡ own_in k c → tables_in k c o ≡ c

@@ -179,6 +179,7 @@ module _ (k : Kind) (K : Content) where
     framed slot =
         ap (λ (t : Tables). t slot) (frames-wholes p (settings-are k).partition _
         (IsClosed-arises (format_of k) (kind_is k).law.is_font K arises).font K.parts
+        (IsDivided-by (settings k) (settings-are k) K arises).fit
         ∙ (IsDivided-by (settings k) (settings-are k) K arises).frames)
 
     pub unread_gvar : (settings k).reading GVAR ≡ absent → K.copied GVAR ≡ None

@@ -7,7 +7,7 @@ use Rattle.sfnt_bytes.specs.declared.directory.TheConstants.{MAX_FILE}
 use Rattle.font_file.specs.Font.{font_fault}
 use Rattle.font_file.specs.declared.font_error.FontError.{FontError}
 use Rattle.font_theory.specs.Content.{Content, Font as FontRead, everything}
-use Rattle.font_theory.specs.Cut.{Format, IsCut, content_of_all}
+use Rattle.font_theory.specs.Cut.{Format, IsCut, content_of_all, misfit_of}
 use Rattle.font_theory.specs.Cut.Arises.{of_file}
 use Rattle.font_theory.specs.Difference.{difference}
 use Rattle.font_theory.specs.File.{file, current_writing}
@@ -29,11 +29,11 @@ use Rattle.font_subset.specs.declared.open_error.OpenError.TheVariants as open_e
 use Rattle.font_join.specs.Inside.{HoldsFile, IsAddRefusal, IsFirstUnion, IsFormRefusal, IsTooLargeFile, IsUnited}
 use Rattle.font_join.specs.Inside.{Spells, add_fault, of_open_error}
 use Rattle.font_join.specs.Join.{IsJoin, IsJoinRefusal, IsUnionRefusal, different, form_fault, of_file_error}
-use Rattle.font_join.specs.Join.{union_fault}
+use Rattle.font_join.specs.Join.{too_long, union_fault}
 use Rattle.font_join.specs.JoinList.{IsAllJoined, IsRefusedAt, Stands}
 use Rattle.font_join.specs.declared.join_error.JoinError.{JoinError}
 use Rattle.font_join.specs.declared.join_error.JoinError.TheVariants.{DifferentGlyph, DifferentMapping, DifferentTable}
-use Rattle.font_join.specs.declared.join_error.JoinError.TheVariants.{Font, NoMemory, NotACut, TooLarge}
+use Rattle.font_join.specs.declared.join_error.JoinError.TheVariants.{Font, NoMemory, NotACut, TableTooLong, TooLarge}
 use Rattle.font_join.specs.declared.join_error.Which.{Which}
 use Rattle.font_join.specs.declared.join_error.Which.TheVariants.{First, Second}
 use Rattle.font_join.proofs.JoinLemmas.{font_accepted, form_unread, form_whole, is_join, is_too_large, joinable}
@@ -78,6 +78,7 @@ module _ {R : Format} {fault : List ℕ → Option FontError} {font : List ℕ �
   refused_one x y (DifferentTable tag) r = first_form R x y _ r
   refused_one x y (DifferentMapping code) r = first_form R x y _ r
   refused_one x y (DifferentGlyph g) r = first_form R x y _ r
+  refused_one x y (TableTooLong tag) r = first_form R x y _ r
   refused_one x y (TooLarge s) r = first_form R x y _ r
 
   -- and a first file, joined with itself
@@ -91,7 +92,8 @@ module _ {R : Format} {fault : List ℕ → Option FontError} {font : List ℕ �
   fault_of_two x y form =
       let t = form_whole R First x form.accepted (is_cut-of R kind.law x form) in
       λ i. first_of_lines (t i ∷ form_fault R Second y
-      ∷ option_map different (difference (content_of_all R x) (content_of_all R y)) ∷ [])
+      ∷ option_map different (difference (content_of_all R x) (content_of_all R y))
+      ∷ option_map too_long (misfit_of R x y) ∷ [])
 
   pub refused_two : (K : Content) (x y : List ℕ) (error : JoinError) → union_fault R x y ≡ add_fault R K y
       → IsAddRefusal R K y error → IsUnionRefusal R x y error
@@ -101,6 +103,7 @@ module _ {R : Format} {fault : List ℕ → Option FontError} {font : List ℕ �
   refused_two K x y (DifferentTable tag) e r = e ∙ r
   refused_two K x y (DifferentMapping code) e r = e ∙ r
   refused_two K x y (DifferentGlyph g) e r = e ∙ r
+  refused_two K x y (TableTooLong tag) e r = e ∙ r
   refused_two K x y (TooLarge s) e r = e ∙ r
 
   -- what is written of a content is its file, and no larger than a file may be
@@ -157,9 +160,9 @@ module _ {R : Format} {fault : List ℕ → Option FontError} {font : List ℕ �
   unfault_self : (x : List ℕ) → IsCut R x → union_fault R x x ≡ None
   unfolding union_fault
   unfault_self x form =
-      let w = tested-CanJoin R kind.law x x form.accepted form.accepted (CanJoin-self R x form) in
+      let w = tested-CanJoin R kind.law x x form.accepted form.accepted (CanJoin-self R kind.law x form) in
       λ i. first_of_lines (form_whole R First x form.accepted w.0 i ∷ form_whole R Second x form.accepted w.1 i
-      ∷ option_map different (w.2 i) ∷ [])
+      ∷ option_map different (w.2 i) ∷ option_map too_long (w.3 i) ∷ [])
 
   -- a first file in cut form, which is written anew where that is not too large
   module _ (C : Content) (x : List ℕ) (spells : Spells R spelled C (content_of_all R x)) (form : IsCut R x) where

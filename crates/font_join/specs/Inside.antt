@@ -1,9 +1,9 @@
 -- Words of private contracts and of proofs: no public clause names them.
-use Rattle.font_join.specs.Join.{different, form_fault}
+use Rattle.font_join.specs.Join.{different, form_fault, too_long}
 use Rattle.font_join.specs.JoinList.{Stands}
 use Rattle.font_join.specs.Union.{listed_outline}
 use Rattle.font_join.specs.declared.join_error.JoinError.{JoinError}
-use Rattle.font_join.specs.declared.join_error.JoinError.TheVariants.{Font, NoMemory, TooLarge}
+use Rattle.font_join.specs.declared.join_error.JoinError.TheVariants.{DifferentGlyph, Font, NoMemory, TooLarge}
 use Rattle.font_join.specs.declared.join_error.Which.{Which}
 use Rattle.font_join.specs.declared.join_error.Which.TheVariants.{Second}
 use Rattle.font_file.specs.Font.{font_fault}
@@ -11,6 +11,7 @@ use Rattle.font_file.specs.declared.font_error.FontError.{FontError}
 use Rattle.font_glyph.specs.RecordMap.{Records, union_of}
 use Rattle.font_subset.specs.declared.open_error.OpenError.{OpenError}
 use Rattle.font_subset.specs.declared.open_error.OpenError.TheVariants as open_errors
+use Rattle.font_theory.specs.Agreement.{both}
 use Rattle.font_theory.specs.Content.{CODES, Content}
 use Rattle.font_theory.specs.Cut.{Arises, Format, IsCurrent, IsCut, content_of_all}
 use Rattle.font_theory.specs.Difference.{difference, first_slot, is_different_code, is_different_table}
@@ -87,7 +88,12 @@ early_difference K L = first_of_lines
 unfoldable pub add_fault : Format → Content → List ℕ → Option JoinError
 add_fault R K y =
     first_of_lines (form_fault R Second y
-    ∷ option_map different (difference K (content_of_all R y)) ∷ [])
+    ∷ option_map different (difference K (content_of_all R y))
+    ∷ option_map too_long (R.misfit (both K (content_of_all R y))) ∷ [])
+
+-- why a file is not added whose tables and codes do not differ: a glyph, or else a table that has no room
+abbrev pub late_fault : Option ℕ → Option ℕ → Option JoinError
+late_fault glyph misfit = first_of_lines (option_map DifferentGlyph glyph ∷ option_map too_long misfit ∷ [])
 
 -- why a file is not added
 abbrev pub IsAddRefusal : Format → Content → List ℕ → JoinError → Type 0

@@ -9,14 +9,14 @@ use Rattle.font_file.specs.Font.{font_fault}
 use Rattle.font_file.specs.declared.font_error.FontError.TheVariants.{Directory}
 use Rattle.font_write.specs.declared.whole_file.FileError.{FileError}
 use Rattle.font_write.specs.declared.whole_file.FileError.TheVariants as file_errors
-use Rattle.font_theory.specs.Cut.{Format, IsCurrent, Under, is_cut, joined, content_of_all}
+use Rattle.font_theory.specs.Cut.{Format, IsCurrent, Under, is_cut, joined, content_of_all, misfit_of}
 use Rattle.font_theory.specs.Difference.{difference}
 use Rattle.font_theory.specs.Agreement.{Agree}
 use Rattle.font_theory.specs.declared.Difference.{Difference}
 use Rattle.font_theory.specs.declared.Difference.TheVariants.{AtCode, AtGlyph, AtTable}
 use Rattle.font_join.specs.declared.join_error.JoinError.{JoinError}
 use Rattle.font_join.specs.declared.join_error.JoinError.TheVariants.{DifferentGlyph, DifferentMapping, DifferentTable}
-use Rattle.font_join.specs.declared.join_error.JoinError.TheVariants.{Font, NoMemory, NotACut, TooLarge}
+use Rattle.font_join.specs.declared.join_error.JoinError.TheVariants.{Font, NoMemory, NotACut, TableTooLong, TooLarge}
 use Rattle.font_join.specs.declared.join_error.Which.{Which}
 use Rattle.font_join.specs.declared.join_error.Which.TheVariants.{First, Second}
 
@@ -25,6 +25,10 @@ abbrev pub different : Difference → JoinError
 different (AtTable slot) = DifferentTable (slot_tag slot)
 different (AtCode code) = DifferentMapping code
 different (AtGlyph g) = DifferentGlyph g
+
+-- the refusal for a table that has no room for what both files have in it
+abbrev pub too_long : ℕ → JoinError
+too_long slot = TableTooLong (slot_tag slot)
 
 -- the refusal for a file that is not made
 abbrev pub of_file_error : FileError → JoinError
@@ -42,6 +46,7 @@ union_lines R x y =
     form_fault R First x
     ∷ form_fault R Second y
     ∷ option_map different (difference (content_of_all R x) (content_of_all R y))
+    ∷ option_map too_long (misfit_of R x y)
     ∷ []
 
 -- the first of them that applies

@@ -1,14 +1,15 @@
 -- What the joins of a list of files in turn answer, this project's own, over the format of the cuts that are
 -- joined.
-use Rattle.std.specs.Prelude.{◌≡◌, ◌≢◌, ℕ, zero, suc, ◌<◌, ◌≤◌, true, List, [], length, take, Option, None, Result}
+use Rattle.std.specs.Prelude.{◌≡◌, ◌≢◌, ℕ, zero, suc, ◌<◌, ◌≤◌, ◌⊎◌, true, List, [], length, take, Option, None, Result}
 use Rattle.std.specs.Prelude.{IfOk, MatchResult}
 use Rattle.sfnt_bytes.specs.declared.directory.DirError.TheVariants.{FileTooLarge}
 use Rattle.sfnt_bytes.specs.declared.directory.TheConstants.{MAX_FILE}
 use Rattle.font_file.specs.Font.{font_fault}
 use Rattle.font_file.specs.declared.font_error.FontError.TheVariants.{Directory}
-use Rattle.font_theory.specs.Content.{Wanted, content}
+use Rattle.font_theory.specs.Content.{Content, Wanted, content}
 use Rattle.font_theory.specs.Cut.{Format, IsCurrent, IsCut, Under, Writes, cut, renewed}
-use Rattle.font_theory.specs.Tree.{Differs, IsOver, IsSmall, JoinTree, Value, cuts, file_at, grown, union_below}
+use Rattle.font_theory.specs.Tree.{Differs, IsOver, IsSmall, JoinTree, Overflows, Value, cuts, file_at, grown}
+use Rattle.font_theory.specs.Tree.{union_below}
 use Rattle.font_join.specs.Join.{IsForSize, IsJoin, IsJoinRefusal, RefusalIsRight}
 use Rattle.streams.specs.Outlet.{WentOut, broken_of, written_of}
 use Rattle.streams.specs.declared.outlet.Outlet.{Outlet}
@@ -18,7 +19,7 @@ use Rattle.font_join.specs.declared.join_error.JoinAllError.{JoinAllError}
 use Rattle.font_join.specs.declared.join_error.JoinAllError.TheVariants.{At, NothingToJoin}
 use Rattle.font_join.specs.declared.join_error.JoinError.{JoinError}
 use Rattle.font_join.specs.declared.join_error.JoinError.TheVariants.{DifferentGlyph, DifferentMapping, DifferentTable}
-use Rattle.font_join.specs.declared.join_error.JoinError.TheVariants.{Font, NoMemory, TooLarge}
+use Rattle.font_join.specs.declared.join_error.JoinError.TheVariants.{Font, NoMemory, TableTooLong, TooLarge}
 
 -- v is what k joins in turn come to, the first of them being that of the first file with itself
 abbrev pub Stands : Format → List (List ℕ) → ℕ → List ℕ → Type 0
@@ -84,11 +85,12 @@ abbrev pub IsForSizeOf : Format → List ℕ → (ℕ → Wanted) → List (List
 IsForSizeOf R F A files NothingToJoin = files ≡ []
 IsForSizeOf R F A files (At step error) = IsForSize (length (cut R F (union_below A (suc step)))) error
 
--- refused for a difference
+-- refused for a difference, or for a table that has no room
 abbrev pub IsForDifference : JoinAllError → Type 0
 IsForDifference (At step (DifferentTable tag)) = Unit {0}
 IsForDifference (At step (DifferentMapping code)) = Unit {0}
 IsForDifference (At step (DifferentGlyph g)) = Unit {0}
+IsForDifference (At step (TableTooLong tag)) = Unit {0}
 IsForDifference _ = ⊥
 
 -- z went out between two moments, and has this number of bytes
@@ -171,8 +173,10 @@ pub record JoinLaws {T E : Type 0} (R : Format) (files : List (List ℕ)) (resul
   pub trees : AgreesWithEveryTree R files result gives
   pub one_form : AgreesWithTreesOfCurrentFiles R files result gives
 
--- a refusal for a difference: each tree over the files meets one, where all are in cut form
+-- a refusal for a difference, or for a table that has no room: each tree over the files meets one of them, where all
+-- are in cut form, and a difference, where each table of the kind always has room
 abbrev pub EveryTreeDiffers : Format → List (List ℕ) → JoinAllError → Type 0
 EveryTreeDiffers R files error =
     ((k : ℕ) → k < length files → IsCut R (file_at files k)) → (t : JoinTree (List ℕ)) → IsOver files t →
-    IsSmall R t → IsForDifference error → Differs R t
+    IsSmall R t → IsForDifference error → (Differs R t ⊎ Overflows R t) ×
+    (((K : Content) → R.misfit K ≡ None) → Differs R t)

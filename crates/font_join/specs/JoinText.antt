@@ -10,7 +10,7 @@ use Rattle.font_join.specs.declared.join_error.JoinAllIntoError.{JoinAllIntoErro
 use Rattle.font_join.specs.declared.join_error.JoinAllIntoError.TheVariants.{NotJoined, WriteFault}
 use Rattle.font_join.specs.declared.join_error.JoinError.{JoinError}
 use Rattle.font_join.specs.declared.join_error.JoinError.TheVariants.{DifferentGlyph, DifferentMapping, DifferentTable}
-use Rattle.font_join.specs.declared.join_error.JoinError.TheVariants.{Font, NoMemory, NotACut, TooLarge}
+use Rattle.font_join.specs.declared.join_error.JoinError.TheVariants.{Font, NoMemory, NotACut, TableTooLong, TooLarge}
 use Rattle.font_join.specs.declared.join_error.Which.{Which}
 use Rattle.font_join.specs.declared.join_error.Which.TheVariants.{First, Second}
 
@@ -34,6 +34,7 @@ join_error_text (NotACut which) = codes "not a cut: " ++ which_text which
 join_error_text (DifferentTable tag) = codes "different table " ++ tag_text tag
 join_error_text (DifferentMapping code) = codes "different mapping U+" ++ code_text code
 join_error_text (DifferentGlyph g) = codes "different glyph " ++ decimal g
+join_error_text (TableTooLong tag) = codes "table too long " ++ tag_text tag
 join_error_text (TooLarge size) = codes "too large " ++ decimal size
 join_error_text NoMemory = no_memory_text
 
@@ -49,6 +50,7 @@ join_error_number (NotACut which) = 20
 join_error_number (DifferentTable tag) = 21
 join_error_number (DifferentMapping code) = 22
 join_error_number (DifferentGlyph g) = 23
+join_error_number (TableTooLong tag) = 29
 join_error_number (TooLarge size) = numbers.TOO_LARGE
 join_error_number NoMemory = numbers.NO_MEMORY
 

@@ -125,6 +125,7 @@ pub record IsGrown (kind : Kind) (y : List ℕ) (K : Content) (union : Held) : T
   pub kind_is : union.kind ≡ kind
   pub spells : SpellsIn kind (content_in union) (both K (content_of_all (format_of kind) y))
   pub none : difference K (content_of_all (format_of kind) y) ≡ None
+  pub fit : (format_of kind).misfit (both K (content_of_all (format_of kind) y)) ≡ None
 
 -- a union is of a kind, and holds a file, or what the joins of some files in turn come to
 pub record HoldsIn (kind : Kind) (u : Held) (x : List ℕ) : Type 0 where

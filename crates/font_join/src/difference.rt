@@ -9,7 +9,7 @@ ghost use Rattle.font_theory.specs.Difference.{first_slot, is_different_code, is
 ghost use Rattle.sfnt_bytes.specs.Directory.{slot_at};
 ghost use Rattle.sfnt_bytes.specs.declared.tag.TheConstants.{ALL_SLOTS as SLOT_COUNT};
 ghost use Rattle.font_join.specs.Join.{different};
-ghost use Rattle.font_join.specs.Inside.{early_difference};
+ghost use Rattle.font_join.specs.Inside.{early_difference, late_fault};
 
 use crate::join_error::JoinError;
 use font_map::Pieces;
@@ -118,6 +118,18 @@ pub(crate) fn early_difference<K: Source, P: Pieces, L: Source>(
         return Some(Difference::AtCode(code));
     }
     None
+}
+
+/// Returns the refusal for a glyph that differs, or else for a table that has no room.
+pub(crate) fn late_refusal(glyph: Option<u16>, misfit: Option<u8>) -> Option<JoinError>
+    requires { IfSome misfit (λ slot. slot < SLOT_COUNT) }
+    ensures { result ≡ late_fault glyph misfit }
+{
+    match (glyph, misfit) {
+        (Some(g), _) => Some(JoinError::DifferentGlyph(g)),
+        (None, Some(slot)) => Some(JoinError::TableTooLong(tag_of(usize::from(slot)))),
+        (None, None) => None,
+    }
 }
 
 /// Returns the refusal for a difference.

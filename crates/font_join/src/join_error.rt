@@ -46,6 +46,8 @@ pub enum JoinError {
     /// Both files keep this glyph, the least such one, and it differs: its outline, or what cuts of the kind have of it
     /// besides.
     DifferentGlyph(u16),
+    /// What both files have of single glyphs in this table, the least such one, is too long for it.
+    TableTooLong(Tag),
     /// The joined file would have this number of bytes, more than [`MAX_FILE`](sfnt_bytes::MAX_FILE).
     TooLarge(u64),
     /// Out of memory.
@@ -53,7 +55,7 @@ pub enum JoinError {
 }
 
 impl JoinError {
-    /// Returns the number of the refusal: that of the font's refusal, 20 to 23, 18 or 16.
+    /// Returns the number of the refusal: that of the font's refusal, 20 to 23, 29, 18 or 16.
     pub fn number(&self) -> u8
         ensures { result ≡ join_error_number self.now }
     {
@@ -63,6 +65,7 @@ impl JoinError {
             JoinError::DifferentTable(_) => numbers::DIFFERENT_TABLE,
             JoinError::DifferentMapping(_) => numbers::DIFFERENT_MAPPING,
             JoinError::DifferentGlyph(_) => numbers::DIFFERENT_GLYPH,
+            JoinError::TableTooLong(_) => numbers::TABLE_TOO_LONG,
             JoinError::TooLarge(_) => numbers::TOO_LARGE,
             JoinError::NoMemory => numbers::NO_MEMORY,
         }
@@ -119,6 +122,7 @@ impl fmt::Display for JoinError {
             JoinError::DifferentTable(tag) => write!(f, "different table {tag}"),
             JoinError::DifferentMapping(code) => write!(f, "different mapping U+{}", Code(*code)),
             JoinError::DifferentGlyph(glyph) => write!(f, "different glyph {glyph}"),
+            JoinError::TableTooLong(tag) => write!(f, "table too long {tag}"),
             JoinError::TooLarge(size) => write!(f, "too large {size}"),
             JoinError::NoMemory => f.write_str("no memory"),
         }

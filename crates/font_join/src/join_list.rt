@@ -1,5 +1,5 @@
 //! Joins of a list of files, one after the other. They are this project's own, and in no standard.
-ghost use Rattle.std.specs.Prelude.{◌≡◌, ◌≢◌, ◌≤◌, ℕ, List, length, map, false, true, Err, IfErr, IfOk, IsSome, MatchResult, OnOk, ◌<◌};
+ghost use Rattle.std.specs.Prelude.{◌≡◌, ◌≢◌, ◌≤◌, ℕ, List, length, map, false, true, Err, IfErr, IfOk, IsSome, MatchResult, None, OnOk, ◌<◌};
 ghost use Rattle.sfnt_bytes.specs.Memory.{IsRefused};
 ghost use Rattle.sfnt_bytes.specs.declared.directory.TheConstants.{MAX_FILE};
 ghost use Rattle.font_theory.specs.Cut.{Format};
@@ -12,9 +12,10 @@ ghost use Rattle.font_theory.specs.Kinds.{format_of, spelled_by};
 ghost use Rattle.font_join.specs.KindInside.{IsUnitedIn, HoldsIn};
 ghost use Rattle.font_join.specs.declared.join_error.JoinAllError.TheVariants.{At};
 ghost use Rattle.font_join.specs.declared.join_error.JoinAllIntoError.TheVariants.{NotJoined};
-ghost use Rattle.font_join.specs.declared.join_error.JoinError.TheVariants.{NoMemory as JoinNoMemory};
+ghost use Rattle.font_join.specs.declared.join_error.JoinError.TheVariants.{NoMemory as JoinNoMemory, TableTooLong};
+ghost use Rattle.sfnt_bytes.specs.declared.tag.Tag.{Tag};
 ghost use Rattle.sfnt_bytes.specs.declared.tag.TheConstants.{GVAR};
-ghost use Rattle.font_theory.specs.Content.{table_in_slot};
+ghost use Rattle.font_theory.specs.Content.{Content, table_in_slot};
 ghost use Rattle.font_join.specs.Join.{IsJoin, IsJoinRefusal};
 ghost use Rattle.font_join.specs.Inside.{IsFirstUnion, IsTooLargeFile};
 ghost use Rattle.font_theory.specs.declared.kinds.Kind.{Kind};
@@ -205,6 +206,8 @@ pub fn join_all_of_kind<A: Memory + Copy>(
         IfOk result (λ z. IsLeastOf (format_of kind) bytes z.items) }
     ensures refused { let bytes = map (λ v. v.items) files.now in
         IfErr result (AllRefusalIsRight (format_of kind) bytes) }
+    ensures fits { ((K : Content) → (format_of kind).misfit K ≡ None) → (step : ℕ) (tag : Tag) →
+        result ≢ Err (At step (TableTooLong tag)) }
     ensures memory { (step : ℕ) → result ≡ Err (At step JoinNoMemory) → IsRefused A.refuses }
 {
     join_in_turn(alloc, kind, files)
@@ -243,6 +246,7 @@ pub fn join_all<A: Memory + Copy>(
         IfOk result (λ z. IsLeastOf (format_of Full) bytes z.items) }
     ensures refused { let bytes = map (λ v. v.items) files.now in
         IfErr result (AllRefusalIsRight (format_of Full) bytes) }
+    ensures fits { (step : ℕ) (tag : Tag) → result ≢ Err (At step (TableTooLong tag)) }
     ensures memory { (step : ℕ) → result ≡ Err (At step JoinNoMemory) → IsRefused A.refuses }
 {
     join_all_of_kind(alloc, Kind::Full, files)
@@ -284,6 +288,8 @@ pub fn union_of_files<'f, 'a, A: Memory + Copy>(
         IfOk result (λ union. IsLeastOf (format_of kind) bytes (file current_writing (content_in union))) }
     ensures refused { let bytes = map (λ f. f.now) files.now in
         IfErr result (AllRefusalIsRight (format_of kind) bytes) }
+    ensures fits { ((K : Content) → (format_of kind).misfit K ≡ None) → (step : ℕ) (tag : Tag) →
+        result ≢ Err (At step (TableTooLong tag)) }
     ensures memory { (step : ℕ) → result ≡ Err (At step JoinNoMemory) → IsRefused A.refuses }
 {
     union_of_all(alloc, kind, first, files)
@@ -371,6 +377,8 @@ pub fn join_all_of_kind_into<A: Memory + Copy, W: Write>(
     ensures refused { let bytes = map (λ v. v.items) files.now in
         (error : JoinAllError) → result ≡ Err (NotJoined error)
         → AllRefusalIsRight (format_of kind) bytes error }
+    ensures fits { ((K : Content) → (format_of kind).misfit K ≡ None) → (step : ℕ) (tag : Tag) →
+        result ≢ Err (NotJoined (At step (TableTooLong tag))) }
     ensures memory { (step : ℕ) → result ≡ Err (NotJoined (At step JoinNoMemory)) → IsRefused A.refuses }
 {
     send_in_turn(alloc, kind, files, out)
@@ -414,6 +422,7 @@ pub fn join_all_into<A: Memory + Copy, W: Write>(
     ensures refused { let bytes = map (λ v. v.items) files.now in
         (error : JoinAllError) → result ≡ Err (NotJoined error)
         → AllRefusalIsRight (format_of Full) bytes error }
+    ensures fits { (step : ℕ) (tag : Tag) → result ≢ Err (NotJoined (At step (TableTooLong tag))) }
     ensures memory { (step : ℕ) → result ≡ Err (NotJoined (At step JoinNoMemory)) → IsRefused A.refuses }
 {
     join_all_of_kind_into(alloc, Kind::Full, files, out)

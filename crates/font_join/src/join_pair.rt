@@ -1,16 +1,17 @@
 //! The join of two cuts, which is this project's own: the least file of which both are cuts.
-ghost use Rattle.std.specs.Prelude.{◌≡◌, ◌||◌, ℕ, Bool, List, true, ◌≤◌, length, Err, None, IfErr, IfOk, MatchResult};
+ghost use Rattle.std.specs.Prelude.{◌≡◌, ◌≢◌, ◌||◌, ℕ, Bool, List, true, ◌≤◌, length, Err, None, IfErr, IfOk, MatchResult};
 ghost use Rattle.sfnt_bytes.specs.Memory.{IsRefused};
 ghost use Rattle.sfnt_bytes.specs.declared.directory.TheConstants.{MAX_FILE};
+ghost use Rattle.sfnt_bytes.specs.declared.tag.Tag.{Tag};
 ghost use Rattle.font_file.specs.Font.{font_fault};
-ghost use Rattle.font_theory.specs.Content.{Wanted, content, everything};
+ghost use Rattle.font_theory.specs.Content.{Content, Wanted, content, everything};
 ghost use Rattle.font_theory.specs.Cut.{IsCut, Writes, either, renewed};
 ghost use Rattle.font_theory.specs.declared.kinds.Kind.TheVariants.{Full};
 ghost use Rattle.font_theory.specs.Kinds.{fault_of, format_of};
 ghost use Rattle.font_subset.specs.CutOfKind.{cut_in};
 ghost use Rattle.font_subset.specs.CutOfFont.{IsCutOf, cut_of};
 ghost use Rattle.font_join.specs.Join.{IsForSize, IsJoin, IsJoinRefusal, IsLeastUpper, RefusalIsRight};
-ghost use Rattle.font_join.specs.declared.join_error.JoinError.TheVariants.{NoMemory as JoinNoMemory};
+ghost use Rattle.font_join.specs.declared.join_error.JoinError.TheVariants.{NoMemory as JoinNoMemory, TableTooLong};
 
 use crate::join_error::{JoinError, Which};
 use crate::join_input::open_input;
@@ -63,6 +64,8 @@ pub fn join_of_kind<A: Memory + Copy>(
     ensures upper { IfOk result (λ z. IsLeastUpper (format_of kind) x.now y.now z.items) }
     ensures small { IfOk result (λ z. length z.items ≤ MAX_FILE) }
     ensures refused { IfErr result (RefusalIsRight (format_of kind) x.now y.now) }
+    ensures fits { ((K : Content) → (format_of kind).misfit K ≡ None) → (tag : Tag) →
+        result ≢ Err (TableTooLong tag) }
     ensures memory { result ≡ Err JoinNoMemory → IsRefused A.refuses }
 {
     join_exactly(alloc, kind, x, y)
@@ -100,6 +103,7 @@ pub fn join<A: Memory + Copy>(alloc: A, x: &[u8], y: &[u8]) -> Result<Vec<u8, A>
     ensures upper { IfOk result (λ z. IsLeastUpper (format_of Full) x.now y.now z.items) }
     ensures small { IfOk result (λ z. length z.items ≤ MAX_FILE) }
     ensures refused { IfErr result (RefusalIsRight (format_of Full) x.now y.now) }
+    ensures fits { (tag : Tag) → result ≢ Err (TableTooLong tag) }
     ensures memory { result ≡ Err JoinNoMemory → IsRefused A.refuses }
 {
     join_of_kind(alloc, Kind::Full, x, y)

@@ -28,7 +28,7 @@ impl<'a, A: Memory + Copy> Union<'a, 'a, A> {
     /// # Errors
     ///
     /// `NoMemory` if out of memory, and else the first of `NotACut`, of the first font and then
-    /// of the second, `DifferentTable`, `DifferentMapping` and `DifferentGlyph` that applies.
+    /// of the second, `DifferentTable`, `DifferentMapping`, `DifferentGlyph` and `TableTooLong` that applies.
     pub fn new(alloc: A, x: &'a Font<'a>, y: &'a Font<'a>) -> Result<Joined<'a, A>, JoinError>
         ensures exact { MatchResult result (λ joined. (content_in joined
             ≡ both (content (font_of x.entry.now) everything) (content (font_of y.entry.now) everything))

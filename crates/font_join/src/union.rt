@@ -1,10 +1,11 @@
 //! The union of many cuts of one kind, added one after the other: the bytes of each are read once. This is
 //! this project's own, but for the groups of the mapping, `gvar` and the tables of metrics. OpenType 1.9, cmap, Format
 //! 12: Segmented coverage; gvar; hmtx; vmtx.
-ghost use Rattle.std.specs.Prelude.{◌≡◌, ◌≤◌, length, Err, None, Some, IfOk, MatchOption, MatchResult, OnErr};
+ghost use Rattle.std.specs.Prelude.{◌≡◌, ◌<◌, ◌≤◌, length, Err, None, Some, IfOk, IfSome, MatchOption, MatchResult, OnErr};
 ghost use Rattle.sfnt_bytes.specs.Memory.{IsRefused};
 ghost use Rattle.sfnt_bytes.specs.declared.directory.TheConstants.{MAX_FILE};
-ghost use Rattle.sfnt_bytes.specs.declared.tag.TheConstants.{GVAR};
+ghost use Rattle.sfnt_bytes.specs.declared.tag.TheConstants.{ALL_SLOTS as SLOT_COUNT, GVAR};
+ghost use Rattle.font_theory.specs.Agreement.{both};
 ghost use Rattle.font_theory.specs.Bytes.{padded};
 ghost use Rattle.font_theory.specs.Content.{Content, content, everything, table_in_slot};
 ghost use Rattle.font_theory.specs.Cut.{IsCut, content_of_all};
@@ -19,7 +20,7 @@ ghost use Rattle.font_join.specs.declared.join_error.JoinError.TheVariants.{NoMe
 ghost use Rattle.font_join.specs.declared.join_error.Which.TheVariants.{First};
 
 use crate::blanked::Blanked;
-use crate::difference::{early_difference, refusal_of};
+use crate::difference::{early_difference, late_refusal, refusal_of};
 use crate::glyph_data::{different_data, gvar_of_both};
 use crate::glyph_tables::GlyphTables;
 use crate::join_error::{JoinError, Which};
@@ -204,8 +205,19 @@ impl<'f, 'a, A: Memory + Copy> Union<'f, 'a, A> {
         least(different_metrics(self, file), different_data(self, file))
     }
 
+    // Returns the first table that is too long with what a cut and the union have in it of single glyphs. There is
+    // none in any kind of today: `parts_always_fit` of font_theory.
+    fn misfit(&self, file: &Listed<'_, 'a, A>) -> Option<u8>
+        ensures told { (K : Content) → SpellsIn self.now.kind (content_in self.now) K →
+            result ≡ (format_of self.now.kind).misfit (both K (content_of_all (format_of self.now.kind) file.now.1)) }
+        ensures low { IfSome result (λ slot. slot < SLOT_COUNT) }
+    {
+        let _file = file;
+        None
+    }
+
     // Returns the union with a cut that agrees with it in its tables and its map, or the first glyph in which
-    // it differs.
+    // it differs, or else the first table that has no room.
     fn merged(self, alloc: A, file: Listed<'_, 'a, A>) -> Result<Union<'f, 'a, A>, JoinError>
         requires same { file.0 ≡ self.kind }
         requires form { IsCut (format_of self.kind) file.1 }
@@ -218,6 +230,7 @@ impl<'f, 'a, A: Memory + Copy> Union<'f, 'a, A> {
         ensures memory { result ≡ Err JoinNoMemory → IsRefused A.refuses }
     {
         let parts = self.other_parts(&file);
+        let misfit = self.misfit(&file);
         let gvar = gvar_of_both(alloc, &self, &file)?;
         let count = self.first.font().tables().glyph_count();
         let Union {
@@ -228,8 +241,8 @@ impl<'f, 'a, A: Memory + Copy> Union<'f, 'a, A> {
             blanks,
         } = self;
         let other = outlines.take(&file, count);
-        if let Some(g) = least(parts, other) {
-            return Err(JoinError::DifferentGlyph(g));
+        if let Some(error) = late_refusal(least(parts, other), misfit) {
+            return Err(error);
         }
         let own = own.laid_over(&file, gvar);
         let runs = file.into_runs(alloc)?;
@@ -280,7 +293,7 @@ impl<'f, 'a, A: Memory + Copy> Union<'f, 'a, A> {
     /// # Errors
     ///
     /// `Font` of the second where its tables of layout or of variations are refused, `NotACut` of the second, the
-    /// first difference, or `NoMemory`.
+    /// first difference, a table that has no room, or `NoMemory`.
     pub(crate) fn add(self, alloc: A, font: &Font<'a>) -> Result<Union<'f, 'a, A>, JoinError>
         requires { length (table_in_slot (content_in self).copied GVAR) ≤ MAX_FILE }
         ensures exact { (kind : Kind) (K : Content) → self.entry.kind ≡ kind

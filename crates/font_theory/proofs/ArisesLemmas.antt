@@ -10,7 +10,7 @@ use Rattle.font_theory.proofs.JoinLemmas.{IsClosed-both}
 pub IsPlain-arises : (R : Format) → ((X : List ℕ) → R.fault X ≡ None → IsPlain (R.font X).copied) → (K : Content)
     → Arises R K → IsPlain K.copied
 IsPlain-arises R plain K (of_file X A h e) = subst (λ (C : Content). IsPlain C.copied) e (plain X h)
-IsPlain-arises R plain K (of_two L M l m agree e) =
+IsPlain-arises R plain K (of_two L M l m agree fit e) =
     subst (λ (C : Content). IsPlain C.copied) e (IsPlain-arises R plain L l)
 
 -- no table of it is divided
@@ -22,7 +22,7 @@ pub IsWhole-arises : (R : Format) → ((X : List ℕ) → R.fault X ≡ None →
 IsWhole-arises R whole K (of_file X A h e) =
     subst (λ (C : Content). IsWhole C.parts) e
     (λ slot g. nothing_either (is_kept (R.font X) A g) ((R.font X).parts slot g) (whole X h slot g))
-IsWhole-arises R whole K (of_two L M l m agree e) =
+IsWhole-arises R whole K (of_two L M l m agree fit e) =
     subst (λ (C : Content). IsWhole C.parts) e
     (λ slot g. elim (is_some (L.outline g)) as (λ b. cond b (L.parts slot g) (M.parts slot g) ≡ []) [
       | true ↦ IsWhole-arises R whole L l slot g
@@ -39,7 +39,7 @@ NoneThere-arises R none K (of_file X A h e) g =
     go : (b : Bool) → (b && false) ≡ false
     go true = refl
     go false = refl
-NoneThere-arises R none K (of_two L M l m agree e) g =
+NoneThere-arises R none K (of_two L M l m agree fit e) g =
     subst (λ (C : Content). C.there g ≡ false) e
     (elim (is_some (L.outline g)) as (λ b. cond b (L.there g) (M.there g) ≡ false) [
       | true ↦ NoneThere-arises R none L l g
@@ -50,5 +50,5 @@ NoneThere-arises R none K (of_two L M l m agree e) g =
 pub IsClosed-arises : (R : Format) → ((X : List ℕ) → R.fault X ≡ None → IsFont (R.font X)) → (K : Content) → Arises R K
     → IsClosedContent K
 IsClosed-arises R fonts K (of_file X A h e) = subst IsClosedContent e (IsClosed-content (R.font X) A (fonts X h))
-IsClosed-arises R fonts K (of_two L M l m agree e) =
+IsClosed-arises R fonts K (of_two L M l m agree fit e) =
     subst IsClosedContent e (IsClosed-both L M (IsClosed-arises R fonts L l) (IsClosed-arises R fonts M m) agree)

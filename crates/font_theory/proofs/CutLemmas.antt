@@ -13,7 +13,8 @@ use Rattle.codes.proofs.MapLemmas.{same_cond}
 use Rattle.font_theory.specs.Content.{Content, IsClosedContent, Wanted, content, either, everything, is_kept, read_back}
 use Rattle.font_theory.specs.Content.{within}
 use Rattle.font_theory.specs.Cut.{Arises, CanJoin, Format, IsCurrent, IsCut, IsFormat, IsOld, Under, Writes, codes_of}
-use Rattle.font_theory.specs.Cut.{wanted_of, cut, is_current, is_cut, is_old, joined, old_cut, renewed, content_of_all}
+use Rattle.font_theory.specs.Cut.{wanted_of, cut, is_current, is_cut, is_old, joined, renewed, content_of_all}
+use Rattle.font_theory.specs.Cut.{misfit_of}
 use Rattle.font_theory.specs.Cut.Arises.{of_file, of_two}
 use Rattle.font_theory.specs.Agreement.{Agree, both}
 use Rattle.font_theory.proofs.ArisesLemmas.{IsClosed-arises}
@@ -46,8 +47,13 @@ both_is : {K K' L L' : Content} → K ≡ K' → L ≡ L' → both K L ≡ both 
 both_is p q = λ i. both (p i) (q i)
 
 -- a file in cut form, and itself
-pub CanJoin-self : (R : Format) (X : List ℕ) → IsCut R X → CanJoin R X X
-CanJoin-self R X ok = record { first = ok; second = ok; agree = Agree-self (content_of_all R X) }
+pub CanJoin-self : (R : Format) → IsFormat R → (X : List ℕ) → IsCut R X → CanJoin R X X
+CanJoin-self R law X ok = record {
+  first = ok;
+  second = ok;
+  agree = Agree-self (content_of_all R X);
+  fit = ap R.misfit (both-self (content_of_all R X)) ∙ law.own_fit X everything ok.accepted;
+}
 
 pub joined-self : (R : Format) (X : List ℕ) → joined R X X ≡ renewed R X
 joined-self R X = ap R.file (both-self (content_of_all R X))
@@ -185,29 +191,35 @@ module _ (R : Format) (law : IsFormat R) where
   IsCurrent-cut F h A X is small = IsCurrent-written (content (R.font F) A) X (of_file F A h refl) (sym is) small
 
   -- as it was written before it is an old one, of the same content
-  pub IsOld-cut : (F : List ℕ) → R.fault F ≡ None → (A : Wanted) (X : List ℕ) → X ≡ old_cut R F A → length X ≤ R.limit
+  pub IsOld-cut : (F : List ℕ) → R.fault F ≡ None → (A : Wanted) (X : List ℕ) → X ≡ R.old (content (R.font F) A)
+      → length X ≤ R.limit
       → IsOld R X
   IsOld-cut F h A X is small = IsOld-written (content (R.font F) A) X (of_file F A h refl) (sym is) small
 
-  pub content_of_all-old_cut : (F : List ℕ) → R.fault F ≡ None → (A : Wanted) → length (old_cut R F A) ≤ R.limit
-      → content_of_all R (old_cut R F A) ≡ content (R.font F) A
-  content_of_all-old_cut F h A small = content_of_all-cut F h A (old_cut R F A) (inr refl) small
+  pub content_of_all-old_cut : (F : List ℕ) → R.fault F ≡ None → (A : Wanted)
+      → length (R.old (content (R.font F) A)) ≤ R.limit
+      → content_of_all R (R.old (content (R.font F) A)) ≡ content (R.font F) A
+  content_of_all-old_cut F h A small = content_of_all-cut F h A (R.old (content (R.font F) A)) (inr refl) small
 
   -- joining two cuts of a font, in any forms
   module _ (F : List ℕ) (h : R.fault F ≡ None) (A B : Wanted) (X Y : List ℕ)
       (wX : Writes R (content (R.font F) A) X) (wY : Writes R (content (R.font F) B) Y) (sX : length X ≤ R.limit)
       (sY : length Y ≤ R.limit) where
+    both-cuts : both (content_of_all R X) (content_of_all R Y) ≡ content (R.font F) (either A B)
+    both-cuts = both_is (content_of_all-cut F h A X wX sX) (content_of_all-cut F h B Y wY sY)
+        ∙ both-content (R.font F) A B (law.is_font F h)
+
     pub CanJoin-cuts : CanJoin R X Y
     CanJoin-cuts = record {
       first = IsCut-cut F h A X wX sX;
       second = IsCut-cut F h B Y wY sY;
       agree = rw (content_of_all-cut F h A X wX sX, content_of_all-cut F h B Y wY sY)
           (Agree-content (R.font F) A B (law.is_font F h));
+      fit = ap R.misfit both-cuts ∙ law.own_fit F (either A B) h;
     }
 
     pub joined-cuts : joined R X Y ≡ cut R F (either A B)
-    joined-cuts = ap R.file (both_is (content_of_all-cut F h A X wX sX) (content_of_all-cut F h B Y wY sY)
-        ∙ both-content (R.font F) A B (law.is_font F h))
+    joined-cuts = ap R.file both-cuts
 
   -- a join is above both files
   module _ (X Y : List ℕ) (can : CanJoin R X Y) (small : length (joined R X Y) ≤ R.limit) where
@@ -219,7 +231,7 @@ module _ (R : Format) (law : IsFormat R) where
 
     arU : Arises R (both (content_of_all R X) (content_of_all R Y))
     arU = of_two _ _ (of_file X everything can.first.accepted refl) (of_file Y everything can.second.accepted refl)
-        can.agree refl
+        can.agree can.fit refl
 
     back : (R.fault (joined R X Y) ≡ None)
         × (R.font (joined R X Y) ≡ read_back (both (content_of_all R X) (content_of_all R Y)))
@@ -266,12 +278,23 @@ module _ (R : Format) (law : IsFormat R) where
       rw (content_of_all-under X F u sx, content_of_all-under Y F v sy)
       (Agree-content (R.font F) _ _ (law.is_font F u.accepted))
 
+  -- and all that they have fits
+  pub both-under : (X Y F : List ℕ) → Under R X F → Under R Y F → length X ≤ R.limit → length Y ≤ R.limit
+      → both (content_of_all R X) (content_of_all R Y) ≡ content (R.font F) (either (wanted_of R X) (wanted_of R Y))
+  both-under X Y F u v sx sy = both_is (content_of_all-under X F u sx) (content_of_all-under Y F v sy)
+      ∙ both-content (R.font F) _ _ (law.is_font F u.accepted)
+
+  pub misfit-under : (X Y F : List ℕ) → Under R X F → Under R Y F → length X ≤ R.limit → length Y ≤ R.limit
+      → misfit_of R X Y ≡ None
+  misfit-under X Y F u v sx sy = ap R.misfit (both-under X Y F u v sx sy) ∙ law.own_fit F _ u.accepted
+
   pub CanJoin-under : (X Y F : List ℕ) → Under R X F → Under R Y F → length X ≤ R.limit → length Y ≤ R.limit
       → CanJoin R X Y
   CanJoin-under X Y F u v sx sy = record {
     first = IsCut-under X F u sx;
     second = IsCut-under Y F v sy;
     agree = Agree-under X Y F u v sx sy;
+    fit = misfit-under X Y F u v sx sy;
   }
 
   -- and below each file that is above both
@@ -293,8 +316,7 @@ module _ (R : Format) (law : IsFormat R) where
       L = content_of_all R Y
 
       union : both K L ≡ content (R.font F) (either (wanted_of R X) (wanted_of R Y))
-      union = both_is (content_of_all-under X F u sx) (content_of_all-under Y F v sy)
-          ∙ both-content (R.font F) _ _ (law.is_font F u.accepted)
+      union = both-under X Y F u v sx sy
 
       there_joined : (g : ℕ) → (both K L).there g ≡ (K.there g || L.there g)
       there_joined g = go (cases_option (K.outline g)) (cases_option (L.outline g))

@@ -4,8 +4,10 @@ use Rattle.std.proofs.Common.{sym}
 use Rattle.std.proofs.Common.{◌∙◌, ap, subst, is_some, Option, Some, None}
 use Rattle.std.specs.Option.{option_map, option_map_or}
 use Rattle.std.proofs.Math.Path.{fun_ext}
-use Rattle.std.proofs.lemmas.Bool.{cases_lt, lt-ltb}
+use Rattle.std.proofs.Common.{not}
+use Rattle.std.proofs.lemmas.Bool.{cases_lt, le-leb, lt-ltb, not-false, or_right}
 use Rattle.sfnt_bytes.specs.Lines.{when}
+use Rattle.sfnt_bytes.specs.declared.tag.TheConstants.{ALL_SLOTS}
 use Rattle.font_glyph.specs.RecordMap.{record_in}
 use Rattle.font_theory.specs.Bytes.{padded}
 use Rattle.font_theory.specs.Content.{Content, Font, IsClosedContent, IsFont, Wanted, content, everything}
@@ -16,10 +18,12 @@ use Rattle.font_theory.specs.Cut.{Arises, Format}
 use Rattle.font_theory.specs.Cut.Arises.{of_file, of_two}
 use Rattle.font_theory.specs.Kinds.{reduced}
 use Rattle.font_theory.specs.Parting.{IsPart, IsPartition, Partition, Tables, context, divided, frames, parts_of}
-use Rattle.font_theory.specs.Parting.{undivided_content, wholes}
+use Rattle.font_theory.specs.Parting.{AlwaysFits, fits_at, misfit_by, undivided_content, wholes}
+use Rattle.font_theory.proofs.ArisesLemmas.{IsClosed-arises}
 use Rattle.font_theory.proofs.ContentLemmas.{content-path, nothing_either, parts-path}
+use Rattle.font_theory.proofs.DifferenceLemmas.{first_slot-none, no_slot}
 use Rattle.font_theory.proofs.HeldLemmas.{cases_option, outline_is}
-use Rattle.font_theory.proofs.PartLemmas.{AreAlike, IsFont-alike, context-alike, frames-frames, frames-other}
+use Rattle.font_theory.proofs.PartLemmas.{AreAlike, IsFont-alike, context-alike, fits-here, frames-frames, frames-other}
 use Rattle.font_theory.proofs.PartLemmas.{frames-wholes, glyph_count-alike, good-font, is_kept-alike, map_map, map_none}
 use Rattle.font_theory.proofs.PartLemmas.{parts_of-at, parts_of-none, parts_of-past, wholes-other}
 use Rattle.font_theory.proofs.WantedLemmas.{IsKept-below, is_kept-decides}
@@ -28,10 +32,35 @@ use Rattle.font_theory.proofs.WantedLemmas.{IsKept-below, is_kept-decides}
 abbrev pub IsPartOf : Partition → Tables → ℕ → ℕ → List ℕ → Type 0
 IsPartOf p c slot g b = (b ≡ []) ⊎ ((d : Tables) × (frames p d ≡ c) × (parts_of p d slot g ≡ b))
 
--- a content is divided: its tables are frames, and its parts are of such tables
+-- a content is divided: its tables are frames, and its parts are of such tables and have room in them
 pub record IsDivided (p : Partition) (K : Content) : Type 0 where
   pub frames : frames p K.copied ≡ K.copied
   pub parts : (slot g : ℕ) → IsPartOf p K.copied slot g (K.parts slot g)
+  pub fit : (slot : ℕ) → fits_at p K.copied K.parts slot ≡ true
+
+-- where no table is named, parts have room in each
+misfit-none : (p : Partition) (K : Content) → ((slot : ℕ) → ALL_SLOTS ≤ slot → K.copied slot ≡ None)
+    → misfit_by p K ≡ None → (slot : ℕ) → fits_at p K.copied K.parts slot ≡ true
+unfolding misfit_by fits_at
+misfit-none p K past none slot = elim (cases_lt slot ALL_SLOTS) [
+  | inl low ↦ not-false _ (first_slot-none (λ s. not (fits_at p K.copied K.parts s)) slot none low)
+  | inr high ↦ ap (λ o. option_map_or (λ t. (p slot).fits (context K.copied) t (K.parts slot)) o true) (past slot high)
+]
+
+pub none-misfit : (p : Partition) (K : Content) → ((slot : ℕ) → fits_at p K.copied K.parts slot ≡ true)
+    → misfit_by p K ≡ None
+unfolding misfit_by
+none-misfit p K fit = no_slot (λ s. not (fits_at p K.copied K.parts s)) (λ s. ap not (fit s))
+
+-- no table is named where parts always have room
+pub misfit-always : (p : Partition) → AlwaysFits p → (K : Content) → misfit_by p K ≡ None
+unfolding fits_at
+misfit-always p always K = none-misfit p K (λ slot. go slot (K.copied slot))
+  where
+    go : (slot : ℕ) (o : Option (List ℕ))
+        → option_map_or (λ t. (p slot).fits (context K.copied) t (K.parts slot)) o true ≡ true
+    go slot None = refl
+    go slot (Some t) = always slot (context K.copied) t (K.parts slot)
 
 low-context : (c : Tables) (g : ℕ) → g < glyph_count c → g < glyph_count (context c)
 unfolding context glyph_count
@@ -104,7 +133,7 @@ module _ (p : Partition) (is : IsPartition p) where
         (map_none ((p slot).frame (context d)) (d slot) (ap (λ (x : Tables). x slot) same ∙ e))))
     at-slot slot g (Some t) e low =
         (is.law slot).part_is (context c) t (K.parts slot) g (good-font (read_back K) font slot t e)
-        (low-context c g low)
+        (fits-here p c K.parts slot t e (div.fit slot)) (low-context c g low)
         (elim (div.parts slot g) [ inl x ↦ inl x | inr x ↦ part-at c x.0 x.1 slot g t (K.parts slot g) e low x.2 ])
 
     -- the parts of what is written are those of the content
@@ -130,7 +159,7 @@ module _ (p : Partition) (is : IsPartition p) where
     -- what is written of a divided content is read as the content
     pub divided-whole : divided p (read_back (undivided_content p K)) ≡ read_back K
     divided-whole = λ i. record {
-      copied = (frames-wholes p is (read_back K) font K.parts ∙ div.frames) i;
+      copied = (frames-wholes p is (read_back K) font K.parts div.fit ∙ div.frames) i;
       head = K.head;
       map = K.map;
       outline = record_in K.outline;
@@ -142,6 +171,41 @@ module _ (p : Partition) (is : IsPartition p) where
   pub is_kept-divided : (F : Font) (A : Wanted) → is_kept (divided p F) A ≡ is_kept F A
   is_kept-divided F A = is_kept-alike F (divided p F) (frames-other p is F.copied) refl refl refl A
 
+  -- what a content of a divided font keeps has room in each table, as all that the font has does
+  module _ (F : Font) (A : Wanted) (ok : IsFont F) where
+    abbrev kept_parts : ℕ → ℕ → List ℕ
+    kept_parts slot g = cond (is_kept (divided p F) A g) (parts_of p F.copied slot g) []
+
+    fewer : (slot : ℕ) (t : List ℕ) → F.copied slot ≡ Some t → (g : ℕ)
+        → (kept_parts slot g ≡ []) ⊎ (kept_parts slot g ≡ (p slot).part (context F.copied) t g)
+    fewer slot t e g = elim (is_kept (divided p F) A g) as (λ b. (cond b (parts_of p F.copied slot g) [] ≡ [])
+        ⊎ (cond b (parts_of p F.copied slot g) [] ≡ (p slot).part (context F.copied) t g)) [
+          | true ↦ elim (cases_lt g (glyph_count F.copied)) [
+            | inl low ↦ inr (parts_of-at p F.copied slot g t low e)
+            | inr past ↦ inl (parts_of-past p F.copied slot g past)
+          ]
+          | false ↦ inl refl
+        ]
+
+    fits-kept : (slot : ℕ) → fits_at p (frames p F.copied) kept_parts slot ≡ true
+    unfolding fits_at frames
+    fits-kept slot =
+        (λ i. option_map_or
+        (λ t. (p slot).fits (context-alike F.copied (frames p F.copied) (frames-other p is F.copied) i) t
+        (kept_parts slot))
+        (frames p F.copied slot) true)
+        ∙ go (F.copied slot) refl
+      where
+        go : (o : Option (List ℕ)) → F.copied slot ≡ o
+            → option_map_or (λ t. (p slot).fits (context F.copied) t (kept_parts slot))
+            (option_map ((p slot).frame (context F.copied)) o) true ≡ true
+        go None e = refl
+        go (Some t) e =
+            let good = good-font F ok slot t e in
+            (is.law slot).fewer_fit (context F.copied) ((p slot).frame (context F.copied) t)
+            ((p slot).part (context F.copied) t) (kept_parts slot) ((is.law slot).frame_good (context F.copied) t good)
+            ((is.law slot).own_fit (context F.copied) t good) (fewer slot t e)
+
   -- the content of a divided font is divided
   pub IsDivided-content : (F : Font) (A : Wanted) → IsFont F → IsDivided p (content (divided p F) A)
   IsDivided-content F A ok = record {
@@ -151,11 +215,13 @@ module _ (p : Partition) (is : IsPartition p) where
           | true ↦ inr (F.copied, refl, refl)
           | false ↦ inl refl
         ];
+    fit = fits-kept F A ok;
   }
 
-  -- so is the union of divided contents that agree
-  pub IsDivided-both : (K L : Content) → Agree K L → IsDivided p K → IsDivided p L → IsDivided p (both K L)
-  IsDivided-both K L agree k l = record {
+  -- so is the union of divided contents that agree, where its parts have room
+  pub IsDivided-both : (K L : Content) → Agree K L → ((slot : ℕ) → fits_at p K.copied (both K L).parts slot ≡ true)
+      → IsDivided p K → IsDivided p L → IsDivided p (both K L)
+  IsDivided-both K L agree fit k l = record {
     frames = k.frames;
     parts = λ slot g. elim (is_some (K.outline g)) as (λ b. IsPartOf p K.copied slot g
         (cond b (K.parts slot g) (L.parts slot g))) [
@@ -165,16 +231,22 @@ module _ (p : Partition) (is : IsPartition p) where
             | inr x ↦ inr (x.0, x.1 ∙ sym (fun_ext agree.copied), x.2)
           ]
         ];
+    fit = fit;
   }
 
   -- and what accepted files come to
   pub IsDivided-arises : (R : Format) (fonts : List ℕ → Font) → ((X : List ℕ) → R.fault X ≡ None → IsFont (fonts X))
-      → ((X : List ℕ) → R.font X ≡ divided p (fonts X)) → (K : Content) → Arises R K → IsDivided p K
-  IsDivided-arises R fonts ok read K (of_file X A h e) =
+      → ((X : List ℕ) → R.font X ≡ divided p (fonts X)) → R.misfit ≡ misfit_by p → (K : Content) → Arises R K
+      → IsDivided p K
+  IsDivided-arises R fonts ok read told K (of_file X A h e) =
       subst (IsDivided p) (ap (λ (F : Font). content F A) (sym (read X)) ∙ e) (IsDivided-content (fonts X) A (ok X h))
-  IsDivided-arises R fonts ok read K (of_two L M l m agree e) =
-      subst (IsDivided p) e (IsDivided-both L M agree (IsDivided-arises R fonts ok read L l)
-      (IsDivided-arises R fonts ok read M m))
+  IsDivided-arises R fonts ok read told K (of_two L M l m agree fit e) =
+      let first = IsClosed-arises R (λ X h. subst IsFont (sym (read X)) (IsFont-divided (fonts X) (ok X h))) L l in
+      let none : (slot : ℕ) → ALL_SLOTS ≤ slot → L.copied slot ≡ None =
+      λ slot past. first.font.slots slot (or_right _ _ (le-leb ALL_SLOTS slot past)) in
+      subst (IsDivided p) e (IsDivided-both L M agree
+      (misfit-none p (both L M) none (ap (λ (f : Content → Option ℕ). f (both L M)) (sym told) ∙ fit))
+      (IsDivided-arises R fonts ok read told L l) (IsDivided-arises R fonts ok read told M m))
 
   -- what is written of a closed divided content is closed
   pub IsClosed-whole_content : (K : Content) → IsClosedContent K → IsClosedContent (undivided_content p K)

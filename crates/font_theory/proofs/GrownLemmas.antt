@@ -1,17 +1,17 @@
 -- Trees that grow file by file, and the other trees over the same files.
-use Rattle.std.proofs.Common.{◌≡◌, ℕ, zero, suc, ◌<◌, ◌≤◌, inl, inr, List, None, length, refl, sym, ◌∙◌, ap}
+use Rattle.std.proofs.Common.{◌≡◌, ℕ, zero, suc, ◌<◌, ◌≤◌, ◌⊎◌, inl, inr, List, None, length, refl, sym, ◌∙◌, ap}
 use Rattle.std.proofs.Common.{subst, arith}
 use Rattle.std.proofs.Math.Bool.{or_self}
 use Rattle.std.proofs.lemmas.Bool.{cases_eq}
 use Rattle.font_theory.specs.Content.{Wanted, content, either}
 use Rattle.font_theory.specs.Cut.{CanJoin, Format, IsCurrent, IsCut, IsFormat, Writes, cut, joined}
-use Rattle.font_theory.specs.Cut.{content_of_all}
+use Rattle.font_theory.specs.Cut.{content_of_all, misfit_of}
 use Rattle.font_theory.specs.Agreement.{Agree}
 use Rattle.font_theory.specs.Tree.{Differs, IsOver, IsSmall, JoinTree, Takes, Value, cuts, file_at, grown, union_below}
-use Rattle.font_theory.specs.Tree.{union_in}
+use Rattle.font_theory.specs.Tree.{Overflows, union_in}
 use Rattle.font_theory.specs.Tree.JoinTree.{leaf}
 use Rattle.font_theory.proofs.CutLemmas.{CanJoin-cuts, joined-cuts, content_of_all-cut}
-use Rattle.font_theory.proofs.TreeLemmas.{Differs-clash, Value-current, Value-cut, Value-cuts, Value-file, Value-one}
+use Rattle.font_theory.proofs.TreeLemmas.{Stops-clash, Value-current, Value-cut, Value-cuts, Value-file, Value-one}
 use Rattle.font_theory.proofs.TreeLemmas.{Value-same, Value-small}
 
 -- what one joins with itself stays one set
@@ -115,19 +115,19 @@ module _ (R : Format) (law : IsFormat R) (files : List (List ℕ)) where
         subst (Value R (cuts R F t)) (sym (ap R.file w) ∙ ap (λ (x : List ℕ). R.file (content_of_all R x)) (sym e)
         ∙ v.3) q
 
-  -- a difference met while a tree grows is met in each tree over all files
-  pub Differs-grown : ((k : ℕ) → k < length files → IsCut R (file_at files k)) → (k : ℕ) → k < length files
+  -- where a tree that grows meets a difference or a table that has no room, each tree over all files meets one
+  pub Stops-grown : ((k : ℕ) → k < length files → IsCut R (file_at files k)) → (k : ℕ) → k < length files
       → (x : List ℕ) → Value R (grown files k) x → length x ≤ R.limit
-      → ¬ Agree (content_of_all R x) (content_of_all R (file_at files k))
-      → (t : JoinTree (List ℕ)) → IsOver files t → IsSmall R t → Differs R t
-  Differs-grown forms k low x p small apart t over few =
+      → ¬ (Agree (content_of_all R x) (content_of_all R (file_at files k)) × (misfit_of R x (file_at files k) ≡ None))
+      → (t : JoinTree (List ℕ)) → IsOver files t → IsSmall R t → Differs R t ⊎ Overflows R t
+  Stops-grown forms k low x p small apart t over few =
       let some : 0 < length files = omega arith in
       let upto : k ≤ length files = omega arith in
       let to = takes-over t over k some upto in
       let ss = grown-small k x p small in
       let writing = Value-cut R law (grown files k) x ss (λ y h. cut-over t over forms y (to y h)) p in
-      Differs-clash R law (grown files k) t ss few (cut-over t over forms) to x (file_at files k) p (over.each k low)
-      (writing, forms k low, apart)
+      Stops-clash R law (grown files k) t ss few (cut-over t over forms) to x (file_at files k) p (over.each k low)
+      writing (forms k low) apart
 
   -- cuts of one font, in any forms, grow to its cut for all their sets
   module _ (F : List ℕ) (h : R.fault F ≡ None) (A : ℕ → Wanted)

@@ -41,7 +41,7 @@ use Rattle.std.proofs.lemmas.Slice.Eq.{bytes_eq-Decides}
 use Rattle.font_theory.proofs.EntryLemmas.{get_or-laid, length-laid}
 use Rattle.font_theory.proofs.HeldLemmas.{cases_option, parts-none}
 use Rattle.font_theory.proofs.KindLemmas.{DividesAs}
-use Rattle.font_theory.proofs.PartLemmas.{context-alike, frames-other, glyph_count-alike, good-font, map_map}
+use Rattle.font_theory.proofs.PartLemmas.{context-alike, fits-here, frames-other, glyph_count-alike, good-font, map_map}
 use Rattle.font_theory.proofs.PartLemmas.{wholes-other, wholes-undivided}
 use Rattle.font_theory.proofs.PartedLemmas.{gvar_with-again}
 use Rattle.font_theory.proofs.SettingsLemmas.{AreRead-by, IsDivided-by, format_by-is, has_record-padded, means-cut}
@@ -227,7 +227,7 @@ module _ (p : Partition) (is : IsPartition p) (K L : Content) (okK : IsClosedCon
       (λ t. (p slot).whole (context c) t (K.parts slot)) (λ t. (p slot).whole (context c) t (U.parts slot)) (c slot)
       (λ t e. ap (λ (x : List ℕ). (p slot).whole (context c) x (U.parts slot))
       ((is.law slot).frame_is (context c) t (K.parts slot) (good-font (read_back K) okK.font slot t e)
-      ∙ own_frame slot t e)))
+      (fits-here p c K.parts slot t e (divK.fit slot)) ∙ own_frame slot t e)))
 
   pub union-by : IsUnionBy p (undivided_content p K) (undivided_content p L) (undivided_content p U)
   union-by = record { head = refl; map = refl; outline = refl; copied = either_parts }

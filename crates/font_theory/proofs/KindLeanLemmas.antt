@@ -257,7 +257,7 @@ module _ (s : Settings) (is : AreSettings s) (how : DividesAs s) where
       | inr e ↦
           sym (frames-slot p by_metrics S.copied slot e)
           ∙ ap (λ (d : Tables). d slot) (frames-wholes p is.partition (divided p F) okD K.parts
-          ∙ frames-frames p is.partition F ok)
+          (IsDivided-content p is.partition F A ok).fit ∙ frames-frames p is.partition F ok)
           ∙ frames-slot p by_metrics F.copied slot e
     ]
 

@@ -22,7 +22,7 @@ use Rattle.font_theory.specs.Kinds.{has_record, tables_by, there_by, variable_se
 use Rattle.font_theory.specs.Kinds.{format_of, spelled_by, divides_tables, partition_of}
 use Rattle.font_theory.specs.Kinds.Reading.{absent, as_it_is, unvarying}
 use Rattle.font_theory.specs.Parted.{metrics, nameless, variations}
-use Rattle.font_theory.specs.Parting.{divided, parts_of, undivided, undivided_content}
+use Rattle.font_theory.specs.Parting.{AlwaysFits, divided, parts_of, undivided, undivided_content}
 use Rattle.font_theory.specs.declared.Profile.TheVariants.{First}
 use Rattle.font_theory.specs.declared.kinds.Kind.{Kind}
 use Rattle.font_theory.specs.declared.kinds.Kind.TheVariants.{Full, Layout, Lean, Variable}
@@ -31,6 +31,8 @@ use Rattle.font_theory.proofs.FontLemmas.{never-made}
 use Rattle.font_theory.proofs.LinkLemmas.{is_bad_variations_in-none, layout-made, may-layout}
 use Rattle.font_theory.proofs.LinkLemmas.{never-layout}
 use Rattle.font_theory.proofs.PartLemmas.{by_slot, frames-undivided, parts_of-undivided, wholes-undivided}
+use Rattle.font_theory.proofs.DividedLemmas.{misfit-always}
+use Rattle.font_theory.proofs.PartedLemmas.{AlwaysFits-metrics, AlwaysFits-undivided, AlwaysFits-variations}
 use Rattle.font_theory.proofs.PartedLemmas.{IsPartition-metrics, IsPartition-undivided, IsPartition-variations}
 use Rattle.font_theory.proofs.PartedLemmas.{other-metrics}
 use Rattle.font_theory.proofs.SettingsLemmas.{IsKind-by, read-cut, means-cut, tables_by-below}
@@ -197,6 +199,7 @@ full-is = λ i. record {
   font = λ X. plain_font-full X i;
   file = λ K. file-undivided current_writing K i;
   old = λ K. file-undivided (writing_of First) K i;
+  misfit = λ K. misfit-always all_undivided AlwaysFits-undivided K i;
   limit = MAX_FILE;
 }
 
@@ -270,6 +273,18 @@ divided-kind Full some slot other = cc
 divided-kind Lean some slot other = refl
 divided-kind Layout some slot other = refl
 divided-kind Variable some slot other = let f = ne_eqb slot GVAR other in rw f refl
+
+-- parts have room in each table of each kind
+pub AlwaysFits-kind : (kind : Kind) → AlwaysFits (partition_of kind)
+unfolding full_settings lean_settings layout_settings variable_settings
+AlwaysFits-kind Full = AlwaysFits-undivided
+AlwaysFits-kind Lean = AlwaysFits-metrics
+AlwaysFits-kind Layout = AlwaysFits-metrics
+AlwaysFits-kind Variable = AlwaysFits-variations
+
+pub misfit-kind : (kind : Kind) (K : Content) → (format_of kind).misfit K ≡ None
+unfolding format_by
+misfit-kind kind K = misfit-always (partition_of kind) (AlwaysFits-kind kind) K
 
 pub kind_is : (kind : Kind) → IsKind (format_of kind) (fault_of kind) (font_as kind) (spelled_by kind)
 kind_is kind = IsKind-by (settings kind) (settings-are kind)

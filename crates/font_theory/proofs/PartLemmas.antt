@@ -15,7 +15,7 @@ use Rattle.font_theory.specs.Bytes.{cut_head}
 use Rattle.font_theory.specs.Content.{Font, IsFont, Wanted, glyph_count, is_bad_variations_in, is_kept}
 use Rattle.font_theory.specs.Content.{is_never_copied, metric_count, table_in_slot}
 use Rattle.font_theory.specs.Parting.{IsPartition, Parting, Partition, Tables, context, frames, is_bad_at, may_divide}
-use Rattle.font_theory.specs.Parting.{parts_of, undivided, wholes}
+use Rattle.font_theory.specs.Parting.{fits_at, parts_of, undivided, wholes}
 use Rattle.font_theory.proofs.ContentLemmas.{nothing_either}
 use Rattle.font_theory.proofs.WantedLemmas.{is_root-same}
 
@@ -188,6 +188,13 @@ module _ (p : Partition) (c : Tables) (slot : ℕ) (e : p slot ≡ undivided) wh
       go None = refl
       go (Some t) = refl
 
+-- where parts have room in a table that is there, they have room in its table
+pub fits-here : (p : Partition) (c : Tables) (parts : ℕ → ℕ → List ℕ) (slot : ℕ) (t : List ℕ) → c slot ≡ Some t
+    → fits_at p c parts slot ≡ true → (p slot).fits (context c) t (parts slot) ≡ true
+unfolding fits_at
+fits-here p c parts slot t e fit =
+    sym (ap (λ o. option_map_or (λ x. (p slot).fits (context c) x (parts slot)) o true) e) ∙ fit
+
 module _ (p : Partition) (is : IsPartition p) where
   pub frames-other : (c : Tables) → AreAlike c (frames p c)
   frames-other c slot f = frames-undivided p c slot (is.others slot f)
@@ -204,14 +211,15 @@ module _ (p : Partition) (is : IsPartition p) where
       (λ t e. (is.law slot).frame_again (context c) t (good-font F ok slot t e)))
 
   pub frames-wholes : (F : Font) → IsFont F → (parts : ℕ → ℕ → List ℕ)
-      → frames p (wholes p F.copied parts) ≡ frames p F.copied
+      → ((slot : ℕ) → fits_at p F.copied parts slot ≡ true) → frames p (wholes p F.copied parts) ≡ frames p F.copied
   unfolding frames wholes
-  frames-wholes F ok parts = fun_ext (λ slot. let c = F.copied in
+  frames-wholes F ok parts fit = fun_ext (λ slot. let c = F.copied in
       (λ i. option_map ((p slot).frame (context-alike c (wholes p c parts) (wholes-other c parts) i))
       (wholes p c parts slot))
       ∙ map_map ((p slot).frame (context c)) (λ t. (p slot).whole (context c) t (parts slot))
       ((p slot).frame (context c)) (c slot)
-      (λ t e. (is.law slot).frame_is (context c) t (parts slot) (good-font F ok slot t e)))
+      (λ t e. (is.law slot).frame_is (context c) t (parts slot) (good-font F ok slot t e)
+      (fits-here p c parts slot t e (fit slot))))
 
 -- the parts of a table that is there, of one that is not, and past the last glyph
 pub parts_of-at : (p : Partition) (c : Tables) (slot g : ℕ) (t : List ℕ) → g < glyph_count c → c slot ≡ Some t

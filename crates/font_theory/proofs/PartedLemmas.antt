@@ -1,5 +1,6 @@
 -- The tables that are divided are divided as is asked.
-use Rattle.std.proofs.Common.{◌≡◌, ℕ, ◌+◌, ◌-◌, ◌*◌, ◌<◌, ◌≤◌, Bool, false, cond, nat_eq, nat_lt, ◌||◌, ◌⊎◌, inl, inr}
+use Rattle.std.proofs.Common.{◌≡◌, ℕ, ◌+◌, ◌-◌, ◌*◌, ◌<◌, ◌≤◌, Bool, true, false, cond, nat_eq, nat_lt, ◌||◌, ◌⊎◌}
+use Rattle.std.proofs.Common.{inl, inr}
 use Rattle.std.proofs.Common.{List, [], ◌++◌, length, get_or, replicate, take, drop, refl, sym, ◌∙◌, ap, subst}
 use Rattle.std.proofs.Common.{arith, Option}
 use Rattle.std.specs.Str.{bytes_eq}
@@ -17,7 +18,8 @@ use Rattle.font_theory.specs.Content.{glyph_count, table_in_slot}
 use Rattle.font_theory.specs.Kinds.{all_undivided, by_metrics, by_variations}
 use Rattle.font_theory.specs.Parted.{bare, entry_at, gvar_with, laid, metric_bytes, metrics, nameless}
 use Rattle.font_theory.specs.Parted.{pairs_of, thin_post, variations}
-use Rattle.font_theory.specs.Parting.{IsParting, IsPartition, Tables, is_bad_at, may_divide, undivided}
+use Rattle.font_theory.specs.Parting.{AlwaysFits, IsParting, IsPartition, Parting, Tables, is_bad_at, may_divide}
+use Rattle.font_theory.specs.Parting.{undivided}
 use Rattle.font_theory.proofs.EntryLemmas.{AreThere, entry_size-four, four, four-same, four-zero, get_or-four}
 use Rattle.font_theory.proofs.EntryLemmas.{laid-laid}
 use Rattle.font_theory.proofs.EntryLemmas.{length-laid, metric_bytes-is, metric_bytes-laid}
@@ -30,8 +32,10 @@ IsParting-undivided bad = record {
   frame_good = λ c t h. h;
   whole_good = λ c frame parts h. h;
   frame_again = λ c t h. refl;
-  frame_is = λ c frame parts h. refl;
-  part_is = λ c frame parts g h low part. elim part [ inl e ↦ sym e | inr w ↦ w.2 ];
+  own_fit = λ c t h. refl;
+  fewer_fit = λ c frame parts fewer h fit few. refl;
+  frame_is = λ c frame parts h fit. refl;
+  part_is = λ c frame parts g h fit low part. elim part [ inl e ↦ sym e | inr w ↦ w.2 ];
 }
 
 -- `post` without names has none to lose
@@ -69,8 +73,10 @@ IsParting-nameless = record {
   frame_good = λ c t h. refl;
   whole_good = λ c frame parts h. refl;
   frame_again = λ c t h. thin_post-thin_post t;
-  frame_is = λ c frame parts h. refl;
-  part_is = λ c frame parts g h low part. elim part [ inl e ↦ sym e | inr w ↦ w.2 ];
+  own_fit = λ c t h. refl;
+  fewer_fit = λ c frame parts fewer h fit few. refl;
+  frame_is = λ c frame parts h fit. refl;
+  part_is = λ c frame parts g h fit low part. elim part [ inl e ↦ sym e | inr w ↦ w.2 ];
 }
 
 -- how many pairs there are depends on the length of the table, and they and the bearings after them stand in it
@@ -171,8 +177,10 @@ module _ (bad : Tables → List ℕ → Bool) (alike : (c : Tables) (t u : List 
     frame_good = λ c t h. alike c _ t (length-laid (λ _. []) (pairs_of c header t) (glyph_count c) t) ∙ h;
     whole_good = λ c f parts h. alike c _ f (length-laid parts (pairs_of c header f) (glyph_count c) f) ∙ h;
     frame_again = λ c t h. laid_again header c t (λ _. []) (λ _. []);
-    frame_is = λ c f parts h. laid_again header c f (λ _. []) parts;
-    part_is = λ c f parts g h low part. part-laid c f parts g low part;
+    own_fit = λ c t h. refl;
+    fewer_fit = λ c f parts fewer h fit few. refl;
+    frame_is = λ c f parts h fit. laid_again header c f (λ _. []) parts;
+    part_is = λ c f parts g h fit low part. part-laid c f parts g low part;
   }
 
 -- a `gvar` that is made of a `gvar` that is made of another one is made of that one
@@ -189,12 +197,34 @@ IsParting-variations = record {
   frame_good = λ c t h. parts_accepted t (c FVAR) (glyph_count c) (λ _. []) h;
   whole_good = λ c f parts h. parts_accepted f (c FVAR) (glyph_count c) parts h;
   frame_again = λ c t h. gvar_with-again (λ _. []) (λ _. []) (glyph_count c) t (c FVAR) h;
-  frame_is = λ c f parts h. gvar_with-again (λ _. []) parts (glyph_count c) f (c FVAR) h;
-  part_is = λ c f parts g h low part.
+  own_fit = λ c t h. refl;
+  fewer_fit = λ c f parts fewer h fit few. refl;
+  frame_is = λ c f parts h fit. gvar_with-again (λ _. []) parts (glyph_count c) f (c FVAR) h;
+  part_is = λ c f parts g h fit low part.
       (made_read (front_of f) (shared_tuples_of f) parts (glyph_count c) (parts_fit f (c FVAR) (glyph_count c)
       h)).data_is
       g low;
 }
+
+-- parts have room in each of these tables
+fits-metrics : (header : ℕ) (c : Tables) (f : List ℕ) (parts : ℕ → List ℕ) → (metrics header).fits c f parts ≡ true
+unfolding metrics
+fits-metrics header c f parts = refl
+
+fits-nameless : (c : Tables) (f : List ℕ) (parts : ℕ → List ℕ) → nameless.fits c f parts ≡ true
+unfolding nameless
+fits-nameless c f parts = refl
+
+fits-variations : (c : Tables) (f : List ℕ) (parts : ℕ → List ℕ) → variations.fits c f parts ≡ true
+unfolding variations
+fits-variations c f parts = refl
+
+fits-undivided : (c : Tables) (f : List ℕ) (parts : ℕ → List ℕ) → undivided.fits c f parts ≡ true
+unfolding undivided
+fits-undivided c f parts = refl
+
+pub AlwaysFits-undivided : AlwaysFits all_undivided
+AlwaysFits-undivided slot = fits-undivided
 
 -- by slots
 pub IsPartition-undivided : IsPartition all_undivided
@@ -219,6 +249,21 @@ IsPartition-metrics = record {
       (λ e. no_slot (sym e)) (λ e. no_slot (sym e)) (λ e. no_slot (sym e))
       (λ slot d a b c _. other-metrics slot a b c);
 }
+
+pub AlwaysFits-metrics : AlwaysFits by_metrics
+AlwaysFits-metrics = by_slot
+    (λ slot. (c : Tables) (f : List ℕ) (parts : ℕ → List ℕ) → (by_metrics slot).fits c f parts ≡ true)
+    fits-undivided (fits-metrics HHEA) fits-nameless (fits-metrics VHEA)
+    (λ slot d a b c t f parts. ap (λ (D : Parting). D.fits t f parts) (other-metrics slot a b c)
+    ∙ fits-undivided t f parts)
+
+pub AlwaysFits-variations : AlwaysFits by_variations
+AlwaysFits-variations = by_slot
+    (λ slot. (c : Tables) (f : List ℕ) (parts : ℕ → List ℕ) → (by_variations slot).fits c f parts ≡ true)
+    fits-variations (fits-metrics HHEA) fits-nameless (fits-metrics VHEA)
+    (λ slot d a b c t f parts.
+    let e : by_variations slot ≡ undivided = rw d (other-metrics slot a b c) in
+    ap (λ (D : Parting). D.fits t f parts) e ∙ fits-undivided t f parts)
 
 pub IsPartition-variations : IsPartition by_variations
 IsPartition-variations = record {

@@ -35,8 +35,8 @@ use Rattle.font_theory.proofs.PaddingLemmas.{length-padded-is}
 use Rattle.font_theory.proofs.AcceptedLemmas.{font_fault-file, none_outside, none_twice}
 use Rattle.font_theory.proofs.ArisesLemmas.{IsClosed-arises}
 use Rattle.font_theory.proofs.CmapLemmas.{IsWriting-writing_of}
-use Rattle.font_theory.proofs.DividedLemmas.{IsClosed-whole_content, IsDivided, IsDivided-arises}
-use Rattle.font_theory.proofs.DividedLemmas.{IsFont-divided, divided-whole, parts-whole}
+use Rattle.font_theory.proofs.DividedLemmas.{IsClosed-whole_content, IsDivided, IsDivided-arises, IsDivided-content}
+use Rattle.font_theory.proofs.DividedLemmas.{IsFont-divided, divided-whole, none-misfit, parts-whole}
 use Rattle.font_theory.proofs.FontLemmas.{size-accepted}
 use Rattle.font_theory.proofs.LinkLemmas.{fixed-map}
 use Rattle.font_theory.proofs.MeaningLemmas.{copied_of-file, font_with-file, outline_again}
@@ -252,13 +252,13 @@ module _ (s : Settings) (is : AreSettings s) where
   -- what accepted files come to
   pub IsDivided-by : (K : Content) → Arises (format_by s) K → IsDivided p K
   unfolding format_by
-  IsDivided-by = IsDivided-arises p is.partition (format_by s) (font_by s) fonts (λ X. refl)
+  IsDivided-by = IsDivided-arises p is.partition (format_by s) (font_by s) fonts (λ X. refl) refl
 
   pub AreRead-by : (K : Content) → Arises (format_by s) K → AreRead K.copied
   unfolding format_by
   AreRead-by K (of_file X A h e) = subst (λ (C : Content). AreRead C.copied) e
       (AreRead-frames (tables_by s X) (AreRead-tables X))
-  AreRead-by K (of_two L M l m agree e) = subst (λ (C : Content). AreRead C.copied) e (AreRead-by L l)
+  AreRead-by K (of_two L M l m agree fit e) = subst (λ (C : Content). AreRead C.copied) e (AreRead-by L l)
 
   pub IsClosed-by : (K : Content) → Arises (format_by s) K → IsClosedContent (undivided_content p K)
   IsClosed-by K arises =
@@ -269,7 +269,7 @@ module _ (s : Settings) (is : AreSettings s) where
   unfolding format_by
   marked-by K (of_file X A h e) g =
       subst (λ (C : Content). C.there g ≡ marked s C g) e (marked-content s is (font_by s X) A refl g)
-  marked-by K (of_two L M l m agree e) g =
+  marked-by K (of_two L M l m agree fit e) g =
       subst (λ (C : Content). C.there g ≡ marked s C g) e
       (marked-both s L M agree g (marked-by L l g) (marked-by M m g))
 
@@ -312,6 +312,8 @@ module _ (s : Settings) (is : AreSettings s) where
     is_font = divided-fonts;
     accepted_size = λ X h. size-accepted X (font_fault-by X h);
     refused_size = size-by;
+    own_fit = λ X A h. none-misfit p (content (divided p (font_by s X)) A)
+        (IsDivided-content p is.partition (font_by s X) A (IsFont-by X h)).fit;
     reads_back = λ K X arises w small.
         let read = reads-by K X arises w small in (
           read.0,

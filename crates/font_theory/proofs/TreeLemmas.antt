@@ -1,17 +1,20 @@
 -- Trees of joins, and what they come to.
-use Rattle.std.proofs.Common.{◌≡◌, ℕ, ◌≤◌, Bool, true, false, ◌⊎◌, inl, inr, ◌||◌, List, length, None, refl, sym, ◌∙◌}
+use Rattle.std.proofs.Common.{◌≡◌, ℕ, ◌≤◌, Bool, true, false, ◌⊎◌, inl, inr, ◌||◌, List, length, None, Some, refl, sym}
+use Rattle.std.proofs.Common.{◌∙◌}
 use Rattle.std.proofs.Common.{ap}
 use Rattle.std.proofs.Common.{subst}
 use Rattle.std.proofs.lemmas.Bool.{or_cases, or_left, or_right}
-use Rattle.font_theory.specs.Cut.{Format, IsCurrent, IsCut, IsFormat, Under, cut, joined, content_of_all}
-use Rattle.font_theory.specs.Agreement.{Agree}
-use Rattle.font_theory.specs.Content.{Wanted, either}
-use Rattle.font_theory.specs.Tree.{Clash, Differs, IsSmall, JoinTree, Takes, Value, cuts, union_in}
+use Rattle.font_theory.specs.Cut.{Format, IsCurrent, IsCut, IsFormat, Under, cut, joined, content_of_all, misfit_of}
+use Rattle.font_theory.specs.Agreement.{Agree, both}
+use Rattle.font_theory.specs.Content.{Content, Wanted, either}
+use Rattle.font_theory.specs.Tree.{Differs, IsSmall, JoinTree, Overflows, Takes, Value, cuts, union_in}
 use Rattle.font_theory.specs.Tree.JoinTree.{leaf, node}
 use Rattle.font_theory.proofs.CutLemmas.{Agree-under, CanJoin-cuts, CanJoin-under, IsClosed-whole, IsCurrent-joined}
 use Rattle.font_theory.proofs.CutLemmas.{IsCut-joined, Under-joined_left, Under-joined_right, Under-least, Under-self}
 use Rattle.font_theory.proofs.CutLemmas.{Under-through, joined-cuts, content_of_all-joined, content_of_all-mutual}
+use Rattle.font_theory.proofs.CutLemmas.{misfit-under}
 use Rattle.font_theory.proofs.DifferenceLemmas.{Agree-decided}
+use Rattle.font_theory.proofs.HeldLemmas.{cases_option}
 
 module _ (R : Format) (law : IsFormat R) where
   pub Value-one : (t : JoinTree (List ℕ)) (v w : List ℕ) → Value R t v → Value R t w → v ≡ w
@@ -117,49 +120,73 @@ module _ (R : Format) (law : IsFormat R) where
       ⊎ (¬ Agree (content_of_all R x) (content_of_all R y))
   decide x y cx cy = Agree-decided _ _ (IsClosed-whole R law x cx.accepted) (IsClosed-whole R law y cy.accepted)
 
-  -- a tree that meets no size has a value or meets a difference
-  pub Value-or_differs : (t : JoinTree (List ℕ)) → IsSmall R t → ((x : List ℕ) → Takes t x → IsCut R x)
-      → ((v : List ℕ) × Value R t v) ⊎ Differs R t
-  Value-or_differs (leaf x) small each = inl (x, refl)
-  Value-or_differs (node s t) small each =
-      elim (Value-or_differs s small.0 (λ x h. each x (inl h))) [
-        | inr d ↦ inr (inl d)
-        | inl p ↦ elim (Value-or_differs t small.1 (λ x h. each x (inr h))) [
-          | inr d ↦ inr (inr (inl d))
+  -- where a part of a tree stops, the tree does
+  first_stops : (s t : JoinTree (List ℕ)) → Differs R s ⊎ Overflows R s → Differs R (node s t) ⊎ Overflows R (node s t)
+  first_stops s t (inl d) = inl (inl d)
+  first_stops s t (inr d) = inr (inl d)
+
+  second_stops : (s t : JoinTree (List ℕ)) → Differs R t ⊎ Overflows R t → Differs R (node s t) ⊎ Overflows R (node s t)
+  second_stops s t (inl d) = inl (inr (inl d))
+  second_stops s t (inr d) = inr (inr (inl d))
+
+  misfit_some : (x y : List ℕ) (slot : ℕ) → misfit_of R x y ≡ Some slot → misfit_of R x y ≡ None → ⊥
+  misfit_some x y slot h e = let n : None ≡ Some slot = sym e ∙ h in cc
+
+  -- a tree that meets no size has a value, or it meets a difference or a table that has no room
+  pub Value-or_stops : (t : JoinTree (List ℕ)) → IsSmall R t → ((x : List ℕ) → Takes t x → IsCut R x)
+      → ((v : List ℕ) × Value R t v) ⊎ (Differs R t ⊎ Overflows R t)
+  Value-or_stops (leaf x) small each = inl (x, refl)
+  Value-or_stops (node s t) small each =
+      elim (Value-or_stops s small.0 (λ x h. each x (inl h))) [
+        | inr d ↦ inr (first_stops s t d)
+        | inl p ↦ elim (Value-or_stops t small.1 (λ x h. each x (inr h))) [
+          | inr d ↦ inr (second_stops s t d)
           | inl q ↦
               let cp = Value-cut s p.0 small.0 (λ x h. each x (inl h)) p.1 in
               let cq = Value-cut t q.0 small.1 (λ x h. each x (inr h)) q.1 in
               elim (decide p.0 q.0 cp cq) [
-                | inl a ↦ inl (
-                  joined R p.0 q.0,
-                  (
-                    p.0,
-                    q.0,
-                    p.1,
-                    q.1,
-                    record { first = cp; second = cq; agree = a },
-                    refl,
-                  ),
-                )
-                | inr n ↦ inr (inr (inr (p.0, q.0, p.1, q.1, (cp, cq, n))))
+                | inl a ↦ elim (cases_option (misfit_of R p.0 q.0)) [
+                  | inl fit ↦ inl (
+                    joined R p.0 q.0,
+                    (
+                      p.0,
+                      q.0,
+                      p.1,
+                      q.1,
+                      record { first = cp; second = cq; agree = a; fit = fit },
+                      refl,
+                    ),
+                  )
+                  | inr w ↦ inr (inr (inr (inr (p.0, q.0, p.1, q.1, (cp, cq, a, misfit_some p.0 q.0 w.0 w.1)))))
+                ]
+                | inr n ↦ inr (inl (inr (inr (p.0, q.0, p.1, q.1, (cp, cq, n)))))
               ]
         ]
       ]
 
-  -- where the value of one tree clashes with a file, each tree over at least these files that meets no size
-  -- meets a difference
-  pub Differs-clash : (s t : JoinTree (List ℕ)) → IsSmall R s → IsSmall R t → ((x : List ℕ) → Takes t x → IsCut R x)
+  -- no tree meets a table that has no room, where each has
+  pub Overflows-none : ((K : Content) → R.misfit K ≡ None) → (t : JoinTree (List ℕ)) → ¬ Overflows R t
+  Overflows-none all (leaf x) d = d
+  Overflows-none all (node s t) (inl d) = Overflows-none all s d
+  Overflows-none all (node s t) (inr (inl d)) = Overflows-none all t d
+  Overflows-none all (node s t) (inr (inr d)) = d.4.3 (all (both (content_of_all R d.0) (content_of_all R d.1)))
+
+  -- where the value of one tree and a file cannot be joined, each tree over at least these files that meets no size
+  -- meets a difference or a table that has no room
+  pub Stops-clash : (s t : JoinTree (List ℕ)) → IsSmall R s → IsSmall R t → ((x : List ℕ) → Takes t x → IsCut R x)
       → ((x : List ℕ) → Takes s x → Takes t x)
-      → (x y : List ℕ) → Value R s x → Takes t y → Clash R x y → Differs R t
-  Differs-clash s t ss small each to x y p h clash =
-      elim (Value-or_differs t small each) [
+      → (x y : List ℕ) → Value R s x → Takes t y → IsCut R x → IsCut R y
+      → ¬ (Agree (content_of_all R x) (content_of_all R y) × (misfit_of R x y ≡ None)) → Differs R t ⊎ Overflows R t
+  Stops-clash s t ss small each to x y p h cx cy apart =
+      elim (Value-or_stops t small each) [
         | inr d ↦ d
         | inl q ↦
             let up = Value-above t q.0 small each q.1 in
             let ux = Value-least s x q.0 ss (λ z k. up z (to z k)) p in
             let uy = up y h in
-            absurd (clash.2 (Agree-under R law x y q.0 ux uy (law.accepted_size x clash.0.accepted)
-            (law.accepted_size y clash.1.accepted)))
+            let sx = law.accepted_size x cx.accepted in
+            let sy = law.accepted_size y cy.accepted in
+            absurd (apart (Agree-under R law x y q.0 ux uy sx sy, misfit-under R law x y q.0 ux uy sx sy))
       ]
 
 -- the union of a tree has what some set in it has, seen through any test that sees both in a union

@@ -19,6 +19,7 @@ pub record Format : Type 0 where
   pub font : List ℕ → Font  -- what an accepted file means
   pub file : Content → List ℕ  -- what is written
   pub old : Content → List ℕ  -- what was written before, and is still read as a cut
+  pub misfit : Content → Option ℕ  -- the slot of a table that has no room for its parts; None: all have
   pub limit : ℕ  -- the most bytes of a file
 
 -- X is a file of K
@@ -29,7 +30,8 @@ Writes R K X = (R.file K ≡ X) ⊎ (R.old K ≡ X)
 pub data Arises (R : Format) : Content → Type 0 where
   of_file : {K : Content} (X : List ℕ) (wanted : Wanted) → R.fault X ≡ None →
       content (R.font X) wanted ≡ K → Arises R K
-  of_two : {K : Content} (L M : Content) → Arises R L → Arises R M → Agree L M → both L M ≡ K → Arises R K
+  of_two : {K : Content} (L M : Content) → Arises R L → Arises R M → Agree L M → R.misfit (both L M) ≡ None →
+      both L M ≡ K → Arises R K
 
 -- what binds a reader and a writer
 pub record IsFormat (R : Format) : Type 0 where
@@ -38,6 +40,7 @@ pub record IsFormat (R : Format) : Type 0 where
   pub refused_size :
       (X : List ℕ) (error : FontError) → R.fault X ≡ Some error → error ≢ Directory FileTooLarge →
       length X ≤ R.limit
+  pub own_fit : (X : List ℕ) (W : Wanted) → R.fault X ≡ None → R.misfit (content (R.font X) W) ≡ None
   pub reads_back :
       (K : Content) (X : List ℕ) → Arises R K → Writes R K X → length X ≤ R.limit →
       (R.fault X ≡ None) × (R.font X ≡ read_back K)
@@ -45,10 +48,6 @@ pub record IsFormat (R : Format) : Type 0 where
 -- the cut of a file for what is wanted
 abbrev pub cut : Format → List ℕ → Wanted → List ℕ
 cut R F wanted = R.file (content (R.font F) wanted)
-
--- the same as it was written before
-abbrev pub old_cut : Format → List ℕ → Wanted → List ℕ
-old_cut R F wanted = R.old (content (R.font F) wanted)
 
 -- the content of a file for all codes and all glyphs
 abbrev pub content_of_all : Format → List ℕ → Content
@@ -102,16 +101,21 @@ pub record Under (R : Format) (X Z : List ℕ) : Type 0 where
 abbrev pub joined : Format → List ℕ → List ℕ → List ℕ
 joined R X Y = R.file (both (content_of_all R X) (content_of_all R Y))
 
+-- the slot of a table that has no room for the parts of two files
+abbrev pub misfit_of : Format → List ℕ → List ℕ → Option ℕ
+misfit_of R X Y = R.misfit (both (content_of_all R X) (content_of_all R Y))
+
 -- what two files need to be joined
 pub record CanJoin (R : Format) (X Y : List ℕ) : Type 0 where
   pub first : IsCut R X
   pub second : IsCut R Y
   pub agree : Agree (content_of_all R X) (content_of_all R Y)
+  pub fit : misfit_of R X Y ≡ None
 
 -- the reader of this program, a form that is written, and one that is read as a cut too
 abbrev pub format_with : Writing → Writing → Format
-format_with writing old =
-    record { fault = font_fault; font = font_of; file = file writing; old = file old; limit = MAX_FILE }
+format_with new old =
+    record { fault = font_fault; font = font_of; file = file new; old = file old; misfit = λ _. None; limit = MAX_FILE }
 
 -- the reader and the writer of this program, which reads cuts of the first profile too
 unfoldable pub our_format : Format

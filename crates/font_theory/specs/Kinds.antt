@@ -25,7 +25,7 @@ use Rattle.font_theory.specs.File.{current_profile, current_writing, file, writi
 use Rattle.font_theory.specs.Links.{fixed}
 use Rattle.font_theory.specs.Parted.{either_bytes, gvar_with, metrics, nameless, variation_data, variations}
 use Rattle.font_theory.specs.Parting.{Partition, Tables, context, divided, frames, parts_of, undivided}
-use Rattle.font_theory.specs.Parting.{IsPartition, undivided_content}
+use Rattle.font_theory.specs.Parting.{IsPartition, misfit_by, undivided_content}
 use Rattle.font_theory.specs.declared.Profile.{Profile}
 use Rattle.font_theory.specs.declared.Profile.TheVariants.{First}
 use Rattle.font_theory.specs.declared.kinds.Kind.{Kind}
@@ -95,6 +95,7 @@ format_by s = record {
   font = λ X. divided s.partition (font_by s X);
   file = λ K. file current_writing (undivided_content s.partition K);
   old = λ K. file (writing_of s.old) (undivided_content s.partition K);
+  misfit = misfit_by s.partition;
   limit = MAX_FILE;
 }
 

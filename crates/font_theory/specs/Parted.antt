@@ -1,6 +1,6 @@
 -- The tables that are divided (OpenType 1.9, hmtx; vmtx; post; gvar).
 use Rattle.std.specs.Prelude.{ℕ, ◌+◌, ◌-◌, ◌*◌, ◌/◌, ◌%◌, bit_or, nat_eq, nat_le, nat_lt, not, Bool, ◌&&◌, ◌||◌}
-use Rattle.std.specs.Prelude.{List, [], ◌++◌, drop, length, map, replicate, slice_index, take, if◌then◌else◌}
+use Rattle.std.specs.Prelude.{true, List, [], ◌++◌, drop, length, map, replicate, slice_index, take, if◌then◌else◌}
 use Rattle.std.specs.List.{range_with_len}
 use Rattle.std.specs.Str.{bytes_eq}
 use Rattle.sfnt_bytes.specs.declared.tag.TheConstants.{GVAR, HHEA, HMTX, VHEA, VMTX}
@@ -70,6 +70,7 @@ metrics header = record {
   frame = λ c t. laid (λ _. []) (pairs_of c header t) (glyph_count c) t;
   part = λ c t g. bare (metric_bytes (pairs_of c header t) t g);
   whole = λ c t parts. laid parts (pairs_of c header t) (glyph_count c) t;
+  fits = λ _ _ _. true;
 }
 
 -- `post` in version 3.0, which has no names (OpenType 1.9, post, Version 3.0); one too short for its fields
@@ -79,7 +80,7 @@ thin_post b = if nat_lt (length b) 32 then b else bytes32 0x00030000 ++ take 28 
 
 -- `post` without the names of all glyphs
 unfoldable pub nameless : Parting
-nameless = record { frame = λ _ t. thin_post t; part = λ _ _ _. []; whole = λ _ frame _. frame }
+nameless = record { frame = λ _ t. thin_post t; part = λ _ _ _. []; whole = λ _ frame _. frame; fits = λ _ _ _. true }
 
 -- a `gvar` made anew, with these data for n glyphs
 abbrev pub gvar_with : (ℕ → List ℕ) → ℕ → List ℕ → List ℕ
@@ -91,6 +92,7 @@ variations = record {
   frame = λ c t. gvar_with (λ _. []) (glyph_count c) t;
   part = λ _ t g. data_of t g;
   whole = λ c t parts. gvar_with parts (glyph_count c) t;
+  fits = λ _ _ _. true;
 }
 
 -- the number of pairs in a table of metrics, by slots

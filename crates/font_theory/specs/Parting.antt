@@ -1,12 +1,13 @@
 -- Divided tables, this project's own: a table consists of a frame, which is of no single glyph, and of a part of each
 -- glyph. What is of no glyph is a table whose frame is the table itself.
-use Rattle.std.specs.Prelude.{◌≡◌, ℕ, ◌<◌, nat_eq, nat_lt, Bool, false, ◌||◌, ◌⊎◌, List, [], if◌then◌else◌, Option}
-use Rattle.std.specs.Prelude.{None}
+use Rattle.std.specs.Prelude.{◌≡◌, ℕ, ◌<◌, nat_eq, nat_lt, not, Bool, true, false, ◌||◌, ◌⊎◌, List, []}
+use Rattle.std.specs.Prelude.{if◌then◌else◌, Option, None}
 use Rattle.std.specs.Option.{option_map, option_map_or}
 use Rattle.sfnt_bytes.specs.declared.tag.TheConstants.{FVAR, GVAR, HMTX, POST, VMTX}
 use Rattle.font_tables.specs.Refusals.{is_bad_hmtx}
 use Rattle.font_variations.specs.Gvar.{is_bad_variations}
 use Rattle.font_theory.specs.Content.{Content, Font, glyph_count, metric_count}
+use Rattle.font_theory.specs.Difference.{first_slot}
 
 -- tables by slot
 abbrev pub Tables : Type 0
@@ -17,10 +18,11 @@ pub record Parting : Type 0 where
   pub frame : Tables → List ℕ → List ℕ  -- the table without what is of single glyphs
   pub part : Tables → List ℕ → ℕ → List ℕ  -- what is of a glyph alone; []: nothing
   pub whole : Tables → List ℕ → (ℕ → List ℕ) → List ℕ  -- the table of a frame and of the parts of glyphs
+  pub fits : Tables → List ℕ → (ℕ → List ℕ) → Bool  -- whether there is such a table: the parts have room in one
 
 -- a table of which nothing is of a single glyph
 unfoldable pub undivided : Parting
-undivided = record { frame = λ _ t. t; part = λ _ _ _. []; whole = λ _ frame _. frame }
+undivided = record { frame = λ _ t. t; part = λ _ _ _. []; whole = λ _ frame _. frame; fits = λ _ _ _. true }
 
 -- bytes are the part of a glyph of some table with this frame, or there are none
 abbrev pub IsPart : Parting → Tables → List ℕ → ℕ → List ℕ → Type 0
@@ -34,12 +36,16 @@ pub record IsParting (bad : Tables → List ℕ → Bool) (D : Parting) : Type 0
       bad c (D.whole c frame parts) ≡ false
   pub frame_again :
       (c : Tables) (t : List ℕ) → bad c t ≡ false → D.frame c (D.frame c t) ≡ D.frame c t
+  pub own_fit : (c : Tables) (t : List ℕ) → bad c t ≡ false → D.fits c (D.frame c t) (D.part c t) ≡ true
+  pub fewer_fit :
+      (c : Tables) (frame : List ℕ) (parts fewer : ℕ → List ℕ) → bad c frame ≡ false → D.fits c frame parts ≡ true →
+      ((g : ℕ) → (fewer g ≡ []) ⊎ (fewer g ≡ parts g)) → D.fits c frame fewer ≡ true
   pub frame_is :
-      (c : Tables) (frame : List ℕ) (parts : ℕ → List ℕ) → bad c frame ≡ false →
+      (c : Tables) (frame : List ℕ) (parts : ℕ → List ℕ) → bad c frame ≡ false → D.fits c frame parts ≡ true →
       D.frame c (D.whole c frame parts) ≡ D.frame c frame
   pub part_is :
-      (c : Tables) (frame : List ℕ) (parts : ℕ → List ℕ) (g : ℕ) → bad c frame ≡ false → g < glyph_count c →
-      IsPart D c frame g (parts g) → D.part c (D.whole c frame parts) g ≡ parts g
+      (c : Tables) (frame : List ℕ) (parts : ℕ → List ℕ) (g : ℕ) → bad c frame ≡ false → D.fits c frame parts ≡ true →
+      g < glyph_count c → IsPart D c frame g (parts g) → D.part c (D.whole c frame parts) g ≡ parts g
 
 -- the slots of the tables that some cuts divide
 abbrev pub may_divide : ℕ → Bool
@@ -78,6 +84,19 @@ parts_of p copied slot g =
 -- the tables of frames and parts
 unfoldable pub wholes : Partition → Tables → (ℕ → ℕ → List ℕ) → Tables
 wholes p copied parts slot = option_map (λ frame. (p slot).whole (context copied) frame (parts slot)) (copied slot)
+
+-- the parts have room in the table of a slot, where there is one
+unfoldable pub fits_at : Partition → Tables → (ℕ → ℕ → List ℕ) → ℕ → Bool
+fits_at p copied parts slot =
+    option_map_or (λ frame. (p slot).fits (context copied) frame (parts slot)) (copied slot) true
+
+-- the least table, by tag, in which the parts of a divided content have no room
+unfoldable pub misfit_by : Partition → Content → Option ℕ
+misfit_by p K = first_slot (λ slot. not (fits_at p K.copied K.parts slot))
+
+-- parts have room in each table
+abbrev pub AlwaysFits : Partition → Type 0
+AlwaysFits p = (slot : ℕ) (c : Tables) (frame : List ℕ) (parts : ℕ → List ℕ) → (p slot).fits c frame parts ≡ true
 
 -- a font with its tables divided
 abbrev pub divided : Partition → Font → Font

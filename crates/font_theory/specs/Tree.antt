@@ -1,6 +1,6 @@
 -- Trees of joins, and what they come to, this project's own.
-use Rattle.std.specs.Prelude.{◌≡◌, ℕ, zero, suc, ◌<◌, ◌≤◌, false, ◌⊎◌, List, [], length, get_or}
-use Rattle.font_theory.specs.Cut.{CanJoin, Format, IsCut, cut, joined, content_of_all}
+use Rattle.std.specs.Prelude.{◌≡◌, ◌≢◌, ℕ, zero, suc, ◌<◌, ◌≤◌, false, ◌⊎◌, List, [], length, get_or, None}
+use Rattle.font_theory.specs.Cut.{CanJoin, Format, IsCut, cut, joined, content_of_all, misfit_of}
 use Rattle.font_theory.specs.Agreement.{Agree}
 use Rattle.font_theory.specs.Content.{Wanted, either, of_codes}
 
@@ -29,6 +29,17 @@ abbrev pub Differs : Format → JoinTree (List ℕ) → Type 0
 Differs R (leaf x) = ⊥
 Differs R (node s t) =
     Differs R s ⊎ (Differs R t ⊎ ((x : List ℕ) × (y : List ℕ) × Value R s x × Value R t y × Clash R x y))
+
+-- two files in cut form agree, and some table has no room for what both have in it
+abbrev pub Overflow : Format → List ℕ → List ℕ → Type 0
+Overflow R x y =
+    IsCut R x × IsCut R y × Agree (content_of_all R x) (content_of_all R y) × (misfit_of R x y ≢ None)
+
+-- the tree meets such
+abbrev pub Overflows : Format → JoinTree (List ℕ) → Type 0
+Overflows R (leaf x) = ⊥
+Overflows R (node s t) =
+    Overflows R s ⊎ (Overflows R t ⊎ ((x : List ℕ) × (y : List ℕ) × Value R s x × Value R t y × Overflow R x y))
 
 -- a is taken in the tree
 abbrev pub Takes : {A : Type 0} → JoinTree A → A → Type 0

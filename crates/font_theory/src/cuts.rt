@@ -11,7 +11,7 @@ ghost use Rattle.font_file.specs.declared.font_error.FontError.{FontError};
 ghost use Rattle.font_file.specs.declared.font_error.FontError.TheVariants.{Directory};
 ghost use Rattle.font_theory.specs.Bytes.{padded};
 ghost use Rattle.font_theory.specs.Content.{Content, Font, IsClosedContent, IsFont, IsPlain, IsWritable, KeepsComponents, Wanted, content, font_of, is_kept, is_root, is_seed, of_codes, read_back, within};
-ghost use Rattle.font_theory.specs.Cut.{Format, IsCurrent, IsCut, IsFormat, IsOld, Writes, cut, is_current, is_cut, is_old, old_cut, content_of_all};
+ghost use Rattle.font_theory.specs.Cut.{Format, IsCurrent, IsCut, IsFormat, IsOld, Writes, cut, is_current, is_cut, is_old, content_of_all};
 
 /// What an accepted file means is a font.
 pub fn meaning_is_font()
@@ -144,8 +144,8 @@ pub fn cut_is_current()
 /// and glyphs is that of the font for what was wanted.
 pub fn old_cut_is_old()
     ensures { (R : Format) → IsFormat R → (F : List ℕ) → R.fault F ≡ None → (A : Wanted) →
-        length (old_cut R F A) ≤ R.limit → IsOld R (old_cut R F A)
-        × (content_of_all R (old_cut R F A) ≡ content (R.font F) A) }
+        length (R.old (content (R.font F) A)) ≤ R.limit → IsOld R (R.old (content (R.font F) A))
+        × (content_of_all R (R.old (content (R.font F) A)) ≡ content (R.font F) A) }
 {}
 
 /// A file in cut form is current, or an old cut.

@@ -5,7 +5,7 @@ ghost use Rattle.sfnt_bytes.specs.declared.directory.DirError.TheVariants.{FileT
 ghost use Rattle.font_file.specs.declared.font_error.FontError.{FontError};
 ghost use Rattle.font_file.specs.declared.font_error.FontError.TheVariants.{Directory};
 ghost use Rattle.font_theory.specs.Content.{Content, Font, IsClosedContent, IsFont, Wanted, content, either};
-ghost use Rattle.font_theory.specs.Cut.{CanJoin, Format, IsCurrent, IsCut, IsFormat, Under, Writes, cut, is_cut, joined, renewed, content_of_all};
+ghost use Rattle.font_theory.specs.Cut.{CanJoin, Format, IsCurrent, IsCut, IsFormat, Under, Writes, cut, is_cut, joined, misfit_of, renewed, content_of_all};
 ghost use Rattle.font_theory.specs.Difference.{difference};
 ghost use Rattle.font_theory.specs.Agreement.{Agree, both};
 
@@ -60,26 +60,28 @@ pub fn join_of_cuts()
 /// A file in cut form can be joined with itself, which gives the file written anew: a current one
 /// itself.
 pub fn join_of_one()
-    ensures { (R : Format) (X : List ℕ) → IsCut R X → CanJoin R X X × (joined R X X ≡ renewed R X)
+    ensures { (R : Format) → IsFormat R → (X : List ℕ) → IsCut R X → CanJoin R X X × (joined R X X ≡ renewed R X)
         × (IsCurrent R X → joined R X X ≡ X) }
 {}
 
-/// Two accepted files can be joined exactly where both tests of cut form pass and no difference is
-/// found.
+/// Two accepted files can be joined exactly where both tests of cut form pass, no difference is
+/// found, and each table has room for the parts of both.
 pub fn can_join_is_decided()
     ensures { (R : Format) → IsFormat R → (X Y : List ℕ) → R.fault X ≡ None → R.fault Y ≡ None
         → ((is_cut R X ≡ true) × (is_cut R Y ≡ true)
-        × (difference (content_of_all R X) (content_of_all R Y) ≡ None)) ↔ CanJoin
+        × (difference (content_of_all R X) (content_of_all R Y) ≡ None) × (misfit_of R X Y ≡ None)) ↔ CanJoin
         R X Y }
 {}
 
 /// What is refused, but for its size, or is not in cut form is under no file, and no file is above
-/// two that differ.
+/// two that differ, or whose parts of a table have no room in one.
 pub fn true_refusals()
     ensures { (R : Format) → IsFormat R
         → ((X F : List ℕ) (error : FontError) → R.fault X ≡ Some error → error ≢ Directory FileTooLarge →
         ¬ Under R X F)
         × ((X F : List ℕ) → R.fault X ≡ None → is_cut R X ≡ false → ¬ Under R X F)
         × ((X Y F : List ℕ) → R.fault X ≡ None → R.fault Y ≡ None →
-        difference (content_of_all R X) (content_of_all R Y) ≢ None → Under R X F → ¬ Under R Y F) }
+        difference (content_of_all R X) (content_of_all R Y) ≢ None → Under R X F → ¬ Under R Y F)
+        × ((X Y F : List ℕ) → R.fault X ≡ None → R.fault Y ≡ None → misfit_of R X Y ≢ None → Under R X F →
+        ¬ Under R Y F) }
 {}

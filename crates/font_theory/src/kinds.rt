@@ -20,13 +20,13 @@ ghost use Rattle.font_file.specs.declared.font_error.FontError.TheVariants.{Dire
 ghost use Rattle.font_theory.specs.Agreement.{Agree, both};
 ghost use Rattle.font_theory.specs.Bytes.{padded};
 ghost use Rattle.font_theory.specs.Content.{Content, Font, IsClosedContent, IsFont, Wanted, content, either, everything, font_of, glyph_count, is_kept, is_never_copied, is_root, is_seed, of_codes, read_back, within, table_in_slot};
-ghost use Rattle.font_theory.specs.Cut.{Arises, CanJoin, IsCurrent, IsCut, IsFormat, Under, Writes, content_of_all, cut, is_cut, joined, our_format, either};
+ghost use Rattle.font_theory.specs.Cut.{Arises, CanJoin, IsCurrent, IsCut, IsFormat, Under, Writes, content_of_all, cut, is_cut, joined, misfit_of, our_format, either};
 ghost use Rattle.font_theory.specs.Difference.{are_different, difference, has_other_part, is_different_glyph};
 ghost use Rattle.font_theory.specs.Kinds.{AgreeBy, AreSettings, HasNothingVarying, IsKind, IsUnionBy, IsWrittenUnion, Settings, by_metrics, by_variations, fault_by, fault_of, font_as, font_by, format_by, format_of, has_record, kept_data, partition_of, reduced, settings, spelled_by, tables_as, without_layout, divides_tables, gsub_as};
 ghost use Rattle.font_theory.specs.Links.{links};
 ghost use Rattle.font_theory.specs.Parted.{cleared, gvar_with, metrics_at, pairs_in, thin_post, variation_data};
-ghost use Rattle.font_theory.specs.Parting.{Tables, divided, parts_of, undivided, undivided_content};
-ghost use Rattle.font_theory.specs.Tree.{IsSmall, JoinTree, Value, cuts, union_in};
+ghost use Rattle.font_theory.specs.Parting.{AlwaysFits, Tables, divided, parts_of, undivided, undivided_content};
+ghost use Rattle.font_theory.specs.Tree.{IsSmall, JoinTree, Overflows, Value, cuts, union_in};
 ghost use Rattle.font_theory.specs.declared.kinds.Kind.TheVariants.{Full, Layout, Lean, Variable};
 
 /// A kind of cuts.
@@ -286,7 +286,8 @@ pub fn trees_of_cuts_of_kind()
         (cut (format_of kind) file (union_in t)) }
 {}
 
-/// What is refused, but for its size, or is not in cut form is under no file, and no file is above two that differ.
+/// What is refused, but for its size, or is not in cut form is under no file, and no file is above two that differ, or
+/// whose parts of a table have no room in one.
 pub fn refusals_of_kind_are_true()
     ensures { (kind : Kind) → ((X F : List ℕ) (error : FontError) → fault_of kind X ≡ Some error →
         error ≢ Directory FileTooLarge → ¬ Under (format_of kind) X F)
@@ -294,7 +295,17 @@ pub fn refusals_of_kind_are_true()
         ¬ Under (format_of kind) X F)
         × ((X Y F : List ℕ) → fault_of kind X ≡ None → fault_of kind Y ≡ None →
         difference (content_of_all (format_of kind) X) (content_of_all (format_of kind) Y) ≢ None →
-        Under (format_of kind) X F → ¬ Under (format_of kind) Y F) }
+        Under (format_of kind) X F → ¬ Under (format_of kind) Y F)
+        × ((X Y F : List ℕ) → fault_of kind X ≡ None → fault_of kind Y ≡ None →
+        misfit_of (format_of kind) X Y ≢ None → Under (format_of kind) X F → ¬ Under (format_of kind) Y F) }
+{}
+
+/// Each table of these kinds has room for any parts: no join of two files is refused because a table is too long, and no
+/// tree of joins meets such files.
+pub fn parts_always_fit()
+    ensures { (kind : Kind) → AlwaysFits (partition_of kind)
+        × ((K : Content) → (format_of kind).misfit K ≡ None)
+        × ((t : JoinTree (List ℕ)) → ¬ Overflows (format_of kind) t) }
 {}
 
 /// The lean cut of a cut of any kind, in any form, is the lean cut of the font, for the codes in both sets, and for the

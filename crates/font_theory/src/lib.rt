@@ -32,8 +32,8 @@ pub use crate::kinds::{
     divided_tables_are, file_of_kind_means, full_has_no_numbers, full_is_plain,
     gvar_without_data_is, join_of_cuts_of_kind, join_of_kind_is, kept_metrics_are,
     kept_of_kind_is_reached, kinds_are_kinds, lean_cut_is_current, lean_cut_is_no_longer,
-    lean_cut_of_cut, least_upper_bound_of_kind, parts_are, parts_are_kept, reduced_is,
-    refusals_of_kind_are_true, settings_are_kinds, slots_are, tables_are_kept,
+    lean_cut_of_cut, least_upper_bound_of_kind, parts_always_fit, parts_are, parts_are_kept,
+    reduced_is, refusals_of_kind_are_true, settings_are_kinds, slots_are, tables_are_kept,
     trees_of_cuts_of_kind, union_is, variable_cut_of_unvarying, wanted_is_in_file_of_kind,
     written_is_closed,
 };

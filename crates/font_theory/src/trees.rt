@@ -1,9 +1,9 @@
 //! The laws of trees of joins: the contract of each function is the law.
-ghost use Rattle.std.specs.Prelude.{◌≡◌, ℕ, suc, ◌<◌, ◌≤◌, List, length, None};
-ghost use Rattle.font_theory.specs.Content.{Wanted, content};
-ghost use Rattle.font_theory.specs.Cut.{CanJoin, Format, IsCurrent, IsCut, IsFormat, Writes, cut, joined, renewed, content_of_all};
+ghost use Rattle.std.specs.Prelude.{◌≡◌, ℕ, suc, ◌<◌, ◌≤◌, ◌⊎◌, List, length, None};
+ghost use Rattle.font_theory.specs.Content.{Content, Wanted, content};
+ghost use Rattle.font_theory.specs.Cut.{CanJoin, Format, IsCurrent, IsCut, IsFormat, Writes, cut, joined, misfit_of, renewed, content_of_all};
 ghost use Rattle.font_theory.specs.Agreement.{Agree};
-ghost use Rattle.font_theory.specs.Tree.{Differs, IsOver, IsSmall, JoinTree, Takes, Value, cuts, file_at, grown, union_below, union_in};
+ghost use Rattle.font_theory.specs.Tree.{Differs, IsOver, IsSmall, JoinTree, Overflows, Takes, Value, cuts, file_at, grown, union_below, union_in};
 
 /// A tree of cuts of one font that meets no size has as its value the cut for the union of its sets.
 pub fn trees_of_cuts()
@@ -57,12 +57,13 @@ pub fn same_value_of_cuts()
         IsSmall R (cuts R F t) → Value R (cuts R F t) z }
 {}
 
-/// Where a tree that grows meets a difference, each tree over all files that meets no size meets
-/// one.
+/// Where a tree that grows meets two files that differ, or whose parts of a table have no room in one, each tree over
+/// all files that meets no size meets two such files; and two that differ, where each table always has room.
 pub fn clash_everywhere()
     ensures { (R : Format) → IsFormat R → (files : List (List ℕ)) →
         ((k : ℕ) → k < length files → IsCut R (file_at files k))
         → (k : ℕ) → k < length files → (x : List ℕ) → Value R (grown files k) x → length x ≤ R.limit →
-        ¬ Agree (content_of_all R x) (content_of_all R (file_at files k))
-        → (t : JoinTree (List ℕ)) → IsOver files t → IsSmall R t → Differs R t }
+        ¬ (Agree (content_of_all R x) (content_of_all R (file_at files k)) × (misfit_of R x (file_at files k) ≡ None))
+        → (t : JoinTree (List ℕ)) → IsOver files t → IsSmall R t → (Differs R t ⊎ Overflows R t)
+        × (((K : Content) → R.misfit K ≡ None) → Differs R t) }
 {}

@@ -85,6 +85,7 @@ join_argument (joins.NotACut which) = 0
 join_argument (joins.DifferentTable tag) = tag_number tag
 join_argument (joins.DifferentMapping code) = code
 join_argument (joins.DifferentGlyph glyph) = glyph
+join_argument (joins.TableTooLong tag) = tag_number tag
 join_argument (joins.TooLarge size) = 0
 join_argument joins.NoMemory = 0
 

@@ -19,7 +19,7 @@ use Rattle.font_join.specs.JoinText.{join_all_error_text}
 use Rattle.font_join.specs.declared.join_error.JoinAllError.TheVariants.{At, NothingToJoin}
 use Rattle.font_join.specs.declared.join_error.JoinError.{JoinError}
 use Rattle.font_join.specs.declared.join_error.JoinError.TheVariants.{DifferentGlyph, DifferentMapping, DifferentTable}
-use Rattle.font_join.specs.declared.join_error.JoinError.TheVariants.{NotACut, TooLarge}
+use Rattle.font_join.specs.declared.join_error.JoinError.TheVariants.{NotACut, TableTooLong, TooLarge}
 use Rattle.font_join.specs.declared.join_error.Which.{Which}
 use Rattle.font_join.specs.declared.join_error.Which.TheVariants.{First, Second}
 use Rattle.fontcut_c.specs.declared.answer.Answer.{Answer}
@@ -69,6 +69,7 @@ join_error_lines is answer =
     ∷ when (is 21) (DifferentTable (tag_of answer.detail))
     ∷ when (is 22) (DifferentMapping answer.detail)
     ∷ when (is 23 && nat_lt answer.detail 0x10000) (DifferentGlyph answer.detail)
+    ∷ when (is 29) (TableTooLong (tag_of answer.detail))
     ∷ []
 
 -- the one that it says

@@ -86,6 +86,7 @@ fn join_error(number: u8, answer: Answer) -> Option<JoinError>
         numbers::DIFFERENT_TABLE => Some(JoinError::DifferentTable(Tag(detail.to_be_bytes()))),
         numbers::DIFFERENT_MAPPING => Some(JoinError::DifferentMapping(detail)),
         numbers::DIFFERENT_GLYPH => u16::try_from(detail).ok().map(JoinError::DifferentGlyph),
+        numbers::TABLE_TOO_LONG => Some(JoinError::TableTooLong(Tag(detail.to_be_bytes()))),
         _ => None,
     }
 }

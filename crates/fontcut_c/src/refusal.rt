@@ -147,6 +147,7 @@ fn refused_join(error: JoinError) -> Answer
         JoinError::DifferentTable(tag) => Answer::refused(number, number_of(tag)),
         JoinError::DifferentMapping(code) => Answer::refused(number, code),
         JoinError::DifferentGlyph(glyph) => Answer::refused(number, u32::from(glyph)),
+        JoinError::TableTooLong(tag) => Answer::refused(number, number_of(tag)),
         JoinError::TooLarge(size) => Answer::sized(number, size),
         JoinError::NotACut(_) | JoinError::NoMemory => Answer::refused(number, 0),
     }

@@ -4,7 +4,7 @@ ghost use Rattle.std.specs.Prelude.{◌≡◌, [], ◌∷◌, codes, map};
 ghost use Rattle.sfnt_bytes.specs.Directory.{slot_tag};
 ghost use Rattle.sfnt_bytes.specs.Sums.{SumOfParts};
 ghost use Rattle.sfnt_bytes.specs.declared.directory.TheConstants.{MAX_FILE};
-ghost use Rattle.sfnt_bytes.specs.declared.numbers.TheConstants.{BAD_CMAP, BAD_GLYPH, BAD_HEAD, BAD_HHEA, BAD_HMTX, BAD_LAYOUT, BAD_LOCA, BAD_MAXP, BAD_RANGE, BAD_VARIATIONS, BAD_WORD, COLLECTION, DIFFERENT_GLYPH, DIFFERENT_MAPPING, DIFFERENT_TABLE, DUPLICATE_TABLE, FILE_TOO_LARGE, MISSING_TABLE, NOTHING_TO_JOIN, NOT_A_CUT, NOT_TRUETYPE, NO_MAPPING, NO_MEMORY, READ_FAULT, TABLE_OUT_OF_FILE, TOO_LARGE, TRUNCATED, WRITE_FAULT};
+ghost use Rattle.sfnt_bytes.specs.declared.numbers.TheConstants.{BAD_CMAP, BAD_GLYPH, BAD_HEAD, BAD_HHEA, BAD_HMTX, BAD_LAYOUT, BAD_LOCA, BAD_MAXP, BAD_RANGE, BAD_VARIATIONS, BAD_WORD, COLLECTION, DIFFERENT_GLYPH, DIFFERENT_MAPPING, DIFFERENT_TABLE, DUPLICATE_TABLE, FILE_TOO_LARGE, MISSING_TABLE, NOTHING_TO_JOIN, NOT_A_CUT, NOT_TRUETYPE, NO_MAPPING, NO_MEMORY, READ_FAULT, TABLE_OUT_OF_FILE, TABLE_TOO_LONG, TOO_LARGE, TRUNCATED, WRITE_FAULT};
 ghost use Rattle.sfnt_bytes.specs.declared.tag.TheConstants.{ALL_SLOTS, CMAP, FIRST_VARIATION, GLYF, HEAD, HEAD_TAG, HHEA, HMTX, IN_ORDER, LAYOUT, LAYOUT_AND_VARIATIONS, LOCA, MAXP, POST, SLOTS, VHEA, VMTX};
 
 /// The checksum of bytes whose length is a multiple of 4, followed by others, is the sum modulo 2^32 of
@@ -61,5 +61,6 @@ pub fn refusal_numbers_are()
         × (NO_MAPPING ≡ 13) × (BAD_CMAP ≡ 14) × (BAD_RANGE ≡ 15) × (NO_MEMORY ≡ 16)
         × (BAD_GLYPH ≡ 17) × (TOO_LARGE ≡ 18) × (WRITE_FAULT ≡ 19) × (NOT_A_CUT ≡ 20)
         × (DIFFERENT_TABLE ≡ 21) × (DIFFERENT_MAPPING ≡ 22) × (DIFFERENT_GLYPH ≡ 23) × (NOTHING_TO_JOIN ≡ 24)
-        × (READ_FAULT ≡ 25) × (BAD_WORD ≡ 26) × (BAD_LAYOUT ≡ 27) × (BAD_VARIATIONS ≡ 28) }
+        × (READ_FAULT ≡ 25) × (BAD_WORD ≡ 26) × (BAD_LAYOUT ≡ 27) × (BAD_VARIATIONS ≡ 28)
+        × (TABLE_TOO_LONG ≡ 29) }
 {}

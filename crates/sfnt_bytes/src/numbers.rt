@@ -83,3 +83,6 @@ pub const BAD_LAYOUT: u8 = 27;
 
 /// `gvar` cannot be read, which is asked for variable cuts alone.
 pub const BAD_VARIATIONS: u8 = 28;
+
+/// What files to be joined have of single glyphs in a table is too long for that table.
+pub const TABLE_TOO_LONG: u8 = 29;

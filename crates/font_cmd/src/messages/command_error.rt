@@ -184,11 +184,14 @@ fn refused_step<'e, 'a>(
     }
 }
 
-// Returns whether a refusal of a join is a difference.
+// Returns whether a refusal of a join says that the files are cuts of different fonts.
 fn is_difference(error: &JoinError) -> bool {
     matches!(
         error,
-        JoinError::DifferentTable(_) | JoinError::DifferentMapping(_) | JoinError::DifferentGlyph(_)
+        JoinError::DifferentTable(_)
+            | JoinError::DifferentMapping(_)
+            | JoinError::DifferentGlyph(_)
+            | JoinError::TableTooLong(_)
     )
 }
 

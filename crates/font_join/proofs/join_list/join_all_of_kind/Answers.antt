@@ -1,9 +1,13 @@
 use Rattle.std.proofs.Common.{◌≡◌, map, refl}
 use Rattle.std.proofs.lemmas.Result.{MatchResult-weaker}
-use Rattle.font_join.specs.JoinList.{IsForSizeOf}
+use Rattle.font_join.specs.JoinList.{IsAllJoined, IsAllRefusal, IsForSizeOf}
+use Rattle.font_join.specs.declared.join_error.JoinAllError.TheVariants.{At}
+use Rattle.font_join.specs.declared.join_error.JoinError.TheVariants.{TableTooLong}
 use Rattle.font_theory.specs.Kinds.{format_of}
 use Rattle.font_theory.proofs.KindLemmas.{kind_is}
-use Rattle.font_join.proofs.JoinListLemmas.{clash_differs, cuts_refused_in_turn, laws_of_join, small_joined}
+use Rattle.font_join.proofs.JoinLemmas.{refused_by}
+use Rattle.font_join.proofs.JoinListLemmas.{clash_differs, cuts_refused_in_turn, laws_of_join, never_too_long_of_all}
+use Rattle.font_join.proofs.JoinListLemmas.{small_joined}
 use Rattle.font_join.proofs.LeastListLemmas.{least_of_all, true_refusal_of_all}
 use Rattle.font_join.proofs.join_list.join_all_of_kind.Goals as goal
 
@@ -39,3 +43,11 @@ returns-clause-refused g c =
     let bytes = map (λ v. v.items) c.args.files.now in
     MatchResult-weaker c.join_in_turn.result c.join_in_turn.ensures.exact (λ z all. tt)
     (λ e r. true_refusal_of_all (kind_is c.args.kind) bytes e r)
+
+pub returns-clause-fits : goal.returns-clause-fits
+returns-clause-fits g c = λ all step tag e.
+    let R = format_of c.args.kind in
+    let bytes = map (λ v. v.items) c.args.files.now in
+    never_too_long_of_all R bytes all step tag
+    (refused_by (λ z. IsAllJoined R bytes z.items) (IsAllRefusal R bytes) c.join_in_turn.result
+    (At step (TableTooLong tag)) e c.join_in_turn.ensures.exact)

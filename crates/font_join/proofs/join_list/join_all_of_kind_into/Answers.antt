@@ -3,9 +3,12 @@ use Rattle.std.proofs.lemmas.Result.{MatchResult-weaker}
 use Rattle.sfnt_bytes.specs.declared.directory.TheConstants.{MAX_FILE}
 use Rattle.font_theory.specs.Kinds.{format_of}
 use Rattle.font_join.specs.JoinList.{IsForSizeInto, IsSentAs, StopsJoin}
+use Rattle.font_join.specs.declared.join_error.JoinAllError.TheVariants.{At}
 use Rattle.font_join.specs.declared.join_error.JoinAllIntoError.{JoinAllIntoError}
+use Rattle.font_join.specs.declared.join_error.JoinError.TheVariants.{TableTooLong}
 use Rattle.font_theory.proofs.KindLemmas.{kind_is}
-use Rattle.font_join.proofs.JoinListLemmas.{clash_differs, cuts_refused_into, laws_of_join, result_cases, small_joined}
+use Rattle.font_join.proofs.JoinListLemmas.{clash_differs, cuts_refused_into, laws_of_join, never_too_long_of_all}
+use Rattle.font_join.proofs.JoinListLemmas.{result_cases, small_joined}
 use Rattle.font_join.proofs.LeastListLemmas.{least_of_all, true_refusal_of_all}
 use Rattle.font_join.proofs.join_list.join_all_of_kind_into.Goals as goal
 
@@ -45,3 +48,10 @@ returns-clause-refused g c = λ error e.
     let stops = subst (λ (r : Result ℕ JoinAllIntoError). IfErr r (StopsJoin (format_of c.args.kind) g.W.Write.contents
     c.args.out.now c.send_in_turn.new.out bytes)) e c.send_in_turn.ensures.stops in
     true_refusal_of_all (kind_is c.args.kind) bytes error stops.1
+
+pub returns-clause-fits : goal.returns-clause-fits
+returns-clause-fits g c = λ all step tag e.
+    let bytes = map (λ v. v.items) c.args.files.now in
+    let stops = subst (λ (r : Result ℕ JoinAllIntoError). IfErr r (StopsJoin (format_of c.args.kind) g.W.Write.contents
+    c.args.out.now c.send_in_turn.new.out bytes)) e c.send_in_turn.ensures.stops in
+    never_too_long_of_all (format_of c.args.kind) bytes all step tag stops.1

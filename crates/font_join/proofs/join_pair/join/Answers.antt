@@ -6,7 +6,7 @@ use Rattle.font_theory.specs.File.{current_writing, file}
 use Rattle.font_theory.specs.declared.kinds.Kind.TheVariants.{Full}
 use Rattle.font_theory.proofs.ContentLemmas.{content-none}
 use Rattle.font_theory.proofs.FontLemmas.{IsFont-accepted}
-use Rattle.font_theory.proofs.KindLemmas.{full-is, full_fault-is}
+use Rattle.font_theory.proofs.KindLemmas.{full-is, full_fault-is, misfit-kind}
 use Rattle.font_subset.specs.CutOfFont.{cut_of}
 use Rattle.font_subset.specs.CutOfKind.{cut_in}
 use Rattle.font_join.proofs.join_pair.join.Goals as goal
@@ -22,6 +22,9 @@ full_own x accepted =
 pub returns-clause-cuts : goal.returns-clause-cuts
 returns-clause-cuts g c =
     λ F A B accepted. c.join_of_kind.ensures.cuts F (of_codes A) (of_codes B) (full_fault-is F ∙ accepted)
+
+pub returns-clause-fits : goal.returns-clause-fits
+returns-clause-fits g c = c.join_of_kind.ensures.fits (misfit-kind Full)
 
 pub returns-clause-itself : goal.returns-clause-itself
 returns-clause-itself g c = λ accepted own same.

@@ -1,10 +1,14 @@
 use Rattle.std.proofs.Common.{ℕ, List, subst, ◌∙◌}
 use Rattle.std.proofs.lemmas.Result.{MatchResult-weaker}
+use Rattle.font_theory.specs.Agreement.{both}
+use Rattle.font_theory.specs.Cut.{content_of_all}
 use Rattle.font_theory.specs.Kinds.{format_of}
 use Rattle.font_join.specs.Join.{IsJoin, IsJoinRefusal}
+use Rattle.font_join.specs.declared.join_error.JoinError.TheVariants.{TableTooLong}
 use Rattle.font_theory.proofs.KindLemmas.{kind_is}
 use Rattle.font_join.proofs.JoinLemmas.{cuts_joined, cuts_refused, least_upper, renewed_joined, renewed_refused}
-use Rattle.font_join.proofs.JoinLemmas.{self_joined, self_refused, small_join, true_refusal}
+use Rattle.font_join.proofs.JoinLemmas.{never_too_long, refused_by, self_joined, self_refused, small_join}
+use Rattle.font_join.proofs.JoinLemmas.{true_refusal}
 use Rattle.font_join.proofs.join_pair.join_of_kind.Goals as goal
 
 pub returns-clause-cuts : goal.returns-clause-cuts
@@ -43,6 +47,15 @@ returns-clause-small g c =
     MatchResult-weaker c.join_exactly.result c.join_exactly.ensures.exact
     (λ z. small_join (kind_is c.args.kind) c.args.x.now
     c.args.y.now z.items) (λ e r. tt)
+
+pub returns-clause-fits : goal.returns-clause-fits
+returns-clause-fits g c = λ all tag e.
+    let R = format_of c.args.kind in
+    let x = c.args.x.now in
+    let y = c.args.y.now in
+    never_too_long R x y (all (both (content_of_all R x) (content_of_all R y))) tag
+    (refused_by (λ z. IsJoin R x y z.items) (IsJoinRefusal R x y) c.join_exactly.result (TableTooLong tag) e
+    c.join_exactly.ensures.exact)
 
 pub returns-clause-refused : goal.returns-clause-refused
 returns-clause-refused g c =

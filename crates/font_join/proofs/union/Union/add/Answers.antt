@@ -9,7 +9,7 @@ use Rattle.font_join.specs.Inside.{IsAddRefusal, IsFormRefusal, add_fault}
 use Rattle.font_join.specs.KindInside.{IsGrown, SpellsIn}
 use Rattle.font_join.specs.Union.{Held, content_in}
 use Rattle.font_join.specs.declared.join_error.Which.TheVariants.{Second}
-use Rattle.font_join.proofs.AddFaultLemmas.{difference_fault, form_refused}
+use Rattle.font_join.proofs.AddFaultLemmas.{form_refused, late}
 use Rattle.font_join.proofs.JoinLemmas.{form_whole}
 use Rattle.font_subset.proofs.CutLemmas.{passed_on}
 use Rattle.font_join.proofs.union.Union.add.Goals as goal
@@ -83,7 +83,7 @@ returns-clause-exact g c = λ kind K same h.
     (λ union merged.
     let grown = subst (λ (v : Kind × List ℕ). IsGrown c.args.self.kind v.1 K union) file merged in (
       grown,
-      difference_fault R K y (form_whole R Second y form.accepted (is_cut-of R (kind_is c.args.self.kind).law y
-          form)) None (sym grown.none),
+      late R K y (form_whole R Second y form.accepted (is_cut-of R (kind_is c.args.self.kind).law y form)) None None
+          grown.none (sym grown.fit),
     ))
     (λ error refused. subst (λ (v : Kind × List ℕ). IsAddRefusal R K v.1 error) file refused))

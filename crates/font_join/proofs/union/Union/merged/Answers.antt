@@ -1,4 +1,4 @@
-use Rattle.std.proofs.Common.{◌≤◌, ℕ, List, Some, length, sym, ap, ◌∙◌, subst}
+use Rattle.std.proofs.Common.{◌≡◌, ◌≤◌, ℕ, List, Some, length, sym, ap, ◌∙◌, subst}
 use Rattle.std.specs.Option.{option_map}
 use Rattle.sfnt_bytes.specs.declared.directory.TheConstants.{MAX_FILE}
 use Rattle.sfnt_bytes.specs.declared.tag.TheConstants.{GVAR}
@@ -16,12 +16,12 @@ use Rattle.map_union.specs.RunLists.{map_in}
 use Rattle.font_join.specs.Inside.{IsAddRefusal}
 use Rattle.font_join.specs.KindInside.{HasFineGvar, IsGrown, SpellsIn}
 use Rattle.font_join.specs.Union.{Held, content_in}
-use Rattle.font_join.specs.declared.join_error.JoinError.TheVariants.{DifferentGlyph, NoMemory}
+use Rattle.font_join.specs.declared.join_error.JoinError.TheVariants.{NoMemory}
 use Rattle.font_join.specs.declared.join_error.Which.TheVariants.{Second}
 use Rattle.font_join.proofs.JoinLemmas.{form_whole}
-use Rattle.font_join.proofs.AddFaultLemmas.{difference_fault}
+use Rattle.font_join.proofs.AddFaultLemmas.{late, late_memory, late_none, late_refused}
 use Rattle.font_join.proofs.MergeLemmas.{agree_of, compatible, count_early, fine_file, fine_union, form_of, grown_of}
-use Rattle.font_join.proofs.MergeLemmas.{spells_file, told_of, union_of_all}
+use Rattle.font_join.proofs.MergeLemmas.{misfit_of_union, spells_file, told_of, union_of_all}
 use Rattle.font_subset.proofs.CutLemmas.{passed_on}
 use Rattle.font_join.proofs.union.Union.merged.Goals as goal
 
@@ -54,9 +54,10 @@ pub returns-in_err-gvar-clause-exact : goal.returns-in_err-gvar-clause-exact
 returns-in_err-gvar-clause-exact g c = λ K spells. passed_on _ _ c.from_residual.result NoMemory
     c.from_residual.ensures.1 tt
 
+-- a glyph that differs, or else a table that has no room
 pub returns-in-Some-clause-exact : goal.returns-in-Some-clause-exact
 returns-in-Some-clause-exact g c = subst (λ (v : Held). (K : Content) → SpellsIn v.kind (content_in v) K
-    → IsAddRefusal (format_of v.kind) K c.args.file.1 (DifferentGlyph c.in-Some.g)) c.self.view_is (λ K spells.
+    → IsAddRefusal (format_of v.kind) K c.args.file.1 c.in-Some.error) c.self.view_is (λ K spells.
     let u : Held = record {
       kind = c.self.inside.first.0;
       tables = c.self.inside.first.1;
@@ -73,10 +74,19 @@ returns-in-Some-clause-exact g c = subst (λ (v : Held). (K : Content) → Spell
     c.requires.early c.glyph_count-count.result
     (c.glyph_count-count.ensures.count ∙ ap glyph_count_of (c.tables.ensures.tables ∙ c.font.ensures.font))
     c.take-other.result c.other_parts-parts.result c.take-other.ensures.differs c.other_parts-parts.ensures K spells in
-    difference_fault (format_of u.kind) K c.args.file.1 (form_whole (format_of u.kind) Second c.args.file.1
-    form.accepted
-    (is_cut-of (format_of u.kind) (kind_is u.kind).law c.args.file.1 form)) (Some (AtGlyph c.in-Some.g))
-    (sym (told ∙ ap (option_map AtGlyph) (sym c.least.ensures ∙ c.in-Some.is))))
+    late_refused (format_of u.kind) K c.args.file.1 c.least.result c.misfit-misfit.result c.in-Some.error
+    (late (format_of u.kind) K c.args.file.1 (form_whole (format_of u.kind) Second c.args.file.1 form.accepted
+    (is_cut-of (format_of u.kind) (kind_is u.kind).law c.args.file.1 form)) c.least.result c.misfit-misfit.result
+    (told ∙ ap (option_map AtGlyph) (sym c.least.ensures))
+    (misfit_of_union u c.args.self c.self.view_is c.args.file.1 c.misfit-misfit.result c.misfit-misfit.ensures.told K
+    spells))
+    (sym c.late_refusal.ensures ∙ c.in-Some.is))
+
+pub returns-in-Some-clause-memory : goal.returns-in-Some-clause-memory
+returns-in-Some-clause-memory g c = λ e.
+    let same : c.in-Some.error ≡ NoMemory = cc in
+    absurd (late_memory c.least.result c.misfit-misfit.result
+    (sym c.late_refusal.ensures ∙ c.in-Some.is ∙ ap Some same))
 
 pub with-requires-clause-agree : goal.with-requires-clause-agree
 with-requires-clause-agree g c =
@@ -99,7 +109,8 @@ with-requires-clause-agree g c =
     c.requires.early c.glyph_count-count.result
     (c.glyph_count-count.ensures.count ∙ ap glyph_count_of (c.tables.ensures.tables ∙ c.font.ensures.font))
     c.take-other.result c.other_parts-parts.result c.take-other.ensures.differs c.other_parts-parts.ensures K spells
-    (sym c.least.ensures ∙ c.in_default.is) in
+    (sym c.least.ensures ∙ (late_none c.least.result c.misfit-misfit.result (sym c.late_refusal.ensures
+    ∙ c.in_default.is)).0) in
     subst (λ (m : ℕ → ℕ). AreCompatible (map_in u.runs) m) (sym c.in_ok-runs.ensures.runs.spelled_map)
     (compatible u c.args.file.1 K spells form agree)
 
@@ -115,8 +126,11 @@ invariant_of-result g c =
     union_of_all u c.args.self c.self.view_is c.args.file.0 c.requires.same c.args.file.1 c.requires.form
     c.requires.early c.glyph_count-count.result
     (c.glyph_count-count.ensures.count ∙ ap glyph_count_of (c.tables.ensures.tables ∙ c.font.ensures.font))
-    c.take-other.result c.other_parts-parts.result c.take-other.ensures.differs c.other_parts-parts.ensures (sym
-    c.least.ensures ∙ c.in_default.is) c.in_ok-map.map c.take-other.new.self c.laid_over-own.result
+    c.take-other.result c.other_parts-parts.result c.take-other.ensures.differs c.other_parts-parts.ensures
+    (sym c.least.ensures ∙ (late_none c.least.result c.misfit-misfit.result (sym c.late_refusal.ensures
+    ∙ c.in_default.is)).0) c.misfit-misfit.result c.misfit-misfit.ensures.told
+    (late_none c.least.result c.misfit-misfit.result (sym c.late_refusal.ensures ∙ c.in_default.is)).1
+    c.in_ok-map.map c.take-other.new.self c.laid_over-own.result
     (option_map (λ v. v.items) c.in_ok-gvar.gvar) c.self.invariant.count c.take-other.ensures.taken
     (c.in_ok-map.ensures.map ∙ ap (united (map_in u.runs)) c.in_ok-runs.ensures.runs.spelled_map)
     c.in_ok-gvar.ensures.table
@@ -141,8 +155,11 @@ returns-clause-exact g c = subst (λ (v : Held). (K : Content) → SpellsIn v.ki
     grown_of u c.args.self c.self.view_is c.args.file.0 c.requires.same c.args.file.1 c.requires.form
     c.requires.early c.glyph_count-count.result
     (c.glyph_count-count.ensures.count ∙ ap glyph_count_of (c.tables.ensures.tables ∙ c.font.ensures.font))
-    c.take-other.result c.other_parts-parts.result c.take-other.ensures.differs c.other_parts-parts.ensures (sym
-    c.least.ensures ∙ c.in_default.is) c.in_ok-map.map c.take-other.new.self c.laid_over-own.result
+    c.take-other.result c.other_parts-parts.result c.take-other.ensures.differs c.other_parts-parts.ensures
+    (sym c.least.ensures ∙ (late_none c.least.result c.misfit-misfit.result (sym c.late_refusal.ensures
+    ∙ c.in_default.is)).0) c.misfit-misfit.result c.misfit-misfit.ensures.told
+    (late_none c.least.result c.misfit-misfit.result (sym c.late_refusal.ensures ∙ c.in_default.is)).1
+    c.in_ok-map.map c.take-other.new.self c.laid_over-own.result
     (option_map (λ v. v.items) c.in_ok-gvar.gvar) c.self.invariant.count c.take-other.ensures.taken
     (c.in_ok-map.ensures.map ∙ ap (united (map_in u.runs)) c.in_ok-runs.ensures.runs.spelled_map)
     c.in_ok-gvar.ensures.table
