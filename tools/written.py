@@ -1,4 +1,4 @@
-"""What scripts share that write documents from the sources: texts, the crates, and writing or checking a document."""
+"""What scripts share that list what the sources have: texts, the crates, and printing a list."""
 from __future__ import annotations
 
 import os
@@ -20,16 +20,13 @@ def crates() -> List[str]:
     return re.findall(r"^(\w+)[^:#\n]*:", text_of("crates.txt"), re.M)
 
 
-def write(document: str, written: Callable[[], str], usage: Optional[str], differs: str) -> None:
-    """Writes a document of docs if it is not what the function returns. With the word --check it writes nothing: it
-    says then that the document differs, and the status is 1."""
-    if sys.argv[1:] not in ([], ["--check"]):
+def give(written: Callable[[], str], usage: Optional[str]) -> None:
+    """Prints the list that the function returns, with the word --print, or writes it to the file that is named. Any
+    other line is refused with the usage."""
+    if len(sys.argv) != 2 or sys.argv[1].startswith("-") and sys.argv[1] != "--print":
         sys.exit(usage)
-    path = os.path.join(TOP, "docs", document)
-    now = text_of(path) if os.path.exists(path) else ""
-    wanted = written()
-    if wanted != now and sys.argv[1:] == ["--check"]:
-        sys.exit(differs)
-    if wanted != now:
-        with open(path, "w", encoding="utf-8") as out:
-            out.write(wanted)
+    if sys.argv[1] == "--print":
+        sys.stdout.write(written())
+    else:
+        with open(sys.argv[1], "w", encoding="utf-8") as out:
+            out.write(written())
