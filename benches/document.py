@@ -61,9 +61,8 @@ def ratio(value: Optional[float]) -> str:
 
 
 def table(titles: Sequence[str], rows: Iterable[Cells]) -> str:
-    """A table in Markdown, its first column to the left."""
-    lines: list[Cells] = [titles, ["---"] + ["--:"] * (len(titles) - 1), *rows]
-    return "\n".join("| " + " | ".join(map(str, line)) + " |" for line in lines)
+    """A table: a line of titles, and one for each row, with tabs between the cells."""
+    return "\n".join("\t".join(map(str, line)) for line in [titles, *rows])
 
 
 def by_font(rows: Iterable[AnyRow], value: Callable[[AnyRow], float]) -> ByFont:

@@ -127,7 +127,7 @@ def held_table(found: Layout) -> str:
 
 
 def tables(found: Layout) -> dict[str, str]:
-    """All tables, by their names in the template."""
+    """All tables, by their names in docs/performance/data."""
     rows, steps = found.pages, found.steps
     return {
         "layout_held": held_table(found),

@@ -96,7 +96,7 @@ def held_rows(rows: Sequence[Sized]) -> Iterator[Cells]:
 
 
 def tables(rows: Optional[Sequence[Sized]]) -> dict[str, str]:
-    """All tables, by their names in the template."""
+    """All tables, by their names in docs/performance/data."""
     if not rows:
         return dict.fromkeys(("prepared_taken", "prepared_held", "prepared_means", "prepared_typed", "prepared_bytes",
                               "prepared_typed_bytes"),

@@ -1,30 +1,36 @@
-"""The figures of README.md, which are read off docs/PERFORMANCE.md and its tables, so that ./bench and tests/documents
-write the same."""
+"""The figures of README.md and the first table of docs/PERFORMANCE.md, which are read off the tables of
+docs/performance/data, so that ./bench and tests/documents write the same."""
 import re
-from collections.abc import Iterator
+from typing import Callable, Iterator
 
 Row = dict[str, str]
+# A table by its name: lines of cells with tabs between them.
+Tables = Callable[[str], str]
 
-FONT, NOTHING, TAKEN = "LXGWWenKai-Regular", "–", "| a page, bytes as WOFF2"
-# The ways of the first table, as the table of pages calls them.
-PAGE_WAYS = ("text that is published: exact cut, font prepared for the page", "`hb-subset --retain-gids`",
-             "`pyftsubset`, which renumbers glyphs")
+FONT, NOTHING = "LXGWWenKai-Regular", "–"
+# The ways of the table of pages, as that calls them.
+CLOSED = "text that readers write: closed cut, font prepared for languages"
+EXACT = "text that is published: exact cut, font prepared for the page"
+OTHERS = "`hb-subset --retain-gids`", "`pyftsubset`, which renumbers glyphs"
 MODULE_SIZE = r"(?<![\d.])\d+ KB as Brotli"
+# The title of the README's table whose last column has figures.
+JOBS = "| you have |"
 
 
-def cells_of(line: str) -> list[str]:
-    """The cells of a row of a table."""
-    return [cell.strip() for cell in line.strip("|").split(" | ")]
+def in_markdown(table: str) -> str:
+    """A table of cells with tabs between them in Markdown, with columns of numbers to the right. A line alone is as it
+    is."""
+    titles, *rows = [line.split("\t") for line in table.strip("\n").split("\n")]
+    if not rows:
+        return titles[0]
+    aligned = ["---", *("--:" if re.match(r"[+\d–]", cell) else "---" for cell in rows[0][1:])]
+    return "\n".join("| " + " | ".join(line) + " |" for line in [titles, aligned, *rows])
 
 
-def rows_of(text: str, title: str, before: str = "") -> list[Row]:
-    """The rows of the table whose header begins with some words, the first one after a text, each by its titles."""
-    _, found, rest = text[text.index(before):].partition(f"\n| {title}")
-    lines = (found + rest).strip().partition("\n\n")[0].splitlines()
-    if len(lines) < 3:
-        raise ValueError(f"there is no table with the title {title}")
-    titles = cells_of(lines[0])
-    return [dict(zip(titles, cells_of(line))) for line in lines[2:]]
+def rows_of(table: str) -> list[Row]:
+    """The rows of a table, each by its titles."""
+    titles, *rows = [line.split("\t") for line in table.strip("\n").split("\n")]
+    return [dict(zip(titles, row)) for row in rows]
 
 
 def row_of(rows: list[Row], **wanted: str) -> Row:
@@ -47,16 +53,10 @@ def two_digits(number: float) -> str:
     return f"{float(f'{number:.1e}'):,.0f}"
 
 
-def table(titles: list[str], rows: list[list[str]]) -> str:
-    """A table in Markdown, with numbers to the right but for the first column."""
-    aligned = ["---", *("--:" if re.match(r"[\d–]", cell) else "---" for cell in rows[0][1:])]
-    return "\n".join("| " + " | ".join(line) + " |" for line in [titles, aligned, *rows])
-
-
-def time_rows(text: str) -> Iterator[list[str]]:
-    """What the programs take for three sets of characters. Of pyftsubset PERFORMANCE.md has the ratio alone."""
-    times = rows_of(text, "font | wanted | bytes of the cut | fontcut")
-    slow = row_of(rows_of(text, "font | MB | ASCII", "`pyftsubset` : `fontcut`"), font=FONT)
+def time_rows(table: Tables) -> Iterator[list[str]]:
+    """What the programs take for three sets of characters. Of pyftsubset there is the ratio alone."""
+    times = rows_of(table("all_programs"))
+    slow = row_of(rows_of(table("programs_slow")), font=FONT)
     names = {"3,000 ideographs": f"LXGW WenKai ({value(slow['MB']):.1f} MB), 3,000 ideographs, ms",
              "all": "the same, all characters, ms", "ASCII": "the same, ASCII, ms"}
     for wanted, name in names.items():
@@ -65,38 +65,54 @@ def time_rows(text: str) -> Iterator[list[str]]:
         yield [name, mine, last(row["hb-subset"]), two_digits(value(slow[wanted]) * value(mine))]
 
 
-def first_table(text: str) -> str:
-    """What stands on the first screen: times and sizes beside the other subsetters."""
-    ascii_sizes = row_of(rows_of(text, "font | wanted | cut | lean cut"), font=FONT, wanted="ASCII")
-    slices = {row["way"]: row["seconds"] for row in rows_of(text, "way | seconds")}
-    pages = {row["a page, bytes as WOFF2"]: row["Arabic"] for row in rows_of(text, "a page, bytes as WOFF2")}
-    return table(["beside other subsetters", "fontcut", "hb-subset", "pyftsubset"], [
-        *time_rows(text),
-        ["the same, ASCII as WOFF2, bytes",
-         *(last(ascii_sizes[way]) for way in ("lean cut", "hb-subset", "pyftsubset"))],
-        ["the same, 100 slices as WOFF2, seconds", slices["`fontcut-web slice`"], NOTHING,
-         slices["`pyftsubset`, a call a slice"]],
-        ["a page of Arabic with layout, as WOFF2, bytes", *(pages[way] for way in PAGE_WAYS)],
-    ])
+def pages_of(table: Tables, title: str) -> dict[str, str]:
+    """A column of the table of pages, by the ways."""
+    return {row["a page, bytes as WOFF2"]: row[title] for row in rows_of(table("prepared_taken"))}
 
 
-def taken_table(text: str) -> str:
-    """The lengths of pages, as they stand in PERFORMANCE.md."""
-    return TAKEN + text.partition(f"\n{TAKEN}")[2].partition("\n\n")[0]
+def ascii_sizes(table: Tables) -> Row:
+    """The lengths of cuts for ASCII, by the ways."""
+    return row_of(rows_of(table("lengths")), font=FONT, wanted="ASCII")
 
 
-def with_module_size(document: str, performance: str) -> str:
-    """A document with the length of the module for browsers that PERFORMANCE.md has, where it has one."""
-    size = re.search(MODULE_SIZE, performance)
-    return re.sub(MODULE_SIZE, size[0], document) if size else document
+def beside(table: Tables) -> str:
+    """The first table of PERFORMANCE.md: times and sizes beside the other subsetters."""
+    sizes, pages = ascii_sizes(table), pages_of(table, "Arabic")
+    slices = {row["way"]: row["seconds"] for row in rows_of(table("commands_slices"))}
+    rows = [["beside other subsetters", "fontcut", "hb-subset", "pyftsubset"], *time_rows(table),
+            ["the same, ASCII as WOFF2, bytes", *(last(sizes[way]) for way in ("lean cut", "hb-subset", "pyftsubset"))],
+            ["the same, 100 slices as WOFF2, seconds", slices["`fontcut-web slice`"], NOTHING,
+             slices["`pyftsubset`, a call a slice"]],
+            ["a page of Arabic with layout, as WOFF2, bytes", *(pages[way] for way in (EXACT, *OTHERS))]]
+    return in_markdown("\n".join(map("\t".join, rows)))
 
 
-def replaced(readme: str, performance: str) -> str:
-    """README.md with the tables that PERFORMANCE.md gives, each found by its first title, and the module's length."""
-    for made in first_table(performance), taken_table(performance):
-        opening = made[:made.index("|", 1) + 1]
-        before, found, after = readme.partition(opening)
-        if not found:
-            raise ValueError(f"README.md has no table that begins with {opening}")
-        readme = before + made + "\n\n" + after.partition("\n\n")[2]
-    return with_module_size(readme, performance)
+def costs(table: Tables) -> list[str]:
+    """What each job of the README's table costs in bytes, and beside it what it does with hb-subset."""
+    latin, arabic = pages_of(table, "Latin"), pages_of(table, "Arabic")
+    means = next(title for title in rows_of(table("prepared_taken"))[0] if " pages : " in title)
+    ratios, pages = pages_of(table, means), means.split(" : ")[0]
+    merged = row_of(rows_of(table("merged")), font="DejaVuSans", documents="10")
+    sizes = ascii_sizes(table)
+    page = "Latin {}, Arabic {} (hb-subset {}, {}); {}: {} times hb-subset"
+    return [*(page.format(latin[way], arabic[way], latin[OTHERS[0]], arabic[OTHERS[0]], pages, ratios[way])
+              for way in (EXACT, CLOSED)),
+            f"10 letters: {merged['joined lean cuts']} in one font (hb-subset {merged['hb-subset each'].split(', ')[0]}"
+            " in ten)",
+            f"ASCII of LXGW WenKai: {last(sizes['lean cut'])} (hb-subset {last(sizes['hb-subset'])})"]
+
+
+def with_module_size(document: str, size: str) -> str:
+    """A document with the length of the module for browsers, where it has one."""
+    return re.sub(MODULE_SIZE, size, document) if re.fullmatch(MODULE_SIZE, size) else document
+
+
+def replaced(readme: str, table: Tables, size: str) -> str:
+    """README.md with the last column of its table of jobs as the tables give it, and the module's length."""
+    before, found, rest = readme.partition(f"\n{JOBS}")
+    if not found:
+        raise ValueError(f"README.md has no table that begins with {JOBS}")
+    inside, end, after = rest.partition("\n\n")
+    titles, line, *rows = (found + inside).strip("\n").split("\n")
+    made = [f"{row.rpartition(' | ')[0]} | {cost} |" for row, cost in zip(rows, costs(table), strict=True)]
+    return with_module_size(before + "\n" + "\n".join([titles, line, *made]) + end + after, size)

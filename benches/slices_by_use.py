@@ -173,14 +173,15 @@ def measured(folder: str, library: str) -> list[Row]:
 
 
 def table(rows: Sequence[Row]) -> str:
-    """The table of the document."""
-    lines = ["| language | slices | pages | slices of a page: median (90 %) | of 8 at most | KB of a page | times its "
-             "own cut | style sheet, KB (Brotli) |", "| --- | --- | --- | --: | --: | --: | --: | --: |"]
+    """The table, with tabs between its cells."""
+    lines = [("language", "slices", "pages", "slices of a page: median (90 %)", "of 8 at most", "KB of a page",
+              "times its own cut", "style sheet, KB (Brotli)")]
     for row in rows:
         touched, few = row.touched, sum(count <= GOAL for count in row.touched)
         size = f"{row.loaded / 1000:,.0f}" if row.loaded else "–"
         times = f"{row.loaded / row.own:.1f}" if row.loaded and row.own else "–"
-        lines.append(f"| {row.language} | {row.way} | {row.pages} {row.kind} | {round(statistics.median(touched))} "
-                     f"({touched[len(touched) * 9 // 10]}) | {100 * few // len(touched)} % | {size} | {times} | "
-                     f"{row.css[0] / 1000:.0f} ({row.css[1] / 1000:.0f}) |")
-    return "\n".join(lines) if rows else "Not measured, for a package was not there."
+        lines.append((row.language, row.way, f"{row.pages} {row.kind}",
+                      f"{round(statistics.median(touched))} ({touched[len(touched) * 9 // 10]})",
+                      f"{100 * few // len(touched)} %", size, times,
+                      f"{row.css[0] / 1000:.0f} ({row.css[1] / 1000:.0f})"))
+    return "\n".join(map("\t".join, lines)) if rows else "Not measured, for a package was not there."

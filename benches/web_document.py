@@ -71,7 +71,7 @@ def speed_table(speeds: Iterable[Speed]) -> str:
 
 
 def tables(found: Web) -> dict[str, str]:
-    """All tables, by their names in the template."""
+    """All tables, by their names in docs/performance/data."""
     wires, speeds, module = found.wire, found.speed, found.module
     return {
         "web_module": f"{module / 1000:.0f} KB as Brotli" if module else "a length that was not measured",
