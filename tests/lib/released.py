@@ -1,11 +1,11 @@
 """The programs that `tests/release` runs over what a release has, and `tests/from_clone` over what a clone builds, and
-the files that the recipes of README.md read."""
+the files that the recipes of docs/OPTIONS.md read."""
 
 # What the recipes read besides the font.
 DOCUMENTS = {"letter.txt": "Dear Áron,\nyours ever\n", "poem.txt": "Ξεσκεπάζω την ψυχοφθόρα\nβδελυγμία\n",
              "unicode-range.txt": "U+370-3FF, U+1F00-1FFF\n"}
 
-# The lines of README.md stand in the place of CALLS.
+# The lines of docs/OPTIONS.md stand in the place of CALLS.
 C_PROGRAM = """
 #include <fontcut.h>
 #include <stdio.h>

@@ -213,9 +213,9 @@ class ForeignSystem(System):
 
 
 def recipes() -> list[tuple[str, str]]:
-    """The lines of README.md that a shell runs, each with what it prints, but for those of C."""
+    """The lines of docs/OPTIONS.md that a shell runs, each with what it prints, but for those of C."""
     rows = []
-    for line in text_of("README.md").partition("## Recipes")[2].partition("\n## ")[0].splitlines():
+    for line in text_of("docs/OPTIONS.md").partition("## Recipes")[2].partition("\n## ")[0].splitlines():
         if line.startswith("    $ ") and not line.startswith("    $ cc "):
             rows.append((line[6:], ""))
         elif rows and line.startswith("    ") and not re.match(r" +(\$|font|if |import |await |const |console)", line):
@@ -284,15 +284,15 @@ def by_package(system: System) -> dict[str, str]:
 
 
 def c_source(folder: str) -> str:
-    """The path of the program in C of README.md, which is written to a folder."""
-    calls = found_in(text_of("README.md"), r"(?:^    (?:fontcut_|if ).*\n){3}", re.M)[0]
+    """The path of the program in C of docs/OPTIONS.md, which is written to a folder."""
+    calls = found_in(text_of("docs/OPTIONS.md"), r"(?:^    (?:fontcut_|if ).*\n){3}", re.M)[0]
     source = os.path.join(folder, "prog.c")
     put(source, C_PROGRAM.replace("CALLS", calls).encode())
     return source
 
 
 def from_c(system: System, folder: str, wanted: Mapping[str, Optional[bytes]], compiler: str = "gcc") -> None:
-    """The program in C of README.md, compiled over the packages' files and run on the system."""
+    """The program in C of docs/OPTIONS.md, compiled over the packages' files and run on the system."""
     if not tool("pkg-config", "pkg-config") or not tool("gcc", "gcc"):
         return
     source, libraries = c_source(folder), system.path(f"/usr/lib/{system.arch.triple}")
