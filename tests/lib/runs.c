@@ -6,8 +6,9 @@
    Each program is run LEAST times at least, and MOST times at most; between these it leaves the turns when its runs
    have taken MILLISECONDS. OUT is removed before each run. What the programs print goes nowhere. A program that ends
    with a status above STATUS is not run again, and its line is `failed`. The memory is that of one more run, which is
-   stopped before it ends: what `wait4` tells of a child counts what its parent had when it was started. Where it cannot
-   be told, the line is `failed` too. */
+   stopped before each call that may give memory back, and before it ends, and whose pages are counted there. What the
+   system keeps as a process's most is not taken: it is off by up to 32 pages for each processor, and what `wait4` tells
+   of a child counts what its parent had when it was started. Where it cannot be told, the line is `failed` too. */
 #include <fcntl.h>
 #include <signal.h>
 #include <spawn.h>
@@ -16,6 +17,7 @@
 #include <stdlib.h>
 #include <string.h>
 #include <sys/resource.h>
+#include <sys/syscall.h>
 #include <sys/wait.h>
 #include <time.h>
 #include <unistd.h>
@@ -68,18 +70,36 @@ static int run(program *one, const char *out, int worst, posix_spawn_file_action
     return 1;
 }
 
-/* The most memory that a process has had, in bytes, as the system lists it. */
+/* The memory of a process, in bytes, as the system counts its pages. */
 static long memory_of(pid_t process)
 {
     char path[64], line[256];
-    long most = 0;
-    snprintf(path, sizeof path, "/proc/%d/status", (int)process);
-    FILE *status = fopen(path, "r");
-    while (status != NULL && most == 0 && fgets(line, sizeof line, status) != NULL)
-        sscanf(line, "VmHWM: %ld kB", &most);
-    if (status != NULL)
-        fclose(status);
-    return most * 1024;
+    long held = 0;
+    snprintf(path, sizeof path, "/proc/%d/smaps_rollup", (int)process);
+    FILE *counted = fopen(path, "r");
+    while (counted != NULL && held == 0 && fgets(line, sizeof line, counted) != NULL)
+        sscanf(line, "Rss: %ld kB", &held);
+    if (counted != NULL)
+        fclose(counted);
+    return held * 1024;
+}
+
+/* Whether a process was stopped before a call that may give memory back. */
+static int gives_back(pid_t process)
+{
+    struct __ptrace_syscall_info stop;
+    if (ptrace(PTRACE_GET_SYSCALL_INFO, process, (void *)sizeof stop, &stop) <= 0
+        || stop.op != PTRACE_SYSCALL_INFO_ENTRY)
+        return 0;
+    switch (stop.entry.nr) {
+    case SYS_brk:
+    case SYS_madvise:
+    case SYS_mmap:
+    case SYS_mremap:
+    case SYS_munmap:
+        return 1;
+    }
+    return 0;
 }
 
 /* Runs a program once more, and returns the most memory that it had, in bytes, or 0 where that cannot be told. */
@@ -91,12 +111,15 @@ static long peak_of(program *one, const char *out)
     pid_t child = watched(one->words);
     if (child < 0 || waitpid(child, &status, 0) != child || !WIFSTOPPED(status))
         return 0;
-    ptrace(PTRACE_SETOPTIONS, child, NULL, (void *)(long)(PTRACE_O_TRACEEXIT | PTRACE_O_EXITKILL));
-    while (ptrace(PTRACE_CONT, child, NULL, (void *)(long)signal) == 0 && waitpid(child, &status, 0) == child
+    long stops = PTRACE_O_TRACESYSGOOD | PTRACE_O_TRACEEXIT | PTRACE_O_EXITKILL;
+    ptrace(PTRACE_SETOPTIONS, child, NULL, (void *)stops);
+    while (ptrace(PTRACE_SYSCALL, child, NULL, (void *)(long)signal) == 0 && waitpid(child, &status, 0) == child
            && WIFSTOPPED(status)) {
+        int is_call = WSTOPSIG(status) == (SIGTRAP | 0x80);
         int is_end = status >> 8 == (SIGTRAP | PTRACE_EVENT_EXIT << 8);
-        most = is_end ? memory_of(child) : most;
-        signal = is_end ? 0 : WSTOPSIG(status);
+        long held = is_end || (is_call && gives_back(child)) ? memory_of(child) : 0;
+        most = held > most ? held : most;
+        signal = is_call || is_end ? 0 : WSTOPSIG(status);
     }
     return most;
 }
