@@ -22,10 +22,11 @@ has_flags() {
         [ "$had" = "${CPPFLAGS-} ${CFLAGS-} ${LDFLAGS-} ." ]
 } 2>/dev/null
 
-# has_compiled NAME: the same, and no source and no file of gen/ is newer.
+# has_compiled NAME: the same, and nothing is newer: no source, no file of gen/, nor what says how that is compiled.
 has_compiled() {
     has_flags "$1" && is_current "$compiled/$1" || return 1
-    for file in "$top"/gen/SUMS "$top"/gen/*.c "$top"/gen/program/*; do
+    for file in "$top"/gen/SUMS "$top"/gen/*.c "$top"/gen/program/* "$top"/tools/compile_generated \
+        "$top"/tools/used_functions.ld; do
         # shellcheck disable=SC3013 # dash and bash have -nt, and POSIX since 2024
         if [ "$file" -nt "$compiled/$1" ]; then
             return 1
@@ -33,12 +34,17 @@ has_compiled() {
     done
 }
 
+# made_of: prints what the compiled files depend on: the sums of gen/ and of its sources, and how it is compiled.
+made_of() {
+    cat -- "$top/gen/SUMS" "$top/tools/compile_generated" "$top/tools/used_functions.ld"
+}
+
 # compile_now NAME TEXT WORD..: compiles gen/, or takes what is there where files are newer and yet what they were.
 compile_now() {
     name=$1 text=$2 began=$(date +%s)
     shift 2
     : >"$compiled/$name.began" || return 3
-    if has_flags "$name" && cmp -s "$top/gen/SUMS" "$compiled/$name.sums"; then
+    if has_flags "$name" && made_of | cmp -s - "$compiled/$name.made_of"; then
         "$top/tools/compile_generated" check || return
     else
         "$top/tools/compile_generated" "$@" || return
@@ -47,7 +53,7 @@ compile_now() {
             . "$top/tools/presets.sh"
             leave_presets "$compiled"
         fi
-        cp -- "$top/gen/SUMS" "$compiled/$name.sums" || return 3
+        made_of >"$compiled/$name.made_of" || return 3
         echo "${CPPFLAGS-} ${CFLAGS-} ${LDFLAGS-} ." >"$compiled/$name.flags" || return 3
         echo "fontcut: ${CC:-cc} compiled $text, made of proved code, in $(($(date +%s) - began)) seconds" >&2
     fi
