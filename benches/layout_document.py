@@ -1,4 +1,4 @@
-"""The tables of docs/PERFORMANCE.md and README.md on layout cuts."""
+"""The tables of docs/PERFORMANCE.md on layout cuts."""
 from typing import Iterable, Iterator, Mapping, NamedTuple, Optional, Sequence
 
 from document import Times, held_row, mean, number, ratio, table
@@ -11,7 +11,7 @@ from pages import ALL, FULL, LAYOUT, LEAN, SLICE, TEXTS_OF, USUAL, WAYS, WITH, W
 MOST_BESIDE_KEPT = 0.35
 MOST_OF_STEPS = 40
 
-# What the rows of the README's table are called.
+# What the rows of the table of pages are called.
 TAKEN = {
     FULL: "full cut", LEAN: "lean cut", LAYOUT: "layout cut", WITHOUT: "`hb-subset --retain-gids`, without layout",
     WITH: "`hb-subset --retain-gids`, with layout", USUAL: "`hb-subset`, which renumbers glyphs",
@@ -31,7 +31,7 @@ class Layout(NamedTuple):
 
 
 def is_taken(row: Measured) -> bool:
-    """Whether a page is one of the README's table."""
+    """Whether a page is one of that table."""
     name, font = row.page.name, row.page.font
     return font == TAKEN_FONTS.get(name, font) and (name == TAKEN_SCRIPT or not name.endswith(ALL))
 

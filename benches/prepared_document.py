@@ -22,7 +22,8 @@ MEANS = [(f"{CLOSED} {BY_RANGES}", LATIN, HB, 1.2), (f"{EXACT} {BY_RANGES}", LAT
          (f"{EXACT} {BY_RANGES}", VARYING, HB, 1.5)]
 EACH = [(f"{EXACT} {FOR_PAGES}", LATIN, 1.17), (f"{EXACT} {FOR_PAGES}", SHAPED, 0.95),
         (f"{EXACT} {FOR_LANGUAGES}", LATIN, 1.47), (f"{EXACT} {FOR_LANGUAGES}", SHAPED, 1.45)]
-# The table of the README: which fonts it has, what they are called there, and what the ways are called and are for.
+# The table of what a page weighs: which fonts it has, what they are called there, and what the ways are called and are
+# for.
 TAKEN_FONTS = {"NotoSans-Regular": "Latin", "NotoNaskhArabic-Regular": "Arabic",
                "NotoSansDevanagari-Regular": "Devanagari", "NotoSansKhmer-Regular": "Khmer",
                "MaterialIcons-Regular": "icons", "Inter.var": "Inter, variable"}
@@ -71,7 +72,7 @@ def bytes_table(rows: Sequence[Sized], ways: Sequence[str]) -> str:
 
 
 def taken_table(rows: Sequence[Sized]) -> str:
-    """The bytes of some pages, and the means of all beside hb-subset, as the README has them."""
+    """The bytes of some pages, and the means of all beside hb-subset."""
     taken = [row for font in TAKEN_FONTS for row in rows if row.page.font == font]
     titles = ["a page, bytes as WOFF2", *(TAKEN_FONTS[row.page.font] for row in taken),
               f"{len(rows)} pages : `hb-subset --retain-gids`"]
