@@ -27,8 +27,8 @@ EACH = [(f"{EXACT} {FOR_PAGES}", LATIN, 1.17), (f"{EXACT} {FOR_PAGES}", SHAPED, 
 TAKEN_FONTS = {"NotoSans-Regular": "Latin", "NotoNaskhArabic-Regular": "Arabic",
                "NotoSansDevanagari-Regular": "Devanagari", "NotoSansKhmer-Regular": "Khmer",
                "MaterialIcons-Regular": "icons", "Inter.var": "Inter, variable"}
-TAKEN = {f"{CLOSED} {FOR_LANGUAGES}": "text that readers write: closed cut, font prepared for languages",
-         f"{EXACT} {FOR_PAGES}": "text that is published: exact cut, font prepared for the page",
+TAKEN = {f"{CLOSED} {FOR_LANGUAGES}": "text that users type: closed cut, font prepared for languages",
+         f"{EXACT} {FOR_PAGES}": "fixed text: exact cut, font prepared for the page",
          f"{EXACT} {FOR_PAGES}{NO_HINTING}": "the same, without hinting", LEAN: "letters alone: lean cut",
          CLOSED: "closed cut of the font as it is", f"{HB}{TYPED}": "`hb-subset --retain-gids`",
          f"{PYFTSUBSET}{TYPED}": "`pyftsubset`, which renumbers glyphs"}

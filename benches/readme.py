@@ -9,8 +9,8 @@ Tables = Callable[[str], str]
 
 FONT, NOTHING = "LXGWWenKai-Regular", "–"
 # The ways of the table of pages, as that calls them.
-CLOSED = "text that readers write: closed cut, font prepared for languages"
-EXACT = "text that is published: exact cut, font prepared for the page"
+CLOSED = "text that users type: closed cut, font prepared for languages"
+EXACT = "fixed text: exact cut, font prepared for the page"
 OTHERS = "`hb-subset --retain-gids`", "`pyftsubset`, which renumbers glyphs"
 MODULE_SIZE = r"(?<![\d.])\d+ KB as Brotli"
 # The title of the README's table whose last column has figures.
