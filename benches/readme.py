@@ -97,7 +97,7 @@ def costs(table: Tables) -> list[str]:
     page = "Latin {}, Arabic {} (hb-subset {}, {}); {}: {} times hb-subset"
     return [*(page.format(latin[way], arabic[way], latin[OTHERS[0]], arabic[OTHERS[0]], pages, ratios[way])
               for way in (EXACT, CLOSED)),
-            f"10 letters: {merged['joined lean cuts']} in one font (hb-subset {merged['hb-subset each'].split(', ')[0]}"
+            f"10 documents: {merged['joined lean cuts']} in one font (hb-subset {merged['hb-subset each'].split(', ')[0]}"
             " in ten)",
             f"ASCII of LXGW WenKai: {last(sizes['lean cut'])} (hb-subset {last(sizes['hb-subset'])})"]
 
