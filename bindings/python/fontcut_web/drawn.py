@@ -5,6 +5,7 @@ import contextlib
 import html
 import os
 import re
+import secrets
 import shutil
 import subprocess
 import tempfile
@@ -13,6 +14,7 @@ from urllib.request import pathname2url
 
 from fontcut_output import read
 
+from .boxes import boxes
 from .common import MissingProgram, Refused
 from .inputs import file_in
 from .pages import decoded
@@ -21,9 +23,12 @@ _PROGRAMS = "chromium", "chromium-browser", "google-chrome"
 # The size of the window, in pixels; what lies below is not drawn.
 _WIDTH, _HEIGHT = 1000, 8000
 _SECONDS = 120
-# All text is drawn in the font, whatever the style sheets say.
-_STYLE = """<style>@font-face {{ font-family: fontcut-checked; src: url("{}"); font-display: block; }}
-*, *::before, *::after, *::first-letter, *::first-line, *::marker {{ font-family: fontcut-checked !important; }}
+# All text is drawn in the font, whatever the style sheets say, and what it lacks as boxes: the browser would take it of
+# a font of the system, which may be the whole font. No font of the system has the names of these families.
+_STYLE = """<style>@font-face {{ font-family: font-{name}; src: url("{font}"); font-display: block; }}
+@font-face {{ font-family: boxes-{name}; src: url("{boxes}"); font-display: block; }}
+*, *::before, *::after, *::first-letter, *::first-line, *::marker, *::placeholder {{
+  font-family: font-{name}, boxes-{name} !important; }}
 </style>"""
 # Outlines are drawn as they are. FreeType's automatic hinting moves them by what it finds in other letters of a file,
 # so that a cut without these would be drawn a little otherwise.
@@ -50,13 +55,15 @@ def _address(path: str) -> str:
     return f"file://{pathname2url(os.path.abspath(path))}"
 
 
-def _page(path: str, font: str) -> str:
-    """A page whose text is drawn in a font, and whose addresses are those of the page in a file."""
+def _page(path: str, font: str, boxes: str) -> str:
+    """A page whose text is drawn in the font in a file, and in boxes of another, and whose addresses are those of the
+    page in a file."""
     text = decoded(read(path))
     base = f'<meta charset="utf-8"><base href="{html.escape(_address(path))}">'
     head = re.search(r"<head\b[^>]*>|<html\b[^>]*>|<!doctype[^>]*>", text, re.I)
     start = head.end() if head else 0
-    return f"{text[:start]}{base}{text[start:]}{_STYLE.format(_address(font))}"
+    style = _STYLE.format(name=secrets.token_hex(8), font=_address(font), boxes=_address(boxes))
+    return f"{text[:start]}{base}{text[start:]}{style}"
 
 
 def _picture(program: str, page: str, font: bytes) -> Optional[bytes]:
@@ -71,7 +78,8 @@ def _picture(program: str, page: str, font: bytes) -> Optional[bytes]:
 
 def _drawn(program: str, folder: str, page: str, font: bytes) -> Optional[bytes]:
     """The same, in a folder."""
-    shown = file_in(folder, "page.html", _page(page, file_in(folder, "font", font)).encode())
+    files = file_in(folder, "font", font), file_in(folder, "boxes", boxes())
+    shown = file_in(folder, "page.html", _page(page, *files).encode())
     picture = os.path.join(folder, "picture.png")
     words: List[str] = [
         program, "--headless=new", "--disable-gpu", "--hide-scrollbars", "--force-device-scale-factor=1",
