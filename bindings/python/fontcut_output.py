@@ -10,7 +10,8 @@ import os
 import shutil
 import sys
 import tempfile
-from typing import Any
+import time
+from typing import Any, Set
 
 import fontcut
 
@@ -102,15 +103,25 @@ def reason(error: OSError) -> str:
 
 
 class Progress:
-    """Says on a terminal how far a long command is, in one line that it takes away at the end."""
+    """Says on a terminal how far a long command is, in one line that it takes away at the end. Elsewhere it says of each
+    thing that it works on when it comes to it, in a line, if the command has taken `LONG` seconds by then."""
+
+    LONG = 60
 
     def __init__(self, command: str) -> None:
         self.command = command
         self.is_shown = sys.stderr is not None and sys.stderr.isatty()
+        self.began = time.monotonic()
+        self.told: Set[str] = set()
 
-    def say(self, text: str) -> None:
+    def say(self, text: str, thing: str = "") -> None:
+        """Says how far the command is, with the thing that it works on, if that is told where no terminal is."""
         if self.is_shown:
-            print(f"\r\x1b[K{self.command}: {text}", end="", file=sys.stderr, flush=True)
+            before = f"{thing}: " if thing else ""
+            print(f"\r\x1b[K{self.command}: {before}{text}", end="", file=sys.stderr, flush=True)
+        elif thing and thing not in self.told and time.monotonic() - self.began >= self.LONG:
+            self.told.add(thing)
+            print(f"{self.command}: {thing}: {text} ..", file=sys.stderr, flush=True)
 
     def __enter__(self) -> Progress:
         return self

@@ -243,6 +243,11 @@ def run(*words: Union[str, bytes], **how: Any) -> Ran:
     return ran.returncode, ran.stdout, ran.stderr
 
 
+def without_progress(ran: Ran) -> Ran:
+    """What a program did, without the lines in which a long command says on standard error what it works at."""
+    return ran[0], ran[1], b"".join(line for line in ran[2].splitlines(True) if not line.endswith(b" ..\n"))
+
+
 def fontcut(*words: str, **how: Any) -> Ran:
     return run(FONTCUT, *words, **how)
 

@@ -5,9 +5,11 @@ import codecs
 import re
 import unicodedata
 from html.parser import HTMLParser
-from typing import Dict, List, Mapping, NamedTuple, Optional, Set, Tuple
+from typing import Dict, List, Mapping, NamedTuple, Optional, Sequence, Set, Tuple
 
+from . import counters
 from .common import Refused
+from .elements import Elements, Placed
 
 # Elements whose text is not drawn in a page. Browsers show titles beside it, in a font of the system.
 _SILENT = "script", "style", "title"
@@ -23,8 +25,8 @@ _WRITTEN = "", "text", "search", "email", "url", "tel", "password", "number", "d
 _EDITED = "", "true", "plaintext-only"
 # What stands between words, beside the ends of lines.
 _CONTROLS = re.compile("[\0-\x09\x0b-\x20\x7f-\x9f]+")
-# What browsers add to elements: numbers of lists, and quotation marks.
-_MADE = {"ol": "\n0123456789.\n", "q": "\n\u201c\u201d\u2018\u2019\u201e\u201a\xab\xbb\u2039\u203a\n"}
+# The mark that a browser draws for each character of a password.
+_HIDDEN = "\u2022"
 _CHARSET = re.compile(rb"<meta[^>]+charset\s*=\s*[\"']?\s*([\w.:-]+)", re.I)
 _MARKS = {codecs.BOM_UTF8: "utf-8-sig", codecs.BOM_UTF16_LE: "utf-16", codecs.BOM_UTF16_BE: "utf-16"}
 # What browsers take these names for (Encoding Standard, 4.2).
@@ -50,17 +52,23 @@ def lines_of(text: str) -> List[str]:
 
 
 class Page(NamedTuple):
-    """What is read of a page: the text that it draws; the same by its blocks, each with blanks as they are shown; the
-    languages that it names; its style sheets, and the addresses of others; `rtl` if a part goes from right to left, and
-    `override` if one does whatever its letters are; which scripts and fields it has that write other text."""
+    """What is read of a page: the text that it draws; the same by its blocks, each with blanks as they are shown; what
+    browsers add to elements, as numbers of lists; the languages that it names; its style sheets, and the addresses of
+    others; `rtl` if a part goes from right to left, and `override` if one does whatever its letters are; which scripts
+    and fields it has that write other text; the values of attributes, by their names; its elements, each with the place
+    of the one in which it stands, before it; and whether browsers put quotation marks around some."""
 
     text: str
     blocks: List[str]
+    made: List[str]
     languages: List[str]
     styles: List[str]
     links: List[str]
     directions: Set[str]
     writers: List[str]
+    attributes: Mapping[str, Sequence[str]]
+    elements: List[Placed]
+    has_quotes: bool
 
 
 class _Reader(HTMLParser):
@@ -72,11 +80,16 @@ class _Reader(HTMLParser):
         self.silent: Optional[str] = None
         self.is_listing = False
         self.running: List[str] = []
-        self.found: Dict[str, List[str]] = {"languages": [], "styles": [], "links": [], "writers": []}
+        self.found: Dict[str, List[str]] = {"languages": [], "styles": [], "links": [], "writers": [], "made": []}
         self.directions: Set[str] = set()
+        self.elements = Elements()
+        self.attributes: Dict[str, Dict[str, None]] = {}
 
     def handle_starttag(self, tag: str, attrs: List[Tuple[str, Optional[str]]]) -> None:
         given = {name: value or "" for name, value in attrs}
+        self.elements.begin(tag, given)
+        for name, value in given.items():
+            self.attributes.setdefault(name, {})[value] = None
         kind = given.get("type", "").lower()
         drawn = [value for name, value in attrs if value and _is_drawn(name, tag, kind, self.is_listing)]
         self.texts += drawn
@@ -93,7 +106,6 @@ class _Reader(HTMLParser):
         """Collects what a tag says of how text is shaped."""
         found = self.found
         found["languages"] += [given[name].strip() for name in ("lang", "xml:lang") if given.get(name, "").strip()]
-        found["styles"] += [f"a {{ {given['style']} }}"] if "style" in given else []
         if tag == "link" and "stylesheet" in given.get("rel", "").lower().split() and "href" in given:
             found["links"].append(given["href"])
         if tag == "meta" and given.get("http-equiv", "").lower() == "content-language":
@@ -104,9 +116,13 @@ class _Reader(HTMLParser):
         is_field = tag in ("textarea", "select") or tag == "input" and given.get("type", "").lower() in _WRITTEN
         if is_field or given.get("contenteditable", "false").lower() in _EDITED:
             found["writers"].append("fields")
-        self.running.append(_MADE.get(tag, ""))
+        if tag in ("ol", "li"):
+            found["made"] += [counters.of_type(given.get("type", "")), counters.digits() if tag == "ol" else ""]
+        elif tag == "input" and given.get("type", "").lower() == "password":
+            found["made"].append(_HIDDEN)
 
     def handle_endtag(self, tag: str) -> None:
+        self.elements.end(tag)
         if tag not in _INLINE:
             self.running.append("\n")
         if tag == "title":
@@ -127,8 +143,11 @@ class _Reader(HTMLParser):
     def page(self) -> Page:
         """What was read."""
         found = {name: list(dict.fromkeys(values)) for name, values in self.found.items()}
-        return Page("".join(self.texts), lines_of("".join(self.running)), found["languages"], found["styles"],
-                    found["links"], self.directions, found["writers"])
+        elements = list(self.elements.found)
+        return Page("".join(self.texts), lines_of("".join(self.running)), list(filter(None, found["made"])),
+                    found["languages"], found["styles"], found["links"], self.directions, found["writers"],
+                    {name: list(values) for name, values in self.attributes.items()}, elements,
+                    any(element.tag == "q" for _, element in elements))
 
 
 def decoded(data: bytes) -> str:

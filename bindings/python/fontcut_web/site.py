@@ -12,7 +12,7 @@ from fontcut_output import Progress, print_line
 from .common import Refused, need
 from .inputs import mapped
 from .sets import codes_of, range_words
-from .shaped import BY_FEATURES
+from .shown import BY_FEATURES
 from .site_fonts import Base, Run, based, programs, section_of
 from .site_pages import Modes, SitePage, modes_of, pages_of
 from .site_report import REPORT, Made, is_ours, lacking, lines, report, sheets

@@ -14,7 +14,8 @@ from .inputs import accepted, mapped, refusing
 from .prepare import made_of, wanted_of
 from .preparing import PrepareOptions
 from .sets import range_words
-from .site_pages import EXACT, Modes, SitePage
+from .shaped import Said
+from .site_pages import CLOSED, EXACT, Modes, SitePage
 from .site_settings import FontSettings
 from .site_state import FontState, Place, SectionState, digest, digest_of
 from .woff import packed
@@ -57,7 +58,7 @@ def _features(one: FontSettings, pages: Sequence[SitePage]) -> Optional[List[str
     """The features that stay of a font: those of its settings, and those that the style sheets of its pages turn on;
     all are `None`."""
     asked = preparing.features_of(one.features)
-    turned_on = {tag for page in pages for rule in page.shown.features for tag, value in rule if value}
+    turned_on = set().union(*(page.shown.turned_on for page in pages))
     return None if asked is None else sorted({*asked, *turned_on})
 
 
@@ -79,7 +80,7 @@ def _packed_size(run: Run, name: str, whole: fontcut.Font, old: Optional[FontSta
     """The bytes of a whole font as WOFF2, which takes long to make."""
     if old and old.source == digest(whole.data):
         return old.whole
-    run.progress.say(f"{name}: packing the whole font, to compare its bytes")
+    run.progress.say("packing the whole font, to compare its bytes", name)
     with refusing(name):
         return len(packed(whole.data))
 
@@ -87,7 +88,7 @@ def _packed_size(run: Run, name: str, whole: fontcut.Font, old: Optional[FontSta
 def _prepared(run: Run, one: FontSettings, name: str, whole: fontcut.Font, pages: Sequence[SitePage],
               old: Optional[FontState]) -> FontState:
     """Prepares a font."""
-    run.progress.say(f"{name}: preparing it")
+    run.progress.say("preparing it", name)
     letters: Set[str] = set().union(*(page.letters for page in pages), _of_languages(one))
     codes, features = mapped(whole, letters), _features(one, pages)
     if not codes:
@@ -138,14 +139,16 @@ def based(run: Run, one: FontSettings, name: str, pages: Sequence[SitePage], old
 
 def _mode(base: Base, page: SitePage, modes: Modes) -> str:
     """Whether the cut of a font for a page is exact, closed, or lean, which is neither."""
-    return modes.of(page, base.settings) if base.kind in SHAPED else base.kind
+    mode = modes.of(page, base.settings) if base.kind in SHAPED else base.kind
+    return CLOSED if mode == EXACT and shaped.is_too_much(base.path, page.shown, base.kind) else mode
 
 
-def _cut(base: Base, page: SitePage, mode: str) -> bytes:
+def _cut(run: Run, base: Base, page: SitePage, mode: str) -> bytes:
     """The cut of a font for a page."""
     try:
         if mode == EXACT:
-            return shaped.exact_cut(base.path, base.font, [page.shown], base.kind).data
+            shown = page.shown._replace(path=page.name)
+            return shaped.exact_cut(base.path, base.font, [shown], base.kind, Said(run.progress, base.name)).data
         return fontcut.cut(base.font, mapped(base.font, page.letters), kind=base.kind)
     except fontcut.Refused as refusal:
         raise Refused(f"{base.settings.file}: {refusal}") from refusal
@@ -182,12 +185,12 @@ def section_of(run: Run, base: Base, name: str, pages: Sequence[SitePage], modes
     changed = [page for page in pages if known.get(page.name) != keys[page.name]]
     cuts = [] if before is None else [before]
     for page in changed:
-        run.progress.say(f"{base.name}: cutting it for {page.name}")
-        cuts.append(_cut(base, page, _mode(base, page, modes)))
+        run.progress.say(f"cutting it for {page.name}", base.name)
+        cuts.append(_cut(run, base, page, _mode(base, page, modes)))
     data = fontcut.join(cuts, kind=base.kind) if len(cuts) > 1 else cuts[0]
     if old and data == before and run.place.kept(run.place.output, old.woff2) is not None:
         return old._replace(pages=keys)
-    run.progress.say(f"{base.name}: packing it for {name}")
+    run.progress.say(f"packing it for {name}", base.name)
     with refusing(base.name):
         small = packed(data)
     _check_pages(run, base, changed, small)

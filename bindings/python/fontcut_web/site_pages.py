@@ -4,10 +4,9 @@ from __future__ import annotations
 import os
 from typing import List, NamedTuple, Sequence, Set
 
-from . import shaped
 from .common import UsageError
 from .inputs import read_pages
-from .shaped import Shown
+from .shown import Shown, letters_of, shown_by
 from .site_settings import FontSettings, Settings, named, page_names, sections_of
 from .site_state import digest_of
 from .styles import parts_of
@@ -56,9 +55,9 @@ def _page(settings: Settings, name: str, section: str) -> SitePage:
     path = os.path.join(settings.folder, name)
     page, = read_pages([path])
     page = page._replace(links=[link for link in page.links if not _is_own(settings, name, link)])
-    shown = shaped.shown_by(page, path, [])
+    shown = shown_by(page, path, [])
     read = digest_of([shown.text, shown.blocks, shown.languages, sorted(shown.directions), shown.features])
-    return SitePage(name, section, path, shown, shaped.letters_of(shown), read)
+    return SitePage(name, section, path, shown, letters_of(shown), read)
 
 
 def pages_of(settings: Settings) -> List[SitePage]:

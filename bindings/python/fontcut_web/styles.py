@@ -4,73 +4,90 @@ from __future__ import annotations
 import os
 import re
 import unicodedata
-from typing import Dict, Hashable, Iterable, Iterator, List, Match, NamedTuple, Sequence, Set, Tuple, TypeVar
+from typing import Dict, Hashable, Iterable, Iterator, List, NamedTuple, Sequence, Set, Tuple, TypeVar
 from urllib.parse import unquote, urlsplit
 
+from . import counters
 from .common import UsageError
 from .pages import Page
+from .rules import COMMENT, STRING, Subject, calm, rules_of, unescaped
 
 Item = TypeVar("Item", bound=Hashable)
 # Some features with the value that each is set to.
 Features = Tuple[Tuple[str, int], ...]
 
-_COMMENT = re.compile(r"/\*.*?\*/", re.S)
-_STRING = r"\"(?:[^\"\\]|\\.)*\"|'(?:[^'\\]|\\.)*'"
+# The descriptors of counter styles, which add text, and other properties.
+_COUNTERS = "symbols", "additive-symbols", "prefix", "suffix", "negative", "pad", "system"
 _PROPERTIES = ("font-feature-settings|font-language-override|font-variant(?:-[a-z-]+)?|font|text-transform|content|"
-               "quotes|text-overflow|hyphens|direction|unicode-bidi|writing-mode")
-_VALUE = rf"(?:{_STRING}|[^;{{}}\"'])*"
+               "quotes|text-overflow|hyphens|hyphenate-character|line-clamp|list-style(?:-type)?|"
+               f"text-emphasis(?:-style)?|direction|unicode-bidi|writing-mode|{'|'.join(_COUNTERS)}")
+_VALUE = rf"(?:{STRING}|[^;{{}}\"'])*"
 _DECLARATION = re.compile(rf"(?<![\w-])(?:-(?:webkit|moz|ms)-)?({_PROPERTIES})\s*:\s*({_VALUE})", re.I)
 _IMPORTANT = re.compile(r"!\s*important\s*$", re.I)
-_IMPORT = re.compile(rf"@import\s+(?:url\(\s*)?({_STRING}|[^\s;)\"']+)", re.I)
+_IMPORT = re.compile(rf"@import\s+(?:url\(\s*)?({STRING}|[^\s;)\"']+)", re.I)
 _SETTING = re.compile(r"[\"']([\x20-\x7e]{4})[\"']\s*(on|off|\d+)?", re.I)
+# Strings and addresses, which are no words of CSS; an attribute that a text shows, and calls with a counter style.
+_NO_WORDS = re.compile(rf"{STRING}|url\([^)]*\)", re.I)
+_ATTRIBUTE = re.compile(r"attr\(\s*([^\s,)]+)", re.I)
+_COUNTER = re.compile(r"counters?\(([^)]*)\)", re.I)
 # Marks that capitals of Greek go without.
 _ACCENTS = re.compile("[\u0300\u0301\u0313\u0314\u0342\u0345]")
-_ESCAPE = re.compile(r"\\(?:([0-9a-fA-F]{1,6})\s?|(.))", re.S)
 
-# The features that the words of font-variant stand for; those of a word that turns them off are set to 0. Where a font
-# lacks small capitals of one form, a browser takes those of another.
-_VARIANTS: Dict[str, str] = {
-    "common-ligatures": "liga clig", "discretionary-ligatures": "dlig", "historical-ligatures": "hlig",
-    "contextual": "calt", "small-caps": "smcp", "all-small-caps": "smcp c2sc", "petite-caps": "pcap smcp",
-    "all-petite-caps": "pcap c2pc smcp c2sc", "unicase": "unic smcp", "titling-caps": "titl", "lining-nums": "lnum",
-    "oldstyle-nums": "onum", "proportional-nums": "pnum", "tabular-nums": "tnum", "diagonal-fractions": "frac",
-    "stacked-fractions": "afrc", "ordinal": "ordn", "slashed-zero": "zero", "jis78": "jp78", "jis83": "jp83",
-    "jis90": "jp90", "jis04": "jp04", "simplified": "smpl", "traditional": "trad", "full-width": "fwid",
-    "proportional-width": "pwid", "ruby": "ruby", "historical-forms": "hist", "sub": "subs", "super": "sups"}
+# The features that the words of font-variant stand for, by the properties that have these words; those of a word that
+# turns them off are set to 0. Where a font lacks small capitals of one form, a browser takes those of another.
+_VARIANTS: Dict[str, Dict[str, str]] = {
+    "font-variant-ligatures": {
+        "common-ligatures": "liga clig", "discretionary-ligatures": "dlig", "historical-ligatures": "hlig",
+        "contextual": "calt"},
+    "font-variant-caps": {
+        "small-caps": "smcp", "all-small-caps": "smcp c2sc", "petite-caps": "pcap smcp",
+        "all-petite-caps": "pcap c2pc smcp c2sc", "unicase": "unic smcp", "titling-caps": "titl"},
+    "font-variant-numeric": {
+        "lining-nums": "lnum", "oldstyle-nums": "onum", "proportional-nums": "pnum", "tabular-nums": "tnum",
+        "diagonal-fractions": "frac", "stacked-fractions": "afrc", "ordinal": "ordn", "slashed-zero": "zero"},
+    "font-variant-east-asian": {
+        "jis78": "jp78", "jis83": "jp83", "jis90": "jp90", "jis04": "jp04", "simplified": "smpl",
+        "traditional": "trad", "full-width": "fwid", "proportional-width": "pwid", "ruby": "ruby"},
+    "font-variant-alternates": {"historical-forms": "hist"},
+    "font-variant-position": {"sub": "subs", "super": "sups"}}
 _OFF: Dict[str, str] = {"no-common-ligatures": "liga clig", "no-discretionary-ligatures": "dlig",
                         "no-historical-ligatures": "hlig", "no-contextual": "calt", "none": "liga clig dlig hlig calt"}
+SETTINGS, _LIGATURES = "font-feature-settings", "font-variant-ligatures"
 _CAPITALS = frozenset("small-caps all-small-caps petite-caps all-petite-caps unicase".split())
+# Quotation marks that browsers take, by the language of a text; the first are those of any other.
+_QUOTES = "\u201c\u201d\u2018\u2019\u201e\u201a\xab\xbb\u2039\u203a"
+_CORNERS = "\u300c\u300d\u300e\u300f"
+_WITH_CORNERS = "ja", "zh", "yue"
+
+
+class FeatureRule(NamedTuple):
+    """The features that a rule sets, by property, with what its elements may be."""
+
+    subjects: List[Subject]
+    features: Dict[str, Features]
 
 
 class Styles(NamedTuple):
-    """What style sheets say: the features of each rule, the cases that text is changed to, text that is added, the
-    directions of text, as a page has them and `ttb` for vertical lines, and what could not be read."""
+    """What style sheets say: the rules that set features, the cases that text is changed to, text that is added, the
+    attributes that it is taken from, the directions of text, as a page has them and `ttb` for vertical lines, and what
+    could not be read."""
 
-    features: List[Features]
+    rules: List[FeatureRule]
     cases: List[str]
     texts: List[str]
+    attributes: List[str]
     directions: Set[str]
     unread: List[str]
 
 
-def _calm(sheet: str) -> str:
-    """A style sheet without comments, whose strings have no braces and no semicolons."""
-    escaped = {"{": "\\7b ", "}": "\\7d ", ";": "\\3b "}
-    return re.sub(_STRING, lambda found: "".join(escaped.get(one, one) for one in found[0]), _COMMENT.sub(" ", sheet))
-
-
-def _string(text: str) -> str:
-    """What a string of CSS stands for."""
-    def escaped(found: Match[str]) -> str:
-        return chr(min(int(found[1], 16), 0x10FFFF)) if found[1] else found[2].strip("\n")
-
-    return _ESCAPE.sub(escaped, text[1:-1])
-
-
-def _variant(words: Sequence[str]) -> Iterator[Tuple[str, int]]:
-    for word in words:
-        for known, value in ((_VARIANTS, 1), (_OFF, 0)):
-            yield from ((tag, value) for tag in known.get(word, "").split())
+def _variant(name: str, words: Sequence[str]) -> Iterator[Tuple[str, Features]]:
+    """The features that a property of font-variant sets, or each of them where it is the one for all."""
+    for one, known in _VARIANTS.items():
+        if name in ("font-variant", one):
+            off = _OFF if one == _LIGATURES else {}
+            found = [(tag, value) for words_of, value in ((known, 1), (off, 0)) for word in words
+                     for tag in words_of.get(word, "").split()]
+            yield one, tuple(found)
 
 
 def _settings(value: str) -> Iterator[Tuple[str, int]]:
@@ -79,14 +96,20 @@ def _settings(value: str) -> Iterator[Tuple[str, int]]:
         yield tag, {"": 1, "on": 1, "off": 0}.get(number.lower(), int(number) if number.isdigit() else 0)
 
 
-def _features(name: str, value: str) -> Iterator[Tuple[str, int]]:
-    """The features that a declaration sets."""
-    if name == "font-feature-settings":
-        yield from _settings(value)
+def _features(name: str, value: str) -> Iterator[Tuple[str, Features]]:
+    """The features that a declaration sets, by the properties that it is for."""
+    if name == SETTINGS:
+        yield name, tuple(_settings(value))
     elif name.startswith("font-variant"):
-        yield from _variant(value.lower().split())
+        yield from _variant(name, value.lower().split())
     elif name == "font":
-        yield from _variant([word for word in value.lower().split() if word == "small-caps"])
+        yield SETTINGS, ()
+        yield from _variant("font-variant", [word for word in value.lower().split() if word == "small-caps"])
+
+
+def features_in(declarations: str) -> Dict[str, Features]:
+    """The features that declarations set, by property."""
+    return {name: features for declared in declarations_of(calm(declarations)) for name, features in _features(*declared)}
 
 
 def _cases(name: str, value: str) -> Set[str]:
@@ -110,13 +133,50 @@ def cased(text: str, case: str, languages: Sequence[str]) -> List[str]:
     return made
 
 
-def _texts(name: str, value: str) -> Iterator[str]:
-    """Text that a declaration adds."""
-    if name in ("content", "quotes"):
-        yield from map(_string, re.findall(_STRING, value))
-    if name == "content" and "counter" in value:
-        yield "0123456789."
-    yield from ["\u2026"] if name == "text-overflow" else ["-\u2010"] if name == "hyphens" else []
+def quotes_of(languages: Sequence[str]) -> str:
+    """The quotation marks that browsers may take in some languages."""
+    return _QUOTES + (_CORNERS if any(one.lower().startswith(_WITH_CORNERS) for one in languages) else "")
+
+
+def _counted(name: str, value: str) -> Iterator[str]:
+    """The characters of numbers and marks that a declaration asks for."""
+    words = _NO_WORDS.sub(" ", value)
+    if name.startswith("list-style") or name == "system":
+        yield from counters.of_styles(words)
+    elif name.startswith("text-emphasis"):
+        yield from counters.of_emphasis(words)
+    elif name == "content":
+        for listed in _COUNTER.findall(words):
+            _, comma, style = listed.rpartition(",")
+            yield from list(counters.of_styles(style, has_marks=True)) if comma else [counters.digits()]
+
+
+def _texts(name: str, value: str, languages: Sequence[str]) -> Iterator[str]:
+    """Text that a declaration adds to a page in these languages."""
+    yield from _counted(name, value)
+    if name in _COUNTERS:
+        yield from map(_string, re.findall(STRING, value))
+        # Symbols may be words, too.
+        yield unescaped(_NO_WORDS.sub(" ", value)) if name != "system" else ""
+    elif not name.startswith("font"):
+        yield from map(_string, re.findall(STRING, value))
+    if name in ("text-overflow", "line-clamp"):
+        yield "\u2026"
+    if name == "hyphens":
+        yield "-\u2010"
+    if name == "content" and "-quote" in value.lower():
+        yield quotes_of(languages)
+
+
+def _string(text: str) -> str:
+    """What a string of CSS stands for."""
+    return unescaped(text[1:-1])
+
+
+def _attributes(name: str, value: str) -> Iterator[str]:
+    """The attributes of elements that a declaration adds as text."""
+    if name == "content":
+        yield from (found.lower() for found in _ATTRIBUTE.findall(_NO_WORDS.sub(" ", value)))
 
 
 def _directions(name: str, value: str) -> Set[str]:
@@ -133,13 +193,13 @@ def _unread(name: str, value: str) -> Iterator[str]:
     is_set = "var(" in value and name.startswith("font-")
     is_wide = name == "text-transform" and "full" in value
     is_alternate = name in ("font-variant", "font-variant-alternates") and re.search(r"\b(?!var)[a-z-]+\(", value)
-    if is_set or is_wide or is_alternate or name == "content" and "attr(" in value or name == "font-language-override":
+    if is_set or is_wide or is_alternate or name == "font-language-override":
         yield f"{name}: {value.strip()}"
 
 
-def _declarations(rule: str) -> Iterator[Tuple[str, str]]:
-    """The names and values of the declarations of a rule."""
-    for name, value in _DECLARATION.findall(rule):
+def declarations_of(text: str) -> Iterator[Tuple[str, str]]:
+    """The names and values of declarations that are known here."""
+    for name, value in _DECLARATION.findall(text):
         yield name.lower(), _IMPORTANT.sub("", value)
 
 
@@ -148,22 +208,30 @@ def _once(items: Iterable[Item]) -> List[Item]:
     return list(dict.fromkeys(items))
 
 
-def styles_of(sheets: Sequence[str]) -> Styles:
-    """What the texts of style sheets say."""
-    found = Styles([], [], [], set(), [])
+def _read(declarations: str, languages: Sequence[str], found: Styles) -> Dict[str, Features]:
+    """Reads declarations, and returns the features that they set."""
+    features: Dict[str, Features] = {}
+    for name, value in declarations_of(declarations):
+        features.update(_features(name, value))
+        found.cases.extend(sorted(_cases(name, value)))
+        found.texts.extend(_texts(name, value, languages))
+        found.attributes.extend(_attributes(name, value))
+        found.directions.update(_directions(name, value))
+        found.unread.extend(_unread(name, value))
+    return features
+
+
+def styles_of(sheets: Sequence[str], inline: Sequence[str], languages: Sequence[str]) -> Styles:
+    """What the texts of style sheets say, and declarations of single elements, for a page in these languages."""
+    found = Styles([], [], [], [], set(), [])
     for sheet in sheets:
-        # Rules may stand in rules, so that declarations are on both sides of a brace.
-        for rule in re.split("[{}]", _calm(sheet)):
-            set_here: Dict[str, int] = {}
-            for name, value in _declarations(rule):
-                set_here.update(_features(name, value))
-                found.cases.extend(sorted(_cases(name, value)))
-                found.texts.extend(_texts(name, value))
-                found.directions.update(_directions(name, value))
-                found.unread.extend(_unread(name, value))
-            found.features.extend([tuple(sorted(set_here.items()))] if set_here else [])
-    return Styles(_once(found.features), _once(found.cases), _once(filter(None, found.texts)), found.directions,
-                  _once(found.unread))
+        for rule in rules_of(sheet):
+            features = _read("; ".join(rule.declarations), languages, found)
+            found.rules.extend([FeatureRule(rule.subjects, features)] if features else [])
+    for declarations in inline:
+        _read(calm(declarations), languages, found)
+    return found._replace(cases=_once(found.cases), texts=_once(filter(None, found.texts)),
+                          attributes=_once(found.attributes), unread=_once(found.unread))
 
 
 def parts_of(address: str) -> Tuple[str, str]:
@@ -200,7 +268,7 @@ def _linked(address: str, folder: str, seen: Set[str], lost: List[str]) -> Itera
 
 def _imported(text: str, folder: str, seen: Set[str], lost: List[str]) -> Iterator[str]:
     """The texts of the style sheets that one imports."""
-    for address in _IMPORT.findall(_COMMENT.sub(" ", text)):
+    for address in _IMPORT.findall(COMMENT.sub(" ", text)):
         yield from _linked(address.strip("\"'"), folder, seen, lost)
 
 

@@ -6,16 +6,17 @@ import contextlib
 import json
 import os
 import sys
-from typing import Dict, List, NamedTuple, Sequence
+from typing import Dict, List, NamedTuple, Sequence, Set
 
 import fontcut
-from fontcut_output import print_line, write
+from fontcut_output import Progress, print_line, write
 
-from . import pages
+from . import pages, styles
 from .common import SHAPED, Missing, Refused, UsageError, need, part
 from .inputs import accepted, as_file, mapped, read_pages, refusing
 from .replaced import check_font, check_name, check_written, is_same
 from .sets import Slice, range_words
+from .shown import Shown, letters_of, shown_by
 
 
 class Cut(NamedTuple):
@@ -27,24 +28,23 @@ class Cut(NamedTuple):
     warnings: List[str]
 
 
-def _closed(given: argparse.Namespace, font: fontcut.Font, read: Sequence[pages.Page]) -> Cut:
+def _closed(given: argparse.Namespace, font: fontcut.Font, shown: Sequence[Shown]) -> Cut:
     """The cut for the characters of pages; where it is to be shaped, also for those that a shaper takes for them."""
-    texts = [*(page.text for page in read), given.text]
-    letters = pages.shown("".join(texts))
-    if given.kind in SHAPED:
-        letters |= pages.shown("".join(map(fontcut.needed, texts)))
-    kept = mapped(font, letters)
+    of_page = letters_of if given.kind in SHAPED else _letters
+    kept = mapped(font, set().union(*map(of_page, shown)))
     return Cut(fontcut.cut(font, kept, kind=given.kind), kept, {}, [])
 
 
-def _exact(given: argparse.Namespace, font: fontcut.Font, paths: Sequence[str], source: str,
-           read: Sequence[pages.Page]) -> Cut:
+def _letters(page: Shown) -> Set[str]:
+    """The characters of what a page shows."""
+    return pages.shown(page.text)
+
+
+def _exact(given: argparse.Namespace, font: fontcut.Font, source: str, shown: Sequence[Shown]) -> Cut:
     """The cut for the glyphs that pages take, and for the characters that a shaper takes for their text."""
-    shaped, styles = part("shaped"), part("styles")
-    more = styles.features_of(given.features or [])
-    shown = [shaped.shown_by(page, path, more, given.text) for page, path in zip(read, paths)]
-    with as_file(source, font) as path:
-        exact = shaped.exact_cut(path, font, shown, given.kind)
+    shaped = part("shaped")
+    with as_file(source, font) as path, Progress("fontcut-web") as progress:
+        exact = shaped.exact_cut(path, font, shown, given.kind, shaped.Said(progress, os.path.basename(source)))
     unknown = [line for page in shown for line in page.unknown]
     return Cut(exact.data, exact.codes, {"glyphs": exact.glyphs, "unknown": unknown}, unknown)
 
@@ -67,9 +67,9 @@ def _check_words(given: argparse.Namespace) -> None:
         raise UsageError("--features is for --shaped: other cuts have the glyphs of all features of their characters")
 
 
-def _lacking(given: argparse.Namespace, source: str, font: fontcut.Font, read: Sequence[pages.Page]) -> List[int]:
+def _lacking(given: argparse.Namespace, source: str, font: fontcut.Font, shown: Sequence[Shown]) -> List[int]:
     """The characters of the pages that a font lacks, which are told. Raises `Refused` where that is asked for."""
-    codes = sorted(map(ord, pages.shown("".join([*(page.text for page in read), given.text]))))
+    codes = sorted(map(ord, set().union(*map(_letters, shown))))
     lacking = fontcut.missing(font, codes)
     if lacking:
         said = f"{source} lacks {len(lacking)} of {len(codes)} characters: {range_words(lacking)}"
@@ -125,9 +125,11 @@ def run(given: argparse.Namespace) -> None:
         check_font(source, font, out)
         if given.css:
             check_written([_sheet_beside(out)])
-    lacking = _lacking(given, source, font, read)
+    more = styles.features_of(given.features or [])
+    shown = [shown_by(page, path, more, given.text) for page, path in zip(read, paths)]
+    lacking = _lacking(given, source, font, shown)
     try:
-        cut = _exact(given, font, paths, source, read) if given.shaped else _closed(given, font, read)
+        cut = _exact(given, font, source, shown) if given.shaped else _closed(given, font, shown)
     except fontcut.Refused as refusal:
         raise Refused(f"{source}: {refusal}") from refusal
     with refusing(source):

@@ -1,0 +1,93 @@
+"""The rules of style sheets: the declarations of each, and the elements that it may be about (CSS Syntax 3, Selectors
+4)."""
+from __future__ import annotations
+
+import re
+from typing import FrozenSet, Iterator, List, Match, NamedTuple
+
+from .elements import Element, plain
+
+STRING = r"\"(?:[^\"\\]|\\.)*\"|'(?:[^'\\]|\\.)*'"
+COMMENT = re.compile(r"/\*.*?\*/", re.S)
+ESCAPE = re.compile(r"\\(?:([0-9a-fA-F]{1,6})\s?|(.))", re.S)
+_PARENTHESES, _ATTRIBUTE = re.compile(r"\([^()]*\)"), re.compile(r"\[[^\]]*\]")
+_COMBINATORS = re.compile(r"[\s>+~|]+")
+# A part of a selector: a pseudo-class or an element, a class, a name, or a tag.
+_PART = re.compile(r"(::?|[.#]|)((?:[\w-]|[^\0-\x7f])+)")
+# What stands before the steps of an animation, which any element may have.
+_STEP = re.compile(r"from|to|[\d.]+%")
+
+
+class Subject(NamedTuple):
+    """What an element has to be for a selector, as far as the element alone tells. What is empty is any."""
+
+    tag: str
+    name: str
+    classes: FrozenSet[str]
+
+    def may_be(self, element: Element) -> bool:
+        """Whether a selector may be about an element. What it asks of others, and of states, is not looked at."""
+        return (self.tag in ("", element.tag) and self.name in ("", element.name) and self.classes <= element.classes)
+
+
+_ANY = Subject("", "", frozenset())
+
+
+class Rule(NamedTuple):
+    """A rule: what its elements may be, and the text of each of its declarations."""
+
+    subjects: List[Subject]
+    declarations: List[str]
+
+
+def unescaped(text: str) -> str:
+    """A text of CSS with what its escapes stand for."""
+    return ESCAPE.sub(lambda found: _escaped(found).strip("\n"), text)
+
+
+def _escaped(found: Match[str]) -> str:
+    return chr(min(int(found[1], 16), 0x10FFFF)) if found[1] else found[2]
+
+
+def calm(sheet: str) -> str:
+    """A style sheet without comments, whose strings have no braces and no semicolons."""
+    escaped = {"{": "\\7b ", "}": "\\7d ", ";": "\\3b "}
+    return re.sub(STRING, lambda found: "".join(escaped.get(one, one) for one in found[0]), COMMENT.sub(" ", sheet))
+
+
+def _subject(selector: str) -> Subject:
+    """What the last element of a selector may be."""
+    if _STEP.fullmatch(selector.strip()):
+        return _ANY
+    parts = _PART.findall(_COMBINATORS.split(selector.strip())[-1])
+    tag, name = ("".join(word for mark, word in parts if mark == wanted).lower() for wanted in ("", "#"))
+    return Subject(tag, name, frozenset(word.lower() for mark, word in parts if mark == "."))
+
+
+def _subjects(prelude: str) -> List[Subject]:
+    """What the elements of a list of selectors may be."""
+    text = ESCAPE.sub(lambda found: plain(_escaped(found)), re.sub(STRING, "", prelude))
+    before = ""
+    while before != text:
+        before, text = text, _PARENTHESES.sub("", text)
+    return list(map(_subject, _ATTRIBUTE.sub("", text).split(",")))
+
+
+def _within(prelude: str, around: List[Subject]) -> List[Subject]:
+    """What the elements of a block may be that has this before it. Conditions leave it to the block around."""
+    prelude = prelude.strip()
+    return around if prelude.startswith("@") else _subjects(prelude)
+
+
+def rules_of(sheet: str) -> Iterator[Rule]:
+    """The rules of the text of a style sheet, in the order of their ends. Those in other rules are rules, too."""
+    opened = [Rule([_ANY], [])]
+    for text, end in re.findall(r"([^{};]*)([{};]|$)", calm(sheet)):
+        if end == "{":
+            opened.append(Rule(_within(text, opened[-1].subjects), []))
+            continue
+        opened[-1].declarations.append(text)
+        if end == "}" and len(opened) > 1:
+            yield opened.pop()
+    while opened:
+        yield opened.pop()
