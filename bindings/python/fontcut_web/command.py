@@ -46,7 +46,8 @@ _PRESETS = f"""\
                      the subsets of Google Fonts of these names
   {WEB}                all of them
   arabic, devanagari, thai ..
-                     a script, by its name in Unicode, with what shapers take for it, digits and punctuation
+                     a script, by its name in Unicode, with what shapers take for it, digits, punctuation
+                     and signs of its currencies
   {', '.join(languages())}
                      a slice of signs, and {PARTS} slices of characters by their use
   {AUTO}               the presets of all scripts of FONT, and a slice of what is left"""
@@ -67,9 +68,10 @@ loads 2 to 12 slices, most of them small; with :{SIZES[1]}, as in {languages()[0
 --order FILE puts the characters of a text first, in their order there. In any order a page loads ten times the bytes
 of a cut for its text, or more: for text that is known, fontcut-web text is better.
 
-The scripts of FONT of which no character is in a slice are named, and with --strict nothing is written then. If a
-whole font would be replaced, or a style sheet or a page that fontcut-web did not write, nothing is written without
---force.
+The scripts of FONT of which no character is in a slice are named, and with --strict nothing is written then. It is said
+how many other characters are in no slice, and --rest writes them as the slice rest. Equal slices of layout and variable
+cuts do not divide a script whose letters join or change places, which is said; with --force they do. If a whole font
+would be replaced, or a style sheet or a page that fontcut-web did not write, nothing is written without --force.
 
 To a browser, slices are separate fonts: there is no kerning and no shaping across them. If that matters, put the
 characters of a script into one slice.
@@ -87,9 +89,9 @@ auto and equal are for a font. Without --font, the sizes of slices by use count 
 _TEXT = """\
 Writes the cut of FONT for the characters that HTML pages draw to OUT: their text without scripts, styles and titles,
 and the attributes alt and placeholder, label in lists, and value in fields and on buttons. If OUT ends in .woff2, it is
-WOFF2. What a style sheet or a script adds is not known (content, list numbers, text-transform): add it with --text.
-With --layout or --variable the cut also has the characters that a shaper takes for these, as with fontcut subset
---layout.
+WOFF2. What browsers write for style sheets is wanted too: numbers of lists, content, quotation marks, capitals. What a
+script adds is not known: add it with --text. With --layout or --variable the cut also has the characters that a shaper
+takes for these, as with fontcut subset --layout.
 
 With --shaped, hb-shape of HarfBuzz shapes the text, and the cut has just the glyphs that come: it is exact, and much
 smaller. Lines, words and all pieces of words are shaped, with and without ligatures, in each language that a page
@@ -179,7 +181,8 @@ def _dropped(given: argparse.Namespace) -> List[str]:
 def _run_slice(given: argparse.Namespace) -> None:
     need("fontTools", *["brotli"] if given.woff2 else [])
     slicing = part("slicing")
-    how = slicing.SliceOptions(given.kind, given.woff2, given.css, given.display, given.strict, _dropped(given))
+    how = slicing.SliceOptions(given.kind, given.woff2, given.css, given.display, given.strict, _dropped(given),
+                               given.rest, given.force)
     paths, wanted = use.fonts_and_slices(given)
     with Progress("fontcut-web") as progress:
         progress.say(f"reading {len(paths)} fonts")
@@ -244,8 +247,8 @@ def _add_slice(commands: argparse._SubParsersAction[CommandParser]) -> None:
         "slice", help="cut fonts in slices, with a style sheet", description=f"{_SLICE}\n{_CUT_KINDS}\n",
         formatter_class=_RAW, epilog=_STATUS,
         usage="fontcut-web slice FONT.. --out DIR --slices SLICES [--lean | --layout | --variable | --full]\n"
-              "                         [--drop TABLES] [--order FILE] [--woff2] [--css] [--display VALUE] [--strict]\n"
-              "                         [--force] [--quiet] [--json]")
+              "                         [--drop TABLES] [--order FILE] [--rest] [--woff2] [--css] [--display VALUE]\n"
+              "                         [--strict] [--force] [--quiet] [--json]")
     command.add_argument("fonts", metavar="FONT", nargs="+")
     command.add_argument("--out", metavar="DIR", required=True, help="the folder that the files go to")
     command.add_argument("--slices", metavar="SLICES", action="append", required=True, help="a preset or a file")
@@ -255,13 +258,17 @@ def _add_slice(commands: argparse._SubParsersAction[CommandParser]) -> None:
     command.add_argument("--drop", metavar="TABLES", action="append",
                          help="with --layout or --variable, cut fonts as if they lacked these layout tables, as "
                               "GSUB,kern")
+    command.add_argument("--rest", action="store_true",
+                         help="write the characters that are left of the scripts of the slices, and of no script, as a "
+                              "last slice")
     command.add_argument("--woff2", action="store_true", help="write FONT-SLICE.woff2 too, which browsers load")
     command.add_argument("--css", action="store_true", help="write fonts.css, and index.html, a page that shows the "
                                                             "fonts and preloads the first slice")
     _display(command)
     command.add_argument("--strict", action="store_true", help="write nothing if a script of a FONT is in no slice")
     command.add_argument("--force", action="store_true",
-                         help="write over whole fonts, style sheets and pages of others")
+                         help="write over whole fonts, style sheets and pages of others, and divide scripts that are "
+                              "shaped")
     command.add_argument("--quiet", action="store_true", help="do not say what the files lack of a FONT")
     command.add_argument("--json", action="store_true", help="print what was written")
     command.set_defaults(run=_run_slice)

@@ -2,7 +2,7 @@
 from __future__ import annotations
 
 import io
-from typing import Iterable, List, Set
+from typing import Iterable, List, NamedTuple, Sequence, Set
 
 from fontcut_needed import using_joiners
 from fontTools import unicodedata as properties
@@ -12,6 +12,8 @@ from .common import SHAPED
 from .malformed import MALFORMED
 
 _DEFAULT = "DFLT"
+# The script of marks of any script, and the letter that shapers put below a mark which has none.
+_INHERITED, _CIRCLE = "Zinh", 0x25CC
 
 
 def _listed(opened: TTFont) -> Set[str]:
@@ -21,19 +23,42 @@ def _listed(opened: TTFont) -> Set[str]:
 
 
 def _shaped(opened: TTFont, codes: Iterable[int]) -> List[str]:
-    """The names of the scripts of characters whose letters join or change places, and that a font shapes."""
+    """The scripts of characters whose letters join or change places, and that a font shapes."""
     tags, joining = _listed(opened), using_joiners()
     scripts = {properties.script(chr(code)) for code in codes if chr(code) in joining}
-    found = [script for script in sorted(scripts - {"Zyyy", "Zinh", "Zzzz"})
-             if tags & {_DEFAULT, *properties.ot_tags_from_script(script)}]
-    return list(map(properties.script_name, found))
+    return [script for script in sorted(scripts - {"Zyyy", _INHERITED, "Zzzz"})
+            if tags & {_DEFAULT, *properties.ot_tags_from_script(script)}]
+
+
+class ShapedScript(NamedTuple):
+    """A script that a font shapes, by its name: its letters and marks, and these with what it shares with others."""
+
+    name: str
+    own: Set[int]
+    whole: Set[int]
+
+
+def shaped_scripts(font: bytes, codes: Sequence[int]) -> List[ShapedScript]:
+    """The scripts of characters that a font shapes. The first of these shares the marks of any script."""
+    try:
+        scripts = _shaped(TTFont(io.BytesIO(font), lazy=True), codes)
+    except MALFORMED:
+        return []
+    found: List[ShapedScript] = []
+    for script in scripts:
+        wanted = {script} if found else {script, _INHERITED}
+        own = {code for code in codes if properties.script(chr(code)) == script}
+        shared = {code for code in codes if wanted & properties.script_extension(chr(code))}
+        circle = set() if found else {_CIRCLE}.intersection(codes)
+        found.append(ShapedScript(str(properties.script_name(script)), own, own | shared | circle))
+    return found
 
 
 def dropped(name: str, font: bytes, codes: Iterable[int], kind: str) -> List[str]:
     """The lines that are said of a cut of a font for some characters, of a kind."""
     try:
         opened = TTFont(io.BytesIO(font), lazy=True)
-        scripts = [] if kind in SHAPED else _shaped(opened, codes)
+        scripts = [] if kind in SHAPED else list(map(properties.script_name, _shaped(opened, codes)))
         axes = [axis.axisTag for axis in opened["fvar"].axes] if "fvar" in opened and kind != "variable" else []
     except MALFORMED:
         # A table that fontTools does not read shapes nothing and has no axes.

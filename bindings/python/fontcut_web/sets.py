@@ -24,8 +24,8 @@ _OF_WEB = {"latin": ("latin", "latin-ext", "vietnamese"), "greek": ("greek", "gr
            "cyrillic": ("cyrillic", "cyrillic-ext")}
 _OF_LANGUAGES = "han", "hangul", "hiragana", "katakana", "bopomofo"
 _TELLING = 2000
-# The last slice of `auto`: what is of no script.
-_OTHERS = "others"
+# The last slice of `auto`: what is of no script. The last slice of other lists, where it is asked for.
+_OTHERS, REST = "others", "rest"
 
 
 class Slice(NamedTuple):
@@ -226,23 +226,46 @@ def named_codes(wanted: Iterable[Asked]) -> List[int]:
     return sorted(found)
 
 
-def divided(codes: Sequence[int], wanted: Iterable[Asked]) -> List[Slice]:
+def divided(codes: Sequence[int], wanted: Iterable[Asked], whole: Sequence[Set[int]] = ()) -> List[Slice]:
     """The slices that have some of the characters. A character is in the first slice that names it, and in no other,
-    so that a browser loads it once."""
+    so that a browser loads it once. Equal slices divide none of the sets of characters that are to be whole."""
     left = list(codes)
     found: List[Slice] = []
     for one in wanted:
         made = one.slices(left)
+        made = _undivided(made, whole) if isinstance(one, Equal) else made
         found += [each for each in made if each.codes]
         inside = {code for each in made for code in each.codes}
         left = [code for code in left if code not in inside]
     return found
 
 
+def _undivided(slices: Sequence[Slice], whole: Sequence[Set[int]]) -> List[Slice]:
+    """Slices of which each has all or none of a set of characters: the first that has one of them gets all."""
+    sets = [set(one.codes) for one in slices]
+    for together in whole:
+        first = next((one for one in sets if one & together), set())
+        moved = set().union(*(one & together for one in sets))
+        for one in sets:
+            one -= moved
+        first |= moved
+    return [Slice(one.name, sorted(codes)) for one, codes in zip(slices, sets)]
+
+
 def unsliced(codes: Sequence[int], slices: Iterable[Slice]) -> Dict[str, int]:
     """The scripts of which no character is in a slice, and how many characters of each there are."""
     inside = scripts_of(code for one in slices for code in one.codes)
     return {script: count for script, count in scripts_of(codes).items() if script not in inside}
+
+
+def left_out(codes: Sequence[int], slices: Iterable[Slice]) -> List[int]:
+    """The characters that are in no slice, though they are of no script, or of one of which a slice has characters.
+    Controls are not among them, which no page shows."""
+    properties = importlib.import_module("fontTools.unicodedata")
+    inside = {code for one in slices for code in one.codes}
+    scripts = {properties.script(chr(code)) for code in inside} | {"Zyyy", "Zinh", "Zzzz"}
+    return [code for code in codes if code not in inside and properties.script_extension(chr(code)) & scripts
+            and properties.category(chr(code)) != "Cc"]
 
 
 def range_words(codes: Iterable[int]) -> str:

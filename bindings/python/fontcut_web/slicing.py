@@ -7,15 +7,17 @@ from typing import Dict, Iterator, List, Mapping, NamedTuple, Optional, Sequence
 import fontcut
 from fontcut_output import Progress, write
 
-from .common import Refused
+from .common import SHAPED, Refused
 from .faces import Face, face_of, varying
 from .inputs import font_of, refusing
-from .notices import dropped
-from .sets import Asked, Slice, codes_of, divided, range_words, unsliced
+from .notices import ShapedScript, dropped, shaped_scripts
+from .sets import REST, Asked, Slice, codes_of, divided, left_out, range_words, unsliced
 from .sheet import Placed, Styled, page, preloads, style_sheet
 from .woff import compressed_size, packed, without
 
 SHEET, PAGE = "fonts.css", "index.html"
+# How many characters are named that are in no slice.
+_NAMED = 5
 # How many slices are cut by one call, which holds all of them in memory.
 _AT_ONCE = 16
 
@@ -23,8 +25,8 @@ _AT_ONCE = 16
 class Font(NamedTuple):
     """A font that is accepted, with the slices that are wanted of it. `face` is what the style sheet says of it,
     `shown` the face of its default instance, `base` begins the names of the files, and `unsliced` has the scripts of
-    which no character is in a slice, with how many characters the font has of each. `notices` are the lines that are
-    said of all this, and of what the cuts drop."""
+    which no character is in a slice, with how many characters the font has of each, and `left_out` the other
+    characters in no slice. `notices` are the lines that are said of all this, and of what the cuts drop."""
 
     path: str
     font: fontcut.Font
@@ -33,6 +35,7 @@ class Font(NamedTuple):
     slices: List[Slice]
     base: str
     unsliced: Dict[str, int]
+    left_out: List[int]
     notices: List[str]
 
 
@@ -45,7 +48,9 @@ class Written(NamedTuple):
 
 
 class SliceOptions(NamedTuple):
-    """How slices are written: of which kind of cut, and what besides; and the tables that fonts are taken to lack."""
+    """How slices are written: of which kind of cut, and what besides; the tables that fonts are taken to lack; and
+    whether a last slice has the characters that are left out, and whether equal slices divide scripts that are
+    shaped."""
 
     kind: str = "lean"
     woff2: bool = False
@@ -53,6 +58,8 @@ class SliceOptions(NamedTuple):
     display: str = "swap"
     strict: bool = False
     drop: Sequence[str] = ()
+    rest: bool = False
+    is_dividing: bool = False
 
 
 def accepted(path: str, how: SliceOptions) -> fontcut.Font:
@@ -85,29 +92,61 @@ def opened(paths: Sequence[str], asked: Sequence[Asked], how: SliceOptions) -> L
     taken: Set[str] = set()
     seen: Dict[Face, str] = {}
     for path in paths:
-        font = accepted(path, how)
-        shown = face_of(font.data, os.path.splitext(os.path.basename(path))[0])
-        face = varying(font.data, shown) if how.kind == "variable" else shown
-        codes = codes_of(font)
-        slices = divided(codes, asked)
-        if not slices:
-            raise Refused(f"{path}: it maps no character of these slices")
-        lost = unsliced(codes, slices)
-        if lost and how.strict:
-            raise Refused(lost_words(path, lost))
-        if how.css and face in seen:
-            raise Refused(f"{path}: it has the family, style, weight and width of {seen[face]}: {face}")
-        seen[face] = path
-        notices = [lost_words(path, lost)] if lost else []
-        notices += dropped(path, font.data, (code for one in slices for code in one.codes), how.kind)
-        found.append(Font(path, font, face, shown, slices, _base(path, slices, taken), lost, notices))
+        one = _opened(path, asked, how)
+        if how.css and one.face in seen:
+            raise Refused(f"{path}: it has the family, style, weight and width of {seen[one.face]}: {one.face}")
+        seen[one.face] = path
+        found.append(one._replace(base=_base(path, one.slices, taken)))
     return found
+
+
+def _opened(path: str, asked: Sequence[Asked], how: SliceOptions) -> Font:
+    """A font and its slices, whose files have no names yet."""
+    font = accepted(path, how)
+    shown = face_of(font.data, os.path.splitext(os.path.basename(path))[0])
+    face = varying(font.data, shown) if how.kind == "variable" else shown
+    codes = codes_of(font)
+    scripts = shaped_scripts(font.data, codes) if how.kind in SHAPED else []
+    slices = divided(codes, asked, [] if how.is_dividing else [script.whole for script in scripts])
+    if not slices:
+        raise Refused(f"{path}: it maps no character of these slices")
+    lost, rest = unsliced(codes, slices), left_out(codes, slices)
+    if lost and how.strict:
+        raise Refused(lost_words(path, lost))
+    if how.rest and rest:
+        slices, rest = [*slices, Slice(REST, rest)], []
+    notices = [*([lost_words(path, lost)] if lost else []), *([left_words(path, rest)] if rest else [])]
+    notices += _divided_words(path, scripts, divided(codes, asked), slices)
+    notices += dropped(path, font.data, (code for one in slices for code in one.codes), how.kind)
+    return Font(path, font, face, shown, slices, "", lost, rest, notices)
+
+
+def _divided_words(path: str, scripts: Sequence[ShapedScript], plain: Sequence[Slice], slices: Sequence[Slice]
+                   ) -> Iterator[str]:
+    """What is said of scripts that a font shapes whose letters would be in more than one of these slices, or are."""
+    for script in scripts:
+        before, after = ([one.name for one in some if script.own.intersection(one.codes)] for some in (plain, slices))
+        if len(after) > 1:
+            yield (f"{path}: {script.name} is shaped, and is in the slices {', '.join(after)}: letters of two slices do "
+                   "not join")
+        elif len(before) > 1:
+            yield (f"{path}: {script.name} is shaped, so it is not divided: all of it is in the slice {after[0]}; "
+                   "--force divides it")
 
 
 def lost_words(path: str, lost: Mapping[str, int]) -> str:
     """What is said of the scripts of a font of which no character is in a slice."""
     scripts = ", ".join(f"{script} ({count} characters)" for script, count in lost.items())
     return f"{path}: no slice has {scripts}: add the slices of these names, or auto"
+
+
+def left_words(path: str, rest: Sequence[int]) -> str:
+    """What is said of other characters of a font that are in no slice."""
+    some = ", ".join(f"U+{code:04X}" for code in rest[:_NAMED])
+    more = f" and {len(rest) - _NAMED} more" if len(rest) > _NAMED else ""
+    are = "1 character of these scripts or of none is" if len(rest) == 1 else \
+        f"{len(rest)} characters of these scripts or of none are"
+    return f"{path}: {are} in no slice: {some}{more}: --rest writes them as the last slice"
 
 
 def _put(folder: str, name: str, data: bytes) -> Tuple[str, int]:
@@ -131,7 +170,7 @@ def _slices(fonts: Sequence[Font], folder: str, how: SliceOptions, progress: Pro
         made: List[Written] = []
         for one, cut in _cuts(font, how.kind):
             number += 1
-            progress.say(f"slice {number} of {count}")
+            progress.say(f"slice {number} of {count}", os.path.basename(font.path))
             name = f"{font.base}-{one.name}"
             with refusing(font.path):
                 small = packed(cut) if how.woff2 else None
@@ -172,4 +211,4 @@ def _told(font: Font, made: Sequence[Written]) -> Dict[str, object]:
                "unicode_range": range_words(one.slice.codes)}
         rows.append({**row, **({"woff2": one.woff2[0], "woff2_bytes": one.woff2[1]} if one.woff2 else {})})
     return {"font": font.path, **font.face._asdict(), "slices": rows, "in_no_slice": font.unsliced,
-            "notices": font.notices}
+            "left_out": range_words(font.left_out), "notices": font.notices}

@@ -12,7 +12,7 @@ from . import pages
 from .common import UsageError, need
 from .inputs import accepted, read_pages
 from .presets import characters_of
-from .sets import Asked, asked, codes_of, divided, named_codes, range_words
+from .sets import REST, Asked, asked, codes_of, divided, named_codes, range_words
 
 # What names of pages end in, among the names of fonts.
 _PAGES = ".html", ".htm", ".xhtml", ".txt"
@@ -49,6 +49,8 @@ def fonts_and_slices(given: argparse.Namespace) -> Tuple[List[str], List[Asked]]
     wanted = asked(given.slices, order, counted(read_pages(found)))
     if not wanted:
         raise UsageError("the list names no slice")
+    if given.rest and REST in (name for one in wanted for name in one.names()):
+        raise UsageError(f"two slices have the name {REST}")
     return fonts, wanted
 
 
