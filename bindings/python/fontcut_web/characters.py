@@ -34,8 +34,9 @@ def _rows() -> Dict[str, str]:
     return {name.lower(): words for names, _, words in rows for name in names.split()}
 
 
-def _tag(language: str) -> str:
-    """The tag by which a language is known, which may be a part of the tag that is given: `de` for `de-AT`."""
+def _tag(language: str, otherwise: str) -> str:
+    """The tag by which a language is known, which may be a part of the tag that is given: `de` for `de-AT`. The error
+    for another says how its characters can be named otherwise."""
     parts = language.strip().lower().replace("_", "-").split("-")
     if parts[0] in ("zh", "yue") and set(parts) & set(_TRADITIONAL):
         return f"{parts[0]}-hant"
@@ -43,7 +44,8 @@ def _tag(language: str) -> str:
     tags = ["-".join(parts[:count]) for count in range(len(parts), 0, -1)]
     tag = next((tag for tag in tags if tag in known), None)
     if tag is None:
-        raise UsageError(f"the characters of the language {language.strip()!r} are not known: name them by --unicodes")
+        raise UsageError(f"the characters of the language {language.strip()!r} are not known: write a tag, as en or "
+                         f"sr-Latn, or name them by {otherwise}")
     return tag
 
 
@@ -65,11 +67,11 @@ def _with_needed(letters: Iterable[str]) -> Set[str]:
     return pages.shown(fontcut.needed("\n".join(letters)))
 
 
-def of_languages(languages: Sequence[str]) -> Set[str]:
+def of_languages(languages: Sequence[str], otherwise: str = "--unicodes") -> Set[str]:
     """The characters of languages and those that every language has, with what a shaper takes for them. Raises
-    `UsageError` for a language that is not known."""
+    `UsageError` for a language that is not known, which says how else its characters can be named."""
     found = _letters(EVERY)
-    for tag in map(_tag, languages):
+    for tag in (_tag(language, otherwise) for language in languages):
         found |= _encoded(_STANDARDS[tag]) if tag in _STANDARDS else _letters(_rows()[tag])
     return _with_needed(found)
 
@@ -93,6 +95,11 @@ def of_scripts(scripts: Sequence[str], font: fontcut.Font) -> Set[str]:
     wanted = {*_script_names(scripts), _INHERITED}
     letters = map(chr, codes_in(fontcut.codes(font)))
     return _with_needed({*_letters(EVERY), *(one for one in letters if wanted & properties.script_extension(one))})
+
+
+def of_ranges(words: str) -> Set[str]:
+    """The characters of ranges, without any that a shaper takes for them."""
+    return {chr(code) for code in codes_in(fontcut.ranges(words)) if not 0xD800 <= code <= 0xDFFF}
 
 
 def of_texts(texts: Sequence[str]) -> Set[str]:

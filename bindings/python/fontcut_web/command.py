@@ -151,7 +151,13 @@ DIR/.fontcut. A run that is killed leaves the old files as they are, and the nex
   [[font]]
   file = "NotoSans-Regular.ttf"
   pages = ["*.html", "blog/*"]     # the pages that show it; all, if none are named
-  languages = ["de", "fr"]         # prepare it for languages too, in which readers write
+  languages = ["de", "fr"]         # readers write in these: its cuts have their letters
+
+  [[page]]
+  files = ["guestbook.html"]       # the same for some pages, and more text or characters
+  languages = ["es"]
+  text = "Ω"
+  unicodes = "U+2600-26FF"
 
 The manual page has all settings.
 """

@@ -187,9 +187,10 @@ class Exact(NamedTuple):
     glyphs: int
 
 
-def exact_cut(path: str, font: fontcut.Font, listed: Sequence[Shown], kind: str, said: Said) -> Exact:
+def exact_cut(path: str, font: fontcut.Font, listed: Sequence[Shown], kind: str, said: Said,
+              others: Iterable[str] = ()) -> Exact:
     """The cut of the font in a file, which is opened, for the glyphs that pages take, and for the characters that a
-    shaper takes for their text. Raises `Refused` where a page can be shaped in too many ways."""
+    shaper takes for their text, and for others. Raises `Refused` where a page can be shaped in too many ways."""
     if not shaping.is_there():
         raise MissingProgram(shaping.PROGRAM, shaping.INSTALL)
     ways = ways_of(path, kind)
@@ -198,5 +199,5 @@ def exact_cut(path: str, font: fontcut.Font, listed: Sequence[Shown], kind: str,
             raise Refused(f"{page.path}: there are more than {MOST_WAYS} ways in which its text may be shaped: without "
                           "--shaped a cut has all glyphs of its characters")
     glyphs = set().union(*(_taken_of(path, page, ways, said) for page in listed))
-    kept = mapped(font, set().union(*map(letters_of, listed)))
+    kept = mapped(font, set(others).union(*map(letters_of, listed)))
     return Exact(fontcut.cut(font, kept, kind=kind, gids=sorted(glyphs), layout_closure=False), kept, len(glyphs))

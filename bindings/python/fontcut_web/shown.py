@@ -14,12 +14,14 @@ from .styles import Features, Styles, cased, features_in, quotes_of, sheets_of, 
 _TURNED = "\u05d0"
 # What can be done about style sheets that are not understood.
 BY_FEATURES = ": name its features by --features"
+# What is said of a page to which readers write.
+FIELDS = "it has fields, and text that readers write in this font may vanish"
 
 
 class Shown(NamedTuple):
     """What a page shows, as far as it can be known, and what cannot: blocks of text, the languages that it is shown in,
-    directions, the sets of features that its runs of text have, all features that its style sheets turn on, and lines
-    that say the rest."""
+    directions, the sets of features that its runs of text have, all features that its style sheets turn on, whether
+    readers write to it, and lines that say the rest."""
 
     path: str
     text: str
@@ -28,6 +30,7 @@ class Shown(NamedTuple):
     directions: Set[str]
     features: List[Features]
     turned_on: Set[str]
+    has_fields: bool
     unknown: List[str]
 
 
@@ -43,7 +46,7 @@ def shown_by(page: Page, path: str, more: Sequence[Features], text: str = "") ->
     # What stands between parts is no character of them, and composes with none.
     return Shown(path, "\0".join([page.text, text, *blocks]), list(dict.fromkeys(blocks)), ["", *page.languages],
                  _directions(page, styles, blocks), sets[:MOST], _turned_on(page, styles, more),
-                 list(_unknown(page, path, styles, lost, len(sets) > MOST)))
+                 "fields" in page.writers, list(_unknown(page, path, styles, lost, len(sets) > MOST)))
 
 
 def _with_more(sets: Sequence[Features], more: Sequence[Features]) -> List[Features]:
@@ -85,8 +88,7 @@ def _directions(page: Page, styles: Styles, blocks: Sequence[str]) -> Set[str]:
 
 def _unknown(page: Page, path: str, styles: Styles, lost: Sequence[str], is_more: bool) -> Iterator[str]:
     """What cannot be known of a page."""
-    said = {"scripts": "it runs scripts, and text that they write may vanish",
-            "fields": "it has fields, and text that readers write in this font may vanish"}
+    said = {"scripts": "it runs scripts, and text that they write may vanish", "fields": FIELDS}
     yield from (f"{path}: {said[writer]}" for writer in page.writers)
     yield from (f"{path}: the style sheet {address} is no file beside it{BY_FEATURES}" for address in lost)
     yield from (f"{path}: {declared!r} is not understood{BY_FEATURES}" for declared in styles.unread)

@@ -12,7 +12,7 @@ from fontcut_output import Progress, print_line
 from .common import Refused, need
 from .inputs import mapped
 from .sets import codes_of, range_words
-from .shown import BY_FEATURES
+from .shown import BY_FEATURES, FIELDS
 from .site_fonts import Base, Run, based, programs, section_of
 from .site_pages import Modes, SitePage, modes_of, pages_of
 from .site_report import REPORT, Made, is_ours, lacking, lines, report, sheets
@@ -78,7 +78,11 @@ def _told(modes: Modes, found: Sequence[Tuple[Base, List[SitePage]]], pages: Seq
     for page in shown:
         if page.name not in modes.exact | modes.closed:
             yield from (f"{line.replace(BY_FEATURES, '')}: its cuts are closed, unless it is named as exact"
-                        for line in page.shown.unknown)
+                        for line in page.shown.unknown if not line.endswith(FIELDS))
+        its = [base for base, some in found if page in some]
+        if page.shown.has_fields and not page.written.letters and not any(base.settings.languages for base in its):
+            yield (f"{page.shown.path}: readers write to it, and letters that it does not show are of no font of it: "
+                   "name languages of the page or of a font")
     yield from (f"{name}: no font of it has {range_words(codes)}" for name, codes in lacking(shown, fonts))
 
 

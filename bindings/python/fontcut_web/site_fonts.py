@@ -7,7 +7,7 @@ from typing import Dict, List, Mapping, NamedTuple, Optional, Sequence, Set
 import fontcut
 from fontcut_output import Progress
 
-from . import characters, drawn, preparing, shaped, shaping
+from . import drawn, preparing, shaped, shaping
 from .common import SHAPED, Refused, codes_in
 from .faces import Face, face_of, is_variable, varying
 from .inputs import accepted, mapped, refusing
@@ -16,9 +16,13 @@ from .preparing import PrepareOptions
 from .sets import range_words
 from .shaped import Said
 from .site_pages import CLOSED, EXACT, Modes, SitePage
-from .site_settings import FontSettings
+from .site_settings import FILE, FontSettings
 from .site_state import FontState, Place, SectionState, digest, digest_of
+from .site_written import letters_with, with_text, written_by
 from .woff import packed
+
+# How many ranges of new characters are named.
+_NAMED = 8
 
 
 class Run(NamedTuple):
@@ -69,8 +73,11 @@ def _why(one: FontSettings, old: FontState, key: str, pages: Sequence[SitePage],
         return "its file, its settings or a program has changed"
     lacking = sorted(set(codes) - _codes(old.codes))
     if lacking:
-        page = next((page.name for page in pages if set(map(chr, lacking)) & page.letters), one.file)
-        return f"{page} has {range_words(lacking)}, which it had not"
+        new = set(map(chr, lacking))
+        page = next((page.name for page in pages if new & (page.letters | page.written.every)), FILE)
+        words = range_words(lacking).split(", ")
+        more = " and more" if len(words) > _NAMED else ""
+        return f"{page} has {', '.join(words[:_NAMED])}{more}, which it had not"
     if old.features is None or features is not None and set(features) <= set(old.features):
         return ""
     return f"{', '.join(sorted(set(features or []) - set(old.features))) or 'all'} is a feature that it had not"
@@ -89,7 +96,7 @@ def _prepared(run: Run, one: FontSettings, name: str, whole: fontcut.Font, pages
               old: Optional[FontState]) -> FontState:
     """Prepares a font."""
     run.progress.say("preparing it", name)
-    letters: Set[str] = set().union(*(page.letters for page in pages), _of_languages(one))
+    letters = _letters(one, pages)
     codes, features = mapped(whole, letters), _features(one, pages)
     if not codes:
         raise Refused(f"{one.file}: it maps no character of its pages")
@@ -100,13 +107,14 @@ def _prepared(run: Run, one: FontSettings, name: str, whole: fontcut.Font, pages
                      range_words(codes), features, _packed_size(run, name, whole, old), {})
 
 
-def _of_languages(one: FontSettings) -> Set[str]:
-    return characters.of_languages(one.languages) if one.languages else set()
+def _letters(one: FontSettings, pages: Sequence[SitePage]) -> Set[str]:
+    """The characters that a font is prepared for."""
+    return set().union(*(page.letters | page.written.every for page in pages), written_by([one]).every)
 
 
 def _key(one: FontSettings, whole: fontcut.Font) -> str:
     """A digest of what a prepared font is made of, beside the pages."""
-    options = {"languages": sorted(one.languages), "features": one.features, "hinting": one.hinting,
+    options = {"languages": sorted(one.languages), "written": written_by([one]).digest, "features": one.features, "hinting": one.hinting,
                "names": one.names, "kern": one.kern, "instance": one.instance}
     return digest(whole.data, digest_of(options).encode())
 
@@ -116,7 +124,7 @@ def _state(run: Run, one: FontSettings, name: str, whole: fontcut.Font, pages: S
     """The state of a font that is prepared: that of the last run, where it has all that is wanted."""
     if old is None or run.place.kept(run.place.work, old.prepared) is None:
         return _prepared(run, one, name, whole, pages, old)
-    codes = mapped(whole, set().union(*(page.letters for page in pages), _of_languages(one)))
+    codes = mapped(whole, _letters(one, pages))
     why = _why(one, old, _key(one, whole), pages, codes, _features(one, pages))
     if not why:
         return old
@@ -145,11 +153,14 @@ def _mode(base: Base, page: SitePage, modes: Modes) -> str:
 
 def _cut(run: Run, base: Base, page: SitePage, mode: str) -> bytes:
     """The cut of a font for a page."""
+    written = [written_by([base.settings]), page.written]
+    shown = with_text(page.shown._replace(path=page.name), written[0].text)
     try:
         if mode == EXACT:
-            shown = page.shown._replace(path=page.name)
-            return shaped.exact_cut(base.path, base.font, [shown], base.kind, Said(run.progress, base.name)).data
-        return fontcut.cut(base.font, mapped(base.font, page.letters), kind=base.kind)
+            others: Set[str] = set().union(*(one.others for one in written))
+            said = Said(run.progress, base.name)
+            return shaped.exact_cut(base.path, base.font, [shown], base.kind, said, others).data
+        return fontcut.cut(base.font, mapped(base.font, letters_with(shown, written)), kind=base.kind)
     except fontcut.Refused as refusal:
         raise Refused(f"{base.settings.file}: {refusal}") from refusal
 
@@ -179,7 +190,8 @@ def _check_pages(run: Run, base: Base, pages: Sequence[SitePage], data: bytes) -
 def section_of(run: Run, base: Base, name: str, pages: Sequence[SitePage], modes: Modes) -> SectionState:
     """The cut of a section: that of the last run, into which the cuts of pages are joined that have changed."""
     old = base.state.sections.get(name)
-    keys = {page.name: f"{_mode(base, page, modes)}:{page.digest}" for page in pages}
+    written = written_by([base.settings]).digest
+    keys = {page.name: f"{_mode(base, page, modes)}:{digest_of([page.digest, written])}" for page in pages}
     before = _before(run, base, old, keys)
     known = old.pages if old and before is not None else {}
     changed = [page for page in pages if known.get(page.name) != keys[page.name]]

@@ -9,6 +9,7 @@ from .inputs import read_pages
 from .shown import Shown, letters_of, shown_by
 from .site_settings import FontSettings, Settings, named, page_names, sections_of
 from .site_state import digest_of
+from .site_written import Written, written_to
 from .styles import parts_of
 
 EXACT, CLOSED = "exact", "closed"
@@ -16,13 +17,15 @@ EXACT, CLOSED = "exact", "closed"
 
 class SitePage(NamedTuple):
     """A page: its name, which is its path from the folder of the site; its section; its file; what it shows; the
-    characters of that, with those that a shaper takes for them; and a digest of all that its cuts depend on."""
+    characters of that, with those that a shaper takes for them; what is written to it; and a digest of all that its
+    cuts depend on."""
 
     name: str
     section: str
     path: str
     shown: Shown
     letters: Set[str]
+    written: Written
     digest: str
 
 
@@ -34,10 +37,11 @@ class Modes(NamedTuple):
 
     def of(self, page: SitePage, font: FontSettings) -> str:
         """Whether the cut of a font for a page is exact or closed. If nothing is named, it is exact where all text is
-        known: not if readers write in this font, for whose languages it is prepared, or if the page has other text."""
+        known: not if readers write to the page or in this font, in languages that the settings name, or if the page
+        has other text."""
         if page.name in self.exact:
             return EXACT
-        is_known = not page.shown.unknown and not font.languages
+        is_known = not (page.shown.unknown or font.languages or page.written.letters)
         return EXACT if is_known and page.name not in self.closed else CLOSED
 
 
@@ -50,21 +54,23 @@ def _is_own(settings: Settings, name: str, address: str) -> bool:
     return found.startswith(f"{settings.out}{os.sep}")
 
 
-def _page(settings: Settings, name: str, section: str) -> SitePage:
-    """What is read of a page."""
+def _page(settings: Settings, name: str, section: str, written: Written) -> SitePage:
+    """What is read of a page, to which this is written."""
     path = os.path.join(settings.folder, name)
     page, = read_pages([path])
     page = page._replace(links=[link for link in page.links if not _is_own(settings, name, link)])
-    shown = shown_by(page, path, [])
-    read = digest_of([shown.text, shown.blocks, shown.languages, sorted(shown.directions), shown.features])
-    return SitePage(name, section, path, shown, letters_of(shown), read)
+    shown = shown_by(page, path, [], written.text)
+    read = digest_of([shown.text, shown.blocks, shown.languages, sorted(shown.directions), shown.features,
+                      written.digest])
+    return SitePage(name, section, path, shown, letters_of(shown), written, read)
 
 
 def pages_of(settings: Settings) -> List[SitePage]:
     """The pages of a site, in order of their names."""
     names = page_names(settings)
     sections = sections_of(settings, names)
-    return [_page(settings, name, sections[name]) for name in names]
+    written = written_to(settings, names)
+    return [_page(settings, name, sections[name], written[name]) for name in names]
 
 
 def modes_of(settings: Settings, pages: Sequence[SitePage]) -> Modes:

@@ -4,6 +4,7 @@ from __future__ import annotations
 
 import json
 import os
+import unicodedata
 from typing import Dict, Iterator, List, Mapping, NamedTuple, Sequence, Tuple
 
 import fontcut
@@ -17,6 +18,8 @@ from .site_settings import Settings
 from .site_state import SectionState
 
 REPORT = "site.json"
+# The categories of characters that are not in every font: letters, marks, symbols as arrows, and icons.
+_OF_ONE_FONT = "Lu", "Ll", "Lt", "Lm", "Lo", "Mn", "Mc", "Me", "So", "Co"
 # What each text that is written begins with, by which it is known.
 _WRITTEN = mark("site")
 
@@ -69,11 +72,18 @@ def _address(settings: Settings, page: SitePage, name: str) -> str:
     return address_of(path.replace(os.sep, "/"))
 
 
+def _first(page: SitePage, made: Sequence[Made]) -> Sequence[Made]:
+    """The fonts that a page needs at once: those whose letters or symbols it shows. Others may have no more than blanks,
+    digits and punctuation for it, which other fonts of it have too."""
+    letters = {ord(letter) for letter in page.shown.text if unicodedata.category(letter) in _OF_ONE_FONT}
+    return [one for one in made if letters.intersection(one.codes)] or made
+
+
 def _row(settings: Settings, page: SitePage, made: Sequence[Made]) -> Dict[str, object]:
     """What is told of a page: lines for its head, and the bytes that it takes."""
     rows = [{"font": one.font, "file": one.state.woff2.name, "bytes": one.state.woff2.size, "whole": one.whole,
              "cut": one.state.pages[page.name].partition(":")[0]} for one in made]
-    head = [preload(_placed(one), _address(settings, page, one.state.woff2.name)) for one in made]
+    head = [preload(_placed(one), _address(settings, page, one.state.woff2.name)) for one in _first(page, made)]
     sheet = f'<link rel="stylesheet" href="{_address(settings, page, page.section + ".css")}">'
     return {"section": page.section, "head": [*head, sheet] if made else [], "fonts": rows,
             "bytes": sum(one.state.woff2.size for one in made), "whole": sum(one.whole for one in made)}

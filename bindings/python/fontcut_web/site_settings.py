@@ -8,6 +8,7 @@ import re
 import sys
 from typing import Any, Dict, Iterator, List, Mapping, NamedTuple, Sequence, Set
 
+import fontcut
 from fontcut_output import read
 
 from .common import DISPLAYS, SHAPED, UsageError, need
@@ -24,12 +25,14 @@ _BARE = re.compile(r"[A-Za-z0-9_-]+")
 
 class FontSettings(NamedTuple):
     """A font of a site: its file, patterns of the pages that show it, the languages that it is prepared for beside its
-    pages, how it is prepared, the kind of its cuts, and what style sheets call it. What is empty is as the font has
-    it."""
+    pages, more text and ranges of characters, how it is prepared, the kind of its cuts, and what style sheets call it.
+    What is empty is as the font has it."""
 
     file: str
     pages: List[str] = ["**/*"]
     languages: List[str] = []
+    text: str = ""
+    unicodes: str = ""
     features: str = "default"
     hinting: bool = True
     names: str = "least"
@@ -41,9 +44,18 @@ class FontSettings(NamedTuple):
     weight: str = ""
 
 
+class PageSettings(NamedTuple):
+    """Patterns of pages, with what readers write to these: languages, and more text and ranges of characters."""
+
+    files: List[str]
+    languages: List[str] = []
+    text: str = ""
+    unicodes: str = ""
+
+
 class Settings(NamedTuple):
     """What a site is: the folder of its pages, that of its fonts and how pages address it, patterns of its pages, of
-    those whose cuts are exact or closed, and of the pages of each section; and its fonts."""
+    those whose cuts are exact or closed, and of the pages of each section; its fonts, and what is written to pages."""
 
     folder: str
     fonts: List[FontSettings]
@@ -51,6 +63,7 @@ class Settings(NamedTuple):
     exact: List[str] = []
     closed: List[str] = []
     sections: Mapping[str, List[str]] = {}
+    written: Sequence[PageSettings] = ()
     out: str = "fonts"
     address: str = ""
     display: str = "swap"
@@ -78,13 +91,14 @@ def _is_like(value: object, default: object) -> bool:
     return isinstance(value, type(default))
 
 
-def _values(where: str, table: object, defaults: Mapping[str, object]) -> Dict[str, Any]:
-    """The values of a table, whose keys and types are those of the defaults. Raises `UsageError` for others."""
+def _values(where: str, table: object, defaults: Mapping[str, object], tables: Sequence[str] = ()) -> Dict[str, Any]:
+    """The values of a table, whose keys and types are those of the defaults. Raises `UsageError` for others, which
+    names these and the tables that may stand beside them."""
     if not isinstance(table, dict):
         raise UsageError(f"{where} is not a table")
     for key, value in table.items():
         if key not in defaults:
-            raise UsageError(f"{where}: there is no setting {key}: the settings are {', '.join(defaults)}")
+            raise UsageError(f"{where}: there is no setting {key}: the settings are {', '.join([*defaults, *tables])}")
         if not _is_like(value, defaults[key]):
             meant = {list: "a list of texts", bool: "true or false", str: "a text"}[type(defaults[key])]
             raise UsageError(f"{where}: {key} has to be {meant}")
@@ -108,7 +122,27 @@ def _font(path: str, number: int, table: object) -> FontSettings:
     found = FontSettings(**values)
     for key, choices in (("style", _STYLES), ("names", _NAMES), ("kern", _KERNS), ("kind", _KINDS)):
         _check_choice(where, key, getattr(found, key), choices)
+    _check_unicodes(where, found.unicodes)
     return found
+
+
+def _written(path: str, number: int, table: object) -> PageSettings:
+    """What is written to some pages, by the settings in a file."""
+    where, no_patterns = f"{path}: page {number}", []  # type: str, List[str]
+    found = PageSettings(**{"files": no_patterns, **_values(where, table, {
+        "files": no_patterns, **PageSettings._field_defaults})})
+    if not found.files:
+        raise UsageError(f"{where}: files is missing")
+    _check_unicodes(where, found.unicodes)
+    return found
+
+
+def _check_unicodes(where: str, words: str) -> None:
+    """Raises `UsageError` where words are no ranges of characters."""
+    try:
+        fontcut.ranges(words)
+    except ValueError as error:
+        raise UsageError(f"{where}: unicodes: {error}") from error
 
 
 def _sections(path: str, table: object) -> Dict[str, List[str]]:
@@ -137,13 +171,16 @@ def settings_of(folder: str) -> Settings:
     none."""
     path = os.path.join(folder, FILE)
     table = _table(path)
-    fonts, sections = table.pop("font", []), table.pop("sections", {})
-    defaults = {key: value for key, value in Settings._field_defaults.items() if key != "sections"}
-    values = _values(path, table, defaults)
+    fonts, sections, pages = table.pop("font", []), table.pop("sections", {}), table.pop("page", [])
+    defaults = {key: value for key, value in Settings._field_defaults.items() if key not in ("sections", "written")}
+    values = _values(path, table, defaults, ("[sections]", "[[font]]", "[[page]]"))
     if not isinstance(fonts, list) or not fonts:
         raise UsageError(f"{path}: it names no font: write [[font]], and below it file = \"Sans.ttf\"")
+    if not isinstance(pages, list):
+        raise UsageError(f"{path}: page is not a list of tables: write [[page]], and below it files = [\"*.html\"]")
     found = Settings(folder, [_font(path, number, font) for number, font in enumerate(fonts, 1)],
-                     sections=_sections(path, sections), **values)
+                     sections=_sections(path, sections),
+                     written=[_written(path, number, page) for number, page in enumerate(pages, 1)], **values)
     _check_choice(path, "display", found.display, DISPLAYS)
     inside = os.path.relpath(os.path.realpath(found.output), os.path.realpath(folder))
     if inside == os.curdir or inside.split(os.sep)[0] in (os.pardir, WORK):
