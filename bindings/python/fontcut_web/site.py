@@ -9,6 +9,7 @@ from typing import Dict, Iterator, List, Mapping, Sequence, Set, Tuple
 import fontcut
 from fontcut_output import Progress, print_line
 
+from . import sequences
 from .common import Refused, need
 from .inputs import mapped
 from .sets import codes_of, range_words
@@ -84,6 +85,9 @@ def _told(modes: Modes, found: Sequence[Tuple[Base, List[SitePage]]], pages: Seq
             yield (f"{page.shown.path}: readers write to it, and letters that it does not show are of no font of it: "
                    "name languages of the page or of a font")
     yield from (f"{name}: no font of it has {range_words(codes)}" for name, codes in lacking(shown, fonts))
+    for page in shown:
+        its_fonts = [(os.path.basename(base.settings.file), base.whole.data) for base, some in found if page in some]
+        yield from (f"{page.name}: {line}" for line in sequences.told(page.shown.text, its_fonts))
 
 
 def _write(place: Place, texts: Mapping[str, str], told: str, state: State) -> int:

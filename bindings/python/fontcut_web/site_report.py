@@ -11,6 +11,7 @@ import fontcut
 
 from .common import Refused
 from .faces import Face
+from .sequences import without_selectors
 from .sets import Slice
 from .sheet import Placed, Styled, address_of, mark, preload, style_sheet
 from .site_pages import SitePage
@@ -92,7 +93,7 @@ def _row(settings: Settings, page: SitePage, made: Sequence[Made]) -> Dict[str, 
 def lacking(pages: Sequence[SitePage], fonts: Mapping[str, Sequence[fontcut.Font]]) -> Iterator[Tuple[str, List[int]]]:
     """The pages that have characters which none of their fonts has, with these."""
     for page in pages:
-        codes = sorted({ord(letter) for letter in page.shown.text if letter.isprintable()})
+        codes = sorted(without_selectors({ord(letter) for letter in page.shown.text if letter.isprintable()}))
         for font in fonts[page.name]:
             codes = fontcut.missing(font, codes)
         if codes:

@@ -11,7 +11,7 @@ from typing import Dict, List, NamedTuple, Sequence, Set
 import fontcut
 from fontcut_output import Progress, print_line, write
 
-from . import pages, styles
+from . import pages, sequences, styles
 from .common import SHAPED, Missing, Refused, UsageError, need, part
 from .inputs import accepted, as_file, mapped, read_pages, refusing
 from .replaced import check_font, check_name, check_written, is_same
@@ -69,7 +69,7 @@ def _check_words(given: argparse.Namespace) -> None:
 
 def _lacking(given: argparse.Namespace, source: str, font: fontcut.Font, shown: Sequence[Shown]) -> List[int]:
     """The characters of the pages that a font lacks, which are told. Raises `Refused` where that is asked for."""
-    codes = sorted(map(ord, set().union(*map(_letters, shown))))
+    codes = sorted(sequences.without_selectors(map(ord, set().union(*map(_letters, shown)))))
     lacking = fontcut.missing(font, codes)
     if lacking:
         said = f"{source} lacks {len(lacking)} of {len(codes)} characters: {range_words(lacking)}"
@@ -80,11 +80,12 @@ def _lacking(given: argparse.Namespace, source: str, font: fontcut.Font, shown: 
     return lacking
 
 
-def _dropped(given: argparse.Namespace, source: str, font: fontcut.Font, cut: Cut) -> List[str]:
+def _dropped(given: argparse.Namespace, source: str, font: fontcut.Font, cut: Cut, shown: Sequence[Shown]) -> List[str]:
     """What is said of what the cut drops, where fontTools is there to know it."""
     with contextlib.suppress(Missing):
         lines: List[str] = part("notices").dropped(source, font.data, cut.codes, given.kind)
-        return lines
+        return lines + [f"{page.path}: {line}" for page in shown
+                        for line in sequences.told(page.text, [(source, font.data)])]
     return []
 
 
@@ -137,7 +138,7 @@ def run(given: argparse.Namespace) -> None:
     if given.check:
         part("drawn").check(paths, font.data, data)
     write(out, data)
-    notices = _dropped(given, source, font, cut)
+    notices = _dropped(given, source, font, cut, shown)
     told = {**cut.report, **(_write_sheet(given, font, source, cut.codes) if given.css else {})}
     if given.json:
         print_line(json.dumps({"file": out, "bytes": len(data), "characters": len(cut.codes),
