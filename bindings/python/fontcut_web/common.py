@@ -2,6 +2,7 @@
 from __future__ import annotations
 
 import importlib
+import logging
 import sys
 from importlib.util import find_spec
 from types import ModuleType
@@ -21,6 +22,9 @@ DISPLAYS = "auto", "block", "swap", "fallback", "optional"
 # What files of WOFF begin with, and all fonts.
 WOFF, WOFF2 = b"wOFF", b"wOF2"
 FONTS = b"\0\1\0\0", b"OTTO", b"true", b"ttcf", WOFF, WOFF2
+
+# fontTools tells what it drops and what is odd in a font, which is told here otherwise.
+logging.getLogger("fontTools").addHandler(logging.NullHandler())
 
 
 class Refused(Exception):

@@ -12,6 +12,7 @@ from fontcut_output import read, write
 
 from . import pages
 from .common import FONTS, WOFF, WOFF2, Refused, UsageError, part
+from .formats import format_of
 
 
 def _is_font(data: bytes) -> bool:
@@ -34,12 +35,13 @@ def read_pages(paths: Sequence[str], order: str = "") -> List[pages.Page]:
 
 
 @contextlib.contextmanager
-def refusing(path: str) -> Iterator[None]:
-    """Within it, a refusal names its file."""
+def refusing(path: str, data: bytes = b"") -> Iterator[None]:
+    """Within it, a refusal names its file, and says what it is if that explains it."""
     try:
         yield
     except (fontcut.Refused, Refused) as refusal:
-        raise Refused(f"{path}: {refusal}") from refusal
+        what = format_of(data)
+        raise Refused(f"{path}: {refusal}{': ' if what else ''}{what}") from refusal
 
 
 def font_of(path: str) -> bytes:
@@ -53,7 +55,7 @@ def font_of(path: str) -> bytes:
 def accepted(path: str) -> fontcut.Font:
     """The font in a file, which may be a WOFF or WOFF2 file."""
     data = font_of(path)
-    with refusing(path):
+    with refusing(path, data):
         return fontcut.Font(data)
 
 

@@ -3,7 +3,6 @@ numbers."""
 from __future__ import annotations
 
 import io
-import logging
 import re
 from typing import Any, Dict, Iterable, Iterator, List, Mapping, NamedTuple, Optional, Sequence, Set, Tuple, Union
 
@@ -21,9 +20,6 @@ _KERN, _ALL = "kern", "*"
 _TAG = re.compile(r"[\x20-\x7e]{4}")
 _NUMBER = r"-?\d+(?:\.\d+)?"
 _LIMIT = re.compile(rf"([\x21-\x7e]{{4}})=(?:(drop)|({_NUMBER})(?::({_NUMBER}))?)")
-
-# It tells what it drops, which is told here otherwise.
-logging.getLogger("fontTools").addHandler(logging.NullHandler())
 
 # The values of an axis that stay: one, a range, or the default one.
 Limit = Union[None, float, Tuple[float, float]]

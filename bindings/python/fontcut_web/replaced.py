@@ -11,6 +11,9 @@ from fontcut_output import is_whole_font, read
 
 from .common import KINDS, WOFF, WOFF2, UsageError, part
 
+# What names end in of files of a site that are no fonts.
+_NO_FONTS = frozenset(".css .js .mjs .json .toml .txt .md .xml .svg .png .jpg .jpeg .gif .webp .html .htm .xhtml".split())
+
 
 def is_same(one: str, other: str) -> bool:
     """Whether two paths lead to one file, which is there."""
@@ -84,6 +87,9 @@ def check_written(paths: Iterable[str]) -> None:
 def check_name(out: str, is_packed: bool) -> None:
     """Raises `UsageError` for an OUT that would not be what its name says. It may be WOFF2 where it is packed."""
     front, ending = os.path.splitext(out)
+    if ending.lower() in _NO_FONTS:
+        raise UsageError(f"{out} would be a font, and its name says {ending}: name a file that ends in .ttf"
+                         + (" or .woff2" if is_packed else ""))
     if ending.lower() not in ((".woff",) if is_packed else (".woff", ".woff2")):
         return
     packed = f", or a WOFF2 file, as {front}.woff2" if is_packed else ""

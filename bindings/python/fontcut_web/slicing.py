@@ -65,7 +65,7 @@ class SliceOptions(NamedTuple):
 def accepted(path: str, how: SliceOptions) -> fontcut.Font:
     """The font in a file without the tables that are dropped, of which cuts can be made."""
     data = font_of(path)
-    with refusing(path):
+    with refusing(path, data):
         font = fontcut.Font(without(data, how.drop) if how.drop else data)
         # Tables of layout and of variations are refused for some kinds alone: here, and not when other fonts are
         # written already.
