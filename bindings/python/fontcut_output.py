@@ -103,8 +103,8 @@ def reason(error: OSError) -> str:
 
 
 class Progress:
-    """Says on a terminal how far a long command is, in one line that it takes away at the end. Elsewhere it says of each
-    thing that it works on when it comes to it, in a line, if the command has taken `LONG` seconds by then."""
+    """Says on a terminal how far a long command is, in one line that it takes away at the end. Elsewhere it says of
+    each thing that it works on when it comes to it, in a line, if the command has taken `LONG` seconds by then."""
 
     LONG = 60
 

@@ -12,7 +12,8 @@ from fontcut_output import is_whole_font, read
 from .common import KINDS, WOFF, WOFF2, UsageError, part
 
 # What names end in of files of a site that are no fonts.
-_NO_FONTS = frozenset(".css .js .mjs .json .toml .txt .md .xml .svg .png .jpg .jpeg .gif .webp .html .htm .xhtml".split())
+_NO_FONTS = frozenset(""".css .js .mjs .json .toml .txt .md .xml .svg .png .jpg .jpeg .gif .webp .html .htm
+    .xhtml""".split())
 
 
 def is_same(one: str, other: str) -> bool:

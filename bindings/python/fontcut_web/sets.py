@@ -244,8 +244,8 @@ def _undivided(slices: Sequence[Slice], whole: Sequence[Set[int]]) -> List[Slice
     """Slices of which each has all or none of a set of characters: the first that has one of them gets all."""
     sets = [set(one.codes) for one in slices]
     for together in whole:
-        first = next((one for one in sets if one & together), set())
-        moved = set().union(*(one & together for one in sets))
+        first: Set[int] = next((one for one in sets if one & together), set())
+        moved: Set[int] = set().union(*(one & together for one in sets))
         for one in sets:
             one -= moved
         first |= moved

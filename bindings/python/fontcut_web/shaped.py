@@ -106,8 +106,8 @@ def _places(font: TTFont, kind: str) -> List[Tuple[Tuple[str, float], ...]]:
     values = _axis_values(font) if kind == "variable" and _is_varied(font) else {}
     each = [place_of({tag: value}) for tag, some in values.items() for value in some]
     corners = itertools.product(*([(tag, some[0]), (tag, some[-1])] for tag, some in values.items()))
-    corners = itertools.islice(corners, _MOST_PLACES // 2)
-    places = dict.fromkeys([(), *each, *(tuple(sorted(corner)) for corner in corners)])
+    some_corners = itertools.islice(corners, _MOST_PLACES // 2)
+    places = dict.fromkeys([(), *each, *(tuple(sorted(corner)) for corner in some_corners)])
     return list(itertools.islice(places, _MOST_PLACES))
 
 

@@ -114,8 +114,8 @@ def _letters(one: FontSettings, pages: Sequence[SitePage]) -> Set[str]:
 
 def _key(one: FontSettings, whole: fontcut.Font) -> str:
     """A digest of what a prepared font is made of, beside the pages."""
-    options = {"languages": sorted(one.languages), "written": written_by([one]).digest, "features": one.features, "hinting": one.hinting,
-               "names": one.names, "kern": one.kern, "instance": one.instance}
+    options = {"languages": sorted(one.languages), "written": written_by([one]).digest, "features": one.features,
+               "hinting": one.hinting, "names": one.names, "kern": one.kern, "instance": one.instance}
     return digest(whole.data, digest_of(options).encode())
 
 

@@ -74,8 +74,8 @@ def _address(settings: Settings, page: SitePage, name: str) -> str:
 
 
 def _first(page: SitePage, made: Sequence[Made]) -> Sequence[Made]:
-    """The fonts that a page needs at once: those whose letters or symbols it shows. Others may have no more than blanks,
-    digits and punctuation for it, which other fonts of it have too."""
+    """The fonts that a page needs at once: those whose letters or symbols it shows. Others may have no more than
+    blanks, digits and punctuation for it, which other fonts of it have too."""
     letters = {ord(letter) for letter in page.shown.text if unicodedata.category(letter) in _OF_ONE_FONT}
     return [one for one in made if letters.intersection(one.codes)] or made
 

@@ -129,10 +129,10 @@ def _font(path: str, number: int, table: object) -> FontSettings:
 def _written(path: str, number: int, table: object) -> PageSettings:
     """What is written to some pages, by the settings in a file."""
     where, no_patterns = f"{path}: page {number}", []  # type: str, List[str]
-    found = PageSettings(**{"files": no_patterns, **_values(where, table, {
-        "files": no_patterns, **PageSettings._field_defaults})})
-    if not found.files:
+    values = _values(where, table, {"files": no_patterns, **PageSettings._field_defaults})
+    if not values.get("files"):
         raise UsageError(f"{where}: files is missing")
+    found = PageSettings(**values)
     _check_unicodes(where, found.unicodes)
     return found
 

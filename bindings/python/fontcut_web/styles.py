@@ -109,7 +109,8 @@ def _features(name: str, value: str) -> Iterator[Tuple[str, Features]]:
 
 def features_in(declarations: str) -> Dict[str, Features]:
     """The features that declarations set, by property."""
-    return {name: features for declared in declarations_of(calm(declarations)) for name, features in _features(*declared)}
+    declared = declarations_of(calm(declarations))
+    return {name: features for one in declared for name, features in _features(*one)}
 
 
 def _cases(name: str, value: str) -> Set[str]:
