@@ -1,6 +1,7 @@
-"""Content that is plain (ISO 32000-1, 7.8.2): that of nearly all pages, which has no comment, no picture,
-and nothing else of which there may be several readings. It is read here in a tenth of the time that objects of
-qpdf take; all other content is for qpdf."""
+"""Content streams that are plain (ISO 32000-1, 7.8.2); simple fonts are in `simple`.
+
+Plain are those of nearly all pages: without a comment, a picture, or anything else of which there may be several
+readings. They are read here in a tenth of the time that objects of qpdf take; all others are for qpdf."""
 from __future__ import annotations
 
 import re

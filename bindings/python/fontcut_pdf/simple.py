@@ -1,4 +1,4 @@
-"""Simple fonts over TrueType programs (ISO 32000-1, 9.6.6.4): which glyphs viewers may find for the bytes of a text.
+"""Which glyphs viewers may find for bytes in simple fonts (ISO 32000-1, 9.6.6.4); plain content is in `plain`.
 
 Viewers look for the glyph of a byte in several ways: by the character of its name in the encoding, by the code of that
 in MacRoman, by the byte itself. What any of these finds is taken. Where what the standard names first finds nothing,

@@ -1,4 +1,4 @@
-"""The command `fontcut-web prepare`: a font for the characters of a site, of which all cuts are made."""
+"""The command `fontcut-web prepare`: its options, files and checks; `preparing` makes the font, by fontTools."""
 from __future__ import annotations
 
 import argparse

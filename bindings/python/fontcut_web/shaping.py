@@ -1,4 +1,4 @@
-"""Texts are shaped by HarfBuzz, by its program `hb-shape`."""
+"""Calls of HarfBuzz's program `hb-shape`, for texts that are given; `shaped` says which texts of pages to give it."""
 from __future__ import annotations
 
 import os
