@@ -1,5 +1,6 @@
 """The pictures of docs/PERFORMANCE.md, drawn by matplotlib: SVG with text as text, the same bytes for the same
 figures."""
+import io
 import os
 from typing import Any, Optional, Sequence
 
@@ -10,6 +11,7 @@ import matplotlib.pyplot as plt
 from matplotlib.ticker import FuncFormatter, NullLocator
 
 import cut_sizes
+import dark_form
 from cut_sizes import Sizes
 from document import MB, SETS, Row, sizes
 from join_timing import Joined
@@ -42,9 +44,12 @@ def log_axes(axes: Any, ticks: Sequence[float]) -> None:
 
 
 def keep(figure: Any, path: str) -> None:
-    """Writes a picture, with no date in it."""
-    figure.savefig(path, format="svg", metadata={"Date": None, "Creator": None})
+    """Writes a picture, with no date in it, and with a dark form."""
+    drawn = io.StringIO()
+    figure.savefig(drawn, format="svg", metadata={"Date": None, "Creator": None})
     plt.close(figure)
+    with open(path, "w", encoding="utf-8") as out:
+        out.write(dark_form.added(drawn.getvalue()))
 
 
 def milliseconds(row: Row, name: str) -> Optional[float]:

@@ -24,6 +24,16 @@ LINES = [Line(f"{NOTO}/NotoNaskhArabic-Regular.ttf", "Noto Naskh Arabic", "يُ�
 
 EM, ROW, TITLE, LEFT, MARGIN = 34, 56, 26, 100, 12  # in pixels
 BASELINE = 38  # below the top of a row
+STYLE = """
+svg { fill: #000000 }
+.label { fill: #555555 }
+.page { fill: #ffffff }
+@media (prefers-color-scheme: dark) {
+svg { fill: #f0f0f0 }
+.label { fill: #b0b0b0 }
+.page { fill: #0d1117 }
+}
+"""
 ABOUT = ("A line of Arabic and a line of Latin, each drawn with the whole font, with its lean cut and with its layout "
          "cut. The layout cut draws both as the font does; the lean cut has no joined letters in the first, and no "
          "ligature and no kerning in the second.")
@@ -95,7 +105,7 @@ class Picture:
         outlines, width, units = placed(path, glyphs)
         scale, baseline = EM / units, self.y + BASELINE
         uses = "".join(f'<use href="#{self.name_of(one.path)}" x="{one.x}" y="{one.y}"/>' for one in outlines)
-        self.text(MARGIN, baseline, label, 'fill="#555555"')
+        self.text(MARGIN, baseline, label, 'class="label"')
         self.drawn.append(f'<g transform="translate({LEFT} {baseline}) scale({scale:g} {-scale:g})">{uses}</g>')
         self.width = max(self.width, LEFT + width * scale + MARGIN)
         self.y += ROW
@@ -106,7 +116,8 @@ class Picture:
         outlines = "".join(f'<path id="{name}" d="{path}"/>' for path, name in self.names.items())
         return (f'<svg xmlns="http://www.w3.org/2000/svg" width="{width}" height="{height}" '
                 f'viewBox="0 0 {width} {height}" role="img" aria-label="{escape(ABOUT)}" font-family="sans-serif" '
-                f'font-size="13">\n<rect width="{width}" height="{height}" fill="#ffffff"/>\n<defs>{outlines}</defs>\n'
+                f'font-size="13">\n<style>{STYLE}</style>\n<rect class="page" width="{width}" height="{height}"/>\n'
+                f"<defs>{outlines}</defs>\n"
                 + "\n".join(self.drawn) + "\n</svg>\n")
 
 
