@@ -44,9 +44,10 @@ def shown_by(page: Page, path: str, more: Sequence[Features], text: str = "") ->
     blocks += [other for case in styles.cases for block in blocks for other in cased(block, case, page.languages)]
     sets = _with_more(feature_sets(page.elements, styles.rules, "scripts" in page.writers), more)
     # What stands between parts is no character of them, and composes with none.
-    return Shown(path, "\0".join([page.text, text, *blocks]), list(dict.fromkeys(blocks)), ["", *page.languages],
-                 _directions(page, styles, blocks), sets[:MOST], _turned_on(page, styles, more),
-                 "fields" in page.writers, list(_unknown(page, path, styles, lost, len(sets) > MOST)))
+    whole = "\0".join([page.text, text, *added, *blocks])
+    return Shown(path, whole, list(dict.fromkeys(blocks)), ["", *page.languages], _directions(page, styles, blocks),
+                 sets[:MOST], _turned_on(page, styles, more), "fields" in page.writers,
+                 list(_unknown(page, path, styles, lost, len(sets) > MOST)))
 
 
 def _with_more(sets: Sequence[Features], more: Sequence[Features]) -> List[Features]:
