@@ -104,12 +104,13 @@ def reason(error: OSError) -> str:
 
 class Progress:
     """Says on a terminal how far a long command is, in one line that it takes away at the end. Elsewhere it says of
-    each thing that it works on when it comes to it, in a line, if the command has taken `LONG` seconds by then."""
+    each thing that it works on when it comes to it, in a line, if the command has taken `LONG` seconds by then and is
+    not asked to be quiet."""
 
     LONG = 60
 
-    def __init__(self, command: str) -> None:
-        self.command = command
+    def __init__(self, command: str, is_quiet: bool = False) -> None:
+        self.command, self.is_quiet = command, is_quiet
         self.is_shown = sys.stderr is not None and sys.stderr.isatty()
         self.began = time.monotonic()
         self.told: Set[str] = set()
@@ -119,7 +120,7 @@ class Progress:
         if self.is_shown:
             before = f"{thing}: " if thing else ""
             print(f"\r\x1b[K{self.command}: {before}{text}", end="", file=sys.stderr, flush=True)
-        elif thing and thing not in self.told and time.monotonic() - self.began >= self.LONG:
+        elif thing and not self.is_quiet and thing not in self.told and time.monotonic() - self.began >= self.LONG:
             self.told.add(thing)
             print(f"{self.command}: {thing}: {text} ..", file=sys.stderr, flush=True)
 

@@ -190,7 +190,7 @@ def _run_slice(given: argparse.Namespace) -> None:
     how = slicing.SliceOptions(given.kind, given.woff2, given.css, given.display, given.strict, _dropped(given),
                                given.rest, given.force)
     paths, wanted = use.fonts_and_slices(given)
-    with Progress("fontcut-web") as progress:
+    with Progress("fontcut-web", given.quiet) as progress:
         progress.say(f"reading {len(paths)} fonts")
         fonts = slicing.opened(paths, wanted, how)
         written = slicing.paths_of(fonts, given.out, how)

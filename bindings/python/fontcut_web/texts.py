@@ -43,7 +43,7 @@ def _letters(page: Shown) -> Set[str]:
 def _exact(given: argparse.Namespace, font: fontcut.Font, source: str, shown: Sequence[Shown]) -> Cut:
     """The cut for the glyphs that pages take, and for the characters that a shaper takes for their text."""
     shaped = part("shaped")
-    with as_file(source, font) as path, Progress("fontcut-web") as progress:
+    with as_file(source, font) as path, Progress("fontcut-web", given.quiet) as progress:
         exact = shaped.exact_cut(path, font, shown, given.kind, shaped.Said(progress, os.path.basename(source)))
     unknown = [line for page in shown for line in page.unknown]
     return Cut(exact.data, exact.codes, {"glyphs": exact.glyphs, "unknown": unknown}, unknown)
