@@ -46,7 +46,12 @@ def unescaped(text: str) -> str:
 
 
 def _escaped(found: Match[str]) -> str:
-    return chr(min(int(found[1], 16), 0x10FFFF)) if found[1] else found[2]
+    """What an escape stands for, which is U+FFFD for a number that no character has (CSS Syntax 3, Consume an escaped
+    code point)."""
+    if not found[1]:
+        return found[2]
+    code = int(found[1], 16)
+    return chr(code) if 0 < code < 0xD800 or 0xDFFF < code <= 0x10FFFF else "\ufffd"
 
 
 def calm(sheet: str) -> str:
