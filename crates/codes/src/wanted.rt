@@ -79,7 +79,6 @@ impl<A: Allocator> Model for Wanted<A> {
     ghost invariant = { λ w. AreSeparate 0 w.ranges.items };
 }
 
-// Written out: a derived drop is proved anew wherever a value is let go, with all that is known of the value.
 impl<A: Allocator> Drop for Wanted<A> {
     fn drop(self) {
         let Wanted {

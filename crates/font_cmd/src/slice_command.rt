@@ -98,7 +98,6 @@ fn mapped_ranges(
     slice.codes.without(alloc, &lacking)?.ranges(alloc)
 }
 
-// Written out: a derived drop is proved anew wherever a value is let go, with all that is known of the value.
 impl Drop for Said {
     fn drop(self) {
         let Said {

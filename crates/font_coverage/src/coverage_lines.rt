@@ -42,7 +42,6 @@ pub struct Coverage {
     lacking: u32,
 }
 
-// Written out: a derived drop is proved anew wherever a value is let go, with all that is known of the value.
 impl Drop for Coverage {
     fn drop(self) {
         let Coverage {
@@ -261,7 +260,7 @@ fn count_beyond(
     }
 }
 
-// Returns the same of the glyphs that a cut of the opened font has to be asked for, beside those that are wanted.
+// Returns how many glyphs the closed cut of an opened font for codes and glyphs keeps that another cut does not.
 fn count_closed(
     alloc: Global,
     opened: &FontToCut<'_, '_>,
@@ -323,7 +322,6 @@ struct Counted {
     shaped: String,
 }
 
-// Written out: a derived drop is proved anew wherever a value is let go, with all that is known of the value.
 impl Drop for Counted {
     fn drop(self) {
         let Counted {

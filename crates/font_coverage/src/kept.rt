@@ -11,7 +11,6 @@ pub struct Kept {
     pub added: CodeSet,
 }
 
-// Written out: a derived drop is proved anew wherever a value is let go, with all that is known of the value.
 impl Drop for Kept {
     fn drop(self) {
         let Kept {

@@ -69,7 +69,6 @@ impl<'a> Model for Font<'a> {
     ghost invariant = { λ f. IsOpenedFont f.tables f.mapping };
 }
 
-// Written out: a derived drop is proved anew wherever a value is let go, with all that is known of the value.
 impl<'a> Drop for Font<'a> {
     fn drop(self) {
         let Font {

@@ -87,7 +87,6 @@ impl<A: Allocator> Model for Marks<A> {
     ghost view = { λ m. m.marks.items };
 }
 
-// Written out: a derived drop is proved anew wherever a value is let go, with all that is known of the value.
 impl<A: Allocator> Drop for Marks<A> {
     fn drop(self) {
         let Marks { marks: _marks } = self;

@@ -14,7 +14,7 @@ use Rattle.font_theory.proofs.ContentLemmas.{parts-path}
 use Rattle.font_theory.proofs.KindLemmas.{plain_font-full}
 use Rattle.font_join.specs.Union.{is_other, listed_outline}
 use Rattle.font_join.proofs.FirstLemmas.{first_none}
-use Rattle.font_join.proofs.ThreeTableLemmas.{undivided_spelled}
+use Rattle.font_join.proofs.FrameLemmas.{undivided_spelled}
 
 -- nothing differs from nothing
 pub none_other : (outlines : List (Option (List ℕ))) (L : Records) (n : ℕ)

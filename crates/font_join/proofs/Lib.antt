@@ -2,15 +2,13 @@ pub mod AddFaultLemmas
 pub mod AddLemmas
 pub mod CodeDifferenceLemmas
 pub mod FirstLemmas
-pub mod GlyphDataLemmas
+pub mod FrameLemmas
 pub mod JoinLemmas
 pub mod JoinListLemmas
 pub mod LeastListLemmas
 pub mod MergeLemmas
 pub mod OutlineListLemmas
-pub mod OwnTableLemmas
 pub mod TableDifferenceLemmas
-pub mod ThreeTableLemmas
 pub mod ToldLemmas
 pub mod TurnLemmas
 pub mod UnionLemmas

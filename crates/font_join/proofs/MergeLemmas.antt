@@ -1,49 +1,44 @@
 -- A cut that is merged into a union of cuts of its kind.
-use Rattle.std.proofs.Common.{◌≡◌, ℕ, ◌≤◌, Bool, true, false, cond, List, [], find, length, Option}
+use Rattle.std.proofs.Common.{◌≡◌, ◌≢◌, ℕ, ◌≤◌, Bool, true, false, cond, List, [], find, length, Option}
 use Rattle.std.proofs.Common.{None, inl, inr, refl, sym, ap, ◌∙◌, subst, arith}
 use Rattle.std.proofs.lemmas.Bool.{cases_Bool}
 use Rattle.std.specs.List.{range_with_len}
 use Rattle.std.specs.Option.{option_map}
 use Rattle.std.proofs.Math.Path.{fun_ext}
 use Rattle.sfnt_bytes.specs.declared.directory.TheConstants.{MAX_FILE}
-use Rattle.sfnt_bytes.specs.declared.tag.TheConstants.{GVAR, HMTX, VMTX}
+use Rattle.sfnt_bytes.specs.declared.tag.TheConstants.{GVAR, HMTX, POST, VMTX}
 use Rattle.font_tables.specs.Fields.{glyph_count_of}
 use Rattle.codes.specs.CharacterMap.{AreCompatible, united}
 use Rattle.font_glyph.specs.RecordMap.{record_in, union_of}
 use Rattle.font_theory.specs.Content.{Content, IsClosedContent, content, everything, font_of, glyph_count}
 use Rattle.font_theory.specs.Content.{is_kept, table_in_slot}
-use Rattle.font_file.specs.Font.{font_fault}
 use Rattle.font_theory.proofs.CutLemmas.{IsCut-current}
 use Rattle.font_theory.specs.Cut.{Arises, IsCut, content_of_all}
 use Rattle.font_theory.specs.Cut.Arises.{of_file, of_two}
 use Rattle.font_theory.specs.Difference.{difference}
 use Rattle.font_theory.specs.Agreement.{Agree, both}
 use Rattle.font_theory.specs.Parted.{either_bytes}
+use Rattle.font_theory.specs.Parting.{Tables, frames, may_divide}
 use Rattle.font_theory.specs.declared.Difference.TheVariants.{AtGlyph}
 use Rattle.font_theory.proofs.ArisesLemmas.{IsClosed-arises}
 use Rattle.font_theory.proofs.ContentLemmas.{nothing_either, parts-path}
 use Rattle.font_theory.proofs.DifferenceLemmas.{Agree-from_none}
-use Rattle.font_subset.proofs.SourceLemmas.{count_as, table_small}
-use Rattle.sfnt_bytes.specs.Directory.{slot_tag}
+use Rattle.font_subset.proofs.SourceLemmas.{count_as, short_gvar}
 use Rattle.font_theory.proofs.KindJoinLemmas.{unions}
 use Rattle.font_theory.proofs.KindLemmas.{divides, kind_is, settings-are}
 use Rattle.font_theory.proofs.SettingsLemmas.{IsClosed-by, there-written}
-use Rattle.font_theory.specs.Kinds.{font_as, format_of, full_settings, layout_settings, lean_settings, settings}
-use Rattle.font_theory.specs.Kinds.{spelled_by, tables_as, there_by, variable_settings, divides_tables}
+use Rattle.font_theory.specs.Kinds.{by_variations, font_as, format_of, settings}
+use Rattle.font_theory.specs.Kinds.{spelled_by, tables_as, there_by, divides_tables}
 use Rattle.font_theory.specs.declared.kinds.Kind.{Kind}
-use Rattle.font_theory.specs.declared.kinds.Kind.TheVariants.{Full, Layout, Lean, Variable}
 use Rattle.map_union.specs.RunLists.{TwoLists, map_in}
 use Rattle.font_join.specs.Inside.{AreTaken, early_difference}
-use Rattle.font_join.specs.KindInside.{HasFineGvar, HoldsIn, IsGrown}
-use Rattle.font_join.specs.KindInside.{HasBlanks, IsUnion, SpellsIn, blanks_in, laid_over, least_of, own_in, parts_told}
-use Rattle.font_join.specs.KindInside.{united_gvar}
-use Rattle.font_join.specs.Union.{Held, ThreeTables, content_in, is_other, listed_outline, no_tables, replaced}
-use Rattle.font_join.specs.Union.{tables_in}
-use Rattle.font_join.specs.Union.{three_of}
+use Rattle.divided_tables.specs.Open.{HasFineGvar, Made, laid_over, replaced, united_gvar}
+use Rattle.divided_tables.proofs.MadeLemmas.{frames_moved, replaced_hmtx, replaced_is, replaced_other, replaced_post}
+use Rattle.divided_tables.proofs.MadeLemmas.{replaced_vmtx}
+use Rattle.font_join.specs.KindInside.{HasFrames, HoldsIn, IsGrown, IsOwn, IsUnion, SpellsIn, least_of, parts_told}
+use Rattle.font_join.specs.Union.{Held, content_in, is_other, listed_outline, tables_in}
+use Rattle.font_join.proofs.FrameLemmas.{count_spelled, framed_spelled, same_count, undivided_spelled}
 use Rattle.font_join.proofs.ToldLemmas.{least_none, told_merged}
-use Rattle.font_join.proofs.ThreeTableLemmas.{Tables, blanks_spelled, count_of_replaced, count_spelled}
-use Rattle.font_join.proofs.ThreeTableLemmas.{undivided_spelled}
-use Rattle.font_join.proofs.ThreeTableLemmas.{replaced_copied, replaced_hmtx, replaced_is, replaced_vmtx, same_count}
 use Rattle.font_join.proofs.JoinLemmas.{font_accepted}
 use Rattle.font_join.proofs.OutlineListLemmas.{taken_whole}
 
@@ -52,13 +47,13 @@ pub spells_file : (k : Kind) (y : List ℕ) → IsCut (format_of k) y
 spells_file k y form = record { arises = of_file y everything form.accepted refl; is = (kind_is k).means y form }
 
 -- the tables of a union: its own, or those of its first file
-abbrev tables_by : Bool → Tables → ThreeTables → Tables
+abbrev tables_by : Bool → Tables → Made → Tables
 tables_by b c o slot = cond b (replaced c o slot) (c slot)
 
-pub own_tables : (k : Kind) (c : Tables) (o : ThreeTables) → divides_tables k ≡ true → replaced c o ≡ tables_in k c o
+pub own_tables : (k : Kind) (c : Tables) (o : Made) → divides_tables k ≡ true → replaced c o ≡ tables_in k c o
 own_tables k c o some = sym (ap (λ b. tables_by b c o) some)
 
-pub first_tables : (k : Kind) (c : Tables) (o : ThreeTables) → divides_tables k ≡ false → c ≡ tables_in k c o
+pub first_tables : (k : Kind) (c : Tables) (o : Made) → divides_tables k ≡ false → c ≡ tables_in k c o
 first_tables k c o none = sym (ap (λ b. tables_by b c o) none)
 
 -- whether the kind of a union divides tables, which is held as u and known as v
@@ -66,15 +61,23 @@ pub is_divided : (u v : Held) → u ≡ v → (k : Kind) (b : Bool) → k ≡ u.
     → divides_tables v.kind ≡ b
 is_divided u v same k b kind is = sym (is ∙ ap divides_tables (kind ∙ ap (λ (w : Held). w.kind) same))
 
+-- there are as many glyphs, whatever is in the slots of divided tables
+count_of_replaced : (c : Tables) (o : Made) → glyph_count (replaced c o) ≡ glyph_count c
+unfolding glyph_count replaced
+count_of_replaced c o = refl
+
 -- what is the same in a content and in what it is written as
-pub count_in : (k : Kind) (c : Tables) (o : ThreeTables) → glyph_count (tables_in k c o) ≡ glyph_count c
+pub count_in : (k : Kind) (c : Tables) (o : Made) → glyph_count (tables_in k c o) ≡ glyph_count c
 count_in k c o = elim (cases_Bool (divides_tables k)) [
   | inl some ↦ ap glyph_count (sym (own_tables k c o some)) ∙ count_of_replaced c o
   | inr none ↦ ap glyph_count (sym (first_tables k c o none))
 ]
 
+other_slot : (slot divided : ℕ) → may_divide divided ≡ true → may_divide slot ≡ false → slot ≢ divided
+other_slot slot divided t f e = let no : true ≡ false = sym t ∙ sym (ap may_divide e) ∙ f in cc
+
 -- what the union of two contents is written with
-module _ (k : Kind) (c : Tables) (o : ThreeTables) (C K L : Content) where
+module _ (k : Kind) (c : Tables) (o : Made) (C K L : Content) where
   tables_written : Arises (format_of k) K → Arises (format_of k) L → Agree K L → C ≡ spelled_by k K
       → replaced c o ≡ C.copied
       → replaced c (laid_over (spelled_by k L).copied o (united_gvar C (spelled_by k L)))
@@ -83,25 +86,23 @@ module _ (k : Kind) (c : Tables) (o : ThreeTables) (C K L : Content) where
       let D : Content = spelled_by k L in
       let U = (unions (settings k) (settings-are k) (divides k) K L first second agree).1 in
       let at : replaced c o ≡ (spelled_by k K).copied = is ∙ ap (λ (M : Content). M.copied) spells in
-      let over : ThreeTables = laid_over D.copied o (united_gvar C D) in
-      let across : over.hmtx ≡ (spelled_by k (both K L)).copied HMTX =
-      ap (option_map (λ t. either_bytes t (table_in_slot D.copied HMTX)))
-      (replaced_hmtx c o HMTX refl ∙ ap (λ (t : Tables). t HMTX) at) ∙ sym U.hmtx in
-      let down : over.vmtx ≡ (spelled_by k (both K L)).copied VMTX =
-      ap (option_map (λ t. either_bytes t (table_in_slot D.copied VMTX)))
-      (replaced_vmtx c o VMTX refl ∙ ap (λ (t : Tables). t VMTX) at) ∙ sym U.vmtx in
-      let gvar : over.gvar ≡ (spelled_by k (both K L)).copied GVAR =
-      ap (λ (M : Content). united_gvar M D) spells ∙ sym U.gvar in
-      replaced_is c over (spelled_by k (both K L)).copied
-      (λ i. record { hmtx = across i; vmtx = down i; gvar = gvar i })
-      (λ slot a b d. replaced_copied c o slot a b d ∙ ap (λ (t : Tables). t slot) at ∙ sym (U.others slot d a b))
+      replaced_is c (laid_over D.copied o (united_gvar C D)) (spelled_by k (both K L)).copied
+      (ap (λ (M : Content). united_gvar M D) spells ∙ sym U.gvar)
+      (ap (option_map (λ t. either_bytes t (table_in_slot D.copied HMTX)))
+      (replaced_hmtx c o ∙ ap (λ (t : Tables). t HMTX) at) ∙ sym U.hmtx)
+      (replaced_post c o ∙ ap (λ (t : Tables). t POST) at
+      ∙ sym (U.others POST (λ e. omega (arith, e)) (λ e. omega (arith, e)) (λ e. omega (arith, e))))
+      (ap (option_map (λ t. either_bytes t (table_in_slot D.copied VMTX)))
+      (replaced_vmtx c o ∙ ap (λ (t : Tables). t VMTX) at) ∙ sym U.vmtx)
+      (λ slot f. replaced_other c o slot f ∙ ap (λ (t : Tables). t slot) at
+      ∙ sym (U.others slot (other_slot slot GVAR refl f) (other_slot slot HMTX refl f) (other_slot slot VMTX refl f)))
 
-tables_both : (k : Kind) (c : Tables) (o : ThreeTables) (C K L : Content) → Arises (format_of k) K
+tables_both : (k : Kind) (c : Tables) (o : Made) (C K L : Content) → Arises (format_of k) K
     → Arises (format_of k) L → Agree K L → C ≡ spelled_by k K → tables_in k c o ≡ C.copied
     → tables_in k c (laid_over (spelled_by k L).copied o (united_gvar C (spelled_by k L)))
     ≡ (spelled_by k (both K L)).copied
 tables_both k c o C K L first second agree spells is =
-    let over : ThreeTables = laid_over (spelled_by k L).copied o (united_gvar C (spelled_by k L)) in
+    let over : Made = laid_over (spelled_by k L).copied o (united_gvar C (spelled_by k L)) in
     elim (cases_Bool (divides_tables k)) [
       | inl some ↦ sym (own_tables k c over some)
           ∙ tables_written k c o C K L first second agree spells (own_tables k c o some ∙ is)
@@ -114,13 +115,6 @@ pub closed_in : (k : Kind) (C K : Content) → SpellsIn k C K → IsClosedConten
 closed_in k C K h = subst IsClosedContent (sym h.is) (IsClosed-by (settings k) (settings-are k) K h.arises)
 
 -- the `gvar` of a file in cut form, and that of a union, are fine
-short_gvar : (k : Kind) (y : List ℕ) → font_fault y ≡ None → length (table_in_slot (tables_as k y) GVAR) ≤ MAX_FILE
-unfolding full_settings lean_settings layout_settings variable_settings
-short_gvar Full y accepted = omega arith
-short_gvar Lean y accepted = omega arith
-short_gvar Layout y accepted = omega arith
-short_gvar Variable y accepted = table_small y (slot_tag GVAR) accepted
-
 pub fine_file : (k : Kind) (y : List ℕ) → IsCut (format_of k) y
     → HasFineGvar (content (font_as k y) everything).copied
 fine_file k y form = record {
@@ -197,12 +191,15 @@ count_early k C D K L h g early =
     ap (λ (M : Content). glyph_count M.copied) h.is ∙ count_spelled k K ∙ same_count K L early
     ∙ sym (ap (λ (M : Content). glyph_count M.copied) g.is ∙ count_spelled k L)
 
--- the tables without what is of single glyphs stay
-blanks_kept : (k : Kind) (C D K M : Content) (blanks : ThreeTables) → SpellsIn k C K → SpellsIn k D M
-    → K.copied ≡ M.copied → HasBlanks k C.copied blanks → HasBlanks k D.copied blanks
-blanks_kept k C D K M blanks h g same are = λ some.
-    are some ∙ (λ i. blanks_in (h.is i).copied) ∙ blanks_spelled k K h.arises some ∙ ap three_of same
-    ∙ sym ((λ i. blanks_in (g.is i).copied) ∙ blanks_spelled k M g.arises some)
+-- frames stay
+frames_kept : (k : Kind) (C D K M : Content) (made : Made) → SpellsIn k C K → SpellsIn k D M
+    → K.copied ≡ M.copied → HasFrames k C.copied made → HasFrames k D.copied made
+frames_kept k C D K M made h g same are some =
+    let first : frames by_variations C.copied ≡ K.copied =
+    ap (λ (N : Content). frames by_variations N.copied) h.is ∙ framed_spelled k K h.arises some in
+    let second : frames by_variations D.copied ≡ M.copied =
+    ap (λ (N : Content). frames by_variations N.copied) g.is ∙ framed_spelled k M g.arises some in
+    frames_moved C.copied D.copied made (are some) (first ∙ same ∙ sym second)
 
 module _ (u : Held) (y : List ℕ) (K : Content) (spells : SpellsIn u.kind (content_in u) K)
     (form : IsCut (format_of u.kind) y) (agree : Agree K (content_of_all (format_of u.kind) y)) where
@@ -239,7 +236,7 @@ module _ (u : Held) (y : List ℕ) (K : Content) (spells : SpellsIn u.kind (cont
       ∙ sym e) are
 
   module _ (fit : (format_of u.kind).misfit (both K L) ≡ None) (runs : TwoLists) (outlines : List (Option (List ℕ)))
-      (own : ThreeTables) (maps : map_in runs ≡ united (map_in u.runs) D.map)
+      (own : Made) (maps : map_in runs ≡ united (map_in u.runs) D.map)
       (taken : (g : ℕ) → listed_outline outlines g ≡ union_of (listed_outline u.outlines) D.outline g)
       (over : own ≡ laid_over D.copied u.own (united_gvar (content_in u) D)) where
     abbrev merged : Held
@@ -281,14 +278,14 @@ module _ (u : Held) (y : List ℕ) (K : Content) (spells : SpellsIn u.kind (cont
       };
     }
 
-    pub union_merged : (blanks : ThreeTables) → IsUnion u blanks
-        → length outlines ≡ length u.outlines → IsUnion merged blanks
-    union_merged blanks ok count = record {
+    pub union_merged : (made : Made) → IsUnion u made
+        → length outlines ≡ length u.outlines → IsUnion merged made
+    union_merged made ok count = record {
       count = count ∙ ok.count;
       whole = both K L;
       spells = spells_merged;
-      has_blanks = blanks_kept u.kind (content_in u) (content_in merged) K (both K L) blanks spells spells_merged refl
-          ok.has_blanks;
+      has_frames = frames_kept u.kind (content_in u) (content_in merged) K (both K L) made spells spells_merged refl
+          ok.has_frames;
     }
 
 -- which table has no room for what both have in it, of a union that is held as u and known as v
@@ -313,7 +310,7 @@ module _ (u v : Held) (same : u ≡ v) (q : Kind) (kind : q ≡ v.kind) (y : Lis
     (least : least_of parts other ≡ None) (unfit : Option ℕ)
     (tells : (M : Content) → SpellsIn v.kind (content_in v) M → unfit
     ≡ (format_of v.kind).misfit (both M (content_of_all (format_of v.kind) y)))
-    (fits : unfit ≡ None) (runs : TwoLists) (outlines : List (Option (List ℕ))) (own : ThreeTables)
+    (fits : unfit ≡ None) (runs : TwoLists) (outlines : List (Option (List ℕ))) (own : Made)
     (gvar : Option (List ℕ)) (of_glyphs : length u.outlines ≡ glyph_count_of u.tables)
     (taken : other ≡ None → AreTaken u.outlines outlines (content (font_as q y) everything).outline n)
     (maps : map_in runs ≡ united (map_in u.runs) (content (font_as q y) everything).map)
@@ -355,22 +352,21 @@ module _ (u v : Held) (same : u ≡ v) (q : Kind) (kind : q ≡ v.kind) (y : Lis
     fit = fit;
   }
 
-  pub union_of_all : (blanks : ThreeTables) → IsUnion u blanks → IsUnion all blanks
-  union_of_all blanks ok =
-      union_merged u y K spells cut_here agree fit runs outlines own maps all_taken laid blanks ok are.count
+  pub union_of_all : (made : Made) → IsUnion u made → IsUnion all made
+  union_of_all made ok =
+      union_merged u y K spells cut_here agree fit runs outlines own maps all_taken laid made ok are.count
 
 -- a first file
-tables_of_first : (k : Kind) (c : Tables) (o : ThreeTables) → o ≡ own_in k c → tables_in k c o ≡ c
+tables_of_first : (k : Kind) (c : Tables) (o : Made) → IsOwn k c o → tables_in k c o ≡ c
 tables_of_first k c o is = elim (cases_Bool (divides_tables k)) [
-  | inl some ↦ sym (own_tables k c o some)
-      ∙ replaced_is c o c (is ∙ ap (λ b. cond b (three_of c) no_tables) some) (λ slot a b d. refl)
+  | inl some ↦ sym (own_tables k c o some) ∙ is some
   | inr none ↦ sym (first_tables k c o none)
 ]
 
 module _ (k : Kind) (x : List ℕ) (form : IsCut (format_of k) x) (runs : TwoLists) (outlines : List (Option (List ℕ)))
-    (own : ThreeTables) (spells : map_in runs ≡ (content (font_as k x) everything).map)
+    (own : Made) (spells : map_in runs ≡ (content (font_as k x) everything).map)
     (taken : (g : ℕ) → listed_outline outlines g ≡ (content (font_as k x) everything).outline g)
-    (copies : own ≡ own_in k (tables_as k x)) where
+    (copies : IsOwn k (tables_as k x) own) where
   abbrev of_one : Held
   of_one = record { kind = k; tables = x; runs = runs; outlines = outlines; own = own }
 
@@ -399,11 +395,11 @@ module _ (k : Kind) (x : List ℕ) (form : IsCut (format_of k) x) (runs : TwoLis
   pub spells_first : SpellsIn k (content_in of_one) (content_of_all (format_of k) x)
   spells_first = record { arises = (spells_file k x form).arises; is = content_first ∙ (spells_file k x form).is }
 
-  pub union_first : (blanks : ThreeTables) → HasBlanks k (content (font_as k x) everything).copied blanks
-      → length outlines ≡ glyph_count_of x → IsUnion of_one blanks
-  union_first blanks are count = record {
+  pub union_first : (made : Made) → HasFrames k (content (font_as k x) everything).copied made
+      → length outlines ≡ glyph_count_of x → IsUnion of_one made
+  union_first made are count = record {
     count = count;
     whole = content_of_all (format_of k) x;
     spells = spells_first;
-    has_blanks = subst (λ (c : Tables). HasBlanks k c blanks) (sym tables_first) are;
+    has_frames = subst (λ (c : Tables). HasFrames k c made) (sym tables_first) are;
   }

@@ -1,39 +1,37 @@
 -- The glyphs of cuts that are united, and where they differ.
-use Rattle.std.proofs.Common.{◌≡◌, ◌≢◌, ℕ, zero, suc, ◌+◌, ◌<◌, ◌≤◌, ◌&&◌, ◌||◌, Bool, true, false, cond, not, nat_lt}
-use Rattle.std.proofs.Common.{List, [], find, is_some, inl, inr, Option, None, Some, refl, subst, sym, ap, ◌∙◌, arith}
+use Rattle.std.proofs.Common.{◌≡◌, ℕ, zero, suc, ◌+◌, ◌<◌, ◌≤◌, ◌&&◌, ◌||◌, Bool, true, false, cond, not, nat_lt, List, []}
+use Rattle.std.proofs.Common.{find, is_some, inl, inr, Option, None, Some, refl, subst, sym, ap, ◌∙◌, arith}
 use Rattle.std.specs.List.{range_with_len}
 use Rattle.std.specs.Option.{option_map}
 use Rattle.std.specs.Str.{bytes_eq}
-use Rattle.std.proofs.lemmas.Bool.{cases_Bool, cases_eq, cases_lt, le-ltb, lt-ltb, not-false, or_parts}
-use Rattle.std.proofs.lemmas.Slice.Eq.{bytes_eq-Decides}
-use Rattle.sfnt_bytes.specs.declared.tag.TheConstants.{GVAR, HMTX, VMTX, ALL_SLOTS}
+use Rattle.std.proofs.lemmas.Bool.{cases_Bool, cases_lt, le-ltb, lt-ltb, not-false}
+use Rattle.sfnt_bytes.specs.declared.tag.TheConstants.{ALL_SLOTS}
 use Rattle.font_theory.specs.Content.{Content, glyph_count, is_never_copied}
 use Rattle.font_theory.specs.Cut.{Arises}
 use Rattle.font_theory.specs.Difference.{PARTED, are_different, difference, has_other_part, is_different_glyph}
-use Rattle.font_theory.specs.Kinds.{by_metrics, by_variations, divides_tables, format_of, partition_of, settings}
-use Rattle.font_theory.specs.Kinds.{spelled_by}
-use Rattle.font_theory.specs.Parted.{metrics_at, variation_data}
-use Rattle.font_theory.specs.Parting.{Tables, parts_of, wholes}
+use Rattle.font_theory.specs.Kinds.{by_variations, divides_tables, format_of, partition_of, settings, spelled_by}
+use Rattle.font_theory.specs.Parting.{Tables, parts_of}
 use Rattle.font_theory.specs.declared.Difference.TheVariants.{AtGlyph}
 use Rattle.font_theory.specs.declared.kinds.Kind.{Kind}
 use Rattle.font_theory.proofs.ArisesLemmas.{IsClosed-arises}
 use Rattle.font_theory.proofs.DifferenceLemmas.{part_same, same_part}
 use Rattle.font_theory.proofs.DividedLemmas.{parts-whole}
 use Rattle.font_theory.proofs.KindJoinLemmas.{different_glyph-is}
-use Rattle.font_theory.proofs.KindLemmas.{kind_is, settings-are, divided-kind, divides, undivided-kind}
+use Rattle.font_theory.proofs.KindLemmas.{kind_is, settings-are, undivided-kind}
 use Rattle.font_theory.proofs.LeastLemmas.{find-least_from}
-use Rattle.font_theory.proofs.PartLemmas.{parts_of-alike, parts_of-none, parts_of-undivided}
+use Rattle.font_theory.proofs.PartLemmas.{parts_of-undivided}
 use Rattle.font_theory.proofs.SettingsLemmas.{IsDivided-by}
-use Rattle.font_theory.proofs.WordLemmas.{metrics-from, part-data, part-none, parts-from, variation_data-none}
 use Rattle.font_theory.proofs.WritableLemmas.{IsWritable-closed}
 use Rattle.font_write.specs.Parts.{IsNextKept}
+use Rattle.divided_tables.specs.Open.{AreOpen, OpenParts, has_same_parts}
+use Rattle.divided_tables.proofs.KindPartLemmas.{parts_as}
+use Rattle.divided_tables.proofs.OpenLemmas.{parts_same, same_parts}
 use Rattle.font_join.specs.Inside.{early_difference}
-use Rattle.font_join.specs.KindInside.{SpellsIn, has_other_data, has_other_metrics, has_other_parts, least_of}
-use Rattle.font_join.specs.KindInside.{parts_told}
+use Rattle.font_join.specs.KindInside.{SpellsIn, has_other_parts, has_others, least_of, parts_told}
 use Rattle.font_join.specs.Union.{is_other}
 use Rattle.font_join.proofs.AddFaultLemmas.{difference-late}
 use Rattle.font_join.proofs.FirstLemmas.{fails_skip, first_absent, first_of}
-use Rattle.font_join.proofs.ThreeTableLemmas.{count_spelled, same_tables, unread_gvar}
+use Rattle.font_join.proofs.FrameLemmas.{count_spelled, same_tables, unread_spelled}
 
 -- the first number that passes one of two tests
 least_first : (k : ℕ) (o : Option ℕ) → ((j : ℕ) → o ≡ Some j → k ≤ j) → least_of (Some k) o ≡ Some k
@@ -92,26 +90,12 @@ false_same true false f g = g refl
 false_same false true f g = sym (f refl)
 false_same false false f g = refl
 
--- where both are there, one or the other differs
-where_both : (o p : Option (List ℕ)) (u m n : Bool) → ((a b : List ℕ) → o ≡ Some a → p ≡ Some b → u ≡ (m || n))
-    → (is_some o && (is_some p && u)) ≡ ((is_some o && (is_some p && m)) || (is_some o && (is_some p && n)))
-where_both None p u m n e = refl
-where_both (Some a) None u m n e = refl
-where_both (Some a) (Some b) u m n e = e a b refl refl
-
--- what is compared of a glyph beside its outline
-abbrev differ : Tables → Tables → ℕ → Bool
-differ c d g =
-    not (bytes_eq (metrics_at c g) (metrics_at d g)) || not (bytes_eq (variation_data c g) (variation_data d g))
-
-differs_not : (a b : List ℕ) → a ≡ b → not (bytes_eq a b) ≡ false
-differs_not a b e = ap not ((bytes_eq-Decides a b).1 e)
-
-same_bytes : (a b : List ℕ) → not (bytes_eq a b) ≡ false → a ≡ b
-same_bytes a b f = (bytes_eq-Decides a b).0 (not-false (bytes_eq a b) f)
-
-neither : (a b : Bool) → a ≡ false → b ≡ false → (a || b) ≡ false
-neither a b e f = λ i. e i || f i
+-- where both are there
+where_both : (o p : Option (List ℕ)) (u m : Bool) → ((a b : List ℕ) → o ≡ Some a → p ≡ Some b → u ≡ m)
+    → (is_some o && (is_some p && u)) ≡ (is_some o && (is_some p && m))
+where_both None p u m e = refl
+where_both (Some a) None u m e = refl
+where_both (Some a) (Some b) u m e = e a b refl refl
 
 slot_parted : (slot : ℕ) → slot < ALL_SLOTS → slot < PARTED
 unfolding PARTED
@@ -139,86 +123,41 @@ module _ (k : Kind) (K : Content) (arises : Arises (format_of k) K) (g : ℕ) wh
       (IsClosed-arises (format_of k) (kind_is k).law.is_font K arises).font
       (IsDivided-by (settings k) (settings-are k) K arises) slot g
 
-  -- variation data are the part in `gvar`, where there are some
-  data_spelled : g < glyph_count w → parts_of (partition_of k) w GVAR g ≡ variation_data w g
-  unfolding wholes
-  data_spelled low = elim (divides k).gvar [
-    | inl e ↦ parts_of-alike (partition_of k) by_variations w GVAR e g ∙ part-data w g low
-    | inr e ↦
-        let none : w GVAR ≡ None = ap (option_map _) (unread_gvar k K arises e) in
-        parts_of-none (partition_of k) w GVAR g none ∙ sym (variation_data-none w none g)
-  ]
-
--- two contents that both keep a glyph have another part of it where they have other metrics or other data of it
+-- two contents that both keep a glyph have another part of it where tables that are open say so
 module _ (k : Kind) (some : divides_tables k ≡ true) (K L : Content) (first : Arises (format_of k) K)
-    (second : Arises (format_of k) L) (g : ℕ) where
-  abbrev c : Tables
-  c = (spelled_by k K).copied
+    (second : Arises (format_of k) L) (o p : OpenParts) (are : AreOpen (spelled_by k K).copied o)
+    (also : AreOpen (spelled_by k L).copied p) (g : ℕ) where
+  parts_here : (M : Content) → Arises (format_of k) M → (slot : ℕ)
+      → parts_of by_variations (spelled_by k M).copied slot g ≡ M.parts slot g
+  parts_here M m slot =
+      sym (parts_as k some (spelled_by k M).copied (unread_spelled k M m) slot g) ∙ parts_spelled k M m g slot
 
-  abbrev d : Tables
-  d = (spelled_by k L).copied
-
-  by_lean : (x : Tables) (slot : ℕ) → slot ≢ GVAR → parts_of (partition_of k) x slot g ≡ parts_of by_metrics x slot g
-  by_lean x slot other = parts_of-alike (partition_of k) by_metrics x slot (divided-kind k some slot other) g
-
-  module _ (lowc : g < glyph_count c) (lowd : g < glyph_count d) where
-    not_differs : ((slot : ℕ) → slot < PARTED
-        → parts_of (partition_of k) c slot g ≡ parts_of (partition_of k) d slot g) → differ c d g ≡ false
-    not_differs same =
-        let lean : (slot : ℕ) → slot < PARTED → slot ≢ GVAR
-        → parts_of by_metrics c slot g ≡ parts_of by_metrics d slot g =
-        λ slot low other. sym (by_lean c slot other) ∙ same slot low ∙ by_lean d slot other in
-        neither _ _
-        (differs_not _ _ (metrics-from c d g lowc lowd (
-          lean HMTX (slot_parted HMTX (omega arith)) (λ e. omega (arith, e)),
-          lean VMTX (slot_parted VMTX (omega arith)) (λ e. omega (arith, e)),
-        )))
-        (differs_not _ _ (sym (data_spelled k K first g lowc) ∙ same GVAR (slot_parted GVAR (omega arith))
-        ∙ data_spelled k L second g lowd))
-
-    differs_not_in : differ c d g ≡ false → (slot : ℕ)
-        → parts_of (partition_of k) c slot g ≡ parts_of (partition_of k) d slot g
-    differs_not_in f slot =
-        let both = or_parts _ _ f in
-        let same = parts-from c d g lowc lowd (same_bytes _ _ both.0) in
-        elim (cases_eq slot GVAR) [
-          | inl e ↦ subst (λ (x : ℕ). parts_of (partition_of k) c x g ≡ parts_of (partition_of k) d x g) (sym e)
-              (data_spelled k K first g lowc ∙ same_bytes _ _ both.1 ∙ sym (data_spelled k L second g lowd))
-          | inr other ↦
-              by_lean c slot other
-              ∙ elim (cases_eq slot HMTX) [
-                | inl e ↦ subst (λ (x : ℕ). parts_of by_metrics c x g ≡ parts_of by_metrics d x g) (sym e) same.0
-                | inr a ↦ elim (cases_eq slot VMTX) [
-                  | inl e ↦ subst (λ (x : ℕ). parts_of by_metrics c x g ≡ parts_of by_metrics d x g) (sym e) same.1
-                  | inr b ↦ part-none c g slot a b ∙ sym (part-none d g slot a b)
-                ]
-              ]
-              ∙ sym (by_lean d slot other)
-        ]
-
-    parts_differ : has_other_part K L g ≡ differ c d g
+  module _ (lowc : g < glyph_count (spelled_by k K).copied) (lowd : g < glyph_count (spelled_by k L).copied) where
+    parts_differ : has_other_part K L g ≡ not (has_same_parts o p g)
     parts_differ = false_same _ _
-        (λ f. not_differs (λ slot low.
-        parts_spelled k K first g slot ∙ same_part K L g slot f low ∙ sym (parts_spelled k L second g slot)))
-        (λ f. part_same K L g (λ slot. sym (parts_spelled k K first g slot) ∙ differs_not_in f slot
-        ∙ parts_spelled k L second g slot))
+        (λ f. ap not (same_parts (spelled_by k K).copied (spelled_by k L).copied o p are also g lowc lowd
+        (λ slot low. parts_here K first slot ∙ same_part K L g slot f (slot_parted slot low)
+        ∙ sym (parts_here L second slot))))
+        (λ f. part_same K L g (λ slot. sym (parts_here K first slot)
+        ∙ parts_same (spelled_by k K).copied (spelled_by k L).copied o p are also g lowc lowd
+        (not-false (has_same_parts o p g) f) slot
+        ∙ parts_here L second slot))
 
-  parts_told_of : has_other_parts K L g
-      ≡ (has_other_metrics (spelled_by k K) (spelled_by k L) g || has_other_data (spelled_by k K) (spelled_by k L) g)
+  parts_told_of : has_other_parts K L g ≡ has_others (spelled_by k K) (spelled_by k L) o p g
   parts_told_of =
-      where_both (K.outline g) (L.outline g) (has_other_part K L g)
-      (not (bytes_eq (metrics_at c g) (metrics_at d g))) (not (bytes_eq (variation_data c g) (variation_data d g)))
+      where_both (K.outline g) (L.outline g) (has_other_part K L g) (not (has_same_parts o p g))
       (λ a b x y. parts_differ (low_glyph k K first g a x) (low_glyph k L second g b y))
 
 -- the first of them
 pub parts_found : (k : Kind) → divides_tables k ≡ true → (C D K L : Content) → SpellsIn k C K → SpellsIn k D L
-    → least_of (find (has_other_metrics C D) (range_with_len 0 (glyph_count C.copied)))
-    (find (has_other_data C D) (range_with_len 0 (glyph_count C.copied))) ≡ parts_told K L
-parts_found k some C D K L h l =
-    sym (find_either (has_other_metrics C D) (has_other_data C D) 0 (glyph_count C.copied))
-    ∙ (λ i. find (λ g. has_other_metrics (h.is i) (l.is i) g || has_other_data (h.is i) (l.is i) g)
+    → (o p : OpenParts) → AreOpen C.copied o → AreOpen D.copied p
+    → find (has_others C D o p) (range_with_len 0 (glyph_count C.copied)) ≡ parts_told K L
+parts_found k some C D K L h l o p are also =
+    let first : AreOpen (spelled_by k K).copied o = subst (λ (M : Content). AreOpen M.copied o) h.is are in
+    let second : AreOpen (spelled_by k L).copied p = subst (λ (M : Content). AreOpen M.copied p) l.is also in
+    (λ i. find (has_others (h.is i) (l.is i) o p)
     (range_with_len 0 ((ap (λ (M : Content). glyph_count M.copied) h.is ∙ count_spelled k K) i)))
-    ∙ (λ i. find (λ g. sym (parts_told_of k some K L h.arises l.arises g) i)
+    ∙ (λ i. find (λ g. sym (parts_told_of k some K L h.arises l.arises o p first second g) i)
     (range_with_len 0 (glyph_count K.copied)))
 
 pub parts_none : (k : Kind) → divides_tables k ≡ false → (C D K L : Content) → SpellsIn k C K → SpellsIn k D L
@@ -284,10 +223,6 @@ told_merged k C D K L h l early other parts n size outlines told =
     i) (range_with_len 0 (glyph_count K.copied))))
     ∙ ap (option_map AtGlyph) (find_either (has_other_parts K L) (is_other K.outline L.outline) 0 (glyph_count K.copied)
     ∙ (λ i. least_of (sym told i) (sym kept i)))
-
--- two contents have the same metrics of a glyph
-abbrev pub same_metrics : Content → Content → ℕ → Bool
-same_metrics C D g = bytes_eq (metrics_at C.copied g) (metrics_at D.copied g)
 
 -- the first glyph that both keep and that does not pass a test, sought among those that the second content keeps
 module _ (C D : Content) (same : ℕ → Bool) where

@@ -1,47 +1,21 @@
 -- The union of many files in cut form, this project's own: what is held of it, and its content.
-use Rattle.std.specs.Prelude.{◌≡◌, ℕ, ◌+◌, ◌<◌, ◌≤◌, nat_eq, Bool, false, List, [], ◌∷◌, get_or, length}
+use Rattle.std.specs.Prelude.{◌≡◌, ℕ, ◌+◌, ◌<◌, ◌≤◌, Bool, false, List, [], ◌∷◌, get_or, length}
 use Rattle.std.specs.Prelude.{if◌then◌else◌, Option}
 use Rattle.std.specs.Prelude.{None, IfSome}
 use Rattle.std.specs.Option.{unwrap_or}
 use Rattle.sfnt_bytes.specs.declared.directory.TheConstants.{MAX_FILE}
-use Rattle.sfnt_bytes.specs.declared.tag.TheConstants.{GVAR, HMTX, VMTX}
+use Rattle.sfnt_bytes.specs.declared.tag.TheConstants.{GVAR}
 use Rattle.font_glyph.specs.RecordMap.{Records, record_in}
-use Rattle.font_theory.specs.Content.{Content, font_of}
+use Rattle.font_theory.specs.Content.{Content, font_of, table_in_slot}
 use Rattle.font_theory.specs.Difference.{are_different}
 use Rattle.font_theory.specs.Kinds.{settings, tables_as, there_by, divides_tables}
 use Rattle.font_theory.specs.declared.kinds.Kind.{Kind}
-use Rattle.font_write.specs.declared.source.TheConstants.{MAX_TABLE}
+use Rattle.divided_tables.specs.Open.{Made, replaced}
 use Rattle.map_union.specs.RunLists.{TwoLists, map_in}
 
 -- the outline of a glyph in a list
 abbrev pub listed_outline : List (Option (List ℕ)) → ℕ → Option (List ℕ)
 listed_outline outlines g = get_or outlines g None
-
--- the tables that have something of each glyph
-pub record ThreeTables : Type 0 where
-  pub hmtx : Option (List ℕ)
-  pub vmtx : Option (List ℕ)
-  pub gvar : Option (List ℕ)
-
--- none of them
-abbrev pub no_tables : ThreeTables
-no_tables = record { hmtx = None; vmtx = None; gvar = None }
-
--- those of a content
-abbrev pub three_of : (ℕ → Option (List ℕ)) → ThreeTables
-three_of copied = record { hmtx = copied HMTX; vmtx = copied VMTX; gvar = copied GVAR }
-
--- tables, with others for these three
-unfoldable pub replaced : (ℕ → Option (List ℕ)) → ThreeTables → ℕ → Option (List ℕ)
-replaced copied three slot =
-    if nat_eq slot HMTX then three.hmtx else if nat_eq slot VMTX then three.vmtx
-    else if nat_eq slot GVAR then three.gvar else copied slot
-
--- none of them is too long
-pub record AreShort (three : ThreeTables) : Type 0 where
-  pub short_hmtx : length (unwrap_or three.hmtx []) ≤ MAX_TABLE
-  pub short_vmtx : length (unwrap_or three.vmtx []) ≤ MAX_TABLE
-  pub short_gvar : length (unwrap_or three.gvar []) ≤ MAX_TABLE
 
 -- what is held of a union: the kind of its cuts, the file whose tables it has, its runs and its outlines, and
 -- tables of its own, where the kind divides tables
@@ -50,10 +24,10 @@ pub record Held : Type 0 where
   pub tables : List ℕ
   pub runs : TwoLists
   pub outlines : List (Option (List ℕ))
-  pub own : ThreeTables
+  pub own : Made
 
 -- the tables of a union of a kind
-abbrev pub tables_in : Kind → (ℕ → Option (List ℕ)) → ThreeTables → ℕ → Option (List ℕ)
+abbrev pub tables_in : Kind → (ℕ → Option (List ℕ)) → Made → ℕ → Option (List ℕ)
 tables_in kind copied own slot = if divides_tables kind then replaced copied own slot else copied slot
 
 -- its content, as it is written
@@ -67,6 +41,10 @@ content_in u = record {
   there = there_by (settings u.kind) (tables_in u.kind (tables_as u.kind u.tables) u.own)
       (record_in (listed_outline u.outlines));
 }
+
+-- its variation data are no longer than a file
+abbrev pub HasShortData : Held → Type 0
+HasShortData u = length (table_in_slot (content_in u).copied GVAR) ≤ MAX_FILE
 
 -- no outline is too large
 abbrev pub AreSmall : List (Option (List ℕ)) → Type 0

@@ -6,7 +6,7 @@ ghost use Rattle.font_theory.specs.Cut.{Format};
 ghost use Rattle.font_theory.specs.File.{current_writing, file};
 ghost use Rattle.streams.specs.Outlet.{HasSent, broken_of, fresh_of, writer_of};
 ghost use Rattle.font_join.specs.JoinList.{AllRefusalIsRight, EveryTreeDiffers, IsAllJoined, IsAllRefusal, IsFirst, IsForSizeInto, IsForSizeOf, IsLeastOf, IsSentAs, JoinLaws, SendsAll, StopsJoin};
-ghost use Rattle.font_join.specs.Union.{content_in};
+ghost use Rattle.font_join.specs.Union.{HasShortData, content_in};
 ghost use Rattle.font_theory.specs.declared.kinds.Kind.TheVariants.{Full};
 ghost use Rattle.font_theory.specs.Kinds.{format_of, spelled_by};
 ghost use Rattle.font_join.specs.KindInside.{IsUnitedIn, HoldsIn};
@@ -14,8 +14,7 @@ ghost use Rattle.font_join.specs.declared.join_error.JoinAllError.TheVariants.{A
 ghost use Rattle.font_join.specs.declared.join_error.JoinAllIntoError.TheVariants.{NotJoined};
 ghost use Rattle.font_join.specs.declared.join_error.JoinError.TheVariants.{NoMemory as JoinNoMemory, TableTooLong};
 ghost use Rattle.sfnt_bytes.specs.declared.tag.Tag.{Tag};
-ghost use Rattle.sfnt_bytes.specs.declared.tag.TheConstants.{GVAR};
-ghost use Rattle.font_theory.specs.Content.{Content, table_in_slot};
+ghost use Rattle.font_theory.specs.Content.{Content};
 ghost use Rattle.font_join.specs.Join.{IsJoin, IsJoinRefusal};
 ghost use Rattle.font_join.specs.Inside.{IsFirstUnion, IsTooLargeFile};
 ghost use Rattle.font_theory.specs.declared.kinds.Kind.{Kind};
@@ -67,7 +66,7 @@ fn joined_with<'f, 'a, A: Memory + Copy>(
     all: Union<'f, 'a, A>,
     y: &'a [u8],
 ) -> Result<Union<'f, 'a, A>, JoinError>
-    requires { length (table_in_slot (content_in all).copied GVAR) ≤ MAX_FILE }
+    requires { HasShortData all }
     ensures exact { (kind : Kind) (x : List ℕ) → HoldsIn kind all.entry x → MatchResult result
         (λ union. (z : List ℕ) × IsJoin (format_of kind) x y.now z × HoldsIn kind union z)
         (IsJoinRefusal (format_of kind) x y.now) }

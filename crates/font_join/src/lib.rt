@@ -1,18 +1,15 @@
 //! Joins of cuts of one kind: of two and of many, in memory and to a writer.
 #![tactic(auto)]
 
-mod blanked;
 mod difference;
-mod glyph_data;
-mod glyph_tables;
+mod framed;
 mod join_error;
 mod join_input;
 mod join_list;
 mod join_pair;
 mod join_source;
 mod listed;
-mod metrics;
-mod own_tables;
+mod parts;
 mod taken_outlines;
 mod union;
 mod without_codes;

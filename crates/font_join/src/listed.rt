@@ -36,7 +36,6 @@ impl<'f, 'a, A: Allocator> Model for Listed<'f, 'a, A> {
     ghost invariant = { λ l. l.font.1.1 ≡ all_asked };
 }
 
-// Written out: a derived drop is proved anew wherever a value is let go, with all that is known of the value.
 impl<'f, 'a, A: Allocator> Drop for Listed<'f, 'a, A> {
     fn drop(self) {
         let Listed { font: _font } = self;

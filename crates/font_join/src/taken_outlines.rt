@@ -36,7 +36,6 @@ impl<'a, A: Allocator> Model for Outlines<'a, A> {
     ghost invariant = { λ o. HaveLength (map (λ x. option_copied x) o.outlines.items) o.bytes };
 }
 
-// Written out: a derived drop is proved anew wherever a value is let go, with all that is known of the value.
 impl<'a, A: Allocator> Drop for Outlines<'a, A> {
     fn drop(self) {
         let Outlines {

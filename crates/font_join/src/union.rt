@@ -1,34 +1,33 @@
 //! The union of many cuts of one kind, added one after the other: the bytes of each are read once. This is
-//! this project's own, but for the groups of the mapping, `gvar` and the tables of metrics. OpenType 1.9, cmap, Format
-//! 12: Segmented coverage; gvar; hmtx; vmtx.
+//! this project's own, but for the groups of the mapping. OpenType 1.9, cmap, Format 12: Segmented coverage.
 ghost use Rattle.std.specs.Prelude.{◌≡◌, ◌<◌, ◌≤◌, length, Err, None, Some, IfOk, IfSome, MatchOption, MatchResult, OnErr};
 ghost use Rattle.sfnt_bytes.specs.Memory.{IsRefused};
 ghost use Rattle.sfnt_bytes.specs.declared.directory.TheConstants.{MAX_FILE};
-ghost use Rattle.sfnt_bytes.specs.declared.tag.TheConstants.{ALL_SLOTS as SLOT_COUNT, GVAR};
+ghost use Rattle.sfnt_bytes.specs.declared.tag.TheConstants.{ALL_SLOTS as SLOT_COUNT};
 ghost use Rattle.font_theory.specs.Agreement.{both};
 ghost use Rattle.font_theory.specs.Bytes.{padded};
-ghost use Rattle.font_theory.specs.Content.{Content, content, everything, table_in_slot};
+ghost use Rattle.font_theory.specs.Content.{Content, content, everything};
 ghost use Rattle.font_theory.specs.Cut.{IsCut, content_of_all};
 ghost use Rattle.font_theory.specs.File.{current_writing, file};
 ghost use Rattle.font_theory.specs.Kinds.{font_as, format_of};
 ghost use Rattle.font_theory.specs.declared.kinds.Kind.{Kind};
 ghost use Rattle.font_write.specs.WholeFile.{IsTooLarge};
-ghost use Rattle.font_join.specs.Union.{content_in};
+ghost use Rattle.font_join.specs.Union.{HasShortData, content_in};
+ghost use Rattle.divided_tables.specs.Open.{HasFineGvar};
 ghost use Rattle.font_join.specs.Inside.{IsAddRefusal, IsFormRefusal, add_fault, early_difference};
-ghost use Rattle.font_join.specs.KindInside.{IsGrown, SpellsIn, least_of, parts_told};
+ghost use Rattle.font_join.specs.KindInside.{HasFrames, IsGrown, IsOwn, SpellsIn, least_of, parts_told};
 ghost use Rattle.font_join.specs.declared.join_error.JoinError.TheVariants.{NoMemory as JoinNoMemory};
 ghost use Rattle.font_join.specs.declared.join_error.Which.TheVariants.{First};
 
-use crate::blanked::Blanked;
 use crate::difference::{early_difference, late_refusal, refusal_of};
-use crate::glyph_data::{different_data, gvar_of_both};
-use crate::glyph_tables::GlyphTables;
+use crate::framed::Framed;
 use crate::join_error::{JoinError, Which};
 use crate::join_input::open_for_kind;
 use crate::listed::Listed;
-use crate::metrics::different_metrics;
+use crate::parts::different_part;
 use crate::taken_outlines::Outlines;
 use crate::without_codes::size_if_too_large;
+use divided_tables::{MadeTables, OpenTables, gvar_of_both, open_variations};
 use font_file::Font;
 use font_map::Run;
 use font_subset::{FontOfKind, head};
@@ -50,16 +49,47 @@ fn least(first: Option<u16>, second: Option<u16>) -> Option<u16>
     }
 }
 
+// Returns the tables of its own that a union of a kind has of its first file: copies, where the kind divides tables.
+fn own_tables<S: Source, A: Memory + Copy>(
+    alloc: A,
+    kind: Kind,
+    source: &S,
+) -> Result<MadeTables<A>, NoMemory>
+    ensures tables { IfOk result (IsOwn kind (S.content_of source.now).copied) }
+    ensures memory { OnErr result (IsRefused A.refuses) }
+{
+    if kind.divides_tables() {
+        return MadeTables::copies(alloc, source);
+    }
+    Ok(MadeTables::none())
+}
+
+// Returns the frames of the tables of a content, where the kind divides tables, and else none.
+fn frames_for_kind<S: Source, A: Memory + Copy>(
+    alloc: A,
+    kind: Kind,
+    source: &S,
+) -> Result<MadeTables<A>, NoMemory>
+    requires { HasFineGvar (S.content_of source.now).copied }
+    ensures tables { IfOk result (HasFrames kind (S.content_of source.now).copied) }
+    ensures memory { OnErr result (IsRefused A.refuses) }
+{
+    if kind.divides_tables() {
+        return MadeTables::frames(alloc, source);
+    }
+    Ok(MadeTables::none())
+}
+
 /// The union of cuts of one kind: the tables of the first of them, the maps of all in one, and for each glyph
 /// the slice of the first file that keeps it. Where the kind divides tables, a union has tables of its own with the
-/// parts of all: `hmtx` and `vmtx`, which are those of all byte by byte, and `gvar`.
+/// parts of all.
 pub struct Union<'f, 'a, A: Allocator> {
     first: FontOfKind<'f, 'a, A>,
     map: UnionMap<A>,
     outlines: Outlines<'a, A>,
-    own: GlyphTables<A>,
+    own: MadeTables<A>,
     // All files have these in common, so that they are made once.
-    blanks: GlyphTables<A>,
+    framed: MadeTables<A>,
 }
 
 // Its value is what is held.
@@ -83,10 +113,9 @@ impl<'f, 'a, A: Allocator> Model for Union<'f, 'a, A> {
       runs = u.map;
       outlines = u.outlines;
       own = u.own;
-    }) u.blanks };
+    }) u.framed };
 }
 
-// Written out: a derived drop is proved anew wherever a value is let go, with all that is known of the value.
 impl<'f, 'a, A: Allocator> Drop for Union<'f, 'a, A> {
     fn drop(self) {
         let Union {
@@ -94,7 +123,7 @@ impl<'f, 'a, A: Allocator> Drop for Union<'f, 'a, A> {
             map: _map,
             outlines: _outlines,
             own: _own,
-            blanks: _blanks,
+            framed: _framed,
         } = self;
     }
 }
@@ -167,9 +196,9 @@ impl<'f, 'a, A: Memory + Copy> Union<'f, 'a, A> {
         if !self.first.kind().divides_tables() {
             return Ok(early_difference(self, &self.map, file));
         }
-        let blanks = GlyphTables::blank(alloc, file)?;
-        let first = Blanked::new(self, &self.blanks);
-        let second = Blanked::new(file, &blanks);
+        let framed = MadeTables::frames(alloc, file)?;
+        let first = Framed::new(self, &self.framed);
+        let second = Framed::new(file, &framed);
         Ok(early_difference(&first, &self.map, &second))
     }
 
@@ -195,14 +224,17 @@ impl<'f, 'a, A: Memory + Copy> Union<'f, 'a, A> {
         requires form { IsCut (format_of self.now.kind) file.now.1 }
         requires early { (K : Content) → SpellsIn self.now.kind (content_in self.now) K →
             early_difference K (content_of_all (format_of self.now.kind) file.now.1) ≡ None }
-        requires small { length (table_in_slot (content_in self.now).copied GVAR) ≤ MAX_FILE }
+        requires small { HasShortData self.now }
         ensures { (K : Content) → SpellsIn self.now.kind (content_in self.now) K →
             result ≡ parts_told K (content_of_all (format_of self.now.kind) file.now.1) }
     {
         if !self.first.kind().divides_tables() {
             return None;
         }
-        least(different_metrics(self, file), different_data(self, file))
+        let variations = (open_variations(self), open_variations(file));
+        let first = OpenTables::of(self, &variations.0);
+        let second = OpenTables::of(file, &variations.1);
+        different_part(self, file, &first, &second)
     }
 
     // Returns the first table that is too long with what a cut and the union have in it of single glyphs. There is
@@ -223,7 +255,7 @@ impl<'f, 'a, A: Memory + Copy> Union<'f, 'a, A> {
         requires form { IsCut (format_of self.kind) file.1 }
         requires early { (K : Content) → SpellsIn self.kind (content_in self) K →
             early_difference K (content_of_all (format_of self.kind) file.1) ≡ None }
-        requires small { length (table_in_slot (content_in self).copied GVAR) ≤ MAX_FILE }
+        requires small { HasShortData self }
         ensures exact { (K : Content) → SpellsIn self.entry.kind (content_in self.entry) K → MatchResult result
             (IsGrown self.entry.kind file.entry.1 K)
             (IsAddRefusal (format_of self.entry.kind) K file.entry.1) }
@@ -238,7 +270,7 @@ impl<'f, 'a, A: Memory + Copy> Union<'f, 'a, A> {
             map,
             mut outlines,
             own,
-            blanks,
+            framed,
         } = self;
         let other = outlines.take(&file, count);
         if let Some(error) = late_refusal(least(parts, other), misfit) {
@@ -252,7 +284,7 @@ impl<'f, 'a, A: Memory + Copy> Union<'f, 'a, A> {
             map,
             outlines,
             own,
-            blanks,
+            framed,
         })
     }
 
@@ -275,8 +307,8 @@ impl<'f, 'a, A: Memory + Copy> Union<'f, 'a, A> {
     {
         let opened = open_for_kind(alloc, kind, font, Which::First)?;
         let file = Listed::new(alloc, &opened, Which::First)?;
-        let own = GlyphTables::own(alloc, kind, &file)?;
-        let blanks = GlyphTables::blank_for_kind(alloc, kind, &file)?;
+        let own = own_tables(alloc, kind, &file)?;
+        let framed = frames_for_kind(alloc, kind, &file)?;
         let outlines = Outlines::of_file(alloc, &file)?;
         let runs = file.into_runs(alloc)?;
         Ok(Union {
@@ -284,7 +316,7 @@ impl<'f, 'a, A: Memory + Copy> Union<'f, 'a, A> {
             map: UnionMap::of_runs(alloc, runs),
             outlines,
             own,
-            blanks,
+            framed,
         })
     }
 
@@ -295,7 +327,7 @@ impl<'f, 'a, A: Memory + Copy> Union<'f, 'a, A> {
     /// `Font` of the second where its tables of layout or of variations are refused, `NotACut` of the second, the
     /// first difference, a table that has no room, or `NoMemory`.
     pub(crate) fn add(self, alloc: A, font: &Font<'a>) -> Result<Union<'f, 'a, A>, JoinError>
-        requires { length (table_in_slot (content_in self).copied GVAR) ≤ MAX_FILE }
+        requires { HasShortData self }
         ensures exact { (kind : Kind) (K : Content) → self.entry.kind ≡ kind
             → SpellsIn kind (content_in self.entry) K →
             MatchResult result
@@ -324,14 +356,14 @@ impl<'f, 'a, A: Memory + Copy> Union<'f, 'a, A> {
             map,
             outlines,
             own,
-            blanks,
+            framed,
         } = self;
         Ok(Union {
             first,
             map: map.settle(alloc)?,
             outlines,
             own,
-            blanks,
+            framed,
         })
     }
 

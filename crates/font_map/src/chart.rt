@@ -39,7 +39,6 @@ impl<'a, A: Allocator> Model for Chart<'a, A> {
         ≡ mapping_of c.mapping.now.0 c.mapping.now.1) };
 }
 
-// Written out: a derived drop is proved anew wherever a value is let go, with all that is known of the value.
 impl<'a, A: Allocator> Drop for Chart<'a, A> {
     fn drop(self) {
         let Chart {

@@ -50,7 +50,6 @@ impl<'a> Model for Mapping<'a> {
     ghost invariant = { λ m. IsChosen m.cmap.now m.glyphs m.chosen m.subtable };
 }
 
-// Written out: a derived drop is proved anew wherever a value is let go, with all that is known of the value.
 impl<'a> Drop for Mapping<'a> {
     fn drop(self) {
         let Mapping {
@@ -169,7 +168,7 @@ impl<'a> Mapping<'a> {
         Ok(())
     }
 
-    /// Returns the same over the mapped codes of a set.
+    /// Returns the run that begins at the least mapped code of a set not below `from`.
     pub fn wanted_run<A: Allocator>(&self, wanted: &Wanted<A>, from: u32) -> Option<Run>
         ensures { MatchOption result
             (NoRun (restricted (member wanted.now) (mapping_of self.now.0 self.now.1)) from)

@@ -1,10 +1,10 @@
 -- Runs of glyphs that are not there.
-use Rattle.std.proofs.Common.{◌≡◌, ℕ, zero, suc, ◌+◌, ◌-◌, ◌*◌, ◌<◌, ◌≤◌, Bool, true, false, ◌&&◌, ◌||◌, inl}
+use Rattle.std.proofs.Common.{◌≡◌, ℕ, zero, suc, ◌+◌, ◌-◌, ◌<◌, ◌≤◌, Bool, true, false, ◌&&◌, ◌||◌, inl}
 use Rattle.std.proofs.Common.{inr, nat_lt}
-use Rattle.std.proofs.Common.{List, None, [], ◌∷◌, drop, get_or, length, slice_range, refl, sym, ◌∙◌, ap, arith}
+use Rattle.std.proofs.Common.{List, None, [], drop, length, refl, sym, ◌∙◌, ap, arith}
 use Rattle.std.proofs.Common.{unwrap_or}
 use Rattle.std.proofs.lemmas.Bool.{cases_lt, le-leb, le-ltb, lt-leb, lt-ltb}
-use Rattle.std.proofs.lemmas.List.{get_or-drop, get_or-take, length-take}
+use Rattle.std.proofs.lemmas.List.{length-take}
 use Rattle.sfnt_bytes.specs.Directory.{kept_tag, table_of}
 use Rattle.sfnt_bytes.specs.declared.tag.TheConstants.{LOCA}
 use Rattle.font_tables.specs.Fields.{glyph_count_of, loca_form_of}
@@ -12,9 +12,8 @@ use Rattle.font_tables.specs.Outlines.{offset_at, outline_of}
 use Rattle.font_tables.specs.Refusals.{table_fault}
 use Rattle.font_tables.specs.Tables.{glyf_of, loca_of, loca_tag, table_or_empty}
 use Rattle.font_tables.proofs.TableLemmas.{has_outline}
-use Rattle.font_theory.specs.Parted.{bare, metric_bytes}
 use Rattle.font_subset.specs.Inside.{AreNumbered, is_between}
-use Rattle.font_subset.proofs.PresenceLemmas.{bearing_bytes, numbered_none, pair_bytes, some_of_four}
+use Rattle.font_subset.proofs.PresenceLemmas.{numbered_none}
 
 -- `loca` of a file
 pub loca_is : (file : List ℕ) → unwrap_or (table_of file (kept_tag LOCA)) [] ≡ loca_of file
@@ -62,38 +61,6 @@ module _ (file : List ℕ) (sound : table_fault file ≡ None) where
             - offset_at (loca_form_of file) (loca_of file) g)
             (drop (offset_at (loca_form_of file) (loca_of file) g) (glyf_of file)),
       )
-
--- a byte of a slice of zeros
-zero_byte : (t : List ℕ) (a b i : ℕ) → ((k : ℕ) → get_or (slice_range t a b) k 0 ≡ 0) → a ≤ i → i < b
-    → get_or t i 0 ≡ 0
-zero_byte t a b i zeros low high =
-    let e : i ≡ a + (i - a) = omega (arith, low) in
-    let f : i - a < b - a = omega (arith, low, high) in
-    ap (λ (m : ℕ). get_or t m 0) e ∙ sym (get_or-drop a t (i - a) 0) ∙ sym (get_or-take (b - a) (drop a t) (i - a) 0 f)
-    ∙ zeros (i - a)
-
--- a glyph in a run of pairs, or of bearings, that are all 0
-module _ (k : ℕ) (t : List ℕ) (from to g : ℕ) (some : 0 < k) (low : from ≤ g) (high : g < to) where
-  pub zero_pair : to < k → ((i : ℕ) → get_or (slice_range t (4 * from) (4 * to)) i 0 ≡ 0)
-      → nat_lt 0 (length (bare (metric_bytes k t g))) ≡ false
-  zero_pair pairs zeros =
-      let x = zero_byte t (4 * from) (4 * to) (4 * g) zeros (omega (arith, low)) (omega (arith, high)) in
-      let y = zero_byte t (4 * from) (4 * to) (4 * g + 1) zeros (omega (arith, low)) (omega (arith, high)) in
-      let z = zero_byte t (4 * from) (4 * to) (4 * g + 2) zeros (omega (arith, low)) (omega (arith, high)) in
-      let w = zero_byte t (4 * from) (4 * to) (4 * g + 3) zeros (omega (arith, low)) (omega (arith, high)) in
-      ap (λ (b : List ℕ). nat_lt 0 (length (bare b))) (pair_bytes k t g some (omega (arith, pairs, high)))
-      ∙ (λ i. nat_lt 0 (length (bare (x i ∷ y i ∷ z i ∷ w i ∷ [])))) ∙ sym (some_of_four 0 0 0 0)
-
-  pub zero_bearing : k ≤ from + 1 → ((i : ℕ) → get_or (slice_range t (2 * (k + from)) (2 * (k + to))) i 0 ≡ 0)
-      → nat_lt 0 (length (bare (metric_bytes k t g))) ≡ false
-  zero_bearing late zeros =
-      let x =
-      zero_byte t (2 * (k + from)) (2 * (k + to)) (2 * (k + g)) zeros
-      (omega (arith, low)) (omega (arith, high)) in
-      let y = zero_byte t (2 * (k + from)) (2 * (k + to)) (2 * (k + g) + 1) zeros (omega (arith, low))
-      (omega (arith, high)) in
-      ap (λ (b : List ℕ). nat_lt 0 (length (bare b))) (bearing_bytes k t g some (omega (arith, late, low)))
-      ∙ (λ i. nat_lt 0 (length (bare (x i ∷ y i ∷ 0 ∷ 0 ∷ [])))) ∙ sym (some_of_four 0 0 0 0)
 
 pub below_more : (low high h : ℕ) → low ≤ high → nat_lt h high ≡ (nat_lt h low || is_between low high h)
 below_more low high h order = elim (cases_lt h low) [

@@ -6,11 +6,8 @@ pub mod CutLemmas
 pub mod FontLemmas
 pub mod FormLemmas
 pub mod GlyphListLemmas
-pub mod KeptDataLemmas
-pub mod KeptGvarLemmas
 pub mod KindSourceLemmas
 pub mod FurtherTableLemmas
-pub mod LeanTableLemmas
 pub mod PresenceLemmas
 pub mod SeedLemmas
 pub mod SourceLemmas

@@ -21,8 +21,9 @@ use Rattle.font_write.specs.Parts.{IsNextKept}
 use Rattle.font_write.proofs.MeasureLemmas.{none_if}
 use Rattle.font_theory.specs.Content.{Content, IsFont, IsWritable, KeepsComponents, Wanted, content, font_of}
 use Rattle.font_theory.specs.Content.{glyph_count}
-use Rattle.font_theory.specs.Content.{is_kept, is_made, is_never_copied, is_never_in_layout}
-use Rattle.font_theory.specs.Kinds.{fault_of, font_as, layout_settings, read_by, settings, tables_as}
+use Rattle.font_theory.specs.Content.{is_kept, is_made, is_never_copied, is_never_in_layout, table_in_slot}
+use Rattle.font_theory.specs.Kinds.{fault_of, font_as, full_settings, layout_settings, lean_settings, read_by, settings}
+use Rattle.font_theory.specs.Kinds.{tables_as}
 use Rattle.font_theory.specs.Kinds.{variable_settings}
 use Rattle.font_theory.specs.Kinds.Reading.{absent, as_it_is, unvarying}
 use Rattle.font_theory.specs.declared.kinds.Kind.TheVariants.{Full, Layout, Lean, Variable}
@@ -71,6 +72,15 @@ table_small file tag accepted = omega (arith, table_short file tag, size-accepte
 pub head_small : (file : List ℕ) → font_fault file ≡ None → length (head_of file) ≤ MAX_FILE
 unfolding table_or_empty
 head_small file accepted = table_small file head_tag accepted
+
+-- nor is a `gvar`
+pub short_gvar : (kind : Kind) (file : List ℕ) → font_fault file ≡ None
+    → length (table_in_slot (tables_as kind file) GVAR) ≤ MAX_FILE
+unfolding full_settings lean_settings layout_settings variable_settings
+short_gvar Full file accepted = omega arith
+short_gvar Lean file accepted = omega arith
+short_gvar Layout file accepted = omega arith
+short_gvar Variable file accepted = table_small file (slot_tag GVAR) accepted
 
 -- nor is an outline
 pub outline_small : (file : List ℕ) (g : ℕ) → font_fault file ≡ None → length (outline_of file g) ≤ MAX_FILE
@@ -212,13 +222,3 @@ pub looked_up : {X : Type 0} (bytes : X → List ℕ) (o : Option X) (t : Option
 looked_up bytes None t most is small = tt
 looked_up bytes (Some x) t most is small = subst (λ (o : Option (List ℕ)). length (unwrap_or o []) ≤ most) (sym is)
     small
-
--- a table that was looked up, as a clause has it
-pub found_as : {X : Type 0} (bytes : X → List ℕ) (o : Option X) (t : Option (List ℕ)) → option_map bytes o ≡ t
-    → MatchOption o (t ≡ None) (λ x. t ≡ Some (bytes x))
-found_as bytes None t is = sym is
-found_as bytes (Some x) t is = sym is
-
-pub found_at : {X : Type 0} (bytes : X → List ℕ) (o : Option X) (t u : Option (List ℕ)) → t ≡ u
-    → MatchOption o (t ≡ None) (λ x. t ≡ Some (bytes x)) → MatchOption o (u ≡ None) (λ x. u ≡ Some (bytes x))
-found_at bytes o t u same is = subst (λ v. MatchOption o (v ≡ None) (λ x. v ≡ Some (bytes x))) same is

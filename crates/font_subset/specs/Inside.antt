@@ -5,9 +5,8 @@ use Rattle.font_file.specs.Font.{map_of}
 use Rattle.font_glyph.specs.Marks.{has}
 use Rattle.codes.specs.CharacterMap.{is_mapped, restricted}
 use Rattle.font_tables.specs.Fields.{glyph_count_of}
-use Rattle.font_variations.specs.Gvar.{data_of}
-use Rattle.font_theory.specs.Content.{is_seed, table_in_slot, Content}
-use Rattle.font_theory.specs.Parted.{pairs_in}
+use Rattle.divided_tables.specs.Open.{AreOpen, Made, OpenParts, made_at}
+use Rattle.font_theory.specs.Content.{is_seed, Content}
 use Rattle.font_theory.specs.Cut.{Format}
 use Rattle.font_theory.specs.Closed.{is_bad_layout_in, is_start}
 use Rattle.font_theory.specs.Kinds.{fault_of, gsub_as, tables_as, settings}
@@ -22,13 +21,12 @@ use Rattle.font_subset.specs.declared.cut_font.CutError.{CutError}
 use Rattle.font_subset.specs.declared.cut_font.CutError.TheVariants as cut_errors
 use Rattle.font_subset.specs.declared.cut_font.CutIntoError.{CutIntoError}
 use Rattle.font_subset.specs.declared.cut_font.CutIntoError.TheVariants as into_errors
-use Rattle.font_write.specs.declared.source.TheConstants.{MAX_TABLE}
-use Rattle.sfnt_bytes.specs.declared.tag.TheConstants.{BASE, GDEF, GPOS, GSUB, HHEA, HMTX, KERN, VHEA, VMTX}
+use Rattle.sfnt_bytes.specs.declared.tag.TheConstants.{BASE, GDEF, GPOS, GSUB, KERN}
 use Rattle.sfnt_bytes.specs.declared.tag.TheConstants.{ALL_SLOTS, FIRST_VARIATION, SLOTS}
-use Rattle.std.specs.Prelude.{◌≡◌, ◌≢◌, ℕ, ◌+◌, ◌*◌, ◌<◌, ◌≤◌, ◌⊎◌, ◌↔◌, nat_lt, not, ◌&&◌, ◌||◌, Bool, false, true}
-use Rattle.std.specs.Prelude.{List, [], length, slice_index, slice_index_or, if◌then◌else◌, Option, None, IfSome}
-use Rattle.std.specs.Prelude.{MatchOption, unwrap_or, Some, nat_le}
-use Rattle.std.specs.Option.{is_some, option_or}
+use Rattle.std.specs.Prelude.{◌≡◌, ◌≢◌, ℕ, ◌+◌, ◌<◌, ◌≤◌, ◌⊎◌, ◌↔◌, nat_lt, not, ◌&&◌, ◌||◌, Bool, false, true}
+use Rattle.std.specs.Prelude.{List, [], length, slice_index_or, Option, None, IfSome}
+use Rattle.std.specs.Prelude.{MatchOption, Some, nat_le}
+use Rattle.std.specs.Option.{option_or}
 use Rattle.font_theory.specs.Content.{Wanted}
 use Rattle.font_subset.specs.CutOfKind.{closed_of, in_file}
 use Rattle.font_subset.specs.KeptGlyphs.{Asked, IsKeptSet, selected, written_of, AreVariationsIn}
@@ -50,21 +48,11 @@ pub record AreNumbered (there glyphs : ℕ → Bool) (old new : List Bool) : Typ
   pub count : length new ≡ length old
   pub marked : (g : ℕ) → has new g ≡ (has old g || (glyphs g && there g))
 
--- a table of metrics that has so many pairs is that of a font for cuts of a kind, or there is none that its header
--- describes; then there are no pairs
-pub record AreMetricsOf (kind : Kind) (file : List ℕ) (header slot : ℕ) (table : List ℕ) (pairs : ℕ) : Type 0 where
-  pub few : pairs ≤ glyph_count_of file
-  pub room : 0 < pairs → 2 * (pairs + glyph_count_of file) ≤ length table
-  pub pairs_are : pairs ≡ pairs_in (tables_as kind file) header slot
-  pub table_is : 0 < pairs → table ≡ table_in_slot (tables_as kind file) slot
-
--- what tells which glyphs of a font are there: its tables of metrics, each with the number of its pairs
-pub record IsPresence (kind : Kind) (file : List ℕ) (across : List ℕ) (pairs : ℕ) (down : List ℕ) (rows : ℕ)
-    : Type 0 where
+-- what tells which glyphs of a font are there: its tables that have something of each glyph
+pub record IsPresence (kind : Kind) (file : List ℕ) (tables : OpenParts) : Type 0 where
   pub accepted : fault_of kind file ≡ None
   pub numbered : kind ≢ Full
-  pub across_are : AreMetricsOf kind file HHEA HMTX across pairs
-  pub down_are : AreMetricsOf kind file VHEA VMTX down rows
+  pub are_open : AreOpen (tables_as kind file) tables
 
 -- .notdef and the glyphs of the wanted codes are marked
 pub record IsSeedSet (file : List ℕ) (wanted : ℕ → Bool) (marks : List Bool) : Type 0 where
@@ -96,25 +84,10 @@ abbrev pub of_send_error : SendError → CutIntoError
 of_send_error (send_errors.TooLarge size) = into_errors.TooLarge size
 of_send_error (send_errors.WriteFault written) = into_errors.WriteFault written
 
--- the bytes of a table at a place, and from there on, are copied to the same place of another
-pub record AreCopied (from : List ℕ) (at size : ℕ) (old new : List ℕ) : Type 0 where
-  pub count : length new ≡ length old
-  pub inside : (j : ℕ) → at ≤ j → j < at + size → slice_index new j ≡ slice_index from j
-  pub outside : (j : ℕ) → (j < at) ⊎ (at + size ≤ j) → slice_index new j ≡ slice_index old j
-
--- for each glyph that is selected its data in a `gvar`, and nothing for the others
-pub record AreKeptData (cut : Kind × (List ℕ × Asked)) (gvar : List ℕ) (listed : List (List ℕ))
-    : Type 0 where
-  pub count : length listed ≡ glyph_count_of cut.1.0
-  pub each :
-      (g : ℕ) → g < glyph_count_of cut.1.0 → slice_index_or listed g []
-      ≡ if is_some ((selected cut).outline g) then data_of gvar g else []
-
--- the table of a slot that a cut of a kind has anew, or none where it has that of the font
-pub record IsMadeTable (cut : Kind × (List ℕ × Asked)) (slot : ℕ)
-    (table : Option (List ℕ)) : Type 0 where
-  pub is : option_or table ((selected cut).copied slot) ≡ (written_of cut).copied slot
-  pub small : length (unwrap_or table []) ≤ MAX_TABLE
+-- the tables that a cut of a kind has anew; where there is none in a slot it has that of the font
+abbrev pub IsMade : Kind × (List ℕ × Asked) → Made → Type 0
+IsMade cut made =
+    (slot : ℕ) → option_or (made_at made slot) ((selected cut).copied slot) ≡ (written_of cut).copied slot
 
 -- where links begin is marked: .notdef, the glyphs of wanted codes, and wanted glyphs
 pub record AreStarts (file : List ℕ) (wanted : Wanted) (marks : List Bool) : Type 0 where

@@ -30,7 +30,6 @@ impl<'f, 'a, A: Allocator> Model for CutOf<'f, 'a, A> {
     ghost invariant = { λ c. (c.selection.0 ≡ Full) × (c.selection.1.1.numbers ≡ Some []) };
 }
 
-// Written out: a derived drop is proved anew wherever a value is let go, with all that is known of the value.
 impl<'f, 'a, A: Allocator> Drop for CutOf<'f, 'a, A> {
     fn drop(self) {
         let CutOf {

@@ -6,6 +6,7 @@ ghost use Rattle.sfnt_bytes.specs.declared.tag.TheConstants.{SLOTS as KEPT_SLOTS
 ghost use Rattle.font_theory.specs.Kinds.{fault_of, tables_as};
 ghost use Rattle.font_theory.specs.declared.kinds.Kind.TheVariants.{Full, Lean};
 ghost use Rattle.font_file.specs.Font.{font_fault};
+ghost use Rattle.divided_tables.specs.Open.{AreOpen};
 ghost use Rattle.font_subset.specs.Inside.{slots_of};
 ghost use Rattle.font_subset.specs.KeptGlyphs.{AreVariationsIn};
 ghost use Rattle.font_subset.specs.OpenedFont.{IsOpenRefusal};
@@ -14,10 +15,11 @@ ghost use Rattle.font_subset.specs.declared.open_error.OpenError.TheVariants.{No
 use crate::accepted::{copied, recall_accepted};
 use crate::further_tables::FurtherTables;
 use crate::open_error::OpenError;
+use divided_tables::OpenTables;
 use font_file::{Font, FontError};
 use font_theory::Kind;
 use font_variations::Variations;
-use sfnt_bytes::{Memory, SLOTS};
+use sfnt_bytes::{HHEA, HMTX, Memory, SLOTS, VHEA, VMTX};
 use std::alloc::{Allocator, Global};
 use std::marker::Model;
 
@@ -42,7 +44,6 @@ impl<'f, 'a, A: Allocator> Model for FontOfKind<'f, 'a, A> {
     ghost invariant = { λ f. IsOpened f.tables.0 f.tables.1 f.variations };
 }
 
-// Written out: a derived drop is proved anew wherever a value is let go, with all that is known of the value.
 impl<'f, 'a, A: Allocator> Drop for FontOfKind<'f, 'a, A> {
     fn drop(self) {
         let FontOfKind {
@@ -125,6 +126,20 @@ impl<'f, 'a, A: Allocator> FontOfKind<'f, 'a, A> {
         ensures small { MatchOption result Unit (λ b. length b.now ≤ MAX_FILE) }
     {
         self.tables.table(slot)
+    }
+
+    /// Opens the tables that have something of each glyph, as cuts of the kind read them.
+    pub(crate) fn open_tables(&self) -> OpenTables<'_, 'a>
+        ensures { AreOpen (tables_as self.now.0 self.now.1) result }
+    {
+        OpenTables::open(
+            self.font().tables().glyph_count(),
+            self.copied(HHEA),
+            self.copied(HMTX),
+            self.copied(VHEA),
+            self.copied(VMTX),
+            self.variations(),
+        )
     }
 
     /// Returns the table of a slot, where a cut of the kind copies it.

@@ -239,7 +239,8 @@ fn first_refusal(kind: Kind, font: &Font<'_>, error: FontError) -> FontError
     }
 }
 
-// Returns the same of a font that was not opened.
+// Returns why a font that could not be opened is refused for cuts that are closed under links, or that there is no
+// memory.
 fn closing_refusal(kind: Kind, font: &Font<'_>, error: OpenError) -> OpenError
     requires { IsOpenRefusal kind font.now error }
     ensures refusal { IsCuttingRefusal true kind font.now result }
@@ -272,7 +273,6 @@ impl<'f, 'a, A: Allocator> Model for FontToCut<'f, 'a, A> {
     ghost invariant = { λ f. AreLinksToFollow f.font.0 f.font.1 f.links };
 }
 
-// Written out: a derived drop is proved anew wherever a value is let go, with all that is known of the value.
 impl<'f, 'a, A: Allocator> Drop for FontToCut<'f, 'a, A> {
     fn drop(self) {
         let FontToCut {

@@ -86,7 +86,6 @@ impl<'a, A: Allocator> Model for FixedTable<'a, A> {
         (option_copied t.table)) []) ≤ MAX_FILE };
 }
 
-// Written out: a derived drop is proved anew wherever a value is let go, with all that is known of the value.
 impl<'a, A: Allocator> Drop for FixedTable<'a, A> {
     fn drop(self) {
         let FixedTable {
@@ -152,7 +151,6 @@ impl<'f, 'a, A: Allocator> Model for FixedTables<'f, 'a, A> {
     ghost invariant = { λ l. AreFixed l.font.now l.base l.gdef l.gpos l.gsub l.kern };
 }
 
-// Written out: a derived drop is proved anew wherever a value is let go, with all that is known of the value.
 impl<'f, 'a, A: Allocator> Drop for FixedTables<'f, 'a, A> {
     fn drop(self) {
         let FixedTables {
@@ -252,7 +250,6 @@ impl<'f, 'a, A: Allocator> Model for FurtherTables<'f, 'a, A> {
     ghost invariant = { λ t. IsRead t.kind t.font.now t.fixed };
 }
 
-// Written out: a derived drop is proved anew wherever a value is let go, with all that is known of the value.
 impl<'f, 'a, A: Allocator> Drop for FurtherTables<'f, 'a, A> {
     fn drop(self) {
         let FurtherTables {

@@ -87,7 +87,7 @@ impl<'f, 'a, A: Memory + Copy> Charted<'f, 'a, A> {
         })
     }
 
-    // Does the same, and lists the runs of the mapping.
+    // Makes a chart of the mapping, and lists its runs.
     fn with_runs(alloc: A, font: &'f Font<'a>) -> Result<Charted<'f, 'a, A>, NoMemory>
         ensures font { IfOk result (λ charted. charted ≡ font.entry.now) }
         ensures memory { OnErr result (IsRefused A.refuses) }
@@ -227,7 +227,6 @@ impl<'f, 'a, A: Allocator> Model for Seeds<'f, 'a, A> {
     ghost invariant = { λ s. IsSeedSet s.charted (codes_wanted (option_copied s.wanted)) s.marks };
 }
 
-// Written out: a derived drop is proved anew wherever a value is let go, with all that is known of the value.
 impl<'f, 'a, A: Allocator> Drop for Seeds<'f, 'a, A> {
     fn drop(self) {
         let Seeds {
@@ -368,7 +367,6 @@ impl<'f, 'a, A: Allocator> Model for Selection<'f, 'a, A> {
         (wanted_in (asked (option_copied s.wanted) (option_copied s.numbers))) s.kept };
 }
 
-// Written out: a derived drop is proved anew wherever a value is let go, with all that is known of the value.
 impl<'f, 'a, A: Allocator> Drop for Selection<'f, 'a, A> {
     fn drop(self) {
         let Selection {
@@ -539,7 +537,7 @@ impl<'f, 'a, A: Allocator> Selection<'f, 'a, A> {
         }
     }
 
-    /// Returns `gvar`, where a cut of the kind keeps variations and the font has one.
+    /// Returns the variation data of the font, where a cut of the kind keeps them and the font has some.
     pub(crate) fn variations(&self) -> Option<&Variations<'a>>
         ensures { AreVariationsIn self.now.0 self.now.1.0 (option_copied result) }
     {

@@ -75,7 +75,7 @@ fn short_offset_falls(loca: &[u8], last: usize) -> bool
     found
 }
 
-// Returns the same of long offsets.
+// Returns whether a long offset up to the last one is below the one before it.
 #[tactic(auto, using(crate::proofs::OffsetLemmas::offset_is_whole, crate::proofs::OffsetLemmas::falls_none, crate::proofs::OffsetLemmas::falls_more))]
 fn long_offset_falls(loca: &[u8], last: usize) -> bool
     requires { offset_size LocaForm.Long * (last + 1) ≤ length loca.now }

@@ -103,7 +103,6 @@ impl<'a> Model for Tables<'a> {
         t.units_per_em t.metric_count t.form };
 }
 
-// Written out: a derived drop is proved anew wherever a value is let go, with all that is known of the value.
 impl<'a> Drop for Tables<'a> {
     fn drop(self) {
         let Tables {

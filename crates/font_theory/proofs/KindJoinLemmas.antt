@@ -126,7 +126,7 @@ module _ (p : Partition) (is : IsPartition p) where
   }
 
 -- the bytes of a union are those of its parts
-length-either_bytes : (x y : List ℕ) → length (either_bytes x y) ≡ length x
+pub length-either_bytes : (x y : List ℕ) → length (either_bytes x y) ≡ length x
 unfolding either_bytes
 length-either_bytes x y = length-map-range_with_len (λ j. bit_or (get_or x j 0) (get_or y j 0)) 0 (length x)
 

@@ -39,7 +39,7 @@ IsParting-undivided bad = record {
 }
 
 -- `post` without names has none to lose
-thin_post-short : (b : List ℕ) → length b < 32 → thin_post b ≡ b
+pub thin_post-short : (b : List ℕ) → length b < 32 → thin_post b ≡ b
 unfolding thin_post
 thin_post-short b short = let t = lt-ltb (length b) 32 short in rw t refl
 

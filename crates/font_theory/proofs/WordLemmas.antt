@@ -119,7 +119,7 @@ module _ (keeps : ℕ → Bool) (k n : ℕ) (t : List ℕ) (there : AreThere k n
       (last_not e some small)
 
 -- a table of metrics that is made of its frame and of the parts of the kept glyphs
-metrics-reduced : (header : ℕ) (c : Tables) (keeps : ℕ → Bool) (t : List ℕ)
+pub metrics-reduced : (header : ℕ) (c : Tables) (keeps : ℕ → Bool) (t : List ℕ)
     → (metrics header).whole c ((metrics header).frame c t) (λ g. cond (keeps g) ((metrics header).part c t g) [])
     ≡ cleared keeps (pairs_of c header t) (glyph_count c) t
 unfolding metrics
@@ -157,7 +157,7 @@ pub count-context : (c : Tables) → glyph_count (context c) ≡ glyph_count c
 unfolding context glyph_count
 count-context c = refl
 
-table_is : (c : Tables) (slot : ℕ) (t : List ℕ) → c slot ≡ Some t → t ≡ table_in_slot c slot
+pub table_is : (c : Tables) (slot : ℕ) (t : List ℕ) → c slot ≡ Some t → t ≡ table_in_slot c slot
 table_is c slot t e = sym (ap (λ (o : Option (List ℕ)). unwrap_or o []) e)
 
 module _ (F : Font) (A : Wanted) where
@@ -279,7 +279,7 @@ bare-nil a four e = elim (bare-cases a) [
   | inr own ↦ let size : length a ≡ 0 = ap (λ (l : List ℕ). length l) (sym own ∙ e) in absurd (omega arith)
 ]
 
-bare-same : (a b : List ℕ) → length a ≡ 4 → length b ≡ 4 → bare a ≡ bare b → a ≡ b
+pub bare-same : (a b : List ℕ) → length a ≡ 4 → length b ≡ 4 → bare a ≡ bare b → a ≡ b
 bare-same a b fa fb e = elim (bare-cases a) [
   | inl w ↦ w.0 ∙ sym (bare-nil b fb (sym e ∙ w.1))
   | inr own ↦ elim (bare-cases b) [

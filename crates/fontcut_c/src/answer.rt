@@ -89,7 +89,7 @@ impl Answer {
         }
     }
 
-    /// Returns the same, of a file of several.
+    /// Returns this answer with the place of a file among several.
     pub(crate) fn at(self, step: u64) -> Answer
         ensures { result ≡ at_step step self }
     {

@@ -125,7 +125,7 @@ pub(crate) fn cut_size(
     measure_cut(alloc, kind, &font, request)
 }
 
-/// Returns the same of a font that is accepted, which is not tested again.
+/// Returns a size as `cut_size` does, for a font that is accepted: it is not tested again.
 pub(crate) fn checked_cut_size(
     alloc: Global,
     kind: Kind,
@@ -156,7 +156,7 @@ pub(crate) fn cut_to(
     write_cut(alloc, kind, &font, request, out)
 }
 
-/// Writes the same of a font that is accepted, which is not tested again.
+/// Writes a cut as `cut_to` does, for a font that is accepted: it is not tested again.
 pub(crate) fn checked_cut_to(
     alloc: Global,
     kind: Kind,

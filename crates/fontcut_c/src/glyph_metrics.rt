@@ -75,7 +75,7 @@ pub(crate) fn metrics_to(file: &[u8], glyphs: &[u16], out: &mut [Metric]) -> Res
     metrics_in(&Font::open(file)?, glyphs, out)
 }
 
-/// Does the same for a font that is accepted, which is not tested again.
+/// Writes metrics as `metrics_to` does, for a font that is accepted: it is not tested again.
 pub(crate) fn checked_metrics_to(
     file: &[u8],
     glyphs: &[u16],

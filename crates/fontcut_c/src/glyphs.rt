@@ -75,7 +75,7 @@ pub(crate) fn glyphs_to(
     glyphs_in(alloc, &Font::open(file)?, codes, out)
 }
 
-/// Does the same for a font that is accepted, which is not tested again.
+/// Writes glyphs as `glyphs_to` does, for a font that is accepted: it is not tested again.
 pub(crate) fn checked_glyphs_to(
     alloc: Global,
     file: &[u8],

@@ -19,7 +19,6 @@ pub struct OutWriter<'a, F: HeldFiles, O: Write + Drop> {
     inner: BufWriter<KeepsReason<'a, Target<'a, F, O>>>,
 }
 
-// Written out: a derived drop is proved anew wherever a value is let go, with all that is known of the value.
 impl<F: HeldFiles, O: Write + Drop> Drop for OutWriter<'_, F, O> {
     fn drop(self) {
         let OutWriter { inner: _inner } = self;

@@ -33,7 +33,6 @@ pub struct KeepsReason<'a, T> {
     reason: &'a Reason,
 }
 
-// Written out: a derived drop is proved anew wherever a value is let go, with all that is known of the value.
 impl<T: Drop> Drop for KeepsReason<'_, T> {
     fn drop(self) {
         let KeepsReason {

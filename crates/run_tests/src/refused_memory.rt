@@ -44,7 +44,7 @@ fn refused_memory_in_runs(rt: HostRuntime) {
     }
 }
 
-// Returns the same of an inlet that is read to its end.
+// Tells whether each refusal of memory is answered where an inlet is read to its end.
 fn is_refused_each_in_read_all(alloc: Global, file: &[u8]) -> bool {
     for k in 1..100u64 {
         let memory = Refusing::new(alloc, k);

@@ -12,7 +12,6 @@ pub struct CodeSet {
     bits: Vec<u32>,
 }
 
-// Written out: a derived drop is proved anew wherever a value is let go, with all that is known of the value.
 impl Drop for CodeSet {
     fn drop(self) {
         let CodeSet {

@@ -18,7 +18,6 @@ pub(crate) struct Choice {
     glyphs: CodeSet,
 }
 
-// Written out: a derived drop is proved anew wherever a value is let go, with all that is known of the value.
 impl Drop for Choice {
     fn drop(self) {
         let Choice {

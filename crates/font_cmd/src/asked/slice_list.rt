@@ -29,7 +29,6 @@ pub(crate) struct Slice<'t> {
     pub(crate) glyphs: CodeSet,
 }
 
-// Written out: a derived drop is proved anew wherever a value is let go, with all that is known of the value.
 impl Drop for Slice<'_> {
     fn drop(self) {
         let Slice {

@@ -3,9 +3,7 @@ use Rattle.std.proofs.lemmas.Result.{MatchResult-weaker}
 use Rattle.sfnt_bytes.specs.declared.directory.TheConstants.{MAX_FILE}
 use Rattle.font_theory.specs.Kinds.{format_of}
 use Rattle.font_join.specs.JoinList.{IsForSizeInto, IsSentAs, StopsJoin}
-use Rattle.font_join.specs.declared.join_error.JoinAllError.TheVariants.{At}
 use Rattle.font_join.specs.declared.join_error.JoinAllIntoError.{JoinAllIntoError}
-use Rattle.font_join.specs.declared.join_error.JoinError.TheVariants.{TableTooLong}
 use Rattle.font_theory.proofs.KindLemmas.{kind_is}
 use Rattle.font_join.proofs.JoinListLemmas.{clash_differs, cuts_refused_into, laws_of_join, never_too_long_of_all}
 use Rattle.font_join.proofs.JoinListLemmas.{result_cases, small_joined}

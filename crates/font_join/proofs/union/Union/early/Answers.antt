@@ -4,14 +4,14 @@ use Rattle.font_theory.specs.Cut.{IsCut, content_of_all}
 use Rattle.font_theory.specs.Kinds.{divides_tables, font_as, format_of}
 use Rattle.font_theory.specs.declared.kinds.Kind.{Kind}
 use Rattle.font_join.specs.Inside.{early_difference}
-use Rattle.font_join.specs.KindInside.{blanked}
+use Rattle.font_join.specs.KindInside.{framed}
 use Rattle.font_join.specs.Union.{Held, content_in}
 use Rattle.font_join.proofs.MergeLemmas.{fine_file, is_divided, spells_file}
-use Rattle.font_join.proofs.ThreeTableLemmas.{early_blanked, early_plain}
+use Rattle.font_join.proofs.FrameLemmas.{early_framed, early_plain}
 use Rattle.font_join.proofs.union.Union.early.Goals as goal
 
-pub blank-requires : goal.blank-requires
-blank-requires g c = fine_file c.args.file.now.0 c.args.file.now.1
+pub frames-requires : goal.frames-requires
+frames-requires g c = fine_file c.args.file.now.0 c.args.file.now.1
     (subst (λ (k : Kind). IsCut (format_of k) c.args.file.now.1) (sym c.requires.same) c.requires.form)
 
 pub returns-then-not-divides_tables-clause-difference : goal.returns-then-not-divides_tables-clause-difference
@@ -31,9 +31,9 @@ returns-clause-difference g c = λ K h.
     let some : divides_tables u.kind ≡ true =
     is_divided _ u c.self.view_is c.kind.result true c.kind.ensures.kind c.if-not-divides_tables.ensures in
     c.early_difference-2.ensures
-    ∙ (λ i. early_difference (blanked (content_in (c.new-first.ensures i)))
-    (blanked (content (font_as (c.new-second.ensures i).0 (c.new-second.ensures i).1) everything)))
-    ∙ ap (λ (k : Kind). early_difference (blanked (content_in u))
-    (blanked (content (font_as k c.args.file.now.1) everything))) c.requires.same
-    ∙ early_blanked u.kind some (content_in u) (content (font_as u.kind c.args.file.now.1) everything) K
+    ∙ (λ i. early_difference (framed (content_in (c.new-first.ensures i)))
+    (framed (content (font_as (c.new-second.ensures i).0 (c.new-second.ensures i).1) everything)))
+    ∙ ap (λ (k : Kind). early_difference (framed (content_in u))
+    (framed (content (font_as k c.args.file.now.1) everything))) c.requires.same
+    ∙ early_framed u.kind some (content_in u) (content (font_as u.kind c.args.file.now.1) everything) K
     (content_of_all (format_of u.kind) c.args.file.now.1) h (spells_file u.kind c.args.file.now.1 c.requires.form)

@@ -1,10 +1,8 @@
-use Rattle.std.proofs.Common.{◌≡◌, ◌≤◌, ℕ, List, Some, length, sym, ap, ◌∙◌, subst}
+use Rattle.std.proofs.Common.{◌≡◌, ℕ, List, Some, sym, ap, ◌∙◌, subst}
 use Rattle.std.specs.Option.{option_map}
-use Rattle.sfnt_bytes.specs.declared.directory.TheConstants.{MAX_FILE}
-use Rattle.sfnt_bytes.specs.declared.tag.TheConstants.{GVAR}
 use Rattle.codes.specs.CharacterMap.{AreCompatible, united}
 use Rattle.font_tables.specs.Fields.{glyph_count_of}
-use Rattle.font_theory.specs.Content.{Content, content, everything, glyph_count, table_in_slot}
+use Rattle.font_theory.specs.Content.{Content, content, everything, glyph_count}
 use Rattle.font_theory.specs.Cut.{IsCut, content_of_all}
 use Rattle.font_theory.specs.Agreement.{Agree}
 use Rattle.font_theory.specs.Kinds.{font_as, format_of, tables_as}
@@ -14,8 +12,9 @@ use Rattle.font_theory.proofs.CutLemmas.{is_cut-of}
 use Rattle.font_theory.proofs.KindLemmas.{kind_is}
 use Rattle.map_union.specs.RunLists.{map_in}
 use Rattle.font_join.specs.Inside.{IsAddRefusal}
-use Rattle.font_join.specs.KindInside.{HasFineGvar, IsGrown, SpellsIn}
-use Rattle.font_join.specs.Union.{Held, content_in}
+use Rattle.divided_tables.specs.Open.{HasFineGvar}
+use Rattle.font_join.specs.KindInside.{IsGrown, SpellsIn}
+use Rattle.font_join.specs.Union.{HasShortData, Held, content_in}
 use Rattle.font_join.specs.declared.join_error.JoinError.TheVariants.{NoMemory}
 use Rattle.font_join.specs.declared.join_error.Which.TheVariants.{Second}
 use Rattle.font_join.proofs.JoinLemmas.{form_whole}
@@ -31,7 +30,7 @@ take-other-requires-clause-form g c = subst (λ (k : Kind). IsCut (format_of k) 
 
 pub gvar_of_both-requires-clause-first : goal.gvar_of_both-requires-clause-first
 gvar_of_both-requires-clause-first g c =
-    subst (λ (v : Held). length (table_in_slot (content_in v).copied GVAR) ≤ MAX_FILE
+    subst (λ (v : Held). HasShortData v
     → HasFineGvar (content_in v).copied) c.self.view_is
     (fine_union c.self.inside.first.0 _ c.self.invariant.whole c.self.invariant.spells) c.requires.small
 
@@ -134,7 +133,7 @@ invariant_of-result g c =
     (option_map (λ v. v.items) c.in_ok-gvar.gvar) c.self.invariant.count c.take-other.ensures.taken
     (c.in_ok-map.ensures.map ∙ ap (united (map_in u.runs)) c.in_ok-runs.ensures.runs.spelled_map)
     c.in_ok-gvar.ensures.table
-    c.laid_over-own.ensures c.self.invariant.whole c.self.invariant.spells c.self.inside.blanks c.self.invariant
+    c.laid_over-own.ensures c.self.invariant.whole c.self.invariant.spells c.self.inside.framed c.self.invariant
 
 pub returns-clause-exact : goal.returns-clause-exact
 returns-clause-exact g c = subst (λ (v : Held). (K : Content) → SpellsIn v.kind (content_in v) K

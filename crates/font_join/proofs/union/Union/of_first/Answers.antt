@@ -3,8 +3,9 @@ use Rattle.font_theory.specs.Content.{content, everything}
 use Rattle.font_theory.specs.Cut.{IsCut, content_of_all}
 use Rattle.font_theory.specs.Kinds.{font_as, format_of, tables_as}
 use Rattle.font_theory.specs.declared.kinds.Kind.{Kind}
+use Rattle.divided_tables.specs.Open.{HasFineGvar}
 use Rattle.font_join.specs.Inside.{IsFormRefusal}
-use Rattle.font_join.specs.KindInside.{HasBlanks, HasFineGvar, IsUnion, SpellsIn, own_in}
+use Rattle.font_join.specs.KindInside.{HasFrames, IsOwn, IsUnion, SpellsIn}
 use Rattle.font_join.specs.Union.{Held, content_in}
 use Rattle.font_join.specs.declared.join_error.JoinError.TheVariants.{NoMemory}
 use Rattle.font_join.specs.declared.join_error.Which.TheVariants.{First}
@@ -18,8 +19,8 @@ returns-in_err-file-clause-exact g c =
     (subst (λ (v : Kind × List ℕ). IsFormRefusal (format_of v.0) First v.1 c.in_err-file.field-0.0)
     c.in_ok-opened.ensures.exact c.in_err-file.ensures.exact)
 
-pub blank_for_kind-requires : goal.blank_for_kind-requires
-blank_for_kind-requires g c =
+pub frames_for_kind-requires : goal.frames_for_kind-requires
+frames_for_kind-requires g c =
     subst (λ (v : Kind × List ℕ). HasFineGvar (content (font_as v.0 v.1) everything).copied)
     (sym c.in_ok-file.ensures.exact.0)
     (fine_file c.in_ok-opened.opened.0 c.in_ok-opened.opened.1 c.in_ok-file.ensures.exact.1)
@@ -37,21 +38,22 @@ invariant_of-result g c =
     c.in_ok-file.ensures.exact.1 in
     let kind : (c.args.kind, c.args.font.now) ≡ file = sym
     (c.in_ok-file.ensures.exact.0 ∙ c.in_ok-opened.ensures.exact) in
-    let copies : c.in_ok-own.own ≡ own_in file.0 (tables_as file.0 file.1) =
-    c.in_ok-own.ensures.tables ∙ ap (λ (v : Kind × List ℕ). own_in v.0 (tables_as file.0 file.1)) kind in
+    let copies : IsOwn file.0 (tables_as file.0 file.1) c.in_ok-own.own =
+    subst (λ (v : Kind × List ℕ). IsOwn v.0 (tables_as file.0 file.1) c.in_ok-own.own) kind
+    c.in_ok-own.ensures.tables in
     subst (λ (v : Kind × List ℕ). IsUnion (record {
       kind = v.0;
       tables = v.1;
       runs = c.of_runs.result;
       outlines = c.in_ok-outlines.outlines;
       own = c.in_ok-own.own;
-    }) c.in_ok-blanks.blanks) c.in_ok-file.ensures.exact.0
+    }) c.in_ok-framed.framed) c.in_ok-file.ensures.exact.0
     (union_first file.0 file.1 form c.of_runs.result c.in_ok-outlines.outlines c.in_ok-own.own
     (c.of_runs.ensures ∙ c.in_ok-runs.ensures.runs.spelled_map) c.in_ok-outlines.ensures.outlines copies
-    c.in_ok-blanks.blanks
+    c.in_ok-framed.framed
     (subst (λ (v : Kind × List ℕ).
-    HasBlanks v.0 (content (font_as file.0 file.1) everything).copied c.in_ok-blanks.blanks) kind
-    c.in_ok-blanks.ensures.blanks) c.in_ok-outlines.ensures.count)
+    HasFrames v.0 (content (font_as file.0 file.1) everything).copied c.in_ok-framed.framed) kind
+    c.in_ok-framed.ensures.tables) c.in_ok-outlines.ensures.count)
 
 pub returns-clause-exact : goal.returns-clause-exact
 returns-clause-exact g c =
@@ -61,8 +63,9 @@ returns-clause-exact g c =
     c.in_ok-file.ensures.exact.1 in
     let kind : (c.args.kind, c.args.font.now) ≡ file = sym
     (c.in_ok-file.ensures.exact.0 ∙ c.in_ok-opened.ensures.exact) in
-    let copies : c.in_ok-own.own ≡ own_in file.0 (tables_as file.0 file.1) =
-    c.in_ok-own.ensures.tables ∙ ap (λ (v : Kind × List ℕ). own_in v.0 (tables_as file.0 file.1)) kind in
+    let copies : IsOwn file.0 (tables_as file.0 file.1) c.in_ok-own.own =
+    subst (λ (v : Kind × List ℕ). IsOwn v.0 (tables_as file.0 file.1) c.in_ok-own.own) kind
+    c.in_ok-own.ensures.tables in
     let spells = spells_first file.0 file.1 form c.of_runs.result c.in_ok-outlines.outlines c.in_ok-own.own
     (c.of_runs.ensures ∙ c.in_ok-runs.ensures.runs.spelled_map) c.in_ok-outlines.ensures.outlines copies in
     let held : Kind × List ℕ → Held = λ v. record {
@@ -81,9 +84,9 @@ returns-clause-exact g c =
           c.in_ok-file.ensures.exact.1,
     )
 
-pub returns-in_err-blanks-clause-exact : goal.returns-in_err-blanks-clause-exact
-returns-in_err-blanks-clause-exact g c =
-    passed_on _ _ c.from_residual-in_err-blanks.result NoMemory c.from_residual-in_err-blanks.ensures.1 tt
+pub returns-in_err-framed-clause-exact : goal.returns-in_err-framed-clause-exact
+returns-in_err-framed-clause-exact g c =
+    passed_on _ _ c.from_residual-in_err-framed.result NoMemory c.from_residual-in_err-framed.ensures.1 tt
 
 pub returns-in_err-outlines-clause-exact : goal.returns-in_err-outlines-clause-exact
 returns-in_err-outlines-clause-exact g c =

@@ -1,8 +1,9 @@
 use Rattle.std.proofs.Common.{◌≡◌, ap, false, true, ◌∙◌}
 use Rattle.font_theory.specs.Kinds.{divides_tables, tables_as}
-use Rattle.font_subset.proofs.SourceLemmas.{found_as, found_at}
-use Rattle.font_join.specs.Union.{Held, replaced}
-use Rattle.font_join.proofs.ThreeTableLemmas.{Tables, looked_up}
+use Rattle.font_theory.specs.Parting.{Tables}
+use Rattle.divided_tables.specs.Open.{replaced}
+use Rattle.divided_tables.proofs.MadeLemmas.{found_as, found_at, looked_up}
+use Rattle.font_join.specs.Union.{Held}
 use Rattle.font_join.proofs.MergeLemmas.{first_tables, is_divided, own_tables}
 use Rattle.font_join.proofs.union.UnionSource.copied.Goals as goal
 

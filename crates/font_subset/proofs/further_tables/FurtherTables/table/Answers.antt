@@ -2,7 +2,8 @@ use Rattle.std.proofs.Common.{◌≡◌, ◌≤◌, ◌<◌, ◌∙◌, List, �
 use Rattle.font_theory.specs.Kinds.{tables_as}
 use Rattle.font_theory.specs.declared.kinds.Kind.{Kind}
 use Rattle.font_subset.proofs.FurtherTableLemmas.{whole_table}
-use Rattle.font_subset.proofs.SourceLemmas.{found_as, unread}
+use Rattle.divided_tables.proofs.MadeLemmas.{found_as}
+use Rattle.font_subset.proofs.SourceLemmas.{unread}
 use Rattle.font_subset.proofs.further_tables.FurtherTables.table.Goals as goal
 
 pub returns-then-slots_of-slot-clause-table : goal.returns-then-slots_of-slot-clause-table

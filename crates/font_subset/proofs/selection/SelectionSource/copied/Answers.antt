@@ -1,7 +1,8 @@
 use Rattle.std.proofs.Common.{List, ℕ, ap, ◌∙◌}
 use Rattle.font_theory.specs.Content.{font_of}
 use Rattle.font_theory.specs.Kinds.{tables_as}
-use Rattle.font_subset.proofs.SourceLemmas.{Held, copied_low, found_as}
+use Rattle.divided_tables.proofs.MadeLemmas.{found_as}
+use Rattle.font_subset.proofs.SourceLemmas.{Held, copied_low}
 use Rattle.font_subset.proofs.selection.SelectionSource.copied.Goals as goal
 
 pub returns-then-slot-lt-SLOTS-clause-table : goal.returns-then-slot-lt-SLOTS-clause-table

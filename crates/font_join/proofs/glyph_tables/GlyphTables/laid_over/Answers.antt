@@ -1,9 +1,0 @@
-use Rattle.font_join.proofs.OwnTableLemmas.{either_short}
-use Rattle.font_join.proofs.glyph_tables.GlyphTables.laid_over.Goals as goal
-
-pub invariant_of-result : goal.invariant_of-result
-invariant_of-result g c = record {
-  short_hmtx = either_short _ _ _ c.either_table.ensures c.self.invariant.short_hmtx;
-  short_vmtx = either_short _ _ _ c.either_table-2.ensures c.self.invariant.short_vmtx;
-  short_gvar = c.requires;
-}

@@ -1,5 +1,0 @@
-use Rattle.font_join.proofs.OwnTableLemmas.{AreEither}
-use Rattle.font_join.proofs.own_tables.lay_over.Given as goal
-
-abbrev pub invariant-loop-j : goal.invariant-loop-j
-invariant-loop-j l = AreEither l.fn.first l.second l.first l.j

@@ -1,9 +1,0 @@
-use Rattle.std.proofs.Common.{◌+◌, ◌-◌, arith}
-use Rattle.font_subset.proofs.LeanTableLemmas.{copied_part}
-use Rattle.font_subset.proofs.lean_tables.copy_bytes.Goals as goal
-
-pub returns : goal.returns
-returns c =
-    copied_part c.args.from.now c.args.to.now c.copy_from_slice.new.self c.args.at c.args.size (c.args.at + c.args.size
-    - c.args.at) (omega arith) c.requires.room c.requires.same
-    c.copy_from_slice.ensures.after

@@ -1,9 +1,0 @@
-use Rattle.std.proofs.Common.{◌-◌}
-use Rattle.font_subset.proofs.LeanTableLemmas.{AreFilled}
-use Rattle.font_subset.proofs.lean_tables.copy_kept.Given as goal
-
-abbrev pub invariant-loop-g : goal.invariant-loop-g
-invariant-loop-g g l = AreFilled (g.S.Source.content_of l.source) l.pairs l.from l.to l.g
-
-abbrev pub decreases-loop-g : goal.decreases-loop-g
-decreases-loop-g g l = l.count - l.g
