@@ -69,7 +69,8 @@ module _ (made : Made) (slot : ℕ) where
 -- where there is none at all
 pub none_at : (slot : ℕ) → made_at none_made slot ≡ None
 unfolding made_at
-none_at = by_slot (λ slot. made_at none_made slot ≡ None) refl refl refl refl (λ slot d a b e. at_none none_made slot d a b e)
+none_at = by_slot (λ slot. made_at none_made slot ≡ None) refl refl refl refl
+    (λ slot d a b e. at_none none_made slot d a b e)
 
 not_divided : (slot : ℕ) → nat_eq slot GVAR ≡ false → nat_eq slot HMTX ≡ false → nat_eq slot POST ≡ false
     → nat_eq slot VMTX ≡ false → may_divide slot ≡ false

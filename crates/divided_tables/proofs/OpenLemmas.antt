@@ -105,7 +105,8 @@ module _ (c d : Tables) (o p : OpenParts) (first : AreOpen c o) (second : AreOpe
       let y = both_true _ _ x.1 in
       elim (cases_eq slot HMTX) [
         | inl e ↦ subst (λ (k : ℕ). parts_of by_variations c k g ≡ parts_of by_variations d k g) (sym e)
-            (sym (across_part c o first g lowc) ∙ ap bare ((bytes_eq-Decides _ _).0 x.0) ∙ across_part d p second g lowd)
+            (sym (across_part c o first g lowc) ∙ ap bare ((bytes_eq-Decides _ _).0 x.0)
+            ∙ across_part d p second g lowd)
         | inr a ↦ elim (cases_eq slot VMTX) [
           | inl e ↦ subst (λ (k : ℕ). parts_of by_variations c k g ≡ parts_of by_variations d k g) (sym e)
               (sym (down_part c o first g lowc) ∙ ap bare ((bytes_eq-Decides _ _).0 y.0) ∙ down_part d p second g lowd)

@@ -6,8 +6,8 @@ mod made_tables;
 mod metrics;
 mod open_tables;
 mod post;
-mod variations;
+mod variation_data;
 
 pub use crate::made_tables::MadeTables;
 pub use crate::open_tables::OpenTables;
-pub use crate::variations::{gvar_of_both, open_variations};
+pub use crate::variation_data::{gvar_of_both, open_variations};

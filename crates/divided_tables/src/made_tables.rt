@@ -13,7 +13,7 @@ ghost use Rattle.divided_tables.specs.Open.{HasFineGvar, IsKept, laid_over, made
 
 use crate::metrics::{either_table, kept_metrics, metrics_frame};
 use crate::post::{post_frame, post_without_names};
-use crate::variations::{gvar_frame, kept_gvar};
+use crate::variation_data::{gvar_frame, kept_gvar};
 use font_variations::Variations;
 use font_write::Source;
 use sfnt_bytes::{GVAR, HHEA, HMTX, Memory, NoMemory, POST, VHEA, VMTX};

@@ -12,7 +12,8 @@ use Rattle.font_tables.specs.Fields.{num_glyphs}
 use Rattle.font_theory.specs.Content.{Content, IsWritable, KeepsComponents, glyph_count, is_never_copied}
 use Rattle.font_theory.specs.Cut.{Arises}
 use Rattle.font_theory.specs.Difference.{is_different_code, is_different_table}
-use Rattle.font_theory.specs.Kinds.{by_variations, divides_tables, format_of, partition_of, read_by, settings, spelled_by}
+use Rattle.font_theory.specs.Kinds.{by_variations, divides_tables, format_of, partition_of, read_by, settings}
+use Rattle.font_theory.specs.Kinds.{spelled_by}
 use Rattle.font_theory.specs.Kinds.Reading.{absent}
 use Rattle.font_theory.specs.Parting.{Partition, Tables, frames, wholes}
 use Rattle.font_theory.specs.declared.Difference.{Difference}

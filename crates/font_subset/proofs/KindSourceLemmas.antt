@@ -85,7 +85,8 @@ divides_all Layout other = refl
 divides_all Variable other = refl
 
 -- a table that is not read is none
-pub unread_file : (kind : Kind) (file : List ℕ) → (settings kind).reading GVAR ≡ absent → tables_as kind file GVAR ≡ None
+pub unread_file : (kind : Kind) (file : List ℕ) → (settings kind).reading GVAR ≡ absent
+    → tables_as kind file GVAR ≡ None
 unread_file kind file e = ap (λ r. read_by r GVAR (table_of file (slot_tag GVAR))) e
 
 full_partition : (slot : ℕ) → partition_of Full slot ≡ undivided

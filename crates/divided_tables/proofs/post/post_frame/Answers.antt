@@ -1,4 +1,5 @@
-use Rattle.std.proofs.Common.{rules, ◌≡◌, ◌≤◌, ◌∙◌, ℕ, List, MatchOption, Some, ap, arith, length, option_copied, subst, sym}
+use Rattle.std.proofs.Common.{rules, ◌≡◌, ◌≤◌, ◌∙◌, ℕ, List, MatchOption, Some, ap, arith, length, option_copied}
+use Rattle.std.proofs.Common.{subst, sym}
 use Rattle.font_write.specs.declared.source.TheConstants.{MAX_TABLE}
 use Rattle.font_theory.proofs.PartedLemmas.{length-thin_post}
 use Rattle.divided_tables.proofs.FilledLemmas.{thin_nowhere}

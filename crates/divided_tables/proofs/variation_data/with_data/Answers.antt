@@ -1,7 +1,7 @@
 use Rattle.std.proofs.Common.{length, map, arith}
 use Rattle.std.proofs.lemmas.List.{length-map}
 use Rattle.divided_tables.proofs.VariationLemmas.{made_short, made_with, place_fits}
-use Rattle.divided_tables.proofs.variations.with_data.Goals as goal
+use Rattle.divided_tables.proofs.variation_data.with_data.Goals as goal
 
 pub make_gvar-requires-clause-place : goal.make_gvar-requires-clause-place
 make_gvar-requires-clause-place g c =

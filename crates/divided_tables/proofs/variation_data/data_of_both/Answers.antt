@@ -1,5 +1,5 @@
 use Rattle.divided_tables.proofs.VariationLemmas.{listed_more}
-use Rattle.divided_tables.proofs.variations.data_of_both.Goals as goal
+use Rattle.divided_tables.proofs.variation_data.data_of_both.Goals as goal
 
 pub loop-g-preserved : goal.loop-g-preserved
 loop-g-preserved g c =

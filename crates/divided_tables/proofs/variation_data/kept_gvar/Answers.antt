@@ -3,7 +3,7 @@ use Rattle.std.specs.List.{concat}
 use Rattle.font_variations.specs.Gvar.{IsAccepted, data_of}
 use Rattle.font_variations.specs.MadeGvar.{listed_data}
 use Rattle.divided_tables.proofs.VariationLemmas.{kept_data_small, listed_count}
-use Rattle.divided_tables.proofs.variations.kept_gvar.Goals as goal
+use Rattle.divided_tables.proofs.variation_data.kept_gvar.Goals as goal
 
 pub with_data-requires-clause-few : goal.with_data-requires-clause-few
 with_data-requires-clause-few g c =

@@ -1,6 +1,6 @@
 use Rattle.std.proofs.Common.{◌∙◌, ◌∷◌, [], map, ap}
 use Rattle.std.proofs.lemmas.List.{map-append}
-use Rattle.divided_tables.proofs.variations.list_more.Goals as goal
+use Rattle.divided_tables.proofs.variation_data.list_more.Goals as goal
 
 pub returns-clause-listed : goal.returns-clause-listed
 returns-clause-listed g c = ap (map (λ d. d.now)) c.in_ok-push.ensures.pushed

@@ -4,8 +4,9 @@ use Rattle.sfnt_bytes.specs.declared.directory.TheConstants.{MAX_FILE}
 use Rattle.font_variations.specs.MadeGvar.{listed_data}
 use Rattle.font_theory.specs.Content.{Content, glyph_count}
 use Rattle.divided_tables.specs.Open.{either_data, opened_gvar}
-use Rattle.divided_tables.proofs.VariationLemmas.{either_fits, either_opened, listed_count, opened_some, short_at, table_with}
-use Rattle.divided_tables.proofs.variations.gvar_of_both.Goals as goal
+use Rattle.divided_tables.proofs.VariationLemmas.{either_fits, either_opened, listed_count, opened_some, short_at}
+use Rattle.divided_tables.proofs.VariationLemmas.{table_with}
+use Rattle.divided_tables.proofs.variation_data.gvar_of_both.Goals as goal
 
 pub with_data-requires-clause-short : goal.with_data-requires-clause-short
 with_data-requires-clause-short g c =

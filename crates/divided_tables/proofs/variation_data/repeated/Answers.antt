@@ -1,6 +1,6 @@
 use Rattle.std.proofs.Common.{◌≡◌, ◌∙◌, ap, map, replicate}
 use Rattle.divided_tables.proofs.VariationLemmas.{map_repeated}
-use Rattle.divided_tables.proofs.variations.repeated.Goals as goal
+use Rattle.divided_tables.proofs.variation_data.repeated.Goals as goal
 
 pub returns-clause-listed : goal.returns-clause-listed
 returns-clause-listed g c =

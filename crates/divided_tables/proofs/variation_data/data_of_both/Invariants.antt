@@ -1,7 +1,7 @@
 use Rattle.std.proofs.Common.{◌≡◌, map, if◌then◌else◌, is_some}
 use Rattle.font_variations.specs.MadeGvar.{listed_data}
 use Rattle.divided_tables.specs.Open.{data_in}
-use Rattle.divided_tables.proofs.variations.data_of_both.Given as goal
+use Rattle.divided_tables.proofs.variation_data.data_of_both.Given as goal
 
 -- the data of the glyphs so far are listed
 abbrev pub invariant-loop-g : goal.invariant-loop-g

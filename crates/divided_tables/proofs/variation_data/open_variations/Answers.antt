@@ -2,7 +2,7 @@ use Rattle.std.proofs.Common.{◌≡◌, false, true, sym, ap, ◌∙◌}
 use Rattle.std.specs.Result.{is_ok}
 use Rattle.divided_tables.proofs.MadeLemmas.{looked_up}
 use Rattle.divided_tables.proofs.VariationLemmas.{accepted_at}
-use Rattle.divided_tables.proofs.variations.open_variations.Goals as goal
+use Rattle.divided_tables.proofs.variation_data.open_variations.Goals as goal
 
 pub unreachable-requires : goal.unreachable-requires
 unreachable-requires g c =

@@ -1,6 +1,6 @@
 use Rattle.std.proofs.Common.{◌-◌, map}
 use Rattle.divided_tables.proofs.VariationLemmas.{AreDataTo}
-use Rattle.divided_tables.proofs.variations.kept_data.Given as goal
+use Rattle.divided_tables.proofs.variation_data.kept_data.Given as goal
 
 abbrev pub invariant-loop-g : goal.invariant-loop-g
 invariant-loop-g g l =

@@ -1,7 +1,7 @@
 use Rattle.std.proofs.Common.{◌<◌, ◌≤◌, ◌∙◌, arith, length, map}
 use Rattle.std.proofs.lemmas.List.{map-set}
 use Rattle.divided_tables.proofs.VariationLemmas.{data_end, data_start, data_step}
-use Rattle.divided_tables.proofs.variations.kept_data.Goals as goal
+use Rattle.divided_tables.proofs.variation_data.kept_data.Goals as goal
 
 pub loop-g-init : goal.loop-g-init
 loop-g-init g c =
