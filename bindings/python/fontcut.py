@@ -63,17 +63,19 @@ import itertools
 import operator
 import os
 import re
+import unicodedata
 import warnings
 from enum import Enum
 from mmap import mmap
 from typing import (TYPE_CHECKING, Callable, Iterable, Iterator, List, Literal, NamedTuple, Optional, Sequence, Tuple,
                     Union, cast)
 
+from fontcut_needed import joining
 from fontcut_needed import needed as needed
 
 __all__ = ["Font", "FontcutError", "FontcutWarning", "Form", "Info", "LibraryMissing", "NoGlyph", "Range", "Refused",
            "advances", "belongs", "check", "closure", "codes", "cut", "cut_size", "form", "glyphs", "info", "is_cut",
-           "is_cut_of", "join", "kept_glyphs", "metrics", "missing", "needed", "ranges", "slices"]
+           "is_cut_of", "join", "kept_glyphs", "metrics", "missing", "needed", "ranges", "slices", "unshaped"]
 
 __version__ = "0.11.0"
 
@@ -135,7 +137,7 @@ class FontcutError(Exception):
 
 
 class FontcutWarning(UserWarning):
-    """An argument is taken literally, and was probably meant otherwise."""
+    """An argument is taken literally, and was probably meant otherwise; or a cut drops what shapes its text."""
 
 
 class LibraryMissing(FontcutError, OSError):
@@ -525,6 +527,48 @@ def _cutting(ending: str, file: _File, kind: int, ranges: Sequence[Range], numbe
     return lambda *room: _taken(call(kind, file.at, file.length, given, len(ranges), glyphs, len(asked), *room), asked)
 
 
+def _is_substituted(file: _File, codes: Sequence[int]) -> bool:
+    """Whether GSUB may substitute for the glyphs of some characters. It does not if it cannot be read."""
+    ranges = _ranges(codes)
+    with contextlib.suppress(Refused):
+        return len(_closed(file, _KINDS["layout"], ranges, ())) > len(_closed(file, _KINDS["lean"], ranges, ()))
+    return False
+
+
+def _unshaped(font: Union[Bytes, Font], kind: int, ranges: Iterable[Range]) -> Optional[str]:
+    """The first character of some ranges that a cut of a kind does not shape, and its font does."""
+    codes = [] if kind in _WITH_LINKS else sorted(set(joining(ranges)))
+    mapped = [code for code, glyph in zip(codes, glyphs(font, codes)) if glyph] if codes else []
+    file = _File(font)
+    if not mapped or not _is_substituted(file, mapped):
+        return None
+    letters = [code for code in mapped if unicodedata.category(chr(code)).startswith("L")]
+    return chr(next((code for code in letters if _is_substituted(file, [code])), mapped[0]))
+
+
+def unshaped(font: Union[Bytes, Font], wanted: Codes, *, kind: str = "lean") -> Optional[str]:
+    """The first of some characters that a font shapes, and its cut of a kind does not, or None: a letter that joins
+    with others or changes its place by GSUB, which full and lean cuts drop. Letters of scripts that are shaped by GPOS
+    alone, as Thai and Hebrew are, do not count. Raises `Refused`."""
+    return _unshaped(font, _kind(kind, False), _ranges(wanted))
+
+
+def _warn_unshaped(font: Union[Bytes, Font], kind: int, ranges: Iterable[Range]) -> None:
+    """Warns the caller of `cut` or `slices` of a character that the cut does not shape. Out of memory, it does not."""
+    letter = None
+    with contextlib.suppress(MemoryError):
+        letter = _unshaped(font, kind, ranges)
+    if letter is not None:
+        name = next(name for name, number in _KINDS.items() if number == kind)
+        warnings.warn(f'the font shapes {script_of(letter)}, which a {name} cut drops: write kind="layout"',
+                      FontcutWarning, stacklevel=3)
+
+
+def script_of(letter: str) -> str:
+    """What messages call the script of a letter, with which its name in Unicode begins."""
+    return unicodedata.name(letter, f"U+{ord(letter):04X}").partition(" LETTER ")[0].title()
+
+
 def cut_size(font: Union[Bytes, Font], wanted: Codes, *, lean: bool = False, kind: Optional[str] = None,
              gids: Optional[Gids] = None, layout_closure: bool = True, exactly: bool = False) -> int:
     """The length in bytes of the cut that `cut` makes. The cut is not made. Raises what `cut` raises."""
@@ -546,12 +590,16 @@ def cut(font: Union[Bytes, Font], wanted: Codes, *, lean: bool = False, kind: Op
     `needed` returns for it, it shapes the text that it was made for; other text may vanish in it, without a fallback
     font.
 
+    There is a `FontcutWarning` if a full or lean cut for characters alone drops what shapes them, as `unshaped` says.
+
     Raises `Refused` if the font is refused or the cut would be too large; `NoGlyph` if the font has no glyph of one of
     the numbers; `ValueError` for what is not a range, and for a full cut with `gids`."""
     file, number = _File(font), _kind(kind, lean)
-    ranges = _wanted(wanted, number, exactly)
-    made = _cutting("", file, number, ranges, _gids(font, gids), layout_closure)
-    return _written(file.length + 4096, made)
+    ranges, numbers = _wanted(wanted, number, exactly), _gids(font, gids)
+    data = _written(file.length + 4096, _cutting("", file, number, ranges, numbers, layout_closure))
+    if gids is None:
+        _warn_unshaped(font, number, ranges)
+    return data
 
 
 def closure(font: Union[Bytes, Font], wanted: Codes, gids: Gids = (), *, kind: str = "layout",
@@ -633,6 +681,8 @@ def slices(font: Union[Bytes, Font], sets: Iterable[Codes], *, lean: bool = Fals
     # A guess would seldom serve: each cut repeats the tables that it copies, and the font alone says how long they are.
     # So the first call has no room. It measures the cuts, and the second one has room for just all of them.
     out, _ = _filled(0, made)
+    if gids is None:
+        _warn_unshaped(font, number, itertools.chain.from_iterable(wanted))
     ends = itertools.accumulate(sizes[:len(wanted)])
     return [ctypes.string_at(ctypes.byref(out, end - size), size) for end, size in zip(ends, sizes)]
 

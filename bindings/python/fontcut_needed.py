@@ -9,10 +9,11 @@ properties are those of Python's own `unicodedata`, which may be of an earlier v
 """
 from __future__ import annotations
 
+import bisect
 import functools
 import re
 import unicodedata
-from typing import Dict, FrozenSet, Iterator, Set
+from typing import Dict, FrozenSet, Iterable, Iterator, List, Set, Tuple
 
 __all__ = ["needed"]
 
@@ -66,6 +67,23 @@ def _ranges(listed: str) -> Iterator[range]:
 def using_joiners() -> FrozenSet[str]:
     """The characters that joiners are used with."""
     return frozenset(chr(code) for codes in _ranges(_USING_JOINERS) for code in codes)
+
+
+@functools.lru_cache(maxsize=None)
+def _joining() -> Tuple[List[range], List[int]]:
+    """The ranges of the characters that joiners are used with, but for joiners, and the last code point of each."""
+    listed = [codes for codes in _ranges(_USING_JOINERS) if chr(codes[0]) not in _JOINERS]
+    return listed, [codes[-1] for codes in listed]
+
+
+def joining(ranges: Iterable[Tuple[int, int]]) -> Iterator[int]:
+    """The code points of ranges that joiners are used with, which are those of letters that join or change places."""
+    listed, lasts = _joining()
+    for first, last in ranges:
+        for codes in listed[bisect.bisect_left(lasts, first):]:
+            if codes[0] > last:
+                break
+            yield from range(max(first, codes[0]), min(last, codes[-1]) + 1)
 
 
 @functools.lru_cache(maxsize=None)

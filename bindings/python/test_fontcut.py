@@ -67,6 +67,8 @@ LETTERS, ACCENTED, ALL = ([(0x41, 0x42)], [(0xC1, 0xC1)], [(0x41, 0x42), (0xC1, 
 Given = Union[fontcut.Bytes, fontcut.Font]
 SETS: List[List[Tuple[int, int]]] = [LETTERS, ACCENTED, ALL, []]
 
+DEJAVU = "/usr/share/fonts/truetype/dejavu/DejaVuSans.ttf"
+
 
 class Cutting(unittest.TestCase):
     def test_cuts_are_those_of_the_second_reading(self) -> None:
@@ -168,6 +170,30 @@ class Cutting(unittest.TestCase):
             for text in ("", "A", "U", "U+", "U+41 and more", "41-5A", "U+41" + " " * 10000 + "x"):
                 fontcut.cut(BASE6, text)
             fontcut.cut(BASE6, fontcut.ranges("U+41-5A"))
+
+    @unittest.skipUnless(os.path.exists(DEJAVU), "Debian's package fonts-dejavu-core is not installed")
+    def test_a_cut_that_drops_what_shapes_its_text(self) -> None:
+        """The caller is warned of full and lean cuts, and not where the glyphs were shaped, or the font shapes none."""
+        with open(DEJAVU, "rb") as file:
+            font = file.read()
+        arabic, numbers = "Hello \u0628\u0627", fontcut.glyphs(font, "\u0628\u0627")
+        calls: List[Callable[[], object]] = [
+            lambda: fontcut.cut(font, arabic), lambda: fontcut.cut(fontcut.Font(font), arabic, kind="lean"),
+            lambda: fontcut.cut(font, [(0, 0x10FFFF)], kind="lean"), lambda: fontcut.slices(font, ["A", arabic])]
+        for call in calls:
+            with self.assertWarnsRegex(fontcut.FontcutWarning, "shapes Arabic, which a (full|lean) cut drops") as told:
+                call()
+            self.assertEqual(os.path.basename(told.filename), os.path.basename(__file__))
+        with warnings.catch_warnings():
+            warnings.simplefilter("error")
+            for kind in ("layout", "variable"):
+                fontcut.cut(font, arabic, kind=kind)
+            fontcut.cut(font, arabic, kind="lean", gids=numbers)
+            # The font has no Devanagari, and shapes no letters of Hebrew by GSUB.
+            for text in ("Hello", "\u05d0\u05d1", "\u0915\u093f"):
+                fontcut.cut(font, text, kind="lean")
+        self.assertEqual(fontcut.unshaped(font, arabic), "\u0627")
+        self.assertEqual([fontcut.unshaped(font, arabic, kind="layout"), fontcut.unshaped(font, "Hello")], [None, None])
 
     def test_bad_ranges(self) -> None:
         rows: List[fontcut.Codes] = [[(2, 1)], [-1], [0x110000], [(0, 0x110000)]]

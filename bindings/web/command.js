@@ -231,7 +231,7 @@ function keepFont(given, out, path, data, advice) {
 // A cut. A glyph that the font does not have is named by its number, and not by its place in the list.
 function cutOf(font, wanted) {
     try {
-        return subset(font, wanted);
+        return subset(font, { ...wanted, quiet: true });
     } catch (error) {
         const isGlyph = error instanceof FontcutError && error.number === NO_GLYPH;
         throw isGlyph ? new Failed(1, `refused ${NO_GLYPH} no glyph ${wanted.gids[error.argument]}`) : error;

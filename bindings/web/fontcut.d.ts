@@ -44,7 +44,15 @@ export interface Exactly {
     exactly?: boolean;
 }
 
-export type Wanted = Characters & Glyphs & Closing & Exactly & OfKind;
+/**
+ * A full or lean cut for characters alone may drop what shapes them, as `unshaped` says: then `console.warn` says so
+ * once for each font, unless this is asked for.
+ */
+export interface Quiet {
+    quiet?: boolean;
+}
+
+export type Wanted = Characters & Glyphs & Closing & Exactly & OfKind & Quiet;
 
 /**
  * A font or a list of cuts is refused, with the number and the text that `fontcut` prints; 16 is out of memory. The
@@ -105,8 +113,14 @@ export function subsetSize(font: Bytes | Font, wanted: Wanted): number;
 /** The cuts of a font for many sets of characters and glyphs, in their order. */
 export function cuts(
     font: Bytes | Font, sets: readonly (Characters & Glyphs)[] | Iterable<Characters & Glyphs>,
-    options?: Closing & Exactly & OfKind,
+    options?: Closing & Exactly & OfKind & Quiet,
 ): Uint8Array[];
+/**
+ * The first of the wanted characters that the font shapes and its cut does not, or undefined: a letter that joins with
+ * others or changes its place by GSUB, which full and lean cuts drop. Letters of scripts that are shaped by GPOS alone,
+ * as Thai and Hebrew are, do not count.
+ */
+export function unshaped(font: Bytes | Font, wanted: Characters & OfKind): string | undefined;
 /**
  * The glyphs that a shaper may put for text of the wanted characters and glyphs, ascending: .notdef, the glyphs of the
  * characters, the given ones, and what GSUB leads to from these. The kind is 'layout' if none is given.

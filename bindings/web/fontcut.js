@@ -10,8 +10,8 @@
 // Each call copies what it reads into the module's memory, and frees all that it took when it returns or throws.
 
 import { DONE, FontcutError, KINDS, NO_GLYPH, NO_MEMORY, NO_NUMBERS, NOTHING_TO_JOIN, OF_NUMBERS, OF_TAGS, SHAPED,
-    SMALL_ROOM, TOO_LARGE, kindWhere } from './kinds.js';
-import { needed } from './needed.js';
+    SMALL_ROOM, TOO_LARGE, kindWhere, rangeWord } from './kinds.js';
+import { joining, needed } from './needed.js';
 
 export { FontcutError };
 
@@ -374,15 +374,60 @@ export function subsetSize(font, wanted) {
     });
 }
 
+// Whether GSUB may substitute for the glyphs of some codes. It does not if it cannot be read.
+function isSubstituted(font, unicodes) {
+    const countIn = (kind) => closure(font, { unicodes, kind }).length;
+    return kindWhere((kind) => countIn(kind) > countIn('lean'), ['layout']) !== undefined;
+}
+
+// The first character of some ranges that a cut of a kind does not shape, and its font does.
+function unshapedIn(font, kind, ranges) {
+    const pairs = WITH_LINKS.includes(kind) ? [] : joining(ranges);
+    const codes = pairs.flatMap(([first, last]) => Array.from({ length: last - first + 1 }, (_, i) => first + i));
+    const numbers = codes.length ? glyphs(font, codes) : [], mapped = codes.filter((_, i) => numbers[i]);
+    if (!mapped.length || !isSubstituted(font, mapped)) {
+        return undefined;
+    }
+    const letters = mapped.filter((code) => /\p{L}/u.test(String.fromCodePoint(code)));
+    return String.fromCodePoint(letters.find((code) => isSubstituted(font, [code])) ?? mapped[0]);
+}
+
+/** The first of the wanted characters that the font shapes and its cut does not, or undefined. */
+export function unshaped(font, wanted) {
+    const kind = kindOf(wanted);
+    return unshapedIn(font, kind, pairsIn(rangesOf(wanted, { kind })));
+}
+
+// Says once of a font that a cut for characters alone drops what shapes them. Out of memory, it does not.
+const warned = new WeakSet();
+function warnUnshaped(font, { kind, ranges, gids, quiet }) {
+    try {
+        const isTold = quiet || gids.length || warned.has(font);
+        const letter = isTold ? undefined : unshapedIn(font, kind, pairsIn(ranges));
+        if (letter !== undefined) {
+            const code = letter.codePointAt(0), word = rangeWord([code, code], 'U+');
+            warned.add(font);
+            console.warn(`fontcut: the font shapes letters as ${word}, which a ${KINDS[kind]} cut drops: `
+                + "ask for kind: 'layout'");
+        }
+    } catch (error) {
+        if (!(error instanceof FontcutError)) {
+            throw error;
+        }
+    }
+}
+
 /** The cut of a font for the wanted characters and glyphs. Characters that the font does not map are ignored. */
 export function subset(font, wanted) {
     const request = requestOf(font, wanted);
-    return within((areas) => {
+    const cut = within((areas) => {
         const { name, given } = cutting(areas, font, request);
         // The room is just what the cut needs. The call that measures it tests the font, so the next one need not.
         const { size } = areas.done(areas.answer(checkedName(`${name}_size`, font), ...given));
         return areas.written(size, 1, (...room) => areas.answer(`${name}_checked`, ...given, ...room));
     });
+    warnUnshaped(font, { ...request, quiet: wanted.quiet });
+    return cut;
 }
 
 // How many items each of some lists has, as a call takes it.
@@ -419,7 +464,7 @@ export function cuts(font, sets, options) {
     const kind = kindOf(options), wanted = Array.from(sets);
     const ranges = wanted.map((one) => rangesOf(one, { kind, exactly: options?.exactly }));
     const gids = wanted.map((one) => gidsOf(font, one));
-    return within((areas) => {
+    const made = within((areas) => {
         const { name, given } = cuttingSets(areas, font, { kind, ranges, gids, isClosed: isClosedCut(options) });
         const sizes = areas.numbers(BigUint64Array, ranges.map(() => 0n));
         const all = areas.written(0, 1, (...room) => areas.answer(name, ...given, ...room, ...sizes));
@@ -427,6 +472,8 @@ export function cuts(font, sets, options) {
         let end = 0;
         return ranges.map((_, i) => all.slice(end, end += Number(lengths.getBigUint64(8 * i, true))));
     });
+    warnUnshaped(font, { kind, ranges: ranges.flat(), gids: gids.flat(), quiet: options?.quiet });
+    return made;
 }
 
 /** The glyphs that a shaper may put for text of the wanted characters and glyphs, ascending. */

@@ -59,6 +59,7 @@ const charactersOf = (table) => rangesOf(table).flatMap(([first, last]) =>
     Array.from({ length: last - first + 1 }, (_, i) => String.fromCodePoint(first + i)));
 const oneOf = (table) => new RegExp(`[${table.replace(/[0-9A-F]+/g, '\\u{$&}').replace(/\s+/g, '')}]`, 'u');
 
+const joiningRanges = rangesOf(USING_JOINERS).filter(([first]) => !JOINERS.includes(String.fromCodePoint(first)));
 const usingJoiners = oneOf(USING_JOINERS), rightToLeft = oneOf(RIGHT_TO_LEFT), mark = /\p{M}/u;
 
 // The mate of each character that has one.
@@ -119,4 +120,10 @@ export function needed(text) {
     }
     const all = new Set([...found, ...putIn([...found])]);
     return [...all].sort((one, other) => one.codePointAt(0) - other.codePointAt(0)).join('');
+}
+
+/** The ranges of letters that join or change places, which are those that joiners are used with, in other ranges. */
+export function joining(ranges) {
+    return ranges.flatMap(([first, last]) => joiningRanges.filter(([from, to]) => from <= last && to >= first)
+        .map(([from, to]) => [Math.max(first, from), Math.min(last, to)]));
 }

@@ -71,7 +71,7 @@ function wantedBy(query) {
 // The cut, from a font that was tested once.
 function made(font, wanted, kind) {
     try {
-        return subset(font, { unicodes: wanted, kind });
+        return subset(font, { unicodes: wanted, kind, quiet: true });
     } catch (error) {
         if (!(error instanceof FontcutError)) {
             throw error;

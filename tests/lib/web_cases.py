@@ -3,6 +3,7 @@ import hashlib
 import json
 import os
 import random
+import warnings
 from types import ModuleType
 from typing import Callable, Iterable, Iterator, Sequence, TypedDict
 
@@ -34,6 +35,7 @@ class Cases:
 
     def __init__(self, folder: str, library: ModuleType) -> None:
         self.folder, self.library = folder, library
+        warnings.simplefilter("ignore", library.FontcutWarning)
         self.rows: list[Row] = []
         self.count = 0
 

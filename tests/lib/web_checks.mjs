@@ -14,6 +14,9 @@ const [bytes, otherBytes] = await Promise.all([readFile(path), readFile(otherPat
 const cutFor = (text, kind = 'lean', font = bytes) => fontcut.subset(font, { text, kind });
 const freed = { message: 'fontcut: the font was freed' };
 
+// What the module warns of is looked at by one check.
+console.warn = () => {};
+
 const checks = {
     'a call before init is refused': () => assert.throws(() => fontcut.version(), { message: /await init/ }),
 
@@ -50,6 +53,24 @@ const checks = {
             assert.throws(() => fontcut.metrics(bytes, given), TypeError);
             assert.throws(() => fontcut.glyphs(bytes, given), TypeError);
         }
+        assert.equal(fontcut.memory().inUse, 0);
+    },
+
+    'what shapes letters and is dropped is named once for a font, unless glyphs are given too': () => {
+        const arabic = 'Hello \u0628\u0627', gids = fontcut.glyphs(bytes, '\u0628\u0627'), told = [];
+        console.warn = (line) => told.push(line);
+        cutFor('Hello \u05D0', 'lean', new Uint8Array(bytes));
+        for (const given of [{ kind: 'layout' }, { quiet: true }, { gids, kind: 'lean' }]) {
+            fontcut.subset(new Uint8Array(bytes), { text: arabic, ...given });
+        }
+        assert.deepEqual(told, []);
+        const font = new Uint8Array(bytes);
+        fontcut.cuts(font, [{ text: 'A' }, { unicodes: 'U+600-6FF' }], { kind: 'lean' });
+        cutFor(arabic, 'lean', font);
+        console.warn = () => {};
+        assert.deepEqual(told, ["fontcut: the font shapes letters as U+622, which a lean cut drops: ask for kind: 'layout'"]);
+        assert.equal(fontcut.unshaped(bytes, { text: arabic }), '\u0627');
+        assert.equal(fontcut.unshaped(bytes, { text: arabic, kind: 'layout' }), undefined);
         assert.equal(fontcut.memory().inUse, 0);
     },
 

@@ -8,5 +8,7 @@ globalThis.crypto ??= webcrypto;
 const [place, folder] = process.argv.slice(2);
 const fontcut = await import(pathToFileURL(`${place}/fontcut.js`));
 await fontcut.init();
+// Nothing is said of what cuts drop.
+console.warn = () => {};
 const cases = JSON.parse(await readFile(`${folder}/cases.json`, 'utf8'));
 console.log(JSON.stringify(await compare(fontcut, cases, (name) => readFile(`${folder}/${name}`))));

@@ -5,6 +5,8 @@ from __future__ import annotations
 import hashlib
 import re
 import struct
+import unicodedata
+import warnings
 import zlib
 from collections import Counter
 from dataclasses import dataclass
@@ -167,6 +169,15 @@ def _mapped(font: bytes, codes: Sequence[int]) -> Dict[int, int]:
     return glyphs
 
 
+def _warn_unshaped(font: bytes, text: str) -> None:
+    """Warns the caller of `embed` of a text that `show` draws otherwise than it is written."""
+    backwards = (letter for letter in text if unicodedata.bidirectional(letter) in ("R", "AL"))
+    letter = fontcut.unshaped(font, text) or next(backwards, None)
+    if letter is not None:
+        warnings.warn(f"show does not shape {fontcut.script_of(letter)}, and draws it from left to right: shape the "
+                      "text, and embed its glyphs", fontcut.FontcutWarning, stacklevel=3)
+
+
 def embed(pdf: Pdf, font: bytes, text: str = "", *, glyphs: Optional[Mapping[int, str]] = None) -> Embedded:
     """Embeds the lean cut of a font for the characters of a text, or for the glyphs of a text that was shaped.
 
@@ -175,11 +186,13 @@ def embed(pdf: Pdf, font: bytes, text: str = "", *, glyphs: Optional[Mapping[int
     character, and only the tables that a PDF file needs. Cuts with characters and cuts without them join in a merge.
 
     Where the font has one glyph for two of the characters, a program that reads the text of a page finds the first of
-    them by its code. Raises `ValueError` for a character or a glyph that the font lacks, and `fontcut.Refused` for a
-    font that is refused."""
+    them by its code. There is a `FontcutWarning` if the characters of `text` have to be shaped, which `show` does not
+    do: their letters join or change places by the font, or are written from right to left. Raises `ValueError` for a
+    character or a glyph that the font lacks, and `fontcut.Refused` for a font that is refused."""
     fontcut.check(font)
     shaped, codes = dict(glyphs or {}), sorted(set(map(ord, text)))
     cut = fontcut.cut(font if codes else prepared(font), codes, kind="lean", gids=list(shaped))
+    _warn_unshaped(font, text)
     mapped = _mapped(font, codes)
     units, kept = max(1, fontcut.info(cut).units_per_em), sorted({*mapped.values(), *shaped})
     widths = {glyph: round(1000 * width / units) for glyph, width in zip(kept, fontcut.advances(cut, kept))}

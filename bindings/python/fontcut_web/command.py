@@ -5,6 +5,7 @@ import argparse
 import json
 import os
 import sys
+import warnings
 from typing import List, Optional, Sequence
 
 import fontcut
@@ -425,7 +426,10 @@ def main(words: Optional[Sequence[str]] = None, install: str = INSTALL) -> int:
     """Runs the command, and returns its exit status. `install` is what to do where a package is not there."""
     given = _parser().parse_args(words)
     try:
-        given.run(given)
+        with warnings.catch_warnings():
+            # The command says itself what a cut drops.
+            warnings.simplefilter("ignore", fontcut.FontcutWarning)
+            given.run(given)
     except (Missing, MissingProgram, Refused, UsageError, fontcut.Refused, MemoryError, OSError) as error:
         return _status(error, install)
     except KeyboardInterrupt:

@@ -1,9 +1,10 @@
 //! The characters that a text needs: its own, and those that a shaper takes for them or puts in beside them.
 //! docs/FORMAT.md has the table.
+use crate::calls::NO_MEMORY;
 use crate::needed_tables::{
     CLASSES, COMPOSED, DECOMPOSED, MARKS, MIRRORED, RIGHT_TO_LEFT, USING_JOINERS,
 };
-use crate::{Cut, Error, Font, Kind, Ranges};
+use crate::{Cut, Error, Font, Kind, Ranges, Wanted};
 use std::collections::BTreeSet;
 
 /// What is drawn for a missing space or an invisible character, and what stands under a mark that has no letter.
@@ -76,6 +77,72 @@ impl Font<'_> {
         };
         self.cut(kind, &wanted)
     }
+
+    /// The first of the wanted characters that the font shapes and its cut of a kind does not, if there is one: a letter
+    /// that joins with others or changes its place by `GSUB`, which full and lean cuts drop. Letters of scripts that
+    /// are shaped by `GPOS` alone, as Thai and Hebrew are, do not count. No call warns of it: ask where a user is told.
+    ///
+    /// # Errors
+    ///
+    /// 16 if out of memory.
+    ///
+    /// ```
+    /// # fn main() -> Result<(), Box<dyn std::error::Error>> {
+    /// # let path = "/usr/share/fonts/truetype/dejavu/DejaVuSans.ttf";
+    /// # let file = match std::fs::read(path) { Ok(file) => file, Err(_) => return Ok(()) };
+    /// use fontcut::{Font, Kind};
+    ///
+    /// let font = Font::new(&file)?;
+    /// let wanted = "Hello \u{628}\u{627}".chars().collect();
+    /// assert_eq!(font.unshaped(Kind::Lean, &wanted)?, Some('\u{627}'));
+    /// assert_eq!(font.unshaped(Kind::Layout, &wanted)?, None);
+    /// # Ok(())
+    /// # }
+    /// ```
+    pub fn unshaped(&self, kind: Kind, wanted: &Ranges) -> Result<Option<char>, Error> {
+        if matches!(kind, Kind::Layout | Kind::Variable) {
+            return Ok(None);
+        }
+        let codes = joining(wanted);
+        let glyphs = self.glyphs(codes.iter().copied());
+        let mapped: Vec<u32> = codes
+            .into_iter()
+            .zip(glyphs)
+            .filter(|&(_, glyph)| glyph != 0)
+            .map(|(code, _)| code)
+            .collect();
+        if mapped.is_empty() || !self.is_substituted(&mapped)? {
+            return Ok(None);
+        }
+        for &code in mapped.iter().filter(|&&code| !is_in(&MARKS, code)) {
+            if self.is_substituted(&[code])? {
+                return Ok(char::from_u32(code));
+            }
+        }
+        Ok(char::from_u32(mapped[0]))
+    }
+
+    /// Whether `GSUB` may put other glyphs for those of some characters. It does not if it cannot be read.
+    fn is_substituted(&self, codes: &[u32]) -> Result<bool, Error> {
+        let codes = codes.iter().map(|&code| code..=code).collect();
+        let wanted = Wanted { codes, ..Wanted::default() };
+        match self.closure(Kind::Layout, &wanted) {
+            Ok(shaped) => Ok(shaped.len() > self.closure(Kind::Lean, &wanted)?.len()),
+            Err(error) if error.number() == NO_MEMORY => Err(error),
+            Err(_) => Ok(false),
+        }
+    }
+}
+
+/// The characters of ranges that joiners are used with, but for joiners: letters that join or change places.
+fn joining(wanted: &Ranges) -> Vec<u32> {
+    let mut found = Vec::new();
+    for codes in wanted.iter() {
+        for &(first, last) in USING_JOINERS.iter().filter(|row| !JOINERS.contains(&row.0)) {
+            found.extend(first.max(*codes.start())..=last.min(*codes.end()));
+        }
+    }
+    found
 }
 
 /// What is put in beside the characters that a text and its forms have.
