@@ -2,7 +2,6 @@
 import importlib
 import os
 import sys
-from typing import Callable
 
 _INSTALL = "pip install 'fontcut[{}]'"
 
@@ -18,13 +17,9 @@ def program() -> int:
 
 
 def pdf() -> int:
-    """The command `fontcut-pdf`."""
-    try:
-        main: Callable[[], int] = importlib.import_module("fontcut_pdf").main
-    except ImportError as error:
-        print(f"fontcut-pdf: needs {error.name or 'pikepdf'}: {_INSTALL.format('pdf')}", file=sys.stderr)
-        return 3
-    return main()
+    """The command `fontcut-pdf`, which looks for its package itself."""
+    status: int = importlib.import_module("fontcut_pdf").main(install=_INSTALL.format("pdf"))
+    return status
 
 
 def web() -> int:

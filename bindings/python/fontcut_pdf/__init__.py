@@ -23,15 +23,32 @@ error; 3 a file cannot be read or written. A file is refused if it is damaged or
 would take more work than the limits allow; by `shrink` if it is signed, and by `merge` if it has layers that may be
 hidden; and if memory runs out. `fontcut-pdf --help` has the limits.
 """
-from .command import main
-from .common import Outcome, Refused
-from .embedding import Embedded, embed
-from .extracting import extract
-from .files import opened
-from .joining import join_fonts
-from .merging import merge
-from .shrinking import shrink
-from .survey import fonts
+from __future__ import annotations
+
+import importlib
+from typing import TYPE_CHECKING, Any
+
+if TYPE_CHECKING:
+    from .command import main
+    from .common import Outcome, Refused
+    from .embedding import Embedded, embed
+    from .extracting import extract
+    from .files import opened
+    from .joining import join_fonts
+    from .merging import merge
+    from .shrinking import shrink
+    from .survey import fonts
 
 __all__ = ["Embedded", "Outcome", "Refused", "embed", "extract", "fonts", "join_fonts", "main", "merge", "opened",
            "shrink"]
+
+# Where these names are imported from when they are asked for, so that the help of the command needs no pikepdf.
+_PLACES = {"main": "command", "Outcome": "common", "Refused": "common", "Embedded": "embedding", "embed": "embedding",
+           "extract": "extracting", "opened": "files", "join_fonts": "joining", "merge": "merging",
+           "shrink": "shrinking", "fonts": "survey"}
+
+
+def __getattr__(name: str) -> Any:
+    if name not in _PLACES:
+        raise AttributeError(f"module {__name__!r} has no attribute {name!r}")
+    return getattr(importlib.import_module(f".{_PLACES[name]}", __name__), name)

@@ -10,7 +10,8 @@ from pikepdf import Array, ContentStreamInlineImage, Name, Object, Pdf, Stream, 
 
 from .common import MALFORMED, Unclear, is_number, line
 from .plain import OF_TEXT, OPERATORS, Instruction, plainly
-from .streams import MOST_OF_CONTENT, MOST_OF_OTHER, check_length, unpacked
+from .limits import MOST_OF_CONTENT, MOST_OF_OTHER
+from .streams import check_length, unpacked
 
 # The strings that content shows in the font of each name, which stands here as a file has it: `/F#E9`.
 Shown = Dict[bytes, Set[bytes]]

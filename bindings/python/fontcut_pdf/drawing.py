@@ -9,9 +9,8 @@ from pikepdf import Dictionary, Name, Object, Pdf, Stream
 
 from .common import Id, Refused, entries, values
 from .font import Font
+from .limits import DEEPEST
 
-# How many nodes of the page tree may stand below each other. In files of this world they are less than ten.
-DEEPEST = 100
 # How often streams may be drawn with other resources again: this often, and ten times for each object of a file.
 MOST_AGAIN = 1000
 

@@ -11,7 +11,7 @@ from pikepdf import Array, Dictionary, Object, Pdf
 
 from .common import MALFORMED, Id, Refused, line
 from .content import warned
-from .drawing import DEEPEST
+from .limits import DEEPEST
 
 
 class _File(io.BufferedReader):

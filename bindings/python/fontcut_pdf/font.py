@@ -14,12 +14,11 @@ from pikepdf import Array, Dictionary, Name, Object, Pdf, Stream, String
 
 from .common import Id, Number, Refused, Unclear, copied, is_written, place
 from .content import strictly
+from .limits import MOST_OF_MAP, MOST_OF_PROGRAM, MOST_OF_TEXTS, MOST_WORK
 from .simple import Subtables, glyphs_of_bytes, subtables_of
-from .streams import MOST_OF_MAP, MOST_OF_PROGRAM, MOST_OF_TEXTS, check_length, raw, read, unpacked
+from .streams import check_length, raw, read, unpacked
 from .tables import DRAWN, prepared, tables_of
 
-# How many widths and texts, and bytes of text that is shown again, are looked at in one file.
-MOST_WORK = 5_000_000
 # The flag of a font whose characters are not those of Latin letters (ISO 32000-1, 9.8.2).
 _SYMBOLIC = 4
 # How many texts one ToUnicode may state: twice what there are glyphs.

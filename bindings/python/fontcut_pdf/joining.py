@@ -12,6 +12,7 @@ from .common import Number, Outcome, Unclear, place
 from .content import strictly
 from .embedding import composite_font, descendant_font, program_stream, tagged, to_unicode, without_tag
 from .font import Font
+from .limits import MOST_CLASSES
 from .shrinking import described, put, replace_program
 from .survey import stays, surveyed
 from .tables import prepared
@@ -19,8 +20,6 @@ from .versions import different_item, different_table, drawn, kept, shared
 
 _Key = TypeVar("_Key")
 _Value = TypeVar("_Value")
-# With how many classes of fonts that do not agree, or do not join, a font is compared.
-MOST_CLASSES = 16
 
 
 @dataclass

@@ -87,13 +87,15 @@ def _made(group: Sequence[Font]) -> bytes:
 
 
 def _shrink(group: Sequence[Font]) -> List[Outcome]:
-    """Fonts of one program become fonts of its lean cut."""
+    """Fonts of one program become fonts of its lean cut, if that is smaller."""
     try:
         with strictly(group[0].pdf):
             made = _made(group)
+        stream, size = program_stream(group[0].pdf, made)
+        if size >= group[0].program.size:
+            raise _Same(f"its lean cut would have {size} bytes")
     except Unclear as error:
         return [stays(font, f"stays as it is: {error}", not isinstance(error, _Same)) for font in group]
-    stream, size = program_stream(group[0].pdf, made)
     for font in group:
         replace_program(font, tagged(font.name, made), stream)
     return [Outcome(font.page, font.name, font.program.size, size, "shrunk") for font in group]

@@ -9,12 +9,7 @@ from typing import Iterable, Iterator, List, Sequence
 from pikepdf import Array, Name, Stream
 
 from .common import MALFORMED, Unclear
-
-# The most bytes that are read of the content of a page, a form or a glyph; of such content as is not plain, of which
-# each operator takes hundreds of bytes of memory; of a font program, which is what fontcut takes at most; of ToUnicode;
-# and of CIDToGIDMap, which has two bytes for each of 65,536 numbers.
-MOST_OF_CONTENT, MOST_OF_OTHER, MOST_OF_PROGRAM, MOST_OF_TEXTS = 16 << 20, 2 << 20, 128 << 20, 4 << 20
-MOST_OF_MAP = 128 << 10
+from .limits import MOST_OF_PROGRAM
 
 # How many bytes one byte can unpack into.
 _RATIOS = {"/FlateDecode": 1032, "/Fl": 1032, "/ASCII85Decode": 4, "/A85": 4, "/ASCIIHexDecode": 1, "/AHx": 1,
