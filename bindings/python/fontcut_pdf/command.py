@@ -4,6 +4,7 @@ from __future__ import annotations
 import argparse
 import importlib
 import sys
+from importlib.util import find_spec
 from typing import Any, Callable, Optional, Sequence
 
 import fontcut
@@ -36,6 +37,7 @@ fonts of several files when the files are merged. Pages look the same, and have 
 atomically.
 
   fontcut-pdf shrink in.pdf out.pdf
+  fontcut-pdf shrink invoices/*.pdf --out small
   fontcut-pdf merge -o all.pdf one.pdf two.pdf
 """
 
@@ -48,13 +50,14 @@ it stays as it is, and is named. If OUT would not be smaller, it is a copy of IN
 signed file is refused.
 
 OUT may be IN, or what an earlier run wrote. Another PDF file at OUT is kept, which is a usage error, unless --force is
-given.
+given. With --out each of FILES gets a file of its name in DIR, which is much faster than a call for each. Those that
+are refused are named and left out, and the exit status is 1.
 """
 
 _MERGE = f"""\
-Writes the pages of all FILES to OUT, in order. Fonts that are cuts of one font become one font; other fonts that
-are byte for byte the same are stored once. Without -o the first of FILES is OUT, and refused if it is a PDF file
-already. Simple fonts do not join.
+Writes the pages of all FILES to OUT, in order. Whole fonts are shrunk first, as by shrink. Fonts that are cuts of one
+font become one font; other fonts that are byte for byte the same are stored once. Without -o the first of FILES is OUT,
+and refused if it is a PDF file already. Simple fonts do not join.
 
 Kept: pages with everything that belongs to them, including annotations and links to pages of their file; and
 bookmarks (outlines), below an entry with the name of each file.
@@ -82,6 +85,12 @@ def _add_listings(commands: Any) -> None:
     command.add_argument("--force", action="store_true", help="replace whole fonts")
 
 
+def _add_hinting(command: argparse.ArgumentParser) -> None:
+    command.add_argument("--no-hinting", action="store_true",
+                         help="drop the hints of fonts, which few viewers use, and with them up to half of the bytes; "
+                              "by fontTools, in all files that are to be merged")
+
+
 def _parser() -> argparse.ArgumentParser:
     raw = argparse.RawDescriptionHelpFormatter
     parser = argparse.ArgumentParser(prog="fontcut-pdf", description=_WHAT, formatter_class=raw,
@@ -89,17 +98,21 @@ def _parser() -> argparse.ArgumentParser:
     parser.add_argument("--version", action="version", version=f"fontcut-pdf {fontcut.__version__}")
     commands = parser.add_subparsers(dest="command", required=True, metavar="COMMAND", parser_class=CommandParser)
     command = commands.add_parser("shrink", help="make lean cuts of whole fonts, for what the pages show",
+                                  usage="fontcut-pdf shrink [options] IN OUT\n"
+                                        "       fontcut-pdf shrink [options] FILES.. --out DIR",
                                   description=_SHRINK, epilog=_LIMITS, formatter_class=raw)
-    command.add_argument("source", metavar="IN")
-    command.add_argument("out", metavar="OUT")
+    command.add_argument("files", metavar="FILES", nargs="+", help="IN and OUT, or with --out files that are shrunk")
+    command.add_argument("--out", metavar="DIR", dest="folder", help="the folder for the smaller files")
+    _add_hinting(command)
     command.add_argument("--report", action="store_true", help="say what became of each font")
     command.add_argument("--force", action="store_true", help="replace whatever stands at OUT")
     command = commands.add_parser("merge", help="put the pages of files into one, where fonts that join are one font",
-                                  usage="fontcut-pdf merge [--report] -o OUT FILES..", description=_MERGE,
+                                  usage="fontcut-pdf merge [options] -o OUT FILES..", description=_MERGE,
                                   epilog=_LIMITS, formatter_class=raw)
     command.add_argument("-o", "--output", metavar="OUT", dest="out",
                          help="the file that is made; what stands there is replaced")
     command.add_argument("files", metavar="FILES", nargs="+")
+    _add_hinting(command)
     command.add_argument("--report", action="store_true", help="say what became of each font")
     _add_listings(commands)
     return parser
@@ -108,9 +121,16 @@ def _parser() -> argparse.ArgumentParser:
 def main(words: Optional[Sequence[str]] = None, install: str = INSTALL) -> int:
     """Runs the command, and returns its exit status. `install` is what to do where pikepdf is not there."""
     given = _parser().parse_args(words)
+    if getattr(given, "no_hinting", False) and find_spec("fontTools") is None:
+        print("fontcut-pdf: --no-hinting needs fontTools: apt install python3-fonttools, or pip install fonttools",
+              file=sys.stderr)
+        return 3
     try:
         run: Callable[[argparse.Namespace], int] = importlib.import_module(".tasks", __package__).run
     except ImportError as error:
-        print(f"fontcut-pdf: needs {error.name or 'pikepdf'}: {install}", file=sys.stderr)
+        # A module that is there may not be loaded where there is little memory.
+        is_there = not isinstance(error, ModuleNotFoundError)
+        print(f"fontcut-pdf: {f'cannot import {error}' if is_there else f'needs {error.name}: {install}'}",
+              file=sys.stderr)
         return 3
     return run(given)

@@ -12,7 +12,7 @@ import fontcut
 import pikepdf
 from pikepdf import Array, Dictionary, Name, Object, Pdf, Stream, String
 
-from .common import Id, Number, Refused, Unclear, copied, is_written, place
+from .common import Id, Number, Outcome, Refused, Unclear, copied, is_written, place
 from .content import strictly
 from .limits import MOST_OF_MAP, MOST_OF_PROGRAM, MOST_OF_TEXTS, MOST_WORK
 from .simple import Subtables, glyphs_of_bytes, subtables_of
@@ -135,6 +135,7 @@ class Font:
     shown     sets of strings that are shown in it, each with the first page that does, by what names the set
     unclear   why it has to stay as it is, where that is known from the pages
     program   the embedded program, from when it is read
+    shrunk    what became of it, if its program is the cut of another one
     """
 
     pdf: Pdf
@@ -145,6 +146,7 @@ class Font:
     unclear: Optional[str] = None
     program: Program = field(init=False)
     reading: Reading = field(default_factory=Reading)
+    shrunk: Optional[Outcome] = None
 
     @property
     def name(self) -> str:

@@ -13,7 +13,7 @@ from .content import strictly
 from .embedding import composite_font, descendant_font, program_stream, tagged, to_unicode, without_tag
 from .font import Font
 from .limits import MOST_CLASSES
-from .shrinking import described, put, replace_program
+from .shrinking import described, is_asked, put, replace_program, shrink_fonts
 from .survey import stays, surveyed
 from .tables import prepared
 from .versions import different_item, different_table, drawn, kept, shared
@@ -147,12 +147,12 @@ def _united(members: Sequence[_Member], why: Optional[str]) -> Iterator[Outcome]
         name, size = _unite(joining, joined)
         for member in joining:
             font = member.font
-            yield Outcome(font.page, font.name, font.program.size, size, f"joined into {str(name)[1:]}")
+            before = font.shrunk or Outcome(font.page, font.name, font.program.size, None, "")
+            yield before._replace(after=size, said=f"joined into {str(name)[1:]}")
     else:
         others = [(joining[0], why or ""), *others]
     for member, reason in others:
-        said = f"it does not join: {reason}" if reason else "no other cut of this font"
-        yield stays(member.font, f"stays as it is: {said}")
+        yield stays(member.font, f"it does not join: {reason}" if reason else "no other cut of this font")
 
 
 def _unite_alike(members: Sequence[_Member], why: Optional[str]) -> Iterator[Outcome]:
@@ -184,7 +184,7 @@ def _apart(members: Sequence[_Member]) -> Tuple[List[_Member], List[Outcome]]:
             joining.append(member)
         else:
             said = f"{place(member.shown[glyph])} shows glyph {glyph}, which its cut lacks and another one has"
-            others.append(stays(member.font, f"stays as it is: {said}"))
+            others.append(stays(member.font, said))
     return joining, others
 
 
@@ -214,19 +214,20 @@ def _share_programs(fonts: Sequence[Font]) -> None:
             font.descriptor[font.key] = font.program.stream
 
 
-def join_fonts(pdf: Pdf, producer_of: Callable[[int], str] = lambda page: "") -> List[Outcome]:
-    """Fonts by glyph numbers whose programs are cuts of one font become one font, of their join; and of other
-    programs, whole fonts among them, those that are the same bytes stand in the file once. `producer_of` has the words
-    that say who wrote a page. Raises `Refused` where there is no embedded font."""
+def join_fonts(pdf: Pdf, producer_of: Callable[[int], str] = lambda page: "", hinting: bool = True) -> List[Outcome]:
+    """Fonts by glyph numbers whose programs are cuts of one font become one font, of their join, and whole fonts are
+    shrunk before, without `hinting` cuts too; of other programs those that are the same bytes stand in the file once.
+    `producer_of` has the words that say who wrote a page. Raises `Refused` where there is no embedded font."""
     outcomes: List[Outcome] = []
     members: List[_Member] = []
-    fonts = surveyed(pdf, lambda font: font.is_by_glyph and font.is_cut)
+    fonts = surveyed(pdf, is_asked)
+    shrink_fonts(pdf, [font for font in fonts if is_asked(font) and not (hinting and font.is_cut)], hinting)
     _share_programs(fonts)
     for font in fonts:
         try:
             with strictly(pdf):
                 members.append(_member(font, producer_of(font.page)))
         except Unclear as error:
-            outcomes.append(stays(font, f"stays as it is: {error}"))
+            outcomes.append(stays(font, str(error)))
     outcomes += _unite_all(members)
     return sorted(outcomes, key=lambda outcome: (outcome.page, outcome.name))

@@ -116,7 +116,7 @@ def _refusing_file(number: int) -> Iterator[None]:
 
 
 @contextmanager
-def _refusing_page(sources: Sequence[Pdf], first: Sequence[int]) -> Iterator[None]:
+def _refusing_page(sources: Sequence[Pdf], first: Sequence[int], hinting: bool) -> Iterator[None]:
     """Within it, a refusal of a page is one of its file. Each file begins after so many pages. A refusal that names
     no page is one of the first file that is refused by itself too."""
     try:
@@ -128,17 +128,17 @@ def _refusing_page(sources: Sequence[Pdf], first: Sequence[int]) -> Iterator[Non
         elif refusal.args == (NO_FONT,):
             refusal.file = 0
         else:
-            refusal.file = _refused_alone(sources, refusal)
+            refusal.file = _refused_alone(sources, refusal, hinting)
         raise
 
 
-def _refused_alone(sources: Sequence[Pdf], refusal: Refused) -> Optional[int]:
+def _refused_alone(sources: Sequence[Pdf], refusal: Refused, hinting: bool) -> Optional[int]:
     """The first file whose pages are refused for this by themselves, or None where all files together are."""
     for number, source in enumerate(sources):
         pdf = Pdf.new()
         pdf.pages.extend(source.pages)
         try:
-            join_fonts(pdf)
+            join_fonts(pdf, hinting=hinting)
         except Refused as alone:
             if alone.args == refusal.args:
                 return number
@@ -154,9 +154,11 @@ def _refuse_without_fonts(first: Sequence[int], outcomes: Sequence[Outcome]) -> 
                 raise Refused(NO_FONT)
 
 
-def merge(sources: Sequence[Pdf], titles: Optional[Sequence[str]] = None) -> Tuple[Pdf, List[Outcome]]:
-    """A file of the pages of all files, in order, in which fonts that join are one font; and what became of each
-    font. The files have to stay open until it is saved. Raises `Refused` where a file has no embedded font, or a
+def merge(sources: Sequence[Pdf], titles: Optional[Sequence[str]] = None,
+          hinting: bool = True) -> Tuple[Pdf, List[Outcome]]:
+    """A file of the pages of all files, in order, in which whole fonts are shrunk, fonts that join are one font, and
+    without `hinting` none of these has hints; and what became of each font. The files have to stay open until it is
+    saved. Raises `Refused` where a file has no embedded font, or a
     layer that may be hidden, and its `file` is then the place of that file among all, from 0.
 
     Pages keep what they have, their annotations too, with links to other pages of their file. Where a file has an
@@ -175,8 +177,8 @@ def merge(sources: Sequence[Pdf], titles: Optional[Sequence[str]] = None) -> Tup
         with _refusing_file(number), refusing():
             _lead_links(one)
     names = list(map(producer, sources))
-    with _refusing_page(sources, first):
-        outcomes = join_fonts(pdf, lambda page: names[bisect_right(first, page - 1) - 1] if page else "")
+    with _refusing_page(sources, first, hinting):
+        outcomes = join_fonts(pdf, lambda page: names[bisect_right(first, page - 1) - 1] if page else "", hinting)
     _refuse_without_fonts(first, outcomes)
     add_outline(pdf, added)
     return pdf, outcomes

@@ -168,7 +168,8 @@ def fonts(pdf: Pdf) -> List[Outcome]:
     """The embedded fonts of a file, and what the program of each is: `lean cut`, `lean cut for PDF` where it has only
     the tables that a PDF file needs, `cut`, `no cut` for a whole font and for what another program made of one,
     `refused` and why, or `no TrueType font`. Raises `Refused` where there is no embedded font."""
-    return [stays(font, font.kind) for font in surveyed(pdf, lambda font: False)]
+    return [Outcome(font.page, font.name, font.program.size, None, font.kind)
+            for font in surveyed(pdf, lambda font: False)]
 
 
 def producer(pdf: Pdf) -> str:
@@ -181,5 +182,8 @@ def producer(pdf: Pdf) -> str:
     return f" by {shown}" if shown else ""
 
 
-def stays(font: Font, said: str, expected: bool = False) -> Outcome:
-    return Outcome(font.page, font.name, font.program.size, None, said, expected)
+def stays(font: Font, why: str, expected: bool = False) -> Outcome:
+    """What becomes of a font to which nothing more is done."""
+    if font.shrunk is not None:
+        return font.shrunk._replace(said=f"shrunk: {why}")
+    return Outcome(font.page, font.name, font.program.size, None, f"stays as it is: {why}", expected)

@@ -6,6 +6,7 @@ import io
 import logging
 import os
 import sys
+from collections import Counter
 from contextlib import ExitStack, contextmanager
 from typing import Dict, Iterator, List, Optional, Sequence, Tuple
 
@@ -22,10 +23,16 @@ from .shrinking import shrink
 from .survey import fonts
 
 
-def _saved(pdf: Pdf, **how: object) -> bytes:
-    """The bytes of a file. pikepdf ends the process where it cannot write to a file itself."""
-    made = io.BytesIO()
-    pdf.save(made, **how)
+# The first version of PDF in which objects may be packed together (ISO 32000-1, 7.5.7).
+_WITH_STREAMS_OF_OBJECTS = "1.5"
+
+
+def _saved(pdf: Pdf, version: str) -> bytes:
+    """The bytes of a file of at least a version, whose objects are packed if that allows it. pikepdf ends the process
+    where it cannot write to a file itself."""
+    made, modes = io.BytesIO(), pikepdf.ObjectStreamMode
+    mode = modes.generate if version >= _WITH_STREAMS_OF_OBJECTS else modes.preserve
+    pdf.save(made, min_version=version, object_stream_mode=mode)
     return made.getvalue()
 
 
@@ -34,15 +41,13 @@ def _say(outcome: Outcome, file: str, page: int) -> str:
     return f"{file}: {place(page)}: {outcome.name}: {size}: {outcome.said}"
 
 
-def _shrunk(source: str, progress: Progress) -> Tuple[List[Outcome], Optional[bytes]]:
+def _shrunk(source: str, hinting: bool) -> Tuple[List[Outcome], Optional[bytes]]:
     """What became of the fonts of a file, and the bytes of the smaller file, or None where there is none."""
-    progress.say("reading")
     with _named([source]), opened(source) as pdf:
-        outcomes, before = shrink(pdf), os.path.getsize(source)
+        outcomes, before = shrink(pdf, hinting), os.path.getsize(source)
         if all(outcome.after is None for outcome in outcomes):
             return outcomes, None
-        progress.say("writing")
-        data = _saved(pdf)
+        data = _saved(pdf, pdf.pdf_version)
     if len(data) < before:
         return outcomes, data
     why = f"kept: shrunk, the file would have {len(data)} bytes of {before}"
@@ -50,21 +55,49 @@ def _shrunk(source: str, progress: Progress) -> Tuple[List[Outcome], Optional[by
             for outcome in outcomes], None
 
 
-def _run_shrink(given: argparse.Namespace) -> None:
-    before = os.path.getsize(given.source)
+def _pairs(given: argparse.Namespace) -> List[Tuple[str, str]]:
+    """The files that are shrunk, each with its OUT."""
+    if given.folder is None:
+        if len(given.files) != 2:
+            raise UsageError("shrink takes IN and OUT, or FILES and --out DIR")
+        return [(given.files[0], given.files[1])]
+    pairs = [(source, os.path.join(given.folder, os.path.basename(source))) for source in given.files]
+    several = [out for out, count in Counter(out for _, out in pairs).items() if count > 1]
+    if several:
+        raise UsageError(f"several of the files would become {several[0]}")
+    os.makedirs(given.folder, exist_ok=True)
+    return pairs
+
+
+def _shrink_file(given: argparse.Namespace, source: str, out: str, which: str) -> None:
+    """Shrinks one file, and says what became of its fonts: of those that are expected to be shrunk, or of all."""
+    before = os.path.getsize(source)
     with Progress("fontcut-pdf") as progress:
-        outcomes, made = _shrunk(given.source, progress)
-        data = read(given.source) if made is None else made
+        progress.say(f"reading {which}")
+        outcomes, made = _shrunk(source, not given.no_hinting)
+        data = read(source) if made is None else made
         if not given.force:
-            check_shrunk(given.source, given.out, data)
-        write(given.out, data)
+            check_shrunk(source, out, data)
+        write(out, data)
     for outcome in outcomes:
         if given.report:
-            print_line(_say(outcome, given.source, outcome.page))
+            print_line(_say(outcome, source, outcome.page))
         elif outcome.expected:
-            print(f"fontcut-pdf: {_say(outcome, given.source, outcome.page)}", file=sys.stderr)
+            print(f"fontcut-pdf: {_say(outcome, source, outcome.page)}", file=sys.stderr)
     if given.report:
-        print_line(f"{given.out}: {os.path.getsize(given.out)} bytes of {before}{': kept' if made is None else ''}")
+        print_line(f"{out}: {os.path.getsize(out)} bytes of {before}{': kept' if made is None else ''}")
+
+
+def _run_shrink(given: argparse.Namespace) -> int:
+    """Shrinks files. Of several those that are refused are left out."""
+    status, pairs = 0, _pairs(given)
+    for number, (source, out) in enumerate(pairs, 1):
+        try:
+            _shrink_file(given, source, out, f"{number} of {len(pairs)} files")
+        except Refused as refusal:
+            print(f"fontcut-pdf: {refusal}", file=sys.stderr)
+            status = 1
+    return status
 
 
 def _title(path: str) -> str:
@@ -93,7 +126,7 @@ def _say_not_kept(lost: Dict[str, List[str]]) -> None:
         print(f"fontcut-pdf: not kept: the {what} of {paths[0]}{more}", file=sys.stderr)
 
 
-def _run_merge(given: argparse.Namespace) -> None:
+def _run_merge(given: argparse.Namespace) -> int:
     _take_output(given)
     before = sum(map(os.path.getsize, given.files))
     pages: List[Tuple[str, int]] = []
@@ -109,24 +142,26 @@ def _run_merge(given: argparse.Namespace) -> None:
             pages += [(path, page) for page in range(1, len(sources[-1].pages) + 1)]
         progress.say(f"joining the fonts of {len(pages)} pages")
         with _named(given.files):
-            pdf, outcomes = merge(sources, list(map(_title, given.files)))
+            pdf, outcomes = merge(sources, list(map(_title, given.files)), not given.no_hinting)
         progress.say(f"writing {len(pages)} pages")
-        version = max(source.pdf_version for source in sources)
-        write(given.out, _saved(pdf, min_version=version, object_stream_mode=pikepdf.ObjectStreamMode.generate))
+        version = max(_WITH_STREAMS_OF_OBJECTS, *(source.pdf_version for source in sources))
+        write(given.out, _saved(pdf, version))
     _say_not_kept(lost)
     if given.report:
         for outcome in outcomes:
             print_line(_say(outcome, *(pages[outcome.page - 1] if outcome.page else (given.out, 0))))
         print_line(f"{given.out}: {os.path.getsize(given.out)} bytes of {before}")
+    return 0
 
 
-def _run_fonts(given: argparse.Namespace) -> None:
+def _run_fonts(given: argparse.Namespace) -> int:
     with _named([given.file]), opened(given.file) as pdf:
         for outcome in fonts(pdf):
             print_line(f"{place(outcome.page)}: {outcome.name}: {outcome.before} bytes: {outcome.said}")
+    return 0
 
 
-def _run_extract(given: argparse.Namespace) -> None:
+def _run_extract(given: argparse.Namespace) -> int:
     with _named([given.file]), opened(given.file) as pdf:
         found = [(os.path.join(given.folder, name), cut) for name, cut in extract(pdf)]
     if not given.force:
@@ -135,6 +170,7 @@ def _run_extract(given: argparse.Namespace) -> None:
     for path, cut in found:
         write(path, cut)
         print_line(f"{path}: {len(cut)} bytes")
+    return 0
 
 
 @contextmanager
@@ -154,7 +190,7 @@ def run(given: argparse.Namespace) -> int:
     """Runs a command, and returns its exit status."""
     logging.disable()
     try:
-        _TASKS[given.command](given)
+        return _TASKS[given.command](given)
     except UsageError as error:
         print(f"fontcut-pdf: {error}", file=sys.stderr)
         return 2
@@ -174,4 +210,3 @@ def run(given: argparse.Namespace) -> int:
         # The line of progress is gone, and no file is half written.
         os.write(2, b"\n")
         return 130
-    return 0
