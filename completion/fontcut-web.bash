@@ -14,6 +14,7 @@ _fontcut_web_options() {
     slices) echo '--font --order --help' ;;
     icons) echo '--out --codepoints --lean --variable --force --json --help' ;;
     site) echo '--anew --check --json --help' ;;
+    device) echo '--no-hinting --notdef-outline --map --force --help' ;;
     text)
         echo '--lean --layout --variable --full --text --shaped --features --check --css --display --strict --force --quiet --json --help'
         ;;
@@ -41,7 +42,7 @@ _fontcut_web_presets() {
 
 # Whether a word is an option that has a value.
 _fontcut_web_has_value() {
-    [[ $1 == --@(out|slices|order|font|codepoints|display|drop|text|languages|scripts|unicodes|pages|features|instance|names|kern) ]]
+    [[ $1 == --@(out|slices|order|font|codepoints|display|drop|text|languages|scripts|unicodes|pages|features|instance|names|kern|map) ]]
 }
 
 # Proposes what may follow an option.
@@ -49,7 +50,7 @@ _fontcut_web_value() {
     case $1 in
     --display) mapfile -t COMPREPLY < <(compgen -W 'auto block swap fallback optional' -- "$2") ;;
     --slices) mapfile -t COMPREPLY < <(_fontcut_web_presets "$2") ;;
-    --order | --codepoints) mapfile -t COMPREPLY < <(compgen -f -- "$2") ;;
+    --order | --codepoints | --map) mapfile -t COMPREPLY < <(compgen -f -- "$2") ;;
     --font) mapfile -t COMPREPLY < <(_fontcut_web_files "$2" '[tT][tT][fF]') ;;
     --drop) mapfile -t COMPREPLY < <(compgen -W 'BASE GDEF GPOS GSUB kern' -- "$2") ;;
     --names) mapfile -t COMPREPLY < <(compgen -W 'keep least' -- "$2") ;;
@@ -87,7 +88,7 @@ _fontcut_web() {
     elif [[ $word == -* ]]; then
         mapfile -t COMPREPLY < <(compgen -W "$(_fontcut_web_options "$command")" -- "$word")
     elif [ -z "$command" ]; then
-        mapfile -t COMPREPLY < <(compgen -W 'prepare slice slices text icons site decode' -- "$word")
+        mapfile -t COMPREPLY < <(compgen -W 'prepare slice slices text icons site device decode' -- "$word")
     else
         case $command in
         prepare | text)

@@ -6,6 +6,7 @@ import json
 import os
 import sys
 import warnings
+from importlib.util import find_spec
 from typing import List, Optional, Sequence
 
 import fontcut
@@ -26,7 +27,7 @@ cuts have its default instance. With --full they have the metrics and names of a
 
 _WHAT = """\
 Fonts for the web, cut by fontcut: prepared fonts, slices with a style sheet, cuts for the text of pages, the fonts of a
-site, and unpacked WOFF files.
+site, small fonts for devices, and unpacked WOFF files.
 
   fontcut-web prepare Sans.ttf small.ttf --languages de,fr
   fontcut-web slice Sans.ttf Sans-Bold.ttf --out site --slices web --woff2 --css
@@ -34,6 +35,7 @@ site, and unpacked WOFF files.
   fontcut-web text index.html about.html Sans.ttf sans.woff2
   fontcut-web icons Icons.ttf home settings search --out site
   fontcut-web site .
+  fontcut-web device hello.ttf world.ttf small.ttf --no-hinting
   fontcut-web decode sans.woff2 sans.ttf --lean
 """
 
@@ -52,6 +54,17 @@ _PRESETS = f"""\
   {', '.join(languages())}
                      a slice of signs, and {PARTS} slices of characters by their use
   {AUTO}               the presets of all scripts of FONT, and a slice of what is left"""
+
+_DEVICE = """\
+Joins cuts of one font, and numbers their glyphs anew, without gaps: for a device that draws text, or holds few bytes,
+and joins no more. A cut keeps its numbers so that it can be joined, and most of its bytes stand for glyphs that it does
+not have. fontTools writes the font, with a cmap that all programs read. Nothing is written if FreeType would draw a
+character otherwise than in the cuts, or advance by another width.
+
+Without --no-hinting the instructions of glyphs stay. Of a font that has none, FreeType's own hinter draws every subset
+a little otherwise than the whole font, because it measures letters that a subset lacks: FT_LOAD_NO_AUTOHINT draws both
+the same.
+"""
 
 _SLICE = f"""\
 Writes a cut of each FONT for each slice to DIR, as FONT-SLICE.ttf. A browser loads a slice when a page has one
@@ -389,6 +402,25 @@ def _add_site(commands: argparse._SubParsersAction[CommandParser]) -> None:
     command.set_defaults(run=_run_site)
 
 
+def _run_device(given: argparse.Namespace) -> None:
+    if find_spec("freetype") is None:
+        raise MissingProgram("freetype-py", "apt install python3-freetype, or pip install freetype-py")
+    part("device").run(given)
+
+
+def _add_device(commands: argparse._SubParsersAction[CommandParser]) -> None:
+    command = commands.add_parser(
+        "device", help="make a small font of cuts, which joins no more", description=_DEVICE, formatter_class=_RAW,
+        epilog=_STATUS,
+        usage="fontcut-web device CUT.. OUT [--no-hinting] [--notdef-outline] [--map FILE] [--force]")
+    command.add_argument("files", metavar="CUT.. OUT", nargs="+", help=argparse.SUPPRESS)
+    command.add_argument("--no-hinting", action="store_true", help="drop the instructions of glyphs")
+    command.add_argument("--notdef-outline", action="store_true", help="keep what is drawn for a missing character")
+    command.add_argument("--map", metavar="FILE", help="write the old and the new number of each glyph, in lines")
+    command.add_argument("--force", action="store_true", help="write over another whole font")
+    command.set_defaults(run=_run_device)
+
+
 def _add_decode(commands: argparse._SubParsersAction[CommandParser]) -> None:
     command = commands.add_parser("decode", help="unpack a WOFF or WOFF2 file", description=_DECODE,
                                   formatter_class=_RAW, epilog=_STATUS,
@@ -407,7 +439,7 @@ def _parser() -> argparse.ArgumentParser:
     parser = argparse.ArgumentParser(prog="fontcut-web", description=_WHAT, formatter_class=_RAW, epilog=_STATUS)
     parser.add_argument("--version", action="version", version=f"fontcut-web {fontcut.__version__}")
     commands = parser.add_subparsers(dest="command", required=True, metavar="COMMAND", parser_class=CommandParser)
-    for add in _add_prepare, _add_slice, _add_slices, _add_text, _add_icons, _add_site, _add_decode:
+    for add in _add_prepare, _add_slice, _add_slices, _add_text, _add_icons, _add_site, _add_device, _add_decode:
         add(commands)
     return parser
 
