@@ -527,9 +527,8 @@ def _cutting(ending: str, file: _File, kind: int, ranges: Sequence[Range], numbe
     return lambda *room: _taken(call(kind, file.at, file.length, given, len(ranges), glyphs, len(asked), *room), asked)
 
 
-def _is_substituted(file: _File, codes: Sequence[int]) -> bool:
+def _is_substituted(file: _File, ranges: Sequence[Range]) -> bool:
     """Whether GSUB may substitute for the glyphs of some characters. It does not if it cannot be read."""
-    ranges = _ranges(codes)
     with contextlib.suppress(Refused):
         return len(_closed(file, _KINDS["layout"], ranges, ())) > len(_closed(file, _KINDS["lean"], ranges, ()))
     return False
@@ -537,13 +536,21 @@ def _is_substituted(file: _File, codes: Sequence[int]) -> bool:
 
 def _unshaped(font: Union[Bytes, Font], kind: int, ranges: Iterable[Range]) -> Optional[str]:
     """The first character of some ranges that a cut of a kind does not shape, and its font does."""
-    codes = [] if kind in _WITH_LINKS else sorted(set(joining(ranges)))
-    mapped = [code for code, glyph in zip(codes, glyphs(font, codes)) if glyph] if codes else []
+    joined = [] if kind in _WITH_LINKS else [Range(*pair) for pair in joining(ranges)]
     file = _File(font)
-    if not mapped or not _is_substituted(file, mapped):
+    if not joined or not _is_substituted(file, joined):
         return None
-    letters = [code for code in mapped if unicodedata.category(chr(code)).startswith("L")]
-    return chr(next((code for code in letters if _is_substituted(file, [code])), mapped[0]))
+    letters = list(itertools.islice(_letters(font, joined), 16))
+    found = (code for code in letters if _is_substituted(file, [Range(code, code)]))
+    return chr(next(found, letters[0] if letters else joined[0].first))
+
+
+def _letters(font: Union[Bytes, Font], ranges: Iterable[Range]) -> Iterator[int]:
+    """The letters of ranges that a font maps."""
+    codes = (code for first, last in ranges for code in range(first, last + 1)
+             if unicodedata.category(chr(code)).startswith("L"))
+    for block in iter(lambda: list(itertools.islice(codes, 256)), []):
+        yield from (code for code, glyph in zip(block, glyphs(font, block)) if glyph)
 
 
 def unshaped(font: Union[Bytes, Font], wanted: Codes, *, kind: str = "lean") -> Optional[str]:

@@ -76,14 +76,14 @@ def _joining() -> Tuple[List[range], List[int]]:
     return listed, [codes[-1] for codes in listed]
 
 
-def joining(ranges: Iterable[Tuple[int, int]]) -> Iterator[int]:
-    """The code points of ranges that joiners are used with, which are those of letters that join or change places."""
+def joining(ranges: Iterable[Tuple[int, int]]) -> Iterator[Tuple[int, int]]:
+    """What ranges have of the characters that joiners are used with, which are letters that join or change places."""
     listed, lasts = _joining()
     for first, last in ranges:
         for codes in listed[bisect.bisect_left(lasts, first):]:
             if codes[0] > last:
                 break
-            yield from range(max(first, codes[0]), min(last, codes[-1]) + 1)
+            yield max(first, codes[0]), min(last, codes[-1])
 
 
 @functools.lru_cache(maxsize=None)
