@@ -13,7 +13,7 @@ _fontcut_web_options() {
         ;;
     slices) echo '--font --order --help' ;;
     icons) echo '--out --codepoints --lean --variable --force --json --help' ;;
-    site) echo '--anew --check --json --help' ;;
+    site) echo '--anew --check --whole --json --help' ;;
     device) echo '--no-hinting --notdef-outline --map --force --help' ;;
     text)
         echo '--lean --layout --variable --full --text --shaped --features --check --css --display --strict --force --quiet --json --help'

@@ -148,8 +148,8 @@ otherwise nothing is written.
 _SITE = """\
 Makes the fonts of the pages in DIR as DIR/fontcut.toml says, and writes them to DIR/fonts: each font is prepared once,
 cut for each page, joined for the pages of a section, and written as WOFF2, with a style sheet for each section, and
-site.json, which has the lines for the head of each page. It prints the bytes that each page loads, beside those of the
-whole fonts as WOFF2.
+site.json, which has the lines for the head of each page. It prints the bytes that each page loads, with --whole beside
+those of the whole fonts as WOFF2.
 
 Run again, it makes anew only what has changed. A page that brings new characters has them joined into the font of its
 section. If the prepared font lacks them, it is prepared anew, and all its files get new names. What was made is kept in
@@ -392,12 +392,14 @@ def _run_site(given: argparse.Namespace) -> None:
 def _add_site(commands: argparse._SubParsersAction[CommandParser]) -> None:
     command = commands.add_parser("site", help="make the fonts of all pages of a site", description=_SITE,
                                   formatter_class=_RAW, epilog=_STATUS,
-                                  usage="fontcut-web site DIR [--anew] [--check] [--json]")
+                                  usage="fontcut-web site DIR [--anew] [--check] [--whole] [--json]")
     command.add_argument("folder", metavar="DIR", help="the folder of the site, with its settings and its pages")
     command.add_argument("--anew", action="store_true", help="make all fonts anew, without characters that no page has "
                                                              "any more")
     command.add_argument("--check", action="store_true", help="replace nothing if Chromium draws a page otherwise with "
                                                               "a font that is made anew")
+    command.add_argument("--whole", action="store_true", help="tell the bytes of the whole fonts as WOFF2 too, which "
+                                                              "takes minutes for a large font the first time")
     command.add_argument("--json", action="store_true", help="print site.json, and no table")
     command.set_defaults(run=_run_site)
 

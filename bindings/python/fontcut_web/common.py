@@ -39,14 +39,20 @@ class Missing(Exception):
     """A package that is needed is not installed for the Python that runs."""
 
     def __init__(self, packages: Sequence[str]):
-        super().__init__(f"{sys.executable or 'this Python'} has no {' and '.join(packages)}")
+        super().__init__(packages)
+
+    def __str__(self) -> str:
+        return f"{sys.executable or 'this Python'} has no {' and '.join(self.args[0])}"
 
 
 class MissingProgram(Exception):
     """A program that is needed is not installed."""
 
     def __init__(self, program: str, install: str):
-        super().__init__(f"needs {program}: {install}")
+        super().__init__(program, install)
+
+    def __str__(self) -> str:
+        return f"needs {self.args[0]}: {self.args[1]}"
 
 
 def codes_in(ranges: Iterable[Tuple[int, int]]) -> Iterator[int]:

@@ -1,8 +1,9 @@
 """The glyphs that pages take of a font: their texts are shaped as browsers may shape them, whole and in pieces."""
 from __future__ import annotations
 
+import functools
 import itertools
-from typing import Dict, Iterable, Iterator, List, NamedTuple, Sequence, Set, Tuple
+from typing import Callable, Dict, Iterable, Iterator, List, Mapping, NamedTuple, Optional, Sequence, Set, Tuple
 
 import fontcut
 from fontcut_output import Progress
@@ -11,7 +12,7 @@ from fontTools.ttLib import TTFont
 
 from . import shaping
 from .common import MissingProgram, Refused
-from .inputs import mapped
+from .inputs import mapped, sha256
 from .malformed import MALFORMED
 from .shaping import Setting, place_of
 from .shown import Shown, letters_of
@@ -60,16 +61,23 @@ def _runs(text: str) -> Iterator[str]:
     yield text[at:]
 
 
-def strings(blocks: Iterable[str]) -> List[str]:
-    """What is shaped of blocks of text: each block, its runs of a script, its words, and the pieces of these."""
-    found: Dict[str, None] = {}
-    words: Dict[str, None] = {}
+def _parts(blocks: Iterable[str]) -> Dict[str, Callable[[], List[str]]]:
+    """What is shaped of blocks of text, by the digest of each part: each block with its runs of a script, and each word
+    with its pieces. What is shaped of a part is not made before it is asked for."""
+    found: Dict[str, Callable[[], List[str]]] = {}
     for block in blocks:
-        found.update(dict.fromkeys([block, *_runs(block)]))
-        words.update(dict.fromkeys(block.split()))
-    for word in words:
-        found.update(dict.fromkeys(_pieces(word)))
-    return [text for text in found if text.strip()]
+        found[sha256(f"block {block}".encode("utf-8", "replace"))] = functools.partial(_block, block)
+        for word in block.split():
+            found[sha256(f"word {word}".encode("utf-8", "replace"))] = functools.partial(_word, word)
+    return found
+
+
+def _block(block: str) -> List[str]:
+    return [text for text in dict.fromkeys([block, *_runs(block)]) if text.strip()]
+
+
+def _word(word: str) -> List[str]:
+    return [text for text in dict.fromkeys(_pieces(word)) if text.strip()]
 
 
 def _tried(sets: Sequence[Features], known: Set[str]) -> List[Tuple[str, ...]]:
@@ -133,6 +141,10 @@ class Ways(NamedTuple):
     places: List[Tuple[Tuple[str, float], ...]]
 
 
+# The glyphs that a font takes for parts of texts, by digests of how they are shaped and of these parts.
+Known = Dict[str, Dict[str, List[int]]]
+
+
 class Said(NamedTuple):
     """Where it is said how far the shaping by a font is, and what that font is called."""
 
@@ -149,15 +161,6 @@ def ways_of(path: str, kind: str) -> Ways:
         raise Refused(f"{path}: fontTools cannot read it: {error or type(error).__name__}") from error
 
 
-def _texts_and_settings(page: Shown, ways: Ways) -> List[Tuple[List[str], List[Setting]]]:
-    """The texts of a page that have letters of a script, and those that have none, each with its settings."""
-    texts = strings(page.blocks)
-    scripts = {text: _scripts(text) for text in texts}
-    of_some, of_any = ([text for text in texts if bool(scripts[text]) == has_letters] for has_letters in (True, False))
-    every = ["", *sorted(set().union(*scripts.values()))]
-    return [(of_some, list(_settings(page, [], *ways))), (of_any, list(_settings(page, every, *ways)))]
-
-
 def is_too_much(path: str, page: Shown, kind: str) -> bool:
     """Whether a page can be shaped in more ways by the font in a file than are tried, for a kind of cuts."""
     count = 2 * len(page.features) * len(page.languages) * len(_shaped_in(page.directions, True))
@@ -167,16 +170,33 @@ def is_too_much(path: str, page: Shown, kind: str) -> bool:
     return count * len(_tried(page.features, ways.known)) * len(ways.places) > MOST_WAYS * 2 * len(page.features)
 
 
-def _taken_of(path: str, page: Shown, ways: Ways, said: Said) -> Set[int]:
-    """The glyphs that a page takes of the font in a file."""
-    both = _texts_and_settings(page, ways)
-    count, number, found = sum(len(settings) for _, settings in both), 0, set()  # type: int, int, Set[int]
-    for texts, settings in both:
-        for setting in settings:
-            number += 1
-            said.progress.say(f"shaping {page.path}, {number} of {count} ways", said.font)
-            found |= shaping.glyphs(path, texts, setting)
+def _shape(path: str, texts: Iterable[str], lists: Mapping[bool, Sequence[Setting]]) -> Dict[str, Set[int]]:
+    """The glyphs that each of the texts takes of the font in a file: those that have letters of a script have a list of
+    settings, and those that have none have another."""
+    found: Dict[str, Set[int]] = {}
+    scripts = {text: bool(_scripts(text)) for text in texts}
+    for has_letters, settings in lists.items():
+        some = [text for text, its in scripts.items() if its == has_letters]
+        found.update(zip(some, shaping.glyphs(path, some, settings)))
     return found
+
+
+def _taken_of(path: str, page: Shown, ways: Ways, said: Said, known: Known) -> Set[int]:
+    """The glyphs that a page takes of the font in a file. What is shaped for it is known then."""
+    every = ["", *sorted(set().union(*map(_scripts, page.blocks)))]
+    lists = {True: list(_settings(page, [], *ways)), False: list(_settings(page, every, *ways))}
+    parts, taken = _parts(page.blocks), known.setdefault(_manner(lists), {})
+    new = {part: texts() for part, texts in parts.items() if part not in taken}
+    said.progress.say(f"shaping {page.path}, in {sum(map(len, lists.values()))} ways", said.font)
+    glyphs = _shape(path, dict.fromkeys(text for texts in new.values() for text in texts), lists)
+    for part, texts in new.items():
+        taken[part] = sorted(set().union(*(glyphs[text] for text in texts)))
+    return set().union(*(taken[part] for part in parts))
+
+
+def _manner(lists: Mapping[bool, Sequence[Setting]]) -> str:
+    """A digest of how texts are shaped."""
+    return sha256(repr({key: sorted(settings) for key, settings in lists.items()}).encode("utf-8", "replace"))
 
 
 class Exact(NamedTuple):
@@ -188,9 +208,10 @@ class Exact(NamedTuple):
 
 
 def exact_cut(path: str, font: fontcut.Font, listed: Sequence[Shown], kind: str, said: Said,
-              others: Iterable[str] = ()) -> Exact:
+              others: Iterable[str] = (), known: Optional[Known] = None) -> Exact:
     """The cut of the font in a file, which is opened, for the glyphs that pages take, and for the characters that a
-    shaper takes for their text, and for others. Raises `Refused` where a page can be shaped in too many ways."""
+    shaper takes for their text, and for others. What is known of the font is not shaped again, and what is shaped is
+    added to it. Raises `Refused` where a page can be shaped in too many ways."""
     if not shaping.is_there():
         raise MissingProgram(shaping.PROGRAM, shaping.INSTALL)
     ways = ways_of(path, kind)
@@ -198,6 +219,7 @@ def exact_cut(path: str, font: fontcut.Font, listed: Sequence[Shown], kind: str,
         if is_too_much(path, page, kind):
             raise Refused(f"{page.path}: there are more than {MOST_WAYS} ways in which its text may be shaped: without "
                           "--shaped a cut has all glyphs of its characters")
-    glyphs = set().union(*(_taken_of(path, page, ways, said) for page in listed))
+    known = {} if known is None else known
+    glyphs = set().union(*(_taken_of(path, page, ways, said, known) for page in listed))
     kept = mapped(font, set(others).union(*map(letters_of, listed)))
     return Exact(fontcut.cut(font, kept, kind=kind, gids=sorted(glyphs), layout_closure=False), kept, len(glyphs))

@@ -1,6 +1,7 @@
 """Calls of HarfBuzz's program `hb-shape`, for texts that are given; `shaped` says which texts of pages to give it."""
 from __future__ import annotations
 
+import contextlib
 import os
 import re
 import shutil
@@ -16,6 +17,10 @@ INSTALL = "apt install libharfbuzz-bin"
 _NO_LANGUAGE = {**os.environ, "LC_ALL": "C"}
 # A glyph as hb-shape prints it: its number, its cluster, its offsets and its advances, some of which may be left out.
 _GLYPH = re.compile(r"(\d+)=(\d+)(?:@(-?\d+),(-?\d+))?(?:\+(-?\d+)(?:,(-?\d+))?)?")
+_NUMBER = re.compile(r"\d+")
+# What parts words and lines for `hb-shape --batch`, how many bytes a line of it may have, and in how many settings one
+# call shapes texts: all that it prints is held in memory.
+_PARTS, _LONGEST, _AT_ONCE = re.compile("[;\r\n\0]"), 4000, 64
 
 
 class Setting(NamedTuple):
@@ -49,24 +54,52 @@ def version() -> str:
     return " ".join(ran.stdout.decode("ascii", "replace").split())
 
 
-def _run(path: str, texts: Sequence[str], words: Sequence[str]) -> List[str]:
-    """What hb-shape prints of each text. No text is empty, or has an end of a line."""
-    with tempfile.NamedTemporaryFile(suffix=".txt") as lines:
-        lines.write("".join(f"{text}\n" for text in texts).encode("utf-8", "replace"))
-        lines.flush()
-        ran = subprocess.run([PROGRAM, "--shapers=ot", "--no-glyph-names", *words, f"--text-file={lines.name}", path],
-                             stdin=subprocess.DEVNULL, capture_output=True, check=False, env=_NO_LANGUAGE)
+def _told(words: Sequence[str], count: int, given: str = "") -> List[str]:
+    """The lines that hb-shape prints, which have to be so many, with these words and this on its standard input."""
+    ran = subprocess.run([PROGRAM, *words], input=os.fsencode(given), capture_output=True, check=False,
+                         env=_NO_LANGUAGE)
     told = ran.stdout.decode("ascii", "replace").splitlines()
-    if ran.returncode or len(told) != len(texts):
+    if ran.returncode or len(told) != count:
         said = " ".join(ran.stderr.decode("utf-8", "replace").split()) or f"it printed {len(told)} lines"
-        raise Refused(f"{path}: {PROGRAM} cannot shape {len(texts)} texts: {said}")
+        raise Refused(f"{PROGRAM} cannot shape {count} texts: {said}")
     return told
 
 
-def glyphs(path: str, texts: Sequence[str], setting: Setting) -> Set[int]:
-    """The numbers of the glyphs that texts are shaped into by the font in a file."""
-    told = _run(path, texts, ["--no-clusters", "--no-positions", *setting.words()]) if texts else []
-    return set(map(int, re.findall(r"\d+", " ".join(told))))
+def _is_for_batch(words: Sequence[str]) -> bool:
+    """Whether words fit in a line of `hb-shape --batch`, which parts them by semicolons."""
+    return not any(_PARTS.search(word) for word in words) and len(os.fsencode(";".join(words))) < _LONGEST
+
+
+def _shaped(rows: Sequence[Sequence[str]], count: int) -> List[str]:
+    """The lines that hb-shape prints with each of these words, so many each time. If it can, it begins once for all of
+    them: `--batch`, by which HarfBuzz tests itself, reads words from lines, and keeps the font."""
+    if len(rows) > 1 and all(map(_is_for_batch, rows)):
+        with contextlib.suppress(Refused):
+            return _told(["--batch"], len(rows) * count, "".join(f"{';'.join(row)}\n" for row in rows))
+    return [line for row in rows for line in _told(row, count)]
+
+
+def _lines(path: str, texts: Sequence[str], every: Sequence[Sequence[str]]) -> List[str]:
+    """What hb-shape prints of texts, with each of these words. No text is empty, or has an end of a line."""
+    with tempfile.NamedTemporaryFile(suffix=".txt") as lines:
+        lines.write("".join(f"{text}\n" for text in texts).encode("utf-8", "replace"))
+        lines.flush()
+        rows = [["--shapers=ot", "--no-glyph-names", *words, f"--text-file={lines.name}", path] for words in every]
+        try:
+            return _shaped(rows, len(texts))
+        except Refused as refusal:
+            raise Refused(f"{path}: {refusal}") from refusal
+
+
+def glyphs(path: str, texts: Sequence[str], settings: Sequence[Setting]) -> List[Set[int]]:
+    """The numbers of the glyphs that each of the texts is shaped into by the font in a file, in any of the settings."""
+    found: List[Set[str]] = [set() for _ in texts]
+    for first in range(0, len(settings) if texts else 0, _AT_ONCE):
+        every = [["--no-clusters", "--no-positions", *one.words()] for one in settings[first:first + _AT_ONCE]]
+        told = _lines(path, texts, every)
+        for number, numbers in enumerate(found):
+            numbers.update(_NUMBER.findall(" ".join(told[number::len(texts)])))
+    return [set(map(int, numbers)) for numbers in found]
 
 
 def _numbers(line: str) -> List[Tuple[int, ...]]:
@@ -89,7 +122,7 @@ def difference(paths: Tuple[str, str], texts: Sequence[str], settings: Tuple[Set
     advances may be off by so many units."""
     if not texts:
         return None
-    told = [_run(path, texts, setting.words()) for path, setting in zip(paths, settings)]
+    told = [_lines(path, texts, [setting.words()]) for path, setting in zip(paths, settings)]
     return next((text for text, one, other in zip(texts, *told) if one != other and not _is_near(one, other, most)),
                 None)
 

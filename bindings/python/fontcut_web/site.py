@@ -14,11 +14,11 @@ from .common import Refused, need
 from .inputs import mapped
 from .sets import codes_of, range_words
 from .shown import BY_FEATURES, FIELDS
-from .site_fonts import Base, Run, based, programs, section_of
+from .site_fonts import Base, Run, Wished, bases, programs, sections, wished
 from .site_pages import Modes, SitePage, modes_of, pages_of
 from .site_report import REPORT, Made, is_ours, lacking, lines, report, sheets
 from .site_settings import Settings, named, settings_of
-from .site_state import NOTHING, Place, State, bytes_at, put_text
+from .site_state import NOTHING, FontState, Place, State, bytes_at, put_text
 
 
 def _names(settings: Settings) -> List[str]:
@@ -39,24 +39,22 @@ def _names(settings: Settings) -> List[str]:
 def _bases(run: Run, settings: Settings, pages: Sequence[SitePage], before: State) -> List[Tuple[Base, List[SitePage]]]:
     """The fonts that are prepared, each with its pages, which have characters of it."""
     names = [page.name for page in pages]
-    found: List[Tuple[Base, List[SitePage]]] = []
+    every: List[Wished] = []
     for font, name in zip(settings.fonts, _names(settings)):
         its = named(settings, os.path.basename(font.file), font.pages, names)
-        some = [page for page in pages if page.name in its]
-        base = based(run, font, name, some, before.fonts.get(name))
-        found.append((base, [page for page in some if mapped(base.font, page.letters)]))
-    return found
+        every.append(wished(font, name, [page for page in pages if page.name in its], before.fonts.get(name)))
+    return [(base, [page for page in one.pages if mapped(base.font, page.letters)])
+            for one, base in zip(every, bases(run, every))]
 
 
-def _made(run: Run, base: Base, pages: Sequence[SitePage], modes: Modes) -> List[Made]:
-    """The cuts of a font for its sections."""
+def _made(run: Run, base: Base, state: FontState) -> List[Made]:
+    """The cuts of a font for its sections, which has this state."""
     found: List[Made] = []
-    for name in dict.fromkeys(page.section for page in pages):
-        state = section_of(run, base, name, [page for page in pages if page.section == name], modes)
+    for name, section in state.sections.items():
         old = base.state.sections.get(name)
-        cut = run.place.kept(run.place.work, state.cut) or b""
-        found.append(Made(base.settings.file, name, base.face, codes_of(cut), base.state.whole, state,
-                          old is None or old.woff2 != state.woff2))
+        cut = run.place.kept(run.place.work, section.cut) or b""
+        found.append(Made(base.settings.file, name, base.face, codes_of(cut), state.whole, section,
+                          old is None or old.woff2 != section.woff2))
     return found
 
 
@@ -103,12 +101,11 @@ def _run(run: Run, settings: Settings, before: State) -> Tuple[str, List[str]]:
     pages = pages_of(settings)
     modes = modes_of(settings, pages)
     found = _bases(run, settings, pages, before)
-    made = [_made(run, base, some, modes) for base, some in found]
-    every = [one for some in made for one in some]
+    states = sections(run, found, modes)
+    every = [one for (base, _), state in zip(found, states) for one in _made(run, base, state)]
     texts = sheets(every, settings.display)
     _check_ours(run.place, before, [*texts, REPORT])
-    fonts = {base.name: base.state._replace(sections={one.section: one.state for one in some})
-             for (base, _), some in zip(found, made)}
+    fonts = {base.name: state for (base, _), state in zip(found, states)}
     told = report(settings, pages, every)
     changed = _write(run.place, texts, told, State(programs(), fonts, [*texts, REPORT]))
     run.said.extend(_told(modes, found, pages))
@@ -126,7 +123,7 @@ def run(given: argparse.Namespace) -> None:
         if before.programs and before.programs != programs():
             said.append("all fonts are made anew: a program has another version")
             before = NOTHING
-        told, last = _run(Run(place, said, given.check, progress), settings, before)
+        told, last = _run(Run(place, said, given.check, given.whole, progress), settings, before)
     for line in said:
         print(f"fontcut-web: {line}", file=sys.stderr)
     for line in [told.rstrip()] if given.json else [*lines(told), *last]:

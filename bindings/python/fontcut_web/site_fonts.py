@@ -1,8 +1,9 @@
 """The fonts of a site: each is prepared once, for its pages or for languages, and cut and joined for sections."""
 from __future__ import annotations
 
+import functools
 import os
-from typing import Dict, List, Mapping, NamedTuple, Optional, Sequence, Set
+from typing import Dict, List, Mapping, NamedTuple, Optional, Sequence, Set, Tuple
 
 import fontcut
 from fontcut_output import Progress
@@ -13,8 +14,9 @@ from .faces import Face, face_of, is_variable, varying
 from .inputs import accepted, mapped, refusing
 from .prepare import made_of, wanted_of
 from .preparing import PrepareOptions
+from .processes import side_by_side
 from .sets import range_words
-from .shaped import Said
+from .shaped import Known, Said
 from .site_pages import CLOSED, EXACT, Modes, SitePage
 from .site_settings import FILE, FontSettings
 from .site_state import FontState, Place, SectionState, digest, digest_of
@@ -26,11 +28,13 @@ _NAMED = 8
 
 
 class Run(NamedTuple):
-    """A run: its folders, what is said in it, whether pages are drawn, and how far it is."""
+    """A run: its folders, what is said in it, whether pages are drawn, whether their bytes are compared with those of
+    whole fonts, and how far it is."""
 
     place: Place
     said: List[str]
     is_drawn: bool
+    is_compared: bool
     progress: Progress
 
 
@@ -83,28 +87,51 @@ def _why(one: FontSettings, old: FontState, key: str, pages: Sequence[SitePage],
     return f"{', '.join(sorted(set(features or []) - set(old.features))) or 'all'} is a feature that it had not"
 
 
-def _packed_size(run: Run, name: str, whole: fontcut.Font, old: Optional[FontState]) -> int:
-    """The bytes of a whole font as WOFF2, which takes long to make."""
-    if old and old.source == digest(whole.data):
-        return old.whole
-    run.progress.say("packing the whole font, to compare its bytes", name)
-    with refusing(name):
-        return len(packed(whole.data))
+class Wished(NamedTuple):
+    """A font that is to be prepared for pages: its settings, what its files are called, the whole font, and its state
+    after the last run."""
+
+    settings: FontSettings
+    name: str
+    whole: fontcut.Font
+    pages: List[SitePage]
+    old: Optional[FontState]
 
 
-def _prepared(run: Run, one: FontSettings, name: str, whole: fontcut.Font, pages: Sequence[SitePage],
-              old: Optional[FontState]) -> FontState:
-    """Prepares a font."""
-    run.progress.say("preparing it", name)
-    letters = _letters(one, pages)
-    codes, features = mapped(whole, letters), _features(one, pages)
+def wished(one: FontSettings, name: str, pages: Sequence[SitePage], old: Optional[FontState]) -> Wished:
+    """A font for pages."""
+    return Wished(one, name, accepted(one.file), list(pages), old)
+
+
+def _prepared(one: Wished) -> bytes:
+    """The font, prepared."""
+    how, letters = one.settings, _letters(one.settings, one.pages)
+    codes = mapped(one.whole, letters)
     if not codes:
-        raise Refused(f"{one.file}: it maps no character of its pages")
-    how = PrepareOptions(codes, features, one.hinting, preparing.limits_of(one.instance) if one.instance else {},
-                         one.names, one.kern)
-    made = made_of(one.file, whole, wanted_of(whole, codes, letters, [page.shown.blocks for page in pages]), how)
-    return FontState(digest(whole.data), _key(one, whole), run.place.put(run.place.work, name, ".ttf", made.data),
-                     range_words(codes), features, _packed_size(run, name, whole, old), {})
+        raise Refused(f"{how.file}: it maps no character of its pages")
+    options = PrepareOptions(codes, _features(how, one.pages), how.hinting,
+                             preparing.limits_of(how.instance) if how.instance else {}, how.names, how.kern)
+    wanted = wanted_of(one.whole, codes, letters, [page.shown.blocks for page in one.pages])
+    return made_of(how.file, one.whole, wanted, options).data
+
+
+def _put(run: Run, one: Wished, data: bytes) -> FontState:
+    """Writes a font that is prepared."""
+    codes = mapped(one.whole, _letters(one.settings, one.pages))
+    return FontState(digest(one.whole.data), _key(one.settings, one.whole),
+                     run.place.put(run.place.work, one.name, ".ttf", data), range_words(codes),
+                     _features(one.settings, one.pages), _known_whole(one), {}, {})
+
+
+def _known_whole(one: Wished) -> int:
+    """The bytes of the whole font as WOFF2, where these are known."""
+    return one.old.whole if one.old and one.old.source == digest(one.whole.data) else 0
+
+
+def _whole(one: Wished) -> int:
+    """The bytes of the whole font as WOFF2, which takes long to make."""
+    with refusing(one.name):
+        return len(packed(one.whole.data))
 
 
 def _letters(one: FontSettings, pages: Sequence[SitePage]) -> Set[str]:
@@ -119,30 +146,43 @@ def _key(one: FontSettings, whole: fontcut.Font) -> str:
     return digest(whole.data, digest_of(options).encode())
 
 
-def _state(run: Run, one: FontSettings, name: str, whole: fontcut.Font, pages: Sequence[SitePage],
-           old: Optional[FontState]) -> FontState:
-    """The state of a font that is prepared: that of the last run, where it has all that is wanted."""
-    if old is None or run.place.kept(run.place.work, old.prepared) is None:
-        return _prepared(run, one, name, whole, pages, old)
-    codes = mapped(whole, _letters(one, pages))
-    why = _why(one, old, _key(one, whole), pages, codes, _features(one, pages))
-    if not why:
-        return old
-    run.said.append(f"{os.path.basename(one.file)} is prepared anew, and its files get new names: {why}")
-    return _prepared(run, one, name, whole, pages, old)
+def _kept(run: Run, one: Wished) -> Optional[FontState]:
+    """The state of the last run, if the font that was prepared is there, and has all that is wanted."""
+    if one.old is None or run.place.kept(run.place.work, one.old.prepared) is None:
+        return None
+    codes = mapped(one.whole, _letters(one.settings, one.pages))
+    why = _why(one.settings, one.old, _key(one.settings, one.whole), one.pages, codes,
+               _features(one.settings, one.pages))
+    if why:
+        run.said.append(f"{os.path.basename(one.settings.file)} is prepared anew, and its files get new names: {why}")
+    return None if why else one.old
 
 
-def based(run: Run, one: FontSettings, name: str, pages: Sequence[SitePage], old: Optional[FontState]) -> Base:
-    """A font that is prepared for pages."""
-    whole = accepted(one.file)
-    state = _state(run, one, name, whole, pages, old)
-    path = os.path.join(run.place.work, state.prepared.name)
+def bases(run: Run, every: Sequence[Wished]) -> List[Base]:
+    """Fonts that are prepared, those side by side that are prepared anew."""
+    states = [_kept(run, one) for one in every]
+    anew = [one for one, state in zip(every, states) if state is None]
+    run.progress.say("preparing it", anew[0].name if anew else "")
+    prepared = iter(side_by_side([functools.partial(_prepared, one) for one in anew]))
+    found = [_put(run, one, next(prepared)) if state is None else state for one, state in zip(every, states)]
+    if run.is_compared:
+        run.progress.say("packing the whole font, to compare its bytes", every[0].name)
+        unknown = [number for number, state in enumerate(found) if not state.whole]
+        wholes = side_by_side([functools.partial(_whole, every[number]) for number in unknown])
+        for number, whole in zip(unknown, wholes):
+            found[number] = found[number]._replace(whole=whole)
+    return [_base(run, one, state) for one, state in zip(every, found)]
+
+
+def _base(run: Run, one: Wished, state: FontState) -> Base:
+    """A font that is prepared, with its face."""
+    how, path = one.settings, os.path.join(run.place.work, state.prepared.name)
     font = accepted(path)
-    kind = one.kind or ("variable" if is_variable(font.data) else "layout")
-    face = face_of(font.data, name)
+    kind = how.kind or ("variable" if is_variable(font.data) else "layout")
+    face = face_of(font.data, one.name)
     face = varying(font.data, face) if kind == "variable" else face
-    face = Face(one.family or face.family, one.style or face.style, one.weight or str(face.weight), face.stretch)
-    return Base(name, one, whole, path, font, kind, face, state)
+    face = Face(how.family or face.family, how.style or face.style, how.weight or str(face.weight), face.stretch)
+    return Base(one.name, how, one.whole, path, font, kind, face, state)
 
 
 def _mode(base: Base, page: SitePage, modes: Modes) -> str:
@@ -151,7 +191,7 @@ def _mode(base: Base, page: SitePage, modes: Modes) -> str:
     return CLOSED if mode == EXACT and shaped.is_too_much(base.path, page.shown, base.kind) else mode
 
 
-def _cut(run: Run, base: Base, page: SitePage, mode: str) -> bytes:
+def _cut(run: Run, base: Base, page: SitePage, mode: str, known: Known) -> bytes:
     """The cut of a font for a page."""
     written = [written_by([base.settings]), page.written]
     shown = with_text(page.shown._replace(path=page.name), written[0].text)
@@ -159,7 +199,7 @@ def _cut(run: Run, base: Base, page: SitePage, mode: str) -> bytes:
         if mode == EXACT:
             others: Set[str] = set().union(*(one.others for one in written))
             said = Said(run.progress, base.name)
-            return shaped.exact_cut(base.path, base.font, [shown], base.kind, said, others).data
+            return shaped.exact_cut(base.path, base.font, [shown], base.kind, said, others, known).data
         return fontcut.cut(base.font, mapped(base.font, letters_with(shown, written)), kind=base.kind)
     except fontcut.Refused as refusal:
         raise Refused(f"{base.settings.file}: {refusal}") from refusal
@@ -187,25 +227,74 @@ def _check_pages(run: Run, base: Base, pages: Sequence[SitePage], data: bytes) -
         drawn.check([page.path for page in pages], base.whole.data, data)
 
 
-def section_of(run: Run, base: Base, name: str, pages: Sequence[SitePage], modes: Modes) -> SectionState:
-    """The cut of a section: that of the last run, into which the cuts of pages are joined that have changed."""
-    old = base.state.sections.get(name)
-    written = written_by([base.settings]).digest
+class Section(NamedTuple):
+    """A section whose cut is to be there: its font, its name, its pages, how each of these is read, its state after the
+    last run, and the cut of that run, if new characters are joined into it."""
+
+    base: Base
+    name: str
+    pages: List[SitePage]
+    keys: Dict[str, str]
+    old: Optional[SectionState]
+    before: Optional[bytes]
+
+    def changed(self) -> List[SitePage]:
+        """The pages whose cuts are joined."""
+        known = self.old.pages if self.old and self.before is not None else {}
+        return [page for page in self.pages if known.get(page.name) != self.keys[page.name]]
+
+
+class Cut(NamedTuple):
+    """The cut of a section, its WOFF2 if it is another than that of the last run, and what is known of how texts are
+    shaped."""
+
+    data: bytes
+    woff2: Optional[bytes]
+    known: Known
+
+
+def _section(run: Run, base: Base, name: str, pages: Sequence[SitePage], modes: Modes) -> Section:
+    """A section with these pages."""
+    old, written = base.state.sections.get(name), written_by([base.settings]).digest
     keys = {page.name: f"{_mode(base, page, modes)}:{digest_of([page.digest, written])}" for page in pages}
-    before = _before(run, base, old, keys)
-    known = old.pages if old and before is not None else {}
-    changed = [page for page in pages if known.get(page.name) != keys[page.name]]
-    cuts = [] if before is None else [before]
-    for page in changed:
+    return Section(base, name, list(pages), keys, old, _before(run, base, old, keys))
+
+
+def _made(run: Run, one: Section) -> Cut:
+    """The cut of a section: that of the last run, into which the cuts of pages are joined that have changed."""
+    base, known = one.base, {manner: dict(parts) for manner, parts in one.base.state.shaped.items()}
+    cuts = [] if one.before is None else [one.before]
+    for page in one.changed():
         run.progress.say(f"cutting it for {page.name}", base.name)
-        cuts.append(_cut(run, base, page, _mode(base, page, modes)))
+        cuts.append(_cut(run, base, page, one.keys[page.name].partition(":")[0], known))
     data = fontcut.join(cuts, kind=base.kind) if len(cuts) > 1 else cuts[0]
-    if old and data == before and run.place.kept(run.place.output, old.woff2) is not None:
-        return old._replace(pages=keys)
-    run.progress.say(f"packing it for {name}", base.name)
+    if one.old and data == one.before and run.place.kept(run.place.output, one.old.woff2) is not None:
+        return Cut(data, None, known)
+    run.progress.say(f"packing it for {one.name}", base.name)
     with refusing(base.name):
         small = packed(data)
-    _check_pages(run, base, changed, small)
-    file_name = f"{base.name}-{name}"
-    return SectionState(_cuts_of(base), keys, run.place.put(run.place.work, file_name, ".ttf", data),
-                        run.place.put(run.place.output, file_name, ".woff2", small))
+    _check_pages(run, base, one.changed(), small)
+    return Cut(data, small, known)
+
+
+def _written(run: Run, one: Section, cut: Cut) -> SectionState:
+    """Writes the files of a section, and returns its state."""
+    if one.old and cut.woff2 is None:
+        return one.old._replace(pages=one.keys)
+    file_name = f"{one.base.name}-{one.name}"
+    return SectionState(_cuts_of(one.base), one.keys, run.place.put(run.place.work, file_name, ".ttf", cut.data),
+                        run.place.put(run.place.output, file_name, ".woff2", cut.woff2 or b""))
+
+
+def sections(run: Run, found: Sequence[Tuple[Base, Sequence[SitePage]]], modes: Modes) -> List[FontState]:
+    """The states of fonts with the cuts of their sections, which are made side by side."""
+    every = [_section(run, base, name, [page for page in pages if page.section == name], modes)
+             for base, pages in found for name in dict.fromkeys(page.section for page in pages)]
+    cuts = side_by_side([functools.partial(_made, run, one) for one in every])
+    states: Dict[str, FontState] = {base.name: base.state._replace(sections={}) for base, _ in found}
+    for one, cut in zip(every, cuts):
+        state = states[one.base.name]
+        for manner, parts in cut.known.items():
+            state.shaped.setdefault(manner, {}).update(parts)
+        state.sections[one.name] = _written(run, one, cut)
+    return [states[base.name] for base, _ in found]

@@ -27,7 +27,7 @@ _WRITTEN = mark("site")
 
 class Made(NamedTuple):
     """The cut of a font for a section, the face and the characters that its rule has, the bytes of the whole font as
-    WOFF2, and whether it was made by this run."""
+    WOFF2 (0 where they are not known), and whether it was made by this run."""
 
     font: str
     section: str
@@ -82,12 +82,17 @@ def _first(page: SitePage, made: Sequence[Made]) -> Sequence[Made]:
 
 def _row(settings: Settings, page: SitePage, made: Sequence[Made]) -> Dict[str, object]:
     """What is told of a page: lines for its head, and the bytes that it takes."""
-    rows = [{"font": one.font, "file": one.state.woff2.name, "bytes": one.state.woff2.size, "whole": one.whole,
+    rows = [{"font": one.font, "file": one.state.woff2.name, "bytes": one.state.woff2.size, **_whole([one]),
              "cut": one.state.pages[page.name].partition(":")[0]} for one in made]
     head = [preload(_placed(one), _address(settings, page, one.state.woff2.name)) for one in _first(page, made)]
     sheet = f'<link rel="stylesheet" href="{_address(settings, page, page.section + ".css")}">'
     return {"section": page.section, "head": [*head, sheet] if made else [], "fonts": rows,
-            "bytes": sum(one.state.woff2.size for one in made), "whole": sum(one.whole for one in made)}
+            "bytes": sum(one.state.woff2.size for one in made), **_whole(made)}
+
+
+def _whole(made: Sequence[Made]) -> Dict[str, int]:
+    """The bytes of whole fonts as WOFF2, if all are known."""
+    return {"whole": sum(one.whole for one in made)} if all(one.whole for one in made) else {}
 
 
 def lacking(pages: Sequence[SitePage], fonts: Mapping[str, Sequence[fontcut.Font]]) -> Iterator[Tuple[str, List[int]]]:
@@ -108,8 +113,10 @@ def report(settings: Settings, pages: Sequence[SitePage], made: Sequence[Made]) 
 
 
 def lines(told: str) -> Iterator[str]:
-    """The bytes of each page, beside those of the whole fonts."""
+    """The bytes of each page, beside those of the whole fonts where these are known."""
     rows = json.loads(told)["pages"]
-    yield f"{'bytes':>11} {'whole fonts':>12}  page"
+    is_known = all("whole" in row for row in rows.values())
+    yield f"{'bytes':>11}{'  whole fonts' if is_known else ''}  page"
     for name, row in rows.items():
-        yield f"{row['bytes']:>11,} {row['whole']:>12,}  {name}"
+        whole = f" {row['whole']:>12,}" if is_known else ""
+        yield f"{row['bytes']:>11,}{whole}  {name}"

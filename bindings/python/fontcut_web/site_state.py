@@ -21,7 +21,7 @@ from .inputs import sha256
 _STATE, _LOCK, _BEGUN = "state.json", "lock", "begun.txt"
 # What `write` makes beside a file before it replaces it, and a killed run leaves.
 _UNFINISHED = ".fontcut-????????"
-_VERSION = 1
+_VERSION = 2
 _DIGITS = 8
 
 
@@ -58,7 +58,8 @@ class SectionState(NamedTuple):
 
 class FontState(NamedTuple):
     """A font: a digest of it, one of it with its settings, the prepared font, the characters and features that this
-    has, the bytes of the whole font as WOFF2, and its cuts."""
+    has, the bytes of the whole font as WOFF2 (0 where they are not known), its cuts, and the glyphs that it takes for
+    parts of texts, by digests of how they are shaped and of these parts."""
 
     source: str
     key: str
@@ -67,6 +68,7 @@ class FontState(NamedTuple):
     features: Optional[List[str]]
     whole: int
     sections: Dict[str, SectionState]
+    shaped: Dict[str, Dict[str, List[int]]]
 
 
 class State(NamedTuple):
@@ -96,8 +98,18 @@ def _section(told: Mapping[str, Any]) -> SectionState:
 
 def _font(told: Mapping[str, Any]) -> FontState:
     sections = {name: _section(section) for name, section in told["sections"].items()}
+    shaped = {manner: {part: list(map(int, glyphs.split())) for part, glyphs in parts.items()}
+              for manner, parts in told["shaped"].items()}
     return FontState(told["source"], told["key"], File(*told["prepared"]), told["codes"], told["features"],
-                     told["whole"], sections)
+                     told["whole"], sections, shaped)
+
+
+def _told(font: FontState) -> Dict[str, Any]:
+    """A font as the file of the state has it, where the glyphs of each part of a text stand in one line."""
+    shaped = {manner: {part: " ".join(map(str, glyphs)) for part, glyphs in parts.items()}
+              for manner, parts in font.shaped.items()}
+    sections = {name: section._asdict() for name, section in font.sections.items()}
+    return {**font._asdict(), "sections": sections, "shaped": shaped}
 
 
 class Place:
@@ -133,9 +145,8 @@ class Place:
     def keep(self, state: State) -> None:
         """Keeps what a run has made, which ends it, and removes what is no longer named."""
         before = self.state()
-        told = {"version": _VERSION, "programs": state.programs, "sheets": state.sheets, "fonts": {
-            name: {**font._asdict(), "sections": {key: one._asdict() for key, one in font.sections.items()}}
-            for name, font in state.fonts.items()}}
+        told = {"version": _VERSION, "programs": state.programs, "sheets": state.sheets,
+                "fonts": {name: _told(font) for name, font in state.fonts.items()}}
         # Where this run is killed before it has removed them, the next one does.
         self._begin({*before.outputs(), *before.works()} - {*state.outputs(), *state.works()})
         put_text(self.work, _STATE, f"{json.dumps(told, indent=1, sort_keys=True)}\n")

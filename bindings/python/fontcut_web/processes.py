@@ -1,0 +1,70 @@
+"""Work that is done side by side on the processors of the machine, each piece by a process of its own."""
+from __future__ import annotations
+
+import contextlib
+import multiprocessing
+import os
+import signal
+import sys
+from multiprocessing.connection import Connection, wait
+from typing import Any, Callable, Dict, List, Sequence, TypeVar
+
+Answer = TypeVar("Answer")
+
+
+def processors() -> int:
+    """How many processes are at work at a time: one where a process cannot begin with what this one has in memory, as
+    on Windows, or not safely, as on macOS."""
+    if "fork" not in multiprocessing.get_all_start_methods() or sys.platform == "darwin":
+        return 1
+    return len(os.sched_getaffinity(0)) if hasattr(os, "sched_getaffinity") else os.cpu_count() or 1
+
+
+def _answer(task: Callable[[], object], to: Connection) -> None:
+    """Sends what a task answers, or the error that it raises."""
+    # The process that waits for the answer is interrupted, and ends this one.
+    signal.signal(signal.SIGINT, signal.SIG_IGN)
+    sent: Dict[str, object] = {}
+    try:
+        sent["answer"] = task()
+    except Exception as error:
+        sent["error"] = error
+    # Where nobody waits for it any more, there is nothing to do.
+    with contextlib.suppress(BrokenPipeError):
+        to.send(sent)
+
+
+def _received(received: Connection) -> Any:
+    """What a process sent. One that was killed sends nothing, as where memory is short."""
+    try:
+        sent = received.recv()
+    except EOFError as error:
+        raise MemoryError from error
+    if "error" in sent:
+        raise sent["error"]
+    return sent["answer"]
+
+
+def side_by_side(tasks: Sequence[Callable[[], Answer]]) -> List[Answer]:
+    """What each of the tasks answers. The first error that comes ends all of them."""
+    count = processors()
+    if min(count, len(tasks)) < 2:
+        return [task() for task in tasks]
+    context = multiprocessing.get_context("fork")
+    found: Dict[int, Answer] = {}
+    running: Dict[Any, int] = {}
+    try:
+        while len(found) < len(tasks):
+            while len(running) < min(count, len(tasks) - len(found)):
+                received, to = context.Pipe(duplex=False)
+                number = len(found) + len(running)
+                context.Process(target=_answer, args=(tasks[number], to), daemon=True).start()
+                to.close()
+                running[received] = number
+            for one in wait(list(running)):
+                found[running.pop(one)] = _received(one)  # type: ignore[arg-type]
+    finally:
+        for process in multiprocessing.active_children():
+            process.terminate()
+            process.join()
+    return [found[number] for number in range(len(tasks))]
