@@ -1,24 +1,24 @@
 """Chromium without a window, for tests of pages: how it is started, a server of pages on loopback, and a page that is
-told over a pipe what to do, by the DevTools protocol."""
+told what to do."""
 from __future__ import annotations
 
 import base64
 import contextlib
-import fcntl
 import functools
 import html
 import http.server
 import json
 import os
-import select
 import shutil
-import subprocess
+import sys
 import tempfile
 import threading
-import time
-from typing import Any, Callable, Iterable, Iterator, Mapping, Optional
+from typing import Any, Callable, Iterable, Iterator, Optional
 
-from checks import built, put, skip, skip_all
+from checks import TOP, built, put, skip, skip_all
+
+sys.path.append(os.path.join(TOP, "bindings", "python"))
+from fontcut_web.browser import Browser, Failed as Failed  # noqa: E402 - it is found by the line above
 
 CHROMIUM = ["chromium", "--headless=new", "--no-sandbox", "--disable-gpu", "--hide-scrollbars",
             "--force-device-scale-factor=1", "--window-size=1000,1500"]
@@ -49,10 +49,6 @@ def pages_built() -> None:
         skip_all("pages", "Debian's package chromium is not installed")
     if not shutil.which("woff2_compress"):
         skip("cuts as WOFF2", "Debian's package woff2 is not installed")
-
-
-class Failed(Exception):
-    """What a page or the browser says that it cannot do."""
 
 
 def configured(folder: str, hidden: Iterable[str]) -> dict[str, str]:
@@ -102,33 +98,18 @@ def files_of(folder: str, asked: Optional[list[str]] = None) -> Handler:
     return functools.partial(Files, [] if asked is None else asked, directory=folder)
 
 
-class Page:
+class Page(Browser):
     """A page in a browser of its own, which is told what to do and waited for."""
 
     def __init__(self, folder: str, hidden: Iterable[str] = ()) -> None:
-        self.session: Optional[str] = None
-        self.count, self.said = 0, b""
-        self.profile = tempfile.mkdtemp(prefix="profile-", dir=folder)
-        self.process = self.started(configured(folder, hidden))
+        self.profile, self.session = tempfile.mkdtemp(prefix="profile-", dir=folder), ""
+        super().__init__([*CHROMIUM, f"--user-data-dir={self.profile}"], configured(folder, hidden), SECONDS)
         try:
             target = self.ask("Target.createTarget", url="about:blank")["targetId"]
             self.session = self.ask("Target.attachToTarget", targetId=target, flatten=True)["sessionId"]
         except BaseException:
             self.close()
             raise
-
-    def started(self, env: Mapping[str, str]) -> subprocess.Popen[bytes]:
-        """Starts the browser, which reads what it is told from the file 3, and answers to the file 4."""
-        (its_input, self.told), (self.answers, its_output) = os.pipe(), os.pipe()
-        # The shell opens 3 and 4 for the browser, so that neither of them may be one of the pipes' own numbers.
-        ends = [fcntl.fcntl(end, fcntl.F_DUPFD, 10) for end in (its_input, its_output)]
-        words = ["bash", "-c", f'exec "$@" 3<&{ends[0]} 4>&{ends[1]} {ends[0]}<&- {ends[1]}>&-', "bash", *CHROMIUM,
-                 "--remote-debugging-pipe", f"--user-data-dir={self.profile}", "about:blank"]
-        process = subprocess.Popen(words, env=env, pass_fds=ends, stdin=subprocess.DEVNULL, stdout=subprocess.DEVNULL,
-                                   stderr=subprocess.DEVNULL)
-        for end in (its_input, its_output, *ends):
-            os.close(end)
-        return process
 
     def __enter__(self) -> Page:
         return self
@@ -138,45 +119,12 @@ class Page:
 
     def close(self) -> None:
         """Ends the browser."""
-        with contextlib.suppress(OSError):
-            os.close(self.told)  # it ends where it is told nothing more
-        try:
-            self.process.wait(10)
-        except subprocess.TimeoutExpired:
-            self.process.kill()
-            self.process.wait()
-        os.close(self.answers)
+        super().close()
         shutil.rmtree(self.profile, ignore_errors=True)
 
-    def answer(self, until: float) -> dict[str, Any]:
-        """The next message of the browser."""
-        while b"\0" not in self.said:
-            if not select.select([self.answers], [], [], max(0, until - time.monotonic()))[0]:
-                raise Failed(f"no answer in {SECONDS} seconds")
-            some = os.read(self.answers, 1 << 20)
-            if not some:
-                raise Failed("the browser has ended")
-            self.said += some
-        message, _, self.said = self.said.partition(b"\0")
-        told: dict[str, Any] = json.loads(message)
-        return told
-
-    def ask(self, method: str, **given: object) -> dict[str, Any]:
-        """What the browser answers to a command."""
-        self.count += 1
-        sent: dict[str, object] = {"id": self.count, "method": method, "params": given}
-        if self.session:
-            sent["sessionId"] = self.session
-        data, until = json.dumps(sent).encode() + b"\0", time.monotonic() + SECONDS
-        while data:
-            data = data[os.write(self.told, data):]
-        answer = self.answer(until)
-        while answer.get("id") != self.count:
-            answer = self.answer(until)
-        if "error" in answer:
-            raise Failed(f"{method}: {answer['error']['message']}")
-        result: dict[str, Any] = answer["result"]
-        return result
+    def ask(self, method: str, session: str = "", **given: object) -> dict[str, Any]:
+        """What the browser answers to a command, for the page once there is one."""
+        return super().ask(method, session or self.session, **given)
 
     def run(self, code: str) -> Any:
         """The value of an expression in the page, which is waited for where it is a promise."""

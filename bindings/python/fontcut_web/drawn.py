@@ -2,27 +2,33 @@
 from __future__ import annotations
 
 import contextlib
+import functools
 import html
 import os
 import re
 import secrets
 import shutil
-import subprocess
 import tempfile
-from typing import List, Optional, Sequence
+from typing import Iterator, List, NamedTuple, Sequence, Set, Tuple
 from urllib.request import pathname2url
 
 from fontcut_output import read
 
 from .boxes import boxes
+from .browser import Browser, Failed
 from .common import MissingProgram, Refused
 from .inputs import file_in
 from .pages import decoded
+from .processes import processors, side_by_side
 
 _PROGRAMS = "chromium", "chromium-browser", "google-chrome"
 # The size of the window, in pixels; what lies below is not drawn.
 _WIDTH, _HEIGHT = 1000, 8000
 _SECONDS = 120
+# How many pages a browser draws at least if more of them are begun: to begin one takes as long as two pages.
+_LEAST = 3
+# How long scripts of a page run, by its own clock.
+_MILLISECONDS = 10000
 # All text is drawn in the font, whatever the style sheets say, and what it lacks as boxes: the browser would take it of
 # a font of the system, which may be the whole font. No font of the system has the names of these families.
 _STYLE = """<style>@font-face {{ font-family: font-{name}; src: url("{font}"); font-display: block; }}
@@ -63,41 +69,78 @@ def _page(path: str, font: str, boxes: str) -> str:
     head = re.search(r"<head\b[^>]*>|<html\b[^>]*>|<!doctype[^>]*>", text, re.I)
     start = head.end() if head else 0
     style = _STYLE.format(name=secrets.token_hex(8), font=_address(font), boxes=_address(boxes))
-    return f"{text[:start]}{base}{text[start:]}{style}"
+    # The last style counts, and a script may take away the element in which it stands.
+    return f"{text[:start]}{base}{style}{text[start:]}{style}"
 
 
-def _picture(program: str, page: str, font: bytes) -> Optional[bytes]:
-    """The picture of a page, which is drawn in a font, as PNG; None where the browser makes none."""
+class Drawn(NamedTuple):
+    """A page in a file, a whole font, and its cut, by which the page is to be drawn as by the font."""
+
+    page: str
+    whole: bytes
+    cut: bytes
+
+
+@contextlib.contextmanager
+def _browsing(program: str) -> Iterator[Tuple[Browser, str]]:
+    """A browser, with a folder for the files that it shows."""
     folder = tempfile.mkdtemp()
+    known = {**os.environ, "FONTCONFIG_FILE": file_in(folder, "fonts.conf", _UNHINTED.encode())}
     try:
-        return _drawn(program, folder, page, font)
+        browser = Browser([
+            program, "--headless=new", "--disable-gpu", "--hide-scrollbars", "--force-device-scale-factor=1",
+            f"--window-size={_WIDTH},{_HEIGHT}", "--font-render-hinting=none", "--allow-file-access-from-files",
+            f"--user-data-dir={folder}/profile", *(["--no-sandbox"] if os.geteuid() == 0 else [])], known, _SECONDS)
+        try:
+            yield browser, folder
+        finally:
+            browser.close()
     finally:
         # The browser may still write to it.
         shutil.rmtree(folder, ignore_errors=True)
 
 
-def _drawn(program: str, folder: str, page: str, font: bytes) -> Optional[bytes]:
-    """The same, in a folder."""
-    files = file_in(folder, "font", font), file_in(folder, "boxes", boxes())
-    shown = file_in(folder, "page.html", _page(page, *files).encode())
-    picture = os.path.join(folder, "picture.png")
-    words: List[str] = [
-        program, "--headless=new", "--disable-gpu", "--hide-scrollbars", "--force-device-scale-factor=1",
-        f"--window-size={_WIDTH},{_HEIGHT}", "--font-render-hinting=none", "--virtual-time-budget=10000",
-        "--allow-file-access-from-files", f"--user-data-dir={folder}/profile", f"--screenshot={picture}",
-        *(["--no-sandbox"] if os.geteuid() == 0 else []), _address(shown)]
-    known = {**os.environ, "FONTCONFIG_FILE": file_in(folder, "fonts.conf", _UNHINTED.encode())}
-    with contextlib.suppress(subprocess.TimeoutExpired):
-        subprocess.run(words, stdin=subprocess.DEVNULL, capture_output=True, check=False, env=known, timeout=_SECONDS)
-    return read(picture) if os.path.exists(picture) else None
+def _picture(browser: Browser, address: str) -> str:
+    """The picture of a page, which keeps nothing of other pages, when its scripts have had their time."""
+    context = browser.ask("Target.createBrowserContext")["browserContextId"]
+    target = browser.ask("Target.createTarget", url="about:blank", browserContextId=context, width=_WIDTH,
+                         height=_HEIGHT)["targetId"]
+    session = browser.ask("Target.attachToTarget", targetId=target, flatten=True)["sessionId"]
+    browser.ask("Page.enable", session)
+    browser.ask("Page.navigate", session, url=address)
+    browser.ask("Emulation.setVirtualTimePolicy", session, policy="pauseIfNetworkFetchesPending",
+                budget=_MILLISECONDS, maxVirtualTimeTaskStarvationCount=9999)
+    browser.wait_for("Emulation.virtualTimeBudgetExpired", session)
+    picture: str = browser.ask("Page.captureScreenshot", session, format="png", optimizeForSpeed=True)["data"]
+    browser.ask("Target.disposeBrowserContext", browserContextId=context)
+    return picture
 
 
-def check(pages: Sequence[str], font: bytes, cut: bytes) -> None:
-    """Raises `Refused` for the first of the pages that is not drawn by a cut as by the whole font."""
-    program = _program()
-    for page in pages:
-        whole, part = (_picture(program, page, data) for data in (font, cut))
-        if whole is None or part is None:
-            raise Refused(f"{page}: {os.path.basename(program)} draws no picture of it")
-        if whole != part:
-            raise Refused(f"{page}: it is drawn otherwise by the cut than by the whole font")
+def _differences(program: str, every: Sequence[Drawn]) -> List[str]:
+    """What is said of each page that is not drawn by a cut as by the whole font; an empty text where it is."""
+    found: List[str] = []
+    with _browsing(program) as (browser, folder):
+        boxed = file_in(folder, "boxes", boxes())
+        for one in every:
+            pictures: Set[str] = set()
+            try:
+                for number, font in enumerate((one.whole, one.cut)):
+                    file = file_in(folder, f"font-{len(found)}-{number}", font)
+                    shown = file_in(folder, f"{len(found)}-{number}.html", _page(one.page, file, boxed).encode())
+                    pictures.add(_picture(browser, _address(shown)))
+                is_same = len(pictures) == 1
+                found.append("" if is_same else "it is drawn otherwise by the cut than by the whole font")
+            except Failed as failed:
+                return [*found, f"{os.path.basename(program)} draws no picture of it: {failed}"]
+    return found
+
+
+def check(every: Sequence[Drawn]) -> None:
+    """Raises `Refused` for the first page that is not drawn by a cut as by the whole font."""
+    program, count = _program(), min(processors(), -(-len(every) // _LEAST))
+    parts = [every[first::count] for first in range(count)]
+    said = side_by_side([functools.partial(_differences, program, part) for part in parts])
+    for number, one in enumerate(every):
+        part = said[number % count]
+        if number // count < len(part) and part[number // count]:
+            raise Refused(f"{one.page}: {part[number // count]}")

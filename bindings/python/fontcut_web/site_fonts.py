@@ -221,12 +221,6 @@ def _cuts_of(base: Base) -> str:
     return digest_of([base.state.prepared.digest, base.kind])
 
 
-def _check_pages(run: Run, base: Base, pages: Sequence[SitePage], data: bytes) -> None:
-    """Raises `Refused` where a page is drawn otherwise by a cut, if pages are to be drawn."""
-    if run.is_drawn:
-        drawn.check([page.path for page in pages], base.whole.data, data)
-
-
 class Section(NamedTuple):
     """A section whose cut is to be there: its font, its name, its pages, how each of these is read, its state after the
     last run, and the cut of that run, if new characters are joined into it."""
@@ -273,7 +267,6 @@ def _made(run: Run, one: Section) -> Cut:
     run.progress.say(f"packing it for {one.name}", base.name)
     with refusing(base.name):
         small = packed(data)
-    _check_pages(run, base, one.changed(), small)
     return Cut(data, small, known)
 
 
@@ -291,6 +284,10 @@ def sections(run: Run, found: Sequence[Tuple[Base, Sequence[SitePage]]], modes: 
     every = [_section(run, base, name, [page for page in pages if page.section == name], modes)
              for base, pages in found for name in dict.fromkeys(page.section for page in pages)]
     cuts = side_by_side([functools.partial(_made, run, one) for one in every])
+    if run.is_drawn:
+        run.progress.say("drawing pages")
+        drawn.check([drawn.Drawn(page.path, one.base.whole.data, cut.woff2)
+                     for one, cut in zip(every, cuts) if cut.woff2 is not None for page in one.changed()])
     states: Dict[str, FontState] = {base.name: base.state._replace(sections={}) for base, _ in found}
     for one, cut in zip(every, cuts):
         state = states[one.base.name]

@@ -136,7 +136,8 @@ def run(given: argparse.Namespace) -> None:
     with refusing(source):
         data = part("woff").packed(cut.data) if out.lower().endswith(".woff2") else cut.data
     if given.check:
-        part("drawn").check(paths, font.data, data)
+        drawn = part("drawn")
+        drawn.check([drawn.Drawn(path, font.data, data) for path in paths])
     write(out, data)
     notices = _dropped(given, source, font, cut, shown)
     told = {**cut.report, **(_write_sheet(given, font, source, cut.codes) if given.css else {})}
