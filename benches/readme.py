@@ -12,6 +12,8 @@ FONT, NOTHING = "LXGWWenKai-Regular", "–"
 CLOSED = "text that users type: closed cut, font prepared for languages"
 EXACT = "fixed text: exact cut, font prepared for the page"
 OTHERS = "`hb-subset --retain-gids`", "`pyftsubset`, which renumbers glyphs"
+# The ways whose lengths the first table of PERFORMANCE.md has.
+SIZED = "lean cut", "hb-subset", "pyftsubset"
 MODULE_SIZE = r"(?<![\d.])\d+ KB as Brotli"
 # The title of the README's table whose last column has figures.
 JOBS = "| you have |"
@@ -80,7 +82,8 @@ def beside(table: Tables) -> str:
     sizes, pages = ascii_sizes(table), pages_of(table, "Arabic")
     slices = {row["way"]: row["seconds"] for row in rows_of(table("commands_slices"))}
     rows = [["beside other subsetters", "fontcut", "hb-subset", "pyftsubset"], *time_rows(table),
-            ["the same, ASCII as WOFF2, bytes", *(last(sizes[way]) for way in ("lean cut", "hb-subset", "pyftsubset"))],
+            ["the same, ASCII as they are, bytes", *(sizes[way].split(", ")[0] for way in SIZED)],
+            ["the same, ASCII as WOFF2, bytes", *(last(sizes[way]) for way in SIZED)],
             ["the same, 100 slices as WOFF2, seconds", slices["`fontcut-web slice`"], NOTHING,
              slices["`pyftsubset`, a call a slice"]],
             ["a page of Arabic with layout, as WOFF2, bytes", *(pages[way] for way in (EXACT, *OTHERS))]]
