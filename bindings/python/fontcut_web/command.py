@@ -146,18 +146,19 @@ otherwise nothing is written.
 """
 
 _SITE = """\
-Makes the fonts of the pages in DIR as DIR/fontcut.toml says, and writes them to DIR/fonts: each font is prepared once,
-cut for each page, joined for the pages of a section, and written as WOFF2, with a style sheet for each section, and
-site.json, which has the lines for the head of each page. It prints the bytes that each page loads, with --whole beside
-those of the whole fonts as WOFF2.
+Makes the fonts of the pages in DIR as DIR/fontcut.toml says, and writes them to DIR/fonts: each font is prepared for
+the pages in each language, cut for each page, joined for the pages of a section, and written as WOFF2, with a style
+sheet for each section, and site.json, which has the lines for the head of each page. It prints the bytes that each page
+loads, with --whole beside those of the whole fonts as WOFF2.
 
 Run again, it makes anew only what has changed. A page that brings new characters has them joined into the font of its
-section. If the prepared font lacks them, it is prepared anew, and all its files get new names. What was made is kept in
-DIR/.fontcut. A run that is killed leaves the old files as they are, and the next one goes on.
+section. If the prepared font lacks them, it is prepared anew, and its files for this language get new names. What was
+made is kept in DIR/.fontcut. A run that is killed leaves the old files as they are, and the next one goes on.
 
   pages = ["**/*.html"]            # the pages, which is the default
   closed = ["guestbook.html"]      # pages whose text is not known when they are published
   exact = ["index.html"]           # pages whose text is, although they run scripts
+  prepare_by = "site"              # fonts are prepared for all pages, and not for those in each language
 
   [sections]
   blog = ["blog/*.html"]           # pages that share a font; each other page has its own

@@ -15,7 +15,7 @@ from .inputs import mapped
 from .sets import codes_of, range_words
 from .shown import BY_FEATURES, FIELDS
 from .site_fonts import Base, Run, Wished, bases, programs, sections, wished
-from .site_pages import Modes, SitePage, modes_of, pages_of
+from .site_pages import Modes, SitePage, languages_of, modes_of, pages_of
 from .site_report import REPORT, Made, is_ours, lacking, lines, report, sheets
 from .site_settings import Settings, named, settings_of
 from .site_state import NOTHING, FontState, Place, State, bytes_at, put_text
@@ -38,11 +38,11 @@ def _names(settings: Settings) -> List[str]:
 
 def _bases(run: Run, settings: Settings, pages: Sequence[SitePage], before: State) -> List[Tuple[Base, List[SitePage]]]:
     """The fonts that are prepared, each with its pages, which have characters of it."""
-    names = [page.name for page in pages]
+    names, languages = [page.name for page in pages], languages_of(settings, pages)
     every: List[Wished] = []
     for font, name in zip(settings.fonts, _names(settings)):
         its = named(settings, os.path.basename(font.file), font.pages, names)
-        every.append(wished(font, name, [page for page in pages if page.name in its], before.fonts.get(name)))
+        every += wished(font, name, [page for page in pages if page.name in its], languages, before)
     return [(base, [page for page in one.pages if mapped(base.font, page.letters)])
             for one, base in zip(every, bases(run, every))]
 
@@ -105,7 +105,7 @@ def _run(run: Run, settings: Settings, before: State) -> Tuple[str, List[str]]:
     every = [one for (base, _), state in zip(found, states) for one in _made(run, base, state)]
     texts = sheets(every, settings.display)
     _check_ours(run.place, before, [*texts, REPORT])
-    fonts = {base.name: state for (base, _), state in zip(found, states)}
+    fonts = {base.key: state for (base, _), state in zip(found, states)}
     told = report(settings, pages, every)
     changed = _write(run.place, texts, told, State(programs(), fonts, [*texts, REPORT]))
     run.said.extend(_told(modes, found, pages))

@@ -19,7 +19,7 @@ from .sets import range_words
 from .shaped import Known, Said
 from .site_pages import CLOSED, EXACT, Modes, SitePage
 from .site_settings import FILE, FontSettings
-from .site_state import FontState, Place, SectionState, digest, digest_of
+from .site_state import FontState, Place, SectionState, State, digest, digest_of
 from .site_written import letters_with, with_text, written_by
 from .woff import packed
 
@@ -39,10 +39,11 @@ class Run(NamedTuple):
 
 
 class Base(NamedTuple):
-    """A font that is prepared: what its files are called, its settings, the whole font, the path of the prepared one
-    and that font, the kind of its cuts, its face, and its state, which has the sections of the last run that are cuts
-    of it."""
+    """A font that is prepared: what its state is kept by, what its files are called, its settings, the whole font, the
+    path of the prepared one and that font, the kind of its cuts, its face, and its state, which has the sections of the
+    last run that are cuts of it."""
 
+    key: str
     name: str
     settings: FontSettings
     whole: fontcut.Font
@@ -88,27 +89,45 @@ def _why(one: FontSettings, old: FontState, key: str, pages: Sequence[SitePage],
 
 
 class Wished(NamedTuple):
-    """A font that is to be prepared for pages: its settings, what its files are called, the whole font, and its state
-    after the last run."""
+    """A font that is to be prepared for pages: its settings, what its files are called, the whole font, the languages
+    of the pages where these decide, and its state after the last run."""
 
     settings: FontSettings
     name: str
     whole: fontcut.Font
+    languages: str
     pages: List[SitePage]
     old: Optional[FontState]
 
+    @property
+    def key(self) -> str:
+        """What its state is kept by."""
+        return key_of(self.name, self.languages)
 
-def wished(one: FontSettings, name: str, pages: Sequence[SitePage], old: Optional[FontState]) -> Wished:
-    """A font for pages."""
-    return Wished(one, name, accepted(one.file), list(pages), old)
+
+def key_of(name: str, languages: str) -> str:
+    """What the state of a font for pages in some languages is kept by."""
+    return f"{name}:{languages}" if languages else name
+
+
+def wished(one: FontSettings, name: str, pages: Sequence[SitePage], languages: Mapping[str, str], before: State
+           ) -> List[Wished]:
+    """A font for pages, once for each of these lists of languages, by the name of the page, of which it has characters.
+    """
+    whole, found = accepted(one.file), []  # type: fontcut.Font, List[Wished]
+    for its in dict.fromkeys(languages[page.name] for page in pages):
+        some = [page for page in pages if languages[page.name] == its]
+        if mapped(whole, _letters(one, some)):
+            found.append(Wished(one, name, whole, its, some, before.fonts.get(key_of(name, its))))
+    if not found:
+        raise Refused(f"{one.file}: it maps no character of its pages")
+    return found
 
 
 def _prepared(one: Wished) -> bytes:
     """The font, prepared."""
     how, letters = one.settings, _letters(one.settings, one.pages)
     codes = mapped(one.whole, letters)
-    if not codes:
-        raise Refused(f"{how.file}: it maps no character of its pages")
     options = PrepareOptions(codes, _features(how, one.pages), how.hinting,
                              preparing.limits_of(how.instance) if how.instance else {}, how.names, how.kern)
     wanted = wanted_of(one.whole, codes, letters, [page.shown.blocks for page in one.pages])
@@ -154,7 +173,9 @@ def _kept(run: Run, one: Wished) -> Optional[FontState]:
     why = _why(one.settings, one.old, _key(one.settings, one.whole), one.pages, codes,
                _features(one.settings, one.pages))
     if why:
-        run.said.append(f"{os.path.basename(one.settings.file)} is prepared anew, and its files get new names: {why}")
+        its = f" for pages in {one.languages.replace('-', ', ')}" if one.languages else ""
+        run.said.append(f"{os.path.basename(one.settings.file)} is prepared anew{its}, and its files get new names: "
+                        f"{why}")
     return None if why else one.old
 
 
@@ -167,10 +188,9 @@ def bases(run: Run, every: Sequence[Wished]) -> List[Base]:
     found = [_put(run, one, next(prepared)) if state is None else state for one, state in zip(every, states)]
     if run.is_compared:
         run.progress.say("packing the whole font, to compare its bytes", every[0].name)
-        unknown = [number for number, state in enumerate(found) if not state.whole]
-        wholes = side_by_side([functools.partial(_whole, every[number]) for number in unknown])
-        for number, whole in zip(unknown, wholes):
-            found[number] = found[number]._replace(whole=whole)
+        unknown = {one.name: one for one, state in zip(every, found) if not state.whole}
+        wholes = dict(zip(unknown, side_by_side([functools.partial(_whole, one) for one in unknown.values()])))
+        found = [state._replace(whole=wholes.get(one.name, state.whole)) for one, state in zip(every, found)]
     return [_base(run, one, state) for one, state in zip(every, found)]
 
 
@@ -182,7 +202,7 @@ def _base(run: Run, one: Wished, state: FontState) -> Base:
     face = face_of(font.data, one.name)
     face = varying(font.data, face) if kind == "variable" else face
     face = Face(how.family or face.family, how.style or face.style, how.weight or str(face.weight), face.stretch)
-    return Base(one.name, how, one.whole, path, font, kind, face, state)
+    return Base(one.key, one.name, how, one.whole, path, font, kind, face, state)
 
 
 def _mode(base: Base, page: SitePage, modes: Modes) -> str:
@@ -288,10 +308,10 @@ def sections(run: Run, found: Sequence[Tuple[Base, Sequence[SitePage]]], modes: 
         run.progress.say("drawing pages")
         drawn.check([drawn.Drawn(page.path, one.base.whole.data, cut.woff2)
                      for one, cut in zip(every, cuts) if cut.woff2 is not None for page in one.changed()])
-    states: Dict[str, FontState] = {base.name: base.state._replace(sections={}) for base, _ in found}
+    states: Dict[str, FontState] = {base.key: base.state._replace(sections={}) for base, _ in found}
     for one, cut in zip(every, cuts):
-        state = states[one.base.name]
+        state = states[one.base.key]
         for manner, parts in cut.known.items():
             state.shaped.setdefault(manner, {}).update(parts)
         state.sections[one.name] = _written(run, one, cut)
-    return [states[base.name] for base, _ in found]
+    return [states[base.key] for base, _ in found]

@@ -2,12 +2,12 @@
 from __future__ import annotations
 
 import os
-from typing import List, NamedTuple, Sequence, Set
+from typing import Dict, List, NamedTuple, Sequence, Set
 
 from .common import UsageError
 from .inputs import read_pages
 from .shown import Shown, letters_of, shown_by
-from .site_settings import FontSettings, Settings, named, page_names, sections_of
+from .site_settings import SITE, FontSettings, Settings, named, page_names, sections_of
 from .site_state import digest_of
 from .site_written import Written, written_to
 from .styles import parts_of
@@ -80,3 +80,22 @@ def modes_of(settings: Settings, pages: Sequence[SitePage]) -> Modes:
     for name in sorted(modes.exact & modes.closed):
         raise UsageError(f"{settings.path}: {name} is named as exact and as closed")
     return modes
+
+
+def languages_of(settings: Settings, pages: Sequence[SitePage]) -> Dict[str, str]:
+    """The languages that each page shares its prepared fonts with, as `de-tr`: its own, and where pages of a section
+    are in several, which share a file, all of these. Nothing, where fonts are prepared for the whole site."""
+    if settings.prepare_by == SITE:
+        return {page.name: "" for page in pages}
+    found: List[Set[str]] = []
+    for section in dict.fromkeys(page.section for page in pages):
+        shared = {_language(page) for page in pages if page.section == section}
+        others = [one for one in found if one & shared]
+        found = [one for one in found if not one & shared] + [shared.union(*others)]
+    return {page.name: "-".join(sorted(one)) for page in pages for one in found if _language(page) in one}
+
+
+def _language(page: SitePage) -> str:
+    """The language of a page, which is the first that it names, without its script and its country."""
+    named = [language for language in page.shown.languages if language]
+    return named[0].partition("-")[0].lower() if named else "und"

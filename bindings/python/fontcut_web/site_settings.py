@@ -17,6 +17,8 @@ FILE = "fontcut.toml"
 # What stands beside the output: prepared fonts, cuts, and what they were made of.
 WORK = ".fontcut"
 _STYLES = "", "normal", "italic", "oblique"
+# Whether fonts are prepared once for the pages in each language, or for the whole site.
+LANGUAGE, SITE = "language", "site"
 _NAMES, _KERNS = ("keep", "least"), ("auto", "keep", "drop")
 _KINDS = "", "lean", *SHAPED
 # A key of TOML that needs no quotation marks, which can be the name of a file too.
@@ -55,7 +57,8 @@ class PageSettings(NamedTuple):
 
 class Settings(NamedTuple):
     """What a site is: the folder of its pages, that of its fonts and how pages address it, patterns of its pages, of
-    those whose cuts are exact or closed, and of the pages of each section; its fonts, and what is written to pages."""
+    those whose cuts are exact or closed, and of the pages of each section; its fonts, and what is written to pages; and
+    what each font is prepared for."""
 
     folder: str
     fonts: List[FontSettings]
@@ -67,6 +70,7 @@ class Settings(NamedTuple):
     out: str = "fonts"
     address: str = ""
     display: str = "swap"
+    prepare_by: str = LANGUAGE
 
     @property
     def path(self) -> str:
@@ -182,6 +186,7 @@ def settings_of(folder: str) -> Settings:
                      sections=_sections(path, sections),
                      written=[_written(path, number, page) for number, page in enumerate(pages, 1)], **values)
     _check_choice(path, "display", found.display, DISPLAYS)
+    _check_choice(path, "prepare_by", found.prepare_by, (LANGUAGE, SITE))
     inside = os.path.relpath(os.path.realpath(found.output), os.path.realpath(folder))
     if inside == os.curdir or inside.split(os.sep)[0] in (os.pardir, WORK):
         raise UsageError(f"{path}: out has to be a folder below that of the site")
