@@ -2,12 +2,15 @@
 """Serves the pages of this folder on loopback, with the package for browsers and cuts of fonts by examples/server.
 
 In a checkout the package and the library for C are built if they are not built yet. `--package` names the folder of
-an existing package, and the variable FONTCUT_LIBRARY an existing library. Cuts are compressed by Brotli, and later ones
-with an earlier cut as a dictionary, by what this Python has of the two; what it lacks is said at the start.
+an existing package, and the variable FONTCUT_LIBRARY an existing library. Cuts are compressed by Brotli, or by gzip
+where this Python lacks it, and later ones with an earlier cut as a dictionary, if it has Zstandard; what it lacks is
+said at the start.
 """
 from __future__ import annotations
 
 import argparse
+import functools
+import gzip
 import importlib.util
 import mimetypes
 import os
@@ -18,7 +21,7 @@ import sys
 import tempfile
 import wsgiref.simple_server
 import wsgiref.util
-from typing import TYPE_CHECKING, Any, Iterable, List, Tuple
+from typing import TYPE_CHECKING, Any, Callable, Iterable, List, Tuple
 
 if TYPE_CHECKING:
     from wsgiref.types import StartResponse, WSGIApplication, WSGIEnvironment
@@ -30,7 +33,7 @@ FONTS = {"/usr/share/fonts/truetype/lxgw-wenkai/LXGWWenKai-Regular.ttf": "fonts-
 
 
 # The modules that compress cuts, Debian's packages that have them, and what happens without.
-COMPRESSING = [("brotli", "python3-brotli", "the first cut of a page is sent uncompressed"),
+COMPRESSING = [("brotli", "python3-brotli", "the first cut of a page is compressed by gzip, which takes more bytes"),
                ("zstandard", "python3-zstandard", "no cut is compressed with an earlier one as a dictionary")]
 
 
@@ -74,9 +77,22 @@ def say_what_lacks() -> None:
                   file=sys.stderr)
 
 
+def coding(environ: WSGIEnvironment) -> Tuple[str, Callable[[bytes], bytes]]:
+    """How an answer is compressed: by Brotli, or by gzip, which every Python has; not at all where the browser takes
+    neither."""
+    accepted = environ.get("HTTP_ACCEPT_ENCODING", "")
+    if "br" in accepted and importlib.util.find_spec("brotli"):
+        import brotli
+        return "br", functools.partial(brotli.compress, quality=5)
+    if "gzip" in accepted:
+        return "gzip", functools.partial(gzip.compress, mtime=0)
+    return "", bytes
+
+
 def compressed(environ: WSGIEnvironment, start_response: StartResponse, cuts: WSGIApplication) -> Iterable[bytes]:
-    """The answer of an application, compressed by Brotli where the browser takes that and it is not compressed yet."""
-    if not importlib.util.find_spec("brotli") or "br" not in environ.get("HTTP_ACCEPT_ENCODING", ""):
+    """The answer of an application, compressed where it is not yet."""
+    name, compress = coding(environ)
+    if not name:
         return cuts(environ, start_response)
     said: List[Tuple[str, List[Tuple[str, str]]]] = []
 
@@ -86,12 +102,11 @@ def compressed(environ: WSGIEnvironment, start_response: StartResponse, cuts: WS
     body = b"".join(cuts(environ, keep))
     status, headers = said[0]
     if status.startswith("200") and body and "Content-Encoding" not in dict(headers):
-        import brotli
-        body = brotli.compress(body, quality=5)
+        body = compress(body)
         tag = dict(headers)["ETag"]
-        headers = [(name, value) for name, value in headers if name not in ("Content-Length", "ETag")]
+        headers = [(key, value) for key, value in headers if key not in ("Content-Length", "ETag")]
         # A strong tag would say that these are the bytes of the cut.
-        headers += [("Content-Encoding", "br"), ("Content-Length", str(len(body))), ("ETag", f"W/{tag}")]
+        headers += [("Content-Encoding", name), ("Content-Length", str(len(body))), ("ETag", f"W/{tag}")]
     start_response(status, headers)
     return [body]
 
