@@ -24,8 +24,7 @@ static NOINLINE void font_layout_walk_Steps_next_part(u8 *v0, u8 *v1);
 static void font_subset_font_to_cut_closing_refusal(u8 *v0, u8 *v1, u8 *v2);
 static void font_subset_further_tables_FixedTable_of_1948(u8 *v0, u8 *v1, u64 v2);
 static void font_subset_further_tables_FurtherTables_variations(u8 *v0, u8 *v1);
-static void font_subset_kind_source_metrics_table_21da(u8 *v0, u8 *v1, u64 v2, u64 v3);
-static void font_subset_lean_tables_copy_kept(u8 *v0, u8 *v1, u64 v2, u8 *v3, u64 v4);
+static void font_subset_kind_source_CutOfKind_of_1490(u8 *v0, u8 *v1);
 static void font_subset_presence_mark_between(u8 *v0, u8 *v1, u16 v2, u16 v3);
 static void font_subset_selection_mark_roots(u8 *v0, u8 *v1, u8 *v2, u8 *v3);
 static u8_u64 font_write_size_table_length_895b(u8 *v0, u8 *v1, u64 v2);
@@ -1489,7 +1488,7 @@ void font_subset_cut_font_cut_of_kind_into(u8 *v0, u8 *v1, u8 *v2, u8 *v3, u8 *v
     at(u64, v37 + 16) = v107;
     font_subset_selection_Selection_of_seeds_4cdf(v35, v1, v36, v37);
     if (!(at(u8, v35) == 0)) goto v116;
-    font_subset_kind_source_CutOfKind_of_1490(v34, v35 + 8);
+    font_subset_kind_source_CutOfKind_of_87a4(v34, v35 + 8);
     u8 v119 = at(u8, v34);
     memcpy(v50 + 7, v34 + 8, 320u);
     if (!(v119 == 0)) goto v117;
@@ -2304,7 +2303,7 @@ v60:;
 
 u8_u8 font_subset_cut_forms_belongs(u8 *v0, u8 *v1) {
     _Alignas(4) u8 v3[1], v15[16];
-    _Alignas(8) u8 v4[320], v5[328], v6[24], v7[320], v8[24], v9[56], v10[56], v11[16], v12[48], v13[32], v14[56], v16[32];
+    _Alignas(8) u8 v4[320], v5[328], v6[24], v7[320], v8[24], v9[88], v10[88], v11[16], v12[48], v13[32], v14[56], v16[32];
     u8 v17[39], *v214, *v229, *v215, *v246, *v248, v266, v279, v280;
     u64 v78, v82, v100, v105, v115, v116, v150, v153, v159, v160, v211, v230, v212, v245, v249;
     u32 v85, v87, v98, v99, v103, v104;
@@ -2427,10 +2426,10 @@ v40:;
 v192:;
     memcpy(v17 + 7, v13, 32u);
     memcpy(v16, v17 + 7, 32u);
-    memset(v9, 0, 56u);
+    memset(v9, 0, 88u);
     if (at(u8, v0) == 0) { v248 = v3; v249 = 0; v250 = 1; goto v198; }
     font_subset_presence_Presence_of(v9, v0);
-    memcpy(v10, v9, 56u);
+    memcpy(v10, v9, 88u);
     at(ptr, v8) = v3;
     memset(v8 + 8, 0, 16u);
     u16 v205 = at(u16, at(ptr, at(ptr, v10) + 8) + 64);
@@ -3885,45 +3884,45 @@ void font_subset_kind_source_CutOfKindSource_copied(u8 *v0, u8 *v1, u64 v2) {
     u8 v63, *v67, v68, *v72;
     u64 v73, v74;
     switch (v2) {
-    case 8: goto v7;
-    case 12u: goto v8;
-    case 15u: goto v9;
-    case 28u: goto v10;
+    case 28u: goto v7;
+    case 8: goto v8;
+    case 12u: goto v9;
+    case 15u: goto v10;
     default: goto v6;
     }
 v6:;
     memset(v5, 0, 24u);
     if (v2 < 16u) goto v47;
-    goto v42;
+    goto v16;
 v7:;
     if (!(at(u8, v1 + 192) == 1)) goto v15;
-    v72 = at(ptr, v1 + 200); v73 = at(u64, v1 + 208); v74 = 1; goto v20;
-v8:;
-    if (!(at(u8, v1 + 224) == 1)) goto v15;
-    v72 = at(ptr, v1 + 232); v73 = at(u64, v1 + 240); v74 = 1; goto v20;
-v9:;
-    if (!(at(u8, v1 + 256) == 1)) goto v15;
-    v72 = at(ptr, v1 + 264); v73 = at(u64, v1 + 272); v74 = 1; goto v20;
+    v72 = at(ptr, v1 + 200); v73 = at(u64, v1 + 208); v74 = 1; goto v21;
 v15:;
-    memset(v5, 0, 24u);
-v47:;
-    font_subset_accepted_copied(v5, at(ptr, v1 + 8), v2);
-    v67 = at(ptr, v5 + 8); v68 = at(u8, v5); goto v54;
-v10:;
-    if (!(at(u8, v1 + 288) == 1)) goto v41;
-    v72 = at(ptr, v1 + 296); v73 = at(u64, v1 + 304); v74 = 1; goto v20;
-v41:;
-v42:;
+v16:;
     memset(v4, 0, 24u);
     if (!(at(u8, v1 + 112) == 1)) { v63 = 0; goto v59; }
     font_subset_font_of_kind_FontOfKind_further_6e0a(v4, at(ptr, v1 + 120), v2);
     v63 = at(u8, v4);
 v59:;
     memcpy(v5 + 8, v4 + 8, 16u);
-    v67 = at(ptr, v5 + 8); v68 = v63;
+    v67 = at(ptr, v5 + 8); v68 = v63; goto v54;
+v8:;
+    if (!(at(u8, v1 + 224) == 1)) goto v26;
+    v72 = at(ptr, v1 + 232); v73 = at(u64, v1 + 240); v74 = 1; goto v21;
+v9:;
+    if (!(at(u8, v1 + 256) == 1)) goto v26;
+    v72 = at(ptr, v1 + 264); v73 = at(u64, v1 + 272); v74 = 1; goto v21;
+v10:;
+    if (!(at(u8, v1 + 288) == 1)) goto v26;
+    v72 = at(ptr, v1 + 296); v73 = at(u64, v1 + 304); v74 = 1; goto v21;
+v26:;
+    memset(v5, 0, 24u);
+v47:;
+    font_subset_accepted_copied(v5, at(ptr, v1 + 8), v2);
+    v67 = at(ptr, v5 + 8); v68 = at(u8, v5);
 v54:;
     v72 = v67; v73 = at(u64, v5 + 16); v74 = (u64)v68;
-v20:;
+v21:;
     at(u64_1, v0) = v74;
     at(ptr_1, v0 + 8) = v72;
     at(u64_1, v0 + 16) = v73;
@@ -4084,7 +4083,7 @@ void font_subset_kind_source_CutOfKind_new_991b(u8 *v0, u8 *v1, u8 v2, u8 *v3, u
     memcpy(v19 + 7, v9 + 8, 192u);
     if (!(v58 == 0)) goto v52;
     memcpy(v20, v19 + 7, 192u);
-    font_subset_kind_source_CutOfKind_of_1490(v15, v20);
+    font_subset_kind_source_CutOfKind_of_87a4(v15, v20);
     at(u8, v0) = at(u8, v15);
     memcpy(v0 + 8, v15 + 8, 320u);
     return;
@@ -4131,851 +4130,733 @@ v22:;
     return;
 }
 
-void font_subset_kind_source_CutOfKind_of_1490(u8 *v0, u8 *v1) {
-    _Alignas(8) u8 v3[1], v4[24], v7[192], v8[40], v9[40], v10[24], v14[24];
-    u8 v5[31], v6[31], v13[191], *v149, *v231, *v436, *v437, *v444, *v447, *v448, *v477, *v492, *v506, *v567, *v734, v816, v817, *v819, *v823, *v826, v830, v831, *v833, *v837, *v840;
-    u64 v46, v101, v94, v111, v148, v150, v225, v245, v252, v265, v268, v275, v284, v315, v316, v334, v341, v354, v357, v285, v384, v396, v397, v399, v401, v408, v449, v450, v461, v478, v479, v493, v494, v507, v508, v520, v521, v527, v530, v534, v531, v545, v556, v557, v571, v572, v585, v586, v610, v621, v624, v632, v634, v652, v655, v657, v656, v674, v697, v707, v710, v718, v720, v773, v818, v820, v821, v822, v824, v825, v827, v828, v829, v832, v834, v835, v836, v838, v839, v841, v842, v843;
-    flag v147;
-    u8x16 v254, v343;
-    u64x2 v386;
-    u32 v434, v435, v445, v446, v532, v558;
-    u8 v11 = at(u8, v1);
-    memset(v13, 0, 191u);
+static void font_subset_kind_source_CutOfKind_of_1490(u8 *v0, u8 *v1) {
+    _Alignas(8) u8 v3[1], v4[24], v8[24], v10[40], v11[40], v12[24], v13[192], v14[24], v18[24];
+    u8 v5[31], v6[31], v7[31], v9[31], v17[191], *v38, *v138, *v180, *v384, *v385, *v392, *v395, *v396, *v425, *v440, *v454, *v515, v738, v739, *v742, *v746, *v749, v752, v753, *v756, *v760, *v763;
+    flag v37, v136, v682;
+    u64 v65, v120, v113, v130, v137, v139, v174, v194, v201, v214, v217, v224, v233, v264, v265, v283, v290, v303, v306, v234, v332, v344, v345, v347, v349, v356, v397, v398, v409, v426, v427, v441, v442, v455, v456, v468, v469, v475, v478, v482, v479, v493, v504, v505, v519, v520, v533, v534, v558, v569, v572, v580, v582, v597, v600, v602, v601, v619, v642, v652, v655, v663, v665, v706, v740, v741, v743, v744, v745, v747, v748, v750, v751, v754, v755, v757, v758, v759, v761, v762, v764, v765;
+    u8x16 v203, v292;
+    u64x2 v334;
+    u32 v382, v383, v393, v394, v480, v506;
+    u8 v15 = at(u8, v1);
+    memset(v17, 0, 191u);
+    memset(v18, 0, 24u);
+    if (!(v15 == 0)) goto v21;
+    memcpy(v17, v1 + 1, 191u);
+    v752 = 0; v753 = 0; v754 = 0; v755 = 0; v756 = (u8 *)0; v757 = 0; v758 = 0; v759 = 0; v760 = (u8 *)0; v761 = 0; v762 = 0; v763 = (u8 *)0; v764 = 0; v765 = 0; goto v22;
+v21:;
     memset(v14, 0, 24u);
-    if (!(v11 == 0)) goto v17;
-    memcpy(v13, v1 + 1, 191u);
-    v830 = 0; v831 = 0; v832 = 0; v833 = (u8 *)0; v834 = 0; v835 = 0; v836 = 0; v837 = (u8 *)0; v838 = 0; v839 = 0; v840 = (u8 *)0; v841 = 0; v842 = 0; v843 = 0; goto v18;
-v17:;
-    memset(v8, 0, 40u);
-    memset(v9, 0, 40u);
-    memset(v10, 0, 24u);
-    at(u8, v7) = v11;
-    memcpy(v7 + 1, v1 + 1, 191u);
-    font_subset_kind_source_metrics_table_21da(v8, v7, 7, 8);
-    u8 v22 = at(u8, v8 + 8);
-    if (!(at(u8, v8) == 0)) goto v25;
-    u8 *v27 = at(ptr, v8 + 16);
-    u64 v29 = at(u64, v8 + 24);
-    u64 v31 = at(u64, v8 + 32);
-    u64 v32 = (u64)v22;
-    u8 *v35 = at(ptr_1, at(ptr, v7 + 8));
-    u64 v36 = (u64)v35;
-    u16 v38 = at(u16_1, v35 + 4);
-    u64 v40 = (u64)bswap16(v38);
-    if (v38 == 0) { v147 = 1; v148 = 0; v149 = (u8 *)0; v150 = 0; goto v42; }
-    v46 = 0;
-v43:;
-    u64 v48 = v46 << 4;
-    if (!((((at(u8, v35 + (i64)v48 + 12) == 112u) & (at(u8, v35 + (i64)v48 + 13) == 111u)) & (at(u8, v35 + (i64)v48 + 14) == 115u)) & (at(u8, v35 + (i64)v48 + 15) == 116u))) goto v44;
-    u64 v72 = (u64)bswap32(at(u32_1, v35 + (i64)v48 + 20));
-    if (bswap32(at(u32_1, v35 + (i64)v48 + 24)) < 32u) { v147 = 1; v148 = 0; v149 = (u8 *)0; v150 = 0; goto v42; }
-    u64_u64 v77 = sys_rattle_alloc(32u, 1);
-    if (!(v77._0 & 1)) goto v81;
-    u64 v82 = v77._1;
-    u8 *v83 = (u8 *)v82;
-    if (!((v82 - ((u64)(v35 + (i64)v72))) < 32u)) goto v88;
-    if ((v82 - (v36 + v72)) < 32u) v101 = 0; else { v94 = 0; goto v93; }
-v92:;
-    at(u8, v83 + v101) = at(u8, (v35 + (i64)v72) + v101);
-    u64 v102 = v101 + 1;
-    if (v102 == 32u) goto v100;
-    v101 = v102; goto v92;
-v93:;
-    at(u8x16_1, v83 + v94) = at(u8x16_1, (v35 + (i64)v72) + v94);
-    u64 v95 = v94 + 16u;
-    if (v95 == 32u) goto v100;
-    v94 = v95; goto v93;
-v88:;
-    memmove(v83, v35 + (i64)v72, 32u);
+    at(u8, v13) = v15;
+    memcpy(v13 + 1, v1 + 1, 191u);
+    if (!(at(u8, v13 + 112) == 1)) { v37 = 0; v38 = (u8 *)0; goto v28; }
+    u8 *v30 = at(ptr, v13 + 120);
+    u8 v32 = at(u8, v30 + 312);
+    v37 = v32 & 1; v38 = (v32 == 1) ? (v30 + 320) : ((u8 *)0);
+v28:;
+    memset(v10, 0, 40u);
+    memset(v11, 0, 40u);
+    memset(v12, 0, 24u);
+    divided_tables_metrics_kept_metrics_6f24(v10, v13, 7, 8);
+    u8 v41 = at(u8, v10 + 8);
+    if (!(at(u8, v10) == 0)) goto v44;
+    u8 *v46 = at(ptr, v10 + 16);
+    u64 v48 = at(u64, v10 + 24);
+    u64 v50 = at(u64, v10 + 32);
+    u64 v51 = (u64)v41;
+    u8 *v54 = at(ptr_1, at(ptr, v13 + 8));
+    u64 v55 = (u64)v54;
+    u16 v57 = at(u16_1, v54 + 4);
+    u64 v59 = (u64)bswap16(v57);
+    if (v57 == 0) { v136 = 1; v137 = 0; v138 = (u8 *)0; v139 = 0; goto v61; }
+    v65 = 0;
+v62:;
+    u64 v67 = v65 << 4;
+    if (!((((at(u8, v54 + (i64)v67 + 12) == 112u) & (at(u8, v54 + (i64)v67 + 13) == 111u)) & (at(u8, v54 + (i64)v67 + 14) == 115u)) & (at(u8, v54 + (i64)v67 + 15) == 116u))) goto v63;
+    u64 v91 = (u64)bswap32(at(u32_1, v54 + (i64)v67 + 20));
+    if (bswap32(at(u32_1, v54 + (i64)v67 + 24)) < 32u) { v136 = 1; v137 = 0; v138 = (u8 *)0; v139 = 0; goto v61; }
+    u64_u64 v96 = sys_rattle_alloc(32u, 1);
+    if (!(v96._0 & 1)) goto v100;
+    u64 v101 = v96._1;
+    u8 *v102 = (u8 *)v101;
+    if (!((v101 - ((u64)(v54 + (i64)v91))) < 32u)) goto v107;
+    if ((v101 - (v55 + v91)) < 32u) v120 = 0; else { v113 = 0; goto v112; }
+v111:;
+    at(u8, v102 + v120) = at(u8, (v54 + (i64)v91) + v120);
+    u64 v121 = v120 + 1;
+    if (v121 == 32u) goto v119;
+    v120 = v121; goto v111;
+v112:;
+    at(u8x16_1, v102 + v113) = at(u8x16_1, (v54 + (i64)v91) + v113);
+    u64 v114 = v113 + 16u;
+    if (v114 == 32u) goto v119;
+    v113 = v114; goto v112;
+v107:;
+    memmove(v102, v54 + (i64)v91, 32u);
+v119:;
+    if ((v101 - ((u64)(u8 *)table_62a9c92b)) < 4) v130 = 0; else goto v129;
+v128:;
+    at(u8, v102 + v130) = at(u8, (u8 *)table_62a9c92b + v130);
+    u64 v131 = v130 + 1;
+    if (v131 == 4) { v136 = 0; v137 = 1; v138 = v102; v139 = 32u; goto v61; }
+    v130 = v131; goto v128;
+v129:;
+    at(u32_1, v102) = 768u;
+    v136 = 0; v137 = 1; v138 = v102; v139 = 32u; goto v61;
 v100:;
-    if ((v82 - ((u64)(u8 *)table_62a9c92b)) < 4) v111 = 0; else goto v110;
-v109:;
-    at(u8, v83 + v111) = at(u8, (u8 *)table_62a9c92b + v111);
-    u64 v112 = v111 + 1;
-    if (v112 == 4) { v147 = 0; v148 = 1; v149 = v83; v150 = 32u; goto v42; }
-    v111 = v112; goto v109;
-v110:;
-    at(u32_1, v83) = 768u;
-    v147 = 0; v148 = 1; v149 = v83; v150 = 32u; goto v42;
-v81:;
-    if ((v22 != 1) ? 1 : (v31 == 0)) goto v160;
-    sys_rattle_dealloc(v27);
-v160:;
-    u8 v163 = at(u8, v7 + 24);
-    u8 *v165 = at(ptr, v7 + 32);
-    u64 v167 = at(u64, v7 + 48);
-    u8 v169 = at(u8, v7 + 64);
-    u8 *v171 = at(ptr, v7 + 72);
-    u64 v173 = at(u64, v7 + 88);
-    if (at(u64, v7 + 184) == 0) goto v177;
-    sys_rattle_dealloc(at(ptr, v7 + 168));
-v177:;
-    if ((v163 != 1) ? 1 : (v167 == 0)) goto v184;
-    sys_rattle_dealloc(v165);
-v184:;
-    if ((v169 != 1) ? 1 : (v173 == 0)) goto v189;
-    sys_rattle_dealloc(v171);
-v189:;
-    memset(v13, 0, 191u);
-    memset(v14, 0, 24u);
-    v816 = 0; v817 = 1; v818 = 0; v819 = (u8 *)0; v820 = 0; v821 = 0; v822 = 0; v823 = (u8 *)0; v824 = 0; v825 = 0; v826 = (u8 *)0; v827 = 0; v828 = 0; v829 = 0; goto v146;
-v44:;
-    u64 v45 = v46 + 1;
-    if (v45 == v40) { v147 = 1; v148 = 0; v149 = (u8 *)0; v150 = 0; } else { v46 = v45; goto v43; }
-v42:;
-    font_subset_kind_source_metrics_table_21da(v9, v7, 14u, 15u);
-    u8 v153 = at(u8, v9 + 8);
-    if (!(at(u8, v9) == 0)) goto v156;
-    u8 *v192 = at(ptr, v9 + 16);
-    u64 v194 = at(u64, v9 + 24);
-    u64 v196 = at(u64, v9 + 32);
-    memset(v6, 0, 31u);
-    if (!(at(u8, v7 + 112) == 1)) goto v201;
-    u8 *v203 = at(ptr, v7 + 120);
-    if (!(at(u8, v203 + 312) == 1)) goto v201;
-    u16 v210 = at(u16, v203 + 386);
-    u64 v211 = (u64)v210;
-    flag v212 = v210 == 0;
-    if (v212) { v231 = v3; goto v213; }
-    u64_u64 v217 = sys_rattle_alloc(v211 << 4, 8);
-    if (!(v217._0 & 1)) goto v221;
-    u8 *v223 = (u8 *)v217._1;
-    v225 = 0;
-v224:;
-    u64 v227 = v225 << 4;
-    at(ptr_1, v223 + v227) = (u8 *)table_d0e67785;
-    at(u64_1, v223 + v227 + 8) = 0;
-    u64 v226 = v225 + 1;
-    if (v226 == v211) v231 = v223; else { v225 = v226; goto v224; }
-v213:;
-    u8 *v233 = at(ptr, v7 + 168);
-    u64 v235 = at(u64, v7 + 176);
-    if (v235 == 0) { v265 = 0; goto v237; }
-    if (at(u8, v233) & 1) { v275 = 0; goto v241; }
-    if (v235 < 64u) { v265 = 0; goto v237; }
-    v245 = 0;
-v244:;
-    if (v245 == 0xffffffffffffffc0u) goto v247;
-    v252 = 0; v254 = (u8x16){0};
-v251:;
-    u8x16 v255 = v254 | ((-(at(u8x16_1, (v233 + (i64)v245) + (i64)v252) & 1)));
-    u64 v253 = v252 + 16u;
-    if (!(v253 == 64u)) { v252 = v253; v254 = v255; goto v251; }
-    if (!(bits_u8x16(v255) == 0)) { v265 = v245; goto v237; }
-v247:;
-    u64 v246 = v245 + 64u;
-    if ((v235 - v246) < 64u) v265 = v246; else { v245 = v246; goto v244; }
-v237:;
-    if (v265 < v235) v268 = v265; else { v275 = v235; goto v241; }
-v267:;
-    if (at(u8, v233 + v268) & 1) { v275 = v268; goto v241; }
-    u64 v269 = v268 + 1;
-    if (v269 == v235) v275 = v235; else { v268 = v269; goto v267; }
-v241:;
-    if (!(v210 > ((u16)v275))) goto v279;
-    v284 = v275;
-v283:;
-    u8 *v288 = at(ptr_1, v203 + 336);
-    u8 *v289 = at(ptr_1, v203 + 352);
-    u64 v290 = v284 & 65535u;
-    if (!(at(u8, v203 + 384) == 0)) goto v293;
-    u64 v294 = v290 << 1;
-    v315 = ((u64)bswap16(at(u16_1, v288 + (i64)v294))) << 1; v316 = ((u64)bswap16(at(u16_1, v288 + (i64)v294 + 2))) << 1; goto v305;
-v293:;
-    u64 v306 = v290 << 2;
-    v315 = (u64)bswap32(at(u32_1, v288 + (i64)v306)); v316 = (u64)bswap32(at(u32_1, v288 + (i64)v306 + 4));
+    if ((v41 != 1) ? 1 : (v50 == 0)) goto v44;
+    sys_rattle_dealloc(v46);
+    goto v44;
+v63:;
+    u64 v64 = v65 + 1;
+    if (v64 == v59) { v136 = 1; v137 = 0; v138 = (u8 *)0; v139 = 0; } else { v65 = v64; goto v62; }
+v61:;
+    divided_tables_metrics_kept_metrics_6f24(v11, v13, 14u, 15u);
+    u8 v142 = at(u8, v11 + 8);
+    if (!(at(u8, v11) == 0)) goto v145;
+    u8 *v151 = at(ptr, v11 + 16);
+    u64 v153 = at(u64, v11 + 24);
+    u64 v155 = at(u64, v11 + 32);
+    memset(v8, 0, 24u);
+    memset(v9, 0, 31u);
+    if (!v37) { v706 = 0; goto v157; }
+    memset(v7, 0, 31u);
+    u16 v159 = at(u16, v38 + 66);
+    u64 v160 = (u64)v159;
+    flag v161 = v159 == 0;
+    if (v161) { v180 = v3; goto v162; }
+    u64_u64 v166 = sys_rattle_alloc(v160 << 4, 8);
+    if (!(v166._0 & 1)) goto v170;
+    u8 *v172 = (u8 *)v166._1;
+    v174 = 0;
+v173:;
+    u64 v176 = v174 << 4;
+    at(ptr_1, v172 + v176) = (u8 *)table_d0e67785;
+    at(u64_1, v172 + v176 + 8) = 0;
+    u64 v175 = v174 + 1;
+    if (v175 == v160) v180 = v172; else { v174 = v175; goto v173; }
+v162:;
+    u8 *v182 = at(ptr, v13 + 168);
+    u64 v184 = at(u64, v13 + 176);
+    if (v184 == 0) { v214 = 0; goto v186; }
+    if (at(u8, v182) & 1) { v224 = 0; goto v190; }
+    if (v184 < 64u) { v214 = 0; goto v186; }
+    v194 = 0;
+v193:;
+    if (v194 == 0xffffffffffffffc0u) goto v196;
+    v201 = 0; v203 = (u8x16){0};
+v200:;
+    u8x16 v204 = v203 | ((-(at(u8x16_1, (v182 + (i64)v194) + (i64)v201) & 1)));
+    u64 v202 = v201 + 16u;
+    if (!(v202 == 64u)) { v201 = v202; v203 = v204; goto v200; }
+    if (!(bits_u8x16(v204) == 0)) { v214 = v194; goto v186; }
+v196:;
+    u64 v195 = v194 + 64u;
+    if ((v184 - v195) < 64u) v214 = v195; else { v194 = v195; goto v193; }
+v186:;
+    if (v214 < v184) v217 = v214; else { v224 = v184; goto v190; }
+v216:;
+    if (at(u8, v182 + v217) & 1) { v224 = v217; goto v190; }
+    u64 v218 = v217 + 1;
+    if (v218 == v184) v224 = v184; else { v217 = v218; goto v216; }
+v190:;
+    if (!(v159 > ((u16)v224))) goto v228;
+    v233 = v224;
+v232:;
+    u8 *v237 = at(ptr_1, v38 + 16);
+    u8 *v238 = at(ptr_1, v38 + 32);
+    u64 v239 = v233 & 65535u;
+    if (!(at(u8, v38 + 64) == 0)) goto v242;
+    u64 v243 = v239 << 1;
+    v264 = ((u64)bswap16(at(u16_1, v237 + (i64)v243))) << 1; v265 = ((u64)bswap16(at(u16_1, v237 + (i64)v243 + 2))) << 1; goto v254;
+v242:;
+    u64 v255 = v239 << 2;
+    v264 = (u64)bswap32(at(u32_1, v237 + (i64)v255)); v265 = (u64)bswap32(at(u32_1, v237 + (i64)v255 + 4));
+v254:;
+    u64 v268 = v239 << 4;
+    at(ptr_1, v180 + (i64)v268) = v238 + (i64)v264;
+    at(u64_1, v180 + (i64)v268 + 8) = v265 - v264;
+    u64 v272 = (v233 + 1) & 65535u;
+    if (!(v184 > v272)) goto v275;
+    if (at(u8, v182 + v272) & 1) { v234 = v272; goto v235; }
+v275:;
+    if ((v184 - v272) < 64u) { v303 = v272; goto v281; }
+    v283 = v272;
+v282:;
+    if (!(v283 < 0xffffffffffffffc0u)) goto v285;
+    v290 = 0; v292 = (u8x16){0};
+v289:;
+    u8x16 v293 = v292 | ((-(at(u8x16_1, (v182 + (i64)v283) + (i64)v290) & 1)));
+    u64 v291 = v290 + 16u;
+    if (!(v291 == 64u)) { v290 = v291; v292 = v293; goto v289; }
+    if (!(bits_u8x16(v293) == 0)) { v303 = v283; goto v281; }
+v285:;
+    u64 v284 = v283 + 64u;
+    if ((v184 - v284) < 64u) v303 = v284; else { v283 = v284; goto v282; }
+v281:;
+    if (v303 < v184) v306 = v303; else { v234 = v184; goto v235; }
 v305:;
-    u64 v319 = v290 << 4;
-    at(ptr_1, v231 + (i64)v319) = v289 + (i64)v315;
-    at(u64_1, v231 + (i64)v319 + 8) = v316 - v315;
-    u64 v323 = (v284 + 1) & 65535u;
-    if (!(v235 > v323)) goto v326;
-    if (at(u8, v233 + v323) & 1) { v285 = v323; goto v286; }
-v326:;
-    if ((v235 - v323) < 64u) { v354 = v323; goto v332; }
-    v334 = v323;
-v333:;
-    if (!(v334 < 0xffffffffffffffc0u)) goto v336;
-    v341 = 0; v343 = (u8x16){0};
-v340:;
-    u8x16 v344 = v343 | ((-(at(u8x16_1, (v233 + (i64)v334) + (i64)v341) & 1)));
-    u64 v342 = v341 + 16u;
-    if (!(v342 == 64u)) { v341 = v342; v343 = v344; goto v340; }
-    if (!(bits_u8x16(v344) == 0)) { v354 = v334; goto v332; }
-v336:;
-    u64 v335 = v334 + 64u;
-    if ((v235 - v335) < 64u) v354 = v335; else { v334 = v335; goto v333; }
-v332:;
-    if (v354 < v235) v357 = v354; else { v285 = v235; goto v286; }
-v356:;
-    if (at(u8, v233 + v357) & 1) { v285 = v357; goto v286; }
-    u64 v358 = v357 + 1;
-    if (v358 == v235) v285 = v235; else { v357 = v358; goto v356; }
-v286:;
-    if (v210 > ((u16)v285)) { v284 = v285; goto v283; }
-v279:;
-    u8 *v367 = at(ptr_1, v203 + 320);
-    u8 *v369 = at(ptr_1, v203 + 368);
-    u64 v370 = (u64)v369;
-    u64 v372 = at(u64_1, v203 + 376);
+    if (at(u8, v182 + v306) & 1) { v234 = v306; goto v235; }
+    u64 v307 = v306 + 1;
+    if (v307 == v184) v234 = v184; else { v306 = v307; goto v305; }
+v235:;
+    if (v159 > ((u16)v234)) { v233 = v234; goto v232; }
+v228:;
+    memset(v6, 0, 31u);
+    u8 *v315 = at(ptr_1, v38);
+    u8 *v317 = at(ptr_1, v38 + 48);
+    u64 v318 = (u64)v317;
+    u64 v320 = at(u64_1, v38 + 56);
     memset(v5, 0, 31u);
     memset(v4, 0, 24u);
-    u64 v374 = (v211 << 2) + 24u;
-    u64 v375 = v372 + v374;
-    if (v212) { v408 = 0; goto v376; }
-    if (v210 < 3) { v396 = 0; v397 = 0; goto v379; }
-    u64 v382 = (v211 | 0xfffffffffffffffeu) + v211;
-    v384 = 0; v386 = (u64x2){0};
-v383:;
-    u64x4 v391 = at(u64x4_8, v231 + (i64)(v384 << 4) + 8);
-    u64x2 v387 = (u64x2){v391[0], v391[2]} + v386;
-    u64 v385 = v384 + 2;
-    if (!(v385 == v382)) { v384 = v385; v386 = v387; goto v383; }
-    v396 = sum_u64x2(v387); v397 = v382;
-v379:;
-    v399 = v396; v401 = v397;
-v398:;
-    u64 v400 = at(u64, v231 + (i64)(v401 << 4) + 8) + v399;
-    u64 v402 = v401 + 1;
-    if (v402 == v211) v408 = v400; else { v399 = v400; v401 = v402; goto v398; }
-v376:;
-    u64 v409 = v408 + v375;
-    if (!(v409 == 0)) goto v412;
+    u64 v322 = (v160 << 2) + 24u;
+    u64 v323 = v320 + v322;
+    if (v161) { v356 = 0; goto v324; }
+    if (v159 < 3) { v344 = 0; v345 = 0; goto v327; }
+    u64 v330 = (v160 | 0xfffffffffffffffeu) + v160;
+    v332 = 0; v334 = (u64x2){0};
+v331:;
+    u64x4 v339 = at(u64x4_8, v180 + (i64)(v332 << 4) + 8);
+    u64x2 v335 = (u64x2){v339[0], v339[2]} + v334;
+    u64 v333 = v332 + 2;
+    if (!(v333 == v330)) { v332 = v333; v334 = v335; goto v331; }
+    v344 = sum_u64x2(v335); v345 = v330;
+v327:;
+    v347 = v344; v349 = v345;
+v346:;
+    u64 v348 = at(u64, v180 + (i64)(v349 << 4) + 8) + v347;
+    u64 v350 = v349 + 1;
+    if (v350 == v160) v356 = v348; else { v347 = v348; v349 = v350; goto v346; }
+v324:;
+    u64 v357 = v356 + v323;
+    if (!(v357 == 0)) goto v360;
     at(ptr, v4) = v3;
     memset(v4 + 8, 0, 16u);
-    v434 = (u32)v375; v435 = (u32)v374; v436 = v4 + 16; v437 = v4 + 8; goto v417;
-v412:;
-    if (!((i64)v409 > (i64)0xffffffffffffffffu)) goto v420;
-    u64_u64 v422 = sys_rattle_alloc(v409, 1);
-    if (!(v422._0 & 1)) goto v420;
-    u8 *v427 = (u8 *)v422._1;
-    at(ptr, v4) = v427;
+    v382 = (u32)v323; v383 = (u32)v322; v384 = v4 + 16; v385 = v4 + 8; goto v365;
+v360:;
+    if (!((i64)v357 > (i64)0xffffffffffffffffu)) goto v368;
+    u64_u64 v370 = sys_rattle_alloc(v357, 1);
+    if (!(v370._0 & 1)) goto v368;
+    u8 *v375 = (u8 *)v370._1;
+    at(ptr, v4) = v375;
     at(u64, v4 + 8) = 0;
-    at(u64, v4 + 16) = v409;
-    u32 v430 = (u32)v374;
-    u32 v431 = (u32)v375;
-    if (v409 < 8) { v434 = v431; v435 = v430; v436 = v4 + 16; v437 = v4 + 8; } else { v444 = v427; v445 = v431; v446 = v430; v447 = v4 + 16; v448 = v4 + 8; v449 = v409; v450 = 0; goto v433; }
-v417:;
-    if (!std_alloc_vec_Vec_grow_amortized_1cf2(v4, 8)) { v567 = v436; goto v440; }
-    v444 = at(ptr, v4); v445 = v434; v446 = v435; v447 = v436; v448 = v437; v449 = at(u64, v436); v450 = at(u64, v437);
-v433:;
-    u64 v451 = v450 + 8;
-    memset(v448, 0, 16u);
-    if ((((u64)(v444 + (i64)v450)) - ((u64)v367)) < 8) v461 = 0; else goto v458;
-v457:;
-    at(u8, (v444 + (i64)v450) + v461) = at(u8, v367 + v461);
-    u64 v462 = v461 + 1;
-    if (v462 == 8) goto v460;
-    v461 = v462; goto v457;
-v458:;
-    at(u64_1, v444 + (i64)v450) = at(u64_1, v367);
-v460:;
-    at(ptr, v4) = v444;
-    at(u64, v448) = v451;
-    at(u64, v447) = v449;
-    u32 v467 = bswap32(v446);
-    if (!((v449 - v451) < 4)) { v477 = v444; v478 = v449; v479 = v451; goto v471; }
-    if (!std_alloc_vec_Vec_grow_amortized_1cf2(v4, 4)) { v567 = v447; goto v440; }
-    v477 = at(ptr, v4); v478 = at(u64, v447); v479 = at(u64, v448);
-v471:;
-    u64 v480 = v479 + 4;
-    at(u32_1, v477 + (i64)v479) = v467;
-    at(ptr, v4) = v477;
-    at(u64, v448) = v480;
-    at(u64, v447) = v478;
-    u16 v482 = bswap16(v210);
-    if (!((v478 - v480) < 2)) { v492 = v477; v493 = v478; v494 = v480; goto v486; }
-    if (!std_alloc_vec_Vec_grow_amortized_1cf2(v4, 2)) { v567 = v447; goto v440; }
-    v492 = at(ptr, v4); v493 = at(u64, v447); v494 = at(u64, v448);
-v486:;
-    u64 v495 = v494 + 2;
-    at(u16_1, v492 + (i64)v494) = v482;
-    at(ptr, v4) = v492;
-    at(u64, v448) = v495;
-    at(u64, v447) = v493;
-    if (!((v493 - v495) < 2)) { v506 = v492; v507 = v493; v508 = v495; goto v500; }
-    if (!std_alloc_vec_Vec_grow_amortized_1cf2(v4, 2)) { v567 = v447; goto v440; }
-    v506 = at(ptr, v4); v507 = at(u64, v447); v508 = at(u64, v448);
-v500:;
-    u64 v509 = v508 + 2;
-    at(u16_1, v506 + (i64)v508) = 256u;
-    at(ptr, v4) = v506;
-    at(u64, v448) = v509;
-    at(u64, v447) = v507;
-    u32 v511 = bswap32(v445);
-    if (!((v507 - v509) < 4)) { v520 = v507; v521 = v509; goto v515; }
-    if (!std_alloc_vec_Vec_grow_amortized_1cf2(v4, 4)) { v567 = v447; goto v440; }
-    v520 = at(u64, v447); v521 = at(u64, v448); goto v515;
-v440:;
-    if (at(u64, v567) == 0) goto v420;
-    goto v570;
-v515:;
-    u64 v522 = v521 + 4;
-    at(u32_1, at(ptr, v4) + (i64)v521) = v511;
-    at(u64, v448) = v522;
-    at(u64, v447) = v520;
-    if (v212) { v556 = v522; v557 = v520; v558 = 0; goto v525; }
-    v527 = v522; v530 = v520; v532 = 0; v534 = 0;
-v526:;
-    u32 v536 = bswap32(v532);
-    if (!((v530 - v527) < 4)) { v531 = v530; v545 = v527; goto v529; }
-    if (!std_alloc_vec_Vec_grow_amortized_1cf2(v4, 4)) goto v542;
-    v531 = at(u64, v447); v545 = at(u64, v448);
-v529:;
-    u64 v528 = v545 + 4;
-    at(u32_1, at(ptr, v4) + (i64)v545) = v536;
-    at(u64, v448) = v528;
-    at(u64, v447) = v531;
-    u32 v533 = v532 + ((u32)at(u64, v231 + (i64)(v534 << 4) + 8));
-    u64 v535 = v534 + 1;
-    if (!(v535 == v211)) { v527 = v528; v530 = v531; v532 = v533; v534 = v535; goto v526; }
-    v556 = v528; v557 = v531; v558 = bswap32(v533);
-v525:;
-    if (!((v557 - v556) < 4)) { v571 = v557; v572 = v556; goto v562; }
-    if (!std_alloc_vec_Vec_grow_amortized_1cf2(v4, 4)) goto v542;
-    v571 = at(u64, v447); v572 = at(u64, v448); goto v562;
-v542:;
-    if (at(u64, v447) == 0) goto v420;
-    goto v570;
-v562:;
+    at(u64, v4 + 16) = v357;
+    u32 v378 = (u32)v322;
+    u32 v379 = (u32)v323;
+    if (v357 < 8) { v382 = v379; v383 = v378; v384 = v4 + 16; v385 = v4 + 8; } else { v392 = v375; v393 = v379; v394 = v378; v395 = v4 + 16; v396 = v4 + 8; v397 = v357; v398 = 0; goto v381; }
+v365:;
+    if (!std_alloc_vec_Vec_grow_amortized_1cf2(v4, 8)) { v515 = v384; goto v388; }
+    v392 = at(ptr, v4); v393 = v382; v394 = v383; v395 = v384; v396 = v385; v397 = at(u64, v384); v398 = at(u64, v385);
+v381:;
+    u64 v399 = v398 + 8;
+    memset(v396, 0, 16u);
+    if ((((u64)(v392 + (i64)v398)) - ((u64)v315)) < 8) v409 = 0; else goto v406;
+v405:;
+    at(u8, (v392 + (i64)v398) + v409) = at(u8, v315 + v409);
+    u64 v410 = v409 + 1;
+    if (v410 == 8) goto v408;
+    v409 = v410; goto v405;
+v406:;
+    at(u64_1, v392 + (i64)v398) = at(u64_1, v315);
+v408:;
+    at(ptr, v4) = v392;
+    at(u64, v396) = v399;
+    at(u64, v395) = v397;
+    u32 v415 = bswap32(v394);
+    if (!((v397 - v399) < 4)) { v425 = v392; v426 = v397; v427 = v399; goto v419; }
+    if (!std_alloc_vec_Vec_grow_amortized_1cf2(v4, 4)) { v515 = v395; goto v388; }
+    v425 = at(ptr, v4); v426 = at(u64, v395); v427 = at(u64, v396);
+v419:;
+    u64 v428 = v427 + 4;
+    at(u32_1, v425 + (i64)v427) = v415;
+    at(ptr, v4) = v425;
+    at(u64, v396) = v428;
+    at(u64, v395) = v426;
+    u16 v430 = bswap16(v159);
+    if (!((v426 - v428) < 2)) { v440 = v425; v441 = v426; v442 = v428; goto v434; }
+    if (!std_alloc_vec_Vec_grow_amortized_1cf2(v4, 2)) { v515 = v395; goto v388; }
+    v440 = at(ptr, v4); v441 = at(u64, v395); v442 = at(u64, v396);
+v434:;
+    u64 v443 = v442 + 2;
+    at(u16_1, v440 + (i64)v442) = v430;
+    at(ptr, v4) = v440;
+    at(u64, v396) = v443;
+    at(u64, v395) = v441;
+    if (!((v441 - v443) < 2)) { v454 = v440; v455 = v441; v456 = v443; goto v448; }
+    if (!std_alloc_vec_Vec_grow_amortized_1cf2(v4, 2)) { v515 = v395; goto v388; }
+    v454 = at(ptr, v4); v455 = at(u64, v395); v456 = at(u64, v396);
+v448:;
+    u64 v457 = v456 + 2;
+    at(u16_1, v454 + (i64)v456) = 256u;
+    at(ptr, v4) = v454;
+    at(u64, v396) = v457;
+    at(u64, v395) = v455;
+    u32 v459 = bswap32(v393);
+    if (!((v455 - v457) < 4)) { v468 = v455; v469 = v457; goto v463; }
+    if (!std_alloc_vec_Vec_grow_amortized_1cf2(v4, 4)) { v515 = v395; goto v388; }
+    v468 = at(u64, v395); v469 = at(u64, v396); goto v463;
+v388:;
+    if (at(u64, v515) == 0) goto v368;
+    goto v518;
+v463:;
+    u64 v470 = v469 + 4;
+    at(u32_1, at(ptr, v4) + (i64)v469) = v459;
+    at(u64, v396) = v470;
+    at(u64, v395) = v468;
+    if (v161) { v504 = v470; v505 = v468; v506 = 0; goto v473; }
+    v475 = v470; v478 = v468; v480 = 0; v482 = 0;
+v474:;
+    u32 v484 = bswap32(v480);
+    if (!((v478 - v475) < 4)) { v479 = v478; v493 = v475; goto v477; }
+    if (!std_alloc_vec_Vec_grow_amortized_1cf2(v4, 4)) goto v490;
+    v479 = at(u64, v395); v493 = at(u64, v396);
+v477:;
+    u64 v476 = v493 + 4;
+    at(u32_1, at(ptr, v4) + (i64)v493) = v484;
+    at(u64, v396) = v476;
+    at(u64, v395) = v479;
+    u32 v481 = v480 + ((u32)at(u64, v180 + (i64)(v482 << 4) + 8));
+    u64 v483 = v482 + 1;
+    if (!(v483 == v160)) { v475 = v476; v478 = v479; v480 = v481; v482 = v483; goto v474; }
+    v504 = v476; v505 = v479; v506 = bswap32(v481);
+v473:;
+    if (!((v505 - v504) < 4)) { v519 = v505; v520 = v504; goto v510; }
+    if (!std_alloc_vec_Vec_grow_amortized_1cf2(v4, 4)) goto v490;
+    v519 = at(u64, v395); v520 = at(u64, v396); goto v510;
+v490:;
+    if (at(u64, v395) == 0) goto v368;
+    goto v518;
+v510:;
+    u64 v521 = v520 + 4;
+    at(u32_1, at(ptr, v4) + (i64)v520) = v506;
+    at(u64, v396) = v521;
+    at(u64, v395) = v519;
+    if (!(v320 > (v519 - v521))) { v533 = v519; v534 = v521; goto v527; }
+    if (!std_alloc_vec_Vec_grow_amortized_1cf2(v4, v320)) goto v530;
+    v533 = at(u64, v395); v534 = at(u64, v396); goto v527;
+v530:;
+    if (at(u64, v395) == 0) goto v368;
+    goto v518;
+v527:;
+    u64 v535 = v534 + v320;
+    u8 *v536 = at(ptr, v4);
+    u64 v537 = (u64)v536;
+    memset(v396, 0, 16u);
+    if (!((((u64)(v536 + (i64)v534)) - ((u64)v317)) < v320)) goto v544;
+    if (v320 < 4) { v580 = 0; goto v546; }
+    if (((v534 + v537) - v318) < 32u) { v580 = 0; goto v546; }
+    if (v320 < 16u) { v569 = 0; goto v553; }
+    u64 v555 = v320 & 12u;
+    u64 v556 = v320 & 0xfffffffffffffff0u;
+    v558 = 0;
+v557:;
+    at(u8x16_1, (v536 + (i64)v534) + v558) = at(u8x16_1, v317 + v558);
+    u64 v559 = v558 + 16u;
+    if (!(v559 == v556)) { v558 = v559; goto v557; }
+    if (v320 == v556) goto v566;
+    if (v555 == 0) { v580 = v556; goto v546; }
+    v569 = v556;
+v553:;
+    u64 v570 = v320 & 0xfffffffffffffffcu;
+    v572 = v569;
+v571:;
+    at(u8x4_1, (v536 + (i64)v534) + v572) = at(u8x4_1, v317 + v572);
     u64 v573 = v572 + 4;
-    at(u32_1, at(ptr, v4) + (i64)v572) = v558;
-    at(u64, v448) = v573;
-    at(u64, v447) = v571;
-    if (!(v372 > (v571 - v573))) { v585 = v571; v586 = v573; goto v579; }
-    if (!std_alloc_vec_Vec_grow_amortized_1cf2(v4, v372)) goto v582;
-    v585 = at(u64, v447); v586 = at(u64, v448); goto v579;
-v582:;
-    if (at(u64, v447) == 0) goto v420;
-    goto v570;
-v579:;
-    u64 v587 = v586 + v372;
-    u8 *v588 = at(ptr, v4);
-    u64 v589 = (u64)v588;
-    memset(v448, 0, 16u);
-    if (!((((u64)(v588 + (i64)v586)) - ((u64)v369)) < v372)) goto v596;
-    if (v372 < 4) { v632 = 0; goto v598; }
-    if (((v586 + v589) - v370) < 32u) { v632 = 0; goto v598; }
-    if (v372 < 16u) { v621 = 0; goto v605; }
-    u64 v607 = v372 & 12u;
-    u64 v608 = v372 & 0xfffffffffffffff0u;
-    v610 = 0;
-v609:;
-    at(u8x16_1, (v588 + (i64)v586) + v610) = at(u8x16_1, v369 + v610);
-    u64 v611 = v610 + 16u;
-    if (!(v611 == v608)) { v610 = v611; goto v609; }
-    if (v372 == v608) goto v618;
-    if (v607 == 0) { v632 = v608; goto v598; }
-    v621 = v608;
-v605:;
-    u64 v622 = v372 & 0xfffffffffffffffcu;
-    v624 = v621;
-v623:;
-    at(u8x4_1, (v588 + (i64)v586) + v624) = at(u8x4_1, v369 + v624);
-    u64 v625 = v624 + 4;
-    if (!(v625 == v622)) { v624 = v625; goto v623; }
-    if (v372 == v622) goto v618;
-    v632 = v622;
-v598:;
-    v634 = v632;
-v633:;
-    at(u8, (v588 + (i64)v586) + v634) = at(u8, v369 + v634);
-    u64 v635 = v634 + 1;
-    if (v635 == v372) goto v618;
-    v634 = v635; goto v633;
+    if (!(v573 == v570)) { v572 = v573; goto v571; }
+    if (v320 == v570) goto v566;
+    v580 = v570;
+v546:;
+    v582 = v580;
+v581:;
+    at(u8, (v536 + (i64)v534) + v582) = at(u8, v317 + v582);
+    u64 v583 = v582 + 1;
+    if (v583 == v320) goto v566;
+    v582 = v583; goto v581;
+v544:;
+    memmove_any(v536 + (i64)v534, v317, v320);
+v566:;
+    at(u64, v396) = v535;
+    at(u64, v395) = v533;
+    if (v161) goto v590;
+    v597 = at(u64, v4 + 8); v600 = at(u64, v4 + 16); v602 = 0;
 v596:;
-    memmove_any(v588 + (i64)v586, v369, v372);
-v618:;
-    at(u64, v448) = v587;
-    at(u64, v447) = v585;
-    if (!v212) goto v643;
-    memcpy(v5 + 7, v4, 24u);
-    memcpy(v6 + 7, v5 + 7, 24u);
-    v734 = v6 + 7; goto v646;
-v643:;
-    v652 = at(u64, v4 + 8); v655 = at(u64, v4 + 16); v657 = 0;
-v651:;
-    u64 v659 = v657 << 4;
-    u64 v662 = at(u64, v231 + (i64)v659 + 8);
-    u8 *v663 = at(ptr, v231 + (i64)v659);
-    u64 v664 = (u64)v663;
-    if (!(v662 > (v655 - v652))) { v656 = v655; v674 = v652; goto v668; }
-    if (!std_alloc_vec_Vec_grow_amortized_1cf2(v4, v662)) goto v671;
-    v656 = at(u64, v4 + 16); v674 = at(u64, v4 + 8); goto v668;
-v671:;
-    if (at(u64, v447) == 0) goto v420;
-v570:;
+    u64 v604 = v602 << 4;
+    u64 v607 = at(u64, v180 + (i64)v604 + 8);
+    u8 *v608 = at(ptr, v180 + (i64)v604);
+    u64 v609 = (u64)v608;
+    if (!(v607 > (v600 - v597))) { v601 = v600; v619 = v597; goto v613; }
+    if (!std_alloc_vec_Vec_grow_amortized_1cf2(v4, v607)) goto v616;
+    v601 = at(u64, v4 + 16); v619 = at(u64, v4 + 8); goto v613;
+v616:;
+    if (at(u64, v395) == 0) goto v368;
+v518:;
     sys_rattle_dealloc(at(ptr, v4));
-    goto v420;
-v668:;
-    u64 v653 = v674 + v662;
-    u8 *v675 = at(ptr, v4);
-    u64 v676 = (u64)v675;
-    if (!((((u64)(v675 + (i64)v674)) - ((u64)v663)) < v662)) goto v683;
-    if (v662 < 4) { v718 = 0; goto v685; }
-    if (((v674 + v676) - v664) < 32u) { v718 = 0; goto v685; }
-    if (v662 < 16u) { v707 = 0; goto v692; }
-    u64 v694 = v662 & 12u;
-    u64 v695 = v662 & 0xfffffffffffffff0u;
-    v697 = 0;
-v696:;
-    at(u8x16_1, (v675 + (i64)v674) + v697) = at(u8x16_1, v663 + v697);
-    u64 v698 = v697 + 16u;
-    if (!(v698 == v695)) { v697 = v698; goto v696; }
-    if (v662 == v695) goto v654;
-    if (v694 == 0) { v718 = v695; goto v685; }
-    v707 = v695;
-v692:;
-    u64 v708 = v662 & 0xfffffffffffffffcu;
-    v710 = v707;
-v709:;
-    at(u8x4_1, (v675 + (i64)v674) + v710) = at(u8x4_1, v663 + v710);
-    u64 v711 = v710 + 4;
-    if (!(v711 == v708)) { v710 = v711; goto v709; }
-    if (v662 == v708) goto v654;
-    v718 = v708;
-v685:;
-    v720 = v718;
-v719:;
-    at(u8, (v675 + (i64)v674) + v720) = at(u8, v663 + v720);
-    u64 v721 = v720 + 1;
-    if (v721 == v662) goto v654;
-    v720 = v721; goto v719;
-v683:;
-    memmove_any(v675 + (i64)v674, v663, v662);
+    goto v368;
+v613:;
+    u64 v598 = v619 + v607;
+    u8 *v620 = at(ptr, v4);
+    u64 v621 = (u64)v620;
+    if (!((((u64)(v620 + (i64)v619)) - ((u64)v608)) < v607)) goto v628;
+    if (v607 < 4) { v663 = 0; goto v630; }
+    if (((v619 + v621) - v609) < 32u) { v663 = 0; goto v630; }
+    if (v607 < 16u) { v652 = 0; goto v637; }
+    u64 v639 = v607 & 12u;
+    u64 v640 = v607 & 0xfffffffffffffff0u;
+    v642 = 0;
+v641:;
+    at(u8x16_1, (v620 + (i64)v619) + v642) = at(u8x16_1, v608 + v642);
+    u64 v643 = v642 + 16u;
+    if (!(v643 == v640)) { v642 = v643; goto v641; }
+    if (v607 == v640) goto v599;
+    if (v639 == 0) { v663 = v640; goto v630; }
+    v652 = v640;
+v637:;
+    u64 v653 = v607 & 0xfffffffffffffffcu;
+    v655 = v652;
 v654:;
-    at(u64, v4 + 8) = v653;
-    at(u64, v4 + 16) = v656;
-    u64 v658 = v657 + 1;
-    if (!(v658 == v211)) { v652 = v653; v655 = v656; v657 = v658; goto v651; }
+    at(u8x4_1, (v620 + (i64)v619) + v655) = at(u8x4_1, v608 + v655);
+    u64 v656 = v655 + 4;
+    if (!(v656 == v653)) { v655 = v656; goto v654; }
+    if (v607 == v653) goto v599;
+    v663 = v653;
+v630:;
+    v665 = v663;
+v664:;
+    at(u8, (v620 + (i64)v619) + v665) = at(u8, v608 + v665);
+    u64 v666 = v665 + 1;
+    if (v666 == v607) goto v599;
+    v665 = v666; goto v664;
+v628:;
+    memmove_any(v620 + (i64)v619, v608, v607);
+v599:;
+    at(u64, v4 + 8) = v598;
+    at(u64, v4 + 16) = v601;
+    u64 v603 = v602 + 1;
+    if (!(v603 == v160)) { v597 = v598; v600 = v601; v602 = v603; goto v596; }
+v590:;
     memcpy(v5 + 7, v4, 24u);
     memcpy(v6 + 7, v5 + 7, 24u);
-    sys_rattle_dealloc(v231);
-    v734 = v6 + 7;
-v646:;
-    memcpy(v10, v734, 24u);
-    v773 = 1; goto v366;
-v420:;
-    if (v212) goto v221;
-    sys_rattle_dealloc(v231);
-v221:;
-    if ((v153 != 1) ? 1 : (v196 == 0)) goto v778;
-    sys_rattle_dealloc(v192);
-v778:;
-    if (v147) goto v780;
-    sys_rattle_dealloc(v149);
-v780:;
-    if ((v22 != 1) ? 1 : (v31 == 0)) goto v785;
-    sys_rattle_dealloc(v27);
-v785:;
-    u8 v788 = at(u8, v7 + 24);
-    u8 *v790 = at(ptr, v7 + 32);
-    u64 v792 = at(u64, v7 + 48);
-    u8 v794 = at(u8, v7 + 64);
-    u8 *v796 = at(ptr, v7 + 72);
-    u64 v798 = at(u64, v7 + 88);
-    if (at(u64, v7 + 184) == 0) goto v802;
-    sys_rattle_dealloc(at(ptr, v7 + 168));
-v802:;
-    if ((v788 != 1) ? 1 : (v792 == 0)) goto v809;
-    sys_rattle_dealloc(v790);
-v809:;
-    if ((v794 != 1) ? 1 : (v798 == 0)) goto v814;
-    sys_rattle_dealloc(v796);
-v814:;
-    memset(v13, 0, 191u);
-    memset(v14, 0, 24u);
-    v816 = 0; v817 = 1; v818 = 0; v819 = (u8 *)0; v820 = 0; v821 = 0; v822 = 0; v823 = (u8 *)0; v824 = 0; v825 = 0; v826 = (u8 *)0; v827 = 0; v828 = 0; v829 = 0; goto v146;
-v201:;
-    memset(v10, 0, 24u);
-    v773 = 0;
-v366:;
-    memcpy(v13, v7 + 1, 191u);
-    memcpy(v14, v10, 24u);
-    v816 = v11; v817 = 0; v818 = v32; v819 = v27; v820 = v29; v821 = v31; v822 = v148; v823 = v149; v824 = v150; v825 = (u64)v153; v826 = v192; v827 = v194; v828 = v196; v829 = v773; goto v146;
-v156:;
-    if (v147) goto v737;
-    sys_rattle_dealloc(v149);
-v737:;
-    if ((v22 != 1) ? 1 : (v31 == 0)) goto v742;
-    sys_rattle_dealloc(v27);
-v742:;
-    u8 v745 = at(u8, v7 + 24);
-    u8 *v747 = at(ptr, v7 + 32);
-    u64 v749 = at(u64, v7 + 48);
-    u8 v751 = at(u8, v7 + 64);
-    u8 *v753 = at(ptr, v7 + 72);
-    u64 v755 = at(u64, v7 + 88);
-    if (at(u64, v7 + 184) == 0) goto v759;
-    sys_rattle_dealloc(at(ptr, v7 + 168));
-v759:;
-    if ((v745 != 1) ? 1 : (v749 == 0)) goto v766;
-    sys_rattle_dealloc(v747);
-v766:;
-    if ((v751 != 1) ? 1 : (v755 == 0)) goto v771;
-    sys_rattle_dealloc(v753);
-v771:;
-    memset(v13, 0, 191u);
-    memset(v14, 0, 24u);
-    v816 = 0; v817 = 1; v818 = 0; v819 = (u8 *)0; v820 = 0; v821 = 0; v822 = 0; v823 = (u8 *)0; v824 = 0; v825 = 0; v826 = (u8 *)0; v827 = 0; v828 = 0; v829 = 0; goto v146;
-v25:;
-    u8 v118 = at(u8, v7 + 24);
-    u8 *v120 = at(ptr, v7 + 32);
-    u64 v122 = at(u64, v7 + 48);
-    u8 v124 = at(u8, v7 + 64);
-    u8 *v126 = at(ptr, v7 + 72);
-    u64 v128 = at(u64, v7 + 88);
-    if (at(u64, v7 + 184) == 0) goto v132;
-    sys_rattle_dealloc(at(ptr, v7 + 168));
-v132:;
-    if ((v118 != 1) ? 1 : (v122 == 0)) goto v139;
-    sys_rattle_dealloc(v120);
-v139:;
-    if ((v124 != 1) ? 1 : (v128 == 0)) goto v144;
-    sys_rattle_dealloc(v126);
-v144:;
-    memset(v13, 0, 191u);
-    memset(v14, 0, 24u);
-    v816 = 0; v817 = 1; v818 = 0; v819 = (u8 *)0; v820 = 0; v821 = 0; v822 = 0; v823 = (u8 *)0; v824 = 0; v825 = 0; v826 = (u8 *)0; v827 = 0; v828 = 0; v829 = 0;
-v146:;
-    v830 = v816; v831 = v817; v832 = v818; v833 = v819; v834 = v820; v835 = v821; v836 = v822; v837 = v823; v838 = v824; v839 = v825; v840 = v826; v841 = v827; v842 = v828; v843 = v829;
-v18:;
-    at(u8, v0) = v831;
-    at(u8, v0 + 8) = v830;
-    memcpy(v0 + 9, v13, 191u);
-    at(u64_1, v0 + 200) = v832;
-    at(ptr_1, v0 + 208) = v833;
-    at(u64_1, v0 + 216) = v834;
-    at(u64_1, v0 + 224) = v835;
-    at(u64_1, v0 + 232) = v836;
-    at(ptr_1, v0 + 240) = v837;
-    at(u64_1, v0 + 248) = v838;
-    at(u64_1, v0 + 256) = v838;
-    at(u64_1, v0 + 264) = v839;
-    at(ptr_1, v0 + 272) = v840;
-    at(u64_1, v0 + 280) = v841;
-    at(u64_1, v0 + 288) = v842;
-    at(u64_1, v0 + 296) = v843;
-    memcpy(v0 + 304, v14, 24u);
-    return;
-}
-
-void font_subset_kind_source_blank_of(u8 *v0, u8 *v1, u64 v2, u64 v3) {
-    u8 v5[1], *v63, *v121, *v196;
-    _Alignas(8) u8 v6[24], v7[24];
-    u64 v83, v93, v96, v104, v106, v135, v164, v174, v177, v185, v187, v195;
-    u8 *v9 = at(ptr, v1 + 8);
-    u16 v11 = at(u16, v9 + 64);
-    memset(v7, 0, 24u);
-    font_subset_accepted_copied(v7, v9, v3);
-    u8 v12 = at(u8, v7);
-    u8 *v14 = at(ptr, v7 + 8);
-    u64 v15 = (u64)v14;
-    u64 v17 = at(u64, v7 + 16);
-    u64 v18 = (u64)v12;
-    if (v12 == 0) { v195 = 0; v196 = (u8 *)0; goto v20; }
-    memset(v6, 0, 24u);
-    font_subset_accepted_copied(v6, v9, v2);
-    u8 *v24 = at(ptr, v6 + 8);
-    if ((at(u8, v6) != 1) ? 1 : (at(u64, v6 + 16) < 36u)) goto v30;
-    u16 v33 = at(u16_1, v24 + 34);
-    u16 v35 = bswap16(v33);
-    if ((v33 == 0) | (v11 < v35)) goto v30;
-    u64 v39 = (u64)v35;
-    u64 v40 = v39 << 2;
-    if (!(v17 < ((((u64)((u16)(v11 - v35))) << 1) + v40))) goto v46;
-v30:;
-    if (v17 == 0) { v63 = v5; goto v48; }
-    if (!((i64)v17 > (i64)0xffffffffffffffffu)) goto v55;
-    u64_u64 v57 = sys_rattle_alloc(v17, 1);
-    if (!(v57._0 & 1)) goto v55;
-    v63 = (u8 *)v57._1;
-v48:;
-    if (!((((u64)v63) - ((u64)v14)) < v17)) goto v69;
-    if ((v17 < 4) ? 1 : ((((u64)v63) - v15) < 32u)) { v104 = 0; goto v75; }
-    if (v17 < 16u) { v93 = 0; goto v78; }
-    u64 v80 = v17 & 12u;
-    u64 v81 = v17 & 0xfffffffffffffff0u;
-    v83 = 0;
-v82:;
-    at(u8x16_1, v63 + v83) = at(u8x16_1, v14 + v83);
-    u64 v84 = v83 + 16u;
-    if (!(v84 == v81)) { v83 = v84; goto v82; }
-    if (v17 == v81) { v195 = v17; v196 = v63; goto v20; }
-    if (v80 == 0) { v104 = v81; goto v75; }
-    v93 = v81;
-v78:;
-    u64 v94 = v17 & 0xfffffffffffffffcu;
-    v96 = v93;
-v95:;
-    at(u8x4_1, v63 + v96) = at(u8x4_1, v14 + v96);
-    u64 v97 = v96 + 4;
-    if (!(v97 == v94)) { v96 = v97; goto v95; }
-    if (v17 == v94) { v195 = v17; v196 = v63; goto v20; }
-    v104 = v94;
-v75:;
-    v106 = v104;
-v105:;
-    at(u8, v63 + v106) = at(u8, v14 + v106);
-    u64 v107 = v106 + 1;
-    if (v107 == v17) { v195 = v17; v196 = v63; goto v20; }
-    v106 = v107; goto v105;
-v69:;
-    memmove_any(v63, v14, v17);
-    v195 = v17; v196 = v63; goto v20;
-v46:;
-    if (v17 == 0) { v121 = v5; goto v51; }
-    if (!((i64)v17 > (i64)0xffffffffffffffffu)) goto v55;
-    u64_u64 v115 = sys_rattle_alloc(v17, 1);
-    if (!(v115._0 & 1)) goto v55;
-    u8 *v120 = (u8 *)v115._1;
-    memset_any(v120, 0, v17);
-    v121 = v120;
-v51:;
-    u64 v122 = (u64)v121;
-    u64 v123 = (u64)v11;
-    u64 v124 = v40 - 4;
-    if ((((u64)(v121 + (i64)v124)) - ((u64)(v14 + (i64)v124))) < 2) v135 = 0; else goto v132;
-v131:;
-    at(u8, (v121 + (i64)v124) + v135) = at(u8, (v14 + (i64)v124) + v135);
-    u64 v136 = v135 + 1;
-    if (v136 == 2) goto v134;
-    v135 = v136; goto v131;
-v132:;
-    at(u16_1, v121 + (i64)v124) = at(u16_1, v14 + (i64)v124);
-v134:;
-    u64 v142 = (v39 + v123) << 1;
-    u64 v143 = v17 - v142;
-    if (!((((u64)(v121 + (i64)v142)) - ((u64)(v14 + (i64)v142))) < v143)) goto v151;
-    if ((v143 < 4) ? 1 : ((v122 - v15) < 32u)) { v185 = 0; goto v156; }
-    if (v143 < 16u) { v174 = 0; goto v159; }
-    u64 v161 = v143 & 12u;
-    u64 v162 = v143 & 0xfffffffffffffff0u;
-    v164 = 0;
-v163:;
-    at(u8x16_1, (v121 + (i64)v142) + v164) = at(u8x16_1, (v14 + (i64)v142) + v164);
-    u64 v165 = v164 + 16u;
-    if (!(v165 == v162)) { v164 = v165; goto v163; }
-    if (v143 == v162) { v195 = v17; v196 = v121; goto v20; }
-    if (v161 == 0) { v185 = v162; goto v156; }
-    v174 = v162;
-v159:;
-    u64 v175 = v143 & 0xfffffffffffffffcu;
-    v177 = v174;
-v176:;
-    at(u8x4_1, (v121 + (i64)v142) + v177) = at(u8x4_1, (v14 + (i64)v142) + v177);
-    u64 v178 = v177 + 4;
-    if (!(v178 == v175)) { v177 = v178; goto v176; }
-    if (v143 == v175) { v195 = v17; v196 = v121; goto v20; }
-    v185 = v175;
-v156:;
-    v187 = v185;
-v186:;
-    at(u8, (v121 + (i64)v142) + v187) = at(u8, (v14 + (i64)v142) + v187);
-    u64 v188 = v187 + 1;
-    if (v188 == v143) { v195 = v17; v196 = v121; goto v20; }
-    v187 = v188; goto v186;
-v151:;
-    memmove_any(v121 + (i64)v142, v14 + (i64)v142, v143);
-    v195 = v17; v196 = v121;
-v20:;
-    at(u8, v0) = 0;
-    at(u64_1, v0 + 8) = v18;
-    at(ptr_1, v0 + 16) = v196;
-    at(u64_1, v0 + 24) = v195;
-    at(u64_1, v0 + 32) = v195;
-    return;
-v55:;
-    at(u8, v0) = 1;
-    memset(v0 + 8, 0, 32u);
-    return;
-}
-
-static void font_subset_kind_source_metrics_table_21da(u8 *v0, u8 *v1, u64 v2, u64 v3) {
-    u8 v5[1], *v61, *v63;
-    _Alignas(8) u8 v6[24], v7[24];
-    u64 v64;
-    u8 *v9 = at(ptr, v1 + 8);
-    u16 v11 = at(u16, v9 + 64);
-    memset(v7, 0, 24u);
-    font_subset_accepted_copied(v7, v9, v3);
-    u8 v12 = at(u8, v7);
-    u64 v13 = (u64)v12;
-    u8 *v15 = at(ptr, v7 + 8);
-    u64 v17 = at(u64, v7 + 16);
-    if (v12 == 0) { v63 = (u8 *)0; v64 = 0; goto v19; }
-    memset(v6, 0, 24u);
-    font_subset_accepted_copied(v6, v9, v2);
-    u8 *v23 = at(ptr, v6 + 8);
-    if ((at(u8, v6) != 1) ? 1 : (at(u64, v6 + 16) < 36u)) goto v29;
-    u16 v32 = at(u16_1, v23 + 34);
-    u16 v34 = bswap16(v32);
-    if ((v32 == 0) | (v11 < v34)) goto v29;
-    u64 v38 = (u64)v34;
-    if (!(v17 < ((((u64)((u16)(v11 - v34))) << 1) + (v38 << 2)))) goto v45;
-v29:;
-    at(u8, v0) = 0;
-    memset(v0 + 8, 0, 32u);
-    return;
-v45:;
-    if (v17 == 0) { v61 = v5; goto v49; }
-    if (!((i64)v17 > (i64)0xffffffffffffffffu)) goto v53;
-    u64_u64 v55 = sys_rattle_alloc(v17, 1);
-    if (!(v55._0 & 1)) goto v53;
-    u8 *v60 = (u8 *)v55._1;
-    memset_any(v60, 0, v17);
-    v61 = v60;
-v49:;
-    font_subset_lean_tables_copy_kept(v61, v15, v17, v1, v38);
-    v63 = v61; v64 = v17;
-v19:;
-    at(u8, v0) = 0;
-    at(u64_1, v0 + 8) = v13;
-    at(ptr_1, v0 + 16) = v63;
-    at(u64_1, v0 + 24) = v64;
-    at(u64_1, v0 + 32) = v64;
-    return;
-v53:;
-    at(u8, v0) = 1;
-    memset(v0 + 8, 0, 32u);
-    return;
-}
-
-static void font_subset_lean_tables_copy_kept(u8 *v0, u8 *v1, u64 v2, u8 *v3, u64 v4) {
-    u64 v25, v54, v65, v68, v76, v78, v97, v104, v117, v120, v127, v133, v151, v168, v188, v195, v208, v211, v134;
-    u8x16 v106, v197;
-    u64 v6 = (u64)v1;
-    u64 v7 = (u64)v0;
-    u16 v11 = at(u16, at(ptr, v3 + 8) + 64);
-    u64 v12 = (u64)v11;
-    u64 v14 = (v4 << 2) - 4;
-    if ((((u64)(v0 + (i64)v14)) - ((u64)(v1 + (i64)v14))) < 2) v25 = 0; else goto v22;
-v21:;
-    at(u8, (v0 + (i64)v14) + v25) = at(u8, (v1 + (i64)v14) + v25);
-    u64 v26 = v25 + 1;
-    if (v26 == 2) goto v24;
-    v25 = v26; goto v21;
+    memcpy(v7 + 7, v6 + 7, 24u);
+    v682 = 1; goto v679;
+v368:;
+    memset(v7 + 7, 0, 24u);
+    v682 = 0;
+v679:;
+    if (v161) goto v683;
+    sys_rattle_dealloc(v180);
+v683:;
+    memcpy(v9 + 7, v7 + 7, 24u);
+    if (!v682) goto v685;
+    memcpy(v8, v9 + 7, 24u);
+    v706 = 1; goto v157;
+v170:;
+v685:;
+    if ((v142 != 1) ? 1 : (v155 == 0)) goto v698;
+    sys_rattle_dealloc(v151);
+v698:;
+    if (v136) goto v700;
+    sys_rattle_dealloc(v138);
+v700:;
+    if ((v41 != 1) ? 1 : (v50 == 0)) goto v44;
+    sys_rattle_dealloc(v46);
+    goto v44;
+v157:;
+    memcpy(v12, v8, 24u);
+    memcpy(v14, v12, 24u);
+    memcpy(v17, v13 + 1, 191u);
+    memcpy(v18, v14, 24u);
+    v738 = v15; v739 = 0; v740 = v706; v741 = v51; v742 = v46; v743 = v48; v744 = v50; v745 = v137; v746 = v138; v747 = v139; v748 = (u64)v142; v749 = v151; v750 = v153; v751 = v155; goto v708;
+v145:;
+    if (v136) goto v689;
+    sys_rattle_dealloc(v138);
+v689:;
+    if ((v41 != 1) ? 1 : (v50 == 0)) goto v44;
+    sys_rattle_dealloc(v46);
+v44:;
+    u8 v710 = at(u8, v13 + 24);
+    u8 *v712 = at(ptr, v13 + 32);
+    u64 v714 = at(u64, v13 + 48);
+    u8 v716 = at(u8, v13 + 64);
+    u8 *v718 = at(ptr, v13 + 72);
+    u64 v720 = at(u64, v13 + 88);
+    if (at(u64, v13 + 184) == 0) goto v724;
+    sys_rattle_dealloc(at(ptr, v13 + 168));
+v724:;
+    if ((v710 != 1) ? 1 : (v714 == 0)) goto v731;
+    sys_rattle_dealloc(v712);
+v731:;
+    if ((v716 != 1) ? 1 : (v720 == 0)) goto v736;
+    sys_rattle_dealloc(v718);
+v736:;
+    memset(v17, 0, 191u);
+    memset(v18, 0, 24u);
+    v738 = 0; v739 = 1; v740 = 0; v741 = 0; v742 = (u8 *)0; v743 = 0; v744 = 0; v745 = 0; v746 = (u8 *)0; v747 = 0; v748 = 0; v749 = (u8 *)0; v750 = 0; v751 = 0;
+v708:;
+    v752 = v738; v753 = v739; v754 = v740; v755 = v741; v756 = v742; v757 = v743; v758 = v744; v759 = v745; v760 = v746; v761 = v747; v762 = v748; v763 = v749; v764 = v750; v765 = v751;
 v22:;
-    at(u16_1, v0 + (i64)v14) = at(u16_1, v1 + (i64)v14);
-v24:;
-    u64 v32 = (v4 + v12) << 1;
-    u64 v33 = v2 - v32;
-    if (!((((u64)(v0 + (i64)v32)) - ((u64)(v1 + (i64)v32))) < v33)) goto v41;
-    if ((v33 < 4) | ((v7 - v6) < 32u)) { v76 = 0; goto v46; }
-    if (v33 < 16u) { v65 = 0; goto v49; }
-    u64 v51 = v33 & 12u;
-    u64 v52 = v33 & 0xfffffffffffffff0u;
-    v54 = 0;
-v53:;
-    at(u8x16_1, (v0 + (i64)v32) + v54) = at(u8x16_1, (v1 + (i64)v32) + v54);
-    u64 v55 = v54 + 16u;
-    if (!(v55 == v52)) { v54 = v55; goto v53; }
-    if (v33 == v52) goto v62;
-    if (v51 == 0) { v76 = v52; goto v46; }
-    v65 = v52;
-v49:;
-    u64 v66 = v33 & 0xfffffffffffffffcu;
-    v68 = v65;
-v67:;
-    at(u8x4_1, (v0 + (i64)v32) + v68) = at(u8x4_1, (v1 + (i64)v32) + v68);
-    u64 v69 = v68 + 4;
-    if (!(v69 == v66)) { v68 = v69; goto v67; }
-    if (v33 == v66) goto v62;
-    v76 = v66;
-v46:;
-    v78 = v76;
-v77:;
-    at(u8, (v0 + (i64)v32) + v78) = at(u8, (v1 + (i64)v32) + v78);
-    u64 v79 = v78 + 1;
-    if (v79 == v33) goto v62;
-    v78 = v79; goto v77;
-v41:;
-    memmove_any(v0 + (i64)v32, v1 + (i64)v32, v33);
-v62:;
-    u8 *v85 = at(ptr, v3 + 168);
-    u64 v87 = at(u64, v3 + 176);
-    if (v87 == 0) { v117 = 0; goto v89; }
-    if (at(u8, v85) & 1) { v127 = 0; goto v93; }
-    if (v87 < 64u) { v117 = 0; goto v89; }
-    v97 = 0;
-v96:;
-    if (v97 == 0xffffffffffffffc0u) goto v99;
-    v104 = 0; v106 = (u8x16){0};
-v103:;
-    u8x16 v107 = v106 | ((-(at(u8x16_1, (v85 + (i64)v97) + (i64)v104) & 1)));
-    u64 v105 = v104 + 16u;
-    if (!(v105 == 64u)) { v104 = v105; v106 = v107; goto v103; }
-    if (!(bits_u8x16(v107) == 0)) { v117 = v97; goto v89; }
-v99:;
-    u64 v98 = v97 + 64u;
-    if ((v87 - v98) < 64u) v117 = v98; else { v97 = v98; goto v96; }
-v89:;
-    if (v117 < v87) v120 = v117; else { v127 = v87; goto v93; }
-v119:;
-    if (at(u8, v85 + v120) & 1) { v127 = v120; goto v93; }
-    u64 v121 = v120 + 1;
-    if (v121 == v87) v127 = v87; else { v120 = v121; goto v119; }
-v93:;
-    u64 v128 = v4 - 1;
-    if (v11 > ((u16)v127)) v133 = v127; else return;
-v131:;
-    u64 v136 = v133 & 65535u;
-    if (!(v136 < v128)) goto v139;
-    u64 v140 = v136 << 2;
-    if ((((u64)(v0 + (i64)v140)) - ((u64)(v1 + (i64)v140))) < 4) v151 = 0; else goto v148;
-v147:;
-    at(u8, (v0 + (i64)v140) + v151) = at(u8, (v1 + (i64)v140) + v151);
-    u64 v152 = v151 + 1;
-    if (v152 == 4) goto v150;
-    v151 = v152; goto v147;
-v148:;
-    at(u32_1, v0 + (i64)v140) = at(u32_1, v1 + (i64)v140);
-    goto v150;
-v139:;
-    u64 v158 = (v136 + v4) << 1;
-    if ((((u64)(v0 + (i64)v158)) - ((u64)(v1 + (i64)v158))) < 2) v168 = 0; else goto v166;
-v165:;
-    at(u8, (v0 + (i64)v158) + v168) = at(u8, (v1 + (i64)v158) + v168);
-    u64 v169 = v168 + 1;
-    if (v169 == 2) goto v150;
-    v168 = v169; goto v165;
-v166:;
-    at(u16_1, v0 + (i64)v158) = at(u16_1, v1 + (i64)v158);
-v150:;
-    u64 v175 = (v133 + 1) & 65535u;
-    u8 *v176 = at(ptr, v3 + 168);
-    u64 v177 = at(u64, v3 + 176);
-    if (!(v177 > v175)) goto v180;
-    if (at(u8, v176 + v175) & 1) { v134 = v175; goto v135; }
-v180:;
-    if ((v177 - v175) < 64u) { v208 = v175; goto v186; }
-    v188 = v175;
-v187:;
-    if (!(v188 < 0xffffffffffffffc0u)) goto v190;
-    v195 = 0; v197 = (u8x16){0};
-v194:;
-    u8x16 v198 = v197 | ((-(at(u8x16_1, (v176 + (i64)v188) + (i64)v195) & 1)));
-    u64 v196 = v195 + 16u;
-    if (!(v196 == 64u)) { v195 = v196; v197 = v198; goto v194; }
-    if (!(bits_u8x16(v198) == 0)) { v208 = v188; goto v186; }
-v190:;
-    u64 v189 = v188 + 64u;
-    if ((v177 - v189) < 64u) v208 = v189; else { v188 = v189; goto v187; }
+    at(u8, v0) = v753;
+    at(u8, v0 + 8) = v752;
+    memcpy(v0 + 9, v17, 191u);
+    at(u64_1, v0 + 200) = v754;
+    memcpy(v0 + 208, v18, 24u);
+    at(u64_1, v0 + 232) = v755;
+    at(ptr_1, v0 + 240) = v756;
+    at(u64_1, v0 + 248) = v757;
+    at(u64_1, v0 + 256) = v758;
+    at(u64_1, v0 + 264) = v759;
+    at(ptr_1, v0 + 272) = v760;
+    at(u64_1, v0 + 280) = v761;
+    at(u64_1, v0 + 288) = v761;
+    at(u64_1, v0 + 296) = v762;
+    at(ptr_1, v0 + 304) = v763;
+    at(u64_1, v0 + 312) = v764;
+    at(u64_1, v0 + 320) = v765;
+    return;
+}
+
+void font_subset_kind_source_CutOfKind_of_87a4(u8 *v0, u8 *v1) {
+    _Alignas(8) u8 v3[1], v4[32], v5[24], v7[40], v8[40], v9[192], v13[24];
+    u8 v6[31], v12[191], *v33, *v133, *v176, v368, v369, *v372, *v376, *v379, v382, v383, *v386, *v390, *v393;
+    flag v32, v131;
+    u64 v60, v115, v108, v125, v132, v134, v170, v190, v197, v210, v213, v220, v229, v260, v261, v279, v286, v299, v302, v230, v336, v370, v371, v373, v374, v375, v377, v378, v380, v381, v384, v385, v387, v388, v389, v391, v392, v394, v395;
+    u8x16 v199, v288;
+    u8 v10 = at(u8, v1);
+    if (!(v10 == 0)) goto v16;
+    memcpy(v12, v1 + 1, 191u);
+    memset(v13, 0, 24u);
+    v382 = 0; v383 = 0; v384 = 0; v385 = 0; v386 = (u8 *)0; v387 = 0; v388 = 0; v389 = 0; v390 = (u8 *)0; v391 = 0; v392 = 0; v393 = (u8 *)0; v394 = 0; v395 = 0; goto v17;
+v16:;
+    at(u8, v9) = v10;
+    memcpy(v9 + 1, v1 + 1, 191u);
+    if (!(at(u8, v9 + 112) == 1)) { v32 = 0; v33 = (u8 *)0; goto v23; }
+    u8 *v25 = at(ptr, v9 + 120);
+    u8 v27 = at(u8, v25 + 312);
+    v32 = v27 & 1; v33 = (v27 == 1) ? (v25 + 320) : ((u8 *)0);
+v23:;
+    memset(v7, 0, 40u);
+    memset(v8, 0, 40u);
+    divided_tables_metrics_kept_metrics_6f24(v7, v9, 7, 8);
+    u8 v36 = at(u8, v7 + 8);
+    if (!(at(u8, v7) == 0)) goto v39;
+    u8 *v41 = at(ptr, v7 + 16);
+    u64 v43 = at(u64, v7 + 24);
+    u64 v45 = at(u64, v7 + 32);
+    u64 v46 = (u64)v36;
+    u8 *v49 = at(ptr_1, at(ptr, v9 + 8));
+    u64 v50 = (u64)v49;
+    u16 v52 = at(u16_1, v49 + 4);
+    u64 v54 = (u64)bswap16(v52);
+    if (v52 == 0) { v131 = 1; v132 = 0; v133 = (u8 *)0; v134 = 0; goto v56; }
+    v60 = 0;
+v57:;
+    u64 v62 = v60 << 4;
+    if (!((((at(u8, v49 + (i64)v62 + 12) == 112u) & (at(u8, v49 + (i64)v62 + 13) == 111u)) & (at(u8, v49 + (i64)v62 + 14) == 115u)) & (at(u8, v49 + (i64)v62 + 15) == 116u))) goto v58;
+    u64 v86 = (u64)bswap32(at(u32_1, v49 + (i64)v62 + 20));
+    if (bswap32(at(u32_1, v49 + (i64)v62 + 24)) < 32u) { v131 = 1; v132 = 0; v133 = (u8 *)0; v134 = 0; goto v56; }
+    u64_u64 v91 = sys_rattle_alloc(32u, 1);
+    if (!(v91._0 & 1)) goto v95;
+    u64 v96 = v91._1;
+    u8 *v97 = (u8 *)v96;
+    if (!((v96 - ((u64)(v49 + (i64)v86))) < 32u)) goto v102;
+    if ((v96 - (v50 + v86)) < 32u) v115 = 0; else { v108 = 0; goto v107; }
+v106:;
+    at(u8, v97 + v115) = at(u8, (v49 + (i64)v86) + v115);
+    u64 v116 = v115 + 1;
+    if (v116 == 32u) goto v114;
+    v115 = v116; goto v106;
+v107:;
+    at(u8x16_1, v97 + v108) = at(u8x16_1, (v49 + (i64)v86) + v108);
+    u64 v109 = v108 + 16u;
+    if (v109 == 32u) goto v114;
+    v108 = v109; goto v107;
+v102:;
+    memmove(v97, v49 + (i64)v86, 32u);
+v114:;
+    if ((v96 - ((u64)(u8 *)table_62a9c92b)) < 4) v125 = 0; else goto v124;
+v123:;
+    at(u8, v97 + v125) = at(u8, (u8 *)table_62a9c92b + v125);
+    u64 v126 = v125 + 1;
+    if (v126 == 4) { v131 = 0; v132 = 1; v133 = v97; v134 = 32u; goto v56; }
+    v125 = v126; goto v123;
+v124:;
+    at(u32_1, v97) = 768u;
+    v131 = 0; v132 = 1; v133 = v97; v134 = 32u; goto v56;
+v95:;
+    if ((v36 != 1) ? 1 : (v45 == 0)) goto v39;
+    sys_rattle_dealloc(v41);
+    goto v39;
+v58:;
+    u64 v59 = v60 + 1;
+    if (v59 == v54) { v131 = 1; v132 = 0; v133 = (u8 *)0; v134 = 0; } else { v60 = v59; goto v57; }
+v56:;
+    divided_tables_metrics_kept_metrics_6f24(v8, v9, 14u, 15u);
+    u8 v137 = at(u8, v8 + 8);
+    if (!(at(u8, v8) == 0)) goto v140;
+    u8 *v146 = at(ptr, v8 + 16);
+    u64 v148 = at(u64, v8 + 24);
+    u64 v150 = at(u64, v8 + 32);
+    if (!v32) goto v152;
+    memset(v4, 0, 32u);
+    u16 v155 = at(u16, v33 + 66);
+    u64 v156 = (u64)v155;
+    flag v157 = v155 == 0;
+    if (v157) { v176 = v3; goto v158; }
+    u64_u64 v162 = sys_rattle_alloc(v156 << 4, 8);
+    if (!(v162._0 & 1)) goto v166;
+    u8 *v168 = (u8 *)v162._1;
+    v170 = 0;
+v169:;
+    u64 v172 = v170 << 4;
+    at(ptr_1, v168 + v172) = (u8 *)table_d0e67785;
+    at(u64_1, v168 + v172 + 8) = 0;
+    u64 v171 = v170 + 1;
+    if (v171 == v156) v176 = v168; else { v170 = v171; goto v169; }
+v158:;
+    u8 *v178 = at(ptr, v9 + 168);
+    u64 v180 = at(u64, v9 + 176);
+    if (v180 == 0) { v210 = 0; goto v182; }
+    if (at(u8, v178) & 1) { v220 = 0; goto v186; }
+    if (v180 < 64u) { v210 = 0; goto v182; }
+    v190 = 0;
+v189:;
+    if (v190 == 0xffffffffffffffc0u) goto v192;
+    v197 = 0; v199 = (u8x16){0};
+v196:;
+    u8x16 v200 = v199 | ((-(at(u8x16_1, (v178 + (i64)v190) + (i64)v197) & 1)));
+    u64 v198 = v197 + 16u;
+    if (!(v198 == 64u)) { v197 = v198; v199 = v200; goto v196; }
+    if (!(bits_u8x16(v200) == 0)) { v210 = v190; goto v182; }
+v192:;
+    u64 v191 = v190 + 64u;
+    if ((v180 - v191) < 64u) v210 = v191; else { v190 = v191; goto v189; }
+v182:;
+    if (v210 < v180) v213 = v210; else { v220 = v180; goto v186; }
+v212:;
+    if (at(u8, v178 + v213) & 1) { v220 = v213; goto v186; }
+    u64 v214 = v213 + 1;
+    if (v214 == v180) v220 = v180; else { v213 = v214; goto v212; }
 v186:;
-    if (v208 < v177) v211 = v208; else { v134 = v177; goto v135; }
-v210:;
-    if (at(u8, v176 + v211) & 1) { v134 = v211; goto v135; }
-    u64 v212 = v211 + 1;
-    if (v212 == v177) v134 = v177; else { v211 = v212; goto v210; }
-v135:;
-    if (v11 > ((u16)v134)) { v133 = v134; goto v131; }
+    if (!(v155 > ((u16)v220))) goto v224;
+    v229 = v220;
+v228:;
+    u8 *v233 = at(ptr_1, v33 + 16);
+    u8 *v234 = at(ptr_1, v33 + 32);
+    u64 v235 = v229 & 65535u;
+    if (!(at(u8, v33 + 64) == 0)) goto v238;
+    u64 v239 = v235 << 1;
+    v260 = ((u64)bswap16(at(u16_1, v233 + (i64)v239))) << 1; v261 = ((u64)bswap16(at(u16_1, v233 + (i64)v239 + 2))) << 1; goto v250;
+v238:;
+    u64 v251 = v235 << 2;
+    v260 = (u64)bswap32(at(u32_1, v233 + (i64)v251)); v261 = (u64)bswap32(at(u32_1, v233 + (i64)v251 + 4));
+v250:;
+    u64 v264 = v235 << 4;
+    at(ptr_1, v176 + (i64)v264) = v234 + (i64)v260;
+    at(u64_1, v176 + (i64)v264 + 8) = v261 - v260;
+    u64 v268 = (v229 + 1) & 65535u;
+    if (!(v180 > v268)) goto v271;
+    if (at(u8, v178 + v268) & 1) { v230 = v268; goto v231; }
+v271:;
+    if ((v180 - v268) < 64u) { v299 = v268; goto v277; }
+    v279 = v268;
+v278:;
+    if (!(v279 < 0xffffffffffffffc0u)) goto v281;
+    v286 = 0; v288 = (u8x16){0};
+v285:;
+    u8x16 v289 = v288 | ((-(at(u8x16_1, (v178 + (i64)v279) + (i64)v286) & 1)));
+    u64 v287 = v286 + 16u;
+    if (!(v287 == 64u)) { v286 = v287; v288 = v289; goto v285; }
+    if (!(bits_u8x16(v289) == 0)) { v299 = v279; goto v277; }
+v281:;
+    u64 v280 = v279 + 64u;
+    if ((v180 - v280) < 64u) v299 = v280; else { v279 = v280; goto v278; }
+v277:;
+    if (v299 < v180) v302 = v299; else { v230 = v180; goto v231; }
+v301:;
+    if (at(u8, v178 + v302) & 1) { v230 = v302; goto v231; }
+    u64 v303 = v302 + 1;
+    if (v303 == v180) v230 = v180; else { v302 = v303; goto v301; }
+v231:;
+    if (v155 > ((u16)v230)) { v229 = v230; goto v228; }
+v224:;
+    divided_tables_variation_data_with_data(v4, v33, v176, v156);
+    if (v157) goto v311;
+    sys_rattle_dealloc(v176);
+v311:;
+    u8 v314 = at(u8, v4);
+    memcpy(v6 + 7, v4 + 8, 24u);
+    if (!(v314 == 0)) goto v313;
+    memcpy(v5, v6 + 7, 24u);
+    v336 = 1; goto v153;
+v166:;
+v313:;
+    if ((v137 != 1) ? 1 : (v150 == 0)) goto v328;
+    sys_rattle_dealloc(v146);
+v328:;
+    if (v131) goto v330;
+    sys_rattle_dealloc(v133);
+v330:;
+    if ((v36 != 1) ? 1 : (v45 == 0)) goto v39;
+    sys_rattle_dealloc(v41);
+    goto v39;
+v152:;
+    memset(v5, 0, 24u);
+    v336 = 0;
+v153:;
+    memcpy(v12, v9 + 1, 191u);
+    memcpy(v13, v5, 24u);
+    v368 = v10; v369 = 0; v370 = v336; v371 = v46; v372 = v41; v373 = v43; v374 = v45; v375 = v132; v376 = v133; v377 = v134; v378 = (u64)v137; v379 = v146; v380 = v148; v381 = v150; goto v338;
+v140:;
+    if (v131) goto v319;
+    sys_rattle_dealloc(v133);
+v319:;
+    if ((v36 != 1) ? 1 : (v45 == 0)) goto v39;
+    sys_rattle_dealloc(v41);
+v39:;
+    u8 v340 = at(u8, v9 + 24);
+    u8 *v342 = at(ptr, v9 + 32);
+    u64 v344 = at(u64, v9 + 48);
+    u8 v346 = at(u8, v9 + 64);
+    u8 *v348 = at(ptr, v9 + 72);
+    u64 v350 = at(u64, v9 + 88);
+    if (at(u64, v9 + 184) == 0) goto v354;
+    sys_rattle_dealloc(at(ptr, v9 + 168));
+v354:;
+    if ((v340 != 1) ? 1 : (v344 == 0)) goto v361;
+    sys_rattle_dealloc(v342);
+v361:;
+    if ((v346 != 1) ? 1 : (v350 == 0)) goto v366;
+    sys_rattle_dealloc(v348);
+v366:;
+    memset(v12, 0, 191u);
+    memset(v13, 0, 24u);
+    v368 = 0; v369 = 1; v370 = 0; v371 = 0; v372 = (u8 *)0; v373 = 0; v374 = 0; v375 = 0; v376 = (u8 *)0; v377 = 0; v378 = 0; v379 = (u8 *)0; v380 = 0; v381 = 0;
+v338:;
+    v382 = v368; v383 = v369; v384 = v370; v385 = v371; v386 = v372; v387 = v373; v388 = v374; v389 = v375; v390 = v376; v391 = v377; v392 = v378; v393 = v379; v394 = v380; v395 = v381;
+v17:;
+    at(u8, v0) = v383;
+    at(u8, v0 + 8) = v382;
+    memcpy(v0 + 9, v12, 191u);
+    at(u64_1, v0 + 200) = v384;
+    memcpy(v0 + 208, v13, 24u);
+    at(u64_1, v0 + 232) = v385;
+    at(ptr_1, v0 + 240) = v386;
+    at(u64_1, v0 + 248) = v387;
+    at(u64_1, v0 + 256) = v388;
+    at(u64_1, v0 + 264) = v389;
+    at(ptr_1, v0 + 272) = v390;
+    at(u64_1, v0 + 280) = v391;
+    at(u64_1, v0 + 288) = v391;
+    at(u64_1, v0 + 296) = v392;
+    at(ptr_1, v0 + 304) = v393;
+    at(u64_1, v0 + 312) = v394;
+    at(u64_1, v0 + 320) = v395;
     return;
 }
 
 flag font_subset_presence_Presence_has(u8 *v0, u16 v1) {
-    u64 v35, v36, v114, v115;
-    u8 *v3 = at(ptr, v0);
-    u8 *v5 = at(ptr, v3 + 8);
+    u64 v35, v36, v132, v133;
+    u8 *v65, *v91;
+    flag v66, v92;
+    u8 *v5 = at(ptr, at(ptr, v0) + 8);
     u8 *v9 = at(ptr_1, v5 + 32);
     u64 v10 = (u64)v1;
     if (!(at(u8, v5 + 70) == 0)) goto v13;
@@ -4986,180 +4867,223 @@ v13:;
     v35 = (u64)bswap32(at(u32_1, v9 + (i64)v26)); v36 = (u64)bswap32(at(u32_1, v9 + (i64)v26 + 4));
 v25:;
     if (!(v36 == v35)) return 1;
-    u64 v49 = at(u64, v0 + 24);
-    if (v49 == 0) goto v51;
-    u8 *v54 = at(ptr_1, v0 + 8);
-    if (!((v10 + 1) < v49)) goto v44;
-    if (at(u32_1, v54 + (i64)(v10 << 2)) == 0) goto v51;
-    return 1;
-v44:;
-    if (!(at(u16_1, v54 + (i64)((v49 + v10) << 1)) == 0)) return 1;
-v51:;
-    u64 v67 = at(u64, v0 + 48);
-    if (v67 == 0) goto v47;
-    u8 *v71 = at(ptr_1, v0 + 32);
-    if (!((v10 + 1) < v67)) goto v41;
-    if (at(u32_1, v71 + (i64)(v10 << 2)) == 0) goto v47;
-    return 1;
+    u64 v47 = at(u64, v0 + 24);
+    if (v47 == 0) goto v49;
+    u8 *v52 = at(ptr_1, v0 + 8);
+    if (!((v10 + 1) < v47)) goto v56;
+    u64 v57 = v10 << 2;
+    v65 = v52 + v57; v66 = at(u16_1, v52 + v57 + 2) != 0; goto v41;
+v56:;
+    v65 = v52 + ((v47 + v10) << 1); v66 = 0;
 v41:;
-    if (!(at(u16_1, v71 + (i64)((v67 + v10) << 1)) == 0)) return 1;
-v47:;
-    if (!(at(u8, v3 + 312) == 1)) return 0;
-    u8 *v90 = at(ptr_1, v3 + 336);
-    if (!(at(u8, v3 + 384) == 0)) goto v93;
-    u64 v94 = v10 << 1;
-    v114 = ((u64)bswap16(at(u16_1, v90 + (i64)v94))) << 1; v115 = ((u64)bswap16(at(u16_1, v90 + (i64)v94 + 2))) << 1; goto v46;
-v93:;
-    u64 v105 = v10 << 2;
-    v114 = (u64)bswap32(at(u32_1, v90 + (i64)v105)); v115 = (u64)bswap32(at(u32_1, v90 + (i64)v105 + 4));
-v46:;
-    return v115 != v114;
+    if (v66 | (((u8)(at(u8, v65) | at(u8, v65 + 1))) != 0)) return 1;
+v49:;
+    u64 v74 = at(u64, v0 + 56);
+    if (v74 == 0) goto v45;
+    u8 *v78 = at(ptr_1, v0 + 40);
+    if (!((v10 + 1) < v74)) goto v82;
+    u64 v83 = v10 << 2;
+    v91 = v78 + v83; v92 = at(u16_1, v78 + v83 + 2) != 0; goto v42;
+v82:;
+    v91 = v78 + ((v74 + v10) << 1); v92 = 0;
+v42:;
+    if (v92 | (((u8)(at(u8, v91) | at(u8, v91 + 1))) != 0)) return 1;
+v45:;
+    if (!(at(u8, v0 + 72) == 1)) return 0;
+    u8 *v104 = at(ptr, v0 + 80);
+    u8 *v108 = at(ptr_1, v104 + 16);
+    if (!(at(u8, v104 + 64) == 0)) goto v111;
+    u64 v112 = v10 << 1;
+    v132 = ((u64)bswap16(at(u16_1, v108 + (i64)v112))) << 1; v133 = ((u64)bswap16(at(u16_1, v108 + (i64)v112 + 2))) << 1; goto v44;
+v111:;
+    u64 v123 = v10 << 2;
+    v132 = (u64)bswap32(at(u32_1, v108 + (i64)v123)); v133 = (u64)bswap32(at(u32_1, v108 + (i64)v123 + 4));
+v44:;
+    return v133 != v132;
 }
 
 void font_subset_presence_Presence_of(u8 *v0, u8 *v1) {
-    u64 v17, v50, v96, v97, v101, v133, v178, v179, v182, v183;
-    u8 *v95, *v180, *v181;
+    u64 v24, v59, v89, v94, v129, v160, v183, v184, v186, v213, v219, v222, v224, v226, v228, v229, v230, v231;
+    u8 *v54, *v90, *v124, *v159, *v211, *v217, *v223, v225, *v227, *v232;
+    flag v55, v125, v185, v212, v218;
     u8 *v4 = at(ptr, v1 + 8);
     u16 v6 = at(u16, v4 + 64);
     u8 *v7 = at(ptr_2, v4);
     u16 v9 = at(u16_1, v7 + 4);
     u64 v11 = (u64)bswap16(v9);
-    if (v9 == 0) { v178 = 0; v179 = 0; v180 = (u8 *)table_d0e67785; v181 = (u8 *)table_d0e67785; v182 = 0; v183 = 0; goto v13; }
-    v17 = 0;
+    if (!(v9 == 0)) { v24 = 0; goto v14; }
+    u8 v16 = at(u8, v1 + 312);
+    v225 = v16; v226 = (v16 == 1) ? ((u64)(v1 + 320)) : 0; v227 = (u8 *)table_d0e67785; v228 = 0; v229 = 0; v230 = 0; v231 = 0; v232 = (u8 *)table_d0e67785; goto v21;
 v14:;
-    u64 v20 = v17 << 4;
-    if (!((((at(u8, v7 + (i64)v20 + 12) == 104u) & (at(u8, v7 + (i64)v20 + 13) == 109u)) & (at(u8, v7 + (i64)v20 + 14) == 116u)) & (at(u8, v7 + (i64)v20 + 15) == 120u))) goto v15;
-    u64 v45 = (u64)bswap32(at(u32_1, v7 + (i64)v20 + 24));
-    u64 v44 = (u64)bswap32(at(u32_1, v7 + (i64)v20 + 20));
-    v50 = 0;
-v47:;
-    u64 v52 = v50 << 4;
-    if (!((((at(u8, v7 + (i64)v52 + 12) == 104u) & (at(u8, v7 + (i64)v52 + 13) == 104u)) & (at(u8, v7 + (i64)v52 + 14) == 101u)) & (at(u8, v7 + (i64)v52 + 15) == 97u))) goto v48;
-    if (bswap32(at(u32_1, v7 + (i64)v52 + 24)) < 36u) { v95 = v7 + (i64)v44; v96 = v45; v97 = 0; goto v19; }
-    u16 v81 = at(u16_1, v7 + (i64)((u64)bswap32(at(u32_1, v7 + (i64)v52 + 20))) + 34);
-    u16 v83 = bswap16(v81);
-    if ((v81 == 0) | (v6 < v83)) { v95 = v7 + (i64)v44; v96 = v45; v97 = 0; goto v19; }
-    u64 v87 = (u64)v83;
-    v95 = v7 + (i64)v44; v96 = v45; v97 = (((((u64)((u16)(v6 - v83))) << 1) + (v87 << 2)) > v45) ? 0 : v87; goto v19;
-v48:;
-    u64 v49 = v50 + 1;
-    if (v49 == v11) { v95 = v7 + (i64)v44; v96 = v45; v97 = 0; goto v19; }
-    v50 = v49; goto v47;
-v15:;
-    u64 v16 = v17 + 1;
-    if (v16 == v11) { v95 = (u8 *)table_d0e67785; v96 = 0; v97 = 0; } else { v17 = v16; goto v14; }
-v19:;
-    v101 = 0;
-v98:;
-    u64 v103 = v101 << 4;
-    if (!((((at(u8, v7 + (i64)v103 + 12) == 118u) & (at(u8, v7 + (i64)v103 + 13) == 109u)) & (at(u8, v7 + (i64)v103 + 14) == 116u)) & (at(u8, v7 + (i64)v103 + 15) == 120u))) goto v99;
-    u64 v128 = (u64)bswap32(at(u32_1, v7 + (i64)v103 + 24));
-    u64 v127 = (u64)bswap32(at(u32_1, v7 + (i64)v103 + 20));
-    v133 = 0;
-v130:;
-    u64 v135 = v133 << 4;
-    if (!((((at(u8, v7 + (i64)v135 + 12) == 118u) & (at(u8, v7 + (i64)v135 + 13) == 104u)) & (at(u8, v7 + (i64)v135 + 14) == 101u)) & (at(u8, v7 + (i64)v135 + 15) == 97u))) goto v131;
-    if (bswap32(at(u32_1, v7 + (i64)v135 + 24)) < 36u) { v178 = v97; v179 = v96; v180 = v95; v181 = v7 + (i64)v127; v182 = v128; v183 = 0; goto v13; }
-    u16 v164 = at(u16_1, v7 + (i64)((u64)bswap32(at(u32_1, v7 + (i64)v135 + 20))) + 34);
-    u16 v166 = bswap16(v164);
-    if ((v164 == 0) | (v6 < v166)) { v178 = v97; v179 = v96; v180 = v95; v181 = v7 + (i64)v127; v182 = v128; v183 = 0; goto v13; }
-    u64 v170 = (u64)v166;
-    v178 = v97; v179 = v96; v180 = v95; v181 = v7 + (i64)v127; v182 = v128; v183 = (((((u64)((u16)(v6 - v166))) << 1) + (v170 << 2)) > v128) ? 0 : v170; goto v13;
+    u64 v27 = v24 << 4;
+    flag v43 = (((at(u8, v7 + (i64)v27 + 12) != 104u) | (at(u8, v7 + (i64)v27 + 13) != 104u)) | (at(u8, v7 + (i64)v27 + 14) != 101u)) | (at(u8, v7 + (i64)v27 + 15) != 97u);
+    if (!v43) goto v44;
+    u64 v23 = v24 + 1;
+    if (v23 == v11) { v54 = (u8 *)0; v55 = 1; goto v26; }
+    v24 = v23; goto v14;
+v44:;
+    v54 = v7 + (i64)((u64)bswap32(at(u32_1, v7 + (i64)v27 + 20))); v55 = bswap32(at(u32_1, v7 + (i64)v27 + 24)) < 36u;
+v26:;
+    v59 = 0;
+v56:;
+    u64 v62 = v59 << 4;
+    flag v78 = (((at(u8, v7 + (i64)v62 + 12) == 104u) & (at(u8, v7 + (i64)v62 + 13) == 109u)) & (at(u8, v7 + (i64)v62 + 14) == 116u)) & (at(u8, v7 + (i64)v62 + 15) == 120u);
+    if (!v78) goto v57;
+    v89 = (u64)bswap32(at(u32_1, v7 + (i64)v62 + 24)); v90 = v7 + (i64)((u64)bswap32(at(u32_1, v7 + (i64)v62 + 20))); goto v61;
+v57:;
+    u64 v58 = v59 + 1;
+    if (v58 == v11) { v89 = 0; v90 = (u8 *)0; } else { v59 = v58; goto v56; }
+v61:;
+    v94 = 0;
+v91:;
+    u64 v97 = v94 << 4;
+    flag v113 = (((at(u8, v7 + (i64)v97 + 12) != 118u) | (at(u8, v7 + (i64)v97 + 13) != 104u)) | (at(u8, v7 + (i64)v97 + 14) != 101u)) | (at(u8, v7 + (i64)v97 + 15) != 97u);
+    if (!v113) goto v114;
+    u64 v93 = v94 + 1;
+    if (v93 == v11) { v124 = (u8 *)0; v125 = 1; goto v96; }
+    v94 = v93; goto v91;
+v114:;
+    v124 = v7 + (i64)((u64)bswap32(at(u32_1, v7 + (i64)v97 + 20))); v125 = bswap32(at(u32_1, v7 + (i64)v97 + 24)) < 36u;
+v96:;
+    v129 = 0;
+v126:;
+    u64 v132 = v129 << 4;
+    flag v148 = (((at(u8, v7 + (i64)v132 + 12) == 118u) & (at(u8, v7 + (i64)v132 + 13) == 109u)) & (at(u8, v7 + (i64)v132 + 14) == 116u)) & (at(u8, v7 + (i64)v132 + 15) == 120u);
+    if (!v148) goto v127;
+    v159 = v7 + (i64)((u64)bswap32(at(u32_1, v7 + (i64)v132 + 20))); v160 = (u64)bswap32(at(u32_1, v7 + (i64)v132 + 24)); goto v131;
+v127:;
+    u64 v128 = v129 + 1;
+    if (v128 == v11) { v159 = (u8 *)0; v160 = 0; } else { v129 = v128; goto v126; }
 v131:;
-    u64 v132 = v133 + 1;
-    if (v132 == v11) { v178 = v97; v179 = v96; v180 = v95; v181 = v7 + (i64)v127; v182 = v128; v183 = 0; goto v13; }
-    v133 = v132; goto v130;
-v99:;
-    u64 v100 = v101 + 1;
-    if (v100 == v11) { v178 = v97; v179 = v96; v180 = v95; v181 = (u8 *)table_d0e67785; v182 = 0; v183 = 0; } else { v101 = v100; goto v98; }
-v13:;
+    u8 v162 = at(u8, v1 + 312);
+    if (v43 | v55) goto v164;
+    u16 v167 = at(u16_1, v54 + 34);
+    u16 v169 = bswap16(v167);
+    if (!((v167 == 0) | (v6 < v169))) goto v172;
+v164:;
+    if (v148) { v183 = 0; goto v181; }
+    v184 = 0; v185 = 0; v186 = 0; goto v182;
+v172:;
+    u64 v173 = (u64)v169;
+    u64 v180 = (v89 < ((((u64)((u16)(v6 - v169))) << 1) + (v173 << 2))) ? 0 : v173;
+    if (v148) v183 = v180; else { v184 = v180; v185 = 0; v186 = 0; goto v182; }
+v181:;
+    v184 = v183; v185 = 1; v186 = v160;
+v182:;
+    if (v113 | v125) goto v188;
+    u16 v191 = at(u16_1, v124 + 34);
+    u16 v193 = bswap16(v191);
+    if (!((v191 == 0) | (v6 < v193))) goto v196;
+v188:;
+    flag v209 = v162 == 1;
+    if (v78) { v211 = v1 + 320; v212 = v209; v213 = 0; goto v207; }
+    v217 = v1 + 320; v218 = v209; v219 = 0; goto v208;
+v196:;
+    u64 v197 = (u64)v193;
+    u64 v204 = (v186 < ((((u64)((u16)(v6 - v193))) << 1) + (v197 << 2))) ? 0 : v197;
+    flag v205 = v162 == 1;
+    if (v78) { v211 = v1 + 320; v212 = v205; v213 = v204; } else { v217 = v1 + 320; v218 = v205; v219 = v204; goto v208; }
+v207:;
+    u64 v215 = v212 ? ((u64)v211) : 0;
+    if (v185) { v222 = v215; v223 = v90; v224 = v213; goto v216; }
+    v225 = v162; v226 = v215; v227 = v90; v228 = v186; v229 = v89; v230 = v184; v231 = v213; v232 = (u8 *)table_d0e67785; goto v21;
+v208:;
+    u64 v221 = v218 ? ((u64)v217) : 0;
+    if (v185) { v222 = v221; v223 = (u8 *)table_d0e67785; v224 = v219; } else { v225 = v162; v226 = v221; v227 = (u8 *)table_d0e67785; v228 = v186; v229 = v89; v230 = v184; v231 = v219; v232 = (u8 *)table_d0e67785; goto v21; }
+v216:;
+    v225 = v162; v226 = v222; v227 = v223; v228 = v186; v229 = v89; v230 = v184; v231 = v224; v232 = v159;
+v21:;
     at(ptr_1, v0) = v1;
-    at(ptr_1, v0 + 8) = v180;
-    at(u64_1, v0 + 16) = v179;
-    at(u64_1, v0 + 24) = v178;
-    at(ptr_1, v0 + 32) = v181;
-    at(u64_1, v0 + 40) = v182;
-    at(u64_1, v0 + 48) = v183;
+    at(ptr_1, v0 + 8) = v227;
+    at(u64_1, v0 + 16) = v229;
+    at(u64_1, v0 + 24) = v230;
+    at(u16_1, v0 + 32) = v6;
+    memset(v0 + 34, 0, 6);
+    at(ptr_1, v0 + 40) = v232;
+    at(u64_1, v0 + 48) = v228;
+    at(u64_1, v0 + 56) = v231;
+    at(u16_1, v0 + 64) = v6;
+    memset(v0 + 66, 0, 6);
+    at(u64_1, v0 + 72) = (u64)v225;
+    at(u64_1, v0 + 80) = v226;
     return;
 }
 
 static void font_subset_presence_mark_between(u8 *v0, u8 *v1, u16 v2, u16 v3) {
-    u64 v25, v80, v81, v106, v140, v123, v127, v165, v181, v186, v199, v203, v232, v266, v249, v253, v302, v317, v322, v335, v339, v276, v280, v349;
-    u8 *v50;
-    u8x16 v108, v167, v234, v304;
-    flag v138, v124, v210, v182, v198, v201, v209, v264, v250, v272, v318, v334, v337, v345;
-    u32x4 v129, v188, v255, v324;
-    u8 *v5 = at(ptr, v1);
-    if (at(u8, v5 + 312) == 1) goto v9;
-    u8 *v12 = at(ptr, v5 + 8);
-    u8 v14 = at(u8, v12 + 70);
-    u8 *v15 = at(ptr_1, v12);
-    u16 v17 = at(u16_1, v15 + 4);
-    u64 v19 = (u64)bswap16(v17);
-    if (v17 == 0) { v50 = (u8 *)table_d0e67785; goto v21; }
-    v25 = 0;
-v22:;
-    u64 v27 = v25 << 4;
-    if (!((((at(u8, v15 + (i64)v27 + 12) == 108u) & (at(u8, v15 + (i64)v27 + 13) == 111u)) & (at(u8, v15 + (i64)v27 + 14) == 99u)) & (at(u8, v15 + (i64)v27 + 15) == 97u))) goto v23;
-    v50 = v15 + (i64)((u64)bswap32(at(u32_1, v15 + (i64)v27 + 20))); goto v21;
-v23:;
-    u64 v24 = v25 + 1;
-    if (v24 == v19) v50 = (u8 *)table_d0e67785; else { v25 = v24; goto v22; }
-v21:;
-    u64 v51 = (u64)v2;
-    if (!(v14 == 0)) goto v54;
-    v80 = ((u64)bswap16(at(u16_1, v50 + (i64)(v51 << 1)))) << 1; v81 = ((u64)bswap16(at(u16_1, v50 + (i64)(((u64)v3) << 1)))) << 1; goto v68;
-v54:;
-    v80 = (u64)bswap32(at(u32_1, v50 + (i64)(v51 << 2))); v81 = (u64)bswap32(at(u32_1, v50 + (i64)(((u64)v3) << 2)));
-v68:;
-    if (!(v80 == v81)) goto v9;
-    u64 v85 = (u64)v3;
+    u64 v20, v75, v76, v106, v140, v123, v127, v165, v181, v186, v199, v203, v231, v265, v248, v252, v298, v313, v318, v331, v335, v275, v345;
+    u8 *v45;
+    u8x16 v108, v167, v233, v300;
+    flag v138, v124, v146, v182, v198, v201, v209, v263, v249, v271, v314, v330, v333, v341;
+    u32x4 v129, v188, v254, v320;
+    u8 *v7 = at(ptr, at(ptr, v1) + 8);
+    u8 v9 = at(u8, v7 + 70);
+    u8 *v10 = at(ptr_1, v7);
+    u16 v12 = at(u16_1, v10 + 4);
+    u64 v14 = (u64)bswap16(v12);
+    if (v12 == 0) { v45 = (u8 *)table_d0e67785; goto v16; }
+    v20 = 0;
+v17:;
+    u64 v22 = v20 << 4;
+    if (!((((at(u8, v10 + (i64)v22 + 12) == 108u) & (at(u8, v10 + (i64)v22 + 13) == 111u)) & (at(u8, v10 + (i64)v22 + 14) == 99u)) & (at(u8, v10 + (i64)v22 + 15) == 97u))) goto v18;
+    v45 = v10 + (i64)((u64)bswap32(at(u32_1, v10 + (i64)v22 + 20))); goto v16;
+v18:;
+    u64 v19 = v20 + 1;
+    if (v19 == v14) v45 = (u8 *)table_d0e67785; else { v20 = v19; goto v17; }
+v16:;
+    u64 v46 = (u64)v2;
+    if (!(v9 == 0)) goto v49;
+    v75 = ((u64)bswap16(at(u16_1, v45 + (i64)(v46 << 1)))) << 1; v76 = ((u64)bswap16(at(u16_1, v45 + (i64)(((u64)v3) << 1)))) << 1; goto v63;
+v49:;
+    v75 = (u64)bswap32(at(u32_1, v45 + (i64)(v46 << 2))); v76 = (u64)bswap32(at(u32_1, v45 + (i64)(((u64)v3) << 2)));
+v63:;
+    if (!(v75 == v76)) goto v79;
+    if (at(u8, v1 + 72) == 1) goto v79;
+    u8 *v85 = at(ptr_1, v1 + 8);
     u64 v87 = at(u64, v1 + 24);
-    if (v87 == 0) goto v89;
-    if (!(v87 > v85)) goto v93;
-    u8 *v94 = at(ptr_1, v1 + 8);
-    u64 v95 = v51 << 2;
-    u64 v97 = v85 - v51;
+    u64 v88 = (u64)v3;
+    if (v87 == 0) goto v90;
+    if (!(v87 > v88)) goto v94;
+    u64 v95 = v46 << 2;
+    u64 v97 = v88 - v46;
     u64 v98 = v97 << 2;
-    if (v3 == v2) goto v89;
+    if (v3 == v2) goto v90;
     if (v98 < 16u) { v123 = 0; v124 = 0; goto v102; }
     u64 v104 = v98 & 0xfffffffffffffff0u;
     v106 = 0; v108 = (u8x16){0};
 v105:;
-    u8x16 v109 = v108 | ((u8x16)(at(u8x16_1, (v94 + (i64)v95) + v106) != (u8x16){0}));
+    u8x16 v109 = v108 | ((u8x16)(at(u8x16_1, (v85 + (i64)v95) + v106) != (u8x16){0}));
     u64 v107 = v106 + 16u;
     if (!(v107 == v104)) { v106 = v107; v108 = v109; goto v105; }
     flag v116 = bits_u8x16(v109) != 0;
-    if (v98 == v104) { v210 = v116; goto v118; }
+    if (v98 == v104) { v146 = v116; goto v118; }
     if ((v97 & 3) == 0) { v138 = v116; v140 = v104; } else { v123 = v104; v124 = v116; goto v102; }
 v122:;
-    flag v139 = v138 | (at(u8, (v94 + (i64)v95) + v140) != 0);
+    flag v139 = v138 | (at(u8, (v85 + (i64)v95) + v140) != 0);
     u64 v141 = v140 + 1;
-    if (v141 == v98) { v210 = v139; goto v118; }
+    if (v141 == v98) { v146 = v139; goto v118; }
     v138 = v139; v140 = v141; goto v122;
 v102:;
     v127 = v123; v129 = (u32x4){-(u32)v124, 0, 0, 0};
 v126:;
-    u32x4 v130 = v129 | ((u32x4)__builtin_convertvector((i8x4)(u8x4)(at(u8x4_1, (v94 + (i64)v95) + v127) != (u8x4){0}), i32x4));
+    u32x4 v130 = v129 | ((u32x4)__builtin_convertvector((i8x4)(u8x4)(at(u8x4_1, (v85 + (i64)v95) + v127) != (u8x4){0}), i32x4));
     u64 v128 = v127 + 4;
     if (!(v128 == v98)) { v127 = v128; v129 = v130; goto v126; }
-    v210 = bits_u32x4(v130) != 0;
+    v146 = bits_u32x4(v130) != 0;
 v118:;
-    if (v210) goto v9;
-    goto v89;
-v93:;
-    if (v87 > (v51 + 1)) goto v9;
-    u8 *v149 = at(ptr_1, v1 + 8);
-    u64 v151 = (v87 + v51) << 1;
-    u64 v153 = v85 - v51;
+    if (v146) goto v79;
+    goto v90;
+v94:;
+    if (v87 > (v46 + 1)) goto v79;
+    u64 v151 = (v87 + v46) << 1;
+    u64 v153 = v88 - v46;
     u64 v154 = v153 << 1;
-    if (v3 == v2) goto v89;
+    if (v3 == v2) goto v90;
     if (v154 < 4) { v198 = 0; v199 = 0; goto v158; }
     if (v154 < 16u) { v181 = 0; v182 = 0; goto v161; }
     u64 v163 = v154 & 0xfffffffffffffff0u;
     v165 = 0; v167 = (u8x16){0};
 v164:;
-    u8x16 v168 = v167 | ((u8x16)(at(u8x16_1, (v149 + (i64)v151) + v165) != (u8x16){0}));
+    u8x16 v168 = v167 | ((u8x16)(at(u8x16_1, (v85 + (i64)v151) + v165) != (u8x16){0}));
     u64 v166 = v165 + 16u;
     if (!(v166 == v163)) { v165 = v166; v167 = v168; goto v164; }
     flag v175 = bits_u8x16(v168) != 0;
@@ -5170,7 +5094,7 @@ v161:;
     u64 v183 = v154 & 0xfffffffffffffffcu;
     v186 = v181; v188 = (u32x4){-(u32)v182, 0, 0, 0};
 v185:;
-    u32x4 v189 = v188 | ((u32x4)__builtin_convertvector((i8x4)(u8x4)(at(u8x4_1, (v149 + (i64)v151) + v186) != (u8x4){0}), i32x4));
+    u32x4 v189 = v188 | ((u32x4)__builtin_convertvector((i8x4)(u8x4)(at(u8x4_1, (v85 + (i64)v151) + v186) != (u8x4){0}), i32x4));
     u64 v187 = v186 + 4;
     if (!(v187 == v183)) { v186 = v187; v188 = v189; goto v185; }
     flag v196 = bits_u32x4(v189) != 0;
@@ -5179,97 +5103,96 @@ v185:;
 v158:;
     v201 = v198; v203 = v199;
 v200:;
-    flag v202 = v201 | (at(u8, (v149 + (i64)v151) + v203) != 0);
+    flag v202 = v201 | (at(u8, (v85 + (i64)v151) + v203) != 0);
     u64 v204 = v203 + 1;
     if (v204 == v154) v209 = v202; else { v201 = v202; v203 = v204; goto v200; }
 v177:;
-    if (v209) goto v9;
-v89:;
-    u64 v213 = at(u64, v1 + 48);
+    if (v209) goto v79;
+v90:;
+    u8 *v211 = at(ptr_1, v1 + 40);
+    u64 v213 = at(u64, v1 + 56);
     if (v213 == 0) return;
-    if (!(v213 > v85)) goto v219;
-    u8 *v220 = at(ptr_1, v1 + 32);
-    u64 v221 = v51 << 2;
-    u64 v223 = v85 - v51;
-    u64 v224 = v223 << 2;
+    if (!(v213 > v88)) goto v219;
+    u64 v220 = v46 << 2;
+    u64 v222 = v88 - v46;
+    u64 v223 = v222 << 2;
     if (v3 == v2) return;
-    if (v224 < 16u) { v249 = 0; v250 = 0; goto v228; }
-    u64 v230 = v224 & 0xfffffffffffffff0u;
-    v232 = 0; v234 = (u8x16){0};
-v231:;
-    u8x16 v235 = v234 | ((u8x16)(at(u8x16_1, (v220 + (i64)v221) + v232) != (u8x16){0}));
-    u64 v233 = v232 + 16u;
-    if (!(v233 == v230)) { v232 = v233; v234 = v235; goto v231; }
-    flag v242 = bits_u8x16(v235) != 0;
-    if (v224 == v230) { v272 = v242; goto v244; }
-    if ((v223 & 3) == 0) { v264 = v242; v266 = v230; } else { v249 = v230; v250 = v242; goto v228; }
-v248:;
-    flag v265 = v264 | (at(u8, (v220 + (i64)v221) + v266) != 0);
-    u64 v267 = v266 + 1;
-    if (v267 == v224) { v272 = v265; goto v244; }
-    v264 = v265; v266 = v267; goto v248;
-v228:;
-    v253 = v249; v255 = (u32x4){-(u32)v250, 0, 0, 0};
-v252:;
-    u32x4 v256 = v255 | ((u32x4)__builtin_convertvector((i8x4)(u8x4)(at(u8x4_1, (v220 + (i64)v221) + v253) != (u8x4){0}), i32x4));
-    u64 v254 = v253 + 4;
-    if (!(v254 == v224)) { v253 = v254; v255 = v256; goto v252; }
-    v272 = bits_u32x4(v256) != 0;
-v244:;
-    if (v272 & (v2 < v3)) { v276 = v85; v280 = v51; goto v275; }
+    if (v223 < 16u) { v248 = 0; v249 = 0; goto v227; }
+    u64 v229 = v223 & 0xfffffffffffffff0u;
+    v231 = 0; v233 = (u8x16){0};
+v230:;
+    u8x16 v234 = v233 | ((u8x16)(at(u8x16_1, (v211 + (i64)v220) + v231) != (u8x16){0}));
+    u64 v232 = v231 + 16u;
+    if (!(v232 == v229)) { v231 = v232; v233 = v234; goto v230; }
+    flag v241 = bits_u8x16(v234) != 0;
+    if (v223 == v229) { v271 = v241; goto v243; }
+    if ((v222 & 3) == 0) { v263 = v241; v265 = v229; } else { v248 = v229; v249 = v241; goto v227; }
+v247:;
+    flag v264 = v263 | (at(u8, (v211 + (i64)v220) + v265) != 0);
+    u64 v266 = v265 + 1;
+    if (v266 == v223) { v271 = v264; goto v243; }
+    v263 = v264; v265 = v266; goto v247;
+v227:;
+    v252 = v248; v254 = (u32x4){-(u32)v249, 0, 0, 0};
+v251:;
+    u32x4 v255 = v254 | ((u32x4)__builtin_convertvector((i8x4)(u8x4)(at(u8x4_1, (v211 + (i64)v220) + v252) != (u8x4){0}), i32x4));
+    u64 v253 = v252 + 4;
+    if (!(v253 == v223)) { v252 = v253; v254 = v255; goto v251; }
+    v271 = bits_u32x4(v255) != 0;
+v243:;
+    if (v271 & (v2 < v3)) { v275 = v88; goto v274; }
     return;
 v219:;
-    if (v213 > (v51 + 1)) goto v9;
-    u8 *v286 = at(ptr_1, v1 + 32);
-    u64 v288 = (v213 + v51) << 1;
-    u64 v290 = v85 - v51;
-    u64 v291 = v290 << 1;
+    if (v213 > (v46 + 1)) goto v79;
+    u64 v284 = (v213 + v46) << 1;
+    u64 v286 = v88 - v46;
+    u64 v287 = v286 << 1;
     if (v3 == v2) return;
-    if (v291 < 4) { v334 = 0; v335 = 0; goto v295; }
-    if (v291 < 16u) { v317 = 0; v318 = 0; goto v298; }
-    u64 v300 = v291 & 0xfffffffffffffff0u;
-    v302 = 0; v304 = (u8x16){0};
-v301:;
-    u8x16 v305 = v304 | ((u8x16)(at(u8x16_1, (v286 + (i64)v288) + v302) != (u8x16){0}));
-    u64 v303 = v302 + 16u;
-    if (!(v303 == v300)) { v302 = v303; v304 = v305; goto v301; }
-    flag v312 = bits_u8x16(v305) != 0;
-    if (v291 == v300) { v345 = v312; goto v279; }
-    if ((v290 & 6) == 0) { v334 = v312; v335 = v300; goto v295; }
-    v317 = v300; v318 = v312;
-v298:;
-    u64 v319 = v291 & 0xfffffffffffffffcu;
-    v322 = v317; v324 = (u32x4){-(u32)v318, 0, 0, 0};
-v321:;
-    u32x4 v325 = v324 | ((u32x4)__builtin_convertvector((i8x4)(u8x4)(at(u8x4_1, (v286 + (i64)v288) + v322) != (u8x4){0}), i32x4));
-    u64 v323 = v322 + 4;
-    if (!(v323 == v319)) { v322 = v323; v324 = v325; goto v321; }
-    flag v332 = bits_u32x4(v325) != 0;
-    if (v291 == v319) { v345 = v332; goto v279; }
-    v334 = v332; v335 = v319;
-v295:;
-    v337 = v334; v339 = v335;
-v336:;
-    flag v338 = v337 | (at(u8, (v286 + (i64)v288) + v339) != 0);
-    u64 v340 = v339 + 1;
-    if (v340 == v291) v345 = v338; else { v337 = v338; v339 = v340; goto v336; }
-v279:;
-    if (v345 & (v2 < v3)) { v276 = v85; v280 = v51; goto v275; }
+    if (v287 < 4) { v330 = 0; v331 = 0; goto v291; }
+    if (v287 < 16u) { v313 = 0; v314 = 0; goto v294; }
+    u64 v296 = v287 & 0xfffffffffffffff0u;
+    v298 = 0; v300 = (u8x16){0};
+v297:;
+    u8x16 v301 = v300 | ((u8x16)(at(u8x16_1, (v211 + (i64)v284) + v298) != (u8x16){0}));
+    u64 v299 = v298 + 16u;
+    if (!(v299 == v296)) { v298 = v299; v300 = v301; goto v297; }
+    flag v308 = bits_u8x16(v301) != 0;
+    if (v287 == v296) { v341 = v308; goto v278; }
+    if ((v286 & 6) == 0) { v330 = v308; v331 = v296; goto v291; }
+    v313 = v296; v314 = v308;
+v294:;
+    u64 v315 = v287 & 0xfffffffffffffffcu;
+    v318 = v313; v320 = (u32x4){-(u32)v314, 0, 0, 0};
+v317:;
+    u32x4 v321 = v320 | ((u32x4)__builtin_convertvector((i8x4)(u8x4)(at(u8x4_1, (v211 + (i64)v284) + v318) != (u8x4){0}), i32x4));
+    u64 v319 = v318 + 4;
+    if (!(v319 == v315)) { v318 = v319; v320 = v321; goto v317; }
+    flag v328 = bits_u32x4(v321) != 0;
+    if (v287 == v315) { v341 = v328; goto v278; }
+    v330 = v328; v331 = v315;
+v291:;
+    v333 = v330; v335 = v331;
+v332:;
+    flag v334 = v333 | (at(u8, (v211 + (i64)v284) + v335) != 0);
+    u64 v336 = v335 + 1;
+    if (v336 == v287) v341 = v334; else { v333 = v334; v335 = v336; goto v332; }
+v278:;
+    if (v341 & (v2 < v3)) { v275 = v88; goto v274; }
     return;
-v9:;
+v79:;
     if (!(v2 < v3)) return;
-    v276 = (u64)v3; v280 = (u64)v2;
-v275:;
-    v349 = v280;
-v282:;
-    if (!(v349 < ((u64)at(u16, at(ptr, at(ptr, v1) + 8) + 64)))) goto v351;
-    u8 *v360 = at(ptr, v0);
-    if (at(u8, v360 + (i64)v349) & 1) goto v351;
-    if (!font_subset_presence_Presence_has(v1, (u16)v349)) goto v351;
-    at(u8, v360 + (i64)v349) = 1;
-v351:;
-    u64 v350 = v349 + 1;
-    if (v350 < v276) { v349 = v350; goto v282; }
+    v275 = (u64)v3;
+v274:;
+    v345 = v46;
+v279:;
+    if (!(v345 < ((u64)at(u16, at(ptr, at(ptr, v1) + 8) + 64)))) goto v347;
+    u8 *v356 = at(ptr, v0);
+    if (at(u8, v356 + (i64)v345) & 1) goto v347;
+    if (!font_subset_presence_Presence_has(v1, (u16)v345)) goto v347;
+    at(u8, v356 + (i64)v345) = 1;
+v347:;
+    u64 v346 = v345 + 1;
+    if (v346 < v275) { v345 = v346; goto v279; }
     return;
 }
 
@@ -5855,7 +5778,7 @@ v279:;
 }
 
 static void font_subset_selection_mark_roots(u8 *v0, u8 *v1, u8 *v2, u8 *v3) {
-    _Alignas(8) u8 v5[24], v6[24], v7[56], v8[56], v9[56], v15[24], v16[24];
+    _Alignas(8) u8 v5[24], v6[24], v7[88], v8[88], v9[88], v15[24], v16[24];
     u64 v31;
     u16 v58, v62;
     u8 *v63;
@@ -5863,13 +5786,13 @@ static void font_subset_selection_mark_roots(u8 *v0, u8 *v1, u8 *v2, u8 *v3) {
     u8 *v12 = at(ptr_1, v3 + 8);
     u64 v14 = at(u64_1, v3 + 16);
     memcpy(v16, v1, 24u);
-    memset(v7, 0, 56u);
-    memset(v9, 0, 56u);
+    memset(v7, 0, 88u);
+    memset(v9, 0, 88u);
     memcpy(v5, v1, 24u);
     if (at(u8, v2) == 0) { v63 = v16; goto v19; }
     if (!(v10 == 1)) goto v23;
     font_subset_presence_Presence_of(v7, v2);
-    memcpy(v8, v7, 56u);
+    memcpy(v8, v7, 88u);
     if (v14 == 0) goto v25;
     u8 *v27 = at(ptr, v8);
     u8 *v29 = at(ptr, v5);
@@ -7187,8 +7110,8 @@ v168:;
 
 static u8_u64 font_write_size_table_length_895b(u8 *v0, u8 *v1, u64 v2) {
     _Alignas(8) u8 v4[24];
-    u64 v89, v31, v95;
-    u8 v94;
+    u64 v31, v68;
+    u8 v67;
     switch (v2) {
     case 1: goto v6;
     case 5: goto v7;
@@ -7197,60 +7120,32 @@ static u8_u64 font_write_size_table_length_895b(u8 *v0, u8 *v1, u64 v2) {
     default: goto v5;
     }
 v5:;
-    memset(v4, 0, 24u);
-    if (!(v2 < 16u)) goto v64;
-    font_subset_accepted_copied(v4, at(ptr, v0 + 8), v2);
-    goto v67;
-v64:;
-    font_subset_font_of_kind_FontOfKind_further_6e0a(v4, v0, v2);
-v67:;
-    u8 v69 = at(u8, v4);
-    u64 v71 = at(u64, v4 + 16);
-    if (at(u8, v0) == 0) goto v74;
-    switch (v2) {
-    case 8: goto v76;
-    case 15u: goto v77;
-    case 28u: goto v78;
-    default: goto v74;
-    }
-v74:;
-    v94 = v69; v95 = (v69 == 1) ? v71 : 0; goto v14;
-v76:;
-    u8 v80 = at(u8, v0 + 560);
-    if (v80 == 1) { v89 = 576u; goto v82; }
-    v94 = v80; v95 = 0; goto v14;
-v77:;
-    u8 v84 = at(u8, v0 + 592);
-    if (v84 == 1) { v89 = 608u; goto v82; }
-    v94 = v84; v95 = 0; goto v14;
-v78:;
-    u8 v87 = at(u8, v0 + 624);
-    if (v87 == 1) v89 = 640u; else { v94 = v87; v95 = 0; goto v14; }
-v82:;
-    v94 = 1; v95 = at(u64, v0 + (i64)v89); goto v14;
+    font_join_union_UnionSource_copied(v4, v0, v2);
+    u8 v62 = at(u8, v4);
+    v67 = v62; v68 = (v62 == 1) ? at(u64, v4 + 16) : 0; goto v14;
 v6:;
-    v94 = 1; v95 = (u64)((at(u32_1, v1) * 12u) + 36u); goto v14;
+    v67 = 1; v68 = (u64)((at(u32_1, v1) * 12u) + 36u); goto v14;
 v7:;
     u64 v16 = at(u64_1, v1 + 8);
-    v94 = 1; v95 = ((v16 == 0) ? 4 : 0) + v16; goto v14;
+    v67 = 1; v68 = ((v16 == 0) ? 4 : 0) + v16; goto v14;
 v8:;
     u8 *v22 = at(ptr_1, at(ptr, v0 + 8));
     u16 v24 = at(u16_1, v22 + 4);
     u64 v26 = (u64)bswap16(v24);
-    if (v24 == 0) { v94 = 1; v95 = 0; goto v14; }
+    if (v24 == 0) { v67 = 1; v68 = 0; goto v14; }
     v31 = 0;
 v28:;
     u64 v33 = v31 << 4;
     if (!((((at(u8, v22 + (i64)v33 + 12) == 104u) & (at(u8, v22 + (i64)v33 + 13) == 101u)) & (at(u8, v22 + (i64)v33 + 14) == 97u)) & (at(u8, v22 + (i64)v33 + 15) == 100u))) goto v29;
-    v94 = 1; v95 = (u64)bswap32(at(u32_1, v22 + (i64)v33 + 24)); goto v14;
+    v67 = 1; v68 = (u64)bswap32(at(u32_1, v22 + (i64)v33 + 24)); goto v14;
 v29:;
     u64 v30 = v31 + 1;
-    if (v30 == v26) { v94 = 1; v95 = 0; goto v14; }
+    if (v30 == v26) { v67 = 1; v68 = 0; goto v14; }
     v31 = v30; goto v28;
 v9:;
-    v94 = 1; v95 = (((u64)at(u16, at(ptr, v0 + 8) + 64)) << 2) + 4;
+    v67 = 1; v68 = (((u64)at(u16, at(ptr, v0 + 8) + 64)) << 2) + 4;
 v14:;
-    return (u8_u64){v94, v95};
+    return (u8_u64){v67, v68};
 }
 
 static u8_u64 font_write_size_table_length_a65d(u8 *v0, u8 v1, u8 *v2, u64 v3) {
@@ -8025,15 +7920,15 @@ v341:;
 }
 
 void font_write_whole_file_measure(u8 *v0, u8 *v1) {
-    _Alignas(4) u8 v3[64], v4[20], v5[32], v7[4], v9[4], v10[4], v13[348], v15[348], v16[344];
-    u8 v6[12], *v408, *v437, *v442, *v450, *v87, *v164, *v169, *v177, *v238, *v249, *v287, *v292, *v300, *v552, *v626;
-    _Alignas(8) u8 v8[24], v11[48], v12[16], v17[24], v18[344], v20[344];
+    _Alignas(4) u8 v3[64], v4[20], v5[32], v7[4], v8[4], v9[4], v13[348], v15[348], v16[344];
+    u8 v6[12], *v408, *v413, *v421, *v84, *v162, *v167, *v175, *v236, *v247, *v285, *v290, *v298, *v524, *v598;
+    _Alignas(8) u8 v10[48], v11[24], v12[16], v17[24], v18[344], v20[344];
     _Alignas(2) u8 v14[6], v19[6], v21[6];
-    u64 v67, v399, v400, v407, v424, v438, v444, v449, v89, v105, v151, v165, v171, v176, v187, v208, v239, v251, v274, v288, v294, v299, v319, v360, v468, v518, v554, v595, v644, v645, v646, v649, v650;
-    u32x4 v426, v153, v276;
-    u32 v436, v440, v451, v85, v120, v163, v167, v178, v247, v286, v290, v301, v334, v337, v455, v456, v550, v590, v593, v633, v634, v648;
-    u16 v115, v123, v329, v339, v516, v538, v539, v540, v647;
-    u16x8 v470;
+    u64 v64, v395, v409, v415, v420, v86, v103, v149, v163, v169, v174, v185, v206, v237, v249, v272, v286, v292, v297, v317, v358, v440, v490, v526, v567, v616, v617, v618, v621, v622;
+    u32x4 v397, v151, v274;
+    u32 v407, v411, v422, v82, v118, v161, v165, v176, v245, v284, v288, v299, v332, v335, v426, v427, v428, v522, v562, v565, v605, v606, v620;
+    u16 v113, v121, v327, v337, v488, v510, v511, v512, v619;
+    u16x8 v442;
     memset(v18, 0, 344u);
     memset(v19, 0, 6);
     memset(v20, 0, 344u);
@@ -8042,7 +7937,7 @@ void font_write_whole_file_measure(u8 *v0, u8 *v1) {
     font_write_size_file_size_092d(v17, v1);
     u64 v23 = at(u64, v17 + 16);
     if (!(v23 > 134217728u)) goto v26;
-    v644 = 1; v645 = 0; v646 = 0; v647 = 0; v648 = 0; v649 = v23; v650 = 0; goto v643;
+    v616 = 1; v617 = 0; v618 = 0; v619 = 0; v620 = 0; v621 = v23; v622 = 0; goto v615;
 v26:;
     u64 v27 = at(u64, v17);
     u64 v29 = at(u64, v17 + 8);
@@ -8052,309 +7947,285 @@ v26:;
     at(u64, v12) = v27;
     at(u64, v12 + 8) = v29;
     memset(v13, 0, 348u);
-    u32 v59 = (u32)v27;
-    u32 v61 = (u32)(v27 >> 32u);
-    u32 v64 = bswap32((v59 * 12u) + 16u);
-    u32 v65 = bswap32(v59);
-    v67 = 0;
-v66:;
-    u64 v72 = at(u64, (u8 *)table_faed1f12 + (v67 << 3));
-    u8_u64 v73 = font_write_size_table_length_895b(v1, v12, v72);
-    u8 v74 = v73._0;
-    if (!(v74 == 1)) { v455 = 0; v456 = 0; goto v69; }
-    u32 v78 = (u32)v73._1;
-    switch (v72) {
-    case 1: goto v80;
-    case 5: goto v81;
-    case 6: goto v82;
-    case 9: goto v83;
-    default: goto v79;
+    u32 v56 = (u32)v27;
+    u32 v58 = (u32)(v27 >> 32u);
+    u32 v61 = bswap32((v56 * 12u) + 16u);
+    u32 v62 = bswap32(v56);
+    v64 = 0;
+v63:;
+    u64 v69 = at(u64, (u8 *)table_faed1f12 + (v64 << 3));
+    u8_u64 v70 = font_write_size_table_length_895b(v1, v12, v69);
+    u8 v71 = v70._0;
+    if (!(v71 == 1)) { v427 = 0; v428 = 0; goto v66; }
+    u32 v75 = (u32)v70._1;
+    memset(v11, 0, 24u);
+    switch (v69) {
+    case 1: goto v77;
+    case 5: goto v78;
+    case 6: goto v79;
+    case 9: goto v80;
+    default: goto v76;
     }
-v79:;
-    memset(v8, 0, 24u);
-    if (!(v72 < 16u)) goto v379;
-    font_subset_accepted_copied(v8, at(ptr, v1 + 8), v72);
-    goto v381;
-v379:;
-    font_subset_font_of_kind_FontOfKind_further_6e0a(v8, v1, v72);
-v381:;
-    u8 v382 = at(u8, v8);
-    u8 *v383 = at(ptr, v8 + 8);
-    u64 v384 = at(u64, v8 + 16);
-    if (at(u8, v1) == 0) goto v387;
-    switch (v72) {
-    case 8: goto v389;
-    case 15u: goto v390;
-    case 28u: goto v391;
-    default: goto v387;
-    }
-v387:;
-    if (v382 == 1) { v407 = v384; v408 = v383; goto v405; }
-    v455 = v78; v456 = 0; goto v69;
-v389:;
-    if (at(u8, v1 + 560) == 1) { v399 = 568u; v400 = 576u; goto v394; }
-    v455 = v78; v456 = 0; goto v69;
-v390:;
-    if (at(u8, v1 + 592) == 1) { v399 = 600u; v400 = 608u; goto v394; }
-    v455 = v78; v456 = 0; goto v69;
-v391:;
-    if (at(u8, v1 + 624) == 1) { v399 = 632u; v400 = 640u; } else { v455 = v78; v456 = 0; goto v69; }
+v76:;
+    font_join_union_UnionSource_copied(v11, v1, v69);
+    if (!(at(u8, v11) == 1)) { v426 = 0; goto v93; }
+    u8 *v378 = at(ptr, v11 + 8);
+    u64 v379 = at(u64, v11 + 16);
+    if (!(v379 > 3)) { v420 = v379; v421 = v378; v422 = 0; goto v382; }
+    u64 v383 = v379 - 4;
+    u64 v385 = (v383 >> 2) + 1;
+    if (v383 < 12u) { v407 = 0; v408 = v378; v409 = v379; goto v387; }
+    u64 v389 = v385 & 0x7ffffffffffffffcu;
+    u64 v390 = v389 << 2;
+    u64 v393 = v379 - (v389 << 2);
+    v395 = 0; v397 = (u32x4){0};
 v394:;
-    v407 = at(u64, v1 + (i64)v400); v408 = at(ptr, v1 + (i64)v399);
-v405:;
-    if (!(v407 > 3)) { v449 = v407; v450 = v408; v451 = 0; goto v411; }
-    u64 v412 = v407 - 4;
-    u64 v414 = (v412 >> 2) + 1;
-    if (v412 < 12u) { v436 = 0; v437 = v408; v438 = v407; goto v416; }
-    u64 v418 = v414 & 0x7ffffffffffffffcu;
-    u64 v419 = v418 << 2;
-    u64 v422 = v407 - (v418 << 2);
-    v424 = 0; v426 = (u32x4){0};
-v423:;
-    u32x4 v427 = bswap_u32x4(at(u32x4_1, v408 + (i64)(v424 << 2))) + v426;
-    u64 v425 = v424 + 4;
-    if (!(v425 == v418)) { v424 = v425; v426 = v427; goto v423; }
-    u32 v434 = sum_u32x4(v427);
-    if (v414 == v418) { v449 = v422; v450 = v408 + (i64)v419; v451 = v434; goto v411; }
-    v436 = v434; v437 = v408 + (i64)v419; v438 = v422;
-v416:;
-    v440 = v436; v442 = v437; v444 = v438;
-v439:;
-    u32 v441 = bswap32(at(u32_1, v442)) + v440;
-    u64 v445 = v444 - 4;
-    if (v445 > 3) { v440 = v441; v442 = v442 + 4; v444 = v445; goto v439; }
-    v449 = v445; v450 = v442 + 4; v451 = v441;
-v411:;
+    u32x4 v398 = bswap_u32x4(at(u32x4_1, v378 + (i64)(v395 << 2))) + v397;
+    u64 v396 = v395 + 4;
+    if (!(v396 == v389)) { v395 = v396; v397 = v398; goto v394; }
+    u32 v405 = sum_u32x4(v398);
+    if (v385 == v389) { v420 = v393; v421 = v378 + (i64)v390; v422 = v405; goto v382; }
+    v407 = v405; v408 = v378 + (i64)v390; v409 = v393;
+v387:;
+    v411 = v407; v413 = v408; v415 = v409;
+v410:;
+    u32 v412 = bswap32(at(u32_1, v413)) + v411;
+    u64 v416 = v415 - 4;
+    if (v416 > 3) { v411 = v412; v413 = v413 + 4; v415 = v416; goto v410; }
+    v420 = v416; v421 = v413 + 4; v422 = v412;
+v382:;
     at(u32, v7) = 0;
-    memcpy_any(v7, v450, v449);
-    v455 = v78; v456 = bswap32(at(u32, v7)) + v451; goto v69;
-v80:;
-    at(u64, v11) = 0x400000002000000u;
-    at(u8, v11 + 8) = 0;
-    at(u8, v11 + 9) = 0;
-    at(u8, v11 + 10) = 0;
-    at(u8, v11 + 11) = 20u;
-    at(u8, v11 + 12) = 0;
-    at(u8, v11 + 13) = 3;
-    at(u8, v11 + 14) = 0;
-    at(u8, v11 + 15) = 10u;
-    at(u8, v11 + 16) = 0;
-    at(u8, v11 + 17) = 0;
-    at(u8, v11 + 18) = 0;
-    at(u8, v11 + 19) = 20u;
-    at(u8, v11 + 20) = 0;
-    at(u8, v11 + 21) = 12u;
-    at(u8, v11 + 22) = 0;
-    at(u8, v11 + 23) = 0;
-    at(u32, v11 + 24) = v64;
-    at(u32, v11 + 28) = 0;
-    at(u32, v11 + 32) = v65;
-    at(u32, v11 + 36) = 0;
-    at(u64, v11 + 40) = 36u;
-    v85 = 0; v87 = v11; v89 = 36u;
-v84:;
-    u32 v86 = bswap32(at(u32_1, v87)) + v85;
-    u64 v90 = v89 - 4;
-    if (!(v90 == 0)) { v85 = v86; v87 = v87 + 4; v89 = v90; goto v84; }
-    v455 = v78; v456 = v86 + v61; goto v69;
+    memcpy_any(v7, v421, v420);
+    v426 = bswap32(at(u32, v7)) + v422; goto v93;
+v77:;
+    at(u64, v10) = 0x400000002000000u;
+    at(u8, v10 + 8) = 0;
+    at(u8, v10 + 9) = 0;
+    at(u8, v10 + 10) = 0;
+    at(u8, v10 + 11) = 20u;
+    at(u8, v10 + 12) = 0;
+    at(u8, v10 + 13) = 3;
+    at(u8, v10 + 14) = 0;
+    at(u8, v10 + 15) = 10u;
+    at(u8, v10 + 16) = 0;
+    at(u8, v10 + 17) = 0;
+    at(u8, v10 + 18) = 0;
+    at(u8, v10 + 19) = 20u;
+    at(u8, v10 + 20) = 0;
+    at(u8, v10 + 21) = 12u;
+    at(u8, v10 + 22) = 0;
+    at(u8, v10 + 23) = 0;
+    at(u32, v10 + 24) = v61;
+    at(u32, v10 + 28) = 0;
+    at(u32, v10 + 32) = v62;
+    at(u32, v10 + 36) = 0;
+    at(u64, v10 + 40) = 36u;
+    v82 = 0; v84 = v10; v86 = 36u;
 v81:;
-    u16 v98 = at(u16, at(ptr, v1 + 8) + 64);
-    if (v98 == 0) { v115 = 0; goto v100; }
-    u8 *v102 = at(ptr, v1 + 528);
-    u64 v103 = (u64)v98;
-    v105 = 0;
-v104:;
-    if (!(at(u8, v102 + (i64)(v105 * 24u)) & 1)) goto v107;
-    v115 = (u16)v105;
-v100:;
-    if (!(v115 < v98)) { v455 = v78; v456 = 0; goto v69; }
-    u8 *v118 = at(ptr, v1 + 528);
-    v120 = 0; v123 = v115;
-v119:;
-    u64 v126 = ((u64)v123) * 24u;
-    if (!(at(u8, v118 + (i64)v126) == 1)) { v176 = 0; v177 = (u8 *)table_d0e67785; v178 = 0; goto v132; }
-    u64 v134 = at(u64_1, v118 + (i64)v126 + 16);
-    u8 *v136 = at(ptr_1, v118 + (i64)v126 + 8);
-    if (!(v134 > 3)) { v176 = v134; v177 = v136; v178 = 0; goto v132; }
-    u64 v139 = v134 - 4;
-    u64 v141 = (v139 >> 2) + 1;
-    if (v139 < 12u) { v163 = 0; v164 = v136; v165 = v134; goto v143; }
-    u64 v145 = v141 & 0x7ffffffffffffffcu;
-    u64 v146 = v145 << 2;
-    u64 v149 = v134 - (v145 << 2);
-    v151 = 0; v153 = (u32x4){0};
-v150:;
-    u32x4 v154 = bswap_u32x4(at(u32x4_1, v136 + (i64)(v151 << 2))) + v153;
-    u64 v152 = v151 + 4;
-    if (!(v152 == v145)) { v151 = v152; v153 = v154; goto v150; }
-    u32 v161 = sum_u32x4(v154);
-    if (v141 == v145) { v176 = v149; v177 = v136 + (i64)v146; v178 = v161; goto v132; }
-    v163 = v161; v164 = v136 + (i64)v146; v165 = v149;
-v143:;
-    v167 = v163; v169 = v164; v171 = v165;
-v166:;
-    u32 v168 = bswap32(at(u32_1, v169)) + v167;
-    u64 v172 = v171 - 4;
-    if (v172 > 3) { v167 = v168; v169 = v169 + 4; v171 = v172; goto v166; }
-    v176 = v172; v177 = v169 + 4; v178 = v168;
-v132:;
-    at(u32, v10) = 0;
-    memcpy_any(v10, v177, v176);
-    u32 v121 = (v178 + v120) + bswap32(at(u32, v10));
-    u16 v182 = (u16)(v123 + 1);
-    if (!(v182 < v98)) { v455 = v78; v456 = v121; goto v69; }
-    v187 = (u64)v182;
-v186:;
-    if (!(at(u8, v118 + (i64)(v187 * 24u)) & 1)) goto v189;
-    u16 v124 = (u16)v187;
-    if (v98 > v124) { v120 = v121; v123 = v124; goto v119; }
-    v455 = v78; v456 = v121; goto v69;
-v189:;
-    u64 v188 = v187 + 1;
-    if (v98 == ((u16)v188)) { v455 = v78; v456 = v121; goto v69; }
-    v187 = v188; goto v186;
-v107:;
-    u64 v106 = v105 + 1;
-    if (v106 == v103) { v455 = v78; v456 = 0; goto v69; }
-    v105 = v106; goto v104;
-v82:;
-    u8 *v198 = at(ptr_1, at(ptr, v1 + 8));
-    u16 v200 = at(u16_1, v198 + 4);
-    u64 v202 = (u64)bswap16(v200);
-    if (v200 == 0) { v238 = (u8 *)table_d0e67785; v239 = 0xffffffffffffffccu; goto v204; }
-    v208 = 0;
-v205:;
-    u64 v210 = v208 << 4;
-    if (!((((at(u8, v198 + (i64)v210 + 12) == 104u) & (at(u8, v198 + (i64)v210 + 13) == 101u)) & (at(u8, v198 + (i64)v210 + 14) == 97u)) & (at(u8, v198 + (i64)v210 + 15) == 100u))) goto v206;
-    v238 = v198 + (i64)((u64)bswap32(at(u32_1, v198 + (i64)v210 + 20))); v239 = ((u64)bswap32(at(u32_1, v198 + (i64)v210 + 24))) - 52u; goto v204;
-v206:;
-    u64 v207 = v208 + 1;
-    if (v207 == v202) { v238 = (u8 *)table_d0e67785; v239 = 0xffffffffffffffccu; } else { v208 = v207; goto v205; }
-v204:;
-    u16 v241 = at(u16_1, v238 + 48);
-    u32 v244 = sum_u32x2(bswap_u32x2(at(u32x2_1, v238)));
-    v247 = 0; v249 = v238 + 12; v251 = 36u;
-v246:;
-    u32 v248 = bswap32(at(u32_1, v249)) + v247;
-    u64 v252 = v251 - 4;
-    if (!(v252 == 0)) { v247 = v248; v249 = v249 + 4; v251 = v252; goto v246; }
-    u32 v257 = (u32)v241;
-    if (!(v239 > 3)) { v299 = v239; v300 = v238 + 52; v301 = 0; goto v261; }
-    u64 v262 = v239 - 4;
-    u64 v264 = (v262 >> 2) + 1;
-    if (v262 < 12u) { v286 = 0; v287 = v238 + 52; v288 = v239; goto v266; }
-    u64 v268 = v264 & 0x7ffffffffffffffcu;
-    u64 v269 = v268 << 2;
-    u64 v272 = v239 - (v268 << 2);
-    v274 = 0; v276 = (u32x4){0};
-v273:;
-    u32x4 v277 = bswap_u32x4(at(u32x4_1, (v238 + 52) + (i64)(v274 << 2))) + v276;
-    u64 v275 = v274 + 4;
-    if (!(v275 == v268)) { v274 = v275; v276 = v277; goto v273; }
-    u32 v284 = sum_u32x4(v277);
-    if (v264 == v268) { v299 = v272; v300 = (v238 + 52) + (i64)v269; v301 = v284; goto v261; }
-    v286 = v284; v287 = (v238 + 52) + (i64)v269; v288 = v272;
-v266:;
-    v290 = v286; v292 = v287; v294 = v288;
-v289:;
-    u32 v291 = bswap32(at(u32_1, v292)) + v290;
-    u64 v295 = v294 - 4;
-    if (v295 > 3) { v290 = v291; v292 = v292 + 4; v294 = v295; goto v289; }
-    v299 = v295; v300 = v292 + 4; v301 = v291;
-v261:;
+    u32 v83 = bswap32(at(u32_1, v84)) + v82;
+    u64 v87 = v86 - 4;
+    if (!(v87 == 0)) { v82 = v83; v84 = v84 + 4; v86 = v87; goto v81; }
+    v426 = v83 + v58; goto v93;
+v78:;
+    u16 v96 = at(u16, at(ptr, v1 + 8) + 64);
+    if (v96 == 0) { v113 = 0; goto v98; }
+    u8 *v100 = at(ptr, v1 + 528);
+    u64 v101 = (u64)v96;
+    v103 = 0;
+v102:;
+    if (!(at(u8, v100 + (i64)(v103 * 24u)) & 1)) goto v105;
+    v113 = (u16)v103;
+v98:;
+    if (!(v113 < v96)) { v426 = 0; goto v93; }
+    u8 *v116 = at(ptr, v1 + 528);
+    v118 = 0; v121 = v113;
+v117:;
+    u64 v124 = ((u64)v121) * 24u;
+    if (!(at(u8, v116 + (i64)v124) == 1)) { v174 = 0; v175 = (u8 *)table_d0e67785; v176 = 0; goto v130; }
+    u64 v132 = at(u64_1, v116 + (i64)v124 + 16);
+    u8 *v134 = at(ptr_1, v116 + (i64)v124 + 8);
+    if (!(v132 > 3)) { v174 = v132; v175 = v134; v176 = 0; goto v130; }
+    u64 v137 = v132 - 4;
+    u64 v139 = (v137 >> 2) + 1;
+    if (v137 < 12u) { v161 = 0; v162 = v134; v163 = v132; goto v141; }
+    u64 v143 = v139 & 0x7ffffffffffffffcu;
+    u64 v144 = v143 << 2;
+    u64 v147 = v132 - (v143 << 2);
+    v149 = 0; v151 = (u32x4){0};
+v148:;
+    u32x4 v152 = bswap_u32x4(at(u32x4_1, v134 + (i64)(v149 << 2))) + v151;
+    u64 v150 = v149 + 4;
+    if (!(v150 == v143)) { v149 = v150; v151 = v152; goto v148; }
+    u32 v159 = sum_u32x4(v152);
+    if (v139 == v143) { v174 = v147; v175 = v134 + (i64)v144; v176 = v159; goto v130; }
+    v161 = v159; v162 = v134 + (i64)v144; v163 = v147;
+v141:;
+    v165 = v161; v167 = v162; v169 = v163;
+v164:;
+    u32 v166 = bswap32(at(u32_1, v167)) + v165;
+    u64 v170 = v169 - 4;
+    if (v170 > 3) { v165 = v166; v167 = v167 + 4; v169 = v170; goto v164; }
+    v174 = v170; v175 = v167 + 4; v176 = v166;
+v130:;
     at(u32, v9) = 0;
-    memcpy_any(v9, v300, v299);
-    v455 = v78; v456 = (((v244 + bswap32(v257 | 16777216u)) + v248) + v301) + bswap32(at(u32, v9)); goto v69;
-v83:;
-    u16 v312 = at(u16, at(ptr, v1 + 8) + 64);
-    if (v312 == 0) { v329 = 0; goto v314; }
-    u8 *v316 = at(ptr, v1 + 528);
-    u64 v317 = (u64)v312;
-    v319 = 0;
-v318:;
-    if (!(at(u8, v316 + (i64)(v319 * 24u)) & 1)) goto v321;
-    v329 = (u16)v319;
-v314:;
-    if (!(v329 < v312)) { v455 = v78; v456 = 0; goto v69; }
-    u8 *v332 = at(ptr, v1 + 528);
-    v334 = 0; v337 = 0; v339 = v329;
-v333:;
-    u64 v342 = ((u64)v339) * 24u;
-    u64 v349 = (at(u8, v332 + (i64)v342) == 1) ? at(u64_1, v332 + (i64)v342 + 16) : 0;
-    u32 v335 = v334 + ((u32)((((u64)0 - v349) & 3) + v349));
-    u16 v354 = (u16)(v339 + 1);
-    if (!(v354 < v312)) goto v357;
-    v360 = (u64)v354;
-v359:;
-    if (!(at(u8, v332 + (i64)(v360 * 24u)) & 1)) goto v362;
-    u16 v340 = (u16)v360;
-    u32 v338 = (v335 * ((u32)((u16)(v340 - v339)))) + v337;
-    if (v312 > v340) { v334 = v335; v337 = v338; v339 = v340; goto v333; }
-    v455 = v78; v456 = v338; goto v69;
-v362:;
-    u64 v361 = v360 + 1;
-    if (!(v312 == ((u16)v361))) { v360 = v361; goto v359; }
+    memcpy_any(v9, v175, v174);
+    u32 v119 = (v176 + v118) + bswap32(at(u32, v9));
+    u16 v180 = (u16)(v121 + 1);
+    if (!(v180 < v96)) { v426 = v119; goto v93; }
+    v185 = (u64)v180;
+v184:;
+    if (!(at(u8, v116 + (i64)(v185 * 24u)) & 1)) goto v187;
+    u16 v122 = (u16)v185;
+    if (v96 > v122) { v118 = v119; v121 = v122; goto v117; }
+    v426 = v119; goto v93;
+v187:;
+    u64 v186 = v185 + 1;
+    if (v96 == ((u16)v186)) { v426 = v119; goto v93; }
+    v185 = v186; goto v184;
+v105:;
+    u64 v104 = v103 + 1;
+    if (v104 == v101) { v426 = 0; goto v93; }
+    v103 = v104; goto v102;
+v79:;
+    u8 *v196 = at(ptr_1, at(ptr, v1 + 8));
+    u16 v198 = at(u16_1, v196 + 4);
+    u64 v200 = (u64)bswap16(v198);
+    if (v198 == 0) { v236 = (u8 *)table_d0e67785; v237 = 0xffffffffffffffccu; goto v202; }
+    v206 = 0;
+v203:;
+    u64 v208 = v206 << 4;
+    if (!((((at(u8, v196 + (i64)v208 + 12) == 104u) & (at(u8, v196 + (i64)v208 + 13) == 101u)) & (at(u8, v196 + (i64)v208 + 14) == 97u)) & (at(u8, v196 + (i64)v208 + 15) == 100u))) goto v204;
+    v236 = v196 + (i64)((u64)bswap32(at(u32_1, v196 + (i64)v208 + 20))); v237 = ((u64)bswap32(at(u32_1, v196 + (i64)v208 + 24))) - 52u; goto v202;
+v204:;
+    u64 v205 = v206 + 1;
+    if (v205 == v200) { v236 = (u8 *)table_d0e67785; v237 = 0xffffffffffffffccu; } else { v206 = v205; goto v203; }
+v202:;
+    u16 v239 = at(u16_1, v236 + 48);
+    u32 v242 = sum_u32x2(bswap_u32x2(at(u32x2_1, v236)));
+    v245 = 0; v247 = v236 + 12; v249 = 36u;
+v244:;
+    u32 v246 = bswap32(at(u32_1, v247)) + v245;
+    u64 v250 = v249 - 4;
+    if (!(v250 == 0)) { v245 = v246; v247 = v247 + 4; v249 = v250; goto v244; }
+    u32 v255 = (u32)v239;
+    if (!(v237 > 3)) { v297 = v237; v298 = v236 + 52; v299 = 0; goto v259; }
+    u64 v260 = v237 - 4;
+    u64 v262 = (v260 >> 2) + 1;
+    if (v260 < 12u) { v284 = 0; v285 = v236 + 52; v286 = v237; goto v264; }
+    u64 v266 = v262 & 0x7ffffffffffffffcu;
+    u64 v267 = v266 << 2;
+    u64 v270 = v237 - (v266 << 2);
+    v272 = 0; v274 = (u32x4){0};
+v271:;
+    u32x4 v275 = bswap_u32x4(at(u32x4_1, (v236 + 52) + (i64)(v272 << 2))) + v274;
+    u64 v273 = v272 + 4;
+    if (!(v273 == v266)) { v272 = v273; v274 = v275; goto v271; }
+    u32 v282 = sum_u32x4(v275);
+    if (v262 == v266) { v297 = v270; v298 = (v236 + 52) + (i64)v267; v299 = v282; goto v259; }
+    v284 = v282; v285 = (v236 + 52) + (i64)v267; v286 = v270;
+v264:;
+    v288 = v284; v290 = v285; v292 = v286;
+v287:;
+    u32 v289 = bswap32(at(u32_1, v290)) + v288;
+    u64 v293 = v292 - 4;
+    if (v293 > 3) { v288 = v289; v290 = v290 + 4; v292 = v293; goto v287; }
+    v297 = v293; v298 = v290 + 4; v299 = v289;
+v259:;
+    at(u32, v8) = 0;
+    memcpy_any(v8, v298, v297);
+    v426 = (((v242 + bswap32(v255 | 16777216u)) + v246) + v299) + bswap32(at(u32, v8)); goto v93;
+v80:;
+    u16 v310 = at(u16, at(ptr, v1 + 8) + 64);
+    if (v310 == 0) { v327 = 0; goto v312; }
+    u8 *v314 = at(ptr, v1 + 528);
+    u64 v315 = (u64)v310;
+    v317 = 0;
+v316:;
+    if (!(at(u8, v314 + (i64)(v317 * 24u)) & 1)) goto v319;
+    v327 = (u16)v317;
+v312:;
+    if (!(v327 < v310)) { v426 = 0; goto v93; }
+    u8 *v330 = at(ptr, v1 + 528);
+    v332 = 0; v335 = 0; v337 = v327;
+v331:;
+    u64 v340 = ((u64)v337) * 24u;
+    u64 v347 = (at(u8, v330 + (i64)v340) == 1) ? at(u64_1, v330 + (i64)v340 + 16) : 0;
+    u32 v333 = v332 + ((u32)((((u64)0 - v347) & 3) + v347));
+    u16 v352 = (u16)(v337 + 1);
+    if (!(v352 < v310)) goto v355;
+    v358 = (u64)v352;
 v357:;
-    v455 = v78; v456 = (v335 * ((u32)((u16)(v312 - v339)))) + v337; goto v69;
-v321:;
-    u64 v320 = v319 + 1;
-    if (v320 == v317) { v455 = v78; v456 = 0; } else { v319 = v320; goto v318; }
-v69:;
-    u64 v457 = v67 * 12u;
-    at(u8, v13 + v457) = v74;
-    memset(v13 + v457 + 1, 0, 3);
-    at(u32, v13 + v457 + 4) = v455;
-    at(u32, v13 + v457 + 8) = v456;
-    u64 v68 = v67 + 1;
-    if (!(v68 == 29u)) { v67 = v68; goto v66; }
-    u32 v464 = at(u32, v13);
+    if (!(at(u8, v330 + (i64)(v358 * 24u)) & 1)) goto v360;
+    u16 v338 = (u16)v358;
+    u32 v336 = (v333 * ((u32)((u16)(v338 - v337)))) + v335;
+    if (v310 > v338) { v332 = v333; v335 = v336; v337 = v338; goto v331; }
+    v426 = v336; goto v93;
+v360:;
+    u64 v359 = v358 + 1;
+    if (!(v310 == ((u16)v359))) { v358 = v359; goto v357; }
+v355:;
+    v426 = (v333 * ((u32)((u16)(v310 - v337)))) + v335; goto v93;
+v319:;
+    u64 v318 = v317 + 1;
+    if (v318 == v315) v426 = 0; else { v317 = v318; goto v316; }
+v93:;
+    v427 = v75; v428 = v426;
+v66:;
+    u64 v429 = v64 * 12u;
+    at(u8, v13 + v429) = v71;
+    memset(v13 + v429 + 1, 0, 3);
+    at(u32, v13 + v429 + 4) = v427;
+    at(u32, v13 + v429 + 8) = v428;
+    u64 v65 = v64 + 1;
+    if (!(v65 == 29u)) { v64 = v65; goto v63; }
+    u32 v436 = at(u32, v13);
     memcpy(v16, v13 + 4, 344u);
-    at(u32, v15) = v464;
+    at(u32, v15) = v436;
     memcpy(v15 + 4, v16, 344u);
-    v468 = 0; v470 = (u16x8){0};
-v467:;
-    u8 v495 = at(u8, v15 + (v468 * 12u));
-    u8 v496 = at(u8, v15 + (v468 * 12u) + 12);
-    u8 v497 = at(u8, v15 + (v468 * 12u) + 24);
-    u8 v498 = at(u8, v15 + (v468 * 12u) + 36);
-    u8 v499 = at(u8, v15 + (v468 * 12u) + 48);
-    u8 v500 = at(u8, v15 + (v468 * 12u) + 60);
-    u8 v501 = at(u8, v15 + (v468 * 12u) + 72);
-    u8 v502 = at(u8, v15 + (v468 * 12u) + 84);
-    u16x8 v471 = v470 + (__builtin_convertvector((u8x8){v495, v496, v497, v498, v499, v500, v501, v502}, u16x8));
-    u64 v469 = v468 + 8;
-    if (!(v469 == 24u)) { v468 = v469; v470 = v471; goto v467; }
-    v516 = sum_u16x8(v471); v518 = 24u;
-v515:;
-    u16 v517 = (u16)(v516 + ((u16)at(u8, v15 + (v518 * 12u))));
-    u64 v519 = v518 + 1;
-    if (!(v519 == 29u)) { v516 = v517; v518 = v519; goto v515; }
-    if (!(((u16)(v517 + 65535u)) < 4095u)) { v538 = 0; v539 = 0; v540 = 0; goto v529; }
-    u16 v531 = (u16)(ctlz16(v517) ^ 15u);
-    u16 v532 = (u16)((u32)16u << (v531 & 31));
-    v538 = bswap16((u16)(((u16)((u32)v517 << 4)) - v532)); v539 = (u16)((u32)v531 << 8); v540 = bswap16(v532);
-v529:;
+    v440 = 0; v442 = (u16x8){0};
+v439:;
+    u8 v467 = at(u8, v15 + (v440 * 12u));
+    u8 v468 = at(u8, v15 + (v440 * 12u) + 12);
+    u8 v469 = at(u8, v15 + (v440 * 12u) + 24);
+    u8 v470 = at(u8, v15 + (v440 * 12u) + 36);
+    u8 v471 = at(u8, v15 + (v440 * 12u) + 48);
+    u8 v472 = at(u8, v15 + (v440 * 12u) + 60);
+    u8 v473 = at(u8, v15 + (v440 * 12u) + 72);
+    u8 v474 = at(u8, v15 + (v440 * 12u) + 84);
+    u16x8 v443 = v442 + (__builtin_convertvector((u8x8){v467, v468, v469, v470, v471, v472, v473, v474}, u16x8));
+    u64 v441 = v440 + 8;
+    if (!(v441 == 24u)) { v440 = v441; v442 = v443; goto v439; }
+    v488 = sum_u16x8(v443); v490 = 24u;
+v487:;
+    u16 v489 = (u16)(v488 + ((u16)at(u8, v15 + (v490 * 12u))));
+    u64 v491 = v490 + 1;
+    if (!(v491 == 29u)) { v488 = v489; v490 = v491; goto v487; }
+    if (!(((u16)(v489 + 65535u)) < 4095u)) { v510 = 0; v511 = 0; v512 = 0; goto v501; }
+    u16 v503 = (u16)(ctlz16(v489) ^ 15u);
+    u16 v504 = (u16)((u32)16u << (v503 & 31));
+    v510 = bswap16((u16)(((u16)((u32)v489 << 4)) - v504)); v511 = (u16)((u32)v503 << 8); v512 = bswap16(v504);
+v501:;
     at(u8, v6) = 0;
     at(u8, v6 + 1) = 1;
     at(u8, v6 + 2) = 0;
     at(u8, v6 + 3) = 0;
-    at(u16_1, v6 + 4) = bswap16(v517);
-    at(u16_1, v6 + 6) = v540;
-    at(u16_1, v6 + 8) = v539;
-    at(u16_1, v6 + 10) = v538;
-    v550 = 0; v552 = v6; v554 = 12u;
-v549:;
-    u32 v551 = bswap32(at(u32_1, v552)) + v550;
-    u64 v555 = v554 - 4;
-    if (!(v555 == 0)) { v550 = v551; v552 = v552 + 4; v554 = v555; goto v549; }
-    v590 = v551; v593 = (((u32)v517) << 4) | 12u; v595 = 0;
-v589:;
-    u64 v597 = v595 * 12u;
-    u32 v601 = at(u32, v15 + v597 + 4);
-    u32 v603 = at(u32, v15 + v597 + 8);
-    if (!(at(u8, v15 + v597) & 1)) goto v606;
-    u64 v610 = at(u64, (u8 *)table_faed1f12 + (v595 << 3));
-    if (!(v610 < 16u)) goto v613;
+    at(u16_1, v6 + 4) = bswap16(v489);
+    at(u16_1, v6 + 6) = v512;
+    at(u16_1, v6 + 8) = v511;
+    at(u16_1, v6 + 10) = v510;
+    v522 = 0; v524 = v6; v526 = 12u;
+v521:;
+    u32 v523 = bswap32(at(u32_1, v524)) + v522;
+    u64 v527 = v526 - 4;
+    if (!(v527 == 0)) { v522 = v523; v524 = v524 + 4; v526 = v527; goto v521; }
+    v562 = v523; v565 = (((u32)v489) << 4) | 12u; v567 = 0;
+v561:;
+    u64 v569 = v567 * 12u;
+    u32 v573 = at(u32, v15 + v569 + 4);
+    u32 v575 = at(u32, v15 + v569 + 8);
+    if (!(at(u8, v15 + v569) & 1)) goto v578;
+    u64 v582 = at(u64, (u8 *)table_faed1f12 + (v567 << 3));
+    if (!(v582 < 16u)) goto v585;
     at(u32, v3) = 841962319u;
     at(u32, v3 + 4) = 1885433187u;
     at(u32, v3 + 8) = 544503395u;
@@ -8371,16 +8242,16 @@ v589:;
     at(u32, v3 + 52) = 1885696624u;
     at(u32, v3 + 56) = 1634035830u;
     at(u32, v3 + 60) = 2020896118u;
-    v626 = v3 + (v610 << 2); goto v616;
-v613:;
-    if (!(v610 < 21u)) goto v619;
+    v598 = v3 + (v582 << 2); goto v588;
+v585:;
+    if (!(v582 < 21u)) goto v591;
     at(u32, v4) = 1163084098u;
     at(u32, v4 + 4) = 1178944583u;
     at(u32, v4 + 8) = 1397706823u;
     at(u32, v4 + 12) = 1112888135u;
     at(u32, v4 + 16) = 1852990827u;
-    v626 = v4 + (i64)(v610 << 2) - 64; goto v616;
-v619:;
+    v598 = v4 + (i64)(v582 << 2) - 64; goto v588;
+v591:;
     at(u32, v5) = 1380013640u;
     at(u32, v5 + 4) = 1380013645u;
     at(u32, v5 + 8) = 1413567571u;
@@ -8389,32 +8260,32 @@ v619:;
     at(u32, v5 + 20) = 1918989923u;
     at(u32, v5 + 24) = 1918989926u;
     at(u32, v5 + 28) = 1918989927u;
-    v626 = v5 + (i64)(v610 << 2) - 84;
-v616:;
-    u32 v630 = v601 + v593;
-    v633 = v630; v634 = ((v603 << 1) + v630) + bswap32(at(u32_1, v626)); goto v592;
-v606:;
-    v633 = v601 + v593; v634 = 0;
-v592:;
-    u32 v591 = v634 + v590;
-    u64 v596 = v595 + 1;
-    if (!(v596 == 29u)) { v590 = v591; v593 = v633 + (((u32)0 - v601) & 3); v595 = v596; goto v589; }
+    v598 = v5 + (i64)(v582 << 2) - 84;
+v588:;
+    u32 v602 = v573 + v565;
+    v605 = v602; v606 = ((v575 << 1) + v602) + bswap32(at(u32_1, v598)); goto v564;
+v578:;
+    v605 = v573 + v565; v606 = 0;
+v564:;
+    u32 v563 = v606 + v562;
+    u64 v568 = v567 + 1;
+    if (!(v568 == 29u)) { v562 = v563; v565 = v605 + (((u32)0 - v573) & 3); v567 = v568; goto v561; }
     memcpy(v20, v16, 344u);
     memcpy(v21, v14, 6);
     memcpy(v18, v20, 344u);
     memcpy(v19, v21, 6);
-    v644 = 0; v645 = v27; v646 = v29; v647 = v517; v648 = (u32)0xb1b0afbau - v591; v649 = (((u64)v464) << 32u) | 1; v650 = v23;
-v643:;
-    at(u64_1, v0) = v644;
-    at(u64_1, v0 + 8) = v649;
+    v616 = 0; v617 = v27; v618 = v29; v619 = v489; v620 = (u32)0xb1b0afbau - v563; v621 = (((u64)v436) << 32u) | 1; v622 = v23;
+v615:;
+    at(u64_1, v0) = v616;
+    at(u64_1, v0 + 8) = v621;
     memcpy(v0 + 16, v18, 344u);
-    at(u16_1, v0 + 360) = v647;
+    at(u16_1, v0 + 360) = v619;
     memcpy(v0 + 362, v19, 6);
-    at(u64_1, v0 + 368) = v645;
-    at(u64_1, v0 + 376) = v646;
-    at(u32_1, v0 + 384) = v648;
+    at(u64_1, v0 + 368) = v617;
+    at(u64_1, v0 + 376) = v618;
+    at(u32_1, v0 + 384) = v620;
     at(u32_1, v0 + 388) = 0;
-    at(u64_1, v0 + 392) = v650;
+    at(u64_1, v0 + 392) = v622;
     return;
 }
 
