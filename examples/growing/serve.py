@@ -2,9 +2,8 @@
 """Serves the pages of this folder on loopback, with the package for browsers and cuts of fonts by examples/server.
 
 In a checkout the package and the library for C are built if they are not built yet. `--package` names the folder of
-an existing package, and the variable FONTCUT_LIBRARY an existing library. Cuts are compressed by Brotli, or by gzip
-where this Python lacks it, and later ones with an earlier cut as a dictionary, if it has Zstandard; what it lacks is
-said at the start.
+an existing package, and the variable FONTCUT_LIBRARY an existing library. Cuts are compressed by Brotli or gzip, and
+later ones with an earlier cut as a dictionary, by what this Python has; what it lacks is said at the start.
 """
 from __future__ import annotations
 
@@ -31,7 +30,6 @@ TOP = os.path.dirname(os.path.dirname(HERE))
 FONTS = {"/usr/share/fonts/truetype/lxgw-wenkai/LXGWWenKai-Regular.ttf": "fonts-lxgw-wenkai",
          "/usr/share/fonts/truetype/noto/NotoNaskhArabic-Regular.ttf": "fonts-noto-core"}
 
-
 # The modules that compress cuts, Debian's packages that have them, and what happens without.
 COMPRESSING = [("brotli", "python3-brotli", "the first cut of a page is compressed by gzip, which takes more bytes"),
                ("zstandard", "python3-zstandard", "no cut is compressed with an earlier one as a dictionary")]
@@ -39,13 +37,11 @@ COMPRESSING = [("brotli", "python3-brotli", "the first cut of a page is compress
 
 class Server(socketserver.ThreadingMixIn, wsgiref.simple_server.WSGIServer):
     """Answers each request in a thread of its own."""
-
     daemon_threads = True
 
 
 class Quiet(wsgiref.simple_server.WSGIRequestHandler):
     """Says nothing of requests."""
-
     def log_message(self, *_: object) -> None:
         pass
 
@@ -73,20 +69,17 @@ def say_what_lacks() -> None:
     """Names the modules that compress cuts and that this Python does not have."""
     for module, package, loss in COMPRESSING:
         if not importlib.util.find_spec(module):
-            print(f"{sys.executable} has no module {module}: {loss}; Debian's package {package} has it",
-                  file=sys.stderr)
+            said = f"{sys.executable} has no module {module}: {loss}; Debian's package {package} has it"
+            print(said, file=sys.stderr)
 
 
 def coding(environ: WSGIEnvironment) -> Tuple[str, Callable[[bytes], bytes]]:
-    """How an answer is compressed: by Brotli, or by gzip, which every Python has; not at all where the browser takes
-    neither."""
+    """How an answer is compressed: by Brotli, or by gzip, which every Python has, or not at all."""
     accepted = environ.get("HTTP_ACCEPT_ENCODING", "")
     if "br" in accepted and importlib.util.find_spec("brotli"):
         import brotli
         return "br", functools.partial(brotli.compress, quality=5)
-    if "gzip" in accepted:
-        return "gzip", functools.partial(gzip.compress, mtime=0)
-    return "", bytes
+    return ("gzip", functools.partial(gzip.compress, mtime=0)) if "gzip" in accepted else ("", bytes)
 
 
 def compressed(environ: WSGIEnvironment, start_response: StartResponse, cuts: WSGIApplication) -> Iterable[bytes]:
@@ -99,8 +92,7 @@ def compressed(environ: WSGIEnvironment, start_response: StartResponse, cuts: WS
     def keep(status: str, headers: List[Tuple[str, str]], *_: Any) -> Any:
         said.append((status, headers))
 
-    body = b"".join(cuts(environ, keep))
-    status, headers = said[0]
+    body, (status, headers) = b"".join(cuts(environ, keep)), said[0]
     if status.startswith("200") and body and "Content-Encoding" not in dict(headers):
         body = compress(body)
         tag = dict(headers)["ETag"]

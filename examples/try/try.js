@@ -9,12 +9,9 @@ const VARIATIONS = ['fvar', 'gvar'];
 const NAMED = 5; // how many of the missing characters are named
 // The header of a font file, and a record of its table directory, in bytes (OpenType 1.9, Table Directory).
 const HEADER = 12, RECORD = 16;
-
 const byId = (id) => document.getElementById(id);
-
 // The font that is tried: its name, its bytes, and its place in the module. And how often what is shown has changed.
-let name, bytes, font;
-let changes = 0;
+let name, bytes, font, changes = 0;
 
 /** The tags of the tables of a font. */
 function tagsOf(file) {
@@ -38,9 +35,8 @@ function lost(text, kind, cut) {
     const missing = characters.filter((_, at) => found[at] === 0);
     const tags = tagsOf(cut);
     const dropped = tagsOf(bytes).filter((tag) => !tags.includes(tag));
-    const said = [];
+    const said = [], more = missing.length > NAMED ? ` and ${missing.length - NAMED} more` : '';
     if (missing.length > 0) {
-        const more = missing.length > NAMED ? ` and ${missing.length - NAMED} more` : '';
         said.push(`The font itself has no ${missing.slice(0, NAMED).join(', ')}${more}.`);
     }
     const letter = unshaped(font, { text, kind });
@@ -63,11 +59,11 @@ async function packedSize(file) {
 /** A file as it is to be shown: loaded as a font of its own, which browsers refuse where it has no character. */
 async function loaded(file, family) {
     const face = await new FontFace(family, file.slice().buffer).load().catch(() => undefined);
-    return { file, face, packed: await packedSize(file) };
+    return { file, face, family, packed: await packedSize(file) };
 }
 
 /** Shows a file in its section: its size, a text that is drawn in it, and a link by which it is saved. */
-function fill(id, { file, face, packed }, text) {
+function fill(id, { file, face, family, packed }, text) {
     const section = byId(id), [title] = section.children;
     section.querySelectorAll('a').forEach((link) => URL.revokeObjectURL(link.href));
     const size = document.createElement('p'), drawn = document.createElement('p'), link = document.createElement('a');
@@ -76,17 +72,15 @@ function fill(id, { file, face, packed }, text) {
     Object.assign(link, { href, download: `${id}-${name}`, textContent: 'Save' });
     size.append(link);
     Object.assign(drawn, { className: 'drawn', dir: 'auto', textContent: text });
+    drawn.style.fontFamily = `"${family}", monospace`;
     if (face) {
         document.fonts.add(face);
-        drawn.style.fontFamily = `"${face.family}", monospace`;
     } else {
-        drawn.textContent = '';
         size.append('. It has no character.');
     }
     section.replaceChildren(title, size, drawn);
 }
 
-/** Whether two files are the same bytes. */
 const areSame = (one, other) => one.length === other.length && one.every((byte, at) => byte === other[at]);
 
 /** Makes what the form asks for, and shows it. */
@@ -102,7 +96,7 @@ async function show() {
         return; // the form has changed since
     }
     document.fonts.clear();
-    faces.forEach((face) => fill(...face));
+    faces.forEach((one) => fill(...one));
     byId('lost').replaceChildren(...lost(first + second, kind, joined).map(
         (text) => Object.assign(document.createElement('li'), { textContent: text })));
     byId('said').textContent = areSame(joined, both)
@@ -142,16 +136,13 @@ const takeSample = () => trying(async () => {
 byId('file').addEventListener('change', ({ target }) => takeFile(target.files[0]));
 byId('sample').addEventListener('click', takeSample);
 document.querySelector('form').addEventListener('input', ({ target }) => target.type !== 'file' && trying(show));
-document.addEventListener('dragover', (event) => {
-    event.preventDefault();
-    document.body.classList.add('over');
-});
-document.addEventListener('dragleave', () => document.body.classList.remove('over'));
-document.addEventListener('drop', (event) => {
-    event.preventDefault();
-    document.body.classList.remove('over');
-    takeFile(event.dataTransfer.files[0]);
-});
+for (const kind of ['dragover', 'dragleave', 'drop']) {
+    document.addEventListener(kind, (event) => {
+        event.preventDefault();
+        document.body.classList.toggle('over', kind === 'dragover');
+        takeFile(kind === 'drop' && event.dataTransfer.files[0]);
+    });
+}
 
 await trying(async () => init(new URL('../../gen/fontcut.wasm', import.meta.url)));
 await takeSample();
