@@ -8,6 +8,7 @@ later ones with an earlier cut as a dictionary, by what this Python has; what it
 from __future__ import annotations
 
 import argparse
+import contextlib
 import functools
 import gzip
 import importlib.util
@@ -79,7 +80,9 @@ def coding(environ: WSGIEnvironment) -> Tuple[str, Callable[[bytes], bytes]]:
     if "br" in accepted and importlib.util.find_spec("brotli"):
         import brotli
         return "br", functools.partial(brotli.compress, quality=5)
-    return ("gzip", functools.partial(gzip.compress, mtime=0)) if "gzip" in accepted else ("", bytes)
+    if "gzip" in accepted:
+        return "gzip", functools.partial(gzip.compress, mtime=0)
+    return "", bytes
 
 
 def compressed(environ: WSGIEnvironment, start_response: StartResponse, cuts: WSGIApplication) -> Iterable[bytes]:
@@ -94,8 +97,7 @@ def compressed(environ: WSGIEnvironment, start_response: StartResponse, cuts: WS
 
     body, (status, headers) = b"".join(cuts(environ, keep)), said[0]
     if status.startswith("200") and body and "Content-Encoding" not in dict(headers):
-        body = compress(body)
-        tag = dict(headers)["ETag"]
+        body, tag = compress(body), dict(headers)["ETag"]
         headers = [(key, value) for key, value in headers if key not in ("Content-Length", "ETag")]
         # A strong tag would say that these are the bytes of the cut.
         headers += [("Content-Encoding", name), ("Content-Length", str(len(body))), ("ETag", f"W/{tag}")]
@@ -143,7 +145,5 @@ def main() -> None:
 
 
 if __name__ == "__main__":
-    try:
+    with contextlib.suppress(KeyboardInterrupt):
         main()
-    except KeyboardInterrupt:
-        pass

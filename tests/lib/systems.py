@@ -345,7 +345,9 @@ def by_debians_python(system: System) -> None:
     status, told, err = system.run("/usr/bin/python3", "-c", FROM_PYTHON, FONT, "/by_package")
     same("the package for Python: the module", (0, f"{VERSION} True\n", b""), (status, told.decode(), err))
     same("the package for Python: fontcut-pdf without pikepdf", (
-        3, b"", b"fontcut-pdf: needs pikepdf: apt install python3-pikepdf\n"), system.run("fontcut-pdf", "--version"))
+        3, b"", b"fontcut-pdf: needs pikepdf: apt install python3-pikepdf\n"), system.run("fontcut-pdf", "fonts", FONT))
+    same("the package for Python: fontcut-pdf", (0, f"fontcut-pdf {VERSION}\n".encode(), b""),
+         system.run("fontcut-pdf", "--version"))
     same("the package for Python: fontcut-web", (0, f"fontcut-web {VERSION}\n".encode(), b""),
          system.run("fontcut-web", "--version"))
     same("the package for Python: fontcut-web without fontTools", (
