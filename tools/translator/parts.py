@@ -7,7 +7,7 @@ FILES = {
     "clap": ["clap"],
     "command_line": ["command_line", "strsim"],
     "commands": ["font_cmd"],
-    "cuts": ["font_subset", "font_write", "font_layout", "font_variations"],
+    "cuts": ["divided_tables", "font_subset", "font_write", "font_layout", "font_variations"],
     "joins": ["commands", "font_join", "map_union"],
     "fonts": ["cmap_subtables", "codes", "font_coverage", "font_file", "font_glyph", "font_map", "font_tables",
               "font_texts", "sfnt_bytes", "streams", "unicode_normalization", "wanted_characters"],
