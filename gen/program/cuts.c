@@ -16,6 +16,9 @@ static const _Alignas(8) u8 table_faed1f12[232] = {16,0,0,0,0,0,0,0,17,0,0,0,0,0
 static const u8 text_BASEGDEFGPOSGSUBHVARMVAR[52] = "BASEGDEFGPOSGSUBHVARMVARSTATVVARavarcvarfvargvarkern";
 static const u8 text_BASEGDEFGPOSGSUBkern[20] = "BASEGDEFGPOSGSUBkern";
 
+static void divided_tables_metrics_copy_kept(u8 *v0, u8 *v1, u64 v2, u8 *v3, u64 v4);
+static void divided_tables_metrics_kept_metrics_6f24(u8 *v0, u8 *v1, u64 v2, u64 v3);
+static void divided_tables_metrics_metrics_frame(u8 *v0, u8 *v1, u64 v2, u64 v3);
 static void font_layout_entry_read_entry(u8 *v0, u8 *v1, u64 v2, u8 *v3, u16 v4, u64 v5);
 static void font_layout_layout_Layout_open(u8 *v0, u8 *v1, u64 v2);
 static void font_layout_lookup_subtable_read_plain(u8 *v0, u8 *v1, u64 v2, u16 v3, u64 v4, u32 v5);
@@ -27,9 +30,904 @@ static void font_subset_further_tables_FurtherTables_variations(u8 *v0, u8 *v1);
 static void font_subset_kind_source_CutOfKind_of_1490(u8 *v0, u8 *v1);
 static void font_subset_presence_mark_between(u8 *v0, u8 *v1, u16 v2, u16 v3);
 static void font_subset_selection_mark_roots(u8 *v0, u8 *v1, u8 *v2, u8 *v3);
+static void font_variations_gvar_Variations_open(u8 *v0, u8 *v1, u64 v2, u8 *v3, u16 v4);
 static u8_u64 font_write_size_table_length_895b(u8 *v0, u8 *v1, u64 v2);
 static u8_u64 font_write_size_table_length_a65d(u8 *v0, u8 v1, u8 *v2, u64 v3);
 static flag font_write_whole_file_is_whole_file(u8 *v0, u8 v1, u8 *v2, u8 *v3, u64 v4);
+
+void divided_tables_made_tables_MadeTables_drop(u8 *v0) {
+    u8 v2 = at(u8, v0);
+    u8 *v4 = at(ptr_1, v0 + 8);
+    u64 v6 = at(u64_1, v0 + 24);
+    u8 v8 = at(u8, v0 + 32);
+    u8 *v10 = at(ptr_1, v0 + 40);
+    u64 v12 = at(u64_1, v0 + 56);
+    u8 v14 = at(u8, v0 + 64);
+    u8 *v16 = at(ptr_1, v0 + 72);
+    u64 v18 = at(u64_1, v0 + 88);
+    if ((at(u8, v0 + 96) != 1) ? 1 : (at(u64_1, v0 + 120) == 0)) goto v26;
+    sys_rattle_dealloc(at(ptr_1, v0 + 104));
+v26:;
+    if ((v14 != 1) ? 1 : (v18 == 0)) goto v33;
+    sys_rattle_dealloc(v16);
+v33:;
+    if ((v8 != 1) ? 1 : (v12 == 0)) goto v38;
+    sys_rattle_dealloc(v10);
+v38:;
+    if ((v2 != 1) ? 1 : (v6 == 0)) return;
+    sys_rattle_dealloc(v4);
+    return;
+}
+
+void divided_tables_made_tables_MadeTables_frames(u8 *v0, u8 *v1) {
+    _Alignas(8) u8 v3[1], v4[80], v5[32], v6[24], v7[40], v8[40], v9[24];
+    u64 v36, v100, v110, v113, v121, v123, v153, v146, v163, v172, v174, v214, v245;
+    u8 *v79, *v173, *v232;
+    flag v171;
+    memset(v7, 0, 40u);
+    memset(v8, 0, 40u);
+    memset(v9, 0, 24u);
+    divided_tables_metrics_metrics_frame(v7, v1, 7, 8);
+    u8 v12 = at(u8, v7 + 8);
+    if (!(at(u8, v7) == 0)) goto v15;
+    u8 *v17 = at(ptr, v7 + 16);
+    u64 v19 = at(u64, v7 + 24);
+    u64 v21 = at(u64, v7 + 32);
+    u64 v22 = (u64)v12;
+    u8 *v25 = at(ptr_1, at(ptr, v1 + 8));
+    u64 v26 = (u64)v25;
+    u16 v28 = at(u16_1, v25 + 4);
+    u64 v30 = (u64)bswap16(v28);
+    if (v28 == 0) { v171 = 1; v172 = 0; v173 = (u8 *)0; v174 = 0; goto v32; }
+    v36 = 0;
+v33:;
+    u64 v38 = v36 << 4;
+    if (!((((at(u8, v25 + (i64)v38 + 12) == 112u) & (at(u8, v25 + (i64)v38 + 13) == 111u)) & (at(u8, v25 + (i64)v38 + 14) == 115u)) & (at(u8, v25 + (i64)v38 + 15) == 116u))) goto v34;
+    u32 v60 = at(u32_1, v25 + (i64)v38 + 24);
+    u32 v61 = bswap32(v60);
+    u64 v62 = (u64)bswap32(at(u32_1, v25 + (i64)v38 + 20));
+    u64 v63 = (u64)v61;
+    if (!(v61 < 32u)) goto v67;
+    if (v60 == 0) { v79 = v3; goto v69; }
+    u64_u64 v72 = sys_rattle_alloc(v63, 1);
+    if (!(v72._0 & 1)) goto v76;
+    v79 = (u8 *)v72._1;
+v69:;
+    u64 v80 = (u64)v79;
+    if (!((((u64)v79) - ((u64)(v25 + (i64)v62))) < v63)) goto v86;
+    if (v61 < 4) { v121 = 0; goto v88; }
+    if ((v80 - (v26 + v62)) < 32u) { v121 = 0; goto v88; }
+    if (v61 < 16u) { v110 = 0; goto v95; }
+    u64 v97 = v63 & 12u;
+    u64 v98 = v63 & 16u;
+    v100 = 0;
+v99:;
+    at(u8x16_1, v79 + v100) = at(u8x16_1, (v25 + (i64)v62) + v100);
+    u64 v101 = v100 + 16u;
+    if (!(v101 == v98)) { v100 = v101; goto v99; }
+    if (v98 == v63) { v171 = 0; v172 = 1; v173 = v79; v174 = v63; goto v32; }
+    if (v97 == 0) { v121 = v98; goto v88; }
+    v110 = v98;
+v95:;
+    u64 v111 = v63 & 28u;
+    v113 = v110;
+v112:;
+    at(u8x4_1, v79 + v113) = at(u8x4_1, (v25 + (i64)v62) + v113);
+    u64 v114 = v113 + 4;
+    if (!(v114 == v111)) { v113 = v114; goto v112; }
+    if (v111 == v63) { v171 = 0; v172 = 1; v173 = v79; v174 = v63; goto v32; }
+    v121 = v111;
+v88:;
+    v123 = v121;
+v122:;
+    at(u8, v79 + v123) = at(u8, (v25 + (i64)v62) + v123);
+    u64 v124 = v123 + 1;
+    if (v124 == v63) { v171 = 0; v172 = 1; v173 = v79; v174 = v63; goto v32; }
+    v123 = v124; goto v122;
+v86:;
+    memmove_any(v79, v25 + (i64)v62, v63);
+    v171 = 0; v172 = 1; v173 = v79; v174 = v63; goto v32;
+v67:;
+    u64_u64 v130 = sys_rattle_alloc(32u, 1);
+    if (!(v130._0 & 1)) goto v76;
+    u64 v134 = v130._1;
+    u8 *v135 = (u8 *)v134;
+    if (!((v134 - ((u64)(v25 + (i64)v62))) < 32u)) goto v140;
+    if ((v134 - (v26 + v62)) < 32u) v153 = 0; else { v146 = 0; goto v145; }
+v144:;
+    at(u8, v135 + v153) = at(u8, (v25 + (i64)v62) + v153);
+    u64 v154 = v153 + 1;
+    if (v154 == 32u) goto v152;
+    v153 = v154; goto v144;
+v145:;
+    at(u8x16_1, v135 + v146) = at(u8x16_1, (v25 + (i64)v62) + v146);
+    u64 v147 = v146 + 16u;
+    if (v147 == 32u) goto v152;
+    v146 = v147; goto v145;
+v140:;
+    memmove(v135, v25 + (i64)v62, 32u);
+v152:;
+    if ((v134 - ((u64)(u8 *)table_62a9c92b)) < 4) v163 = 0; else goto v162;
+v161:;
+    at(u8, v135 + v163) = at(u8, (u8 *)table_62a9c92b + v163);
+    u64 v164 = v163 + 1;
+    if (v164 == 4) { v171 = 0; v172 = 1; v173 = v135; v174 = 32u; goto v32; }
+    v163 = v164; goto v161;
+v162:;
+    at(u32_1, v135) = 768u;
+    v171 = 0; v172 = 1; v173 = v135; v174 = 32u; goto v32;
+v76:;
+    if ((v12 != 1) ? 1 : (v21 == 0)) goto v184;
+    sys_rattle_dealloc(v17);
+v184:;
+    at(u8, v0) = 1;
+    memset(v0 + 8, 0, 128u);
+    return;
+v34:;
+    u64 v35 = v36 + 1;
+    if (v35 == v30) { v171 = 1; v172 = 0; v173 = (u8 *)0; v174 = 0; } else { v36 = v35; goto v33; }
+v32:;
+    divided_tables_metrics_metrics_frame(v8, v1, 14u, 15u);
+    u8 v177 = at(u8, v8 + 8);
+    if (!(at(u8, v8) == 0)) goto v180;
+    u8 *v188 = at(ptr, v8 + 16);
+    u64 v190 = at(u64, v8 + 24);
+    u64 v192 = at(u64, v8 + 32);
+    memset(v4, 0, 80u);
+    memset(v5, 0, 32u);
+    divided_tables_variation_data_open_variations_b55d(v4, v1);
+    if (!(at(u8, v4) == 1)) goto v196;
+    u16 v199 = at(u16, v4 + 74);
+    u64 v200 = (u64)v199;
+    if (!(v199 == 0)) goto v203;
+    divided_tables_variation_data_with_data(v5, v4 + 8, v3, v200);
+    if (!(at(u8, v5) == 0)) goto v210;
+    v232 = v5 + 8; goto v230;
+v203:;
+    u64_u64 v206 = sys_rattle_alloc(v200 << 4, 8);
+    if (!(v206._0 & 1)) goto v210;
+    u8 *v212 = (u8 *)v206._1;
+    v214 = 0;
+v213:;
+    u64 v216 = v214 << 4;
+    at(ptr_1, v212 + v216) = (u8 *)table_d0e67785;
+    at(u64_1, v212 + v216 + 8) = 0;
+    u64 v215 = v214 + 1;
+    if (!(v215 == v200)) { v214 = v215; goto v213; }
+    divided_tables_variation_data_with_data(v5, v4 + 8, v212, v200);
+    if (!(at(u8, v5) == 0)) goto v228;
+    sys_rattle_dealloc(v212);
+    v232 = v5 + 8;
+v230:;
+    memcpy(v9, v232, 24u);
+    v245 = 1; goto v221;
+v228:;
+    sys_rattle_dealloc(v212);
+v210:;
+    memset(v9, 0, 24u);
+    memset(v6, 0, 24u);
+    if ((v177 != 1) ? 1 : (v192 == 0)) goto v264;
+    sys_rattle_dealloc(v188);
+v264:;
+    if (v171 | (v174 == 0)) goto v268;
+    sys_rattle_dealloc(v173);
+v268:;
+    if ((v12 != 1) ? 1 : (v21 == 0)) goto v273;
+    sys_rattle_dealloc(v17);
+v273:;
+    at(u8, v0) = 1;
+    at(u64_1, v0 + 8) = 0;
+    memcpy(v0 + 16, v6, 24u);
+    memset(v0 + 40, 0, 96u);
+    return;
+v196:;
+    memset(v9, 0, 24u);
+    v245 = 0;
+v221:;
+    at(u8, v0) = 0;
+    at(u64_1, v0 + 8) = v245;
+    memcpy(v0 + 16, v9, 24u);
+    at(u64_1, v0 + 40) = v22;
+    at(ptr_1, v0 + 48) = v17;
+    at(u64_1, v0 + 56) = v19;
+    at(u64_1, v0 + 64) = v21;
+    at(u64_1, v0 + 72) = v172;
+    at(ptr_1, v0 + 80) = v173;
+    at(u64_1, v0 + 88) = v174;
+    at(u64_1, v0 + 96) = v174;
+    at(u64_1, v0 + 104) = (u64)v177;
+    at(ptr_1, v0 + 112) = v188;
+    at(u64_1, v0 + 120) = v190;
+    at(u64_1, v0 + 128) = v192;
+    return;
+v180:;
+    memset(v6, 0, 24u);
+    if (v171 | (v174 == 0)) goto v235;
+    sys_rattle_dealloc(v173);
+v235:;
+    if ((v12 != 1) ? 1 : (v21 == 0)) goto v240;
+    sys_rattle_dealloc(v17);
+v240:;
+    at(u8, v0) = 1;
+    at(u64_1, v0 + 8) = 0;
+    memcpy(v0 + 16, v6, 24u);
+    memset(v0 + 40, 0, 96u);
+    return;
+v15:;
+    at(u8, v0) = 1;
+    memset(v0 + 8, 0, 128u);
+    return;
+}
+
+static void divided_tables_metrics_copy_kept(u8 *v0, u8 *v1, u64 v2, u8 *v3, u64 v4) {
+    u64 v25, v54, v65, v68, v76, v78, v97, v104, v117, v120, v127, v133, v151, v168, v188, v195, v208, v211, v134;
+    u8x16 v106, v197;
+    u64 v6 = (u64)v1;
+    u64 v7 = (u64)v0;
+    u16 v11 = at(u16, at(ptr, v3 + 8) + 64);
+    u64 v12 = (u64)v11;
+    u64 v14 = (v4 << 2) - 4;
+    if ((((u64)(v0 + (i64)v14)) - ((u64)(v1 + (i64)v14))) < 2) v25 = 0; else goto v22;
+v21:;
+    at(u8, (v0 + (i64)v14) + v25) = at(u8, (v1 + (i64)v14) + v25);
+    u64 v26 = v25 + 1;
+    if (v26 == 2) goto v24;
+    v25 = v26; goto v21;
+v22:;
+    at(u16_1, v0 + (i64)v14) = at(u16_1, v1 + (i64)v14);
+v24:;
+    u64 v32 = (v4 + v12) << 1;
+    u64 v33 = v2 - v32;
+    if (!((((u64)(v0 + (i64)v32)) - ((u64)(v1 + (i64)v32))) < v33)) goto v41;
+    if ((v33 < 4) | ((v7 - v6) < 32u)) { v76 = 0; goto v46; }
+    if (v33 < 16u) { v65 = 0; goto v49; }
+    u64 v51 = v33 & 12u;
+    u64 v52 = v33 & 0xfffffffffffffff0u;
+    v54 = 0;
+v53:;
+    at(u8x16_1, (v0 + (i64)v32) + v54) = at(u8x16_1, (v1 + (i64)v32) + v54);
+    u64 v55 = v54 + 16u;
+    if (!(v55 == v52)) { v54 = v55; goto v53; }
+    if (v33 == v52) goto v62;
+    if (v51 == 0) { v76 = v52; goto v46; }
+    v65 = v52;
+v49:;
+    u64 v66 = v33 & 0xfffffffffffffffcu;
+    v68 = v65;
+v67:;
+    at(u8x4_1, (v0 + (i64)v32) + v68) = at(u8x4_1, (v1 + (i64)v32) + v68);
+    u64 v69 = v68 + 4;
+    if (!(v69 == v66)) { v68 = v69; goto v67; }
+    if (v33 == v66) goto v62;
+    v76 = v66;
+v46:;
+    v78 = v76;
+v77:;
+    at(u8, (v0 + (i64)v32) + v78) = at(u8, (v1 + (i64)v32) + v78);
+    u64 v79 = v78 + 1;
+    if (v79 == v33) goto v62;
+    v78 = v79; goto v77;
+v41:;
+    memmove_any(v0 + (i64)v32, v1 + (i64)v32, v33);
+v62:;
+    u8 *v85 = at(ptr, v3 + 168);
+    u64 v87 = at(u64, v3 + 176);
+    if (v87 == 0) { v117 = 0; goto v89; }
+    if (at(u8, v85) & 1) { v127 = 0; goto v93; }
+    if (v87 < 64u) { v117 = 0; goto v89; }
+    v97 = 0;
+v96:;
+    if (v97 == 0xffffffffffffffc0u) goto v99;
+    v104 = 0; v106 = (u8x16){0};
+v103:;
+    u8x16 v107 = v106 | ((-(at(u8x16_1, (v85 + (i64)v97) + (i64)v104) & 1)));
+    u64 v105 = v104 + 16u;
+    if (!(v105 == 64u)) { v104 = v105; v106 = v107; goto v103; }
+    if (!(bits_u8x16(v107) == 0)) { v117 = v97; goto v89; }
+v99:;
+    u64 v98 = v97 + 64u;
+    if ((v87 - v98) < 64u) v117 = v98; else { v97 = v98; goto v96; }
+v89:;
+    if (v117 < v87) v120 = v117; else { v127 = v87; goto v93; }
+v119:;
+    if (at(u8, v85 + v120) & 1) { v127 = v120; goto v93; }
+    u64 v121 = v120 + 1;
+    if (v121 == v87) v127 = v87; else { v120 = v121; goto v119; }
+v93:;
+    u64 v128 = v4 - 1;
+    if (v11 > ((u16)v127)) v133 = v127; else return;
+v131:;
+    u64 v136 = v133 & 65535u;
+    if (!(v136 < v128)) goto v139;
+    u64 v140 = v136 << 2;
+    if ((((u64)(v0 + (i64)v140)) - ((u64)(v1 + (i64)v140))) < 4) v151 = 0; else goto v148;
+v147:;
+    at(u8, (v0 + (i64)v140) + v151) = at(u8, (v1 + (i64)v140) + v151);
+    u64 v152 = v151 + 1;
+    if (v152 == 4) goto v150;
+    v151 = v152; goto v147;
+v148:;
+    at(u32_1, v0 + (i64)v140) = at(u32_1, v1 + (i64)v140);
+    goto v150;
+v139:;
+    u64 v158 = (v136 + v4) << 1;
+    if ((((u64)(v0 + (i64)v158)) - ((u64)(v1 + (i64)v158))) < 2) v168 = 0; else goto v166;
+v165:;
+    at(u8, (v0 + (i64)v158) + v168) = at(u8, (v1 + (i64)v158) + v168);
+    u64 v169 = v168 + 1;
+    if (v169 == 2) goto v150;
+    v168 = v169; goto v165;
+v166:;
+    at(u16_1, v0 + (i64)v158) = at(u16_1, v1 + (i64)v158);
+v150:;
+    u64 v175 = (v133 + 1) & 65535u;
+    u8 *v176 = at(ptr, v3 + 168);
+    u64 v177 = at(u64, v3 + 176);
+    if (!(v177 > v175)) goto v180;
+    if (at(u8, v176 + v175) & 1) { v134 = v175; goto v135; }
+v180:;
+    if ((v177 - v175) < 64u) { v208 = v175; goto v186; }
+    v188 = v175;
+v187:;
+    if (!(v188 < 0xffffffffffffffc0u)) goto v190;
+    v195 = 0; v197 = (u8x16){0};
+v194:;
+    u8x16 v198 = v197 | ((-(at(u8x16_1, (v176 + (i64)v188) + (i64)v195) & 1)));
+    u64 v196 = v195 + 16u;
+    if (!(v196 == 64u)) { v195 = v196; v197 = v198; goto v194; }
+    if (!(bits_u8x16(v198) == 0)) { v208 = v188; goto v186; }
+v190:;
+    u64 v189 = v188 + 64u;
+    if ((v177 - v189) < 64u) v208 = v189; else { v188 = v189; goto v187; }
+v186:;
+    if (v208 < v177) v211 = v208; else { v134 = v177; goto v135; }
+v210:;
+    if (at(u8, v176 + v211) & 1) { v134 = v211; goto v135; }
+    u64 v212 = v211 + 1;
+    if (v212 == v177) v134 = v177; else { v211 = v212; goto v210; }
+v135:;
+    if (v11 > ((u16)v134)) { v133 = v134; goto v131; }
+    return;
+}
+
+static void divided_tables_metrics_kept_metrics_6f24(u8 *v0, u8 *v1, u64 v2, u64 v3) {
+    u8 v5[1], *v61, *v63;
+    _Alignas(8) u8 v6[24], v7[24];
+    u64 v64;
+    u8 *v9 = at(ptr, v1 + 8);
+    u16 v11 = at(u16, v9 + 64);
+    memset(v7, 0, 24u);
+    font_subset_accepted_copied(v7, v9, v3);
+    u8 v12 = at(u8, v7);
+    u64 v13 = (u64)v12;
+    u8 *v15 = at(ptr, v7 + 8);
+    u64 v17 = at(u64, v7 + 16);
+    if (v12 == 0) { v63 = (u8 *)0; v64 = 0; goto v19; }
+    memset(v6, 0, 24u);
+    font_subset_accepted_copied(v6, v9, v2);
+    u8 *v23 = at(ptr, v6 + 8);
+    if ((at(u8, v6) != 1) ? 1 : (at(u64, v6 + 16) < 36u)) goto v29;
+    u16 v32 = at(u16_1, v23 + 34);
+    u16 v34 = bswap16(v32);
+    if ((v32 == 0) | (v11 < v34)) goto v29;
+    u64 v38 = (u64)v34;
+    if (!(v17 < ((((u64)((u16)(v11 - v34))) << 1) + (v38 << 2)))) goto v45;
+v29:;
+    at(u8, v0) = 0;
+    memset(v0 + 8, 0, 32u);
+    return;
+v45:;
+    if (v17 == 0) { v61 = v5; goto v49; }
+    if (!((i64)v17 > (i64)0xffffffffffffffffu)) goto v53;
+    u64_u64 v55 = sys_rattle_alloc(v17, 1);
+    if (!(v55._0 & 1)) goto v53;
+    u8 *v60 = (u8 *)v55._1;
+    memset_any(v60, 0, v17);
+    v61 = v60;
+v49:;
+    divided_tables_metrics_copy_kept(v61, v15, v17, v1, v38);
+    v63 = v61; v64 = v17;
+v19:;
+    at(u8, v0) = 0;
+    at(u64_1, v0 + 8) = v13;
+    at(ptr_1, v0 + 16) = v63;
+    at(u64_1, v0 + 24) = v64;
+    at(u64_1, v0 + 32) = v64;
+    return;
+v53:;
+    at(u8, v0) = 1;
+    memset(v0 + 8, 0, 32u);
+    return;
+}
+
+NOINLINE void divided_tables_metrics_lay_over(u8 *v0, u64 v1, u8 *v2, u64 v3) {
+    u64 v24, v36, v39, v49, v51;
+    u64 v5 = umin64(v3, v1);
+    if (v5 == 0) return;
+    if (v5 < 4) { v49 = 0; goto v10; }
+    if (((u64)v0 < (u64)(v2 + (i64)v5)) & ((u64)v2 < (u64)(v0 + (i64)v5))) { v49 = 0; goto v10; }
+    if (v5 < 16u) { v36 = 0; goto v19; }
+    u64 v21 = v5 & 12u;
+    u64 v22 = v5 & 0xfffffffffffffff0u;
+    v24 = 0;
+v23:;
+    at(u8x16_1, v0 + v24) = at(u8x16_1, v2 + v24) | at(u8x16_1, v0 + v24);
+    u64 v25 = v24 + 16u;
+    if (!(v25 == v22)) { v24 = v25; goto v23; }
+    if (v5 == v22) return;
+    if (v21 == 0) { v49 = v22; goto v10; }
+    v36 = v22;
+v19:;
+    u64 v37 = v5 & 0xfffffffffffffffcu;
+    v39 = v36;
+v38:;
+    at(u8x4_1, v0 + v39) = at(u8x4_1, v2 + v39) | at(u8x4_1, v0 + v39);
+    u64 v40 = v39 + 4;
+    if (!(v40 == v37)) { v39 = v40; goto v38; }
+    if (v5 == v37) return;
+    v49 = v37;
+v10:;
+    v51 = v49;
+v50:;
+    at(u8, v0 + v51) = (u8)(at(u8, v2 + v51) | at(u8, v0 + v51));
+    u64 v52 = v51 + 1;
+    if (v52 == v5) return;
+    v51 = v52; goto v50;
+}
+
+static void divided_tables_metrics_metrics_frame(u8 *v0, u8 *v1, u64 v2, u64 v3) {
+    u8 v5[1], *v63, *v121, *v196;
+    _Alignas(8) u8 v6[24], v7[24];
+    u64 v83, v93, v96, v104, v106, v135, v164, v174, v177, v185, v187, v195;
+    u8 *v9 = at(ptr, v1 + 8);
+    u16 v11 = at(u16, v9 + 64);
+    memset(v7, 0, 24u);
+    font_subset_accepted_copied(v7, v9, v3);
+    u8 v12 = at(u8, v7);
+    u8 *v14 = at(ptr, v7 + 8);
+    u64 v15 = (u64)v14;
+    u64 v17 = at(u64, v7 + 16);
+    u64 v18 = (u64)v12;
+    if (v12 == 0) { v195 = 0; v196 = (u8 *)0; goto v20; }
+    memset(v6, 0, 24u);
+    font_subset_accepted_copied(v6, v9, v2);
+    u8 *v24 = at(ptr, v6 + 8);
+    if ((at(u8, v6) != 1) ? 1 : (at(u64, v6 + 16) < 36u)) goto v30;
+    u16 v33 = at(u16_1, v24 + 34);
+    u16 v35 = bswap16(v33);
+    if ((v33 == 0) | (v11 < v35)) goto v30;
+    u64 v39 = (u64)v35;
+    u64 v40 = v39 << 2;
+    if (!(v17 < ((((u64)((u16)(v11 - v35))) << 1) + v40))) goto v46;
+v30:;
+    if (v17 == 0) { v63 = v5; goto v48; }
+    if (!((i64)v17 > (i64)0xffffffffffffffffu)) goto v55;
+    u64_u64 v57 = sys_rattle_alloc(v17, 1);
+    if (!(v57._0 & 1)) goto v55;
+    v63 = (u8 *)v57._1;
+v48:;
+    if (!((((u64)v63) - ((u64)v14)) < v17)) goto v69;
+    if ((v17 < 4) ? 1 : ((((u64)v63) - v15) < 32u)) { v104 = 0; goto v75; }
+    if (v17 < 16u) { v93 = 0; goto v78; }
+    u64 v80 = v17 & 12u;
+    u64 v81 = v17 & 0xfffffffffffffff0u;
+    v83 = 0;
+v82:;
+    at(u8x16_1, v63 + v83) = at(u8x16_1, v14 + v83);
+    u64 v84 = v83 + 16u;
+    if (!(v84 == v81)) { v83 = v84; goto v82; }
+    if (v17 == v81) { v195 = v17; v196 = v63; goto v20; }
+    if (v80 == 0) { v104 = v81; goto v75; }
+    v93 = v81;
+v78:;
+    u64 v94 = v17 & 0xfffffffffffffffcu;
+    v96 = v93;
+v95:;
+    at(u8x4_1, v63 + v96) = at(u8x4_1, v14 + v96);
+    u64 v97 = v96 + 4;
+    if (!(v97 == v94)) { v96 = v97; goto v95; }
+    if (v17 == v94) { v195 = v17; v196 = v63; goto v20; }
+    v104 = v94;
+v75:;
+    v106 = v104;
+v105:;
+    at(u8, v63 + v106) = at(u8, v14 + v106);
+    u64 v107 = v106 + 1;
+    if (v107 == v17) { v195 = v17; v196 = v63; goto v20; }
+    v106 = v107; goto v105;
+v69:;
+    memmove_any(v63, v14, v17);
+    v195 = v17; v196 = v63; goto v20;
+v46:;
+    if (v17 == 0) { v121 = v5; goto v51; }
+    if (!((i64)v17 > (i64)0xffffffffffffffffu)) goto v55;
+    u64_u64 v115 = sys_rattle_alloc(v17, 1);
+    if (!(v115._0 & 1)) goto v55;
+    u8 *v120 = (u8 *)v115._1;
+    memset_any(v120, 0, v17);
+    v121 = v120;
+v51:;
+    u64 v122 = (u64)v121;
+    u64 v123 = (u64)v11;
+    u64 v124 = v40 - 4;
+    if ((((u64)(v121 + (i64)v124)) - ((u64)(v14 + (i64)v124))) < 2) v135 = 0; else goto v132;
+v131:;
+    at(u8, (v121 + (i64)v124) + v135) = at(u8, (v14 + (i64)v124) + v135);
+    u64 v136 = v135 + 1;
+    if (v136 == 2) goto v134;
+    v135 = v136; goto v131;
+v132:;
+    at(u16_1, v121 + (i64)v124) = at(u16_1, v14 + (i64)v124);
+v134:;
+    u64 v142 = (v39 + v123) << 1;
+    u64 v143 = v17 - v142;
+    if (!((((u64)(v121 + (i64)v142)) - ((u64)(v14 + (i64)v142))) < v143)) goto v151;
+    if ((v143 < 4) ? 1 : ((v122 - v15) < 32u)) { v185 = 0; goto v156; }
+    if (v143 < 16u) { v174 = 0; goto v159; }
+    u64 v161 = v143 & 12u;
+    u64 v162 = v143 & 0xfffffffffffffff0u;
+    v164 = 0;
+v163:;
+    at(u8x16_1, (v121 + (i64)v142) + v164) = at(u8x16_1, (v14 + (i64)v142) + v164);
+    u64 v165 = v164 + 16u;
+    if (!(v165 == v162)) { v164 = v165; goto v163; }
+    if (v143 == v162) { v195 = v17; v196 = v121; goto v20; }
+    if (v161 == 0) { v185 = v162; goto v156; }
+    v174 = v162;
+v159:;
+    u64 v175 = v143 & 0xfffffffffffffffcu;
+    v177 = v174;
+v176:;
+    at(u8x4_1, (v121 + (i64)v142) + v177) = at(u8x4_1, (v14 + (i64)v142) + v177);
+    u64 v178 = v177 + 4;
+    if (!(v178 == v175)) { v177 = v178; goto v176; }
+    if (v143 == v175) { v195 = v17; v196 = v121; goto v20; }
+    v185 = v175;
+v156:;
+    v187 = v185;
+v186:;
+    at(u8, (v121 + (i64)v142) + v187) = at(u8, (v14 + (i64)v142) + v187);
+    u64 v188 = v187 + 1;
+    if (v188 == v143) { v195 = v17; v196 = v121; goto v20; }
+    v187 = v188; goto v186;
+v151:;
+    memmove_any(v121 + (i64)v142, v14 + (i64)v142, v143);
+    v195 = v17; v196 = v121;
+v20:;
+    at(u8, v0) = 0;
+    at(u64_1, v0 + 8) = v18;
+    at(ptr_1, v0 + 16) = v196;
+    at(u64_1, v0 + 24) = v195;
+    at(u64_1, v0 + 32) = v195;
+    return;
+v55:;
+    at(u8, v0) = 1;
+    memset(v0 + 8, 0, 32u);
+    return;
+}
+
+void divided_tables_variation_data_open_variations_5cea(u8 *v0, u8 *v1) {
+    _Alignas(8) u8 v3[24], v4[24], v5[80], v6[24];
+    u64 v27;
+    u8 *v28;
+    memset(v5, 0, 80u);
+    memset(v4, 0, 24u);
+    font_subset_font_of_kind_FontOfKind_further_6e0a(v4, v1, 28u);
+    u8 v7 = at(u8, v4);
+    u8 *v9 = at(ptr, v4 + 8);
+    u64 v11 = at(u64, v4 + 16);
+    if (!(at(u8, v1) == 0)) goto v15;
+    if (v7 == 1) { v27 = v11; v28 = v9; goto v25; }
+    goto v20;
+v15:;
+    if (!(at(u8, v1 + 560) == 1)) goto v20;
+    v27 = at(u64, v1 + 576); v28 = at(ptr, v1 + 568);
+v25:;
+    memset(v3, 0, 24u);
+    font_subset_font_of_kind_FontOfKind_further_6e0a(v3, v1, 27u);
+    u8 *v31 = at(ptr, v3 + 8);
+    u64 v33 = at(u64, v3 + 16);
+    at(u64, v6) = (u64)at(u8, v3);
+    at(ptr, v6 + 8) = v31;
+    at(u64, v6 + 16) = v33;
+    font_variations_gvar_Variations_open(v5, v28, v27, v6, at(u16, at(ptr, v1 + 8) + 64));
+    if (!(at(u8, v5) == 0)) goto v44;
+    at(u64_1, v0) = 1;
+    memcpy(v0 + 8, v5 + 8, 72u);
+    return;
+v44:;
+    __builtin_trap();
+    __builtin_trap();
+v20:;
+    memset(v0, 0, 80u);
+    return;
+}
+
+void divided_tables_variation_data_open_variations_b55d(u8 *v0, u8 *v1) {
+    _Alignas(8) u8 v3[24], v4[24], v5[24], v6[80], v7[24];
+    memset(v6, 0, 80u);
+    memset(v5, 0, 24u);
+    if (!(at(u8, v1 + 112) == 1)) goto v12;
+    u8 *v15 = at(ptr, v1 + 120);
+    font_subset_font_of_kind_FontOfKind_further_6e0a(v5, v15, 28u);
+    u8 *v18 = at(ptr, v5 + 8);
+    u64 v20 = at(u64, v5 + 16);
+    if (!(at(u8, v5) == 1)) goto v13;
+    memset(v3, 0, 24u);
+    font_subset_font_of_kind_FontOfKind_further_6e0a(v3, v15, 27u);
+    u8 v23 = at(u8, v3);
+    memcpy(v4 + 8, v3 + 8, 16u);
+    memcpy(v7 + 8, v4 + 8, 16u);
+    at(u64, v7) = (u64)v23;
+    font_variations_gvar_Variations_open(v6, v18, v20, v7, at(u16, at(ptr, v1 + 8) + 64));
+    if (!(at(u8, v6) == 0)) goto v35;
+    at(u64_1, v0) = 1;
+    memcpy(v0 + 8, v6 + 8, 72u);
+    return;
+v35:;
+    __builtin_trap();
+    __builtin_trap();
+v12:;
+v13:;
+    memset(v0, 0, 80u);
+    return;
+}
+
+void divided_tables_variation_data_with_data(u8 *v0, u8 *v1, u8 *v2, u64 v3) {
+    u8 v5[1], v7[31], v8[31], *v87, *v88, *v95, *v99, *v100, *v129, *v144, *v158, *v219;
+    _Alignas(8) u8 v6[24];
+    u64 v26, v44, v45, v47, v49, v56, v101, v102, v113, v130, v131, v145, v146, v159, v160, v172, v173, v179, v182, v186, v183, v197, v208, v209, v223, v224, v237, v238, v262, v273, v276, v284, v286, v301, v304, v306, v305, v323, v346, v356, v359, v367, v369;
+    u64x2 v28;
+    u32 v84, v86, v96, v98, v184, v210;
+    u16 v85, v97;
+    memset(v8, 0, 31u);
+    u8 *v9 = at(ptr_1, v1);
+    u8 *v11 = at(ptr_1, v1 + 48);
+    u64 v12 = (u64)v11;
+    u64 v14 = at(u64_1, v1 + 56);
+    memset(v7, 0, 31u);
+    memset(v6, 0, 24u);
+    u64 v16 = (v3 << 2) + 24u;
+    u64 v17 = v14 + v16;
+    flag v18 = v3 == 0;
+    if (v18) { v56 = 0; goto v19; }
+    if (v3 == 1) { v44 = 0; v45 = 0; goto v22; }
+    u64 v24 = v3 & 0xfffffffffffffffeu;
+    v26 = 0; v28 = (u64x2){0};
+v25:;
+    u64 v36 = at(u64, v2 + (i64)(v26 << 4) + 8);
+    u64 v37 = at(u64, v2 + (i64)(v26 << 4) + 24);
+    u64x2 v29 = (u64x2){v36, v37} + v28;
+    u64 v27 = v26 + 2;
+    if (!(v27 == v24)) { v26 = v27; v28 = v29; goto v25; }
+    u64 v42 = sum_u64x2(v29);
+    if (v3 == v24) { v56 = v42; goto v19; }
+    v44 = v42; v45 = v24;
+v22:;
+    v47 = v44; v49 = v45;
+v46:;
+    u64 v48 = at(u64, v2 + (i64)(v49 << 4) + 8) + v47;
+    u64 v50 = v49 + 1;
+    if (v50 == v3) v56 = v48; else { v47 = v48; v49 = v50; goto v46; }
+v19:;
+    u64 v57 = v56 + v17;
+    if (!(v57 == 0)) goto v60;
+    at(ptr, v6) = v5;
+    memset(v6 + 8, 0, 16u);
+    v84 = (u32)v17; v85 = (u16)v3; v86 = (u32)v16; v87 = v6 + 16; v88 = v6 + 8; goto v66;
+v60:;
+    if (!((i64)v57 > (i64)0xffffffffffffffffu)) goto v69;
+    u64_u64 v71 = sys_rattle_alloc(v57, 1);
+    if (!(v71._0 & 1)) goto v69;
+    u8 *v76 = (u8 *)v71._1;
+    at(ptr, v6) = v76;
+    at(u64, v6 + 8) = 0;
+    at(u64, v6 + 16) = v57;
+    u32 v79 = (u32)v16;
+    u16 v80 = (u16)v3;
+    u32 v81 = (u32)v17;
+    if (v57 < 8) { v84 = v81; v85 = v80; v86 = v79; v87 = v6 + 16; v88 = v6 + 8; } else { v95 = v76; v96 = v81; v97 = v80; v98 = v79; v99 = v6 + 16; v100 = v6 + 8; v101 = v57; v102 = 0; goto v83; }
+v66:;
+    if (!std_alloc_vec_Vec_grow_amortized_1cf2(v6, 8)) { v219 = v87; goto v91; }
+    v95 = at(ptr, v6); v96 = v84; v97 = v85; v98 = v86; v99 = v87; v100 = v88; v101 = at(u64, v87); v102 = at(u64, v88);
+v83:;
+    u64 v103 = v102 + 8;
+    memset(v100, 0, 16u);
+    if ((((u64)(v95 + (i64)v102)) - ((u64)v9)) < 8) v113 = 0; else goto v110;
+v109:;
+    at(u8, (v95 + (i64)v102) + v113) = at(u8, v9 + v113);
+    u64 v114 = v113 + 1;
+    if (v114 == 8) goto v112;
+    v113 = v114; goto v109;
+v110:;
+    at(u64_1, v95 + (i64)v102) = at(u64_1, v9);
+v112:;
+    at(ptr, v6) = v95;
+    at(u64, v100) = v103;
+    at(u64, v99) = v101;
+    u32 v119 = bswap32(v98);
+    if (!((v101 - v103) < 4)) { v129 = v95; v130 = v101; v131 = v103; goto v123; }
+    if (!std_alloc_vec_Vec_grow_amortized_1cf2(v6, 4)) { v219 = v99; goto v91; }
+    v129 = at(ptr, v6); v130 = at(u64, v99); v131 = at(u64, v100);
+v123:;
+    u64 v132 = v131 + 4;
+    at(u32_1, v129 + (i64)v131) = v119;
+    at(ptr, v6) = v129;
+    at(u64, v100) = v132;
+    at(u64, v99) = v130;
+    u16 v134 = bswap16(v97);
+    if (!((v130 - v132) < 2)) { v144 = v129; v145 = v130; v146 = v132; goto v138; }
+    if (!std_alloc_vec_Vec_grow_amortized_1cf2(v6, 2)) { v219 = v99; goto v91; }
+    v144 = at(ptr, v6); v145 = at(u64, v99); v146 = at(u64, v100);
+v138:;
+    u64 v147 = v146 + 2;
+    at(u16_1, v144 + (i64)v146) = v134;
+    at(ptr, v6) = v144;
+    at(u64, v100) = v147;
+    at(u64, v99) = v145;
+    if (!((v145 - v147) < 2)) { v158 = v144; v159 = v145; v160 = v147; goto v152; }
+    if (!std_alloc_vec_Vec_grow_amortized_1cf2(v6, 2)) { v219 = v99; goto v91; }
+    v158 = at(ptr, v6); v159 = at(u64, v99); v160 = at(u64, v100);
+v152:;
+    u64 v161 = v160 + 2;
+    at(u16_1, v158 + (i64)v160) = 256u;
+    at(ptr, v6) = v158;
+    at(u64, v100) = v161;
+    at(u64, v99) = v159;
+    u32 v163 = bswap32(v96);
+    if (!((v159 - v161) < 4)) { v172 = v159; v173 = v161; goto v167; }
+    if (!std_alloc_vec_Vec_grow_amortized_1cf2(v6, 4)) { v219 = v99; goto v91; }
+    v172 = at(u64, v99); v173 = at(u64, v100); goto v167;
+v91:;
+    if (at(u64, v219) == 0) goto v69;
+    goto v222;
+v167:;
+    u64 v174 = v173 + 4;
+    at(u32_1, at(ptr, v6) + (i64)v173) = v163;
+    at(u64, v100) = v174;
+    at(u64, v99) = v172;
+    if (v18) { v208 = v174; v209 = v172; v210 = 0; goto v177; }
+    v179 = v174; v182 = v172; v184 = 0; v186 = 0;
+v178:;
+    u32 v188 = bswap32(v184);
+    if (!((v182 - v179) < 4)) { v183 = v182; v197 = v179; goto v181; }
+    if (!std_alloc_vec_Vec_grow_amortized_1cf2(v6, 4)) goto v194;
+    v183 = at(u64, v99); v197 = at(u64, v100);
+v181:;
+    u64 v180 = v197 + 4;
+    at(u32_1, at(ptr, v6) + (i64)v197) = v188;
+    at(u64, v100) = v180;
+    at(u64, v99) = v183;
+    u32 v185 = v184 + ((u32)at(u64, v2 + (i64)(v186 << 4) + 8));
+    u64 v187 = v186 + 1;
+    if (!(v187 == v3)) { v179 = v180; v182 = v183; v184 = v185; v186 = v187; goto v178; }
+    v208 = v180; v209 = v183; v210 = bswap32(v185);
+v177:;
+    if (!((v209 - v208) < 4)) { v223 = v209; v224 = v208; goto v214; }
+    if (!std_alloc_vec_Vec_grow_amortized_1cf2(v6, 4)) goto v194;
+    v223 = at(u64, v99); v224 = at(u64, v100); goto v214;
+v194:;
+    if (at(u64, v99) == 0) goto v69;
+    goto v222;
+v214:;
+    u64 v225 = v224 + 4;
+    at(u32_1, at(ptr, v6) + (i64)v224) = v210;
+    at(u64, v100) = v225;
+    at(u64, v99) = v223;
+    if (!(v14 > (v223 - v225))) { v237 = v223; v238 = v225; goto v231; }
+    if (!std_alloc_vec_Vec_grow_amortized_1cf2(v6, v14)) goto v234;
+    v237 = at(u64, v99); v238 = at(u64, v100); goto v231;
+v234:;
+    if (at(u64, v99) == 0) goto v69;
+    goto v222;
+v231:;
+    u64 v239 = v238 + v14;
+    u8 *v240 = at(ptr, v6);
+    u64 v241 = (u64)v240;
+    memset(v100, 0, 16u);
+    if (!((((u64)(v240 + (i64)v238)) - ((u64)v11)) < v14)) goto v248;
+    if (v14 < 4) { v284 = 0; goto v250; }
+    if (((v238 + v241) - v12) < 32u) { v284 = 0; goto v250; }
+    if (v14 < 16u) { v273 = 0; goto v257; }
+    u64 v259 = v14 & 12u;
+    u64 v260 = v14 & 0xfffffffffffffff0u;
+    v262 = 0;
+v261:;
+    at(u8x16_1, (v240 + (i64)v238) + v262) = at(u8x16_1, v11 + v262);
+    u64 v263 = v262 + 16u;
+    if (!(v263 == v260)) { v262 = v263; goto v261; }
+    if (v14 == v260) goto v270;
+    if (v259 == 0) { v284 = v260; goto v250; }
+    v273 = v260;
+v257:;
+    u64 v274 = v14 & 0xfffffffffffffffcu;
+    v276 = v273;
+v275:;
+    at(u8x4_1, (v240 + (i64)v238) + v276) = at(u8x4_1, v11 + v276);
+    u64 v277 = v276 + 4;
+    if (!(v277 == v274)) { v276 = v277; goto v275; }
+    if (v14 == v274) goto v270;
+    v284 = v274;
+v250:;
+    v286 = v284;
+v285:;
+    at(u8, (v240 + (i64)v238) + v286) = at(u8, v11 + v286);
+    u64 v287 = v286 + 1;
+    if (v287 == v14) goto v270;
+    v286 = v287; goto v285;
+v248:;
+    memmove_any(v240 + (i64)v238, v11, v14);
+v270:;
+    at(u64, v100) = v239;
+    at(u64, v99) = v237;
+    if (v18) goto v294;
+    v301 = at(u64, v6 + 8); v304 = at(u64, v6 + 16); v306 = 0;
+v300:;
+    u64 v308 = v306 << 4;
+    u64 v311 = at(u64, v2 + (i64)v308 + 8);
+    u8 *v312 = at(ptr, v2 + (i64)v308);
+    u64 v313 = (u64)v312;
+    if (!(v311 > (v304 - v301))) { v305 = v304; v323 = v301; goto v317; }
+    if (!std_alloc_vec_Vec_grow_amortized_1cf2(v6, v311)) goto v320;
+    v305 = at(u64, v6 + 16); v323 = at(u64, v6 + 8); goto v317;
+v320:;
+    if (at(u64, v99) == 0) goto v69;
+v222:;
+    sys_rattle_dealloc(at(ptr, v6));
+    goto v69;
+v317:;
+    u64 v302 = v323 + v311;
+    u8 *v324 = at(ptr, v6);
+    u64 v325 = (u64)v324;
+    if (!((((u64)(v324 + (i64)v323)) - ((u64)v312)) < v311)) goto v332;
+    if (v311 < 4) { v367 = 0; goto v334; }
+    if (((v323 + v325) - v313) < 32u) { v367 = 0; goto v334; }
+    if (v311 < 16u) { v356 = 0; goto v341; }
+    u64 v343 = v311 & 12u;
+    u64 v344 = v311 & 0xfffffffffffffff0u;
+    v346 = 0;
+v345:;
+    at(u8x16_1, (v324 + (i64)v323) + v346) = at(u8x16_1, v312 + v346);
+    u64 v347 = v346 + 16u;
+    if (!(v347 == v344)) { v346 = v347; goto v345; }
+    if (v311 == v344) goto v303;
+    if (v343 == 0) { v367 = v344; goto v334; }
+    v356 = v344;
+v341:;
+    u64 v357 = v311 & 0xfffffffffffffffcu;
+    v359 = v356;
+v358:;
+    at(u8x4_1, (v324 + (i64)v323) + v359) = at(u8x4_1, v312 + v359);
+    u64 v360 = v359 + 4;
+    if (!(v360 == v357)) { v359 = v360; goto v358; }
+    if (v311 == v357) goto v303;
+    v367 = v357;
+v334:;
+    v369 = v367;
+v368:;
+    at(u8, (v324 + (i64)v323) + v369) = at(u8, v312 + v369);
+    u64 v370 = v369 + 1;
+    if (v370 == v311) goto v303;
+    v369 = v370; goto v368;
+v332:;
+    memmove_any(v324 + (i64)v323, v312, v311);
+v303:;
+    at(u64, v6 + 8) = v302;
+    at(u64, v6 + 16) = v305;
+    u64 v307 = v306 + 1;
+    if (!(v307 == v3)) { v301 = v302; v304 = v305; v306 = v307; goto v300; }
+v294:;
+    memcpy(v7 + 7, v6, 24u);
+    memcpy(v8 + 7, v7 + 7, 24u);
+    at(u8, v0) = 0;
+    memcpy(v0 + 8, v8 + 7, 24u);
+    return;
+v69:;
+    memset(v7 + 7, 0, 24u);
+    at(u8, v0) = 1;
+    memset(v0 + 8, 0, 24u);
+    return;
+}
 
 static void font_layout_entry_read_entry(u8 *v0, u8 *v1, u64 v2, u8 *v3, u16 v4, u64 v5) {
     u64 v82, v84;
@@ -5828,7 +6726,7 @@ v19:;
     return;
 }
 
-void font_variations_gvar_Variations_open(u8 *v0, u8 *v1, u64 v2, u8 *v3, u16 v4) {
+static void font_variations_gvar_Variations_open(u8 *v0, u8 *v1, u64 v2, u8 *v3, u16 v4) {
     u64 v77, v98, v102, v121, v142, v146, v180;
     u16x8 v79;
     flag v97, v100, v158, v141, v144, v159;

@@ -368,7 +368,6 @@ HIDDEN void core_slice_sort_stable_quicksort(u8 *v0, u64 v1, u64 v2, u32 v3, u8 
 HIDDEN void core_str_utf8_from_utf8(u8 *v0, u8 *v1, u64 v2);
 HIDDEN void divided_tables_made_tables_MadeTables_drop(u8 *v0);
 HIDDEN void divided_tables_made_tables_MadeTables_frames(u8 *v0, u8 *v1);
-HIDDEN void divided_tables_metrics_kept_metrics_6f24(u8 *v0, u8 *v1, u64 v2, u64 v3);
 HIDDEN NOINLINE void divided_tables_metrics_lay_over(u8 *v0, u64 v1, u8 *v2, u64 v3);
 HIDDEN void divided_tables_variation_data_open_variations_5cea(u8 *v0, u8 *v1);
 HIDDEN void divided_tables_variation_data_open_variations_b55d(u8 *v0, u8 *v1);
@@ -454,7 +453,6 @@ HIDDEN void font_subset_selection_Selection_of_seeds_4cdf(u8 *v0, u8 *v1, u8 *v2
 HIDDEN void font_texts_font_scripts_shaped_scripts(u8 *v0, u8 *v1, u8 *v2, u64 v3);
 HIDDEN u8_u32 font_texts_shown_shown_character(u32 v0);
 HIDDEN u8 font_texts_variations_add_fixed(u8 *v0, u8 *v1);
-HIDDEN void font_variations_gvar_Variations_open(u8 *v0, u8 *v1, u64 v2, u8 *v3, u16 v4);
 HIDDEN u8 font_write_bytes_send_padded_6755(u8 *v0, u64 v1, u8 *v2);
 HIDDEN u8 font_write_bytes_send_padded_823e(u8 *v0, u64 v1, u8 *v2);
 HIDDEN u8 font_write_made_head_send_head_end_1854(u8 *v0, u64 v1, u8 *v2);
