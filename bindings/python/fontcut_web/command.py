@@ -56,10 +56,10 @@ _PRESETS = f"""\
   {AUTO}               the presets of all scripts of FONT, and a slice of what is left"""
 
 _DEVICE = """\
-Joins cuts of one font, and numbers their glyphs anew, without gaps: for a device that draws text, or holds few bytes,
-and joins no more. A cut keeps its numbers so that it can be joined, and most of its bytes stand for glyphs that it does
-not have. fontTools writes the font, with a cmap that all programs read. Nothing is written if FreeType would draw a
-character otherwise than in the cuts, or advance by another width.
+Joins cuts of one font, and renumbers the glyphs without gaps, by fontTools. The font is much smaller, because most
+bytes of a small cut stand for glyphs that it does not have, and it does not join: it is for devices that only draw
+text. Its cmap has a format that all programs read. Nothing is written if FreeType draws a character differently from
+the cuts, or advances by another width.
 
 Without --no-hinting the instructions of glyphs stay. Of a font that has none, FreeType's own hinter draws every subset
 a little otherwise than the whole font, because it measures letters that a subset lacks: FT_LOAD_NO_AUTOHINT draws both
@@ -413,7 +413,7 @@ def _run_device(given: argparse.Namespace) -> None:
 
 def _add_device(commands: argparse._SubParsersAction[CommandParser]) -> None:
     command = commands.add_parser(
-        "device", help="make a small font of cuts, which joins no more", description=_DEVICE, formatter_class=_RAW,
+        "device", help="make a small font of cuts, which does not join", description=_DEVICE, formatter_class=_RAW,
         epilog=_STATUS,
         usage="fontcut-web device CUT.. OUT [--no-hinting] [--notdef-outline] [--map FILE] [--force]")
     command.add_argument("files", metavar="CUT.. OUT", nargs="+", help=argparse.SUPPRESS)

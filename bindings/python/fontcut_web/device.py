@@ -1,5 +1,5 @@
-"""Cuts become a small font for a device, which joins it with nothing more: fontTools numbers the glyphs anew, and
-FreeType has to draw each character as in the cuts."""
+"""Cuts become a small font for a device, which does not join: fontTools renumbers the glyphs, and FreeType has to draw
+each character as in the cuts."""
 from __future__ import annotations
 
 import argparse

@@ -1,4 +1,7 @@
-"""Work that is done side by side on the processors of the machine, each piece by a process of its own."""
+"""Work that is done side by side on the processors of the machine, each piece by a process of its own.
+
+A pool of `concurrent.futures` would copy the fonts of each task to its process.
+"""
 from __future__ import annotations
 
 import contextlib
